@@ -1,4 +1,4 @@
-"""Sessions by lot, each line drawn with an eye on the state that the model is in."""
+"""Sessions at random, each line drawn with an eye on the state that the model is in."""
 from heap import KINDS, MOST_ELEMENTS, REGISTERS
 from lots import Lots
 from session import FORMS, LONGEST_LINE, Bad, Session, command_of
@@ -18,12 +18,13 @@ BAD_LINES = [
     *(b"array a:b", b"array -", b"newprim 0 0 Long 3", b"newprim 0 0 object 3", b"newprim 0 0 3 long", b"newprim 0 0 long", b"new 0 0"),
     *(b"newarray 0 0 0", b"snap 0", b"mark -", b"drain drain", b"finish 1", b"sweep", b"sweep -", b"sweep 0 0", b"rewind", b"rewind -"),
     *(b"open", b"open x", b"open 0 0", b"piece", b"piece -", b"piece 1 0", b"dump", b"dump x", b"dump - -", b"close", b"close -", b"end 0"),
+    *(b"open @", b"open @-", b"open @@0", b"open 0@", b"open @0 0", b"dump @0", b"close @1", b"piece @1", b"rewind @0"),
     *(b"END", b"e", b"en", b"ends", b"mark\r0", b"ma\rrk", b"a" * 4096, b"clear 0 0" + b" " * 4087, b"sweep " + b"1" * 4090),
 ]
 
 
 class Draw:
-    """A session by lot. Its lines are given one after another to the model; `lines` has each with its answer."""
+    """A session at random. Its lines are given one after another to the model; `lines` has each with its answer."""
 
     def __init__(self, seed, **settings):
         self.lots = Lots(seed)
@@ -254,7 +255,7 @@ class Draw:
             place = lots.pick([max(0, oldest - 1), machine.place + 1, lots.near(0, 100)])
         elif machine.pins and lots.once_in(2):
             place = lots.pick(list(machine.pins.values())).place
-        return self.say("open", lots.pick(["-", place, place, place]))
+        return self.say("open", lots.pick(["-", place, place, f"@{place}"]))
 
     def pin(self):
         """Returns the number of a pin, mostly of an open one."""
@@ -314,7 +315,7 @@ class Draw:
     # ---- whole sessions
 
     def play(self, turns, reveals=0):
-        """Takes so many turns, and has the state revealed after one of so many of them, if any."""
+        """Takes `turns` turns, and has the state revealed after one in `reveals` of them, or after none if that is 0."""
         self.begin()
         for _ in range(turns):
             self.turn()

@@ -6,7 +6,7 @@ LONGEST_LINE = 4096
 MOST_DIGITS = 20
 DATA_BYTES = 64
 
-# What stands behind the word of a line: "n" a number, "k" a kind, "w" any word, "-" a number or a hyphen.
+# What stands behind the word of a line: "n" a number, "k" a kind, "w" any word, "-" a number or a hyphen, "@" a place or a hyphen.
 FORMS = {
     b"array": "w",
     b"new": "nnn",
@@ -23,7 +23,7 @@ FORMS = {
     b"finish": "",
     b"sweep": "n",
     b"rewind": "n",
-    b"open": "-",
+    b"open": "@",
     b"piece": "n",
     b"dump": "-",
     b"close": "n",
@@ -54,6 +54,11 @@ def number_or_none(word):
     return None if word == b"-" else number(word)
 
 
+def place_or_none(word):
+    """Returns the place that a word names, with an `@` before it or without; None if it is a hyphen."""
+    return number_or_none(word) if not word.startswith(b"@") else number(word[1:])
+
+
 def field(word):
     """Returns the field that a word is, as (name, kind)."""
     if word.count(b":") != 1:
@@ -62,7 +67,7 @@ def field(word):
     return name, kind(of)
 
 
-READERS = {"n": number, "k": kind, "w": bytes, "-": number_or_none}
+READERS = {"n": number, "k": kind, "w": bytes, "-": number_or_none, "@": place_or_none}
 
 
 def command_of(line):

@@ -2,22 +2,36 @@
 use Rattle.std.specs.Prelude.{ℕ, Bool, [], ◌∷◌, if◌then◌else◌, ◌+◌, ◌*◌, ◌==◌, List, length, map, filter, sum_by, slice_index_or, slice_set, All, ◌≡◌, ◌<◌, ◌≤◌}
 use Rattle.std.specs.List.{range_with_len}
 use Rattle.heap_class.specs.declared.IdSize.{IdSize}
+use Rattle.heap_class.specs.declared.Kind.{Kind}
+use Rattle.heap_class.specs.declared.Kind.TheVariants.{Boolean, Byte, Char, Short, Int, Float, Long, Double}
 use Rattle.heap_class.specs.declared.ObjKind.{ObjKind}
 use Rattle.heap_class.specs.declared.ObjKind.TheVariants.{Instance, Array, Prim}
-use Rattle.heap_class.specs.Kinds.{id_bytes, width_of, type_code}
+use Rattle.heap_class.specs.Kinds.{id_bytes, width_of}
 use Rattle.heap_class.specs.Classes.{Class, instance_size}
 use Rattle.hprof_text.specs.Image.{Image, DumpedObject}
 use Rattle.heap_questions.specs.declared.rows.Row.{Row}
 
--- rows that stand before those of the classes: arrays of values have the row with their kind's type code
+-- the number of rows before those of the classes, one for the arrays of each kind
 abbrev pub class_rows : ℕ
-class_rows = 12
+class_rows = 9
+
+-- the row of the arrays of a kind
+abbrev pub kind_row : Kind → ℕ
+kind_row Kind.Object = 0
+kind_row Boolean = 1
+kind_row Byte = 2
+kind_row Char = 3
+kind_row Short = 4
+kind_row Int = 5
+kind_row Float = 6
+kind_row Long = 7
+kind_row Double = 8
 
 -- the row of an object of this kind
 unfoldable pub row_number : ObjKind → ℕ
 row_number (Instance k) = class_rows + k
 row_number (Array k) = class_rows + k
-row_number (Prim kind) = type_code kind
+row_number (Prim kind) = kind_row kind
 
 -- the bytes that the values of an object of this kind with n words have in a dump
 unfoldable pub value_size : IdSize → List Class → ObjKind → ℕ → ℕ

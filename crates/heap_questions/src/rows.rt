@@ -3,15 +3,15 @@ ghost use Rattle.std.specs.Prelude.{◌≡◌, ◌+◌, ◌<◌, ◌≤◌, ◌^
 ghost use Rattle.heap_class.specs.Limits.{array_limit};
 ghost use Rattle.heap_class.specs.declared.Refusal.TheVariants.{NoMemory};
 ghost use Rattle.hprof_text.specs.Image.{IsKnown};
-ghost use Rattle.heap_questions.specs.Histogram.{class_rows, counted_unless, histogram_of, row_at, row_number, rows_of, without_marked, value_size};
+ghost use Rattle.heap_questions.specs.Histogram.{class_rows, counted_unless, histogram_of, kind_row, row_at, row_number, rows_of, without_marked, value_size};
 
-use heap_class::{FirstClasses, IdSize, ObjKind, Refusal};
+use heap_class::{FirstClasses, IdSize, Kind, ObjKind, Refusal};
 use hprof_text::View;
 use std::alloc::Global;
 use std::marker::Model;
 
-/// Rows before those of the classes.
-pub const CLASS_ROWS: usize = 12;
+/// The number of rows before those of the classes.
+pub const CLASS_ROWS: usize = 9;
 
 /// How many objects there are of each class, and how many arrays of values of each kind. Contracts see the rows.
 #[derive(Drop)]
@@ -42,6 +42,23 @@ pub struct Row {
     pub bytes: u64,
 }
 
+/// Returns the number of the row in which arrays of values of this kind are counted.
+pub fn kind_row(kind: Kind) -> usize
+    ensures { result ≡ kind_row kind }
+{
+    match kind {
+        Kind::Object => 0,
+        Kind::Boolean => 1,
+        Kind::Byte => 2,
+        Kind::Char => 3,
+        Kind::Short => 4,
+        Kind::Int => 5,
+        Kind::Float => 6,
+        Kind::Long => 7,
+        Kind::Double => 8,
+    }
+}
+
 // Returns the number of the row in which an object of this kind is counted.
 #[tactic(auto, unfolding(crate::specs::Histogram::row_number))]
 fn row_number(classes: &FirstClasses<'_>, kind: ObjKind, words: u64) -> usize
@@ -52,7 +69,7 @@ fn row_number(classes: &FirstClasses<'_>, kind: ObjKind, words: u64) -> usize
     let _count = classes.len();
     match kind {
         ObjKind::Instance(class) | ObjKind::Array(class) => CLASS_ROWS + class as usize,
-        ObjKind::Prim(kind) => kind.type_code() as usize,
+        ObjKind::Prim(kind) => kind_row(kind),
     }
 }
 
@@ -127,8 +144,8 @@ pub(crate) fn count_unmarked<V: View>(
     Ok(Histogram(rows))
 }
 
-/// Counts the objects of a view: those of class `k` in row `k + 12`, and in the row of a kind's type code the arrays of values
-/// of that kind. Fails with NoMemory if an allocation fails. Reads each object once.
+/// Counts the objects of a view: those of class `k` in row `CLASS_ROWS + k`, and arrays of values in the row of their kind. Fails
+/// with NoMemory if an allocation fails. Reads each object once.
 pub fn count_by_class<V: View>(alloc: Global, view: &V) -> Result<Histogram, Refusal>
     ensures rows { IfOk result (λ h. h ≡ histogram_of (V.ids view.now) (V.image view.now)) }
     ensures refused { IfErr result (λ e. e ≡ NoMemory) }

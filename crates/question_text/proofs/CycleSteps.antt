@@ -1,91 +1,68 @@
 -- Steps of a cycle, one after another.
-use Rattle.std.proofs.Common.{◌≡◌, ◌∙◌, ◌+◌, ◌<◌, ◌≤◌, ℕ, Bool, true, false, List, [], ◌∷◌, ◌++◌, Option, Some, None, length, map, refl, sym, ap, ap₂, subst, inl, inr, arith}
-use Rattle.std.specs.Prelude.{◌⊎◌, IfErr, IfOk, Result, Ok, Err, nat_le}
-use Rattle.std.specs.List.{AllByRecursion, enumerate_from}
-use Rattle.std.proofs.lemmas.Bool.{leb-false}
-use Rattle.std.proofs.lemmas.List.{map-append}
+use Rattle.std.proofs.Common.{◌≡◌, ◌∙◌, ◌+◌, ◌*◌, ◌<◌, ◌≤◌, ℕ, Bool, true, false, cond, not, List, [], ◌∷◌, ◌++◌, Option, Some, None, length, drop, nat_lt, refl, sym, ap, ap₂, subst, inl, inr, true≢false, arith}
+use Rattle.std.specs.Prelude.{◌⊎◌, ◌||◌, IfErr, IfOk, Result, Ok, Err, nat_le, slice_get, slice_index, sum_by}
+use Rattle.std.specs.Option.{option_map_or}
+use Rattle.std.specs.List.{enumerate_from}
+use Rattle.std.proofs.lemmas.Bool.{leb-false, ltb-false, ltb-true}
 use Rattle.std.proofs.lemmas.List.FromFn.{length-enumerate_from}
 use Rattle.std.proofs.lemmas.List.Sums.{sum_by-append}
 use Rattle.heap_class.specs.declared.Refusal.{Refusal}
+use Rattle.heap_class.specs.declared.Refusal.TheVariants.{ChronicleFull, NothingToSweep}
+use Rattle.heap_class.specs.Refusals.{first_refusal}
+use Rattle.heap_mark.specs.MarkSteps.{children_of, is_marking, pending_regions, snapped, marked, drained_once, finished}
+use Rattle.heap_mark.specs.declared.Phase.TheVariants.{Idle}
+use Rattle.heap_mark.proofs.Calls.{snap_free, mark_free, drain_free}
+use Rattle.heap_mark.proofs.Finishes.{finish_free, pending_number}
+use Rattle.heap_world.specs.Events.{after_snap, after_mark, after_drain, after_finish, after_sweep}
 use Rattle.heap_world.specs.Live.{cells_of}
 use Rattle.heap_world.specs.Regions.{UsedRegion, used_at}
 use Rattle.heap_world.specs.Legal.{IsLegal}
-use Rattle.heap_world.specs.State.{HeapState, pool_of}
-use Rattle.heap_world.specs.Sweep.{dead_at}
+use Rattle.heap_world.specs.State.{HeapState, marking_of, pool_of}
+use Rattle.heap_world.specs.Sweep.{dead_at, sweep_refusal}
 use Rattle.heap_world.proofs.SweptCells.{dead_in, dead_one, dead_pairs, table_few}
 use Rattle.heap_pins.proofs.LiveCounts.{length-filter_map}
 use Rattle.heap_questions.proofs.Sizes.{table_of}
 use Rattle.heap_step.specs.Apply.{answer_of, applied, applied_unless, refusal_of, state_after}
 use Rattle.heap_step.specs.declared.Answer.{Answer}
 use Rattle.heap_step.specs.declared.Event.{Event}
-use Rattle.heap_step.specs.declared.Event.TheVariants.{Finish, Sweep}
-use Rattle.heap_trail.specs.declared.Action.{Action}
+use Rattle.heap_step.specs.declared.Event.TheVariants.{Snap, Mark, Drain, Finish, Sweep}
 use Rattle.heap_trail.specs.declared.Action.TheVariants.{Step}
 use Rattle.heap_trail.specs.declared.Reply.{Reply}
 use Rattle.heap_trail.specs.declared.Reply.TheVariants.{Answered, Refused}
 use Rattle.heap_trail.specs.Limits.{last_place}
-use Rattle.heap_trail.specs.Machine.{Machine, Allocation, Granted, Denied, LosesPins, AreAllocations, MayDrive, MayFail, MayReply, acted, acted_under, after_result, after_step_at, machine_after, replies_of}
+use Rattle.heap_trail.specs.Machine.{Machine, Allocation, Granted, Denied, LosesPins, MayFail, MayReply, acted, acted_under, after_result, after_step_at}
 use Rattle.heap_trail.specs.Trail.{stepped}
-use Rattle.heap_trail.proofs.ActionLists.{driven_more, driven_none}
 use Rattle.question_text.specs.declared.cycle.CycleCounts.{CycleCounts}
 use Rattle.question_text.specs.Places.{IsTextOrNoMemory}
-use Rattle.question_text.specs.Collections.{Finishes, IsCycleAnswer, IsCycleStep, IsMarkStep, IsSweep, IsWholeCycle, MarksLead, MayRefuse, MovesOn, RunsCycle, StopsAt, SweepsLead, TakenStep, StepsLead, collected_text, swept_by, swept_of}
-
--- ---- lists of actions
-
-machines_join : (m : Machine) (xs ys : List (Action × Allocation)) → machine_after m (xs ++ ys) ≡ machine_after (machine_after m xs) ys
-unfolding machine_after
-machines_join m [] ys = refl
-machines_join m (x ∷ xs) ys = machines_join (acted_under m x).0 xs ys
-
-replies_join : (m : Machine) (xs ys : List (Action × Allocation)) → replies_of m (xs ++ ys) ≡ replies_of m xs ++ replies_of (machine_after m xs) ys
-unfolding machine_after replies_of
-replies_join m [] ys = refl
-replies_join m (x ∷ xs) ys = ap (λ l. (acted_under m x).1 ∷ l) (replies_join (acted_under m x).0 xs ys)
-
-marks_join : (m : Machine) (xs ys : List (Action × Allocation)) → AreAllocations m xs → AreAllocations (machine_after m xs) ys → AreAllocations m (xs ++ ys)
-unfolding machine_after
-marks_join m [] ys h k = k
-marks_join m (x ∷ xs) ys h k = (h.0, marks_join (acted_under m x).0 xs ys h.1 k)
-
-driven_on : (m n k : Machine) (first next : List Action) (rs ss : List Reply) → MayDrive m first rs n → MayDrive n next ss k → MayDrive m (first ++ next) (rs ++ ss) k
-driven_on m n k first next rs ss d e = (
-  d.0 ++ e.0,
-  map-append (λ (a : Action × Allocation). a.0) d.0 e.0 ∙ ap₂ (λ xs ys. xs ++ ys) d.1 e.1,
-  marks_join m d.0 e.0 d.2 (subst (λ (x : Machine). AreAllocations x e.0) d.4 e.2),
-  ap₂ (λ xs ys. xs ++ ys) d.3 (e.3 ∙ ap (λ (x : Machine). replies_of x e.0) d.4) ∙ sym (replies_join m d.0 e.0),
-  e.4 ∙ ap (λ (x : Machine). machine_after x e.0) d.4 ∙ sym (machines_join m d.0 e.0),
-)
+use Rattle.question_text.specs.Collections.{AreNext, AreSwept, IsCycleAnswer, IsShortage, IsSwept, IsWholeCycle, MarksLead, MayStop, MovesOn, RunsCycle, StepsLead, StopsAt, TakenStep, collected_text, condemned_of, ends_cycle, next_mark, next_step, swept_of, waiting_region}
+use Rattle.question_text.proofs.WaitingRegions.{all_shaded, first_swept, first_waits}
 
 -- ---- lists of steps
 
-pub none_taken : (P : Event → Type 0) (m : Machine) → StepsLead P m [] m
-none_taken P m = (tt, driven_none m)
+next_on : (b c d : Bool) (m n k : Machine) (xs ys : List TakenStep) → AreNext b m xs c n → AreNext c n ys d k → AreNext b m (xs ++ ys) d k
+next_on b c d m n k [] ys h f = subst (λ (x : Bool). AreNext x m ys d k) h.0 (subst (λ (x : Machine). AreNext c x ys d k) h.1 f)
+next_on b c d m n k (x ∷ xs) ys h f = (h.0, (h.1.0, h.1.1, next_on (ends_cycle x.0 || b) c d h.1.0 n k xs ys h.1.2 f))
 
-pub one_taken : (P : Event → Type 0) (m n : Machine) (e : Event) (a : Answer) → P e → MayReply m (Step e) n (Answered a) → StepsLead P m ((e, a) ∷ []) n
-one_taken P m n e a p r = ((p, tt), driven_more m [] [] m n (Step e) (Answered a) (driven_none m) r)
+pub none_lead : (b : Bool) (m : Machine) → StepsLead b m b m 0 0
+none_lead b m = ([], (refl, refl), refl, refl)
 
-all_join : (P : TakenStep → Type 0) (xs ys : List TakenStep) → AllByRecursion P xs → AllByRecursion P ys → AllByRecursion P (xs ++ ys)
-all_join P [] ys h k = k
-all_join P (x ∷ xs) ys h k = (h.0, all_join P xs ys h.1 k)
-
-pub taken_on : (P : Event → Type 0) (m n k : Machine) (xs ys : List TakenStep) → StepsLead P m xs n → StepsLead P n ys k → StepsLead P m (xs ++ ys) k
-taken_on P m n k xs ys t u = (
-  all_join (λ s. P s.0) xs ys t.0 u.0,
-  subst (λ (rs : List Reply). MayDrive m (map (λ (s : TakenStep). Step s.0) (xs ++ ys)) rs k) (sym (map-append (λ (s : TakenStep). Answered s.1) xs ys))
-      (subst (λ (acts : List Action). MayDrive m acts (map (λ (s : TakenStep). Answered s.1) xs ++ map (λ (s : TakenStep). Answered s.1) ys) k) (sym (map-append (λ (s : TakenStep). Step s.0) xs ys))
-      (driven_on m n k (map (λ (s : TakenStep). Step s.0) xs) (map (λ (s : TakenStep). Step s.0) ys) (map (λ (s : TakenStep). Answered s.1) xs) (map (λ (s : TakenStep). Answered s.1) ys) t.1 u.1)),
+pub leads_on : (b c d : Bool) (m n k : Machine) (x y v w : ℕ) → StepsLead b m c n x y → StepsLead c n d k v w → StepsLead b m d k (x + v) (y + w)
+leads_on b c d m n k x y v w s t = (
+  s.0 ++ t.0,
+  next_on b c d m n k s.0 t.0 s.1 t.1,
+  ap₂ (λ (i j : ℕ). i + j) s.2 t.2 ∙ sym (sum_by-append (λ (z : TakenStep). condemned_of z.1) s.0 t.0),
+  ap₂ (λ (i j : ℕ). i + j) s.3 t.3 ∙ sym (sum_by-append (λ (z : TakenStep). swept_of z.1) s.0 t.0),
 )
 
-all_wider : (P Q : Event → Type 0) (xs : List TakenStep) → ((e : Event) → P e → Q e) → AllByRecursion (λ (s : TakenStep). P s.0) xs → AllByRecursion (λ (s : TakenStep). Q s.0) xs
-all_wider P Q [] w h = tt
-all_wider P Q (x ∷ xs) w h = (w x.0 h.0, all_wider P Q xs w h.1)
+one_leads : (b : Bool) (m n : Machine) (e : Event) (a : Answer) → next_step b m.trail.current ≡ Some e → MayReply m (Step e) n (Answered a) → StepsLead b m (ends_cycle e || b) n (condemned_of a) (swept_of a)
+one_leads b m n e a h r = ((e, a) ∷ [], (h, (n, r, (refl, refl))), omega arith, omega arith)
 
-pub taken_wider : (P Q : Event → Type 0) (m n : Machine) (xs : List TakenStep) → ((e : Event) → P e → Q e) → StepsLead P m xs n → StepsLead Q m xs n
-taken_wider P Q m n xs w t = (all_wider P Q xs w t.0, t.1)
+pub stops_on : (D : Refusal → Type 0) (b c : Bool) (m n k : Machine) (x y : ℕ) (e : Refusal) → StepsLead b m c n x y → StopsAt D c n e k → StopsAt D b m e k
+stops_on D b c m n k x y e s t = (s.0 ++ t.0, t.1, next_on b c t.1 m n k s.0 t.0 s.1 t.2, t.3)
 
-pub swept_on : (xs ys : List TakenStep) → swept_by (xs ++ ys) ≡ swept_by xs + swept_by ys
-swept_on xs ys = sum_by-append (λ (s : TakenStep). swept_of s.1) xs ys
+-- refused before any other
+pub stops_now : (D : Refusal → Type 0) (b : Bool) (m n : Machine) (e : Refusal) → MayStop D b m e → n ≡ m → StopsAt D b m e n
+stops_now D b m n e r h = ([], b, (refl, h), subst (λ (x : Machine). MayStop D b x e) (sym h) r)
 
 -- ---- one step
 
@@ -105,33 +82,73 @@ without_mark m n e a r = go r.0 r.2
         let same : (acted m (Step e)).1 ≡ Answered a = ap (λ (x : Machine × Reply). x.1) is in
         (k, ap (λ (r : Reply). (k, r)) same, sym (ap (λ (x : Machine × Reply). x.0.trail) is))
 
--- what an answered step says
-abbrev Says : Machine → Event → Machine → Answer → Type 0
-Says m e n a = (m.trail.place < last_place) × (n.trail.place ≡ m.trail.place + 1) × ((v : HeapState) × (applied e m.trail.current ≡ Ok (v, a)))
+-- an answered step
+pub record IsTaken (m : Machine) (e : Event) (n : Machine) (a : Answer) : Type 0 where
+  pub below : m.trail.place < last_place
+  pub place : n.trail.place ≡ m.trail.place + 1
+  pub state : n.trail.current ≡ state_after e m.trail.current
+  pub answer : a ≡ answer_of e m.trail.current (state_after e m.trail.current)
 
-says : (m n : Machine) (e : Event) (a : Answer) → IsAnswered m e n a → Says m e n a
-unfolding acted after_result after_step_at stepped
-says m n e a is = at (nat_le last_place m.trail.place) refl is
+applied_so : (e : Event) (w v : HeapState) (a : Answer) → applied e w ≡ Ok (v, a) → (v ≡ state_after e w) × (a ≡ answer_of e w (state_after e w))
+unfolding applied applied_unless
+applied_so e w v a = go (refusal_of e w)
   where
-    of : (r : Result (HeapState × Answer) Refusal) → m.trail.place < last_place → applied e m.trail.current ≡ r → after_result m r ≡ (n, Answered a) → Says m e n a
+    go : (x : Option Refusal) → applied_unless x e w ≡ Ok (v, a) → (v ≡ state_after e w) × (a ≡ answer_of e w (state_after e w))
+    go None h =
+        let same : Ok (state_after e w, answer_of e w (state_after e w)) ≡ Ok (v, a) = h in
+        let pair : (state_after e w, answer_of e w (state_after e w)) ≡ (v, a) = cc same in
+        (sym (ap (λ (p : HeapState × Answer). p.0) pair), sym (ap (λ (p : HeapState × Answer). p.1) pair))
+    go (Some r) h = absurd (cc h)
+
+answered_taken : (m n : Machine) (e : Event) (a : Answer) → IsAnswered m e n a → IsTaken m e n a
+unfolding acted after_result after_step_at stepped
+answered_taken m n e a is = at (nat_le last_place m.trail.place) refl is
+  where
+    of : (r : Result (HeapState × Answer) Refusal) → m.trail.place < last_place → applied e m.trail.current ≡ r → after_result m r ≡ (n, Answered a) → IsTaken m e n a
     of (Ok r) lt h is =
         let same : Answered r.1 ≡ Answered a = ap (λ (x : Machine × Reply). x.1) is in
         let answer : r.1 ≡ a = cc same in
-        (lt, sym (ap (λ (x : Machine × Reply). x.0.trail.place) is), (r.0, h ∙ ap (λ (b : Answer). let x : Result (HeapState × Answer) Refusal = Ok (r.0, b) in x) answer))
+        let s = applied_so e m.trail.current r.0 r.1 h in
+        record {
+          below = lt;
+          place = sym (ap (λ (x : Machine × Reply). x.0.trail.place) is);
+          state = sym (ap (λ (x : Machine × Reply). x.0.trail.current) is) ∙ s.0;
+          answer = sym answer ∙ s.1;
+        }
     of (Err r) lt h is = let clash : Refused r ≡ Answered a = ap (λ (x : Machine × Reply). x.1) is in absurd (cc clash)
 
-    at : (b : Bool) → nat_le last_place m.trail.place ≡ b → after_step_at b e m ≡ (n, Answered a) → Says m e n a
-    at true h is = let clash : Refused Refusal.ChronicleFull ≡ Answered a = ap (λ (x : Machine × Reply). x.1) is in absurd (cc clash)
+    at : (b : Bool) → nat_le last_place m.trail.place ≡ b → after_step_at b e m ≡ (n, Answered a) → IsTaken m e n a
+    at true h is = let clash : Refused ChronicleFull ≡ Answered a = ap (λ (x : Machine × Reply). x.1) is in absurd (cc clash)
     at false h is = of (applied e m.trail.current) (omega (arith, leb-false last_place m.trail.place h)) refl is
 
--- an answered step leads one place on, and below the last
-pub place_on : (m n : Machine) (e : Event) (a : Answer) → MayReply m (Step e) n (Answered a) → (m.trail.place < last_place) × (n.trail.place ≡ m.trail.place + 1)
-place_on m n e a r =
+-- what an answered step did, also if it lost pins
+pub taken : (m n : Machine) (e : Event) (a : Answer) → MayReply m (Step e) n (Answered a) → IsTaken m e n a
+taken m n e a r =
     let k = without_mark m n e a r in
-    let s = says m k.0 e a k.1 in
-    (s.0, ap (λ t. t.place) k.2 ∙ s.1)
+    let s = answered_taken m k.0 e a k.1 in
+    record { below = s.below; place = ap (λ t. t.place) k.2 ∙ s.place; state = ap (λ t. t.current) k.2 ∙ s.state; answer = s.answer }
 
--- ---- how many a sweep removes
+-- ---- a step that the state allows
+
+-- it is refused for a shortage alone
+short : (m : Machine) (x : Event) (e : Refusal) → refusal_of x m.trail.current ≡ None → MayFail m (Step x) m e → IsShortage e
+unfolding acted after_result after_step_at applied applied_unless
+short m x e free (inr h) = inl h.1
+short m x e free (inl h) = at (nat_le last_place m.trail.place) h
+  where
+    of : (o : Option Refusal) → o ≡ None → after_result m (applied_unless o x m.trail.current) ≡ (m, Refused e) → IsShortage e
+    of None is h = let clash : Answered (answer_of x m.trail.current (state_after x m.trail.current)) ≡ Refused e = ap (λ (p : Machine × Reply). p.1) h in absurd (cc clash)
+    of (Some r) is h = absurd (cc is)
+
+    at : (b : Bool) → after_step_at b x m ≡ (m, Refused e) → IsShortage e
+    at true h = let same : Refused ChronicleFull ≡ Refused e = ap (λ (p : Machine × Reply). p.1) h in inr (cc same)
+    at false h = of (refusal_of x m.trail.current) free h
+
+stopped : (D : Refusal → Type 0) (b : Bool) (m : Machine) (x : Event) (e : Refusal) → next_step b m.trail.current ≡ Some x → refusal_of x m.trail.current ≡ None → MayFail m (Step x) m e ⊎ D e → MayStop D b m e
+stopped D b m x e next free (inl h) = (x, next, inl (h, short m x e free h))
+stopped D b m x e next free (inr h) = (x, next, inr h)
+
+-- ---- sweeps
 
 few_dead : (w : HeapState) (r : ℕ) → IsLegal w → length (dead_at r (pool_of w)) ≤ 256
 few_dead w r legal = omega (arith, ap length (dead_in r (pool_of w)), go (used_at w.regions r) refl)
@@ -140,130 +157,269 @@ few_dead w r legal = omega (arith, ap length (dead_in r (pool_of w)), go (used_a
     go None h = omega arith
     go (Some u) h = omega (arith, length-filter_map dead_one (enumerate_from 0 u.cells), length-enumerate_from 0 u.cells, (table_few u (table_of w r u legal h)).1)
 
-answer_told : (e : Event) (w v : HeapState) (a : Answer) → applied e w ≡ Ok (v, a) → (u : HeapState) × (a ≡ answer_of e w u)
-unfolding applied applied_unless
-answer_told e w v a = go (refusal_of e w)
-  where
-    go : (x : Option Refusal) → applied_unless x e w ≡ Ok (v, a) → (u : HeapState) × (a ≡ answer_of e w u)
-    go None h =
-        let same : Ok (state_after e w, answer_of e w (state_after e w)) ≡ Ok (v, a) = h in
-        let pair : (state_after e w, answer_of e w (state_after e w)) ≡ (v, a) = cc same in
-        (state_after e w, sym (ap (λ (p : HeapState × Answer). p.1) pair))
-    go (Some r) h = absurd (cc h)
+next_sweep : (b : Bool) (w : HeapState) (r : ℕ) → waiting_region w ≡ Some r → next_step b w ≡ Some (Sweep r)
+unfolding next_step
+next_sweep b w r h = ap (λ (o : Option ℕ). option_map_or (λ r. Some (Sweep r)) o (cond b None (Some (next_mark w)))) h
 
--- a sweep removes few objects
-pub few_swept : (m n : Machine) (region : ℕ) (a : Answer) → IsLegal m.trail.current → MayReply m (Step (Sweep region)) n (Answered a) → swept_of a ≤ 256
+sweep_allowed : (w : HeapState) (r : ℕ) → waiting_region w ≡ Some r → refusal_of (Sweep r) w ≡ None
+unfolding refusal_of sweep_refusal first_refusal
+sweep_allowed w r h = ap (λ (b : Bool). cond (not b) (Some (NothingToSweep r)) None) (first_waits w.regions r h)
+
+pub sweep_stopped : (D : Refusal → Type 0) (b : Bool) (m : Machine) (r : ℕ) (e : Refusal) → waiting_region m.trail.current ≡ Some r → MayFail m (Step (Sweep r)) m e ⊎ D e → MayStop D b m e
+sweep_stopped D b m r e h f = stopped D b m (Sweep r) e (next_sweep b m.trail.current r h) (sweep_allowed m.trail.current r h) f
+
+-- what the sweep of a region says
+swept_answer : (w v : HeapState) (r : ℕ) → IsLegal w → (condemned_of (answer_of (Sweep r) w v) ≡ 0) × (swept_of (answer_of (Sweep r) w v) ≤ 256)
 unfolding answer_of
-few_swept m n region a legal r =
-    let k = without_mark m n (Sweep region) a r in
-    let s = says m k.0 (Sweep region) a k.1 in
-    let t = answer_told (Sweep region) m.trail.current s.2.0 a s.2.1 in
-    subst (λ (b : Answer). swept_of b ≤ 256) (sym t.1) (few_dead m.trail.current region legal)
+swept_answer w v r legal = (refl, few_dead w r legal)
 
--- ---- sweeps
+swept_state : (w : HeapState) (r : ℕ) → waiting_region w ≡ Some r → (pending_regions (state_after (Sweep r) w).regions ≡ drop 1 (pending_regions w.regions)) × ((state_after (Sweep r) w).phase ≡ w.phase)
+unfolding state_after after_sweep
+swept_state w r h = (first_swept (pool_of w) r h, refl)
 
-pub no_sweep : (m : Machine) → SweepsLead m 0 m
-no_sweep m = ([], none_taken IsSweep m, refl)
+pub one_swept : (m n : Machine) (r : ℕ) (a : Answer) → IsLegal m.trail.current → waiting_region m.trail.current ≡ Some r → MayReply m (Step (Sweep r)) n (Answered a) → IsSwept m (swept_of a) n
+one_swept m n r a legal h reply =
+    let w = m.trail.current in
+    let t = taken m n (Sweep r) a reply in
+    let told = swept_answer w (state_after (Sweep r) w) r legal in
+    let none : condemned_of a ≡ 0 = ap (λ (x : Answer). condemned_of x) t.answer ∙ told.0 in
+    let state = swept_state w r h in
+    record {
+      step = λ b. subst (λ (k : ℕ). StepsLead b m b n k (swept_of a)) none (one_leads b m n (Sweep r) a (next_sweep b w r h) reply);
+      few = subst (λ (x : Answer). swept_of x ≤ 256) (sym t.answer) told.1;
+      waiting = ap (λ (v : HeapState). pending_regions v.regions) t.state ∙ state.0;
+      phase = ap (λ (v : HeapState). v.phase) t.state ∙ state.1;
+    }
 
-pub one_sweep : (m n : Machine) (region : ℕ) (a : Answer) → MayReply m (Step (Sweep region)) n (Answered a) → SweepsLead m (swept_of a) n
-one_sweep m n region a r = ((Sweep region, a) ∷ [], one_taken IsSweep m n (Sweep region) a tt r, omega arith)
+-- no more regions wait than there are
+pub few_wait : (w : HeapState) → IsLegal w → length (pending_regions w.regions) ≤ 256
+unfolding pending_regions
+few_wait w legal =
+    let most : length w.regions ≤ 256 = legal.sized.regions.1 in
+    omega (arith, length-filter_map pending_number (enumerate_from 0 w.regions), length-enumerate_from 0 w.regions, most)
 
-pub sweeps_on : (m n k : Machine) (a b : ℕ) → SweepsLead m a n → SweepsLead n b k → SweepsLead m (a + b) k
-sweeps_on m n k a b s t = (s.0 ++ t.0, taken_on IsSweep m n k s.0 t.0 s.1 t.1, ap₂ (λ x y. x + y) s.2 t.2 ∙ sym (swept_on s.0 t.0))
+one_fewer : (p : List ℕ) (r : ℕ) → slice_get p 0 ≡ Some r → length (drop 1 p) + 1 ≡ length p
+one_fewer [] r h = absurd (cc h)
+one_fewer (x ∷ xs) r h = omega arith
 
--- ---- marks
+none_first : (p : List ℕ) → slice_get p 0 ≡ None → p ≡ []
+none_first [] h = refl
+none_first (x ∷ xs) h = absurd (cc h)
 
-pub no_mark : (m : Machine) → MarksLead m m
-no_mark m = ([], none_taken IsMarkStep m)
+-- the sweeps so far lead from m to n, and remove this number of objects; each region that still waits may have 256 more
+pub record AreSweeping (m : Machine) (count : ℕ) (n : Machine) : Type 0 where
+  pub steps : (b : Bool) → StepsLead b m b n 0 count
+  pub few : count + 256 * length (pending_regions n.trail.current.regions) ≤ 65536
+  pub phase : n.trail.current.phase ≡ m.trail.current.phase
 
-pub one_mark : (m n : Machine) (e : Event) (a : Answer) → IsMarkStep e → MayReply m (Step e) n (Answered a) → MarksLead m n
-one_mark m n e a p r = ((e, a) ∷ [], one_taken IsMarkStep m n e a p r)
+pub sweeping_begins : (m : Machine) → IsLegal m.trail.current → AreSweeping m 0 m
+sweeping_begins m legal = record { steps = λ b. none_lead b m; few = let most = few_wait m.trail.current legal in omega (arith, most); phase = refl }
 
-pub marks_on : (m n k : Machine) → MarksLead m n → MarksLead n k → MarksLead m k
-marks_on m n k s t = (s.0 ++ t.0, taken_on IsMarkStep m n k s.0 t.0 s.1 t.1)
+pub sweeping_on : (m n k : Machine) (x y r : ℕ) → waiting_region n.trail.current ≡ Some r → AreSweeping m x n → IsSwept n y k → AreSweeping m (x + y) k
+sweeping_on m n k x y r h s t =
+    let fewer = one_fewer (pending_regions n.trail.current.regions) r h in
+    let left = ap length t.waiting in
+    let few = s.few in
+    let one = t.few in
+    record {
+      steps = λ b. leads_on b b b m n k 0 x 0 y (s.steps b) (t.step b);
+      few = omega (arith, fewer, left, few, one);
+      phase = t.phase ∙ s.phase;
+    }
 
--- ---- a step that is refused
+pub waits_less : (n k : Machine) (y r : ℕ) → waiting_region n.trail.current ≡ Some r → IsSwept n y k → length (pending_regions k.trail.current.regions) < length (pending_regions n.trail.current.regions)
+waits_less n k y r h t =
+    let fewer = one_fewer (pending_regions n.trail.current.regions) r h in
+    let left = ap length t.waiting in
+    omega (arith, fewer, left)
 
-pub stops_on : (D : Refusal → Type 0) (P : Event → Type 0) (m n k : Machine) (e : Refusal) (steps : List TakenStep) → StepsLead P m steps n → StopsAt D P n e k → StopsAt D P m e k
-stops_on D P m n k e steps t s = (steps ++ s.0, taken_on P m n k steps s.0 t s.1, s.2)
+pub none_waits : (o : Option ℕ) → ((r : ℕ) → o ≡ Some r → ⊥) → o ≡ None
+none_waits None h = refl
+none_waits (Some r) h = absurd (h r refl)
 
--- refused before any other
-pub stops_first : (D : Refusal → Type 0) (P : Event → Type 0) (m n : Machine) (e : Refusal) → MayRefuse D P m e → n ≡ m → StopsAt D P m e n
-stops_first D P m n e r h = subst (λ (k : Machine). StopsAt D P m e k) (sym h) ([], none_taken P m, r)
+pub sweeping_ends : (m n : Machine) (x : ℕ) → waiting_region n.trail.current ≡ None → AreSweeping m x n → AreSwept m x n
+sweeping_ends m n x h s =
+    let few = s.few in
+    record { steps = s.steps; few = omega (arith, few); none = none_first (pending_regions n.trail.current.regions) h; phase = s.phase }
 
--- refused after some steps
-pub stops_after : (D : Refusal → Type 0) (P : Event → Type 0) (m n k : Machine) (e : Refusal) (steps : List TakenStep) → StepsLead P m steps n → MayRefuse D P n e → k ≡ n → StopsAt D P m e k
-stops_after D P m n k e steps t r h = subst (λ (x : Machine). StopsAt D P m e x) (sym h) (steps, t, r)
+-- ---- steps of the marker
 
--- one of these steps
-pub refused_step : (D : Refusal → Type 0) (P : Event → Type 0) (m : Machine) (x : Event) (e : Refusal) → P x → MayFail m (Step x) m e ⊎ D e → MayRefuse D P m e
-refused_step D P m x e p (inl h) = inl (x, p, h)
-refused_step D P m x e p (inr h) = inr h
+-- which step of the marker is next
+abbrev Marks : HeapState → Event → Type 0
+Marks w e =
+    ((e ≡ Snap) × (is_marking w.phase ≡ false))
+    ⊎ ((e ≡ Mark) × (is_marking w.phase ≡ true) × (0 < length w.gray))
+    ⊎ ((e ≡ Drain) × (is_marking w.phase ≡ true) × (w.drained < length w.log))
+    ⊎ ((e ≡ Finish) × (is_marking w.phase ≡ true) × (length w.gray ≤ 0) × (length w.log ≤ w.drained))
 
-refused_wider : (D : Refusal → Type 0) (P Q : Event → Type 0) (n : Machine) (e : Refusal) → ((x : Event) → P x → Q x) → MayRefuse D P n e → MayRefuse D Q n e
-refused_wider D P Q n e w (inl h) = inl (h.0, w h.0 h.1, h.2)
-refused_wider D P Q n e w (inr h) = inr h
+which : (w : HeapState) → Marks w (next_mark w)
+unfolding next_mark
+which w = phase (is_marking w.phase) refl
+  where
+    log : is_marking w.phase ≡ true → length w.gray ≤ 0 → (b : Bool) → nat_lt w.drained (length w.log) ≡ b → Marks w (cond b Drain Finish)
+    log m g true h = inr (inr (inl (refl, m, ltb-true w.drained (length w.log) h)))
+    log m g false h = inr (inr (inr (refl, m, g, ltb-false w.drained (length w.log) h)))
 
-pub stops_wider : (D : Refusal → Type 0) (P Q : Event → Type 0) (m n : Machine) (e : Refusal) → ((x : Event) → P x → Q x) → StopsAt D P m e n → StopsAt D Q m e n
-stops_wider D P Q m n e w s = (s.0, taken_wider P Q m n s.0 w s.1, refused_wider D P Q n e w s.2)
+    gray : is_marking w.phase ≡ true → (b : Bool) → nat_lt 0 (length w.gray) ≡ b → Marks w (cond b Mark (cond (nat_lt w.drained (length w.log)) Drain Finish))
+    gray m true h = inr (inl (refl, m, ltb-true 0 (length w.gray) h))
+    gray m false h = log m (ltb-false 0 (length w.gray) h) (nat_lt w.drained (length w.log)) refl
 
-pub sweep_is_step : (x : Event) → IsSweep x → IsCycleStep x
-sweep_is_step x h = inr (inl h)
+    phase : (b : Bool) → is_marking w.phase ≡ b → Marks w (cond (not b) Snap (cond (nat_lt 0 (length w.gray)) Mark (cond (nat_lt w.drained (length w.log)) Drain Finish)))
+    phase false h = inl (refl, h)
+    phase true h = gray h (nat_lt 0 (length w.gray)) refl
 
-pub mark_is_step : (x : Event) → IsMarkStep x → IsCycleStep x
-mark_is_step x h = inl h
+next_marks : (w : HeapState) → pending_regions w.regions ≡ [] → next_step false w ≡ Some (next_mark w)
+unfolding next_step
+next_marks w h = ap (λ (l : List ℕ). option_map_or (λ r. Some (Sweep r)) (slice_get l 0) (Some (next_mark w))) h
+
+marks_allowed : (w : HeapState) (e : Event) → pending_regions w.regions ≡ [] → Marks w e → refusal_of e w ≡ None
+unfolding refusal_of
+marks_allowed w e none (inl h) = ap (λ (x : Event). refusal_of x w) h.0 ∙ snap_free (marking_of w) h.1
+marks_allowed w e none (inr (inl h)) = ap (λ (x : Event). refusal_of x w) h.0 ∙ mark_free (marking_of w) h.1 h.2
+marks_allowed w e none (inr (inr (inl h))) = ap (λ (x : Event). refusal_of x w) h.0 ∙ drain_free (marking_of w) h.1 h.2
+marks_allowed w e none (inr (inr (inr h))) =
+    let gray = h.2 in
+    let log = h.3 in
+    ap (λ (x : Event). refusal_of x w) h.0 ∙ finish_free (marking_of w) h.1 (omega (arith, gray, log)) (sym (ap (λ (l : List ℕ). slice_get l 0) none))
+
+pub mark_stopped : (D : Refusal → Type 0) (m : Machine) (x : Event) (e : Refusal) → x ≡ next_mark m.trail.current → pending_regions m.trail.current.regions ≡ [] → MayFail m (Step x) m e ⊎ D e → MayStop D false m e
+mark_stopped D m x e is none f =
+    let w = m.trail.current in
+    stopped D false m x e (next_marks w none ∙ ap (λ (y : Event). Some y) (sym is)) (marks_allowed w x none (subst (Marks w) (sym is) (which w))) f
+
+-- a step of the marker before its finish leaves which regions wait, and condemns and removes nothing
+abbrev Leaves : HeapState → Event → Type 0
+Leaves w e =
+    (pending_regions (state_after e w).regions ≡ pending_regions w.regions)
+    × (condemned_of (answer_of e w (state_after e w)) ≡ 0) × (swept_of (answer_of e w (state_after e w)) ≡ 0)
+
+snap_leaves : (w : HeapState) → Leaves w Snap
+unfolding state_after answer_of after_snap snapped
+snap_leaves w = (all_shaded w.registers _, refl, refl)
+
+mark_leaves : (w : HeapState) → Leaves w Mark
+unfolding state_after answer_of after_mark marked
+mark_leaves w = (all_shaded (children_of w.classes w.regions (slice_index w.gray 0)) (record (marking_of w) { gray = drop 1 w.gray }), refl, refl)
+
+drain_leaves : (w : HeapState) → Leaves w Drain
+unfolding state_after answer_of after_drain drained_once
+drain_leaves w = (all_shaded (_ ∷ []) _, refl, refl)
+
+marks_leave : (w : HeapState) (e : Event) → Marks w e → ends_cycle e ≡ false → Leaves w e
+marks_leave w e (inl h) f = subst (Leaves w) (sym h.0) (snap_leaves w)
+marks_leave w e (inr (inl h)) f = subst (Leaves w) (sym h.0) (mark_leaves w)
+marks_leave w e (inr (inr (inl h))) f = subst (Leaves w) (sym h.0) (drain_leaves w)
+marks_leave w e (inr (inr (inr h))) f = absurd (true≢false (sym (ap ends_cycle h.0) ∙ f))
+
+finishes : (w : HeapState) (e : Event) → Marks w e → ends_cycle e ≡ true → e ≡ Finish
+finishes w e (inl h) f = absurd (true≢false (sym f ∙ ap ends_cycle h.0))
+finishes w e (inr (inl h)) f = absurd (true≢false (sym f ∙ ap ends_cycle h.0))
+finishes w e (inr (inr (inl h))) f = absurd (true≢false (sym f ∙ ap ends_cycle h.0))
+finishes w e (inr (inr (inr h))) f = h.0
+
+finish_ends : (w : HeapState) → ((state_after Finish w).phase ≡ Idle) × (swept_of (answer_of Finish w (state_after Finish w)) ≡ 0)
+unfolding state_after answer_of after_finish finished
+finish_ends w = (refl, refl)
+
+pub marked_on : (m n : Machine) (e : Event) (a : Answer) (b : Bool) → e ≡ next_mark m.trail.current → pending_regions m.trail.current.regions ≡ [] → MayReply m (Step e) n (Answered a) → b ≡ ends_cycle e → b ≡ false → MovesOn m None n
+marked_on m n e a b is none reply told going =
+    let w = m.trail.current in
+    let f : ends_cycle e ≡ false = sym told ∙ going in
+    let t = taken m n e a reply in
+    let kept = marks_leave w e (subst (Marks w) (sym is) (which w)) f in
+    let one = one_leads false m n e a (next_marks w none ∙ ap (λ (y : Event). Some y) (sym is)) reply in (
+      subst (λ (b : Bool). StepsLead false m (b || false) n 0 0) f
+          (subst (λ (k : ℕ). StepsLead false m (ends_cycle e || false) n k 0) (ap (λ (x : Answer). condemned_of x) t.answer ∙ kept.1)
+          (subst (λ (k : ℕ). StepsLead false m (ends_cycle e || false) n (condemned_of a) k) (ap (λ (x : Answer). swept_of x) t.answer ∙ kept.2) one)),
+      ap (λ (v : HeapState). pending_regions v.regions) t.state ∙ kept.0 ∙ none,
+      t.below,
+      t.place,
+    )
+
+pub marked_last : (m n : Machine) (e : Event) (a : Answer) (b : Bool) (count : ℕ) → e ≡ next_mark m.trail.current → pending_regions m.trail.current.regions ≡ [] → MayReply m (Step e) n (Answered a) → b ≡ ends_cycle e → b ≡ true → count ≡ condemned_of a → MovesOn m (Some count) n
+marked_last m n e a b count is none reply told last same =
+    let w = m.trail.current in
+    let f : ends_cycle e ≡ true = sym told ∙ last in
+    let finish = finishes w e (subst (Marks w) (sym is) (which w)) f in
+    let t = taken m n e a reply in
+    let ends = subst (λ (x : Event). ((state_after x w).phase ≡ Idle) × (swept_of (answer_of x w (state_after x w)) ≡ 0)) (sym finish) (finish_ends w) in
+    let one = one_leads false m n e a (next_marks w none ∙ ap (λ (y : Event). Some y) (sym is)) reply in
+    subst (λ (k : ℕ). MovesOn m (Some k) n) (sym same) (
+      subst (λ (b : Bool). StepsLead false m (b || false) n (condemned_of a) 0) f
+          (subst (λ (k : ℕ). StepsLead false m (ends_cycle e || false) n (condemned_of a) k) (ap (λ (x : Answer). swept_of x) t.answer ∙ ends.1) one),
+      ap (λ (v : HeapState). v.phase) t.state ∙ ends.0,
+    )
+
+-- the marker's steps so far
+pub marking_on : (m n k : Machine) (o : Option ℕ) → o ≡ None → StepsLead false m false n 0 0 → MovesOn n o k → StepsLead false m false k 0 0 × (pending_regions k.trail.current.regions ≡ [])
+marking_on m n k None is s t = (leads_on false false false m n k 0 0 0 0 s t.0, t.1)
+marking_on m n k (Some x) is s t = absurd (cc is)
+
+pub place_on : (m n : Machine) (o : Option ℕ) → o ≡ None → MovesOn m o n → (m.trail.place < last_place) × (n.trail.place ≡ m.trail.place + 1)
+place_on m n None is t = (t.2, t.3)
+place_on m n (Some x) is t = absurd (cc is)
+
+pub marking_ends : (m n k : Machine) (o : Option ℕ) (x : ℕ) → o ≡ Some x → StepsLead false m false n 0 0 → MovesOn n o k → MarksLead m x k
+marking_ends m n k None x is s t = absurd (cc is)
+marking_ends m n k (Some y) x is s t =
+    let same : 0 + y ≡ x = (let e : y ≡ x = cc is in omega (arith, e)) in
+    (subst (λ (z : ℕ). StepsLead false m true k z 0) same (leads_on false false true m n k 0 0 y 0 s t.0), t.1)
 
 -- ---- a whole cycle
 
-pub of_sweeps : (m n : Machine) (a : ℕ) → SweepsLead m a n → (steps : List TakenStep) × StepsLead IsCycleStep m steps n
-of_sweeps m n a s = (s.0, taken_wider IsSweep IsCycleStep m n s.0 sweep_is_step s.1)
-
-pub of_marks : (m n : Machine) → MarksLead m n → (steps : List TakenStep) × StepsLead IsCycleStep m steps n
-of_marks m n s = (s.0, taken_wider IsMarkStep IsCycleStep m n s.0 mark_is_step s.1)
-
-finish_is_step : (x : Event) → x ≡ Finish → IsCycleStep x
-finish_is_step x e = inr (inr e)
-
-pub of_finish : (m n : Machine) (a : ℕ) → Finishes m a n → (steps : List TakenStep) × StepsLead IsCycleStep m steps n
-of_finish m n a f = ((Finish, f.0) ∷ [], taken_wider (λ x. x ≡ Finish) IsCycleStep m n ((Finish, f.0) ∷ []) finish_is_step f.1)
-
--- refused in the sweeps after the finish
-pub stops_last : (D : Refusal → Type 0) (m x y z n : Machine) (a b : ℕ) (e : Refusal) → SweepsLead m a x → MarksLead x y → Finishes y b z → StopsAt D IsSweep z e n → StopsAt D IsCycleStep m e n
-stops_last D m x y z n a b e s t f l =
-    let p = of_sweeps m x a s in
-    let q = of_marks x y t in
-    let r = of_finish y z b f in
-    stops_on D IsCycleStep m x n e p.0 p.1 (stops_on D IsCycleStep x y n e q.0 q.1 (stops_on D IsCycleStep y z n e r.0 r.1 (stops_wider D IsSweep IsCycleStep z n e sweep_is_step l)))
-
--- ---- what the functions say
-
-pub moved_place : (b : Bool) (m n : Machine) → b ≡ true → MovesOn b m n → (m.trail.place < last_place) × (n.trail.place ≡ m.trail.place + 1)
-moved_place true m n e h = place_on m n h.0 h.1 h.3
-moved_place false m n e h = absurd (cc e)
-
-pub moved_marks : (b : Bool) (m n k : Machine) → MarksLead m n → b ≡ true → MovesOn b n k → MarksLead m k
-moved_marks true m n k s e h = marks_on m n k s (one_mark n k h.0 h.1 h.2 h.3)
-moved_marks false m n k s e h = absurd (cc e)
-
-pub stops_marking : (D : Refusal → Type 0) (m x n : Machine) (a : ℕ) (e : Refusal) → SweepsLead m a x → StopsAt D IsMarkStep x e n → StopsAt D IsCycleStep m e n
-stops_marking D m x n a e s t =
-    let p = of_sweeps m x a s in
-    stops_on D IsCycleStep m x n e p.0 p.1 (stops_wider D IsMarkStep IsCycleStep x n e mark_is_step t)
-
-pub stops_finish : (D : Refusal → Type 0) (m x y n : Machine) (a : ℕ) (e : Refusal) → SweepsLead m a x → MarksLead x y → MayRefuse D IsCycleStep y e → n ≡ y → StopsAt D IsCycleStep m e n
-stops_finish D m x y n a e s t r h =
-    let p = of_sweeps m x a s in
-    let q = of_marks x y t in
-    stops_on D IsCycleStep m x n e p.0 p.1 (stops_after D IsCycleStep x y n e q.0 q.1 r h)
-
-pub whole_cycle : (m x y z n : Machine) (a b d : ℕ) → SweepsLead m a x → MarksLead x y → Finishes y b z → SweepsLead z d n → IsWholeCycle m b (a + d) n
-whole_cycle m x y z n a b d s t f u = (x, y, z, a, d, s, t, f, u, refl)
+pub whole_cycle : (m x y n : Machine) (a b d : ℕ) → AreSwept m a x → MarksLead x b y → AreSwept y d n → IsWholeCycle m b (a + d) n
+whole_cycle m x y n a b d s t f =
+    let condemned : (0 + b) + 0 ≡ b = omega arith in
+    let swept : (a + 0) + d ≡ a + d = omega arith in
+    let steps = leads_on false true true m y n (0 + b) (a + 0) 0 d (leads_on false false true m x y 0 a b 0 (s.steps false) t.0) (f.steps true) in (
+      subst (λ (k : ℕ). StepsLead false m true n k (a + d)) condemned (subst (λ (k : ℕ). StepsLead false m true n ((0 + b) + 0) k) swept steps),
+      (f.phase ∙ t.1, f.none),
+    )
 
 -- a cycle as its two clauses tell it
-pub runs_cycle : (D : Refusal → Type 0) (m n : Machine) (cycle : Result CycleCounts Refusal) → IfOk cycle (λ c. IsWholeCycle m c.condemned c.swept n) → IfErr cycle (λ e. StopsAt D IsCycleStep m e n) → RunsCycle D m cycle n
+pub runs_cycle : (D : Refusal → Type 0) (m n : Machine) (cycle : Result CycleCounts Refusal) → IfOk cycle (λ c. IsWholeCycle m c.condemned c.swept n) → IfErr cycle (λ e. StopsAt D false m e n) → RunsCycle D m cycle n
 runs_cycle D m n (Ok c) whole refused = whole
 runs_cycle D m n (Err e) whole refused = refused
 
 -- the answer about a whole cycle
 pub cycle_told : (cycle : Result CycleCounts Refusal) (c : CycleCounts) (text : List ℕ) → cycle ≡ Ok c → IsTextOrNoMemory (λ text. text ≡ collected_text c.condemned c.swept) text → IsCycleAnswer cycle text
 cycle_told cycle c text is h = subst (λ (x : Result CycleCounts Refusal). IsCycleAnswer x text) (sym is) h
+
+-- ---- one list of steps
+
+abbrev pub now : Machine → HeapState
+now m = m.trail.current
+
+same_steps : (b c d : Bool) (m k n l : Machine) (xs ys : List TakenStep) → now m ≡ now k → AreNext b m xs c n → AreNext b k ys d l → next_step c (now n) ≡ None → next_step d (now l) ≡ None → (xs ≡ ys) × (now n ≡ now l)
+same_steps b c d m k n l [] [] same h j hn jn = (refl, ap now h.1 ∙ same ∙ sym (ap now j.1))
+same_steps b c d m k n l [] (y ∷ ys) same h j hn jn =
+    let there : next_step c (now n) ≡ next_step b (now k) = ap₂ next_step h.0 (ap now h.1 ∙ same) in
+    let clash : None ≡ Some y.0 = sym hn ∙ there ∙ j.0 in
+    absurd (cc clash)
+same_steps b c d m k n l (x ∷ xs) [] same h j hn jn =
+    let there : next_step d (now l) ≡ next_step b (now m) = ap₂ next_step j.0 (ap now j.1 ∙ sym same) in
+    let clash : None ≡ Some x.0 = sym jn ∙ there ∙ h.0 in
+    absurd (cc clash)
+same_steps b c d m k n l (x ∷ xs) (y ∷ ys) same h j hn jn =
+    let both : Some x.0 ≡ Some y.0 = sym h.0 ∙ ap (next_step b) same ∙ j.0 in
+    let event : x.0 ≡ y.0 = cc both in
+    let t = taken m h.1.0 x.0 x.1 h.1.1 in
+    let u = taken k j.1.0 y.0 y.1 j.1.1 in
+    let answer : x.1 ≡ y.1 = t.answer ∙ ap₂ (λ (e : Event) (w : HeapState). answer_of e w (state_after e w)) event same ∙ sym u.answer in
+    let state : now h.1.0 ≡ now j.1.0 = t.state ∙ ap₂ state_after event same ∙ sym u.state in
+    let others = subst (λ (e : Event). AreNext (ends_cycle e || b) h.1.0 xs c n) event h.1.2 in
+    let rest = same_steps (ends_cycle y.0 || b) c d h.1.0 j.1.0 n l xs ys state others j.1.2 hn jn in
+    (λ i. (event i, answer i) ∷ rest.0 i, rest.1)
+
+none_next : (w : HeapState) → pending_regions w.regions ≡ [] → next_step true w ≡ None
+unfolding next_step
+none_next w h = ap (λ (p : List ℕ). option_map_or (λ r. Some (Sweep r)) (slice_get p 0) None) h
+
+-- from one state two whole cycles do the same
+pub one_cycle : (m k n l : Machine) (condemned swept others removed : ℕ) → now m ≡ now k → IsWholeCycle m condemned swept n → IsWholeCycle k others removed l → (condemned ≡ others) × (swept ≡ removed) × (now n ≡ now l)
+one_cycle m k n l condemned swept others removed same h j =
+    let s = same_steps false true true m k n l h.0.0 j.0.0 same h.0.1 j.0.1 (none_next (now n) h.1.1) (none_next (now l) j.1.1) in (
+      h.0.2 ∙ ap (λ (steps : List TakenStep). sum_by (λ (z : TakenStep). condemned_of z.1) steps) s.0 ∙ sym j.0.2,
+      h.0.3 ∙ ap (λ (steps : List TakenStep). sum_by (λ (z : TakenStep). swept_of z.1) steps) s.0 ∙ sym j.0.3,
+      s.1,
+    )

@@ -12,5 +12,7 @@ pub mod FieldNames
 pub mod FieldRows
 pub mod NamedObjects
 pub mod PinRows
+pub mod WaitingRegions
 pub mod CycleSteps
 pub mod KeptPins
+pub mod QuestionsLeftOut

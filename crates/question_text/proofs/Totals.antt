@@ -12,12 +12,12 @@ use Rattle.heap_class.specs.declared.Kind.{Kind}
 use Rattle.heap_class.specs.declared.Kind.TheVariants.{Boolean, Char, Float, Double, Byte, Short, Int, Long}
 use Rattle.heap_class.specs.declared.ObjKind.{ObjKind}
 use Rattle.heap_class.specs.declared.ObjKind.TheVariants.{Instance, Array, Prim}
-use Rattle.heap_class.specs.Kinds.{id_bytes, type_code, width_of}
+use Rattle.heap_class.specs.Kinds.{id_bytes, width_of}
 use Rattle.heap_class.specs.Classes.{Class, instance_size, slots_of}
 use Rattle.hprof_text.specs.Image.{DumpedObject, Image, IsDumpable, IsKnown}
 use Rattle.hprof_text.proofs.Bounds.{width_small}
 use Rattle.heap_questions.specs.declared.rows.Row.{Row}
-use Rattle.heap_questions.specs.Histogram.{class_rows, members, object_bytes, row_number, row_of, rows_of, value_size}
+use Rattle.heap_questions.specs.Histogram.{class_rows, kind_row, members, object_bytes, row_number, row_of, rows_of, value_size}
 use Rattle.question_text.specs.Histograms.{IsCountText, IsRowsText, sum_of, total_of}
 
 -- a measure of lists: 0 of none, and so much more with each object
@@ -88,15 +88,15 @@ all_of m v is n (o ∷ os) within =
 
 -- ---- bounds
 
-code_small : (kind : Kind) → type_code kind < 12
-code_small Kind.Object = omega arith
-code_small _ = omega arith
+row_small : (kind : Kind) → kind_row kind < class_rows
+row_small Kind.Object = omega arith
+row_small _ = omega arith
 
-kind_row : (classes : List Class) (kind : ObjKind) (n : ℕ) → IsKnown classes kind n → row_number kind < class_rows + length classes
+known_row : (classes : List Class) (kind : ObjKind) (n : ℕ) → IsKnown classes kind n → row_number kind < class_rows + length classes
 unfolding row_number
-kind_row classes (Instance k) n known = omega (arith, known.0)
-kind_row classes (Array k) n known = omega (arith, known)
-kind_row classes (Prim kind) n known = omega (arith, code_small kind)
+known_row classes (Instance k) n known = omega (arith, known.0)
+known_row classes (Array k) n known = omega (arith, known)
+known_row classes (Prim kind) n known = omega (arith, row_small kind)
 
 width_within : (ids : IdSize) (kind : Kind) (n : ℕ) → n ≤ 1024 → width_of ids kind * n ≤ 8192
 width_within Four Kind.Object n h = omega (arith, h)
@@ -135,7 +135,7 @@ AreCountable classes objects = AllByRecursion (IsCountable classes) objects
 rows_there : (classes : List Class) (objects : List DumpedObject) → AreCountable classes objects
     → AllByRecursion (λ o. row_number o.kind < class_rows + length classes) objects
 rows_there classes [] all = tt
-rows_there classes (o ∷ os) all = (kind_row classes o.kind (length o.words) all.0.0, rows_there classes os all.1)
+rows_there classes (o ∷ os) all = (known_row classes o.kind (length o.words) all.0.0, rows_there classes os all.1)
 
 -- a countable object has few bytes
 bytes_small : (ids : IdSize) (classes : List Class) (o : DumpedObject) → IsCountable classes o → object_bytes ids classes o ≤ 8192

@@ -1,15 +1,21 @@
 -- The steps of `collect`, and its answer.
-use Rattle.std.specs.Prelude.{◌≡◌, ◌⊎◌, ℕ, ◌+◌, Bool, true, false, Result, Ok, Err, List, [], ◌∷◌, ◌++◌, codes, map, sum_by}
-use Rattle.std.specs.List.{AllByRecursion}
+use Rattle.std.specs.Prelude.{◌≡◌, ◌⊎◌, ◌≤◌, ◌<◌, ℕ, ◌+◌, ◌*◌, Bool, true, false, not, ◌||◌, nat_lt, Result, Ok, Err, Option, Some, None, List, [], ◌∷◌, ◌++◌, codes, drop, length, slice_get, sum_by, if◌then◌else◌}
+use Rattle.std.specs.Option.{option_map_or}
 use Rattle.std.specs.Str.{bytes_eq}
 use Rattle.heap_class.specs.declared.Refusal.{Refusal}
+use Rattle.heap_class.specs.declared.Refusal.TheVariants.{NoMemory, ChronicleFull}
+use Rattle.heap_mark.specs.MarkSteps.{is_marking, pending_regions}
+use Rattle.heap_mark.specs.declared.Phase.TheVariants.{Idle}
 use Rattle.heap_step.specs.declared.Answer.{Answer}
 use Rattle.heap_step.specs.declared.Answer.TheVariants.{Condemned, Swept}
 use Rattle.heap_step.specs.declared.Event.{Event}
 use Rattle.heap_step.specs.declared.Event.TheVariants.{Snap, Mark, Drain, Finish, Sweep}
 use Rattle.heap_trail.specs.declared.Action.TheVariants.{Step}
 use Rattle.heap_trail.specs.declared.Reply.TheVariants.{Answered}
-use Rattle.heap_trail.specs.Machine.{Machine, MayDrive, MayFail, MayReply}
+use Rattle.heap_trail.specs.Limits.{last_place}
+use Rattle.heap_trail.specs.Machine.{Machine, MayFail, MayReply}
+use Rattle.heap_world.specs.RegionLimits.{cell_limit, region_limit}
+use Rattle.heap_world.specs.State.{HeapState}
 use Rattle.session_grammar.specs.Grammar.{words_of_line}
 use Rattle.session_text.specs.Replies.{and_number, line}
 use Rattle.question_text.specs.declared.cycle.CycleCounts.{CycleCounts}
@@ -26,48 +32,65 @@ is_collect_words (w ∷ v ∷ ws) = false
 abbrev pub is_collect : List ℕ → Bool
 is_collect l = is_collect_words (words_of_line l)
 
+-- ---- the next step
+
+-- the lowest region that waits to be swept
+abbrev pub waiting_region : HeapState → Option ℕ
+waiting_region w = slice_get (pending_regions w.regions) 0
+
+-- the marker's next step: it begins a cycle unless one runs, marks while an object is gray, drains the rest of the log, and
+-- then finishes
+unfoldable pub next_mark : HeapState → Event
+next_mark w =
+    if not (is_marking w.phase) then Snap
+    else (if nat_lt 0 (length w.gray) then Mark
+    else (if nat_lt w.drained (length w.log) then Drain else Finish))
+
+-- the next step of `collect`, which may have taken its finish: a sweep of the lowest region that waits, else a step of the
+-- marker; None if no region waits after the finish
+unfoldable pub next_step : Bool → HeapState → Option Event
+next_step finished w =
+    option_map_or (λ r. Some (Sweep r)) (waiting_region w)
+    (if finished then None else Some (next_mark w))
+
+-- the event ends a cycle
+abbrev pub ends_cycle : Event → Bool
+ends_cycle Finish = true
+ends_cycle e = false
+
 -- ---- lists of steps
-
--- a sweep of some region
-abbrev pub IsSweep : Event → Type 0
-IsSweep (Sweep region) = Unit {0}
-IsSweep e = ⊥
-
--- a step of the marker before its finish
-abbrev pub IsMarkStep : Event → Type 0
-IsMarkStep Snap = Unit {0}
-IsMarkStep Mark = Unit {0}
-IsMarkStep Drain = Unit {0}
-IsMarkStep e = ⊥
-
--- a step of a cycle
-abbrev pub IsCycleStep : Event → Type 0
-IsCycleStep e = IsMarkStep e ⊎ IsSweep e ⊎ (e ≡ Finish)
 
 -- a step that was taken, and its answer
 abbrev pub TakenStep : Type 0
 TakenStep = Event × Answer
 
--- under some marks these steps lead from m to n with these answers, and P holds of each
-abbrev pub StepsLead : (Event → Type 0) → Machine → List TakenStep → Machine → Type 0
-StepsLead P m steps n =
-    AllByRecursion (λ (s : TakenStep). P s.0) steps
-    × MayDrive m (map (λ (s : TakenStep). Step s.0) steps)
-    (map (λ (s : TakenStep). Answered s.1) steps) n
+-- from m on, each of these steps is the next one and has this answer, and they lead to n; the finish was taken before if b holds,
+-- and by then if c does
+abbrev pub AreNext : Bool → Machine → List TakenStep → Bool → Machine → Type 0
+AreNext b m [] c n = (c ≡ b) × (n ≡ m)
+AreNext b m (s ∷ steps) c n =
+    (next_step b m.trail.current ≡ Some s.0)
+    × ((k : Machine) × MayReply m (Step s.0) k (Answered s.1)
+    × AreNext (ends_cycle s.0 || b) k steps c n)
 
 -- nothing but the machine refuses a step
 abbrev pub NoneDenies : Refusal → Type 0
 NoneDenies e = ⊥
 
--- the machine may refuse such a step, for this reason, or whoever takes its steps is denied them
-abbrev pub MayRefuse : (Refusal → Type 0) → (Event → Type 0) → Machine → Refusal → Type 0
-MayRefuse Denies P m e =
-    ((event : Event) × P event × MayFail m (Step event) m e) ⊎ Denies e
+-- memory was refused, or no place is left
+abbrev pub IsShortage : Refusal → Type 0
+IsShortage e = (e ≡ NoMemory) ⊎ (e ≡ ChronicleFull)
 
--- such steps lead from m to n, where another may be refused, for this reason
-abbrev pub StopsAt : (Refusal → Type 0) → (Event → Type 0) → Machine → Refusal → Machine → Type 0
-StopsAt Denies P m e n =
-    (steps : List TakenStep) × StepsLead P m steps n × MayRefuse Denies P n e
+-- the next step is refused for a shortage, or whoever takes it is denied it
+abbrev pub MayStop : (Refusal → Type 0) → Bool → Machine → Refusal → Type 0
+MayStop Denies b m e =
+    (event : Event) × (next_step b m.trail.current ≡ Some event)
+    × ((MayFail m (Step event) m e × IsShortage e) ⊎ Denies e)
+
+-- the next steps lead from m to n, where another is refused
+abbrev pub StopsAt : (Refusal → Type 0) → Bool → Machine → Refusal → Machine → Type 0
+StopsAt Denies b m e n =
+    (steps : List TakenStep) × (c : Bool) × AreNext b m steps c n × MayStop Denies c n e
 
 -- ---- what was collected
 
@@ -81,36 +104,49 @@ abbrev pub condemned_of : Answer → ℕ
 condemned_of (Condemned n) = n
 condemned_of a = 0
 
--- the number of objects that these steps removed
-abbrev pub swept_by : List TakenStep → ℕ
-swept_by steps = sum_by (λ (s : TakenStep). swept_of s.1) steps
+-- the next steps lead from m to n, and condemn and remove these numbers of objects
+abbrev pub StepsLead : Bool → Machine → Bool → Machine → ℕ → ℕ → Type 0
+StepsLead b m c n condemned swept =
+    (steps : List TakenStep) × AreNext b m steps c n
+    × (condemned ≡ sum_by (λ (s : TakenStep). condemned_of s.1) steps)
+    × (swept ≡ sum_by (λ (s : TakenStep). swept_of s.1) steps)
 
--- sweeps lead from m to n, and remove this number of objects
-abbrev pub SweepsLead : Machine → ℕ → Machine → Type 0
-SweepsLead m count n =
-    (steps : List TakenStep) × StepsLead IsSweep m steps n × (count ≡ swept_by steps)
+-- a sweep of the lowest region that waits leads from m to n, and removes this number of objects
+pub record IsSwept (m : Machine) (count : ℕ) (n : Machine) : Type 0 where
+  pub step : (b : Bool) → StepsLead b m b n 0 count
+  pub few : count ≤ cell_limit
+  pub waiting : pending_regions n.trail.current.regions
+      ≡ drop 1 (pending_regions m.trail.current.regions)
+  pub phase : n.trail.current.phase ≡ m.trail.current.phase
 
--- a step of the marker leads from m to n, if there is one more
-abbrev pub MovesOn : Bool → Machine → Machine → Type 0
-MovesOn true m n =
-    (event : Event) × (a : Answer) × IsMarkStep event × MayReply m (Step event) n (Answered a)
-MovesOn false m n = n ≡ m
+-- sweeps lead from m to n, where no region waits, and remove this number of objects
+pub record AreSwept (m : Machine) (count : ℕ) (n : Machine) : Type 0 where
+  pub steps : (b : Bool) → StepsLead b m b n 0 count
+  pub few : count ≤ region_limit * cell_limit
+  pub none : pending_regions n.trail.current.regions ≡ []
+  pub phase : n.trail.current.phase ≡ m.trail.current.phase
 
--- steps of the marker lead from m to n
-abbrev pub MarksLead : Machine → Machine → Type 0
-MarksLead m n = (steps : List TakenStep) × StepsLead IsMarkStep m steps n
+-- the marker's next step leads from m to n; if it is the finish, it condemns this number of objects
+abbrev pub MovesOn : Machine → Option ℕ → Machine → Type 0
+MovesOn m None n =
+    StepsLead false m false n 0 0 × (pending_regions n.trail.current.regions ≡ [])
+    × (m.trail.place < last_place) × (n.trail.place ≡ m.trail.place + 1)
+MovesOn m (Some condemned) n =
+    StepsLead false m true n condemned 0 × (n.trail.current.phase ≡ Idle)
 
--- a finish leads from m to n, and condemns this number of objects
-abbrev pub Finishes : Machine → ℕ → Machine → Type 0
-Finishes m count n =
-    (a : Answer) × StepsLead (λ e. e ≡ Finish) m ((Finish, a) ∷ []) n × (count ≡ condemned_of a)
+-- steps of the marker, of which the finish is the last, lead from m to n, and condemn this number of objects
+abbrev pub MarksLead : Machine → ℕ → Machine → Type 0
+MarksLead m condemned n =
+    StepsLead false m true n condemned 0 × (n.trail.current.phase ≡ Idle)
 
--- sweeps, steps of the marker, a finish and sweeps lead from m to n
+-- no cycle runs, and no region waits to be swept
+abbrev pub IsCollected : HeapState → Type 0
+IsCollected w = (w.phase ≡ Idle) × (pending_regions w.regions ≡ [])
+
+-- the steps of a whole cycle lead from m to n, and condemn and remove these numbers of objects
 abbrev pub IsWholeCycle : Machine → ℕ → ℕ → Machine → Type 0
 IsWholeCycle m condemned swept n =
-    (x : Machine) × (y : Machine) × (z : Machine) × (before : ℕ) × (after : ℕ)
-    × SweepsLead m before x × MarksLead x y × Finishes y condemned z × SweepsLead z after n
-    × (swept ≡ before + after)
+    StepsLead false m true n condemned swept × IsCollected n.trail.current
 
 -- ---- the answer
 
@@ -125,10 +161,10 @@ IsCycleAnswer (Ok c) text =
     IsTextOrNoMemory (λ text. text ≡ collected_text c.condemned c.swept) text
 IsCycleAnswer (Err e) text = text ≡ refused_text e
 
--- steps led from m to n that are such a cycle: a whole one, or up to a step that is refused
+-- the steps of a cycle led from m to n: all of them, or those up to one that was refused
 abbrev pub RunsCycle : (Refusal → Type 0) → Machine → Result CycleCounts Refusal → Machine → Type 0
 RunsCycle Denies m (Ok c) n = IsWholeCycle m c.condemned c.swept n
-RunsCycle Denies m (Err e) n = StopsAt Denies IsCycleStep m e n
+RunsCycle Denies m (Err e) n = StopsAt Denies false m e n
 
 -- the answer of `collect`, which takes steps: those of a whole cycle, or up to one that was refused, whose refusal is the answer
 abbrev pub Collects : (Refusal → Type 0) → Machine → List ℕ → Machine → Type 0

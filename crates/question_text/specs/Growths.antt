@@ -1,11 +1,11 @@
 -- The text of `growth`.
-use Rattle.std.specs.Prelude.{◌≡◌, ℕ, Bool, ◌+◌, ◌==◌, ◌&&◌, not, nat_lt, List, [], ◌∷◌, ◌++◌, codes, length, count_by, if◌then◌else◌}
+use Rattle.std.specs.Prelude.{◌≡◌, ℕ, Bool, ◌+◌, ◌==◌, ◌&&◌, not, nat_lt, List, [], ◌∷◌, ◌++◌, codes, length, take, drop, count_by, if◌then◌else◌}
 use Rattle.heap_class.specs.declared.IdSize.{IdSize}
 use Rattle.heap_class.specs.Classes.{Class}
 use Rattle.hprof_text.specs.Image.{Image}
 use Rattle.heap_questions.specs.declared.growth.Change.{Change}
 use Rattle.heap_questions.specs.Growth.{changes_of}
-use Rattle.heap_questions.specs.Histogram.{histogram_of}
+use Rattle.heap_questions.specs.Histogram.{class_rows, histogram_of}
 use Rattle.session_text.specs.Replies.{line}
 use Rattle.question_text.specs.Histograms.{and_counts}
 use Rattle.question_text.specs.Names.{row_name}
@@ -30,10 +30,16 @@ changed_texts classes g [] = []
 changed_texts classes g (c ∷ cs) =
     (if differs c then changed_text classes g c else []) ++ changed_texts classes (g + 1) cs
 
+-- the lines of all rows that changed, those of the classes before those of the arrays of values, and their number
+abbrev pub changes_text : List Class → List Change → List ℕ
+changes_text classes changes =
+    changed_texts classes class_rows (drop class_rows changes)
+    ++ changed_texts classes 0 (take class_rows changes)
+    ++ count_text (count_by differs changes)
+
 -- the answer of `growth` from an older image to a newer one
 abbrev pub IsGrowthText : IdSize → Image → Image → List ℕ → Type 0
 IsGrowthText ids older newer text =
     text
-    ≡ changed_texts (more_classes older.classes newer.classes) 0
+    ≡ changes_text (more_classes older.classes newer.classes)
     (changes_of (histogram_of ids older) (histogram_of ids newer))
-    ++ count_text (count_by differs (changes_of (histogram_of ids older) (histogram_of ids newer)))

@@ -4,18 +4,18 @@ use Rattle.std.specs.Option.{option_map_or}
 use Rattle.heap_class.specs.declared.Kind.{Kind}
 use Rattle.heap_class.specs.declared.ObjKind.{ObjKind}
 use Rattle.heap_class.specs.declared.ObjKind.TheVariants.{Instance, Array, Prim}
-use Rattle.heap_class.specs.Kinds.{kind_word, type_code}
+use Rattle.heap_class.specs.Kinds.{kind_word}
 use Rattle.heap_class.specs.Classes.{Class, name_of}
-use Rattle.heap_questions.specs.Histogram.{class_rows}
+use Rattle.heap_questions.specs.Histogram.{class_rows, kind_row}
 use Rattle.session_grammar.specs.Grammar.{all_kinds}
 
 -- the name of the arrays of values of a kind
 abbrev pub kind_array_name : Kind → List ℕ
 kind_array_name k = kind_word k ++ codes "[]"
 
--- the name of the arrays of values whose kind has this type code
+-- the name of the arrays of values that row g counts
 unfoldable pub array_name : ℕ → List ℕ
-array_name code = option_map_or kind_array_name (find (λ k. type_code k == code) all_kinds) []
+array_name g = option_map_or kind_array_name (find (λ k. kind_row k == g) all_kinds) []
 
 -- the name of what row g counts
 unfoldable pub row_name : List Class → ℕ → List ℕ

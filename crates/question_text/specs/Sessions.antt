@@ -1,12 +1,22 @@
 -- Sessions with questions.
-use Rattle.std.specs.Prelude.{◌≡◌, ℕ, Bool, true, false}
+use Rattle.std.specs.Prelude.{◌≡◌, ℕ, Bool, true, false, List, [], ◌∷◌, filter, flat_map, map}
+use Rattle.std.specs.List.{AllByRecursion}
+use Rattle.heap_trail.specs.declared.Action.{Action}
+use Rattle.heap_trail.specs.declared.Reply.{Reply}
+use Rattle.heap_trail.specs.Machine.{Allocation, Machine, MayDrive}
+use Rattle.session_grammar.specs.declared.command.Command.{Command}
+use Rattle.session_grammar.specs.declared.command.Command.TheVariants.{Bad}
+use Rattle.session_grammar.specs.Grammar.{command_of, without_cr}
+use Rattle.session_text.specs.declared.Ended.TheVariants.{Eof}
+use Rattle.session_text.specs.declared.ReadEnd.TheVariants.{Over}
+use Rattle.session_text.specs.Session.{AllocationsFit, session_of}
 use Rattle.session_text.specs.Outlets.{Outgoing}
 use Rattle.session_text.specs.declared.Ended.{Ended}
 use Rattle.session_text.specs.Answers.{AnswerRelation, AnswersCommand, Begins}
 use Rattle.session_text.specs.Dumps.{Acts}
 use Rattle.session_text.specs.Inlets.{Incoming}
 use Rattle.session_text.specs.Local.{LocalActs}
-use Rattle.session_text.specs.Talks.{Serves}
+use Rattle.session_text.specs.Talks.{IsLine, Serves, stream}
 use Rattle.session_text.specs.declared.commands.Local.{Local}
 use Rattle.question_text.specs.declared.asking.Asking.{Asking}
 use Rattle.question_text.specs.Answers.{IsAnswerOfLine}
@@ -34,3 +44,49 @@ abbrev pub ServesAsking : ℕ → Incoming → Incoming → Asking → Outgoing 
 ServesAsking time a b c w c' w' ended =
     Serves (AnswersCommand AskingActs AskingAnswers time) (Begins AskingActs AskingAnswers time) a b
     c w c' w' ended
+
+-- ---- a session without its questions
+
+-- whether the grammar of sessions knows the command
+abbrev pub is_known : Command → Bool
+is_known Bad = false
+is_known k = true
+
+-- lines with the texts of their answers, one after another
+abbrev pub AnswersEach : {S : Type 0} → AnswerRelation S → List (List ℕ × List ℕ) → S → S → Type 0
+AnswersEach says [] c d = d ≡ c
+AnswersEach {S} says (a ∷ answered) c d =
+    (between : S) × IsLine a.0 × says a.0 c a.1 between × AnswersEach says answered between d
+
+-- the lines
+abbrev pub lines_of : List (List ℕ × List ℕ) → List (List ℕ)
+lines_of answered = map (λ a. a.0) answered
+
+-- the texts of their answers
+abbrev pub texts_of : List (List ℕ × List ℕ) → List ℕ
+texts_of answered = flat_map (λ a. a.1) answered
+
+-- those that are lines of the grammar of sessions
+abbrev pub known_of : List (List ℕ × List ℕ) → List (List ℕ × List ℕ)
+known_of answered = filter (λ a. is_known (command_of a.0)) answered
+
+-- no line is `collect`
+abbrev pub NoneCollects : List (List ℕ) → Type 0
+NoneCollects lines = AllByRecursion (λ (l : List ℕ). is_collect (without_cr l) ≡ false) lines
+
+-- these lines alone, under some marks of failed allocations, make the session that leads from m to n and has these answers
+abbrev pub IsSessionOf : ℕ → Machine → List (List ℕ × List ℕ) → Machine → Type 0
+IsSessionOf time m answered n =
+    (marks : List Allocation) × AllocationsFit m marks time (stream (lines_of answered))
+    × (session_of m marks time (stream (lines_of answered)) Over
+    ≡ (record { machine = n; marks = []; written = texts_of answered }, Eof))
+
+-- the lines were answered with this text, and those of the grammar of sessions as they are in a session of their own
+abbrev pub AnswersAlone : ℕ → Machine → List (List ℕ) → List ℕ → Machine → Type 0
+AnswersAlone time m lines text n =
+    (answered : List (List ℕ × List ℕ)) × (lines_of answered ≡ lines) × (texts_of answered ≡ text)
+    × IsSessionOf time m (known_of answered) n
+
+-- some actions lead from m to n
+abbrev pub IsDriven : Machine → Machine → Type 0
+IsDriven m n = (actions : List Action) × (replies : List Reply) × MayDrive m actions replies n

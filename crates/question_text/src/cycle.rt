@@ -1,15 +1,18 @@
 //! The steps of `collect`, and its answer.
-ghost use Rattle.std.specs.Prelude.{◌≡◌, ◌≤◌, IfErr, IfOk, OnErr, OnOk};
+ghost use Rattle.std.specs.Prelude.{◌≡◌, Bool, false, Some, [], IfErr, IfOk, OnErr};
 ghost use Rattle.heap_class.specs.declared.Refusal.TheVariants.{NoMemory};
+ghost use Rattle.heap_mark.specs.MarkSteps.{pending_regions};
 ghost use Rattle.session_text.specs.Replies.{line_answer_text};
 ghost use Rattle.question_text.specs.Appends.{ReturnsText};
-ghost use Rattle.question_text.specs.Collections.{Collects, Finishes, IsCycleAnswer, IsCycleStep, IsMarkStep, IsSweep, IsWholeCycle, MarksLead, MayRefuse, MovesOn, NoneDenies, StopsAt, SweepsLead, collected_text, condemned_of, is_collect, swept_of};
+ghost use Rattle.question_text.specs.Collections.{AreSwept, Collects, IsCycleAnswer, IsSwept, IsWholeCycle, MarksLead, MayStop, MovesOn, NoneDenies, StopsAt, collected_text, condemned_of, is_collect, ends_cycle, next_mark, swept_of, waiting_region};
 
 use crate::rows::{push_number, push_words};
 use crate::steps::Steps;
 use heap_class::Refusal;
+use heap_mark::first_pending;
 use heap_step::{Answer, Event};
 use heap_trail::{Machine, Reply};
+use heap_world::World;
 use session_grammar::words::{Words, is_word};
 use session_text::LineAnswer;
 use std::alloc::Global;
@@ -57,117 +60,126 @@ fn condemned_of(answer: Answer) -> u64
     }
 }
 
-// Sweeps a region if it waits to be swept, and returns the number of objects that this removed.
+// Tells whether an event ends a cycle.
+fn ends_cycle(event: &Event) -> bool
+    ensures { result ≡ ends_cycle event.now }
+{
+    matches!(event, Event::Finish)
+}
+
+// Returns the marker's next step.
+#[tactic(auto, unfolding(crate::specs::Collections::next_mark))]
+fn next_mark(world: &World) -> Event
+    ensures { result ≡ next_mark world.now }
+{
+    if !world.phase().is_marking() {
+        return Event::Snap;
+    }
+    if !world.gray().is_empty() {
+        return Event::Mark;
+    }
+    if world.drain_count() < world.log().len() as u64 {
+        return Event::Drain;
+    }
+    Event::Finish
+}
+
+// Returns the lowest region that waits to be swept.
+fn waiting_region<S: Steps>(steps: &S) -> Option<u64>
+    ensures { result ≡ waiting_region (S.seen steps.now).trail.current }
+{
+    first_pending(steps.machine().world().regions())
+}
+
+// Returns the marker's next step on a heap.
+fn next_mark_on<S: Steps>(steps: &S) -> Event
+    ensures { result ≡ next_mark (S.seen steps.now).trail.current }
+{
+    next_mark(steps.machine().world())
+}
+
+// Sweeps the lowest region that waits, and returns the number of objects that this removed.
 fn sweep_region<S: Steps>(steps: &mut S, by: &mut S::By, region: u64) -> Result<u64, Refusal>
-    requires { S.may by.old }
+    requires may { S.may by.old }
+    requires waiting { waiting_region (S.seen steps.old).trail.current ≡ Some region }
     ensures still { S.may by.new }
-    ensures swept { IfOk result (λ n. SweepsLead (S.seen steps.old) n (S.seen steps.new)) }
-    ensures few { IfOk result (λ n. n ≤ 256) }
-    ensures refused { IfErr result (MayRefuse S.denies IsSweep (S.seen steps.old)) }
+    ensures swept { IfOk result (λ n. IsSwept (S.seen steps.old) n (S.seen steps.new)) }
+    ensures refused { IfErr result (λ e. (b : Bool) → MayStop S.denies b (S.seen steps.old) e) }
     ensures unchanged { OnErr result (S.seen steps.new ≡ S.seen steps.old) }
 {
     // Its contract says that the heap is legal.
     steps.machine().world();
-    match steps.take(by, Event::Sweep { region }) {
-        Ok(answer) => Ok(swept_of(answer)),
-        Err(Refusal::NothingToSweep { .. }) => Ok(0),
-        Err(refusal) => Err(refusal),
-    }
+    let answer = steps.take(by, Event::Sweep { region })?;
+    Ok(swept_of(answer))
 }
 
-// Sweeps each region that waits to be swept, by rising number, and returns the number of objects that this removed.
+// Sweeps each region that waits, by rising number, and returns the number of objects that this removed.
 fn sweep_all<S: Steps>(steps: &mut S, by: &mut S::By) -> Result<u64, Refusal>
     requires { S.may by.old }
     ensures still { S.may by.new }
-    ensures swept { IfOk result (λ n. SweepsLead (S.seen steps.old) n (S.seen steps.new)) }
-    ensures few { IfOk result (λ n. n ≤ 65536) }
+    ensures swept { IfOk result (λ n. AreSwept (S.seen steps.old) n (S.seen steps.new)) }
     ensures refused { IfErr result
-        (λ e. StopsAt S.denies IsSweep (S.seen steps.old) e (S.seen steps.new)) }
+        (λ e. (b : Bool) → StopsAt S.denies b (S.seen steps.old) e (S.seen steps.new)) }
 {
-    let regions = steps.machine().world().regions().count();
+    // Its contract says that the heap is legal.
+    steps.machine().world();
     let mut swept = 0;
-    for region in 0..regions {
+    while let Some(region) = waiting_region(steps) {
         let removed = sweep_region(steps, by, region)?;
         swept += removed;
     }
     Ok(swept)
 }
 
-// Begins a cycle, unless one runs.
-fn begin<S: Steps>(steps: &mut S, by: &mut S::By) -> Result<(), Refusal>
-    requires { S.may by.old }
+// Takes the marker's next step. Returns the number of condemned objects if that is the finish.
+fn take_mark<S: Steps>(steps: &mut S, by: &mut S::By) -> Result<Option<u64>, Refusal>
+    requires may { S.may by.old }
+    requires swept { pending_regions (S.seen steps.old).trail.current.regions ≡ [] }
     ensures still { S.may by.new }
-    ensures begun { OnOk result (MarksLead (S.seen steps.old) (S.seen steps.new)) }
-    ensures refused { IfErr result (MayRefuse S.denies IsMarkStep (S.seen steps.old)) }
+    ensures taken { IfOk result (λ end. MovesOn (S.seen steps.old) end (S.seen steps.new)) }
+    ensures refused { IfErr result (MayStop S.denies false (S.seen steps.old)) }
     ensures unchanged { OnErr result (S.seen steps.new ≡ S.seen steps.old) }
 {
-    if !steps.machine().world().phase().is_marking() {
-        steps.take(by, Event::Snap)?;
+    let event = next_mark_on(steps);
+    let is_last = ends_cycle(&event);
+    let answer = steps.take(by, event)?;
+    if !is_last {
+        return Ok(None);
     }
-    Ok(())
+    Ok(Some(condemned_of(answer)))
 }
 
-// Marks the newest gray object, or drains one entry of the log if no object is gray. Tells whether there was one.
-fn mark_or_drain<S: Steps>(steps: &mut S, by: &mut S::By) -> Result<bool, Refusal>
-    requires { S.may by.old }
+// Begins a cycle, unless one runs, and marks and drains until nothing is left, and finishes it. Returns the number of condemned
+// objects.
+fn mark_cycle<S: Steps>(steps: &mut S, by: &mut S::By) -> Result<u64, Refusal>
+    requires may { S.may by.old }
+    requires swept { pending_regions (S.seen steps.old).trail.current.regions ≡ [] }
     ensures still { S.may by.new }
-    ensures moved { IfOk result (λ more. MovesOn more (S.seen steps.old) (S.seen steps.new)) }
-    ensures refused { IfErr result (MayRefuse S.denies IsMarkStep (S.seen steps.old)) }
-    ensures unchanged { OnErr result (S.seen steps.new ≡ S.seen steps.old) }
-{
-    match steps.take(by, Event::Mark) {
-        Ok(_) => Ok(true),
-        Err(Refusal::NothingToMark) => match steps.take(by, Event::Drain) {
-            Ok(_) => Ok(true),
-            Err(Refusal::NothingToDrain) => Ok(false),
-            Err(refusal) => Err(refusal),
-        },
-        Err(refusal) => Err(refusal),
-    }
-}
-
-// Begins a cycle, unless one runs, and marks and drains until no object is gray and no entry of the log is left.
-fn mark_cycle<S: Steps>(steps: &mut S, by: &mut S::By) -> Result<(), Refusal>
-    requires { S.may by.old }
-    ensures still { S.may by.new }
-    ensures marked { OnOk result (MarksLead (S.seen steps.old) (S.seen steps.new)) }
+    ensures marked { IfOk result (λ n. MarksLead (S.seen steps.old) n (S.seen steps.new)) }
     ensures refused { IfErr result
-        (λ e. StopsAt S.denies IsMarkStep (S.seen steps.old) e (S.seen steps.new)) }
+        (λ e. StopsAt S.denies false (S.seen steps.old) e (S.seen steps.new)) }
 {
-    begin(steps, by)?;
     loop {
-        let more = mark_or_drain(steps, by)?;
-        if !more {
-            return Ok(());
+        let condemned = take_mark(steps, by)?;
+        match condemned {
+            Some(count) => return Ok(count),
+            None => {}
         }
     }
 }
 
-// Finishes the cycle, and returns the number of condemned objects.
-fn finish<S: Steps>(steps: &mut S, by: &mut S::By) -> Result<u64, Refusal>
-    requires { S.may by.old }
-    ensures still { S.may by.new }
-    ensures finished { IfOk result (λ n. Finishes (S.seen steps.old) n (S.seen steps.new)) }
-    ensures refused { IfErr result (MayRefuse S.denies IsCycleStep (S.seen steps.old)) }
-    ensures unchanged { OnErr result (S.seen steps.new ≡ S.seen steps.old) }
-{
-    let answer = steps.take(by, Event::Finish)?;
-    Ok(condemned_of(answer))
-}
-
-/// Runs a whole cycle, or finishes the one that runs, with sweeps before and after it. The steps up to one that is refused stand,
-/// and its refusal is the error.
+/// Runs a whole cycle, or finishes the one that runs, with sweeps before and after it. Takes no step that the heap's state doesn't
+/// allow. The steps up to one that is refused stand, and its refusal is the error.
 pub fn run_cycle<S: Steps>(steps: &mut S, by: &mut S::By) -> Result<CycleCounts, Refusal>
     requires { S.may by.old }
     ensures still { S.may by.new }
     ensures whole { IfOk result
         (λ c. IsWholeCycle (S.seen steps.old) c.condemned c.swept (S.seen steps.new)) }
     ensures refused { IfErr result
-        (λ e. StopsAt S.denies IsCycleStep (S.seen steps.old) e (S.seen steps.new)) }
+        (λ e. StopsAt S.denies false (S.seen steps.old) e (S.seen steps.new)) }
 {
     let before = sweep_all(steps, by)?;
-    mark_cycle(steps, by)?;
-    let condemned = finish(steps, by)?;
+    let condemned = mark_cycle(steps, by)?;
     let after = sweep_all(steps, by)?;
     Ok(CycleCounts {
         condemned,

@@ -1,16 +1,15 @@
 //! The answer of `growth`.
-ghost use Rattle.std.specs.Prelude.{◌≡◌, ◌++◌, ◌<◌, ◌+◌, ◌≤◌, length, count_by};
+ghost use Rattle.std.specs.Prelude.{◌≡◌, ◌<◌, ◌+◌, ◌≤◌, length, count_by};
 ghost use Rattle.heap_class.specs.declared.Refusal.TheVariants.{NoMemory};
 ghost use Rattle.heap_questions.specs.Histogram.{class_rows};
 ghost use Rattle.question_text.specs.Appends.{Appends, ReturnsText};
-ghost use Rattle.question_text.specs.Referrers.{count_text};
-ghost use Rattle.question_text.specs.Growths.{IsGrowthText, changed_text, changed_texts, differs, more_classes};
+ghost use Rattle.question_text.specs.Growths.{IsGrowthText, changed_text, changed_texts, changes_text, differs, more_classes};
 
 use crate::histogram::push_counts;
 use crate::names::push_row_name;
 use crate::rows::{push_count, push_words};
 use heap_class::{FirstClasses, Refusal};
-use heap_questions::{Change, compare, count_by_class};
+use heap_questions::{CLASS_ROWS, Change, compare, count_by_class};
 use hprof_text::View;
 use std::alloc::{AllocError, Global};
 
@@ -52,19 +51,22 @@ fn count_changes(changes: &[Change]) -> u64
     count
 }
 
-// Appends the lines of the rows that changed. Fails if an allocation fails.
+// Appends the lines of the rows from number `first` on that changed. Fails if an allocation fails.
 fn push_changes(
     text: &mut Vec<u8>,
     classes: &FirstClasses<'_>,
+    first: usize,
     changes: &[Change],
 ) -> Result<(), AllocError>
-    requires { length changes.now ≤ class_rows + length classes.now }
-    ensures { Appends (changed_texts classes.now 0 changes.now)
+    requires { first + length changes.now ≤ class_rows + length classes.now }
+    ensures { Appends (changed_texts classes.now first changes.now)
         text.old.items text.new.items result }
 {
+    // Its contract says that there are few classes, so that no row's number overflows.
+    classes.len();
     for index in 0..changes.len() {
         if differs(changes[index]) {
-            push_change(text, classes, index, changes[index])?;
+            push_change(text, classes, first + index, changes[index])?;
         }
     }
     Ok(())
@@ -76,13 +78,13 @@ fn changes_text(
     classes: &FirstClasses<'_>,
     changes: &[Change],
 ) -> Result<Vec<u8>, Refusal>
-    requires { length changes.now ≤ class_rows + length classes.now }
-    ensures { ReturnsText (λ text. text
-        ≡ changed_texts classes.now 0 changes.now ++ count_text (count_by differs changes.now))
-        result }
+    requires least { class_rows ≤ length changes.now }
+    requires most { length changes.now ≤ class_rows + length classes.now }
+    ensures { ReturnsText (λ text. text ≡ changes_text classes.now changes.now) result }
 {
     let mut text = Vec::new(alloc);
-    push_changes(&mut text, classes, changes)?;
+    push_changes(&mut text, classes, CLASS_ROWS, &changes[CLASS_ROWS..])?;
+    push_changes(&mut text, classes, 0, &changes[..CLASS_ROWS])?;
     push_count(&mut text, count_changes(changes))?;
     Ok(text)
 }
@@ -94,13 +96,13 @@ fn named_changes<V: View>(
     newer: &V,
     changes: &[Change],
 ) -> Result<Vec<u8>, Refusal>
-    requires { length changes.now
+    requires least { class_rows ≤ length changes.now }
+    requires most { length changes.now
         ≤ class_rows
         + length (more_classes (V.image older.now).classes (V.image newer.now).classes) }
     ensures { ReturnsText (λ text. text
-        ≡ changed_texts (more_classes (V.image older.now).classes (V.image newer.now).classes)
-        0 changes.now
-        ++ count_text (count_by differs changes.now)) result }
+        ≡ changes_text (more_classes (V.image older.now).classes (V.image newer.now).classes)
+        changes.now) result }
 {
     let (old_classes, new_classes) = (older.classes(), newer.classes());
     if new_classes.len() < old_classes.len() {

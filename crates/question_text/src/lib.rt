@@ -2,16 +2,19 @@
 #![tactic(auto)]
 
 ghost use Rattle.std.specs.Prelude.{◌≡◌, ℕ, List, [], Some, codes, true};
+ghost use Rattle.heap_trail.specs.Machine.{Machine};
 ghost use Rattle.session_grammar.specs.declared.command.Command.TheVariants.{Bad};
 ghost use Rattle.std.specs.List.{AllByRecursion};
 ghost use Rattle.session_grammar.specs.Grammar.{Rule, all_rules, command_of_text};
 ghost use Rattle.question_text.specs.declared.question.Question.{Question};
 ghost use Rattle.question_text.specs.declared.asking.Asking.{Asking};
-ghost use Rattle.question_text.specs.Collections.{is_collect};
+ghost use Rattle.question_text.specs.Collections.{IsWholeCycle, is_collect};
 ghost use Rattle.question_text.specs.Comments.{is_comment};
 ghost use Rattle.question_text.specs.Help.{HasForm, help_of};
 ghost use Rattle.question_text.specs.Questions.{QuestionRule, question_of, question_rules};
-ghost use Rattle.question_text.specs.Sessions.{AskingAnswers};
+ghost use Rattle.question_text.specs.Sessions.{AnswersAlone, AskingActs, AskingAnswers, IsDriven, NoneCollects};
+ghost use Rattle.session_text.specs.Answers.{AnswersCommand};
+ghost use Rattle.session_text.specs.Talks.{AnswersAll};
 
 mod answers;
 mod asking;
@@ -82,6 +85,31 @@ pub fn questions_change_nothing()
         → question_of l ≡ Some q → AskingAnswers l c text d → d ≡ c }
     ensures help { (l text answer : List ℕ) (c d : Asking)
         → help_of l ≡ Some answer → AskingAnswers l c text d → d ≡ c }
+{}
+
+/// States that the steps of `collect` are one list: from one state two whole cycles condemn and remove as many objects, and end in
+/// one state.
+pub fn collect_is_determined()
+    ensures { (m k n l : Machine) (condemned swept others removed : ℕ)
+        → m.trail.current ≡ k.trail.current
+        → IsWholeCycle m condemned swept n → IsWholeCycle k others removed l
+        → (condemned ≡ others) × (swept ≡ removed) × (n.trail.current ≡ l.trail.current) }
+{}
+
+/// States that the lines of a session with questions that the grammar of sessions knows are answered, and leave the machine, as
+/// a session of these lines alone does, if none is `collect`.
+pub fn questions_can_be_left_out()
+    ensures { (time : ℕ) (lines : List (List ℕ)) (text : List ℕ) (c d : Asking)
+        → NoneCollects lines
+        → AnswersAll (AnswersCommand AskingActs AskingAnswers time) lines c text d
+        → AnswersAlone time c.local.machine lines text d.local.machine }
+{}
+
+/// States that some list of actions leads to the machine that a session with questions leaves, `collect` included.
+pub fn asking_session_is_list()
+    ensures { (time : ℕ) (lines : List (List ℕ)) (text : List ℕ) (c d : Asking)
+        → AnswersAll (AnswersCommand AskingActs AskingAnswers time) lines c text d
+        → IsDriven c.local.machine d.local.machine }
 {}
 
 /// States that `help` knows the keyword of each line of the grammar of sessions, of each question, and `collect`.

@@ -1,22 +1,21 @@
 //! The names of what a count's rows count, and of objects' kinds.
 ghost use Rattle.std.specs.Prelude.{◌≡◌, ◌++◌, ◌==◌, ◌<◌, ◌+◌, length, find, OnOk};
-ghost use Rattle.heap_class.specs.Kinds.{type_code};
-ghost use Rattle.heap_questions.specs.Histogram.{class_rows};
+ghost use Rattle.heap_questions.specs.Histogram.{class_rows, kind_row};
 ghost use Rattle.session_grammar.specs.Grammar.{all_kinds};
 ghost use Rattle.question_text.specs.Appends.{Appends};
 ghost use Rattle.question_text.specs.Names.{IsClassThere, array_name, class_name, kind_array_name, row_name};
 
 use crate::rows::push_words;
 use heap_class::{FirstClasses, KINDS, Kind, ObjKind};
-use heap_questions::CLASS_ROWS;
+use heap_questions::{CLASS_ROWS, kind_row};
 use std::alloc::AllocError;
 
-// Returns the kind with a type code.
-fn kind_with(code: usize) -> Option<Kind>
-    ensures { result ≡ find (λ k. type_code k == code) all_kinds }
+// Returns the kind of the arrays that a row counts.
+fn kind_of_row(index: usize) -> Option<Kind>
+    ensures { result ≡ find (λ k. kind_row k == index) all_kinds }
 {
     for kind in KINDS {
-        if kind.type_code() as usize == code {
+        if kind_row(kind) == index {
             return Some(kind);
         }
     }
@@ -31,12 +30,12 @@ fn push_kind_name(text: &mut Vec<u8>, kind: Kind) -> Result<(), AllocError>
     push_words(text, b"[]")
 }
 
-// Appends the name of the arrays of values whose kind has a type code. Fails if an allocation fails.
+// Appends the name of the arrays of values that a row counts. Fails if an allocation fails.
 #[tactic(auto, unfolding(crate::specs::Names::array_name))]
-fn push_array_name(text: &mut Vec<u8>, code: usize) -> Result<(), AllocError>
-    ensures { Appends (array_name code) text.old.items text.new.items result }
+fn push_array_name(text: &mut Vec<u8>, index: usize) -> Result<(), AllocError>
+    ensures { Appends (array_name index) text.old.items text.new.items result }
 {
-    match kind_with(code) {
+    match kind_of_row(index) {
         Some(kind) => push_kind_name(text, kind),
         None => Ok(()),
     }

@@ -1,5 +1,5 @@
 -- Bytes outside 0x20 to 0x7e, which no word of a line holds that is read.
-use Rattle.std.proofs.Common.{◌≡◌, ◌∙◌, ap, refl, sym, subst, ℕ, ◌≤◌, Bool, true, false, cond, ◌&&◌, List, [], ◌∷◌, ◌++◌, length, Option, Some, None, nat_lt, nat_le, ◌==◌, codes, bytes_eq, filter, find, true≢false, lt-ltb, leb-true, le-leb, eqb-true, arith}
+use Rattle.std.proofs.Common.{◌≡◌, ◌∙◌, ap, refl, sym, subst, ℕ, ◌≤◌, Bool, true, false, cond, ◌&&◌, List, [], ◌∷◌, ◌++◌, length, take, drop, Option, Some, None, nat_lt, nat_le, ◌==◌, codes, bytes_eq, filter, find, true≢false, lt-ltb, leb-true, le-leb, eqb-true, arith}
 use Rattle.std.specs.Prelude.{option_map, option_and_then, unwrap_or}
 use Rattle.std.specs.Char.{is_ascii_digit}
 use Rattle.std.specs.List.{list_all, slice_split, onto_first}
@@ -12,7 +12,7 @@ use Rattle.heap_step.specs.declared.Event.TheVariants.{Class, ArrayClass, NewPri
 use Rattle.heap_trail.specs.declared.Action.TheVariants.{Step}
 use Rattle.session_grammar.specs.declared.command.Command.{Command}
 use Rattle.session_grammar.specs.declared.command.Command.TheVariants.{Blank, Bad, Ask, End}
-use Rattle.session_grammar.specs.Grammar.{words_of_line, is_plain, value_of_digits, number_of_word, number_or_dash, all_kinds, kind_of_word, field_of_word, fields_of_words, next_number, next_number_or_dash, next_kind, at_end, one_number, one_number_or_dash, two_numbers, three_numbers, four_numbers, newprim_line, dump_command, Rule, class_rules, making_rules, access_rules, marking_rules, session_rules, all_rules, by_rule, class_line, array_line, command_of_words, command_of_text}
+use Rattle.session_grammar.specs.Grammar.{words_of_line, is_plain, value_of_digits, number_of_word, number_or_dash, place_or_dash, all_kinds, kind_of_word, field_of_word, fields_of_words, next_number, next_number_or_dash, next_place_or_dash, next_kind, at_end, one_number, one_number_or_dash, one_place_or_dash, two_numbers, three_numbers, four_numbers, newprim_line, dump_command, Rule, class_rules, making_rules, access_rules, marking_rules, session_rules, all_rules, by_rule, class_line, array_line, command_of_words, command_of_text}
 use Rattle.session_grammar.specs.Reads.{TakesMemory, MayTakeMemory, plain_field, plain_fields, plain_class, plain_array, plain_class_rules, plain_rules}
 
 abbrev pub is_plain_byte : ℕ → Bool
@@ -128,13 +128,13 @@ kind_read : (ws : List (List ℕ)) → IsPlainRead ws (next_kind ws)
 kind_read [] r e = cc
 kind_read (w ∷ ws) r e = mapped w ws (kind_of_word w) (kind_plain w) r e
 
+made : (w : List ℕ) (o : Option ℕ) (s : Option ℕ) → ((n : ℕ) → o ≡ Some n → is_plain w ≡ true) → option_map Some o ≡ Some s → is_plain w ≡ true
+made w None s h e = cc
+made w (Some n) s h e = h n refl
+
 dash_some : (w : List ℕ) (v : Bool) (s : Option ℕ) → bytes_eq w (codes "-") ≡ v → cond v (Some None) (option_map Some (number_of_word w)) ≡ Some s → is_plain w ≡ true
 dash_some w true s e h = keyword_plain w (codes "-") e
 dash_some w false s e h = made w (number_of_word w) s (number_plain w) h
-  where
-    made : (w : List ℕ) (o : Option ℕ) (s : Option ℕ) → ((n : ℕ) → o ≡ Some n → is_plain w ≡ true) → option_map Some o ≡ Some s → is_plain w ≡ true
-    made w None s h e = cc
-    made w (Some n) s h e = h n refl
 
 dash_plain : (w : List ℕ) (s : Option ℕ) → number_or_dash w ≡ Some s → is_plain w ≡ true
 dash_plain w s e = dash_some w (bytes_eq w (codes "-")) s refl e
@@ -142,6 +142,28 @@ dash_plain w s e = dash_some w (bytes_eq w (codes "-")) s refl e
 dash_read : (ws : List (List ℕ)) → IsPlainRead ws (next_number_or_dash ws)
 dash_read [] r e = cc
 dash_read (w ∷ ws) r e = mapped w ws (number_or_dash w) (dash_plain w) r e
+
+-- a word that begins with `@` is plain if the rest is
+at_plain : (w : List ℕ) → bytes_eq (take 1 w) (codes "@") ≡ true → is_plain (drop 1 w) ≡ true → is_plain w ≡ true
+at_plain [] e h = refl
+at_plain (b ∷ w) e h = and_from _ _ ((and_parts _ _ (keyword_plain (b ∷ []) (codes "@") e)).0) h
+
+place_some : (w : List ℕ) (v : Bool) (s : Option ℕ) → bytes_eq (take 1 w) (codes "@") ≡ v → cond v (option_map Some (number_of_word (drop 1 w))) (option_map Some (number_of_word w)) ≡ Some s → is_plain w ≡ true
+place_some w true s e h = at_plain w e (made (drop 1 w) (number_of_word (drop 1 w)) s (number_plain (drop 1 w)) h)
+place_some w false s e h = made w (number_of_word w) s (number_plain w) h
+
+place_or : (w : List ℕ) (v : Bool) (s : Option ℕ) → bytes_eq w (codes "-") ≡ v
+    → cond v (Some None) (cond (bytes_eq (take 1 w) (codes "@")) (option_map Some (number_of_word (drop 1 w))) (option_map Some (number_of_word w))) ≡ Some s → is_plain w ≡ true
+place_or w true s e h = keyword_plain w (codes "-") e
+place_or w false s e h = place_some w (bytes_eq (take 1 w) (codes "@")) s refl h
+
+place_plain : (w : List ℕ) (s : Option ℕ) → place_or_dash w ≡ Some s → is_plain w ≡ true
+unfolding place_or_dash
+place_plain w s e = place_or w (bytes_eq w (codes "-")) s refl e
+
+place_read : (ws : List (List ℕ)) → IsPlainRead ws (next_place_or_dash ws)
+place_read [] r e = cc
+place_read (w ∷ ws) r e = mapped w ws (place_or_dash w) (place_plain w) r e
 
 end_plain : {A : Type 0} (x : A) (ws : List (List ℕ)) → OnlyPlain ws (at_end x ws)
 end_plain x [] c e = refl
@@ -160,6 +182,9 @@ one_plain ws = then_plain ws (next_number ws) (λ a. at_end a.0 a.1) (number_rea
 
 dash_alone : (ws : List (List ℕ)) → OnlyPlain ws (one_number_or_dash ws)
 dash_alone ws = then_plain ws (next_number_or_dash ws) (λ a. at_end a.0 a.1) (dash_read ws) (λ a. end_plain a.0 a.1)
+
+place_alone : (ws : List (List ℕ)) → OnlyPlain ws (one_place_or_dash ws)
+place_alone ws = then_plain ws (next_place_or_dash ws) (λ a. at_end a.0 a.1) (place_read ws) (λ a. end_plain a.0 a.1)
 
 two_plain : (ws : List (List ℕ)) → OnlyPlain ws (two_numbers ws)
 two_plain ws =
@@ -211,7 +236,7 @@ session_plain : (w : List ℕ) (ws : List (List ℕ)) → OnlyPlain (w ∷ ws) (
 unfolding session_rules
 session_plain w ws =
     rule_plain w ws _ _ refl (made_plain ws _ (one_number ws) (one_plain ws))
-    (rule_plain w ws _ _ refl (made_plain ws _ (one_number_or_dash ws) (dash_alone ws))
+    (rule_plain w ws _ _ refl (made_plain ws _ (one_place_or_dash ws) (place_alone ws))
     (rule_plain w ws _ _ refl (made_plain ws _ (one_number ws) (one_plain ws))
     (rule_plain w ws _ _ refl (made_plain ws (λ pin. dump_command pin) (one_number_or_dash ws) (dash_alone ws))
     (rule_plain w ws _ _ refl (made_plain ws _ (one_number ws) (one_plain ws))

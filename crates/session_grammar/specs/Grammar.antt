@@ -34,6 +34,13 @@ number_of_word w = if nat_lt 0 (length w) && nat_le (length w) 20 then value_of_
 abbrev pub number_or_dash : List ℕ → Option (Option ℕ)
 number_or_dash w = if bytes_eq w (codes "-") then Some None else option_map Some (number_of_word w)
 
+-- a number, with an `@` before it or without; or None for `-`
+unfoldable pub place_or_dash : List ℕ → Option (Option ℕ)
+place_or_dash w =
+    if bytes_eq w (codes "-") then Some None
+    else (if bytes_eq (take 1 w) (codes "@") then option_map Some (number_of_word (drop 1 w))
+    else option_map Some (number_of_word w))
+
 -- ---- kinds and fields
 
 -- all kinds of slots
@@ -69,6 +76,11 @@ abbrev pub next_number_or_dash : List (List ℕ) → Option (Option ℕ × List 
 next_number_or_dash [] = None
 next_number_or_dash (w ∷ ws) = option_map (λ n. (n, ws)) (number_or_dash w)
 
+-- the place that the first word names, or None from a `-`, and the other words
+abbrev pub next_place_or_dash : List (List ℕ) → Option (Option ℕ × List (List ℕ))
+next_place_or_dash [] = None
+next_place_or_dash (w ∷ ws) = option_map (λ n. (n, ws)) (place_or_dash w)
+
 -- the kind that the first word names, and the other words
 abbrev pub next_kind : List (List ℕ) → Option (Kind × List (List ℕ))
 next_kind [] = None
@@ -86,6 +98,10 @@ one_number ws = option_and_then (λ a. at_end a.0 a.1) (next_number ws)
 -- the one number that the words are, or None from a `-`
 abbrev pub one_number_or_dash : List (List ℕ) → Option (Option ℕ)
 one_number_or_dash ws = option_and_then (λ a. at_end a.0 a.1) (next_number_or_dash ws)
+
+-- the one place that the words name, or None from a `-`
+abbrev pub one_place_or_dash : List (List ℕ) → Option (Option ℕ)
+one_place_or_dash ws = option_and_then (λ a. at_end a.0 a.1) (next_place_or_dash ws)
 
 -- the two numbers that the words are
 abbrev pub two_numbers : List (List ℕ) → Option (ℕ × ℕ)
@@ -173,7 +189,7 @@ rewind_line ws = option_map (λ n. Ask (Rewind n)) (one_number ws)
 
 -- `open AT`
 abbrev pub open_line : List (List ℕ) → Option Command
-open_line ws = option_map (λ at. Ask (OpenPin at)) (one_number_or_dash ws)
+open_line ws = option_map (λ at. Ask (OpenPin at)) (one_place_or_dash ws)
 
 -- `piece PIN`
 abbrev pub piece_line : List (List ℕ) → Option Command

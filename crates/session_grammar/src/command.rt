@@ -1,12 +1,12 @@
 //! Commands: the requests of lines.
 ghost use Rattle.std.specs.Prelude.{◌≡◌, ◌≤◌, ◌++◌, length, option_map, MatchResult};
-ghost use Rattle.session_grammar.specs.Grammar.{words_of_line, next_number, next_number_or_dash, next_kind, at_end, one_number, one_number_or_dash, three_numbers, two_numbers, four_numbers, newprim_line, step_line, dump_line, end_line, making_rules, access_rules, marking_rules, session_rules, by_rule, without_cr, command_of_text};
+ghost use Rattle.session_grammar.specs.Grammar.{words_of_line, next_number, next_number_or_dash, next_kind, next_place_or_dash, at_end, one_number, one_number_or_dash, one_place_or_dash, place_or_dash, three_numbers, two_numbers, four_numbers, newprim_line, step_line, dump_line, end_line, making_rules, access_rules, marking_rules, session_rules, by_rule, without_cr, command_of_text};
 ghost use Rattle.session_grammar.specs.Reads.{TakesMemory, MayTakeMemory, IsNextWord, next_name, plain_class, plain_array, plain_rules};
 ghost use Rattle.session_grammar.specs.declared.TheConstants.{LINE_LIMIT};
 
 use crate::by_word;
 use crate::fields::{copied_all, kind_at, name_at, read_fields};
-use crate::number::{number_at, number_or_dash_at};
+use crate::number::{number_at, number_of, number_or_dash_at};
 use crate::spans::FieldSpans;
 use crate::words::{Words, is_word};
 use heap_class::{Kind, Name};
@@ -68,6 +68,29 @@ fn next_number_or_dash(words: &mut Words) -> Option<Option<u64>>
     Some(value)
 }
 
+// Returns the place that a word names, or None for a `-`.
+#[tactic(auto, unfolding(crate::specs::Grammar::place_or_dash))]
+fn place_or_dash(word: &[u8]) -> Option<Option<u64>>
+    ensures { result ≡ place_or_dash word.now }
+{
+    if is_word(word, b"-") {
+        return Some(None);
+    }
+    match word {
+        [b'@', place @ ..] => Some(Some(number_of(place)?)),
+        _ => Some(Some(number_of(word)?)),
+    }
+}
+
+// Reads the place that the next word names, or None from a `-`. Returns None if it names neither.
+fn next_place_or_dash(words: &mut Words) -> Option<Option<u64>>
+    ensures { IsNextWord (next_place_or_dash (words_of_line words.old)) (words_of_line words.new)
+        result }
+{
+    let word = words.next_word()?;
+    place_or_dash(word)
+}
+
 // Reads the kind that the next word names. Returns None if it names none.
 fn next_kind(words: &mut Words) -> Option<Kind>
     ensures { IsNextWord (next_kind (words_of_line words.old)) (words_of_line words.new) result }
@@ -112,6 +135,14 @@ fn one_number_or_dash(mut words: Words) -> Option<Option<u64>>
     ensures { result ≡ one_number_or_dash (words_of_line words.entry) }
 {
     let a = next_number_or_dash(&mut words)?;
+    at_end(a, words)
+}
+
+// Returns the one place that the words name, or None from a `-`.
+fn one_place_or_dash(mut words: Words) -> Option<Option<u64>>
+    ensures { result ≡ one_place_or_dash (words_of_line words.entry) }
+{
+    let a = next_place_or_dash(&mut words)?;
     at_end(a, words)
 }
 
@@ -281,7 +312,7 @@ fn session_line(word: &[u8], words: Words) -> Option<Command>
 {
     by_word!(word;
         b"rewind" => Some(Command::Ask(Action::Rewind(one_number(words)?))),
-        b"open" => Some(Command::Ask(Action::OpenPin(one_number_or_dash(words)?))),
+        b"open" => Some(Command::Ask(Action::OpenPin(one_place_or_dash(words)?))),
         b"piece" => Some(Command::Piece(one_number(words)?)),
         b"dump" => dump_line(words),
         b"close" => Some(Command::Ask(Action::ClosePin(one_number(words)?))),

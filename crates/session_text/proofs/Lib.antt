@@ -12,3 +12,4 @@ pub mod DumpLines
 pub mod QuickDigits
 pub mod QuickLines
 pub mod ActionLists
+pub mod OtherCommands

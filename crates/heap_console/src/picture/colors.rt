@@ -1,6 +1,6 @@
 //! The colours of a picture: one for each of the classes with the most bytes.
 use heap_class::ObjKind;
-use heap_questions::CLASS_ROWS;
+use heap_questions::{CLASS_ROWS, kind_row};
 use std::alloc::{AllocError, Global};
 
 // The colours, the first for the class with the most bytes. The last is that of all classes without a colour of their own.
@@ -43,7 +43,7 @@ impl Palette {
             ObjKind::Instance(class) | ObjKind::Array(class) => {
                 CLASS_ROWS.saturating_add(class as usize)
             }
-            ObjKind::Prim(kind) => kind.type_code() as usize,
+            ObjKind::Prim(kind) => kind_row(kind),
         };
         if row < self.colors.len() {
             self.colors[row]

@@ -1,24 +1,31 @@
-use Rattle.std.proofs.Common.{arith}
+use Rattle.std.proofs.Common.{false, arith}
 use Rattle.std.proofs.lemmas.Result.{err_from_is_err_and}
-use Rattle.question_text.specs.Collections.{IsMarkStep}
-use Rattle.question_text.proofs.CycleSteps.{moved_marks, moved_place, stops_first}
+use Rattle.question_text.proofs.CycleSteps.{marking_ends, marking_on, none_lead, place_on, stops_now, stops_on}
 use Rattle.question_text.proofs.cycle.mark_cycle.Goals as goal
 
-pub returns-in_err-begin-clause-refused : goal.returns-in_err-begin-clause-refused
-returns-in_err-begin-clause-refused g c =
-    let p = err_from_is_err_and c.from_residual.result c.from_residual.ensures.1 in
-    rw (p.1, p.2) (stops_first g.S.Steps.denies IsMarkStep (g.S.Steps.seen c.args.steps.now) (g.S.Steps.seen c.begin.new.steps) c.in_err-begin.field-0.0 c.in_err-begin.ensures.refused c.in_err-begin.ensures.unchanged)
+pub loop-condemned-init : goal.loop-condemned-init
+loop-condemned-init g c = record { marked = none_lead false (g.S.Steps.seen c.args.steps.now); swept = c.requires.swept; still = c.requires.may }
 
-pub loop-more-init : goal.loop-more-init
-loop-more-init g c = record { marked = c.in_ok-begin.ensures.begun; still = c.begin.ensures.still }
+pub loop-condemned-preserved : goal.loop-condemned-preserved
+loop-condemned-preserved g c =
+    let on = marking_on (g.S.Steps.seen c.args.steps.now) (g.S.Steps.seen c.loop-condemned.steps) (g.S.Steps.seen c.take_mark.new.steps) c.in_ok-condemned.condemned c.in-None.is c.loop-condemned.invariant.marked c.in_ok-condemned.ensures.taken in
+    record { marked = on.0; swept = on.1; still = c.take_mark.ensures.still }
 
-pub loop-more-smaller : goal.loop-more-smaller
-loop-more-smaller g c =
-    let p = moved_place c.in_ok-more.more (g.S.Steps.seen c.loop-more.steps) (g.S.Steps.seen c.mark_or_drain.new.steps) c.if-not-more.false c.in_ok-more.ensures.moved in
+pub loop-condemned-smaller : goal.loop-condemned-smaller
+loop-condemned-smaller g c =
+    let p = place_on (g.S.Steps.seen c.loop-condemned.steps) (g.S.Steps.seen c.take_mark.new.steps) c.in_ok-condemned.condemned c.in-None.is c.in_ok-condemned.ensures.taken in
     omega (arith, p.0, p.1)
 
-pub loop-more-preserved : goal.loop-more-preserved
-loop-more-preserved g c = record {
-  marked = moved_marks c.in_ok-more.more (g.S.Steps.seen c.args.steps.now) (g.S.Steps.seen c.loop-more.steps) (g.S.Steps.seen c.mark_or_drain.new.steps) c.loop-more.invariant.marked c.if-not-more.false c.in_ok-more.ensures.moved;
-  still = c.mark_or_drain.ensures.still;
-}
+pub returns-in-Some-clause-marked : goal.returns-in-Some-clause-marked
+returns-in-Some-clause-marked g c =
+    marking_ends (g.S.Steps.seen c.args.steps.now) (g.S.Steps.seen c.loop-condemned.steps) (g.S.Steps.seen c.take_mark.new.steps) c.in_ok-condemned.condemned c.in-Some.count c.in-Some.is c.loop-condemned.invariant.marked c.in_ok-condemned.ensures.taken
+
+pub returns-in_err-condemned-clause-refused : goal.returns-in_err-condemned-clause-refused
+returns-in_err-condemned-clause-refused g c =
+    let p = err_from_is_err_and c.from_residual.result c.from_residual.ensures.1 in
+    let start = g.S.Steps.seen c.args.steps.now in
+    let here = g.S.Steps.seen c.loop-condemned.steps in
+    let next = g.S.Steps.seen c.take_mark.new.steps in
+    let e = c.in_err-condemned.field-0.0 in
+    rw (p.1, p.2)
+    (stops_on g.S.Steps.denies false false start here next 0 0 e c.loop-condemned.invariant.marked (stops_now g.S.Steps.denies false here next e c.in_err-condemned.ensures.refused c.in_err-condemned.ensures.unchanged))

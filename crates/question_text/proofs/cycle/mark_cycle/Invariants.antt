@@ -1,13 +1,15 @@
-use Rattle.std.proofs.Common.{◌-◌}
+use Rattle.std.proofs.Common.{◌≡◌, ◌-◌, false, []}
 use Rattle.heap_trail.specs.Limits.{last_place}
-use Rattle.question_text.specs.Collections.{MarksLead}
+use Rattle.heap_world.specs.MarkSteps.{pending_regions}
+use Rattle.question_text.specs.Collections.{StepsLead}
 use Rattle.question_text.proofs.cycle.mark_cycle.Given as goal
 
-abbrev pub invariant-loop-more : goal.invariant-loop-more
-invariant-loop-more g l = record {
-  marked : MarksLead (g.S.Steps.seen l.fn.steps) (g.S.Steps.seen l.steps);
+abbrev pub invariant-loop-condemned : goal.invariant-loop-condemned
+invariant-loop-condemned g l = record {
+  marked : StepsLead false (g.S.Steps.seen l.fn.steps) false (g.S.Steps.seen l.steps) 0 0;
+  swept : pending_regions (g.S.Steps.seen l.steps).trail.current.regions ≡ [];
   still : g.S.Steps.may l.by;
 }
 
-abbrev pub decreases-loop-more : goal.decreases-loop-more
-decreases-loop-more g l = last_place - (g.S.Steps.seen l.steps).trail.place
+abbrev pub decreases-loop-condemned : goal.decreases-loop-condemned
+decreases-loop-condemned g l = last_place - (g.S.Steps.seen l.steps).trail.place

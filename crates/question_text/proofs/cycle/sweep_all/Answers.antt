@@ -1,13 +1,38 @@
-use Rattle.std.proofs.Common.{arith}
-use Rattle.question_text.proofs.CycleSteps.{no_sweep, sweeps_on}
+use Rattle.std.proofs.Common.{◌∙◌, subst, sym}
+use Rattle.std.proofs.lemmas.Result.{err_from_is_err_and}
+use Rattle.heap_trail.specs.Machine.{Machine}
+use Rattle.heap_world.specs.Legal.{IsLegal}
+use Rattle.question_text.proofs.CycleSteps.{none_waits, stops_now, stops_on, sweeping_begins, sweeping_ends, sweeping_on, waits_less}
 use Rattle.question_text.proofs.cycle.sweep_all.Goals as goal
 
 pub loop-region-init : goal.loop-region-init
-loop-region-init g c = record { swept = no_sweep (g.S.Steps.seen c.args.steps.now); few = omega arith; still = c.requires }
+loop-region-init g c =
+    let legal = subst (λ (m : Machine). IsLegal m.trail.current) c.machine.ensures c.world.ensures.legal in
+    record { swept = sweeping_begins (g.S.Steps.seen c.args.steps.now) legal; still = c.requires }
 
 pub loop-region-preserved : goal.loop-region-preserved
-loop-region-preserved g c = record {
-  swept = sweeps_on (g.S.Steps.seen c.args.steps.now) (g.S.Steps.seen c.loop-region.steps) (g.S.Steps.seen c.sweep_region.new.steps) c.loop-region.swept c.in_ok-removed.removed c.loop-region.invariant.swept c.in_ok-removed.ensures.swept;
-  few = omega (arith, c.loop-region.invariant.few, c.in_ok-removed.ensures.few);
-  still = c.sweep_region.ensures.still;
-}
+loop-region-preserved g c =
+    let here = g.S.Steps.seen c.loop-region.steps in
+    let next = g.S.Steps.seen c.sweep_region.new.steps in
+    record {
+      swept = sweeping_on (g.S.Steps.seen c.args.steps.now) here next c.loop-region.swept c.in_ok-removed.removed c.in-Some.region (sym c.waiting_region.ensures ∙ c.in-Some.is) c.loop-region.invariant.swept c.in_ok-removed.ensures.swept;
+      still = c.sweep_region.ensures.still;
+    }
+
+pub loop-region-smaller : goal.loop-region-smaller
+loop-region-smaller g c =
+    waits_less (g.S.Steps.seen c.loop-region.steps) (g.S.Steps.seen c.sweep_region.new.steps) c.in_ok-removed.removed c.in-Some.region (sym c.waiting_region.ensures ∙ c.in-Some.is) c.in_ok-removed.ensures.swept
+
+pub returns-clause-swept : goal.returns-clause-swept
+returns-clause-swept g c =
+    sweeping_ends (g.S.Steps.seen c.args.steps.now) (g.S.Steps.seen c.loop-region.steps) c.loop-region.swept (sym c.waiting_region.ensures ∙ none_waits c.waiting_region.result c.in_default.not-Some) c.loop-region.invariant.swept
+
+pub returns-in_err-removed-clause-refused : goal.returns-in_err-removed-clause-refused
+returns-in_err-removed-clause-refused g c =
+    let p = err_from_is_err_and c.from_residual.result c.from_residual.ensures.1 in
+    let start = g.S.Steps.seen c.args.steps.now in
+    let here = g.S.Steps.seen c.loop-region.steps in
+    let next = g.S.Steps.seen c.sweep_region.new.steps in
+    let e = c.in_err-removed.field-0.0 in
+    rw (p.1, p.2)
+    (λ b. stops_on g.S.Steps.denies b b start here next 0 c.loop-region.swept e (c.loop-region.invariant.swept.steps b) (stops_now g.S.Steps.denies b here next e (c.in_err-removed.ensures.refused b) c.in_err-removed.ensures.unchanged))

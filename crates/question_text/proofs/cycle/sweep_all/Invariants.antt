@@ -1,10 +1,13 @@
-use Rattle.std.proofs.Common.{◌≤◌, ◌*◌}
-use Rattle.question_text.specs.Collections.{SweepsLead}
+use Rattle.std.proofs.Common.{length}
+use Rattle.heap_world.specs.MarkSteps.{pending_regions}
+use Rattle.question_text.proofs.CycleSteps.{AreSweeping}
 use Rattle.question_text.proofs.cycle.sweep_all.Given as goal
 
 abbrev pub invariant-loop-region : goal.invariant-loop-region
 invariant-loop-region g l = record {
-  swept : SweepsLead (g.S.Steps.seen l.fn.steps) l.swept (g.S.Steps.seen l.steps);
-  few : l.swept ≤ 256 * l.region;
+  swept : AreSweeping (g.S.Steps.seen l.fn.steps) l.swept (g.S.Steps.seen l.steps);
   still : g.S.Steps.may l.by;
 }
+
+abbrev pub decreases-loop-region : goal.decreases-loop-region
+decreases-loop-region g l = length (pending_regions (g.S.Steps.seen l.steps).trail.current.regions)

@@ -11,17 +11,18 @@ loop-index-preserved c =
     let changes = c.args.changes.now in
     let i = c.loop-index.index in
     let text = c.loop-index.text.items in
-    let rest = changed_texts classes (i + 1) (drop (i + 1) changes) in
+    let first = c.args.first in
+    let rest = changed_texts classes (first + (i + 1)) (drop (i + 1) changes) in
     let within = c.loop-index-test.true in
     elim c.if-differs.branch [
       | then-differs+in_ok-push_change w ↦
           ap (λ (t : Vec ℕ Global). t.items ++ rest) w.text-is
           ∙ ap (λ (t : List ℕ). t ++ rest) w.in_ok-push_change.ensures
           ∙ append_assoc text _ rest
-          ∙ ap (λ (t : List ℕ). text ++ t) (sym (row_told classes changes i _ _ within c.differs.ensures w.if-differs.true))
+          ∙ ap (λ (t : List ℕ). text ++ t) (sym (row_told classes changes first i _ _ within c.differs.ensures w.if-differs.true))
           ∙ c.loop-index.invariant
       | else-differs w ↦
           ap (λ (t : Vec ℕ Global). t.items ++ rest) w.text-is
-          ∙ ap (λ (t : List ℕ). text ++ t) (sym (row_passed classes changes i _ _ within c.differs.ensures w.if-differs.false))
+          ∙ ap (λ (t : List ℕ). text ++ t) (sym (row_passed classes changes first i _ _ within c.differs.ensures w.if-differs.false))
           ∙ c.loop-index.invariant
     ]

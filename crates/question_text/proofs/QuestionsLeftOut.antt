@@ -1,0 +1,125 @@
+-- A session with questions, and the lines of it that are no questions.
+use Rattle.std.proofs.Common.{◌≡◌, ◌∙◌, ℕ, Bool, true, false, cond, List, [], ◌∷◌, ◌++◌, refl, sym, ap, subst, true≢false}
+use Rattle.std.specs.Prelude.{◌||◌, Result, Ok, Err}
+use Rattle.std.proofs.lemmas.List.{append-nil}
+use Rattle.heap_class.specs.declared.Refusal.{Refusal}
+use Rattle.heap_trail.specs.declared.Action.TheVariants.{Step}
+use Rattle.heap_trail.specs.declared.Reply.TheVariants.{Answered}
+use Rattle.heap_trail.specs.Machine.{Machine}
+use Rattle.heap_trail.proofs.ActionLists.{driven_more, driven_none}
+use Rattle.session_grammar.specs.declared.command.Command.{Command}
+use Rattle.session_grammar.specs.declared.command.Command.TheVariants.{Bad}
+use Rattle.session_grammar.specs.Grammar.{command_of, without_cr}
+use Rattle.session_text.specs.declared.ReadEnd.TheVariants.{Over}
+use Rattle.session_text.specs.declared.commands.Local.{Local}
+use Rattle.session_text.specs.Answers.{AnswerRelation, AnswersCommand, AnswersTo, all_bad}
+use Rattle.session_text.specs.Session.{FitLines, session_of, talked}
+use Rattle.session_text.specs.Talks.{AnswersAll, IsLine, stream}
+use Rattle.session_text.proofs.OtherCommands.{IsKnown, answer_keeps, answer_stands}
+use Rattle.session_text.proofs.SessionCommands.{acts, parts, talk}
+use Rattle.session_text.proofs.SessionLines.{passes}
+use Rattle.question_text.specs.declared.asking.Asking.{Asking}
+use Rattle.question_text.specs.declared.cycle.CycleCounts.{CycleCounts}
+use Rattle.question_text.specs.Collections.{AreNext, NoneDenies, RunsCycle, TakenStep, ends_cycle, is_collect}
+use Rattle.question_text.specs.Sessions.{AnswersEach, AnswersLine, AskingActs, AskingAnswers, IsDriven, IsSessionOf, AnswersAlone, NoneCollects, is_known, known_of, lines_of, texts_of}
+
+-- ---- the text of each line
+
+pub each_of : {S : Type 0} (says : AnswerRelation S) (ls : List (List ℕ)) (c : S) (text : List ℕ) (d : S) → AnswersAll says ls c text d
+    → (answered : List (List ℕ × List ℕ)) × (lines_of answered ≡ ls) × (texts_of answered ≡ text) × AnswersEach says answered c d
+each_of says [] c text d t = ([], refl, sym t.0, t.1)
+each_of says (l ∷ ls) c text d t =
+    let e = each_of says ls t.1 t.2 d t.5 in
+    ((l, t.0) ∷ e.0, ap (λ (x : List (List ℕ)). l ∷ x) e.1, ap (λ (x : List ℕ). t.0 ++ x) e.2 ∙ sym t.6, (t.1, t.3, t.4, e.3))
+
+-- ---- known commands
+
+known_is : (k : Command) → is_known k ≡ true → IsKnown k
+known_is Bad h = absurd (true≢false (sym h))
+known_is _ h = tt
+
+unknown_is : (k : Command) → is_known k ≡ false → k ≡ Bad
+unknown_is Bad h = refl
+unknown_is _ h = absurd (true≢false h)
+
+-- ---- without questions
+
+-- a question leaves the machine and its pins
+question_leaves : (b : Bool) (l text : List ℕ) (c d : Local) → b ≡ false → AnswersLine b l c text d → d ≡ c
+question_leaves true l text c d e h = absurd (true≢false e)
+question_leaves false l text c d e h = h.1
+
+abbrev pub Says : ℕ → AnswerRelation Asking
+Says time = AnswersCommand AskingActs AskingAnswers time
+
+abbrev pub Alone : ℕ → AnswerRelation Local
+Alone time = AnswersCommand acts all_bad time
+
+one_known : (time : ℕ) (a : List ℕ × List ℕ) (c between : Asking) (d : Local) (known : List (List ℕ × List ℕ)) → IsLine a.0 → is_collect (without_cr a.0) ≡ false → Says time a.0 c a.1 between
+    → AnswersAll (Alone time) (lines_of known) between.local (texts_of known) d → (b : Bool) → is_known (command_of a.0) ≡ b
+    → AnswersAll (Alone time) (lines_of (cond b (a ∷ known) known)) c.local (texts_of (cond b (a ∷ known) known)) d
+one_known time a c between d known line none says rest true h = (
+  a.1,
+  between.local,
+  texts_of known,
+  line,
+  answer_stands (λ (x : Asking). x.local) AskingActs acts (AskingAnswers (without_cr a.0)) (all_bad (without_cr a.0)) (λ x action r y e. e) time (command_of a.0) c a.1 between (known_is (command_of a.0) h) says,
+  rest,
+  refl,
+)
+one_known time a c between d known line none says rest false h =
+    let unknown : AskingAnswers (without_cr a.0) c a.1 between = subst (λ (k : Command). AnswersTo AskingActs (AskingAnswers (without_cr a.0)) time k c a.1 between) (unknown_is (command_of a.0) h) says in
+    let same = question_leaves (is_collect (without_cr a.0)) (without_cr a.0) a.1 c.local between.local none unknown.0 in
+    subst (λ (x : Local). AnswersAll (Alone time) (lines_of known) x (texts_of known) d) same rest
+
+known_answers : (time : ℕ) (answered : List (List ℕ × List ℕ)) (c d : Asking) → NoneCollects (lines_of answered) → AnswersEach (Says time) answered c d
+    → AnswersAll (Alone time) (lines_of (known_of answered)) c.local (texts_of (known_of answered)) d.local
+known_answers time [] c d none t = (refl, ap (λ (x : Asking). x.local) t)
+known_answers time (a ∷ answered) c d none t =
+    one_known time a c t.0 d.local (known_of answered) t.1 none.0 t.2 (known_answers time answered t.0 d none.1 t.3) (is_known (command_of a.0)) refl
+
+session_alone : (time : ℕ) (answered : List (List ℕ × List ℕ)) (c d : Local) → AnswersAll (Alone time) (lines_of answered) c (texts_of answered) d → IsSessionOf time c.machine answered d.machine
+unfolding session_of
+session_alone time answered c d t =
+    let ls = lines_of answered in
+    let g = passes time ls c (texts_of answered) d t in
+    let all = append-nil (stream ls) in (
+      g.found ++ [],
+      subst (λ (bytes : List ℕ). FitLines time (parts bytes) (talk c.machine (g.found ++ []) [])) all (g.fit [] [] [] tt),
+      ap (λ (bytes : List ℕ). talked time Over (parts bytes) (talk c.machine (g.found ++ []) [])) (sym all) ∙ g.so Over [] [] [],
+    )
+
+pub left_out : (time : ℕ) (lines : List (List ℕ)) (text : List ℕ) (c d : Asking) → NoneCollects lines → AnswersAll (Says time) lines c text d → AnswersAlone time c.local.machine lines text d.local.machine
+left_out time lines text c d none t =
+    let e = each_of (Says time) lines c text d t in
+    let few = subst NoneCollects (sym e.1) none in
+    (e.0, e.1, e.2, session_alone time (known_of e.0) c.local d.local (known_answers time e.0 c d few e.3))
+
+-- ---- a list of actions
+
+driven_on : (m : Machine) (b c : Bool) (x n : Machine) (steps : List TakenStep) → AreNext b x steps c n → IsDriven m x → IsDriven m n
+driven_on m b c x n [] h d = subst (IsDriven m) (sym h.1) d
+driven_on m b c x n (s ∷ steps) h d =
+    driven_on m (ends_cycle s.0 || b) c h.1.0 n steps h.1.2 (d.0 ++ Step s.0 ∷ [], d.1 ++ Answered s.1 ∷ [], driven_more m d.0 d.1 x h.1.0 (Step s.0) (Answered s.1) d.2 h.1.1)
+
+cycle_driven : (m x n : Machine) (cycle : Result CycleCounts Refusal) → RunsCycle NoneDenies x cycle n → IsDriven m x → IsDriven m n
+cycle_driven m x n (Ok c) h d = driven_on m false true x n h.0.0 h.0.1 d
+cycle_driven m x n (Err e) h d = driven_on m false h.1 x n h.0 h.2 d
+
+unknown_driven : (m : Machine) (b : Bool) (l text : List ℕ) (c d : Local) → AnswersLine b l c text d → IsDriven m c.machine → IsDriven m d.machine
+unknown_driven m true l text c d h p = cycle_driven m c.machine d.machine h.0.0 h.0.1 p
+unknown_driven m false l text c d h p = subst (λ (x : Local). IsDriven m x.machine) (sym h.1) p
+
+line_driven : (m : Machine) (time : ℕ) (l : List ℕ) (c : Asking) (text : List ℕ) (d : Asking) (b : Bool) → is_known (command_of l) ≡ b → Says time l c text d → IsDriven m c.local.machine → IsDriven m d.local.machine
+line_driven m time l c text d true h says p =
+    answer_keeps AskingActs (AskingAnswers (without_cr l)) (λ (x : Asking). IsDriven m x.local.machine) (λ x a r y e q. (q.0 ++ a ∷ [], q.1 ++ r ∷ [], driven_more m q.0 q.1 x.local.machine y.local.machine a r q.2 e.0)) time (command_of l) c text d (known_is (command_of l) h) says p
+line_driven m time l c text d false h says p =
+    let unknown : AskingAnswers (without_cr l) c text d = subst (λ (k : Command). AnswersTo AskingActs (AskingAnswers (without_cr l)) time k c text d) (unknown_is (command_of l) h) says in
+    unknown_driven m (is_collect (without_cr l)) (without_cr l) text c.local d.local unknown.0 p
+
+lines_driven : (m : Machine) (time : ℕ) (lines : List (List ℕ)) (c : Asking) (text : List ℕ) (d : Asking) → AnswersAll (Says time) lines c text d → IsDriven m c.local.machine → IsDriven m d.local.machine
+lines_driven m time [] c text d t p = subst (λ (x : Asking). IsDriven m x.local.machine) (sym t.1) p
+lines_driven m time (l ∷ ls) c text d t p = lines_driven m time ls t.1 t.2 d t.5 (line_driven m time l c t.0 t.1 (is_known (command_of l)) refl t.4 p)
+
+pub all_driven : (time : ℕ) (lines : List (List ℕ)) (text : List ℕ) (c d : Asking) → AnswersAll (Says time) lines c text d → IsDriven c.local.machine d.local.machine
+all_driven time lines text c d t = lines_driven c.local.machine time lines c text d t ([], [], driven_none c.local.machine)

@@ -16,6 +16,7 @@ pub use Rattle.heap_class.specs.Table as RefusalTable
 pub use Rattle.heap_class.specs.declared.IdSize
 pub use Rattle.heap_class.specs.declared.LostCause
 pub use Rattle.heap_class.specs.declared.Refusal
+pub use Rattle.heap_mark.specs.declared.Phase
 pub use Rattle.heap_world.specs.Limits as HeapLimits
 pub use Rattle.heap_world.specs.State
 pub use Rattle.heap_step.specs.Apply

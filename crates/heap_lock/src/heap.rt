@@ -4,7 +4,7 @@ ghost use Rattle.heap_trail.specs.declared.Action.TheVariants.{Step, Rewind};
 ghost use Rattle.heap_trail.specs.Machine.{is_dump_action};
 ghost use Rattle.heap_lock.specs.declared.role.Role.TheVariants.{User};
 ghost use Rattle.heap_lock.specs.Tally.{tally_in};
-ghost use Rattle.heap_chronicle.specs.History.{opening, IsLegalHistory};
+ghost use Rattle.heap_chronicle.specs.History.{opening, tally, IsLegalHistory};
 ghost use Rattle.heap_lock.specs.Blanks.{chair_of};
 ghost use Rattle.heap_lock.specs.Roles.{may};
 ghost use Rattle.heap_lock.specs.Ledgers.{all_in, HasLedger};
@@ -182,6 +182,17 @@ impl<L: Heap> Kept<L> {
         ensures { result.now ≡ self.now.machine }
     {
         &self.machine
+    }
+
+    /// Compares the chronicle with a seat, whose share is just what the chronicle has of it. Changes nothing. Takes no memory.
+    pub fn agree(&mut self, seat: &mut Seat<L>)
+        ensures share { tally seat.old.number self.old.chronicle ≡ seat.old.share }
+        ensures same { self.new ≡ self.old }
+        ensures seat { seat.new ≡ seat.old }
+    {
+        let desk = &mut self.desks[seat.number as usize];
+        let share = replace(&mut seat.share, Badge::blank());
+        seat.share = desk.agree(share);
     }
 
     // Does the action, and adds its entry to chronicle, book and share, and the call to the ledger.

@@ -1,5 +1,5 @@
 //! Dumps of a shared heap's pins through a pipe.
-ghost use Rattle.std.specs.Prelude.{◌≡◌, ◌+◌};
+ghost use Rattle.std.specs.Prelude.{◌≡◌, ◌+◌, false};
 ghost use Rattle.dump_pump.specs.Pumps.{bytes_of};
 ghost use Rattle.dump_pipe.specs.Seats.{HasDumpRoom, knows};
 ghost use Rattle.heap_lock.specs.Calls.{IsLegalLedger};
@@ -77,4 +77,23 @@ pub fn stream<'m, L: Heap + Send + Sync, O: Outlet, R: Threads + Wait + Sync>(
         feed: seat,
     };
     (pumped, seats, told.into_witness())
+}
+
+/// Puts out the dump of a pin of a shared heap as `stream` does, where nobody can ask to cancel. Counts what is put out, and
+/// returns the witness, which has seen the requests. May wait. The sum has room for a dump.
+pub fn stream_all<L: Heap + Send + Sync, O: Outlet, R: Threads + Wait + Sync>(
+    rt: &R,
+    alloc: Global,
+    from: LivePin<'_, L>,
+    outlet: &mut O,
+    counter: &mut Counter<'_>,
+) -> (Pumped, Witness<L>)
+    requires { HasDumpRoom counter.old }
+    ensures put { PutsLive L.config from.entry.pin from.entry.time from.entry.witness result.1 false
+        (O.seen outlet.old) (O.seen outlet.new) result.0 }
+    ensures legal { IsLegalLedger L.config result.1 }
+{
+    let mut source = ToldSource::new(from.shared, rt, from.witness, from.pin, from.time);
+    let pumped = stream_parts(rt, alloc, &mut source, outlet, counter);
+    (pumped, source.into_witness())
 }

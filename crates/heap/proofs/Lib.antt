@@ -1,3 +1,5 @@
 pub mod CappedSums
 pub mod StepAnswers
 pub mod Claiming
+pub mod OwnClaims
+pub mod CycleEnds

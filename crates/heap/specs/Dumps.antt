@@ -15,27 +15,27 @@ use Rattle.live_dump.specs.Streams.{PutsLive}
 abbrev pub IsClosing : HeapSettings → List Call → ℕ → List Call → Type 0
 IsClosing config seen pin after = (reply : Reply) × Witnesses config seen (ClosePin pin) reply after
 
--- a pin was opened on the current state, a stream of it with this time put out its pieces, and then it was closed
-pub record DumpsCurrent (config : HeapSettings) (time : ℕ) (w w' : Outgoing)
-    (r : Pumped) : Type 0 where
+-- after the calls that had been seen a pin was opened on the current state, a stream of it with this time put out its pieces,
+-- and then it was closed, as was seen then
+pub record DumpsCurrent (config : HeapSettings) (time : ℕ) (seen : List Call) (w w' : Outgoing)
+    (r : Pumped) (later : List Call) : Type 0 where
   pub pin : ℕ
   pub place : ℕ
-  pub before : List Call
   pub start : List Call
-  pub seen : List Call
-  pub after : List Call
+  pub given : List Call
   pub found : Bool
-  pub opens : Witnesses config before (OpenPin None) (Pinned pin place) start
-  pub puts : PutsLive config pin time start seen found w w' r
-  pub closes : IsClosing config seen pin after
+  pub opens : Witnesses config seen (OpenPin None) (Pinned pin place) start
+  pub puts : PutsLive config pin time start given found w w' r
+  pub closes : IsClosing config given pin later
 
 -- no memory was found for a meter, or no pin could be opened
-abbrev pub IsNoDump : HeapSettings → Refusal → Type 0
-IsNoDump config e =
-    (e ≡ NoMemory)
-    ⊎ ((before after : List Call) × Witnesses config before (OpenPin None) (Refused e) after)
+abbrev pub IsNoDump : HeapSettings → List Call → Refusal → List Call → Type 0
+IsNoDump config seen e later =
+    ((e ≡ NoMemory) × (later ≡ seen)) ⊎ Witnesses config seen (OpenPin None) (Refused e) later
 
 -- a dump of the current state ended so, or it was refused, and nothing was put out
-abbrev pub IsDumped : HeapSettings → ℕ → Outgoing → Result Pumped Refusal → Outgoing → Type 0
-IsDumped config time w (Ok r) w' = DumpsCurrent config time w w' r
-IsDumped config time w (Err e) w' = IsNoDump config e × (w' ≡ w)
+abbrev pub IsDumped : HeapSettings → ℕ → List Call → Outgoing → Result Pumped Refusal → Outgoing
+    → List Call
+    → Type 0
+IsDumped config time seen w (Ok r) w' later = DumpsCurrent config time seen w w' r later
+IsDumped config time seen w (Err e) w' later = IsNoDump config seen e later × (w' ≡ w)

@@ -94,22 +94,25 @@ fn watch<W: DumpWatcher + Drop>(watching: Watching<'_, W>, has_ended: &AtomicU64
     watcher
 }
 
-// Closes a pin, unless somebody else did so.
-fn close<L: Heap, R: Wait>(rt: &R, shared: &Shared<L>, mut witness: Witness<L>, pin: u64)
-    ensures { (after : _) × IsClosing L.config witness pin after }
+// Closes a pin, unless somebody else did so. Returns the witness, which has seen that.
+fn close<L: Heap, R: Wait>(rt: &R, shared: &Shared<L>, witness: Witness<L>, pin: u64) -> Witness<L>
+    ensures { IsClosing L.config witness pin result }
 {
-    let _ = shared.close_pin(rt, &mut witness, pin);
+    let mut seeing = witness;
+    let _ = shared.close_pin(rt, &mut seeing, pin);
+    seeing
 }
 
-// Puts out the dump of the current state. Returns how that ended, and the outlet.
+// Puts out the dump of the current state. Returns how that ended, the outlet, and the witness, which has seen the calls.
 fn write<L: Heap + Send + Sync, O: Outlet + Drop, R: Threads + Wait + Sync>(
     rt: &R,
     alloc: Global,
     shared: &Shared<L>,
+    witness: Witness<L>,
     sending: Sending<'_, O>,
-) -> (Result<Pumped, Refusal>, O)
-    ensures { IsDumped L.config sending.entry.time (O.seen sending.entry.outlet) result.0
-        (O.seen result.1) }
+) -> (Result<Pumped, Refusal>, O, Witness<L>)
+    ensures { IsDumped L.config sending.entry.time witness (O.seen sending.entry.outlet) result.0
+        (O.seen result.1) result.2 }
 {
     let Sending {
         mut outlet,
@@ -118,21 +121,21 @@ fn write<L: Heap + Send + Sync, O: Outlet + Drop, R: Threads + Wait + Sync>(
         out,
         feed,
     } = sending;
-    let mut witness = shared.witness(rt);
-    let pin = match shared.open_pin(rt, &mut witness, None) {
+    let mut seeing = witness;
+    let pin = match shared.open_pin(rt, &mut seeing, None) {
         Ok(pinned) => pinned.pin,
-        Err(refusal) => return (Err(refusal), outlet),
+        Err(refusal) => return (Err(refusal), outlet, seeing),
     };
     let live = LivePin {
         shared,
-        witness,
+        witness: seeing,
         pin,
         time,
     };
     let seats = StreamSeats { meter, out, feed };
-    let (pumped, _, witness) = stream(rt, alloc, live, &mut outlet, seats);
-    close(rt, shared, witness, pin);
-    (Ok(pumped), outlet)
+    let (pumped, _, seen) = stream(rt, alloc, live, &mut outlet, seats);
+    let seen = close(rt, shared, seen, pin);
+    (Ok(pumped), outlet, seen)
 }
 
 // Puts out the dump while another thread watches it.
@@ -145,50 +148,62 @@ fn write_watched<
     rt: &R,
     alloc: Global,
     shared: &Shared<L>,
+    witness: Witness<L>,
     sending: Sending<'_, O>,
     watching: Watching<'_, W>,
-) -> Dumped<O, W>
-    ensures { IsDumped L.config sending.entry.time (O.seen sending.entry.outlet) result.end
-        (O.seen result.outlet) }
+) -> (Dumped<O, W>, Witness<L>)
+    ensures { IsDumped L.config sending.entry.time witness (O.seen sending.entry.outlet)
+        result.0.end (O.seen result.0.outlet) result.1 }
 {
     let has_ended = AtomicU64::new(0);
     let ended = &has_ended;
-    let (watcher, (end, outlet)) = join(
+    let (watcher, (end, outlet, seen)) = join(
         rt,
         move || watch(watching, ended),
-        move || -> (Result<Pumped, Refusal>, O)
+        move || -> (Result<Pumped, Refusal>, O, Witness<L>)
             requires { IsSync R.row }
         {
-            let written = write(rt, alloc, shared, sending);
+            let written = write(rt, alloc, shared, witness, sending);
             ended.store(1, Ordering::SeqCst);
             written
         },
     );
-    Dumped {
+    let dumped = Dumped {
         end,
         outlet,
         watcher,
-    }
+    };
+    (dumped, seen)
 }
 
 /// Puts out the dump of the current state, with `time` in its header. Opens a pin and a meter, streams as `stream` does, and
 /// closes the pin, unless somebody else did. A second thread tells the watcher how many bytes are out, and cancels the dump if
-/// it says so. Fails with NoMemory if a meter can't be allocated, and as `Shared::open_pin` does; then nothing is put out. May
-/// wait.
+/// it says so. The dump is of a state with all that the witness had seen. Returns the witness, too, which has seen the calls.
+/// Fails with NoMemory if a meter can't be allocated, and as `Shared::open_pin` does; then nothing is put out. May wait.
 pub fn dump<
     L: Heap + Send + Sync,
     O: Outlet + Drop,
     W: DumpWatcher + Drop + Send,
     R: Threads + Wait + Sync,
->(rt: &R, alloc: Global, shared: &Shared<L>, time: u64, outlet: O, watcher: W) -> Dumped<O, W>
-    ensures { IsDumped L.config time (O.seen outlet) result.end (O.seen result.outlet) }
+>(
+    rt: &R,
+    alloc: Global,
+    shared: &Shared<L>,
+    witness: Witness<L>,
+    time: u64,
+    outlet: O,
+    watcher: W,
+) -> (Dumped<O, W>, Witness<L>)
+    ensures { IsDumped L.config time witness (O.seen outlet) result.0.end
+        (O.seen result.0.outlet) result.1 }
 {
     let Ok(made) = Meter::new(alloc, 1, 1) else {
-        return Dumped {
+        let refused = Dumped {
             end: Err(Refusal::NoMemory),
             outlet,
             watcher,
         };
+        return (refused, witness);
     };
     let NewMeter {
         meter,
@@ -213,5 +228,5 @@ pub fn dump<
         out,
         feed,
     };
-    write_watched(rt, alloc, shared, sending, watching)
+    write_watched(rt, alloc, shared, witness, sending, watching)
 }

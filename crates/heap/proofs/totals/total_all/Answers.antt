@@ -1,10 +1,7 @@
-use Rattle.std.proofs.Common.{◌≡◌, rules, ◌∙◌, All, ap, length, count_by, subst}
-use Rattle.heap_lock.specs.Verdict.TheVariants.{Holds}
-use Rattle.std.proofs.lemmas.List.{take_all}
-use Rattle.heap.specs.Actors.{IsAudited}
+use Rattle.std.proofs.Common.{◌∙◌, ap, length, count_by}
 use Rattle.heap.specs.Totals.{claim_count, finished_count, is_finishing, is_making, made_count}
-use Rattle.heap.proofs.CappedSums.{capped_more, all_more}
-use Rattle.heap.proofs.totals.audit_all.Goals as goal
+use Rattle.heap.proofs.CappedSums.{capped_more}
+use Rattle.heap.proofs.totals.total_all.Goals as goal
 
 pub loop-actor-preserved : goal.loop-actor-preserved
 loop-actor-preserved g c =
@@ -15,13 +12,8 @@ loop-actor-preserved g c =
     let below = c.loop-actor-test.true in
     let at = c.actor-item.is in
     let own = c.claims-own.ensures in
-    let stands : c.audit-verdict.result ≡ Holds = search rules in
     record {
       claims = capped_more claim_count xs i a (length c.claims-own.result.now) c.loop-actor.claims _ below at (ap length own) was.claims c.saturating_add-claims.ensures;
       made = capped_more made_count xs i a c.count_made.result c.loop-actor.made _ below at (c.count_made.ensures ∙ ap (count_by is_making) own) was.made c.saturating_add-made.ensures;
       finished = capped_more finished_count xs i a c.count_finished.result c.loop-actor.finished _ below at (c.count_finished.ensures ∙ ap (count_by is_finishing) own) was.finished c.saturating_add-finished.ensures;
-      stand = all_more (λ b. IsAudited g.L.Heap.config g.L.Heap.rolls b.claims Holds) xs i a below at was.stand (subst (IsAudited g.L.Heap.config g.L.Heap.rolls a.claims) stands c.audit-verdict.ensures);
     }
-
-pub returns-clause-stand : goal.returns-clause-stand
-returns-clause-stand g c = subst (All (λ a. IsAudited g.L.Heap.config g.L.Heap.rolls a.claims Holds)) (take_all c.loop-actor.actor-index c.args.actors.now c.loop-actor-test.false) c.loop-actor.invariant.stand

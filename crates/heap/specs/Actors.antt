@@ -1,5 +1,6 @@
 -- Those who act on a shared heap, and what they claim.
 use Rattle.std.specs.Prelude.{◌≡◌, ◌≢◌, ◌⊎◌, ℕ, false, List, [], ◌∷◌, ◌++◌, length, Bool}
+use mathlib.Core.List.{IsPrefix}
 use Rattle.heap_class.specs.declared.Refusal.{Refusal}
 use Rattle.heap_class.specs.declared.Refusal.TheVariants.{NoMemory}
 use Rattle.heap_lock.specs.HeapLimits.{HeapSettings}
@@ -13,9 +14,12 @@ use Rattle.heap_chronicle.specs.declared.entry.Outcome.TheVariants as Outcomes
 use Rattle.heap_lock.specs.Receipt.{Receipt}
 use Rattle.heap_lock.specs.declared.role.Role.{Role}
 use Rattle.heap_lock.specs.Verdict.{Verdict}
+use Rattle.heap_lock.specs.Verdict.TheVariants.{Holds}
 use Rattle.heap_lock.specs.Audits.{IsVerdict}
 use Rattle.heap_chronicle.specs.Chronicles.{dropped_of}
-use Rattle.heap_chronicle.specs.History.{opening, IsLegalHistory}
+use Rattle.heap_chronicle.specs.History.{entry, tally}
+use Rattle.heap_lock.specs.Machine.{Machine}
+use Rattle.heap_lock.specs.Calls.{Call, IsHeapLedger}
 use Rattle.heap_lock.specs.LockStates.{Chair, Stands, IsNoEntry, with_entry}
 use Rattle.heap_lock.specs.Roles.{may}
 use Rattle.heap_work.specs.declared.MarkEnd.{MarkEnd}
@@ -52,7 +56,7 @@ IsDenied config event a (Refused e) a' =
 abbrev pub IsToldRefusal : Outcome → Denial → Type 0
 IsToldRefusal outcome d = (e : Refusal) × (outcome ≡ Outcomes.Refused e) × (d ≡ Refused e)
 
--- the actor is as before, and has another role, or no memory was found for a claim
+-- the actor is as before: it has another role, or room for a claim couldn't be allocated
 abbrev pub IsActorIdle : Role → ActorState → Denial → ActorState → Type 0
 IsActorIdle role a WrongRole a' = (a.seat.role ≢ role) × (a' ≡ a)
 IsActorIdle role a (Refused e) a' = (e ≡ NoMemory) × (a' ≡ a)
@@ -62,8 +66,38 @@ abbrev pub end_claims : MarkEnd → List (Action × Receipt)
 end_claims (Finished r) = (Step Events.Finish, r) ∷ []
 end_claims end = []
 
--- the verdict on claims over some legal history, whose oldest entries may have been dropped
-abbrev pub IsAudited : HeapSettings → Bool → List (Action × Receipt) → Verdict → Type 0
-IsAudited config rolls claims verdict =
-    (history : List Entry) × IsLegalHistory config.keep (opening config) history
+-- the entry that a claim is of, with its turn
+abbrev pub claimed_entry : Action × Receipt → ℕ × Entry
+claimed_entry c = (c.1.turn, entry c.1.seat c.0 c.1.answer)
+
+-- the claims are of entries of this share, in order
+abbrev pub AreEntries : List (Action × Receipt) → List (ℕ × Entry) → Type 0
+AreEntries [] share = Unit {0}
+AreEntries (c ∷ cs) [] = ⊥
+AreEntries (c ∷ cs) (m ∷ ms) =
+    ((m ≡ claimed_entry c) × AreEntries cs ms) ⊎ AreEntries (c ∷ cs) ms
+
+-- the verdict on claims over the history of the heap, whose oldest entries may have been dropped: its acts are those among all
+-- calls, which the witness has seen then, and it has of the seat just the share
+abbrev pub IsAudited : HeapSettings → Bool → Chair → List Call → List (Action × Receipt) → Verdict
+    → List Call
+    → Type 0
+IsAudited config rolls s seen claims verdict seen' =
+    (m : Machine) × (history : List Entry) × IsHeapLedger config m history seen'
+    × IsPrefix seen seen' × (tally s.number history ≡ s.share)
     × IsVerdict (dropped_of rolls (length history)) history claims verdict
+
+-- the claims of each actor hold, of one after another
+abbrev pub AllHold : HeapSettings → Bool → List Call → List ActorState → List Call → Type 0
+AllHold config rolls seen [] seen' = seen' ≡ seen
+AllHold config rolls seen (a ∷ more) seen' =
+    (middle : List Call) × IsAudited config rolls a.seat seen a.claims Holds middle
+    × AllHold config rolls middle more seen'
+
+-- the claims of the first actors hold, and those of the next one have this verdict
+abbrev pub AuditStops : HeapSettings → Bool → List Call → List ActorState → Verdict → List Call
+    → Type 0
+AuditStops config rolls seen actors verdict seen' =
+    (first : List ActorState) × (a : ActorState) × (middle : List Call)
+    × IsPrefix (first ++ a ∷ []) actors × AllHold config rolls seen first middle
+    × IsAudited config rolls a.seat middle a.claims verdict seen'

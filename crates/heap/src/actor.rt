@@ -1,21 +1,27 @@
 //! Those who act on a shared heap.
 ghost use Rattle.std.specs.Prelude.{◌≡◌, ◌≢◌, ◌++◌, ◌∷◌, [], true, IfOk, IfErr, OnErr};
+ghost use mathlib.Core.List.{IsPrefix};
 ghost use Rattle.heap_lock.specs.Action.TheVariants.{Step};
 ghost use Rattle.heap_chronicle.specs.declared.entry.Outcome.TheVariants.{Answered, Place};
 ghost use Rattle.heap_lock.specs.declared.role.Role.TheVariants.{Marker, Sweeper};
-ghost use Rattle.heap_lock.specs.LockStates.{IsNoEntry, IsReceived, Stands};
+ghost use Rattle.heap_lock.specs.LockStates.{AreMet, IsNoEntry, IsReceived, Stands};
 ghost use Rattle.heap_lock.specs.Roles.{may};
-ghost use Rattle.heap_work.specs.Rule.{IsMarkWork, IsSweepWork};
-ghost use Rattle.heap.specs.Actors.{end_claims, IsAudited, IsClaimed, IsDenied, IsActorIdle, IsToldRefusal};
+ghost use Rattle.heap_work.specs.Rule.{IsMarkWork, IsSweepWork, MarkStops, SweepStops};
+ghost use Rattle.heap_lock.specs.Verdict.TheVariants.{Fails};
+ghost use Rattle.heap.specs.Actors.{end_claims, AreEntries, IsAudited, IsClaimed, IsDenied, IsActorIdle, IsToldRefusal};
 
-use crate::audits::{Claim, audit_claims};
 use crate::copies::step_of;
 use heap_class::Refusal;
-use heap_lock::{Action, Answer, Event, Heap, Outcome, Receipt, Role, Seat, Shared, Verdict};
+use heap_lock::{
+    Action, Answer, Event, Heap, Outcome, Receipt, Role, Seat, Shared, Verdict, Witness, audit,
+};
 use heap_work::{Gate, MarkEnd, SweepEnd, mark_worker, sweep_worker};
 use std::alloc::{AllocError, Global};
 use std::marker::Model;
 use std::sync::Wait;
+
+/// An action with the receipt that it was given.
+pub type Claim = (Action, Receipt);
 
 /// Why an actor doesn't get what it asks for.
 #[derive(Clone, Copy, PartialEq, Eq, Debug)]
@@ -49,7 +55,8 @@ impl From<Refusal> for Denial {
     }
 }
 
-/// One who acts on a shared heap: a seat, and the claims of what it did. Contracts see both.
+/// One who acts on a shared heap: a seat, and the claims of what it did, each of an entry of the seat's share. Contracts see
+/// both.
 #[derive(Drop)]
 pub struct Actor<'a, L: Heap, R: Wait> {
     rt: &'a R,
@@ -60,11 +67,13 @@ pub struct Actor<'a, L: Heap, R: Wait> {
 }
 
 impl<'a, L: Heap, R: Wait> Model for Actor<'a, L, R> {
-    ghost use Rattle.heap.specs.Actors.{ActorState};
+    ghost use Rattle.heap.specs.Actors.{ActorState, AreEntries};
 
     ghost Value = { ActorState };
 
     ghost view = { λ a. record { seat = a.seat; claims = a.claims.items } };
+
+    ghost invariant = { λ a. AreEntries a.claims.items a.seat.share };
 }
 
 // Does an event that the role of the seat allows, and claims it by an action that is the same. If that has no entry, nothing has
@@ -79,6 +88,8 @@ fn claim<L: Heap, R: Wait>(
 ) -> Result<Receipt, Refusal>
     requires role { may seat.old.role event ≡ true }
     requires action { action ≡ Step event }
+    requires own { AreEntries claims.old.items seat.old.share }
+    ensures own { AreEntries claims.new.items seat.new.share }
     ensures receipt { IfOk result (λ r. IsReceived (Step event) seat.old r seat.new) }
     ensures stands { IfOk result (λ r. Stands L.config seat.new r.turn (Step event) r.answer) }
     ensures claims { IfOk result
@@ -159,6 +170,8 @@ impl<'a, L: Heap, R: Wait> Actor<'a, L, R> {
     pub fn mark_cycle<G: Gate>(&mut self, gate: &mut G, turns: u64) -> Result<MarkEnd, Denial>
         ensures marked { IfOk result
             (λ end. IsMarkWork L.config self.old.seat self.new.seat turns end) }
+        ensures stops { IfOk result
+            (λ end. MarkStops G.says self.old.seat self.new.seat gate.new end) }
         ensures claims { IfOk result (λ end. self.new.claims ≡ self.old.claims ++ end_claims end) }
         ensures denied { IfErr result (λ d. IsActorIdle Marker self.old d self.new) }
     {
@@ -179,6 +192,8 @@ impl<'a, L: Heap, R: Wait> Actor<'a, L, R> {
     pub fn sweep_regions<G: Gate>(&mut self, gate: &mut G, turns: u64) -> Result<SweepEnd, Denial>
         ensures swept { IfOk result
             (λ end. IsSweepWork L.config self.old.seat self.new.seat turns end) }
+        ensures stops { IfOk result
+            (λ end. SweepStops G.says self.old.seat self.new.seat gate.new end) }
         ensures claims { self.new.claims ≡ self.old.claims }
         ensures denied { IfErr result (λ d. IsActorIdle Sweeper self.old d self.new) }
     {
@@ -189,10 +204,28 @@ impl<'a, L: Heap, R: Wait> Actor<'a, L, R> {
         Ok(end)
     }
 
-    /// Returns whether all claims stand in the history, as `audit_claims` says. May wait.
-    pub fn audit(&self) -> Verdict
-        ensures { IsAudited L.config L.rolls self.now.claims result }
+    /// Shows a witness all calls so far under the lock, as `Shared::meet` does: those of this actor are among them. Takes no memory.
+    /// May wait.
+    pub fn meet(&mut self, witness: &mut Witness<L>)
+        ensures begins { IsPrefix witness.old witness.new }
+        ensures met { AreMet L.config self.old.seat witness.new }
+        ensures same { self.new ≡ self.old }
     {
-        audit_claims(self.rt, self.shared, self.claims())
+        self.shared.meet(self.rt, &mut self.seat, witness);
+    }
+
+    /// Returns whether all claims stand in the history of the heap, under the lock: Holds, or Dropped exactly if the entry of a
+    /// claim was dropped. The witness has seen all calls then. Takes no memory. May wait.
+    pub fn audit(&mut self, witness: &mut Witness<L>) -> Verdict
+        ensures audited { IsAudited L.config L.rolls self.old.seat witness.old self.old.claims result
+            witness.new }
+        ensures stands { result ≢ Fails }
+        ensures same { self.new ≡ self.old }
+    {
+        let mut kept = self.shared.lock(self.rt);
+        kept.agree(&mut self.seat);
+        kept.show(witness);
+        let _ = kept.chronicle();
+        audit(&*kept, self.claims.as_slice())
     }
 }

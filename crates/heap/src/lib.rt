@@ -3,7 +3,6 @@
 
 pub mod actor;
 pub mod actors;
-pub mod audits;
 pub mod classes;
 pub mod copies;
 pub mod count;
@@ -13,9 +12,8 @@ pub mod mutator;
 pub mod pace;
 pub mod totals;
 
-pub use actor::{Actor, Denial};
+pub use actor::{Actor, Claim, Denial};
 pub use actors::Actors;
-pub use audits::{Claim, audit_claims};
 pub use classes::{define_array_class, define_class};
 pub use count::Count;
 pub use cycles::Halt;
@@ -23,10 +21,10 @@ pub use dump_pump::{Outlet, Pumped, WriteOutlet};
 pub use dumps::{DumpWatcher, Dumped, LastSeen, dump};
 pub use heap_class::{Field, Fields, Kind, Name, Refusal};
 pub use heap_lock::{
-    Action, Answer, Blank, Config, Event, Heap, Machine, Outcome, Receipt, Role, Seat, Seats,
-    Shared, Verdict, Witness, audit,
+    Action, Answer, Blank, Config, Dumper, Event, Heap, Machine, Outcome, Receipt, Role, Seat,
+    Seats, Shared, Verdict, Witness, audit,
 };
 pub use heap_work::{Gate, MarkEnd, Open, SweepEnd, mark_worker, sweep_worker};
 pub use live_dump::{AskSeat, FeedSeat, Meter, NewMeter, OutSeat, ReadSeat, stream};
 pub use pace::Pace;
-pub use totals::{Totals, audit_all};
+pub use totals::{Totals, audit_all, total_all};

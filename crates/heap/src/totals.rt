@@ -1,12 +1,11 @@
 //! What several actors did, by their claims.
-ghost use Rattle.std.specs.Prelude.{◌≡◌, ◌≢◌, count_by, All, Contains, IfErr, IfOk};
-ghost use Rattle.heap_lock.specs.Verdict.TheVariants.{Holds};
-ghost use Rattle.heap.specs.Actors.{IsAudited};
+ghost use Rattle.std.specs.Prelude.{◌≡◌, count_by, IfOk, IfErr};
+ghost use Rattle.heap_lock.specs.Verdict.TheVariants.{Dropped};
+ghost use Rattle.heap.specs.Actors.{AllHold, AuditStops};
 ghost use Rattle.heap.specs.Totals.{IsTotal, is_finishing, is_making};
 
-use crate::actor::Actor;
-use crate::audits::Claim;
-use heap_lock::{Action, Event, Heap, Outcome, Verdict};
+use crate::actor::{Actor, Claim};
+use heap_lock::{Action, Event, Heap, Outcome, Verdict, Witness};
 use std::sync::Wait;
 
 /// What several actors did, by their claims. A number that doesn't fit is `usize::MAX`.
@@ -56,32 +55,45 @@ fn count_finished(claims: &[Claim]) -> usize
     claims.iter().filter(|claim| is_finished(claim)).count()
 }
 
-/// Returns what the actors did if all claims of each of them stand in the history, as `Actor::audit` says. Fails with the first
-/// other verdict. Takes no memory. May wait.
-pub fn audit_all<L: Heap, R: Wait>(actors: &[Actor<'_, L, R>]) -> Result<Totals, Verdict>
-    ensures totals { IfOk result (IsTotal actors.now) }
-    ensures stand { IfOk result
-        (λ _. All (λ a. IsAudited L.config L.rolls a.claims Holds) actors.now) }
-    ensures refused { IfErr result
-        (λ v. (v ≢ Holds) × (a : _) × Contains actors.now a
-        × IsAudited L.config L.rolls a.claims v) }
+/// Returns what the actors did, by their claims. Takes no memory.
+pub fn total_all<L: Heap, R: Wait>(actors: &[Actor<'_, L, R>]) -> Totals
+    ensures { IsTotal actors.now result }
 {
     let mut claims = 0usize;
     let mut made = 0usize;
     let mut finished = 0usize;
     for actor in actors {
-        let verdict = actor.audit();
-        if verdict != Verdict::Holds {
-            return Err(verdict);
-        }
         let own = actor.claims();
         claims = claims.saturating_add(own.len());
         made = made.saturating_add(count_made(own));
         finished = finished.saturating_add(count_finished(own));
     }
-    Ok(Totals {
+    Totals {
         claims,
         made,
         finished,
-    })
+    }
+}
+
+/// Returns what the actors did, by their claims, if the claims of each stand in the history of the heap, one actor audited after
+/// another as `Actor::audit` does. Fails with Dropped at the first actor whose claims name an entry that was dropped. The witness
+/// has seen all calls up to the last audit. Takes no memory. May wait.
+pub fn audit_all<L: Heap, R: Wait>(
+    actors: &mut [Actor<'_, L, R>],
+    witness: &mut Witness<L>,
+) -> Result<Totals, Verdict>
+    ensures totals { IfOk result (IsTotal actors.old) }
+    ensures hold { IfOk result
+        (λ _. AllHold L.config L.rolls witness.old actors.old witness.new) }
+    ensures refused { IfErr result (λ v. (v ≡ Dropped)
+        × AuditStops L.config L.rolls witness.old actors.old v witness.new) }
+    ensures same { actors.new ≡ actors.old }
+{
+    for i in 0..actors.len() {
+        let verdict = actors[i].audit(witness);
+        if verdict != Verdict::Holds {
+            return Err(verdict);
+        }
+    }
+    Ok(total_all(actors))
 }

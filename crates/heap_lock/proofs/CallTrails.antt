@@ -95,3 +95,10 @@ trail_is config k m es before after leads ledger legal =
     let enter = acts_enter (before ++ after) (subst (All Enters) (sym ledger.acts) (entries_enter config.keep (opening config) es legal)) in
     let by = leads_by (opening_machine config.ids config.regions config.mutators config.keep) k before leads (enter_front before after enter) in
     (by.0, by.2)
+
+-- the trail of a heap's machine is that of all its calls
+pub ledger_trail : (config : HeapSettings) (m : Machine) (es : List Entry) (calls : List Call) → IsLedger config m es calls → IsLegalHistory config.keep (opening config) es → m.trail ≡ trail_by config.keep (opening config) calls
+unfolding opening_machine
+ledger_trail config m es calls ledger legal =
+    let enter = acts_enter calls (subst (All Enters) (sym ledger.acts) (entries_enter config.keep (opening config) es legal)) in
+    (leads_by (opening_machine config.ids config.regions config.mutators config.keep) m calls ledger.leads enter).0

@@ -12,7 +12,7 @@ use Rattle.heap_chronicle.specs.declared.entry.Entry.{Entry}
 use Rattle.atomic_table.specs.declared.badge.Badge.{Badge}
 use Rattle.heap_lock.specs.declared.sight.Sight.{Sight}
 use Rattle.heap_lock.specs.declared.sight.Sight.TheVariants.{Full, Seen}
-use Rattle.heap_lock.specs.Calls.{Call, call_of, IsLedger, IsLegalLedger}
+use Rattle.heap_lock.specs.Calls.{Call, call_of, IsHeapLedger, IsLedger, IsLegalLedger}
 use Rattle.heap_chronicle.specs.History.{reply_of}
 use Rattle.heap_lock.specs.Sights.{calls_of}
 use Rattle.heap_lock.specs.Ledgers.{all_in, calls_in, HasCalls, HasLedger, IsSight, CallsAs}
@@ -88,3 +88,7 @@ pub sighted : (config : HeapSettings) (tables : List TableId) (table : TableId) 
 sighted config tables table m es desks l b k has s =
     let here : calls_in b.views ≡ all_in l = ap calls_in s.1 in
     ((s.0 ∙ has.0.1, s.1 ∙ ap (λ (cs : List Call). Seen cs ∷ []) (sym here)), subst (IsLegalLedger config) (sym here) (legal_of config tables table m es desks l k has))
+
+-- they are those of its machine and its chronicle
+pub heap_of : (config : HeapSettings) (tables : List TableId) (table : TableId) (m : Machine) (es : List Entry) (desks : List Desk) (l : Ledger) → IsUnderLock config tables m es desks → HasLedger config table m es l → IsHeapLedger config m es (all_in l)
+heap_of config tables table m es desks l k has = (has.1, k.legal)

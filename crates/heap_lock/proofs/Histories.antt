@@ -121,3 +121,19 @@ pub kept_dumped : (config : HeapSettings) (tables : List TableId) (m m' : Machin
 kept_dumped config tables m m' es desks a r k dump (mark, stands, is) =
     let left = dumps_leave m m' a mark r dump is in
     record { legal = k.legal; keep = left.1 ∙ k.keep; ids = left.2 ∙ k.ids; folds = left.0 ∙ k.folds; seated = k.seated; count = k.count; booked = k.booked }
+
+-- a desk that has the same book again
+pub kept_as : (config : HeapSettings) (tables : List TableId) (m : Machine) (es : List Entry) (desks : List Desk) (seat : ℕ) (d' : Desk) → IsUnderLock config tables m es desks → IsDesk (table_at tables seat) (tally seat es) d' → IsUnderLock config tables m es (set desks seat d')
+kept_as config tables m es desks seat d' k desk =
+    record {
+      legal = k.legal;
+      keep = k.keep;
+      ids = k.ids;
+      folds = k.folds;
+      seated = k.seated;
+      count = length-set desks seat d' ∙ k.count;
+      booked = λ n d at. ⊎_elim
+          (λ (u : (n ≡ seat) × (d' ≡ d)). subst (λ (x : ℕ × Desk). IsDesk (table_at tables x.0) (tally x.0 es) x.1) (λ i. (sym u.0 i, u.1 i)) desk)
+          (λ (u : (n ≢ seat) × (get_elem? desks n ≡ some d)). k.booked n d u.1)
+          (at_set desks seat n d' d at);
+    }

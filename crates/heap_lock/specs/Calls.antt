@@ -38,6 +38,11 @@ pub record IsLedger (config : HeapSettings) (m : Machine) (chronicle : List Entr
   pub leads : LeadsTo config calls m
   pub acts : acts_in calls ≡ map call_of chronicle
 
+-- so they are, and the chronicle is a legal history
+abbrev pub IsHeapLedger : HeapSettings → Machine → List Entry → List Call → Type 0
+IsHeapLedger config m chronicle calls =
+    IsLedger config m chronicle calls × IsLegalHistory config.keep (opening config) chronicle
+
 -- these may be all calls of a heap
 abbrev pub IsLegalLedger : HeapSettings → List Call → Type 0
 IsLegalLedger config calls =

@@ -1,28 +1,22 @@
 -- What a worker sees of the collector.
-use Rattle.std.specs.Prelude.{◌≡◌, ℕ, List, Option, slice_get}
-use Rattle.heap_mark.specs.declared.Phase.{Phase}
+use Rattle.std.specs.Prelude.{ℕ, List, Option, slice_get}
+use mathlib.Core.List.{IsPrefix}
 use Rattle.heap_mark.specs.MarkSteps.{pending_regions}
 use Rattle.heap_world.specs.Limits.{HeapSettings}
 use Rattle.heap_world.specs.State.{HeapState}
-use Rattle.heap_chronicle.specs.declared.entry.Entry.{Entry}
-use Rattle.heap_chronicle.specs.History.{opening, IsLegalHistory, history_trail}
+use Rattle.heap_chronicle.specs.History.{opening}
+use Rattle.heap_lock.specs.Calls.{Call, IsLegalLedger}
+use Rattle.heap_lock.specs.Laws.{trail_by}
 
--- the state that a history leaves
-abbrev pub history_state : HeapSettings → List Entry → HeapState
-history_state config history = (history_trail config.keep (opening config) history).current
+-- the state that calls on a heap leave
+abbrev pub state_after : HeapSettings → List Call → HeapState
+state_after config calls = (trail_by config.keep (opening config) calls).current
 
 -- the lowest region that waits to be swept, if one does
 abbrev pub pending_in : HeapState → Option ℕ
 pending_in w = slice_get (pending_regions w.regions) 0
 
--- some legal history leaves a state of this phase
-abbrev pub IsPhaseSeen : HeapSettings → Phase → Type 0
-IsPhaseSeen config phase =
-    (history : List Entry) × IsLegalHistory config.keep (opening config) history
-    × (phase ≡ (history_state config history).phase)
-
--- some legal history leaves a state in which this is the lowest region that waits to be swept, or none does
-abbrev pub IsPendingSeen : HeapSettings → Option ℕ → Type 0
-IsPendingSeen config region =
-    (history : List Entry) × IsLegalHistory config.keep (opening config) history
-    × (region ≡ pending_in (history_state config history))
+-- more calls of the heap were seen, maybe none, and the state that they leave is so
+abbrev pub IsSeen : HeapSettings → List Call → (HeapState → Type 0) → List Call → Type 0
+IsSeen config before is after =
+    IsPrefix before after × IsLegalLedger config after × is (state_after config after)

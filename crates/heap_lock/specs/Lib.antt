@@ -2,6 +2,7 @@ pub mod Limits
 pub mod Tally
 pub mod TableSeats
 pub mod Calls
+pub mod Dumpers
 pub mod Sights
 pub mod Ledgers
 pub mod Desks
@@ -16,6 +17,7 @@ pub use Rattle.heap_class.specs.Table as RefusalTable
 pub use Rattle.heap_class.specs.declared.IdSize
 pub use Rattle.heap_class.specs.declared.LostCause
 pub use Rattle.heap_class.specs.declared.Refusal
+pub use Rattle.heap_mark.specs.declared.Phase
 pub use Rattle.heap_world.specs.Limits as HeapLimits
 pub use Rattle.heap_world.specs.State
 pub use Rattle.heap_step.specs.Apply

@@ -21,7 +21,7 @@ use Rattle.heap_chronicle.specs.Limits.{entry_limit}
 use Rattle.heap_chronicle.specs.Chronicles.{ChronicleState}
 use Rattle.heap_chronicle.specs.History.{entry, reply_of, opening, trail_after, IsDue, IsLegalHistory, history_trail, tally}
 use Rattle.heap_lock.specs.Tally.{tally_in}
-use Rattle.heap_lock.specs.Calls.{Call}
+use Rattle.heap_lock.specs.Calls.{Call, IsHeapLedger}
 
 -- a seat: its number, its role, and its share of the chronicle, each entry with its turn
 pub record Chair : Type 0 where
@@ -156,3 +156,26 @@ abbrev pub IsDumperAct : Action → LockState → Reply → LockState → Type 0
 IsDumperAct action k r k' =
     MayReply k.machine action k'.machine r × (k'.chronicle ≡ k.chronicle)
     × (k'.ledger ≡ k.ledger ++ (action, r) ∷ []) × (k'.rolls ≡ k.rolls)
+
+-- these are all calls of a heap with this machine, whose history is legal and has of the seat just the share
+abbrev pub IsKnown : HeapSettings → Machine → Chair → List Call → Type 0
+IsKnown config m s calls =
+    (chronicle : List Entry) × IsHeapLedger config m chronicle calls
+    × (tally s.number chronicle ≡ s.share)
+
+-- a caller's seat and what its witness has seen are of one moment of the heap
+abbrev pub AreMet : HeapSettings → Chair → List Call → Type 0
+AreMet config s calls = (m : Machine) × IsKnown config m s calls
+
+-- what lies under the lock is what the calls so far leave: they lead to the machine, and their acts are a legal history, which
+-- leaves the machine's trail
+abbrev pub IsHeap : HeapSettings → Bool → LockState → Type 0
+IsHeap config rolls k =
+    IsHeapLedger config k.machine k.chronicle k.ledger × Folds config k × (k.rolls ≡ rolls)
+
+-- when the lock was got the heap had a history of which the seat has just its share, and then the act had this result
+abbrev pub IsSharedAct : HeapSettings → Bool → Action → Chair → Result Receipt Refusal → Chair
+    → Type 0
+IsSharedAct config rolls action s result s' =
+    (k k' : LockState) × IsHeap config rolls k × (tally s.number k.chronicle ≡ s.share)
+    × IsHeldAct config action k s result k' s'

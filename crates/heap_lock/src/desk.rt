@@ -32,6 +32,15 @@ impl<E: NotedEntry> Play<(), SeatView> for Notes<E> {
     ghost then = { λ step m found n. Noted E.mark m n };
 }
 
+/// The step that tells that both lists are equal.
+pub struct Agrees;
+
+impl Play<(), SeatView> for Agrees {
+    ghost use Rattle.heap_lock.specs.Tally.{Agreed};
+
+    ghost then = { λ step m found n. Agreed m n };
+}
+
 /// The table of a seat, with the book. A new one is that of a seat that has done nothing.
 pub type Desk = HomeTable<SeatView>;
 
@@ -90,5 +99,24 @@ impl HomeTable<SeatView> {
         ensures same { tally_in share.views ≡ tally_of self.old.own.me.0 }
     {
         self.note::<Brand>(share, turn, entry)
+    }
+
+    /// Compares the book and its share, which have one list. Takes no memory.
+    pub fn agree(&mut self, share: Badge<SeatView>) -> Badge<SeatView>
+        requires desk { HasBook self.old }
+        requires share { IsShare (table_of self.old) (tally_in share.views) share }
+        ensures desk { BooksAs self.old self.new (tally_of self.old.own.me.0) }
+        ensures share { IsShare share.table_id (tally_of self.old.own.me.0) result }
+        ensures same { tally_in share.views ≡ tally_of self.old.own.me.0 }
+    {
+        let HomeTable { table, own } = self;
+        table
+            .shared
+            .join_seat::<Halves<SeatView>>(own, share.into_seat());
+        table.shared.load::<Agrees>(own, 0);
+        table
+            .shared
+            .split_seat::<Halves<SeatView>>(own)
+            .into_badge()
     }
 }

@@ -1,10 +1,11 @@
 //! What a dumper saw of a shared heap's calls.
 ghost use Rattle.std.specs.Prelude.{◌≡◌};
 ghost use mathlib.Core.List.{IsPrefix};
-ghost use Rattle.heap_lock.specs.Calls.{IsLegalLedger};
+ghost use Rattle.heap_lock.specs.Calls.{IsHeapLedger, IsLegalLedger};
 ghost use Rattle.heap_lock.specs.Ledgers.{calls_in, IsSight};
+ghost use Rattle.heap_lock.specs.LockStates.{AreMet, IsKnown};
 
-use crate::heap::{Heap, Kept, Shared};
+use crate::heap::{Heap, Kept, Seat, Shared};
 use crate::sight::Sight;
 use atomic_table::Badge;
 use std::marker::{Model, PhantomData};
@@ -59,10 +60,23 @@ impl<L: Heap> Kept<L> {
         ensures witness { witness.new ≡ self.old.ledger }
         ensures begins { IsPrefix witness.old self.old.ledger }
         ensures legal { IsLegalLedger L.config self.old.ledger }
+        ensures heap { IsHeapLedger L.config self.old.machine self.old.chronicle self.old.ledger }
         ensures same { self.new ≡ self.old }
     {
         let sight = replace(&mut witness.sight, Badge::blank());
         witness.sight = self.ledger.show(sight);
+    }
+
+    /// Shows a witness all calls so far, and compares them with a seat: the acts among them are a history that has of the seat
+    /// just its share. Changes nothing but the witness. Takes no memory.
+    pub fn meet(&mut self, seat: &mut Seat<L>, witness: &mut Witness<L>)
+        ensures known { IsKnown L.config self.old.machine seat.old self.old.ledger }
+        ensures witness { witness.new ≡ self.old.ledger }
+        ensures begins { IsPrefix witness.old self.old.ledger }
+        ensures same { (self.new ≡ self.old) × (seat.new ≡ seat.old) }
+    {
+        self.agree(seat);
+        self.show(witness);
     }
 }
 
@@ -72,5 +86,15 @@ impl<L: Heap> Shared<L> {
         ensures { IsLegalLedger L.config result }
     {
         self.lock(rt).witness()
+    }
+
+    /// Shows a witness all calls so far as `Kept::meet` does, under the lock. So whatever it sees then has all that the seat
+    /// did. Takes no memory. May wait.
+    pub fn meet<R: Wait>(&self, rt: &R, seat: &mut Seat<L>, witness: &mut Witness<L>)
+        ensures begins { IsPrefix witness.old witness.new }
+        ensures met { AreMet L.config seat.old witness.new }
+        ensures seat { seat.new ≡ seat.old }
+    {
+        self.lock(rt).meet(seat, witness);
     }
 }

@@ -20,6 +20,7 @@ use Rattle.heap_lock.specs.Laws.{state_at}
 use Rattle.heap_lock.proofs.PinTexts.{give_text}
 use Rattle.session_text.specs.Replies.{data_lines, reply_text, piece_in, pin_in}
 use Rattle.session_text.specs.Dumps.{Dumps, DumpsOn, ClosesAfter, total_line}
+use Rattle.heap_server.specs.JoinedActs.{OpensMet}
 use Rattle.heap_server.specs.DumpAnswers.{ActsJoined, lines_of_pieces, EndsData, IsDumpAnswer, IsUnopened, IsOpenedDump, AnswersPinDump, AnswersNewDump}
 
 -- ---- what was seen
@@ -138,23 +139,27 @@ place_of_pin (Part piece) pin e = absurd (none-some pin e)
 place_of_pin Closed pin e = absurd (none-some pin e)
 place_of_pin (Refused x) pin e = absurd (none-some pin e)
 
-opened_dump : {S : Type 0} (config : HeapSettings) (seat : S → Chair) (seen : S → List Call) (time pin : ℕ) (r : Reply) (c opened d : S) (text : List ℕ) → pin_in r ≡ Some pin → Witnesses config (seen c) (OpenPin None) r (seen opened) → ClosesAfter (ActsJoined config seat seen) time r (Some pin) part_limit opened text d → IsOpenedDump config time (seen c) (seen d) text
-opened_dump config seat seen time pin r c opened d text is w s =
+opened_dump : {S : Type 0} (config : HeapSettings) (seat : S → Chair) (seen : S → List Call) (time pin : ℕ) (r : Reply) (c opened d : S) (text : List ℕ) → pin_in r ≡ Some pin → OpensMet config (seat c) (seen c) None r (seen opened) → ClosesAfter (ActsJoined config seat seen) time r (Some pin) part_limit opened text d → IsOpenedDump config (seat c) time (seen c) (seen d) text
+opened_dump config seat seen time pin r c opened d text is o s =
+    let w = o.3 in
     let place = place_of_pin r pin is in
     let t = tells config seat seen pin time part_limit opened s.0 0 text s.2 in
     let closed = sees_call config (seen s.0) (ClosePin pin) s.1 (seen d) s.3.1 in
     let all = (sees_more config (seen opened) (seen s.0) (seen d) t.1 closed).0 in
-    let before = seen c ++ w.0 in (
+    let before = o.0 ++ w.0 in (
       pin,
       place.0,
+      o.0,
       before,
       all.0,
+      o.1,
+      o.2,
       (w.0, refl),
       sym all.1 ∙ ap (λ l. l ++ all.0) w.1 ∙ append_assoc before ((OpenPin None, r) ∷ []) all.0 ∙ ap (λ (x : Reply). before ++ (OpenPin None, x) ∷ all.0) place.1,
       exact_text config pin time (seen d) text t.0 s.3.1.2,
     )
 
-after_open : {S : Type 0} (config : HeapSettings) (seat : S → Chair) (seen : S → List Call) (time : ℕ) (r : Reply) (o : Option ℕ) (c opened d : S) (text : List ℕ) → pin_in r ≡ o → Witnesses config (seen c) (OpenPin None) r (seen opened) → ClosesAfter (ActsJoined config seat seen) time r o part_limit opened text d → IsUnopened text ⊎ IsOpenedDump config time (seen c) (seen d) text
+after_open : {S : Type 0} (config : HeapSettings) (seat : S → Chair) (seen : S → List Call) (time : ℕ) (r : Reply) (o : Option ℕ) (c opened d : S) (text : List ℕ) → pin_in r ≡ o → OpensMet config (seat c) (seen c) None r (seen opened) → ClosesAfter (ActsJoined config seat seen) time r o part_limit opened text d → IsUnopened text ⊎ IsOpenedDump config (seat c) time (seen c) (seen d) text
 after_open config seat seen time r None c opened d text is w s = inl (r, is, s.0)
 after_open config seat seen time r (Some pin) c opened d text is w s = inr (opened_dump config seat seen time pin r c opened d text is w s)
 

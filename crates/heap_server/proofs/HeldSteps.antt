@@ -1,10 +1,12 @@
 -- What an act under the lock is as a step of the machine.
 use Rattle.std.proofs.Common.{◌≡◌, ◌∙◌, ℕ, Bool, true, false, refl, sym, ap, subst, inl, inr, List, [], ◌∷◌, ◌++◌}
-use Rattle.std.specs.Prelude.{IfErr, IfOk, Result, Ok, Err, nat_le}
+use Rattle.std.specs.Prelude.{Result, Ok, Err, nat_le}
 use Rattle.std.proofs.lemmas.List.{append_assoc, append-nil}
 use Rattle.heap_lock.specs.Refusal.{Refusal}
 use Rattle.heap_lock.specs.Refusal.TheVariants.{NoMemory}
+use mathlib.Core.List.{IsPrefix}
 use Rattle.heap_lock.specs.HeapLimits.{HeapSettings}
+use Rattle.heap_lock.specs.Calls.{Call}
 use Rattle.heap_lock.specs.State.{HeapState}
 use Rattle.heap_lock.specs.Apply.{applied}
 use Rattle.heap_lock.specs.Answer.{Answer}
@@ -18,12 +20,11 @@ use Rattle.heap_lock.specs.Machine.{Machine, Allocation, Granted, Denied, LosesP
 use Rattle.heap_lock.specs.Outcome.{Outcome}
 use Rattle.heap_lock.specs.Entry.{Entry}
 use Rattle.heap_lock.specs.Outcome.TheVariants as outcome
-use Rattle.heap_lock.specs.History.{entry, opening, reply_of, IsLegalHistory}
-use Rattle.heap_lock.specs.LockStates.{Chair, Folds, IsNoEntry, IsRefused, LockState, with_entry}
+use Rattle.heap_lock.specs.History.{entry, reply_of}
+use Rattle.heap_lock.specs.LockStates.{Chair, IsKnown, IsNoEntry, IsRefused, LockState, with_entry}
 use Rattle.heap_lock.proofs.StepReplies.{no_place}
 use Rattle.question_text.specs.declared.cycle.CycleCounts.{CycleCounts}
-use Rattle.question_text.specs.Collections.{IsCycleStep, IsWholeCycle, StopsAt}
-use Rattle.question_text.proofs.CycleSteps.{runs_cycle}
+use Rattle.question_text.specs.Collections.{RunsCycle}
 use Rattle.heap_server.specs.JoinedAnswers.{IsSeatAfter, IsSeatSince, RunsCycleOfHeap}
 
 -- a step that is refused leaves the machine
@@ -101,13 +102,15 @@ since_on was s s' turn a o (role, (first, before, h)) is =
 -- ---- a cycle
 
 -- a cycle between two moments under the lock
-pub heap_cycle : (config : HeapSettings) (k l : LockState) (cycle : Result CycleCounts Refusal) → k.machine.ids ≡ config.ids → IsLegalHistory config.keep (opening config) k.chronicle → Folds config k
-    → l.machine.ids ≡ config.ids → IsLegalHistory config.keep (opening config) l.chronicle → Folds config l
-    → IfOk cycle (λ c. IsWholeCycle k.machine c.condemned c.swept l.machine) → IfErr cycle (λ e. StopsAt IsNoEntry IsCycleStep k.machine e l.machine) → RunsCycleOfHeap config cycle
-heap_cycle config k l cycle ids legal folds ids2 legal2 folds2 whole refused = (
-  k.machine,
-  l.machine,
-  (ids, (k.chronicle, legal, folds)),
-  (ids2, (l.chronicle, legal2, folds2)),
-  runs_cycle IsNoEntry k.machine l.machine cycle whole refused,
-)
+pub heap_cycle : (config : HeapSettings) (s s' : Chair) (seen seen' : List Call) (k k1 l : LockState) (cycle : Result CycleCounts Refusal) → IsPrefix seen k.ledger → IsKnown config k.machine s k.ledger → k1 ≡ k → (middle : List Call) → middle ≡ k.ledger → IsPrefix middle l.ledger → IsKnown config l.machine s' l.ledger → seen' ≡ l.ledger → RunsCycle IsNoEntry k1.machine cycle l.machine
+    → RunsCycleOfHeap config s seen cycle s' seen'
+heap_cycle config s s' seen seen' k k1 l cycle begins from same middle is on to last runs = record {
+  before = k.ledger;
+  first = k.machine;
+  last = l.machine;
+  begins = begins;
+  from = from;
+  goes_on = subst (λ (x : List Call × List Call). IsPrefix x.0 x.1) (λ i. (is i, sym last i)) on;
+  to = subst (IsKnown config l.machine s') (sym last) to;
+  runs = subst (λ (x : LockState). RunsCycle IsNoEntry x.machine cycle l.machine) same runs;
+}

@@ -1,15 +1,17 @@
 -- Runs of a worker, one after another.
-use Rattle.std.proofs.Common.{◌≡◌, ℕ, List, [], ◌∷◌, ◌++◌, refl, ap, ◌∙◌, subst}
+use Rattle.std.proofs.Common.{◌≡◌, ℕ, Bool, true, false, List, [], ◌∷◌, ◌++◌, refl, sym, ap, ◌∙◌, subst, inl, inr}
 use Rattle.heap_lock.specs.HeapLimits.{HeapSettings}
 use Rattle.heap_lock.specs.Entry.{Entry}
 use Rattle.heap_lock.specs.declared.role.Role.TheVariants.{Marker, Sweeper}
+use Rattle.heap_lock.specs.Calls.{Call}
+use Rattle.heap_lock.specs.Collector.{IsSeen}
 use Rattle.heap_lock.specs.LockStates.{Chair}
 use Rattle.heap_work.specs.declared.MarkEnd.{MarkEnd}
 use Rattle.heap_work.specs.declared.MarkEnd.TheVariants.{Finished, NotMarking, Pending, Refused, Stopped, TurnsOver}
 use Rattle.heap_work.specs.declared.Stage.{Stage}
 use Rattle.heap_work.specs.declared.SweepEnd.{SweepEnd}
 use Rattle.heap_work.specs.Rule.{EndsMarking, IsMarkWork, IsSweepWork}
-use Rattle.heap_server.specs.Tending.{AreRuns, MarksOnce, SweepsOnce, Tends, role_for, turn_limit}
+use Rattle.heap_server.specs.Tending.{AreRuns, MarksOnce, SweepsOnce, TakesTurn, Tends, rests_in, role_for, turn_limit}
 use Rattle.heap_server.specs.declared.tending.Duty.{Duty}
 use Rattle.heap_server.specs.declared.tending.Duty.TheVariants.{Mark, Sweep}
 
@@ -45,9 +47,16 @@ pub is_marker : (duty : Duty) (s : Chair) → duty ≡ Mark → s.role ≡ role_
 is_marker Mark s is role = role
 is_marker Sweep s is role = absurd cc
 
-pub marked : (duty : Duty) (config : HeapSettings) (s s' : Chair) (end : MarkEnd) → duty ≡ Mark → IsMarkWork config s s' turn_limit end → Tends duty config s s'
-marked Mark config s s' end is w = ((s', end) ∷ [], (w, refl))
-marked Sweep config s s' end is w = absurd cc
+seen_as : (config : HeapSettings) (duty : Duty) (seen seen' : List Call) (b d : Bool) → b ≡ d → IsSeen config seen (λ w. b ≡ rests_in duty w) seen' → IsSeen config seen (λ w. rests_in duty w ≡ d) seen'
+seen_as config duty seen seen' b d is h = (h.0, h.1, sym h.2 ∙ is)
+
+-- a worker with nothing to do
+pub rests : (duty : Duty) (config : HeapSettings) (s s' : Chair) (seen seen' : List Call) (b : Bool) → b ≡ true → IsSeen config seen (λ w. b ≡ rests_in duty w) seen' → s' ≡ s → TakesTurn duty config s seen s' seen'
+rests duty config s s' seen seen' b is h same = inl (seen_as config duty seen seen' b true is h, same)
+
+pub marks : (duty : Duty) (config : HeapSettings) (s s' : Chair) (seen seen' : List Call) (b : Bool) (end : MarkEnd) → duty ≡ Mark → b ≡ false → IsSeen config seen (λ w. b ≡ rests_in duty w) seen' → IsMarkWork config s s' turn_limit end → TakesTurn duty config s seen s' seen'
+marks Mark config s s' seen seen' b end is off h w = inr (seen_as config Mark seen seen' b false off h, (end, w))
+marks Sweep config s s' seen seen' b end is off h w = absurd cc
 
 pub role_stays : (duty : Duty) (config : HeapSettings) (s s' : Chair) (turns : ℕ) (end : MarkEnd) → IsMarkWork config s s' turns end → s.role ≡ role_for duty → s'.role ≡ role_for duty
 role_stays duty config s s' turns end w is = end_keeps config s s' turns w.gained w.next end w.ends ∙ is
@@ -56,9 +65,15 @@ pub is_sweeper : (duty : Duty) (s : Chair) → duty ≡ Sweep → s.role ≡ rol
 is_sweeper Mark s is role = absurd cc
 is_sweeper Sweep s is role = role
 
-pub swept : (duty : Duty) (config : HeapSettings) (s s' : Chair) (end : SweepEnd) → duty ≡ Sweep → IsSweepWork config s s' turn_limit end → Tends duty config s s'
-swept Mark config s s' end is w = absurd cc
-swept Sweep config s s' end is w = ((s', end) ∷ [], (w, refl))
+pub sweeps : (duty : Duty) (config : HeapSettings) (s s' : Chair) (seen seen' : List Call) (b : Bool) (end : SweepEnd) → duty ≡ Sweep → b ≡ false → IsSeen config seen (λ w. b ≡ rests_in duty w) seen' → IsSweepWork config s s' turn_limit end → TakesTurn duty config s seen s' seen'
+sweeps Mark config s s' seen seen' b end is off h w = absurd cc
+sweeps Sweep config s s' seen seen' b end is off h w = inr (seen_as config Sweep seen seen' b false off h, (end, w))
 
 pub role_keeps : (duty : Duty) (config : HeapSettings) (s s' : Chair) (turns : ℕ) (end : SweepEnd) → IsSweepWork config s s' turns end → s.role ≡ role_for duty → s'.role ≡ role_for duty
 role_keeps duty config s s' turns end w is = ap (λ (c : Chair). c.role) w.seat ∙ is
+
+-- a turn is a run, or none
+pub turn_tends : (duty : Duty) (config : HeapSettings) (s s' : Chair) (seen seen' : List Call) → TakesTurn duty config s seen s' seen' → Tends duty config s s'
+turn_tends duty config s s' seen seen' (inl t) = subst (λ (x : Chair). Tends duty config s x) (sym t.1) (works_none duty config s)
+turn_tends Mark config s s' seen seen' (inr t) = ((s', t.1.0) ∷ [], (t.1.1, refl))
+turn_tends Sweep config s s' seen seen' (inr t) = ((s', t.1.0) ∷ [], (t.1.1, refl))

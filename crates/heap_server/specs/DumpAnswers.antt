@@ -1,5 +1,5 @@
 -- The answers to `dump` lines over a shared heap, as texts of states.
-use Rattle.std.specs.Prelude.{◌≡◌, ◌⊎◌, ℕ, ◌+◌, Bool, true, false, List, [], ◌∷◌, ◌++◌, length, flat_map, None}
+use Rattle.std.specs.Prelude.{◌≡◌, ◌⊎◌, ℕ, Bool, true, false, List, [], ◌∷◌, ◌++◌, length, flat_map, None}
 use mathlib.Core.List.{IsPrefix}
 use Rattle.heap_lock.specs.HeapLimits.{HeapSettings}
 use Rattle.heap_lock.specs.Piece.{Piece}
@@ -11,7 +11,7 @@ use Rattle.heap_lock.specs.Reply.TheVariants.{Pinned}
 use Rattle.dump_pump.specs.Pumps.{joined}
 use Rattle.dump_pump.specs.Sources.{part_limit}
 use Rattle.heap_lock.specs.Calls.{Call}
-use Rattle.heap_lock.specs.LockStates.{Chair}
+use Rattle.heap_lock.specs.LockStates.{AreMet, Chair}
 use Rattle.heap_lock.specs.Laws.{IsAlone, state_at}
 use Rattle.session_text.specs.Replies.{data_lines, reply_text, piece_in, pin_in}
 use Rattle.session_text.specs.Dumps.{Acts, DumpsPin, DumpsNow, total_line}
@@ -54,10 +54,11 @@ pub record IsDumpAnswer (config : HeapSettings) (pin time : ℕ) (seen : List Ca
 abbrev pub IsUnopened : List ℕ → Type 0
 IsUnopened text = (r : Reply) × (pin_in r ≡ None) × (text ≡ reply_text r)
 
--- a pin was opened after all that the witness had seen, and the answer is that of its dump
-abbrev pub IsOpenedDump : HeapSettings → ℕ → List Call → List Call → List ℕ → Type 0
-IsOpenedDump config time seen later text =
-    (pin place : ℕ) × (before after : List Call) × IsPrefix seen before
+-- a pin was opened after all that the witness had seen and the seat did, and the answer is that of its dump
+abbrev pub IsOpenedDump : HeapSettings → Chair → ℕ → List Call → List Call → List ℕ → Type 0
+IsOpenedDump config s time seen later text =
+    (pin place : ℕ) × (met before after : List Call) × IsPrefix seen met × AreMet config s met
+    × IsPrefix met before
     × (later ≡ before ++ (OpenPin None, Pinned pin place) ∷ after)
     × IsDumpAnswer config pin time later text
 
@@ -73,4 +74,4 @@ abbrev pub AnswersNewDump : {S : Type 0} → HeapSettings → (S → Chair) → 
     → List ℕ → S → Type 0
 AnswersNewDump config seat seen time c text d =
     DumpsNow (ActsJoined config seat seen) time part_limit c text d
-    → IsUnopened text ⊎ IsOpenedDump config time (seen c) (seen d) text
+    → IsUnopened text ⊎ IsOpenedDump config (seat c) time (seen c) (seen d) text

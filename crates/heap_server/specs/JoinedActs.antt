@@ -1,5 +1,6 @@
 -- What a seat at a shared heap answers.
-use Rattle.std.specs.Prelude.{◌≡◌, ◌⊎◌, ℕ, List, Result, Ok, Err, ⊤}
+use Rattle.std.specs.Prelude.{◌≡◌, ◌⊎◌, ℕ, List, Option, Result, Ok, Err, ⊤}
+use mathlib.Core.List.{IsPrefix}
 use Rattle.heap_lock.specs.IdSize.{IdSize}
 use Rattle.heap_lock.specs.Refusal.{Refusal}
 use Rattle.heap_lock.specs.HeapLimits.{HeapSettings}
@@ -9,7 +10,7 @@ use Rattle.heap_lock.specs.Reply.{Reply}
 use Rattle.heap_lock.specs.Reply.TheVariants.{Answered, Place, Pinned, Part, Closed, Refused}
 use Rattle.heap_lock.specs.TrailLaws.{IsPieceOfLegal}
 use Rattle.heap_lock.specs.Receipt.{Receipt}
-use Rattle.heap_lock.specs.LockStates.{Chair, IsReceived, IsNoEntry, Stands}
+use Rattle.heap_lock.specs.LockStates.{AreMet, Chair, IsReceived, IsNoEntry, Stands}
 use Rattle.heap_lock.specs.Calls.{Call, Witnesses}
 use Rattle.heap_lock.specs.History.{reply_of}
 
@@ -35,12 +36,18 @@ IsLegalPart ids time (Pinned pin at) = ⊤
 IsLegalPart ids time Closed = ⊤
 IsLegalPart ids time (Refused e) = ⊤
 
+-- a pin was opened, or not, after calls whose history has of the seat just its share; so on a state with all that the seat did
+abbrev pub OpensMet : HeapSettings → Chair → List Call → Option ℕ → Reply → List Call → Type 0
+OpensMet config s seen at r seen' =
+    (met : List Call) × IsPrefix seen met × AreMet config s met
+    × Witnesses config met (OpenPin at) r seen'
+
 -- the seat before and what its witness had seen, the action, its reply, and the seat and what the witness has seen then
 abbrev pub IsJoined : HeapSettings → Chair → List Call → Action → Reply → Chair → List Call → Type 0
 IsJoined config s seen (Step event) r s' seen' = IsActed config s (Step event) r s' × (seen' ≡ seen)
 IsJoined config s seen (Rewind n) r s' seen' = IsActed config s (Rewind n) r s' × (seen' ≡ seen)
 IsJoined config s seen (OpenPin at) r s' seen' =
-    (s' ≡ s) × Witnesses config seen (OpenPin at) r seen'
+    (s' ≡ s) × OpensMet config s seen at r seen'
 IsJoined config s seen (NextPiece pin time) r s' seen' =
     (s' ≡ s) × Witnesses config seen (NextPiece pin time) r seen' × IsLegalPart config.ids time r
 IsJoined config s seen (ClosePin pin) r s' seen' =

@@ -1,37 +1,43 @@
 -- What a seat at a shared heap answers a question, and `collect`.
 use Rattle.std.specs.Prelude.{◌≡◌, ℕ, ◌++◌, Bool, true, false, List, Result}
+use mathlib.Core.List.{IsPrefix}
 use Rattle.heap_lock.specs.Refusal.{Refusal}
 use Rattle.heap_lock.specs.HeapLimits.{HeapSettings}
+use Rattle.heap_lock.specs.Calls.{Call}
 use Rattle.heap_lock.specs.Machine.{Machine}
 use Rattle.heap_lock.specs.Entry.{Entry}
 use Rattle.heap_lock.specs.declared.role.Role.TheVariants.{User}
-use Rattle.heap_lock.specs.History.{opening, IsLegalHistory, history_trail}
-use Rattle.heap_lock.specs.LockStates.{Chair, IsNoEntry}
+use Rattle.heap_lock.specs.LockStates.{Chair, IsKnown, IsNoEntry}
 use Rattle.question_text.specs.Answers.{IsAnswerOfLine}
 use Rattle.question_text.specs.declared.cycle.CycleCounts.{CycleCounts}
 use Rattle.question_text.specs.Collections.{IsCycleAnswer, RunsCycle}
 
--- a machine of a heap with these settings, after some legal history of its seats
-abbrev pub IsMachineOf : HeapSettings → Machine → Type 0
-IsMachineOf config m =
-    (m.ids ≡ config.ids)
-    × ((history : List Entry) × IsLegalHistory config.keep (opening config) history
-    × (m.trail ≡ history_trail config.keep (opening config) history))
+-- the answer of a question about the heap's machine, when all calls were those that the witness has seen then, and their history
+-- has of the seat just its share
+abbrev pub IsAnswerOfHeap : HeapSettings → Chair → List Call → List ℕ → List ℕ → List Call → Type 0
+IsAnswerOfHeap config s seen l text seen' =
+    (m : Machine) × IsKnown config m s seen' × IsPrefix seen seen' × IsAnswerOfLine l m text
 
--- the answer of a question, about such a machine
-abbrev pub IsAnswerOfHeap : HeapSettings → List ℕ → List ℕ → Type 0
-IsAnswerOfHeap config l text = (m : Machine) × IsMachineOf config m × IsAnswerOfLine l m text
-
--- a cycle that ended so led from one such machine to another; or its steps up to one that was refused, perhaps without an entry
-abbrev pub RunsCycleOfHeap : HeapSettings → Result CycleCounts Refusal → Type 0
-RunsCycleOfHeap config cycle =
-    (m : Machine) × (n : Machine) × IsMachineOf config m × IsMachineOf config n
-    × RunsCycle IsNoEntry m cycle n
+-- a cycle that ended so led the heap's machine from where it was after the calls `before` to where it is after those that the
+-- witness has seen then, each time with a history that has of the seat just its share; or its steps up to one that was refused,
+-- perhaps without an entry
+pub record RunsCycleOfHeap (config : HeapSettings) (s : Chair) (seen : List Call)
+    (cycle : Result CycleCounts Refusal) (s' : Chair) (seen' : List Call) : Type 0 where
+  pub before : List Call
+  pub first : Machine
+  pub last : Machine
+  pub begins : IsPrefix seen before
+  pub from : IsKnown config first s before
+  pub goes_on : IsPrefix before seen'
+  pub to : IsKnown config last s' seen'
+  pub runs : RunsCycle IsNoEntry first cycle last
 
 -- the answer of `collect`, about such a cycle
-abbrev pub IsCollectionOfHeap : HeapSettings → List ℕ → Type 0
-IsCollectionOfHeap config text =
-    (cycle : Result CycleCounts Refusal) × RunsCycleOfHeap config cycle × IsCycleAnswer cycle text
+abbrev pub IsCollectionOfHeap : HeapSettings → Chair → List Call → List ℕ → Chair → List Call
+    → Type 0
+IsCollectionOfHeap config s seen text s' seen' =
+    (cycle : Result CycleCounts Refusal) × RunsCycleOfHeap config s seen cycle s' seen'
+    × IsCycleAnswer cycle text
 
 -- the same seat, whose share begins as before
 abbrev pub IsSeatAfter : Chair → Chair → Type 0
@@ -44,6 +50,10 @@ abbrev pub IsSeatSince : (Chair → Type 0) → Chair → Type 0
 IsSeatSince was s = (s.role ≡ User) × ((first : Chair) × was first × IsSeatAfter first s)
 
 -- the answer of a line that the grammar of sessions doesn't know: `collect` acts, and no other
-abbrev pub AnswersForSeat : HeapSettings → Bool → List ℕ → Chair → List ℕ → Chair → Type 0
-AnswersForSeat config true l s text s' = IsCollectionOfHeap config text × IsSeatAfter s s'
-AnswersForSeat config false l s text s' = IsAnswerOfHeap config l text × (s' ≡ s)
+abbrev pub AnswersForSeat : HeapSettings → Bool → List ℕ → Chair → List Call → List ℕ → Chair
+    → List Call
+    → Type 0
+AnswersForSeat config true l s seen text s' seen' =
+    IsCollectionOfHeap config s seen text s' seen' × IsSeatAfter s s'
+AnswersForSeat config false l s seen text s' seen' =
+    IsAnswerOfHeap config s seen l text seen' × (s' ≡ s)

@@ -1,6 +1,11 @@
 -- What the threads did that tend the collector of a served heap.
-use Rattle.std.specs.Prelude.{◌≡◌, ℕ, List, [], ◌∷◌, length}
+use Rattle.std.specs.Prelude.{◌≡◌, ◌⊎◌, ℕ, Bool, true, false, List, [], ◌∷◌, length, is_none}
+use Rattle.heap_lock.specs.Phase.{Phase}
+use Rattle.heap_lock.specs.Phase.TheVariants.{Idle, Marking}
 use Rattle.heap_lock.specs.HeapLimits.{HeapSettings}
+use Rattle.heap_lock.specs.State.{HeapState}
+use Rattle.heap_lock.specs.Calls.{Call}
+use Rattle.heap_lock.specs.Collector.{IsSeen, pending_in}
 use Rattle.heap_lock.specs.declared.role.Role.{Role}
 use Rattle.heap_lock.specs.declared.role.Role.TheVariants.{Marker, Sweeper}
 use Rattle.heap_lock.specs.declared.stub.Stub.{Stub}
@@ -51,6 +56,27 @@ role_for Sweep = Sweeper
 abbrev pub Tends : Duty → HeapSettings → Chair → Chair → Type 0
 Tends Mark config s s' = MarkRuns config s s'
 Tends Sweep config s s' = SweepRuns config s s'
+
+-- no cycle runs
+abbrev pub is_idle_phase : Phase → Bool
+is_idle_phase Idle = true
+is_idle_phase Marking = false
+
+-- a heap in this state has no work of this kind
+abbrev pub rests_in : Duty → HeapState → Bool
+rests_in Mark w = is_idle_phase w.phase
+rests_in Sweep w = is_none (pending_in w)
+
+-- one run of this work's worker
+abbrev pub WorksOnce : Duty → HeapSettings → Chair → Chair → Type 0
+WorksOnce Mark config s s' = (end : MarkEnd) × MarksOnce config s s' end
+WorksOnce Sweep config s s' = (end : SweepEnd) × SweepsOnce config s s' end
+
+-- the heap was seen to have no work of this kind, and nothing was done; or to have some, and the worker ran
+abbrev pub TakesTurn : Duty → HeapSettings → Chair → List Call → Chair → List Call → Type 0
+TakesTurn duty config s seen s' seen' =
+    (IsSeen config seen (λ w. rests_in duty w ≡ true) seen' × (s' ≡ s))
+    ⊎ (IsSeen config seen (λ w. rests_in duty w ≡ false) seen' × WorksOnce duty config s s')
 
 -- the marker's seat, the sweeper's, and those of `most` users
 abbrev pub AreStaff : ℕ → List Chair → Type 0

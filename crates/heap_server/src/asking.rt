@@ -17,7 +17,6 @@ pub struct AskingSeat<'a, L: Heap, R: Wait> {
 }
 
 impl<'a, L: Heap, R: Wait> Commands for AskingSeat<'a, L, R> {
-    ghost use Rattle.std.specs.Prelude.{◌≡◌};
     ghost use Rattle.question_text.specs.Collections.{is_collect};
     ghost use Rattle.heap_server.specs.JoinedActs.{IsJoined};
     ghost use Rattle.heap_server.specs.JoinedAnswers.{AnswersForSeat};
@@ -25,8 +24,8 @@ impl<'a, L: Heap, R: Wait> Commands for AskingSeat<'a, L, R> {
     ghost acts = { λ c a r d. IsJoined L.config c.joined.seat c.joined.witness a r d.joined.seat
         d.joined.witness };
 
-    ghost unknown = { λ l c text d. AnswersForSeat L.config (is_collect l) l c.joined.seat text
-        d.joined.seat × (d.joined.witness ≡ c.joined.witness) };
+    ghost unknown = { λ l c text d. AnswersForSeat L.config (is_collect l) l c.joined.seat
+        c.joined.witness text d.joined.seat d.joined.witness };
 
     fn act(&mut self, action: Action) -> Reply {
         self.joined.act(action)

@@ -4,7 +4,7 @@ ghost use Rattle.session_text.specs.Replies.{line_answer_text};
 ghost use Rattle.heap_lock.specs.declared.role.Role.TheVariants.{User};
 ghost use Rattle.heap_server.specs.JoinedAnswers.{IsCollectionOfHeap, IsSeatAfter, IsSeatSince, RunsCycleOfHeap};
 
-use heap_lock::{Answer, Event, Heap, Kept, Machine, Outcome, Refusal, Seat};
+use heap_lock::{Answer, Event, Heap, Kept, Machine, Outcome, Refusal, Seat, Witness};
 use question_text::{CycleCounts, Steps, collect_answer, run_cycle};
 use session_text::LineAnswer;
 use std::alloc::Global;
@@ -54,24 +54,24 @@ impl<'a, L: Heap, B: SeatOrigin<Seat<L>>> Steps for HeldHeap<'a, L, B> {
     }
 }
 
-// Runs a cycle for one who holds the lock.
+// Runs a cycle for one who holds the lock. The witness sees the calls before it, and then those of its steps.
 fn cycle_from<L: Heap, B: SeatOrigin<Seat<L>>>(
     kept: &mut Kept<L>,
     seat: &mut Seat<L>,
+    witness: &mut Witness<L>,
 ) -> Result<CycleCounts, Refusal>
     requires user { seat.old.role ≡ User }
     requires was { B.was seat.old }
-    ensures runs { RunsCycleOfHeap L.config result }
+    ensures runs { RunsCycleOfHeap L.config seat.old witness.old result seat.new witness.new }
     ensures since { IsSeatSince B.was seat.new }
 {
-    // Its contract says that the machine is what a legal history leaves.
-    kept.chronicle();
+    kept.meet(seat, witness);
     let mut held: HeldHeap<'_, L, B> = HeldHeap {
         kept,
         of: PhantomData,
     };
     let cycle = run_cycle(&mut held, seat);
-    held.kept.chronicle();
+    held.kept.meet(seat, witness);
     cycle
 }
 
@@ -80,11 +80,13 @@ pub(crate) fn collect_held<L: Heap>(
     alloc: Global,
     kept: &mut Kept<L>,
     seat: &mut Seat<L>,
+    witness: &mut Witness<L>,
 ) -> LineAnswer
     requires { seat.old.role ≡ User }
-    ensures collects { IsCollectionOfHeap L.config (line_answer_text result) }
+    ensures collects { IsCollectionOfHeap L.config seat.old witness.old (line_answer_text result)
+        seat.new witness.new }
     ensures seat { IsSeatAfter seat.old seat.new }
 {
-    let cycle = cycle_from::<L, Brand>(kept, seat);
+    let cycle = cycle_from::<L, Brand>(kept, seat, witness);
     collect_answer(alloc, cycle)
 }

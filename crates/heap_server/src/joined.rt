@@ -1,12 +1,12 @@
 //! A user's seat at a shared heap, which acts on the lines of a session.
 ghost use Rattle.std.specs.Prelude.{◌≡◌};
-ghost use Rattle.heap_lock.specs.Action.TheVariants.{OpenPin, NextPiece, ClosePin};
+ghost use Rattle.heap_lock.specs.Action.TheVariants.{NextPiece, ClosePin};
 ghost use Rattle.heap_lock.specs.Machine.{IsSmall};
 ghost use Rattle.heap_lock.specs.declared.role.Role.TheVariants.{User};
 ghost use Rattle.heap_lock.specs.Calls.{Witnesses};
 ghost use Rattle.heap_lock.specs.History.{reply_of};
 ghost use Rattle.session_text.specs.Replies.{line_answer_text};
-ghost use Rattle.heap_server.specs.JoinedActs.{IsReply, IsLegalPart};
+ghost use Rattle.heap_server.specs.JoinedActs.{IsReply, IsLegalPart, OpensMet};
 ghost use Rattle.heap_server.specs.JoinedAnswers.{IsAnswerOfHeap, IsCollectionOfHeap, IsSeatAfter};
 
 use crate::held_heap::collect_held;
@@ -17,7 +17,8 @@ use std::alloc::Global;
 use std::sync::Wait;
 
 /// A user's seat, with its heap. What others do on the heap goes on between any two actions. Contracts see the seat, whose
-/// share has what this session did, in order, and the witness, which has seen the calls up to this session's last dump call.
+/// share has what this session did, in order, and the witness, which has seen the calls up to this session's last dump call or
+/// question.
 #[derive(Drop)]
 pub struct Joined<'a, L: Heap, R: Wait> {
     shared: &'a Shared<L>,
@@ -68,12 +69,13 @@ impl<'a, L: Heap, R: Wait> Joined<'a, L, R> {
         }
     }
 
-    // Opens a pin, and leaves the seat.
+    // Opens a pin on a state with all that the seat did, and leaves the seat.
     fn reply_to_open(&mut self, at: Option<u64>) -> Reply
-        ensures done { Witnesses L.config self.old.witness (OpenPin at) result self.new.witness }
+        ensures done { OpensMet L.config self.old.seat self.old.witness at result self.new.witness }
         ensures seat { self.new.seat ≡ self.old.seat }
         ensures small { IsSmall result }
     {
+        self.shared.meet(self.rt, &mut self.seat, &mut self.witness);
         match self.shared.open_pin(self.rt, &mut self.witness, at) {
             Ok(pinned) => Reply::Pinned {
                 pin: pinned.pin,
@@ -113,23 +115,24 @@ impl<'a, L: Heap, R: Wait> Joined<'a, L, R> {
     }
 
     // Answers a question about the heap, at one moment under the lock.
-    pub(crate) fn answer(&self, alloc: Global, line: &[u8]) -> LineAnswer
-        ensures { IsAnswerOfHeap L.config line.now (line_answer_text result) }
+    pub(crate) fn answer(&mut self, alloc: Global, line: &[u8]) -> LineAnswer
+        ensures answer { IsAnswerOfHeap L.config self.old.seat self.old.witness line.now
+            (line_answer_text result) self.new.witness }
+        ensures seat { self.new.seat ≡ self.old.seat }
     {
-        let kept = self.shared.lock(self.rt);
-        // Its contract says that the machine is what a legal history leaves.
-        kept.chronicle();
+        let mut kept = self.shared.lock(self.rt);
+        kept.meet(&mut self.seat, &mut self.witness);
         answer_line(alloc, kept.machine(), line)
     }
 
     // Takes the steps of `collect` under the lock, each an act of this seat, and returns its answer.
     pub(crate) fn collect(&mut self, alloc: Global) -> LineAnswer
-        ensures collects { IsCollectionOfHeap L.config (line_answer_text result) }
+        ensures collects { IsCollectionOfHeap L.config self.old.seat self.old.witness
+            (line_answer_text result) self.new.seat self.new.witness }
         ensures seat { IsSeatAfter self.old.seat self.new.seat }
-        ensures witness { self.new.witness ≡ self.old.witness }
     {
         let mut kept = self.shared.lock(self.rt);
-        collect_held(alloc, &mut *kept, &mut self.seat)
+        collect_held(alloc, &mut *kept, &mut self.seat, &mut self.witness)
     }
 }
 

@@ -1,8 +1,9 @@
 //! Threads that tend the collector of a shared heap.
 ghost use Rattle.std.specs.Prelude.{◌≡◌};
-ghost use Rattle.heap_server.specs.Tending.{Tends, role_for};
+ghost use Rattle.heap_lock.specs.Collector.{IsSeen};
+ghost use Rattle.heap_server.specs.Tending.{TakesTurn, Tends, rests_in, role_for};
 
-use heap_lock::{Heap, Phase, Seat, Shared};
+use heap_lock::{Heap, Phase, Seat, Shared, Witness};
 use heap_work::{Gate, MarkEnd, SweepEnd, mark_worker, sweep_worker};
 use std::sync::Wait;
 use std::sync::atomic::{AtomicBool, Ordering};
@@ -54,11 +55,12 @@ pub fn tend<L: Heap, R: Clock + Wait>(
     ensures { Tends duty L.config seat result }
 {
     let mut seat = seat;
+    let mut witness = shared.witness(rt);
     for _ in rt.forever() {
         if stop.load(Ordering::SeqCst) {
             return seat;
         }
-        if !works_on(rt, shared, &mut seat, duty, stop) {
+        if !works_on(rt, shared, &mut seat, &mut witness, duty, stop) {
             return seat;
         }
     }
@@ -66,27 +68,35 @@ pub fn tend<L: Heap, R: Clock + Wait>(
 }
 
 // Tells whether there is nothing to do: no cycle runs, or no region waits to be swept.
-fn is_idle<L: Heap, R: Wait>(rt: &R, shared: &Shared<L>, duty: Duty) -> bool {
+fn is_idle<L: Heap, R: Wait>(
+    rt: &R,
+    shared: &Shared<L>,
+    witness: &mut Witness<L>,
+    duty: Duty,
+) -> bool
+    ensures { IsSeen L.config witness.old (λ w. result ≡ rests_in duty w) witness.new }
+{
     match duty {
-        Duty::Mark => matches!(shared.phase(rt), Phase::Idle),
-        Duty::Sweep => shared.pending(rt).is_none(),
+        Duty::Mark => matches!(shared.phase(rt, witness), Phase::Idle),
+        Duty::Sweep => shared.pending(rt, witness).is_none(),
     }
 }
 
 // Runs the worker, or sleeps if there is nothing to do or a region has to be swept before a cycle. Returns whether to go on.
-#[tactic(auto, using(crate::proofs::WorkerRuns::works_none, crate::proofs::WorkerRuns::is_marker, crate::proofs::WorkerRuns::marked, crate::proofs::WorkerRuns::role_stays, crate::proofs::WorkerRuns::is_sweeper, crate::proofs::WorkerRuns::swept, crate::proofs::WorkerRuns::role_keeps))]
+#[tactic(auto, using(crate::proofs::WorkerRuns::rests, crate::proofs::WorkerRuns::is_marker, crate::proofs::WorkerRuns::role_stays, crate::proofs::WorkerRuns::is_sweeper, crate::proofs::WorkerRuns::role_keeps))]
 fn works_on<L: Heap, R: Clock + Wait>(
     rt: &R,
     shared: &Shared<L>,
     seat: &mut Seat<L>,
+    witness: &mut Witness<L>,
     duty: Duty,
     stop: &AtomicBool,
 ) -> bool
     requires { seat.old.role ≡ role_for duty }
-    ensures works { Tends duty L.config seat.old seat.new }
+    ensures works { TakesTurn duty L.config seat.old witness.old seat.new witness.new }
     ensures role { seat.new.role ≡ role_for duty }
 {
-    if is_idle(rt, shared, duty) {
+    if is_idle(rt, shared, witness, duty) {
         pause(rt);
         return true;
     }

@@ -1,5 +1,5 @@
 -- A worker on its way, and how it ends.
-use Rattle.std.proofs.Common.{◌≡◌, ◌⊎◌, ℕ, ◌+◌, ◌<◌, ◌≤◌, List, [], ◌∷◌, ◌++◌, length, Option, Some, None, refl, sym, ap, ◌∙◌, subst, append-nil, append_assoc, length-append, arith}
+use Rattle.std.proofs.Common.{◌≡◌, ◌⊎◌, ℕ, ◌+◌, ◌<◌, ◌≤◌, Bool, false, List, [], ◌∷◌, ◌++◌, length, Option, Some, None, refl, sym, ap, ◌∙◌, subst, append-nil, append_assoc, length-append, arith}
 use Rattle.std.proofs.lemmas.Option.{none-some}
 use Rattle.std.specs.Prelude.{unwrap_or}
 use Rattle.heap_lock.specs.Refusal.{Refusal}
@@ -18,7 +18,7 @@ use Rattle.heap_work.specs.declared.MarkEnd.TheVariants.{Finished, NotMarking, P
 use Rattle.heap_work.specs.declared.Stage.{Stage}
 use Rattle.heap_work.specs.declared.Stage.TheVariants.{Snap}
 use Rattle.heap_work.specs.declared.SweepEnd.{SweepEnd}
-use Rattle.heap_work.specs.Rule.{IsSweepWork, event_of, stage_after, mark_end_by, mark_end_of, with_more, GoesOn, EndsMarking, IsMarkWork, AreSweeps}
+use Rattle.heap_work.specs.Rule.{IsSweepWork, event_of, stage_after, mark_end_by, mark_end_of, with_more, GoesOn, EndsMarking, IsMarkWork, AreSweeps, WasStopped, MarkStops}
 
 -- after i acts of a mark worker, none an end
 pub record IsMarking (s s' : Chair) (stage : Stage) (i : ℕ) : Type 0 where
@@ -153,3 +153,18 @@ sweeping_refused config s s' s'' turns i e h lt same why = record { gained = h.g
 
 pub sweeping_stopped : (config : HeapSettings) (s s' : Chair) (turns i : ℕ) → IsSweeping s s' turns i → i < turns → i < config.regions → IsSweepWork config s s' turns SweepEnd.Stopped
 sweeping_stopped config s s' turns i h lt left = record { gained = h.gained; sweeps = h.sweeps; seat = h.seat; ends = (omega (arith, h.count, lt), omega (arith, h.count, left)) }
+
+-- ---- the gate
+
+-- an end that a receipt stands for is no stop
+pub never_stops : {G : Type 0} (says : G → ℕ → Bool → G → Type 0) (s s' : Chair) (after : G) (r : Receipt) (end : MarkEnd) → mark_end_of r ≡ Some end → MarkStops says s s' after end
+never_stops says s s' after r end is = end_shape r.answer r end (λ z. MarkStops says s s' after z) is tt tt tt
+
+-- a gate that lets no act begin, after so many
+pub marking_halts : {G : Type 0} (says : G → ℕ → Bool → G → Type 0) (s s' : Chair) (stage : Stage) (i : ℕ) (before after : G) → IsMarking s s' stage i → says before (i + 1) false after → WasStopped says s s' after
+marking_halts says s s' stage i before after h said =
+    (before, i, ap (λ (c : Chair). length c.share) h.seat ∙ length-append s.share h.gained ∙ ap (λ n. length s.share + n) h.count, said)
+
+pub sweeping_halts : {G : Type 0} (says : G → ℕ → Bool → G → Type 0) (s s' : Chair) (turns i : ℕ) (before after : G) → IsSweeping s s' turns i → says before (i + 1) false after → WasStopped says s s' after
+sweeping_halts says s s' turns i before after h said =
+    (before, i, ap (λ (c : Chair). length c.share) h.seat ∙ length-append s.share h.gained ∙ ap (λ n. length s.share + n) h.count, said)

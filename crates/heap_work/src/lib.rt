@@ -3,15 +3,22 @@
 
 ghost use Rattle.std.specs.Prelude.{◌≡◌};
 ghost use Rattle.heap_lock.specs.declared.role.Role.TheVariants.{Marker, Sweeper};
-ghost use Rattle.heap_work.specs.Rule.{mark_end_of, event_of, stage_after, IsMarkWork, IsSweepWork};
+ghost use Rattle.heap_work.specs.Rule.{mark_end_of, event_of, stage_after, IsMarkWork, IsSweepWork, MarkStops, SweepStops};
 
 use heap_lock::{Answer, Event, Heap, Outcome, Receipt, Refusal, Seat, Shared};
 use std::sync::Wait;
 
-/// What a worker passes before each act, without the lock.
+/// What a worker passes before each act, without the lock. Contracts see what it may say.
 pub trait Gate {
+    ghost use Rattle.std.specs.Prelude.{ℕ, Bool};
+
+    // The gate before a pass, the number of the act, what it says then, and the gate after. A gate may say anything if it states
+    // nothing else.
+    ghost says: { Self → ℕ → Bool → Self → Type 0 } = { λ before turn word after. Unit {0} };
+
     /// Returns once the act of this number, counted from 1, may begin, or the worker is to end. Tells whether the act may begin.
-    fn pass(&mut self, turn: u64) -> bool;
+    fn pass(&mut self, turn: u64) -> bool
+        ensures { Self.says self.old turn result self.new };
 }
 
 /// A gate that is always open.
@@ -19,6 +26,10 @@ pub trait Gate {
 pub struct Open;
 
 impl Gate for Open {
+    ghost use Rattle.std.specs.Prelude.{◌≡◌, true};
+
+    ghost says = { λ before turn word after. word ≡ true };
+
     fn pass(&mut self, turn: u64) -> bool {
         let _ = turn;
         true
@@ -115,7 +126,8 @@ pub fn mark_worker<L: Heap, R: Wait, G: Gate>(
     turns: u64,
 ) -> MarkEnd
     requires { seat.old.role ≡ Marker }
-    ensures { IsMarkWork L.config seat.old seat.new turns result }
+    ensures work { IsMarkWork L.config seat.old seat.new turns result }
+    ensures stops { MarkStops G.says seat.old seat.new gate.new result }
 {
     let mut stage = Stage::Snap;
     for turn in 0..turns {
@@ -146,7 +158,8 @@ pub fn sweep_worker<L: Heap, R: Wait, G: Gate>(
     turns: u64,
 ) -> SweepEnd
     requires { seat.old.role ≡ Sweeper }
-    ensures { IsSweepWork L.config seat.old seat.new turns result }
+    ensures work { IsSweepWork L.config seat.old seat.new turns result }
+    ensures stops { SweepStops G.says seat.old seat.new gate.new result }
 {
     let regions = shared.config().regions();
     for region in 0..regions {

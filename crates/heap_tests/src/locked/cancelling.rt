@@ -7,7 +7,7 @@ use super::shared::pump_into;
 use super::sinks::{Flags, Sink};
 use super::sources::AskingSource;
 use dump_pipe::{AskSeat, Watched};
-use heap_lock::{Heap, LockedSource, Shared};
+use heap_lock::{Dumper, Heap, LockedSource, Shared};
 use live_dump::StreamSeats;
 use std::sync::Wait;
 use std::test::*;
@@ -32,7 +32,7 @@ pub fn pumped_asking<L: Heap, R: Wait>(
     } = seats;
     let mut source = Watched {
         source: AskingSource {
-            source: LockedSource::new(shared, rt, shared.witness(rt), pin, 0),
+            source: LockedSource::new(Dumper::new(shared, rt, shared.witness(rt)), pin, 0),
             cancel: meter.cancel(),
             seat: asker,
             turn,

@@ -7,7 +7,7 @@ use super::shared::{acts, pump_into, put_x};
 use super::sinks::{Flags, Sink, TURNS, reaches};
 use dump_pipe::{AskSeat, Meter, Progress, ReadSeat};
 use dump_pump::WriteOutlet;
-use heap_lock::{Heap, LockedSource, Seat, Shared};
+use heap_lock::{Dumper, Heap, LockedSource, Seat, Shared};
 use live_dump::{LivePin, StreamSeats, stream};
 use std::alloc::Global;
 use std::sync::Wait;
@@ -80,8 +80,7 @@ fn stream_into<L: Heap + Send + Sync, R: Threads + Wait + Sync>(
     requires { seats.out.known ≡ 0 }
 {
     let live = LivePin {
-        shared,
-        witness: shared.witness(rt),
+        dumper: Dumper::new(shared, rt, shared.witness(rt)),
         pin,
         time: 0,
     };
@@ -133,7 +132,7 @@ fn held_into<L: Heap + Send + Sync, R: Threads + Wait + Sync>(
     if streams {
         return stream_into(rt, alloc, shared, pin, seats, sink);
     }
-    let mut source = LockedSource::new(shared, rt, shared.witness(rt), pin, 0);
+    let mut source = LockedSource::new(Dumper::new(shared, rt, shared.witness(rt)), pin, 0);
     pump_into(&mut source, sink)
 }
 

@@ -1,27 +1,33 @@
-use Rattle.std.proofs.Common.{◌≡◌, rules, ◌∙◌, All, ap, length, count_by, subst}
+use Rattle.std.proofs.Common.{rules, arith, ◌≡◌, ◌≢◌, ◌<◌, ◌∙◌, List, length, get_or, set, ap}
+use Rattle.std.proofs.lemmas.List.{set-get_or}
 use Rattle.heap_lock.specs.Verdict.TheVariants.{Holds}
-use Rattle.std.proofs.lemmas.List.{take_all}
-use Rattle.heap.specs.Actors.{IsAudited}
-use Rattle.heap.specs.Totals.{claim_count, finished_count, is_finishing, is_making, made_count}
-use Rattle.heap.proofs.CappedSums.{capped_more, all_more}
+use Rattle.heap.specs.Actors.{ActorState}
+use Rattle.heap.proofs.ActorAudits.{dropped, hold_next, stops}
 use Rattle.heap.proofs.totals.audit_all.Goals as goal
 
-pub loop-actor-preserved : goal.loop-actor-preserved
-loop-actor-preserved g c =
+pub returns-then-ne-clause-refused : goal.returns-then-ne-clause-refused
+returns-then-ne-clause-refused g c =
     let xs = c.args.actors.now in
-    let i = c.loop-actor.actor-index in
-    let was = c.loop-actor.invariant in
-    let a = c.actor-item.result in
-    let below = c.loop-actor-test.true in
-    let at = c.actor-item.is in
-    let own = c.claims-own.ensures in
-    let stands : c.audit-verdict.result ≡ Holds = search rules in
-    record {
-      claims = capped_more claim_count xs i a (length c.claims-own.result.now) c.loop-actor.claims _ below at (ap length own) was.claims c.saturating_add-claims.ensures;
-      made = capped_more made_count xs i a c.count_made.result c.loop-actor.made _ below at (c.count_made.ensures ∙ ap (count_by is_making) own) was.made c.saturating_add-made.ensures;
-      finished = capped_more finished_count xs i a c.count_finished.result c.loop-actor.finished _ below at (c.count_finished.ensures ∙ ap (count_by is_finishing) own) was.finished c.saturating_add-finished.ensures;
-      stand = all_more (λ b. IsAudited g.L.Heap.config g.L.Heap.rolls b.claims Holds) xs i a below at was.stand (subst (IsAudited g.L.Heap.config g.L.Heap.rolls a.claims) stands c.audit-verdict.ensures);
-    }
+    let i = c.loop-i.i in
+    let r = c.index-actors-i.result in
+    let a = get_or c.loop-i.actors i r in
+    let same = c.loop-i.invariant.same in
+    let below : i < length xs = omega (arith, c.loop-i-test.true, ap length same) in
+    let at : a ≡ get_or xs i a = ap (λ (l : List ActorState). get_or l i r) same ∙ ap (get_or xs i) c.index-actors-i.is in
+    let differs : c.audit-verdict.result ≢ Holds = search rules in
+    (dropped c.audit-verdict.result differs c.audit-verdict.ensures.stands, stops g.L.Heap.config g.L.Heap.rolls c.args.witness.now c.loop-i.witness c.audit-verdict.new.witness xs i a c.audit-verdict.result below at c.loop-i.invariant.hold c.audit-verdict.ensures.audited)
 
-pub returns-clause-stand : goal.returns-clause-stand
-returns-clause-stand g c = subst (All (λ a. IsAudited g.L.Heap.config g.L.Heap.rolls a.claims Holds)) (take_all c.loop-actor.actor-index c.args.actors.now c.loop-actor-test.false) c.loop-actor.invariant.stand
+pub loop-i-preserved : goal.loop-i-preserved
+loop-i-preserved g c =
+    let xs = c.args.actors.now in
+    let i = c.loop-i.i in
+    let r = c.index-actors-i.result in
+    let a = get_or c.loop-i.actors i r in
+    let same = c.loop-i.invariant.same in
+    let below : i < length xs = omega (arith, c.loop-i-test.true, ap length same) in
+    let at : a ≡ get_or xs i a = ap (λ (l : List ActorState). get_or l i r) same ∙ ap (get_or xs i) c.index-actors-i.is in
+    let holds : c.audit-verdict.result ≡ Holds = search rules in
+    record {
+      same = ap (set c.loop-i.actors i) c.audit-verdict.ensures.same ∙ set-get_or c.loop-i.actors i r ∙ same;
+      hold = hold_next g.L.Heap.config g.L.Heap.rolls c.args.witness.now c.loop-i.witness c.audit-verdict.new.witness xs i a c.audit-verdict.result below at c.loop-i.invariant.hold holds c.audit-verdict.ensures.audited;
+    }

@@ -1,13 +1,9 @@
-use Rattle.std.proofs.Common.{◌≡◌, take, All}
-use Rattle.heap_lock.specs.Verdict.TheVariants.{Holds}
-use Rattle.heap.specs.Actors.{IsAudited}
-use Rattle.heap.specs.Totals.{capped_sum, claim_count, finished_count, made_count}
+use Rattle.std.proofs.Common.{◌≡◌, take}
+use Rattle.heap.specs.Actors.{AllHold}
 use Rattle.heap.proofs.totals.audit_all.Given as goal
 
-abbrev pub invariant-loop-actor : goal.invariant-loop-actor
-invariant-loop-actor g l = record {
-  claims : l.claims ≡ capped_sum claim_count (take l.actor-index l.actors);
-  made : l.made ≡ capped_sum made_count (take l.actor-index l.actors);
-  finished : l.finished ≡ capped_sum finished_count (take l.actor-index l.actors);
-  stand : All (λ a. IsAudited g.L.Heap.config g.L.Heap.rolls a.claims Holds) (take l.actor-index l.actors);
+abbrev pub invariant-loop-i : goal.invariant-loop-i
+invariant-loop-i g l = record {
+  same : l.actors ≡ l.initial.actors;
+  hold : AllHold g.L.Heap.config g.L.Heap.rolls l.initial.witness (take l.i l.initial.actors) l.witness;
 }

@@ -1,7 +1,7 @@
 use Rattle.std.proofs.Common.{subst}
-use Rattle.heap_lock.specs.Calls.{IsLegalLedger}
+use Rattle.heap_lock.specs.Calls.{IsHeapLedger, IsLegalLedger}
 use Rattle.heap_lock.specs.LockStates.{LockState}
-use Rattle.heap_lock.proofs.DumperCalls.{legal_of, sighted}
+use Rattle.heap_lock.proofs.DumperCalls.{heap_of, legal_of, sighted}
 use Rattle.heap_lock.proofs.heap.Kept.show.Goals as goal
 
 pub invariant_of-witness : goal.invariant_of-witness
@@ -9,3 +9,6 @@ invariant_of-witness g c = sighted _ _ _ _ _ _ c.self.inside.ledger c.show.resul
 
 pub returns-clause-legal : goal.returns-clause-legal
 returns-clause-legal g c = subst (λ (h : LockState). IsLegalLedger g.L.Heap.config h.ledger) c.self.view_is (legal_of _ _ _ _ _ _ c.self.inside.ledger c.self.invariant.0 c.self.invariant.1)
+
+pub returns-clause-heap : goal.returns-clause-heap
+returns-clause-heap g c = subst (λ (h : LockState). IsHeapLedger g.L.Heap.config h.machine h.chronicle h.ledger) c.self.view_is (heap_of _ _ _ _ _ _ c.self.inside.ledger c.self.invariant.0 c.self.invariant.1)

@@ -115,7 +115,7 @@ def dumped(pieces):
 
 
 def zeros(region, code, width, length):
-    """Returns the sub-record of an array of so many zeros, which is the first object of a region."""
+    """Returns the sub-record of an array of `length` zeros, which is the first object of a region."""
     word = number(8, 0x10000000 + 0x2000 * region)
     return b"\x23" + word + number(4, 1) + number(4, length) + number(1, code) + bytes(width * length)
 
@@ -141,7 +141,7 @@ def of_arrays(name, kind, code, width, lengths, bodies, total):
 
 
 def of_points(name, ids, opening, klass, values, counts, total):
-    """Returns the case of 2,000 points in one register and a dump, with so many points in each segment."""
+    """Returns the case of 2,000 points in one register and a dump, with the points of `counts` in its segments."""
     points = [0x10000000 + 0x20 * index for index in range(2000)]
     answers = "ok class 0\n" + "".join(f"ok object 0x{point:08x}\n" for point in points)
     bodies, at = [], 0

@@ -1,4 +1,4 @@
-"""Runs the built program on sessions by lot, and compares what comes with what the model answers, byte by byte.
+"""Runs the built program on sessions drawn at random, and compares what comes with what the model answers, byte by byte.
 
 Usage: checks/model PROGRAM ..      runs the programs
        checks/model show SESSION    prints the lines of a session, to be given to a program

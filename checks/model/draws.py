@@ -1,4 +1,4 @@
-"""Sessions by lot, each line drawn with an eye on the state that the model is in."""
+"""Sessions at random, each line drawn with an eye on the state that the model is in."""
 from heap import KINDS, MOST_ELEMENTS, REGISTERS
 from lots import Lots
 from session import FORMS, LONGEST_LINE, Bad, Session, command_of
@@ -23,7 +23,7 @@ BAD_LINES = [
 
 
 class Draw:
-    """A session by lot. Its lines are given one after another to the model; `lines` has each with its answer."""
+    """A session at random. Its lines are given one after another to the model; `lines` has each with its answer."""
 
     def __init__(self, seed, **settings):
         self.lots = Lots(seed)
@@ -314,7 +314,7 @@ class Draw:
     # ---- whole sessions
 
     def play(self, turns, reveals=0):
-        """Takes so many turns, and has the state revealed after one of so many of them, if any."""
+        """Takes `turns` turns, and has the state revealed after one in `reveals` of them, or after none if that is 0."""
         self.begin()
         for _ in range(turns):
             self.turn()

@@ -7,7 +7,7 @@ TRACE = 1
 
 
 def number(width, value):
-    """Returns a number of so many bytes."""
+    """Returns a number of `width` bytes."""
     return value.to_bytes(width, "big")
 
 

@@ -1,4 +1,4 @@
-"""Numbers by lot from a seed, the same on every machine."""
+"""Numbers at random from a seed, the same on every machine."""
 
 MASK = (1 << 64) - 1
 LIMITS = (0, 1, 2, 4, 7, 8, 15, 16, 63, 64, 65, 255, 256, 1023, 1024, 1025, 65535, 65536, 2**32 - 1, 2**32, 2**62, 2**63, MASK)
@@ -22,7 +22,7 @@ class Lots:
         return self.next() % limit
 
     def once_in(self, times):
-        """Returns whether something happens that does so once in so many times."""
+        """Returns whether something happens that does so once in `times` times, at random."""
         return self.below(times) == 0
 
     def pick(self, things):

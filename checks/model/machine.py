@@ -49,7 +49,7 @@ class Machine:
         return answer
 
     def rewind(self, count):
-        """Undoes so many steps, and returns the place."""
+        """Undoes `count` steps, and returns the place."""
         refuse_if(count > self.retained, 21, count, self.retained)
         self.states = self.states[: len(self.states) - count]
         self.events = self.events[: len(self.events) - count]

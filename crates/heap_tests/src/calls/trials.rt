@@ -41,15 +41,14 @@ pub fn goes_alone<R: Threads + Wait + Sync>(rt: &R, alloc: Global, trial: Trial)
 }
 
 /// Takes a step. Returns whether it was answered.
-pub fn takes(machine: &mut Machine, event: &Event) -> bool {
-    machine.step(event).is_ok()
+pub fn takes(machine: &mut Machine, event: Event) -> bool {
+    machine.step(&event).is_ok()
 }
 
 /// Defines the class of points and makes one in the first register. Returns whether both were answered.
 pub fn has_point(alloc: Global, machine: &mut Machine) -> bool {
-    let class = point(alloc);
-    match &class {
-        Ok(class) => takes(machine, class) && takes(machine, &new(0)),
+    match point(alloc) {
+        Ok(class) => takes(machine, class) && takes(machine, new(0)),
         Err(_) => false,
     }
 }

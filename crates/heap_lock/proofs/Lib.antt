@@ -10,3 +10,4 @@ pub mod NumberedPins
 pub mod CallTrails
 pub mod PinTexts
 pub mod WitnessedCalls
+pub mod SharedActs

@@ -2,6 +2,7 @@ pub mod Limits
 pub mod Tally
 pub mod TableSeats
 pub mod Calls
+pub mod Dumpers
 pub mod Sights
 pub mod Ledgers
 pub mod Desks

@@ -166,3 +166,16 @@ IsKnown config m s calls =
 -- a caller's seat and what its witness has seen are of one moment of the heap
 abbrev pub AreMet : HeapSettings → Chair → List Call → Type 0
 AreMet config s calls = (m : Machine) × IsKnown config m s calls
+
+-- what lies under the lock is what the calls so far leave: they lead to the machine, and their acts are a legal history, which
+-- leaves the machine's trail
+abbrev pub IsHeap : HeapSettings → Bool → LockState → Type 0
+IsHeap config rolls k =
+    IsHeapLedger config k.machine k.chronicle k.ledger × Folds config k × (k.rolls ≡ rolls)
+
+-- when the lock was got the heap had a history of which the seat has just its share, and then the act had this result
+abbrev pub IsSharedAct : HeapSettings → Bool → Action → Chair → Result Receipt Refusal → Chair
+    → Type 0
+IsSharedAct config rolls action s result s' =
+    (k k' : LockState) × IsHeap config rolls k × (tally s.number k.chronicle ≡ s.share)
+    × IsHeldAct config action k s result k' s'

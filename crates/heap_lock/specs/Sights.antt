@@ -41,15 +41,15 @@ IsOneLedger views =
     × ((seat : ℕ) (v : Sight) → get_elem? views seat ≡ some v → Sits own all seat v)
 
 -- the call is added to all calls
-abbrev pub IsAdded : Call → Sight → Sight → Type 0
-IsAdded call (Full xs) w = w ≡ Full (xs ++ call ∷ [])
-IsAdded call (Seen ys) w = Unit {0}
-IsAdded call (Both xs ys) w = Unit {0}
-IsAdded call Blind w = Unit {0}
+abbrev pub IsGained : Call → Sight → Sight → Type 0
+IsGained call (Full xs) w = w ≡ Full (xs ++ call ∷ [])
+IsGained call (Seen ys) w = Unit {0}
+IsGained call (Both xs ys) w = Unit {0}
+IsGained call Blind w = Unit {0}
 
 -- the view after a call is added, whose side is kept
 abbrev pub Added : Call → Me (Unit {0}) Sight → Me (Unit {0}) Sight → Type 0
-Added call m n = IsAdded call m.0 n.0 × (n.1 ≡ m.1)
+Added call m n = IsGained call m.0 n.0 × (n.1 ≡ m.1)
 
 -- what was seen begins all calls
 abbrev pub IsCompared : Sight → Sight → Type 0

@@ -1,5 +1,5 @@
 -- What a source over the lock gives.
-use Rattle.std.specs.Prelude.{◌≡◌, ℕ, ◌+◌, ◌-◌, ◌⊎◌, false, List, Option, None, ⊤}
+use Rattle.std.specs.Prelude.{◌≡◌, ℕ, ◌+◌, ◌-◌, ◌⊎◌, false, Option, None, ⊤}
 use Rattle.heap_class.specs.declared.LostCause.{LostCause}
 use Rattle.heap_class.specs.declared.LostCause.TheVariants.{Memory, Closed}
 use Rattle.heap_class.specs.declared.Refusal.{Refusal}
@@ -13,7 +13,7 @@ use Rattle.dump_pump.specs.declared.source.Ending.{Ending}
 use Rattle.dump_pump.specs.declared.source.Next.{Next}
 use Rattle.dump_pump.specs.declared.source.Next.TheVariants.{Part, Lost, Cancelled}
 use Rattle.dump_pump.specs.Sources.{Supply, part_limit}
-use Rattle.heap_lock.specs.Calls.{Call, Witnesses}
+use Rattle.heap_lock.specs.Dumpers.{DumperState, Makes}
 
 -- after `count` pieces, of which none is told
 abbrev pub locked_supply : ℕ → Option Ending → Supply
@@ -39,14 +39,14 @@ GivesPart count p (Part q) = q ≡ p
 GivesPart count p (Lost cause) = (p.last ≡ false) × (count + 1 ≡ part_limit) × (cause ≡ Closed)
 GivesPart count p Cancelled = ⊥
 
--- the heap replied to the request for the pin's next piece, the last call that was seen: a piece of the dump of a legal state, or
--- a refusal with this cause
-abbrev pub Supplies : HeapSettings → ℕ → ℕ → ℕ → List Call → List Call → Next → Type 0
-Supplies config pin time count before after next =
-    ((p : Piece) × Witnesses config before (NextPiece pin time) (Said.Part p) after
+-- the heap replied to a dumper's request for the pin's next piece: a piece of the dump of a legal state, or a refusal with this
+-- cause
+abbrev pub Supplies : HeapSettings → ℕ → ℕ → ℕ → DumperState → DumperState → Next → Type 0
+Supplies config pin time count d d' next =
+    ((p : Piece) × Makes config d (NextPiece pin time) (Said.Part p) d'
     × IsPieceOfLegal config.ids time p × GivesPart count p next)
     ⊎ ((e : Refusal) × (cause : LostCause)
-    × Witnesses config before (NextPiece pin time) (Said.Refused e) after × IsLoss e cause
+    × Makes config d (NextPiece pin time) (Said.Refused e) d' × IsLoss e cause
     × (next ≡ Lost cause))
 
 -- how many pieces were given after this one more, if it is one

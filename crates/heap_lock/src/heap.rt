@@ -8,7 +8,7 @@ ghost use Rattle.heap_chronicle.specs.History.{opening, tally, IsLegalHistory};
 ghost use Rattle.heap_lock.specs.Blanks.{chair_of};
 ghost use Rattle.heap_lock.specs.Roles.{may};
 ghost use Rattle.heap_lock.specs.Ledgers.{all_in, HasLedger};
-ghost use Rattle.heap_lock.specs.LockStates.{AllSeated, Folds, Stands, IsMoved, IsAct, IsHeldAct, IsReceived, IsRefused, IsNoEntry, IsChair, IsUnderLock, lock_state};
+ghost use Rattle.heap_lock.specs.LockStates.{AllSeated, Folds, Stands, IsMoved, IsAct, IsHeldAct, IsReceived, IsRefused, IsNoEntry, IsHeap, IsSharedAct, IsChair, IsUnderLock, lock_state};
 
 use crate::desk::Desk;
 use crate::ledger::Ledger;
@@ -195,12 +195,21 @@ impl<L: Heap> Kept<L> {
         seat.share = desk.agree(share);
     }
 
+    // Does nothing. Its contract says that what lies under the lock is what the calls so far leave.
+    fn is_heap(&self)
+        ensures { IsHeap L.config L.rolls self.now }
+    {
+        let _ = &self.machine;
+    }
+
     // Does the action, and adds its entry to chronicle, book and share, and the call to the ledger.
     fn do_held(&mut self, seat: &mut Seat<L>, action: Action) -> Result<Receipt, Refusal>
         requires { is_dump_action action ≡ false }
         ensures moves { IfOk result (λ r. IsMoved L.config action self.old r self.new) }
         ensures act { IfOk result (λ r. IsAct action self.old seat.old r self.new seat.new) }
         ensures stands { IfOk result (λ r. Stands L.config seat.new r.turn action r.answer) }
+        ensures share { IfOk result
+            (λ _. tally seat.old.number self.old.chronicle ≡ seat.old.share) }
         ensures refused { IfErr result (λ e. IsRefused self.old e) }
         ensures unchanged { OnErr result ((self.new ≡ self.old) × (seat.new ≡ seat.old)) }
     {
@@ -223,6 +232,24 @@ impl<L: Heap> Kept<L> {
             turn,
             answer,
         })
+    }
+
+    // Does the action as `do_held` does, for a caller that knows nothing yet of what lies under the lock.
+    fn do_shared(&mut self, seat: &mut Seat<L>, action: Action) -> Result<Receipt, Refusal>
+        requires { is_dump_action action ≡ false }
+        ensures act { IsSharedAct L.config L.rolls action seat.old result seat.new }
+        ensures receipt { IfOk result (λ r. IsReceived action seat.old r seat.new) }
+        ensures stands { IfOk result (λ r. Stands L.config seat.new r.turn action r.answer) }
+        ensures refused { IfErr result (λ e. (seat.new ≡ seat.old) × IsNoEntry e) }
+    {
+        self.is_heap();
+        match self.do_held(seat, action) {
+            Ok(receipt) => Ok(receipt),
+            Err(refusal) => {
+                self.agree(seat);
+                Err(refusal)
+            }
+        }
     }
 
     /// Does an event for one who holds the lock. The chronicle and the seat's share gain the entry with the answer that
@@ -275,25 +302,27 @@ impl<L: Heap> Shared<L> {
         self.kept.lock(rt)
     }
 
-    /// Does an event under the lock, and returns its receipt. The entry ends some legal history, in which the seat's
-    /// entries are just its share. Fails with ChronicleFull and NoMemory alone, and then the share is as before. Any
-    /// other refusal is the answer of the receipt. May wait.
+    /// Does an event under the lock as `Kept::act_held` does, and returns its receipt: the heap has then a history of which the
+    /// seat has just its share. Fails with ChronicleFull exactly if that history is full, and with NoMemory; then nothing has
+    /// changed. Any other refusal is the answer of the receipt. May wait.
     pub fn act<R: Wait>(&self, rt: &R, seat: &mut Seat<L>, event: Event) -> Result<Receipt, Refusal>
         requires { may seat.old.role event ≡ true }
+        ensures act { IsSharedAct L.config L.rolls (Step event) seat.old result seat.new }
         ensures receipt { IfOk result (λ r. IsReceived (Step event) seat.old r seat.new) }
         ensures stands { IfOk result (λ r. Stands L.config seat.new r.turn (Step event) r.answer) }
         ensures refused { IfErr result (λ e. (seat.new ≡ seat.old) × IsNoEntry e) }
     {
-        self.kept.lock(rt).act_held(seat, event)
+        self.kept.lock(rt).do_shared(seat, Action::Step(event))
     }
 
     /// Undoes the last `n` steps under the lock. Has its receipt and fails as `act` does. May wait.
     pub fn rewind<R: Wait>(&self, rt: &R, seat: &mut Seat<L>, n: u64) -> Result<Receipt, Refusal>
         requires { seat.old.role ≡ User }
+        ensures act { IsSharedAct L.config L.rolls (Rewind n) seat.old result seat.new }
         ensures receipt { IfOk result (λ r. IsReceived (Rewind n) seat.old r seat.new) }
         ensures stands { IfOk result (λ r. Stands L.config seat.new r.turn (Rewind n) r.answer) }
         ensures refused { IfErr result (λ e. (seat.new ≡ seat.old) × IsNoEntry e) }
     {
-        self.kept.lock(rt).rewind_held(seat, n)
+        self.kept.lock(rt).do_shared(seat, Action::Rewind(n))
     }
 }

@@ -5,6 +5,7 @@ pub mod audits;
 pub mod blank;
 pub mod collector;
 pub mod desk;
+pub mod dumper;
 pub mod dumps;
 pub mod heap;
 pub mod home_table;
@@ -19,6 +20,7 @@ pub mod witness;
 
 pub use audits::audit;
 pub use blank::{Blank, Seats};
+pub use dumper::Dumper;
 pub use heap::{Heap, Kept, Seat, Shared};
 pub use heap_chronicle::{Chronicle, Entry, Outcome, Receipt, Verdict};
 pub use heap_class::{LostCause, Refusal};

@@ -3,8 +3,8 @@ ghost use Rattle.std.specs.Prelude.{◌≡◌, ◌<◌, ◌≤◌, length, None 
 ghost use Rattle.dump_pump.specs.Sources.{IsNextPart, part_limit, part_size_limit};
 ghost use Rattle.heap_lock.specs.Sources.{IsLoss, IsPieceRefusal, GivesPart, Supplies, count_after, locked_supply};
 
-use crate::heap::{Heap, Shared};
-use crate::witness::Witness;
+use crate::dumper::Dumper;
+use crate::heap::Heap;
 use dump_pump::source::PART_LIMIT;
 use dump_pump::{Ending, Next, Source};
 use heap_class::{LostCause, Refusal};
@@ -15,10 +15,8 @@ use std::sync::Wait;
 /// returns, so others act between two pieces and while a piece is written. Its fields are public: none is a guard.
 #[derive(Drop)]
 pub struct LockedSource<'a, L: Heap, R: Wait> {
-    pub shared: &'a Shared<L>,
-    pub rt: &'a R,
-    /// Who sees the calls of the source.
-    pub witness: Witness<L>,
+    /// Who asks for the pieces.
+    pub dumper: Dumper<'a, L, R>,
     pub pin: u64,
     /// The time in the header of the dump, in milliseconds.
     pub time: u64,
@@ -43,15 +41,13 @@ fn cause_of(refusal: Refusal) -> LostCause
 
 impl<'a, L: Heap, R: Wait> LockedSource<'a, L, R> {
     /// Creates a source that has given nothing yet. Takes neither the lock nor memory.
-    pub fn new(shared: &'a Shared<L>, rt: &'a R, witness: Witness<L>, pin: u64, time: u64) -> Self
-        ensures names { (result.pin ≡ pin) × (result.time ≡ time) × (result.witness ≡ witness)
+    pub fn new(dumper: Dumper<'a, L, R>, pin: u64, time: u64) -> Self
+        ensures names { (result.pin ≡ pin) × (result.time ≡ time) × (result.dumper ≡ dumper.entry)
             × (result.count ≡ 0) }
         ensures fresh { locked_supply result.count result.ending ≡ locked_supply 0 Nothing }
     {
         LockedSource {
-            shared,
-            rt,
-            witness,
+            dumper,
             pin,
             time,
             count: 0,
@@ -65,16 +61,13 @@ impl<'a, L: Heap, R: Wait> LockedSource<'a, L, R> {
     pub fn next_part(&mut self) -> Next
         requires { self.old.count < part_limit }
         ensures supplies { Supplies L.config self.old.pin self.old.time self.old.count
-            self.old.witness self.new.witness result }
+            self.old.dumper self.new.dumper result }
         ensures next { IsNextPart (locked_supply self.old.count self.old.ending)
             (locked_supply self.new.count self.new.ending) result }
         ensures names { (self.new.pin ≡ self.old.pin) × (self.new.time ≡ self.old.time) }
         ensures count { self.new.count ≡ count_after self.old.count result }
     {
-        match self
-            .shared
-            .next_piece(self.rt, &mut self.witness, self.pin, self.time)
-        {
+        match self.dumper.next_piece(self.pin, self.time) {
             Ok(piece) => self.gives(piece),
             Err(refusal) => {
                 let cause = cause_of(refusal);
@@ -92,7 +85,7 @@ impl<'a, L: Heap, R: Wait> LockedSource<'a, L, R> {
             (locked_supply self.new.count self.new.ending) result }
         ensures given { GivesPart self.old.count piece result }
         ensures names { (self.new.pin ≡ self.old.pin) × (self.new.time ≡ self.old.time)
-            × (self.new.witness ≡ self.old.witness) }
+            × (self.new.dumper ≡ self.old.dumper) }
         ensures count { self.new.count ≡ count_after self.old.count result }
     {
         if piece.last {

@@ -1,3 +1,4 @@
+pub mod OwnAsks
 pub mod SupplySteps
 pub mod ToldStreams
 pub mod LiveTexts

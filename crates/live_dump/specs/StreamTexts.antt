@@ -7,6 +7,7 @@ use Rattle.dump_pump.specs.declared.transfer.Pumped.{Pumped}
 use Rattle.dump_pump.specs.declared.transfer.Pumped.TheVariants.{Done}
 use Rattle.dump_pump.specs.Outlets.{Outgoing}
 use Rattle.heap_lock.specs.Calls.{Call, IsLegalLedger}
+use Rattle.heap_lock.specs.Dumpers.{DumperState}
 use Rattle.heap_lock.specs.Laws.{IsAlone, state_at}
 use Rattle.live_dump.specs.Streams.{PutsLive}
 
@@ -18,10 +19,10 @@ PutsBeginning text w w' r =
 
 -- a stream that alone got the pieces of its pin puts out a beginning of the dump of the state at the pin's place, and all of it
 -- if it is done
-abbrev pub StreamsText : HeapSettings → ℕ → ℕ → List Call → List Call → Bool → Outgoing → Outgoing
-    → Pumped
-    → Type 0
-StreamsText config pin time start seen found w w' r =
-    (s : PutsLive config pin time start seen found w w' r) → IsLegalLedger config seen
-    → (place : ℕ) (before after : List Call) → IsAlone pin place time before after seen s.given
+abbrev pub StreamsText : HeapSettings → ℕ → ℕ → DumperState → DumperState → Bool → Outgoing
+    → Outgoing → Pumped → Type 0
+StreamsText config pin time d d' found w w' r =
+    (s : PutsLive config pin time d d' found w w' r) → IsLegalLedger config d'.seen
+    → (place : ℕ) (before after : List Call)
+    → IsAlone pin place time before after d'.seen s.given
     → PutsBeginning (dump_text config.ids (image_of (state_at config before place)) time) w w' r

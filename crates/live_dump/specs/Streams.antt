@@ -1,5 +1,5 @@
 -- What a stream of a pin puts out.
-use Rattle.std.specs.Prelude.{◌≡◌, ℕ, ◌+◌, Bool, true, List, ◌++◌, length}
+use Rattle.std.specs.Prelude.{◌≡◌, ◌⊎◌, ℕ, ◌+◌, Bool, true, List, ◌++◌, length}
 use mathlib.Core.List.{IsPrefix}
 use Rattle.heap_lock.specs.HeapLimits.{HeapSettings}
 use Rattle.heap_lock.specs.Piece.{Piece}
@@ -8,7 +8,9 @@ use Rattle.dump_pump.specs.declared.transfer.Pumped.TheVariants.{Done, OutletFai
 use Rattle.dump_pump.specs.Outlets.{Outgoing}
 use Rattle.dump_pump.specs.Pumps.{joined, ends, bytes_of}
 use Rattle.heap_lock.specs.Calls.{Call}
-use Rattle.live_dump.specs.Supplies.{AreGiven, AllLegal, IsLost}
+use Rattle.heap_lock.specs.Dumpers.{AllAsk, DumperState}
+use Rattle.heap_lock.specs.Laws.{pieces_given}
+use Rattle.live_dump.specs.Supplies.{AreGiven, AllLegal, IsLost, IsTooMany}
 
 -- what an answer says of the calls that were seen before and after, of the pieces that were given, of the bytes put out, of
 -- whether it was found that somebody asked to cancel, and of the failures
@@ -23,15 +25,27 @@ TellsStream pin time start seen given out found failures failures' (Lost cause n
 TellsStream pin time start seen given out found failures failures' (Cancelled n) =
     (out ≡ joined given) × (found ≡ true) × (failures' ≡ failures)
 
--- pieces of the pin were given, by calls that were seen; a beginning of their bytes was put out, as many as the answer says, and
--- all of them unless a put failed
-pub record PutsLive (config : HeapSettings) (pin time : ℕ) (start seen : List Call) (found : Bool)
+-- the pieces that a stream's dumper got are those that were given; the last one may have been too many, but not of a stream that
+-- is done
+abbrev pub GotFor : List Piece → Pumped → List Piece → Type 0
+GotFor given (Done n) got = got ≡ given
+GotFor given (OutletFailed n) got = (got ≡ given) ⊎ IsTooMany given got
+GotFor given (Lost cause n) got = (got ≡ given) ⊎ IsTooMany given got
+GotFor given (Cancelled n) got = (got ≡ given) ⊎ IsTooMany given got
+
+-- pieces of the pin were given, by calls of the dumper's own, of which it made no others; a beginning of their bytes was put out,
+-- as many as the answer says, and all of them unless a put failed
+pub record PutsLive (config : HeapSettings) (pin time : ℕ) (d d' : DumperState) (found : Bool)
     (w w' : Outgoing) (r : Pumped) : Type 0 where
   pub given : List Piece
   pub out : List ℕ
-  pub calls : AreGiven pin time start given seen
+  pub asked : List Call
+  pub calls : AreGiven pin time d.seen given d'.seen
+  pub own : d'.own ≡ d.own ++ asked
+  pub asks : AllAsk pin time asked
+  pub got : GotFor given r (pieces_given pin asked)
   pub pieces : AllLegal config.ids time given
   pub grows : w'.out ≡ w.out ++ out
   pub begins : IsPrefix out (joined given)
   pub counted : bytes_of r ≡ length out
-  pub tells : TellsStream pin time start seen given out found w.failures w'.failures r
+  pub tells : TellsStream pin time d.seen d'.seen given out found w.failures w'.failures r

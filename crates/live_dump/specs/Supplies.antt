@@ -17,46 +17,49 @@ use Rattle.dump_pump.specs.declared.source.Next.{Next}
 use Rattle.dump_pump.specs.declared.source.Next.TheVariants.{Part, Lost, Cancelled}
 use Rattle.dump_pump.specs.Sources.{Supply, part_limit}
 use Rattle.heap_lock.specs.Calls.{Call}
+use Rattle.heap_lock.specs.Dumpers.{AllAsk, DumperState}
+use Rattle.heap_lock.specs.Laws.{pieces_given}
 use Rattle.heap_lock.specs.Sources.{IsLoss}
 
--- a source: its pin, the time in the header, the calls that its witness had seen at first and those that it has seen now, the
--- pieces that it gave, how many it counts, and how it ended
+-- a source: its pin, the time in the header, its dumper as it was at first and as it is now, the pieces that it gave, how many it
+-- counts, and how it ended
 pub record ToldSupply : Type 0 where
   pub pin : ℕ
   pub time : ℕ
-  pub start : List Call
-  pub seen : List Call
+  pub start : DumperState
+  pub dumper : DumperState
   pub given : List Piece
   pub count : ℕ
   pub ended : Option Ending
 
 -- one that gave nothing
-abbrev pub nothing_of : ℕ → ℕ → List Call → ToldSupply
-nothing_of pin time calls =
+abbrev pub nothing_of : ℕ → ℕ → DumperState → ToldSupply
+nothing_of pin time d =
     record {
       pin = pin;
       time = time;
-      start = calls;
-      seen = calls;
+      start = d;
+      dumper = d;
       given = [];
       count = 0;
       ended = None;
     }
 
--- one that gave these pieces, while its witness saw these calls
-abbrev pub supply_of : ℕ → ℕ → List Call → List Call → List Piece → ℕ → Option Ending → ToldSupply
-supply_of pin time start seen given count ended =
-    record (nothing_of pin time start) { seen = seen; given = given; count = count; ended = ended }
+-- one that gave these pieces, while its dumper came to be this one
+abbrev pub supply_of : ℕ → ℕ → DumperState → DumperState → List Piece → ℕ → Option Ending
+    → ToldSupply
+supply_of pin time start d given count ended =
+    record (nothing_of pin time start) { dumper = d; given = given; count = count; ended = ended }
 
 -- what is seen of a source that tells its pieces
 abbrev pub told_supply : List Piece → ℕ → Option Ending → Supply
 told_supply given count ended =
     record { told = Some given; ended = ended; left = part_limit - count }
 
--- the calls that a log has first
-abbrev pub first_calls : List (List Call × Unit {0}) → List Call
-first_calls [] = []
-first_calls (e ∷ es) = e.0
+-- the dumper that a log has first
+abbrev pub first_dumper : List (DumperState × Unit {0}) → DumperState
+first_dumper [] = record { seen = []; own = [] }
+first_dumper (e ∷ es) = e.0
 
 -- how a source ended, with what it gives next
 abbrev pub ended_with : Option Ending → Next → Option Ending
@@ -105,9 +108,34 @@ MayEnd pin time start given seen (Some End.Whole) = Unit {0}
 MayEnd pin time start given seen (Some (End.Lost cause)) = IsLost pin time start given seen cause
 MayEnd pin time start given seen (Some End.Cancelled) = ⊥
 
+-- a source that isn't lost
+abbrev pub IsNotLost : Option Ending → Type 0
+IsNotLost None = Unit {0}
+IsNotLost (Some End.Whole) = Unit {0}
+IsNotLost (Some (End.Lost cause)) = ⊥
+IsNotLost (Some End.Cancelled) = Unit {0}
+
+-- a dumper got these pieces: those that were given, and one that was too many
+abbrev pub IsTooMany : List Piece → List Piece → Type 0
+IsTooMany given got = (p : Piece) × (got ≡ given ++ p ∷ []) × (part_limit ≤ length given + 1)
+
+-- the pieces that a dumper got are those that were given; of a source that is lost, the last one may have been too many
+abbrev pub AreGot : List Piece → Option Ending → List Piece → Type 0
+AreGot given (Some (End.Lost cause)) got = (got ≡ given) ⊎ IsTooMany given got
+AreGot given (Some End.Whole) got = got ≡ given
+AreGot given (Some End.Cancelled) got = got ≡ given
+AreGot given None got = got ≡ given
+
+-- all calls of the dumper's own since are requests for the pin's next piece, by which it got the pieces that were given
+abbrev pub HasAsked : ℕ → ℕ → List Call → List Piece → Option Ending → List Call → Type 0
+HasAsked pin time own given ended own' =
+    (asked : List Call) × (own' ≡ own ++ asked) × AllAsk pin time asked
+    × AreGot given ended (pieces_given pin asked)
+
 -- what is known of a source's pieces and of how it ended
 pub record IsSupplied (config : HeapSettings) (t : ToldSupply) : Type 0 where
-  pub given : AreGiven t.pin t.time t.start t.given t.seen
+  pub given : AreGiven t.pin t.time t.start.seen t.given t.dumper.seen
   pub legal : AllLegal config.ids t.time t.given
   pub counted : t.count ≡ length t.given
-  pub ended : MayEnd t.pin t.time t.start t.given t.seen t.ended
+  pub ended : MayEnd t.pin t.time t.start.seen t.given t.dumper.seen t.ended
+  pub asked : HasAsked t.pin t.time t.start.own t.given t.ended t.dumper.own

@@ -1,36 +1,37 @@
 //! A source over the lock that tells what it gave.
-ghost use Rattle.std.specs.Prelude.{◌≡◌, ◌<◌};
+ghost use Rattle.std.specs.Prelude.{◌≡◌, ◌<◌, Some, IfSome, IfNone};
+ghost use Rattle.dump_pump.specs.declared.source.Ending.TheVariants.{Lost as LostFor};
 ghost use Rattle.heap_lock.specs.Calls.{IsLegalLedger};
 ghost use Rattle.dump_pump.specs.Sources.{parts_in, parts_with};
-ghost use Rattle.live_dump.specs.Supplies.{IsSupplied, ended_with, nothing_of};
+ghost use Rattle.live_dump.specs.Supplies.{IsNotLost, IsSupplied, ended_with, nothing_of};
 
 use dump_pump::source::PART_LIMIT;
 use dump_pump::{Ending, Log, Next, Piece, Source};
-use heap_lock::{Heap, LockedSource, Shared, Witness};
+use heap_lock::{Dumper, Heap, LockedSource, LostCause};
 use std::marker::Model;
 use std::sync::Wait;
 
-/// A source over the lock of a shared heap. Contracts see its pin, its time, what its witness had seen and has seen, the pieces
-/// that it gave and how it ended.
+/// A source over the lock of a shared heap. Contracts see its pin, its time, its dumper as it was and as it is, the pieces that it
+/// gave and how it ended.
 #[derive(Drop)]
 pub struct ToldSource<'a, L: Heap, R: Wait> {
     source: LockedSource<'a, L, R>,
-    start: Log<Witness<L>, ()>,
+    start: Log<Dumper<'a, L, R>, ()>,
     given: Log<Piece, ()>,
     ended: Option<Ending>,
 }
 
 impl<'a, L: Heap, R: Wait> Model for ToldSource<'a, L, R> {
     ghost use Rattle.dump_pump.specs.Sources.{parts_in};
-    ghost use Rattle.live_dump.specs.Supplies.{ToldSupply, IsSupplied, first_calls, supply_of};
+    ghost use Rattle.live_dump.specs.Supplies.{ToldSupply, IsSupplied, first_dumper, supply_of};
 
     ghost Value = { ToldSupply };
 
-    ghost view = { λ s. supply_of s.source.pin s.source.time (first_calls s.start.items)
-        s.source.witness (parts_in s.given.items) s.source.count s.ended };
+    ghost view = { λ s. supply_of s.source.pin s.source.time (first_dumper s.start.items)
+        s.source.dumper (parts_in s.given.items) s.source.count s.ended };
 
     ghost invariant = { λ s. IsSupplied L.config
-        (supply_of s.source.pin s.source.time (first_calls s.start.items) s.source.witness
+        (supply_of s.source.pin s.source.time (first_dumper s.start.items) s.source.dumper
         (parts_in s.given.items) s.source.count s.ended) };
 }
 
@@ -51,24 +52,37 @@ fn note(given: &mut Log<Piece, ()>, ended: &mut Option<Ending>, next: &Next)
     }
 }
 
+// Returns the cause of a source that is lost.
+fn loss_of(ended: Option<Ending>) -> Option<LostCause>
+    ensures lost { IfSome result (λ cause. ended ≡ Some (LostFor cause)) }
+    ensures other { IfNone result (IsNotLost ended) }
+{
+    match ended {
+        Some(Ending::Lost(cause)) => Some(cause),
+        Some(Ending::Whole) => None,
+        Some(Ending::Cancelled) => None,
+        None => None,
+    }
+}
+
 impl<'a, L: Heap, R: Wait> ToldSource<'a, L, R> {
     /// Creates a source that has given nothing yet. Takes neither the lock nor memory.
-    pub fn new(shared: &'a Shared<L>, rt: &'a R, witness: Witness<L>, pin: u64, time: u64) -> Self
-        ensures { result ≡ nothing_of pin time witness }
+    pub fn new(dumper: Dumper<'a, L, R>, pin: u64, time: u64) -> Self
+        ensures { result ≡ nothing_of pin time dumper.entry }
     {
-        let start = Log::new().and(&witness, &());
+        let start = Log::new().and(&dumper, &());
         ToldSource {
-            source: LockedSource::new(shared, rt, witness, pin, time),
+            source: LockedSource::new(dumper, pin, time),
             start,
             given: Log::new(),
             ended: None,
         }
     }
 
-    /// Returns the witness, which has seen the calls of the source. The contract says what is known of the pieces that it gave.
-    pub fn into_witness(self) -> Witness<L>
-        ensures witness { result ≡ self.entry.seen }
-        ensures legal { IsLegalLedger L.config self.entry.seen }
+    /// Returns the dumper, which has made the calls of the source. The contract says what is known of the pieces that it gave.
+    pub fn into_dumper(self) -> Dumper<'a, L, R>
+        ensures dumper { result ≡ self.entry.dumper }
+        ensures legal { IsLegalLedger L.config self.entry.dumper.seen }
         ensures supplied { IsSupplied L.config self.entry }
     {
         let ToldSource {
@@ -78,34 +92,37 @@ impl<'a, L: Heap, R: Wait> ToldSource<'a, L, R> {
             ended: _,
         } = self;
         let LockedSource {
-            shared: _,
-            rt: _,
-            witness,
+            dumper,
             pin: _,
             time: _,
             count: _,
             ending: _,
         } = source;
-        witness.legal();
-        witness
+        dumper.legal();
+        dumper
     }
 }
 
 impl<'a, L: Heap, R: Wait> Source for ToldSource<'a, L, R> {
-    ghost use Rattle.std.specs.Prelude.{ℕ, List};
-    ghost use Rattle.heap_lock.specs.Calls.{Call};
+    ghost use Rattle.std.specs.Prelude.{ℕ};
+    ghost use Rattle.heap_lock.specs.Dumpers.{DumperState};
     ghost use Rattle.live_dump.specs.Supplies.{told_supply};
 
-    ghost Kept = { ℕ × ℕ × List Call };
+    ghost Kept = { ℕ × ℕ × DumperState };
 
     ghost kept = { λ s. (s.pin, s.time, s.start) };
 
     ghost seen = { λ s. told_supply s.given s.count s.ended };
 
     fn next(&mut self) -> Next {
-        let next = self.source.next_part();
-        note(&mut self.given, &mut self.ended, &next);
-        next
+        match loss_of(self.ended) {
+            Some(cause) => Next::Lost(cause),
+            None => {
+                let next = self.source.next_part();
+                note(&mut self.given, &mut self.ended, &next);
+                next
+            }
+        }
     }
 
     fn parts_left(&self) -> u64 {

@@ -8,18 +8,16 @@ ghost use Rattle.live_dump.specs.Streams.{PutsLive};
 use crate::source::ToldSource;
 use dump_pipe::{Counter, FeedSeat, Meter, OutSeat, Watched, stream_parts};
 use dump_pump::{Outlet, Pumped};
-use heap_lock::{Heap, Shared, Witness};
+use heap_lock::{Dumper, Heap};
 use std::alloc::Global;
 use std::sync::Wait;
 use std::thread::Threads;
 
 /// A pin of a shared heap that is to be dumped.
 #[derive(Drop)]
-pub struct LivePin<'a, L: Heap> {
-    /// The heap.
-    pub shared: &'a Shared<L>,
-    /// The witness that sees the requests for the pin's pieces.
-    pub witness: Witness<L>,
+pub struct LivePin<'a, L: Heap, R: Wait> {
+    /// Who asks for the pin's pieces.
+    pub dumper: Dumper<'a, L, R>,
     /// The number of the pin.
     pub pin: u64,
     /// The time in the header of the dump, in milliseconds.
@@ -42,25 +40,26 @@ pub struct StreamSeats<'a> {
 /// Puts out the dump of a pin of a shared heap. A thread of its own asks for the pieces, with the lock for one at a time, and
 /// looks before each whether anybody asked to cancel; the caller's thread puts them out, with no lock. So others act on the heap
 /// while a piece is written. Without a pipe or such a thread the caller's does both. What is put out is added to the out seat.
-/// Returns the seats, too, and the witness, which has seen the requests. May wait. The out seat has room for a dump.
-pub fn stream<'m, L: Heap + Send + Sync, O: Outlet, R: Threads + Wait + Sync>(
+/// Returns the seats, too, and the dumper, which has asked for the pieces and nothing else. May wait. The out seat has room for a
+/// dump.
+pub fn stream<'a, 'm, L: Heap + Send + Sync, O: Outlet, R: Threads + Wait + Sync>(
     rt: &R,
     alloc: Global,
-    from: LivePin<'_, L>,
+    from: LivePin<'a, L, R>,
     outlet: &mut O,
     seats: StreamSeats<'m>,
-) -> (Pumped, StreamSeats<'m>, Witness<L>)
+) -> (Pumped, StreamSeats<'m>, Dumper<'a, L, R>)
     requires { HasDumpRoom seats.out }
-    ensures put { PutsLive L.config from.entry.pin from.entry.time from.entry.witness result.2
+    ensures put { PutsLive L.config from.entry.pin from.entry.time from.entry.dumper result.2
         result.1.feed.known (O.seen outlet.old) (O.seen outlet.new) result.0 }
-    ensures legal { IsLegalLedger L.config result.2 }
+    ensures legal { IsLegalLedger L.config result.2.seen }
     ensures meter { result.1.meter.now ≡ seats.entry.meter.now }
     ensures out { result.1.out
         ≡ knows seats.entry.meter.now (seats.entry.out.known + bytes_of result.0) }
 {
     let StreamSeats { meter, out, feed } = seats;
     let mut source = Watched {
-        source: ToldSource::new(from.shared, rt, from.witness, from.pin, from.time),
+        source: ToldSource::new(from.dumper, from.pin, from.time),
         cancel: meter.cancel(),
         seat: feed,
     };
@@ -76,24 +75,24 @@ pub fn stream<'m, L: Heap + Send + Sync, O: Outlet, R: Threads + Wait + Sync>(
         out: counter.into_seat(),
         feed: seat,
     };
-    (pumped, seats, told.into_witness())
+    (pumped, seats, told.into_dumper())
 }
 
 /// Puts out the dump of a pin of a shared heap as `stream` does, where nobody can ask to cancel. Counts what is put out, and
-/// returns the witness, which has seen the requests. May wait. The sum has room for a dump.
-pub fn stream_all<L: Heap + Send + Sync, O: Outlet, R: Threads + Wait + Sync>(
+/// returns the dumper, which has asked for the pieces and nothing else. May wait. The sum has room for a dump.
+pub fn stream_all<'a, L: Heap + Send + Sync, O: Outlet, R: Threads + Wait + Sync>(
     rt: &R,
     alloc: Global,
-    from: LivePin<'_, L>,
+    from: LivePin<'a, L, R>,
     outlet: &mut O,
     counter: &mut Counter<'_>,
-) -> (Pumped, Witness<L>)
+) -> (Pumped, Dumper<'a, L, R>)
     requires { HasDumpRoom counter.old }
-    ensures put { PutsLive L.config from.entry.pin from.entry.time from.entry.witness result.1 false
+    ensures put { PutsLive L.config from.entry.pin from.entry.time from.entry.dumper result.1 false
         (O.seen outlet.old) (O.seen outlet.new) result.0 }
-    ensures legal { IsLegalLedger L.config result.1 }
+    ensures legal { IsLegalLedger L.config result.1.seen }
 {
-    let mut source = ToldSource::new(from.shared, rt, from.witness, from.pin, from.time);
+    let mut source = ToldSource::new(from.dumper, from.pin, from.time);
     let pumped = stream_parts(rt, alloc, &mut source, outlet, counter);
-    (pumped, source.into_witness())
+    (pumped, source.into_dumper())
 }

@@ -4,7 +4,7 @@ use crate::listener::DumpListener;
 use crate::socket::StoppableSocket;
 use crate::words::word;
 use dump_pump::WriteOutlet;
-use heap_lock::{Heap, Shared, Witness};
+use heap_lock::{Dumper, Heap, Shared};
 use std::alloc::Global;
 use std::net::TcpStream;
 use std::sync::Wait;
@@ -24,36 +24,35 @@ pub fn tend_dumps<L: Heap + Send + Sync, R: Clock + Eprint + Threads + Wait + Sy
     time: u64,
     stop: &AtomicBool,
 ) {
-    let mut witness = shared.witness(rt);
+    let mut dumper = Dumper::new(shared, rt, shared.witness(rt));
     for _ in rt.forever() {
         if stop.load(Ordering::SeqCst) {
             return;
         }
         match listener.accept() {
-            Ok(stream) => witness = send_dump(rt, alloc, shared, witness, &stream, time, stop),
+            Ok(stream) => dumper = send_dump(rt, alloc, dumper, &stream, time, stop),
             Err(_) => thread::sleep(rt, Duration::from_millis(1)),
         }
     }
     unreachable!()
 }
 
-// Sends a client the dump of the current state, and returns the witness. Sends nothing if the socket has no time limit for writes.
-fn send_dump<L: Heap + Send + Sync, R: Eprint + Threads + Wait + Sync>(
+// Sends a client the dump of the current state, and returns the dumper. Sends nothing if the socket has no time limit for writes.
+fn send_dump<'a, L: Heap + Send + Sync, R: Eprint + Threads + Wait + Sync>(
     rt: &R,
     alloc: Global,
-    shared: &Shared<L>,
-    witness: Witness<L>,
+    dumper: Dumper<'a, L, R>,
     stream: &TcpStream,
     time: u64,
     stop: &AtomicBool,
-) -> Witness<L> {
+) -> Dumper<'a, L, R> {
     let Ok(socket) = StoppableSocket::new(stream, stop) else {
-        return witness;
+        return dumper;
     };
     let mut outlet = WriteOutlet::new(socket);
-    let (ended, witness) = dump_current(rt, alloc, shared, witness, time, &mut outlet);
+    let (ended, dumper) = dump_current(rt, alloc, dumper, time, &mut outlet);
     if let Some(word) = word(&ended) {
         let _ = eprintln!(rt; "heapdbg: dump {word}");
     }
-    witness
+    dumper
 }

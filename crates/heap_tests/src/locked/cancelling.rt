@@ -5,7 +5,7 @@ use super::shared::pump_into;
 use super::sinks::{Flags, Sink};
 use super::sources::AskingSource;
 use dump_pipe::Watched;
-use heap_lock::{Heap, LockedSource};
+use heap_lock::{Dumper, Heap, LockedSource};
 use live_dump::StreamSeats;
 use std::sync::Wait;
 use std::test::*;
@@ -31,7 +31,7 @@ pub fn pumped_asking<L: Heap, R: Wait>(
     } = watch;
     let mut source = Watched {
         source: AskingSource {
-            source: LockedSource::new(shared, rt, shared.witness(rt), at.pin, 0),
+            source: LockedSource::new(Dumper::new(shared, rt, shared.witness(rt)), at.pin, 0),
             cancel: asked.cancel(),
             seat: &mut asker,
             turn,

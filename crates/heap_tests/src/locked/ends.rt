@@ -10,7 +10,7 @@ use super::sinks::{Flags, Sink, reaches};
 use super::sources::Counted;
 use dump_pipe::{BothEnds, Counter, End, Knowledge, Receiver, Sender, drain_pipe, feed, pipe};
 use dump_pump::{Ending, WriteOutlet};
-use heap_lock::{Heap, LockedSource, Shared};
+use heap_lock::{Dumper, Heap, LockedSource, Shared};
 use live_dump::StreamSeats;
 use std::sync::Wait;
 use std::sync::atomic::{AtomicU64, Ordering};
@@ -31,7 +31,7 @@ fn feed_counted<L: Heap, R: Wait>(
     requires { IsSeatAt (sends_on sender.now) end.old × (view end.old ≡ Sends []) }
 {
     let mut source = Counted {
-        source: LockedSource::new(shared, rt, shared.witness(rt), pin, 0),
+        source: LockedSource::new(Dumper::new(shared, rt, shared.witness(rt)), pin, 0),
         asked,
     };
     let ending = feed(rt, &mut source, sender, end);

@@ -8,7 +8,7 @@ use super::sinks::{Flags, Sink, TURNS, reaches};
 use crate::scripts::put_x;
 use dump_pipe::{Progress, ReadSeat};
 use dump_pump::WriteOutlet;
-use heap_lock::{Heap, LockedSource, Seat, Shared};
+use heap_lock::{Dumper, Heap, LockedSource, Seat, Shared};
 use live_dump::{LivePin, StreamSeats, stream};
 use std::sync::Wait;
 use std::sync::atomic::{AtomicU64, Ordering};
@@ -77,8 +77,7 @@ fn stream_into<L: Heap + Send + Sync, R: Threads + Wait + Sync>(
     requires { seats.out.known ≡ 0 }
 {
     let live = LivePin {
-        shared: at.shared,
-        witness: at.shared.witness(at.rt),
+        dumper: Dumper::new(at.shared, at.rt, at.shared.witness(at.rt)),
         pin: at.pin,
         time: 0,
     };
@@ -123,7 +122,8 @@ fn held_into<L: Heap + Send + Sync, R: Threads + Wait + Sync>(
     if streams {
         return stream_into(at, seats, sink);
     }
-    let mut source = LockedSource::new(at.shared, at.rt, at.shared.witness(at.rt), at.pin, 0);
+    let dumper = Dumper::new(at.shared, at.rt, at.shared.witness(at.rt));
+    let mut source = LockedSource::new(dumper, at.pin, 0);
     pump_into(&mut source, sink)
 }
 

@@ -5,7 +5,7 @@ use super::dumps::Seen;
 use super::sinks::Sink;
 use crate::scripts::{new, point, put_x};
 use dump_pump::{Source, WriteOutlet, pump};
-use heap_lock::{Event, Heap, LockedSource, Receipt, Seat, Shared};
+use heap_lock::{Dumper, Event, Heap, LockedSource, Receipt, Seat, Shared};
 use std::alloc::Global;
 use std::sync::Wait;
 
@@ -89,7 +89,7 @@ pub fn pump_into<S: Source>(source: &mut S, sink: Sink<'_>) -> Seen
 pub fn pumped_text<L: Heap, R: Wait>(stage: &Stage<'_, L, R>) -> Option<Vec<u8>> {
     let (rt, shared) = (stage.rt, stage.shared);
     let pin = opened_pin(rt, shared)?;
-    let mut source = LockedSource::new(shared, rt, shared.witness(rt), pin, 0);
+    let mut source = LockedSource::new(Dumper::new(shared, rt, shared.witness(rt)), pin, 0);
     let mut outlet = WriteOutlet::new(Vec::new(stage.alloc));
     pump(&mut source, &mut outlet);
     closes_pin(rt, shared, pin);

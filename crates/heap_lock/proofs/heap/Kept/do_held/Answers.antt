@@ -81,3 +81,10 @@ returns-clause-stands g c =
 
 pub note-requires : goal.note-requires
 note-requires g c = own_table _ _ c.self.inside.ledger c.self.invariant.1.0
+
+pub returns-clause-share : goal.returns-clause-share
+returns-clause-share g c =
+    let n = c.seat.inside.number in
+    let d = desk_of _ _ _ _ _ n c.index_mut-desk.result.now c.self.invariant.0 c.seat.invariant.0 c.index_mut-desk.ensures.value in
+    let here : tally n c.self.inside.chronicle.entries ≡ tally_in c.seat.inside.share.views = sym (ap (λ m. tally_of m.0) d.3) ∙ sym c.gain.ensures.same ∙ ap (λ (b : Badge SeatView). tally_in b.views) c.replace-share.ensures.value in
+    rw (sym c.self.view_is, sym c.seat.view_is) here

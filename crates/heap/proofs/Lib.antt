@@ -3,3 +3,5 @@ pub mod StepAnswers
 pub mod Claiming
 pub mod OwnClaims
 pub mod CycleEnds
+pub mod ActorAudits
+pub mod OpenGates

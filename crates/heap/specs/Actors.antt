@@ -14,6 +14,7 @@ use Rattle.heap_chronicle.specs.declared.entry.Outcome.TheVariants as Outcomes
 use Rattle.heap_lock.specs.Receipt.{Receipt}
 use Rattle.heap_lock.specs.declared.role.Role.{Role}
 use Rattle.heap_lock.specs.Verdict.{Verdict}
+use Rattle.heap_lock.specs.Verdict.TheVariants.{Holds}
 use Rattle.heap_lock.specs.Audits.{IsVerdict}
 use Rattle.heap_chronicle.specs.Chronicles.{dropped_of}
 use Rattle.heap_chronicle.specs.History.{entry, tally}
@@ -55,7 +56,7 @@ IsDenied config event a (Refused e) a' =
 abbrev pub IsToldRefusal : Outcome → Denial → Type 0
 IsToldRefusal outcome d = (e : Refusal) × (outcome ≡ Outcomes.Refused e) × (d ≡ Refused e)
 
--- the actor is as before, and has another role, or no memory was found for a claim
+-- the actor is as before: it has another role, or room for a claim couldn't be allocated
 abbrev pub IsActorIdle : Role → ActorState → Denial → ActorState → Type 0
 IsActorIdle role a WrongRole a' = (a.seat.role ≢ role) × (a' ≡ a)
 IsActorIdle role a (Refused e) a' = (e ≡ NoMemory) × (a' ≡ a)
@@ -85,3 +86,18 @@ IsAudited config rolls s seen claims verdict seen' =
     (m : Machine) × (history : List Entry) × IsHeapLedger config m history seen'
     × IsPrefix seen seen' × (tally s.number history ≡ s.share)
     × IsVerdict (dropped_of rolls (length history)) history claims verdict
+
+-- the claims of each actor hold, of one after another
+abbrev pub AllHold : HeapSettings → Bool → List Call → List ActorState → List Call → Type 0
+AllHold config rolls seen [] seen' = seen' ≡ seen
+AllHold config rolls seen (a ∷ more) seen' =
+    (middle : List Call) × IsAudited config rolls a.seat seen a.claims Holds middle
+    × AllHold config rolls middle more seen'
+
+-- the claims of the first actors hold, and those of the next one have this verdict
+abbrev pub AuditStops : HeapSettings → Bool → List Call → List ActorState → Verdict → List Call
+    → Type 0
+AuditStops config rolls seen actors verdict seen' =
+    (first : List ActorState) × (a : ActorState) × (middle : List Call)
+    × IsPrefix (first ++ a ∷ []) actors × AllHold config rolls seen first middle
+    × IsAudited config rolls a.seat middle a.claims verdict seen'

@@ -1,9 +1,10 @@
 //! Those who act on a shared heap.
 ghost use Rattle.std.specs.Prelude.{◌≡◌, ◌≢◌, ◌++◌, ◌∷◌, [], true, IfOk, IfErr, OnErr};
+ghost use mathlib.Core.List.{IsPrefix};
 ghost use Rattle.heap_lock.specs.Action.TheVariants.{Step};
 ghost use Rattle.heap_chronicle.specs.declared.entry.Outcome.TheVariants.{Answered, Place};
 ghost use Rattle.heap_lock.specs.declared.role.Role.TheVariants.{Marker, Sweeper};
-ghost use Rattle.heap_lock.specs.LockStates.{IsNoEntry, IsReceived, Stands};
+ghost use Rattle.heap_lock.specs.LockStates.{AreMet, IsNoEntry, IsReceived, Stands};
 ghost use Rattle.heap_lock.specs.Roles.{may};
 ghost use Rattle.heap_work.specs.Rule.{IsMarkWork, IsSweepWork, MarkStops, SweepStops};
 ghost use Rattle.heap_lock.specs.Verdict.TheVariants.{Fails};
@@ -201,6 +202,16 @@ impl<'a, L: Heap, R: Wait> Actor<'a, L, R> {
         }
         let end = sweep_worker(self.shared, self.rt, &mut self.seat, gate, turns);
         Ok(end)
+    }
+
+    /// Shows a witness all calls so far under the lock, as `Shared::meet` does: those of this actor are among them. Takes no memory.
+    /// May wait.
+    pub fn meet(&mut self, witness: &mut Witness<L>)
+        ensures begins { IsPrefix witness.old witness.new }
+        ensures met { AreMet L.config self.old.seat witness.new }
+        ensures same { self.new ≡ self.old }
+    {
+        self.shared.meet(self.rt, &mut self.seat, witness);
     }
 
     /// Returns whether all claims stand in the history of the heap, under the lock: Holds, or Dropped exactly if the entry of a

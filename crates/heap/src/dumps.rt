@@ -2,11 +2,11 @@
 ghost use Rattle.std.specs.Prelude.{◌≡◌};
 ghost use denote.Param.Send.{IsSync};
 ghost use Rattle.live_dump.specs.Seats.{knows};
-ghost use Rattle.heap.specs.Dumps.{IsClosing, IsDumped};
+ghost use Rattle.heap.specs.Dumps.{IsDumped};
 
 use dump_pump::{Outlet, Pumped};
 use heap_class::Refusal;
-use heap_lock::{Heap, Shared, Witness};
+use heap_lock::{Dumper, Heap};
 use live_dump::{
     AskSeat, FeedSeat, LivePin, Meter, NewMeter, OutSeat, ReadSeat, StreamSeats, stream,
 };
@@ -94,24 +94,15 @@ fn watch<W: DumpWatcher + Drop>(watching: Watching<'_, W>, has_ended: &AtomicU64
     watcher
 }
 
-// Closes a pin, unless somebody else did so. Returns the witness, which has seen that.
-fn close<L: Heap, R: Wait>(rt: &R, shared: &Shared<L>, witness: Witness<L>, pin: u64) -> Witness<L>
-    ensures { IsClosing L.config witness pin result }
-{
-    let mut seeing = witness;
-    let _ = shared.close_pin(rt, &mut seeing, pin);
-    seeing
-}
-
-// Puts out the dump of the current state. Returns how that ended, the outlet, and the witness, which has seen the calls.
-fn write<L: Heap + Send + Sync, O: Outlet + Drop, R: Threads + Wait + Sync>(
+// Puts out the dump of the current state. Returns how that ended, the outlet, and the dumper, which has made the calls for it and
+// no others.
+fn write<'a, L: Heap + Send + Sync, O: Outlet + Drop, R: Threads + Wait + Sync>(
     rt: &R,
     alloc: Global,
-    shared: &Shared<L>,
-    witness: Witness<L>,
+    dumper: Dumper<'a, L, R>,
     sending: Sending<'_, O>,
-) -> (Result<Pumped, Refusal>, O, Witness<L>)
-    ensures { IsDumped L.config sending.entry.time witness (O.seen sending.entry.outlet) result.0
+) -> (Result<Pumped, Refusal>, O, Dumper<'a, L, R>)
+    ensures { IsDumped L.config sending.entry.time dumper.entry (O.seen sending.entry.outlet) result.0
         (O.seen result.1) result.2 }
 {
     let Sending {
@@ -121,25 +112,25 @@ fn write<L: Heap + Send + Sync, O: Outlet + Drop, R: Threads + Wait + Sync>(
         out,
         feed,
     } = sending;
-    let mut seeing = witness;
-    let pin = match shared.open_pin(rt, &mut seeing, None) {
+    let mut asking = dumper;
+    let pin = match asking.open_pin(None) {
         Ok(pinned) => pinned.pin,
-        Err(refusal) => return (Err(refusal), outlet, seeing),
+        Err(refusal) => return (Err(refusal), outlet, asking),
     };
     let live = LivePin {
-        shared,
-        witness: seeing,
+        dumper: asking,
         pin,
         time,
     };
     let seats = StreamSeats { meter, out, feed };
-    let (pumped, _, seen) = stream(rt, alloc, live, &mut outlet, seats);
-    let seen = close(rt, shared, seen, pin);
-    (Ok(pumped), outlet, seen)
+    let (pumped, _, mut closing) = stream(rt, alloc, live, &mut outlet, seats);
+    let _ = closing.close_pin(pin);
+    (Ok(pumped), outlet, closing)
 }
 
 // Puts out the dump while another thread watches it.
 fn write_watched<
+    'a,
     L: Heap + Send + Sync,
     O: Outlet + Drop,
     W: DumpWatcher + Drop + Send,
@@ -147,23 +138,22 @@ fn write_watched<
 >(
     rt: &R,
     alloc: Global,
-    shared: &Shared<L>,
-    witness: Witness<L>,
+    dumper: Dumper<'a, L, R>,
     sending: Sending<'_, O>,
     watching: Watching<'_, W>,
-) -> (Dumped<O, W>, Witness<L>)
-    ensures { IsDumped L.config sending.entry.time witness (O.seen sending.entry.outlet)
+) -> (Dumped<O, W>, Dumper<'a, L, R>)
+    ensures { IsDumped L.config sending.entry.time dumper.entry (O.seen sending.entry.outlet)
         result.0.end (O.seen result.0.outlet) result.1 }
 {
     let has_ended = AtomicU64::new(0);
     let ended = &has_ended;
-    let (watcher, (end, outlet, seen)) = join(
+    let (watcher, (end, outlet, dumper)) = join(
         rt,
         move || watch(watching, ended),
-        move || -> (Result<Pumped, Refusal>, O, Witness<L>)
+        move || -> (Result<Pumped, Refusal>, O, Dumper<'_, L, R>)
             requires { IsSync R.row }
         {
-            let written = write(rt, alloc, shared, witness, sending);
+            let written = write(rt, alloc, dumper, sending);
             ended.store(1, Ordering::SeqCst);
             written
         },
@@ -173,14 +163,15 @@ fn write_watched<
         outlet,
         watcher,
     };
-    (dumped, seen)
+    (dumped, dumper)
 }
 
 /// Puts out the dump of the current state, with `time` in its header. Opens a pin and a meter, streams as `stream` does, and
 /// closes the pin, unless somebody else did. A second thread tells the watcher how many bytes are out, and cancels the dump if
-/// it says so. The dump is of a state with all that the witness had seen. Returns the witness, too, which has seen the calls.
-/// Fails with NoMemory if a meter can't be allocated, and as `Shared::open_pin` does; then nothing is put out. May wait.
+/// it says so. The dump is of a state with all that the dumper had seen. Returns the dumper, too, which has made the calls for it
+/// and no others. Fails with NoMemory if a meter can't be allocated, and as `Shared::open_pin` does; then nothing is put out. May wait.
 pub fn dump<
+    'a,
     L: Heap + Send + Sync,
     O: Outlet + Drop,
     W: DumpWatcher + Drop + Send,
@@ -188,13 +179,12 @@ pub fn dump<
 >(
     rt: &R,
     alloc: Global,
-    shared: &Shared<L>,
-    witness: Witness<L>,
+    dumper: Dumper<'a, L, R>,
     time: u64,
     outlet: O,
     watcher: W,
-) -> (Dumped<O, W>, Witness<L>)
-    ensures { IsDumped L.config time witness (O.seen outlet) result.0.end
+) -> (Dumped<O, W>, Dumper<'a, L, R>)
+    ensures { IsDumped L.config time dumper.entry (O.seen outlet) result.0.end
         (O.seen result.0.outlet) result.1 }
 {
     let Ok(made) = Meter::new(alloc, 1, 1) else {
@@ -203,7 +193,7 @@ pub fn dump<
             outlet,
             watcher,
         };
-        return (refused, witness);
+        return (refused, dumper);
     };
     let NewMeter {
         meter,
@@ -228,5 +218,5 @@ pub fn dump<
         out,
         feed,
     };
-    write_watched(rt, alloc, shared, witness, sending, watching)
+    write_watched(rt, alloc, dumper, sending, watching)
 }

@@ -21,10 +21,10 @@ pub use dump_pump::{Outlet, Pumped, WriteOutlet};
 pub use dumps::{DumpWatcher, Dumped, LastSeen, dump};
 pub use heap_class::{Field, Fields, Kind, Name, Refusal};
 pub use heap_lock::{
-    Action, Answer, Blank, Config, Event, Heap, Machine, Outcome, Receipt, Role, Seat, Seats,
-    Shared, Verdict, Witness, audit,
+    Action, Answer, Blank, Config, Dumper, Event, Heap, Machine, Outcome, Receipt, Role, Seat,
+    Seats, Shared, Verdict, Witness, audit,
 };
 pub use heap_work::{Gate, MarkEnd, Open, SweepEnd, mark_worker, sweep_worker};
 pub use live_dump::{AskSeat, FeedSeat, Meter, NewMeter, OutSeat, ReadSeat, stream};
 pub use pace::Pace;
-pub use totals::{Totals, total_all};
+pub use totals::{Totals, audit_all, total_all};

@@ -1,9 +1,11 @@
 //! What several actors did, by their claims.
-ghost use Rattle.std.specs.Prelude.{◌≡◌, count_by};
+ghost use Rattle.std.specs.Prelude.{◌≡◌, count_by, IfOk, IfErr};
+ghost use Rattle.heap_lock.specs.Verdict.TheVariants.{Dropped};
+ghost use Rattle.heap.specs.Actors.{AllHold, AuditStops};
 ghost use Rattle.heap.specs.Totals.{IsTotal, is_finishing, is_making};
 
 use crate::actor::{Actor, Claim};
-use heap_lock::{Action, Event, Heap, Outcome};
+use heap_lock::{Action, Event, Heap, Outcome, Verdict, Witness};
 use std::sync::Wait;
 
 /// What several actors did, by their claims. A number that doesn't fit is `usize::MAX`.
@@ -71,4 +73,27 @@ pub fn total_all<L: Heap, R: Wait>(actors: &[Actor<'_, L, R>]) -> Totals
         made,
         finished,
     }
+}
+
+/// Returns what the actors did, by their claims, if the claims of each stand in the history of the heap, one actor audited after
+/// another as `Actor::audit` does. Fails with Dropped at the first actor whose claims name an entry that was dropped. The witness
+/// has seen all calls up to the last audit. Takes no memory. May wait.
+pub fn audit_all<L: Heap, R: Wait>(
+    actors: &mut [Actor<'_, L, R>],
+    witness: &mut Witness<L>,
+) -> Result<Totals, Verdict>
+    ensures totals { IfOk result (IsTotal actors.old) }
+    ensures hold { IfOk result
+        (λ _. AllHold L.config L.rolls witness.old actors.old witness.new) }
+    ensures refused { IfErr result (λ v. (v ≡ Dropped)
+        × AuditStops L.config L.rolls witness.old actors.old v witness.new) }
+    ensures same { actors.new ≡ actors.old }
+{
+    for i in 0..actors.len() {
+        let verdict = actors[i].audit(witness);
+        if verdict != Verdict::Holds {
+            return Err(verdict);
+        }
+    }
+    Ok(total_all(actors))
 }

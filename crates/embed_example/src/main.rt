@@ -8,8 +8,8 @@ ghost use denote.Param.Send.{IsSend, IsSync};
 mod mutator;
 
 use heap::{
-    Actor, Actors, Blank, Config, Dumped, Event, Heap, Kind, LastSeen, Machine, Pace, Pumped,
-    Refusal, Role, Totals, WriteOutlet, audit_all, define_array_class, define_class, dump,
+    Actor, Actors, Blank, Config, Dumped, Dumper, Event, Heap, Kind, LastSeen, Machine, Pace,
+    Pumped, Refusal, Role, Totals, WriteOutlet, audit_all, define_array_class, define_class, dump,
 };
 use mutator::mutate;
 use std::alloc::{AllocError, Global};
@@ -70,19 +70,21 @@ fn take_team<'a, L: Heap, R: Wait>(actors: &mut Actors<'a, L, R>) -> Option<Team
     ))
 }
 
-// Has all threads work, each with an actor, dumps beside them, and audits what they did. Returns None if anything was refused.
+// Has all threads work, each with an actor, dumps beside them a state with all that the dumper has seen, and audits what they did.
+// Returns None if anything was refused.
 fn work<'a, L: Heap + Send + Sync, W: Write + Drop, R: Threads + Wait + Sync>(
     actors: &Actors<'a, L, R>,
     team: Team<'a, L, R>,
+    dumper: Dumper<'a, L, R>,
     file: W,
 ) -> Option<Report<W>> {
-    let (rt, alloc, shared) = (actors.rt, actors.alloc, actors.shared);
+    let (rt, alloc) = (actors.rt, actors.alloc);
     let (mut one, mut two, mut marker, mut sweeper) = team;
     let pace = &Pace::new(2, AHEAD);
-    let dumped = thread::scope(
+    let (dumped, dumper) = thread::scope(
         thread::scope_env(),
         rt,
-        |scope| -> Option<Dumped<WriteOutlet<W>, LastSeen>>
+        |scope| -> Option<(Dumped<WriteOutlet<W>, LastSeen>, Dumper<'_, L, R>)>
             requires { IsSend L.row × IsSync L.row × IsSync R.row }
         {
             let first = scope.spawn(|| mutate(pace, &mut one)).ok()?;
@@ -90,7 +92,7 @@ fn work<'a, L: Heap + Send + Sync, W: Write + Drop, R: Threads + Wait + Sync>(
             let marking = scope.spawn(|| marker.mark_cycles(pace, ROUNDS)).ok()?;
             let sweeping = scope.spawn(|| sweeper.sweep_cycles(pace, ROUNDS)).ok()?;
             let outlet = WriteOutlet::new(file);
-            let dumped = dump(rt, alloc, shared, 0, outlet, LastSeen { bytes: 0 });
+            let dumped = dump(rt, alloc, dumper, 0, outlet, LastSeen { bytes: 0 });
             let mutated = first.join(rt).is_some() & second.join(rt).is_some();
             let collected = marking.join(rt).is_ok() & sweeping.join(rt).is_ok();
             if mutated & collected {
@@ -99,9 +101,9 @@ fn work<'a, L: Heap + Send + Sync, W: Write + Drop, R: Threads + Wait + Sync>(
                 None
             }
         },
-    );
-    let totals = audit_all(&[one, two, marker]);
-    Some((totals.ok()?, dumped?))
+    )?;
+    let totals = audit_all(&mut [one, two, marker], &mut dumper.into_witness());
+    Some((totals.ok()?, dumped))
 }
 
 // Defines the classes, and has all threads work. Returns None if anything was refused.
@@ -111,8 +113,11 @@ fn run<L: Heap + Send + Sync, W: Write + Drop, R: Threads + Wait + Sync>(
 ) -> Option<Report<W>> {
     let mut user = actors.take()?;
     define_classes(&mut user, actors.alloc)?;
+    let mut witness = actors.shared.witness(actors.rt);
+    user.meet(&mut witness);
     let team = take_team(&mut actors)?;
-    work(&actors, team, file)
+    let dumper = Dumper::new(actors.shared, actors.rt, witness);
+    work(&actors, team, dumper, file)
 }
 
 // Opens the heap, and has all threads work on it. Returns None if anything was refused.

@@ -4,7 +4,7 @@
 
 Builds `audit.rt.txt` as one more crate of a copy of this repository in a temporary folder, over what checks here kept. With a
 command, that of a program which was built so, runs it instead; words before the program run it, such as `valgrind -q`. Each
-round is a heap of its own, on which each thread does `ACTS` acts by lot (20000), rewinds and whole cycles among them, and
+round is a heap of its own, on which each thread does `ACTS` acts at random (20000), rewinds and whole cycles among them, and
 dumps places under two pins while the others act. Prints a line for each round in which the receipts of a thread don't agree
 with the history or two dumps of one place differ; then how much was done, and the most memory of a round. Status 1 if anything
 was wrong."""
@@ -30,7 +30,7 @@ def counts(said):
 
 
 def main(command, seconds, acts):
-    """Runs rounds for so many seconds. Returns the exit status."""
+    """Runs rounds for some seconds. Returns the exit status."""
     end = time.monotonic() + seconds
     rounds, wrong, total = 0, 0, [0] * len(NAMES)
     while time.monotonic() < end:

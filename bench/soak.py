@@ -3,7 +3,7 @@
 (500,000).
 
 PROGRAM is `bin/heapdbg` if it isn't given; words before its name are a command that runs it, such as `valgrind -q`. The
-clients send lines of every kind by lot, questions and `collect` too, a page of lines at a time, and open two pins on one place,
+clients send lines of every kind at random, questions and `collect` too, a page of lines at a time, and open two pins on one place,
 dump both and close them.
 The program has its two workers, which mark and sweep the cycles that clients begin, and `DUMPERS` more clients (2) fetch dumps
 from its second port, one after another. Prints a line for each reply that is not well formed, for a dump that can't be read or
@@ -101,7 +101,7 @@ def line_by_lot(lot):
 
 
 class Client(Session):
-    """A session that works by lot, with what it saw. It looks at each reply as it came."""
+    """A session that works at random, with what it saw. It looks at each reply as it came."""
 
     def __init__(self, *streams):
         super().__init__(*streams)
@@ -152,7 +152,7 @@ class Client(Session):
         self.close(first)
 
     def works(self, number, seconds):
-        """Works for so many seconds, and ends its session."""
+        """Works for some seconds, and ends its session."""
         lot = random.Random(number)
         start = time.monotonic()
         try:
@@ -184,7 +184,7 @@ class Dumper:
         self.wrong = []
 
     def fetches(self, seconds):
-        """Fetches dumps for so many seconds."""
+        """Fetches dumps for some seconds."""
         end = time.monotonic() + seconds
         while time.monotonic() < end:
             with contextlib.suppress(ConnectionResetError), socket.create_connection(("127.0.0.1", self.port), LIMIT) as client:

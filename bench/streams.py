@@ -16,7 +16,7 @@ LIBRARIES = "live_dump dump_pipe dump_pump crossbeam_channel"
 
 
 def times(program, count, streams):
-    """Returns the seconds of four mutators with so many acts each, those of the streams, and the bytes put out."""
+    """Returns the seconds of four mutators with `count` acts each, those of the streams, and the bytes put out."""
     ran = subprocess.run([program, "4", str(count), str(streams)], capture_output=True, check=True)
     mutators, took, size = map(int, ran.stdout.split())
     return mutators / 1e6, took / 1e6, size

@@ -2,14 +2,14 @@
 """Runs the built program once for each of its allocations, which is refused in that run.
 
 Usage: checks/growths.py [-v] PROGRAM
-A session ends for want of memory before it reads, or refuses one line and answers all others as a session without that line, or
-loses a pin and answers all but its pieces as if it hadn't. A line that was refused is answered as ever when it is given once more,
-and so are all after it. Two clients are served at a time: a session that ends for want of memory has answered nothing, and the
-other one goes on, also beside workers and dumps, of which each is whole or a beginning. A save is the dump of the session's last
-state, or a beginning of it, if the dump is lost for want of memory. If it is lost before its first byte, or the session isn't
-dumped, a file that was there stays what it was, and no file is made. No session asks for much more memory at once than its settings
-need. Prints a line for each session that goes otherwise, and with -v for each how many allocations were refused; ends with status 1
-if one goes otherwise."""
+A session ends by `memory` before it reads, or refuses one line and answers all others as a session without that line, or loses a
+pin and answers all but its pieces as if it hadn't. A line that was refused is answered as ever when it is given once more, and so
+are all after it. Two clients are served at a time: a session that ends by `memory` has answered nothing, and the other one goes on,
+also beside workers and dumps, each of which is whole or a beginning. A save is the dump of the session's last state, or a beginning
+of it if the dump is lost by Memory. If it is lost before its first byte, or the session isn't dumped, a file that was there stays
+as it was, and no file is made. No session asks for much more memory at once than its settings need, and no rewind asks for any.
+Prints a line for each session that goes otherwise, and with -v for each how many allocations were refused; ends with status 1 if one
+goes otherwise."""
 import contextlib
 import os
 import pathlib
@@ -80,6 +80,11 @@ def replies(out):
             found.append((data, line))
             data = []
     return found
+
+
+def words_of(text):
+    """Returns the lines of a text that commas separate."""
+    return [line.strip().encode() for line in text.replace("\n", " ").split(",")]
 
 
 def text_of(lines):
@@ -243,7 +248,7 @@ def wrong_tended(program, library, both, regions):
         if b"refused" not in error:
             return number - 1
         if words == []:
-            # It may listen already when it finds no thread, but it accepts nobody.
+            # It may listen already when a thread is refused, but it accepts nobody.
             good = (status, error) == (1, b"refused\nheapdbg: memory\n") and not any(answers) and not any(fetched)
         elif b"memory" in words:
             at = words.index(b"memory")
@@ -258,7 +263,7 @@ def wrong_tended(program, library, both, regions):
 
 
 def answered(client, given):
-    """Sends bytes to a server, and returns what comes until it closes. A session that ends for want of memory reads nothing."""
+    """Sends bytes to a server, and returns what comes until it closes. A session that ends by `memory` reads nothing."""
     found = b""
     with contextlib.suppress(OSError):
         client.sendall(given)
@@ -406,7 +411,7 @@ def sizes_of_server(program, library, words, clients):
 
 
 def are_right_sizes(sizes, large):
-    """Tells whether the largest of these sizes are at most so large, and no other is larger than a box."""
+    """Tells whether the largest of these sizes are within these limits, and no other is larger than a box."""
     limits = sorted((size for size in large if size > BOX), reverse=True)
     limits += [BOX] * (len(sizes) - len(limits))
     return sizes != [] and all(size <= MARGIN * limit for size, limit in zip(sizes, limits))
@@ -429,6 +434,79 @@ def wrong_sizes(program, library, lines):
         for task, sizes, large in told:
             if not are_right_sizes(sizes, large):
                 yield f"{task} {' '.join(words)}: it asks for {', '.join(map(str, sizes[:8]))} .. bytes"
+
+
+# ---- what undoing asks for
+
+# Steps of all fifteen kinds in a heap of two regions, each answered `ok`: two cycles that leave objects, between which two are
+# removed, and one that leaves none. Registers 1 and 4 are made null, so that the log names the object that `drain` finds.
+STEPS = """class Node - next:object v:long, array [Node;, new 0 0 0, new 0 1 0, newarray 0 2 1 3, newprim 0 3 long 2, put 0 0 1 7,
+    store 0 0 0 1, store 0 2 0 0, load 0 4 0 0, load 0 4 0 1, move 1 0 0 0, clear 0 1, clear 0 4, snap, new 0 5 0, clear 0 3,
+    store 0 0 0 5, mark, mark, drain, mark, mark, finish, sweep 0, snap, mark, mark, mark, finish, sweep 0, clear 0 2, clear 0 5,
+    clear 1 0, clear 0 0, snap, finish, sweep 0"""
+# The places at which pins are opened: before the first step, in the first cycle, and before and after the sweep that removes two.
+PINNED = 0, 18, 30, 31
+
+
+class Counted:
+    """A session whose requests for memory are counted."""
+
+    def __init__(self, program, library):
+        self.sizes = tempfile.NamedTemporaryFile()
+        variables = {"LD_PRELOAD": library, "SIZES": self.sizes.name}
+        pipes = {"stdin": subprocess.PIPE, "stdout": subprocess.PIPE, "bufsize": 0}
+        self.run = subprocess.Popen([program, "run", "--regions", "2"], env=variables, **pipes)
+
+    def requests(self):
+        """Returns how many requests were made so far."""
+        return os.path.getsize(self.sizes.name) // 8
+
+    def reply(self, line):
+        """Sends a line. Returns its reply, and how many requests were made for it."""
+        before = self.requests()
+        self.run.stdin.write(line + b"\n")
+        reply = b""
+        while not reply.endswith(b"\n") and (part := self.run.stdout.read(4096)):
+            reply += part
+        return reply[:-1], self.requests() - before
+
+    def __enter__(self):
+        return self
+
+    def __exit__(self, *_):
+        self.run.kill()
+        self.run.communicate()
+        self.sizes.close()
+
+
+def taken_steps(session, steps, pinned):
+    """Takes steps, with a pin opened at each of these places. Yields what was asked for memory or refused otherwise than it may: the
+    definition of a class asks, and nothing is refused."""
+    for place in range(len(steps) + 1):
+        if place in pinned and not (reply := session.reply(b"open -")[0]).startswith(b"ok pin "):
+            yield f"open - at place {place}: {reply!r}"
+        if place < len(steps):
+            reply, count = session.reply(steps[place])
+            if not reply.startswith(b"ok") or (count == 0 and steps[place].startswith(b"class ")):
+                yield f"{steps[place]!r} at place {place}: {reply!r} after {count} requests"
+
+
+def wrong_undoing(program, library, pinned):
+    """Yields what goes otherwise than it may in a session that takes all steps, with pins opened at these places, undoes them one by one
+    and closes the pins, and takes the steps and undoes them at once: no rewind and no `close` asks for memory."""
+    steps = words_of(STEPS)
+    last = len(steps)
+    with Counted(program, library) as session:
+        yield from taken_steps(session, steps, pinned)
+        told = [(b"rewind %d" % (last + 1), b"no 21 TooFar %d %d" % (last + 1, last))]
+        told += [(b"rewind 1", b"ok place %d" % place) for place in reversed(range(last))]
+        told += [(b"close %d" % (number + 1), b"ok") for number in range(len(pinned))]
+        for line, wanted in told:
+            if (found := session.reply(line)) != (wanted, 0):
+                yield f"{line!r} before {wanted!r}: {found[0]!r} after {found[1]} requests"
+        yield from taken_steps(session, steps, pinned)
+        if (found := session.reply(b"rewind %d" % last)) != (b"ok place 0", 0):
+            yield f"rewind {last}: {found[0]!r} after {found[1]} requests"
 
 
 def told(name, numbers, verbose):
@@ -454,7 +532,7 @@ def main(heapdbg, verbose=False):
         command = [program, "run", "--regions", "2"]
         good = True
         for name, text in SESSIONS.items():
-            lines = [line.strip().encode() for line in text.replace("\n", " ").split(",")]
+            lines = words_of(text)
             good = told(name, wrong_sessions(command, library, lines), verbose) and good
             good = told(f"{name}, saved", wrong_saves(program, library, lines), verbose) and good
             good = told(f"{name}, acts", wrong_acts(program, library, lines), verbose) and good
@@ -465,6 +543,10 @@ def main(heapdbg, verbose=False):
         for regions, both in BESIDE_WORKERS.items():
             name = f"{regions} regions beside workers and dumps"
             good = told(name, wrong_tended(program, library, both, regions), verbose) and good
+        for pinned in ((), PINNED):
+            for line in wrong_undoing(program, library, pinned):
+                print(f"undoing with {len(pinned)} pins, {line}")
+                good = False
     return 0 if good else 1
 
 

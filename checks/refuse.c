@@ -25,7 +25,7 @@ __attribute__((constructor)) static void begin(void) {
     }
 }
 
-/* Notes a request of so many bytes, and tells whether it is refused. */
+/* Notes a request of `size` bytes, and tells whether it is refused. */
 static int is_refused(uint64_t size) {
     if (sizes >= 0 && write(sizes, &size, sizeof size) != sizeof size) {
         abort();

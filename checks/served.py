@@ -21,7 +21,7 @@ def free_port():
 
 
 class Server:
-    """A `serve` of the program, with so many sessions, on a port that was free."""
+    """A `serve` of the program, of `sessions` sessions, on a port that was free."""
 
     def __init__(self, program, sessions, *options):
         self.port = free_port()

@@ -79,7 +79,7 @@ __attribute__((constructor)) static void begin(void) {
     }
 }
 
-/* Returns how many of so many bytes a call may have; -1 if it is interrupted, fails, or would block. */
+/* Returns how many of `size` bytes a call may have; -1 if it is interrupted, fails, or would block. */
 static long room(struct stream *stream, size_t size) {
     if (stream->interrupted < stream->times) {
         stream->interrupted++;

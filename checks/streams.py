@@ -3,18 +3,20 @@
 
 Usage: checks/streams.py PROGRAM ..
 The streams are those of checks/streams.c. Sessions that are read and written in parts are answered as ever; a read that fails, or
-would block, ends a session behind the answers to the lines read whole, and such a write behind the bytes that are out. A save goes
-into files that fail, and is whole though its thread begins late or can't be made. Behind a served session that a fault ended, the
-next client finds the state that it must have left. Prints a line for each difference and ends with status 1 if there is one. Prints
-nothing where all is well."""
+would block, ends a session behind the answers to the lines read whole, and such a write behind the bytes that are out. A save and a
+fetch go into files that fail, and a save is whole though its thread begins late or isn't made. Behind a served session that a fault
+ended, the next client finds the state that it must have left. Prints a line for each difference and ends with status 1 if there is
+one. Prints nothing if all is well."""
 import concurrent.futures
 import contextlib
 import os
 import pathlib
+import socket
 import struct
 import subprocess
 import sys
 import tempfile
+import threading
 
 TOP = pathlib.Path(__file__).resolve().parent.parent
 sys.path[:0] = [str(TOP / "checks"), str(TOP / "checks/model"), str(TOP / "checks/program")]
@@ -170,7 +172,7 @@ def failing_reads(program):
 
 
 def line_behind(lines, text, out):
-    """Returns how many bytes of the lines are read by one a read when so many bytes of their answers are out and the next can't be:
+    """Returns how many bytes of the lines are read, one by each read, when `out` bytes of their answers are out and the next write fails:
     those up to the line that is being answered."""
     at = 0
     for line in lines.splitlines(keepends=True):
@@ -335,6 +337,40 @@ def failing_saves(program):
         yield f"a saved session whose write fails after {count} bytes", (*ran.told(), dump), wanted
 
 
+# ---- dumps that are fetched
+
+
+def fetched(program, given, **rules):
+    """Has `fetch` take these bytes from a server that then closes, by rules as FILE_LEFT=1. Returns status, standard output and error,
+    and what the file has."""
+
+    def sends(listener):
+        # A `fetch` whose file fails may have closed its connection.
+        with contextlib.suppress(OSError), listener.accept()[0] as client:
+            client.sendall(given)
+
+    with socket.create_server(("127.0.0.1", 0)) as listener, tempfile.TemporaryDirectory() as folder:
+        path = pathlib.Path(folder, "heap.hprof")
+        server = threading.Thread(target=sends, args=(listener,))
+        server.start()
+        words = ["heapdbg", "fetch", "--port", str(listener.getsockname()[1]), "--out", str(path)]
+        how = {"capture_output": True, "timeout": SECONDS, "env": program.rules(**rules)}
+        ran = subprocess.run(words, executable=program.program, **how)
+        server.join(SECONDS)
+        return ran.returncode, ran.stdout, ran.stderr, path.read_bytes()
+
+
+def failing_fetches(program):
+    """Yields fetches into files that fail after each number of bytes: these are told, and are in the file."""
+    size = len(POINT_DUMP)
+    for count, most in (*((count, 7) for count in range(size)), (0, size), (1, size), (150, size), (size - 1, size)):
+        wanted = (1, b"failed %d\n" % count, b"heapdbg: out\n", POINT_DUMP[:count])
+        told = fetched(program, POINT_DUMP, FILE_LEFT=count, FILE_MOST=most)
+        yield f"a fetch into a file that fails after {count} bytes, {most} at once", told, wanted
+    told = fetched(program, POINT_DUMP, FILE_LEFT=len(POINT_DUMP), FILE_MOST=7)
+    yield "a fetch into a file with just enough room", told, (0, b"fetched 301\n", b"", POINT_DUMP)
+
+
 # ---- threads that begin late, or can't be made
 
 
@@ -353,7 +389,7 @@ def late_threads(program):
 
 
 CHECKS = (in_parts, pages, interrupted, failing_reads, failing_writes, failing_files, failing_saves)
-CHECKS += (would_block, blocking_saves, blocking_sockets, states_left, outlets_that_fail, late_threads)
+CHECKS += (would_block, blocking_saves, blocking_sockets, states_left, outlets_that_fail, failing_fetches, late_threads)
 
 
 def differences(program, check):

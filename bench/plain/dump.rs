@@ -78,7 +78,7 @@ macro_rules! put {
     }};
 }
 
-/// Puts an id of so many bytes at a place of a text. Writes eight bytes.
+/// Puts an id of `ids` bytes at a place of a text. Writes eight bytes.
 #[inline(always)]
 fn put_id(text: &mut [u8], at: &mut usize, ids: usize, id: u64) {
     let bytes = id << (64 - 8 * ids);
@@ -238,7 +238,7 @@ impl Writer {
         cursor.part = Part::End;
     }
 
-    /// Writes objects, with ids of so many bytes, and returns whether all are written.
+    /// Writes objects, with ids of `IDS` bytes, and returns whether all are written.
     fn objects<const IDS: usize>(&mut self, view: &View, cursor: &mut Cursor, end: &mut usize) -> bool {
         let first = cursor.at;
         for region in first / 256..REGION_LIMIT {
@@ -335,13 +335,13 @@ impl Writer {
     }
 }
 
-/// Returns the bytes of an id of so many bytes, and zeros.
+/// Returns the bytes of an id of `IDS` bytes, and zeros.
 #[inline(always)]
 fn left_aligned<const IDS: usize>(id: u64) -> [u8; 8] {
     (id << (64 - 8 * IDS)).to_be_bytes()
 }
 
-/// Writes the elements of an array, which have so many bytes each.
+/// Writes the elements of an array, which have `WIDTH` bytes each.
 fn elements<const WIDTH: usize>(text: &mut [u8], words: &[u64]) {
     for (bytes, word) in text.as_chunks_mut::<WIDTH>().0.iter_mut().zip(words) {
         bytes.copy_from_slice(&word.to_be_bytes()[8 - WIDTH..]);

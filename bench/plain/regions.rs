@@ -207,7 +207,7 @@ pub fn word_of(address: u32) -> usize {
     (address >> 3) as usize % REGION_WORDS
 }
 
-/// Returns the number of the least cell size that holds so many slots, at most 1,024.
+/// Returns the number of the least cell size that holds `slots` slots, at most 1,024.
 pub fn size_for(slots: usize) -> u8 {
     if slots <= 4 { 0 } else { ((slots - 1).ilog2() as u8) >> 1 }
 }

@@ -50,3 +50,13 @@ pub fn point(alloc: Global) -> Result<Event, AllocError> {
 pub fn new(r: u64) -> Event {
     Event::New { m: 0, r, class: 0 }
 }
+
+/// Creates a write to x of the point in the first register.
+pub fn put_x(value: u64) -> Event {
+    Event::Put {
+        m: 0,
+        target: 0,
+        slot: 0,
+        value,
+    }
+}

@@ -1,7 +1,8 @@
 //! A list of actions that a machine is driven through.
-use crate::scripts::{new, point};
+use super::trials::{Trial, goes_alone, has_point};
+use crate::scripts::new;
 use heap_class::Refusal;
-use heap_lock::{Action, Config, Machine};
+use heap_lock::{Action, Machine};
 use heap_trail::Reply;
 use std::alloc::Global;
 use std::test::Fail;
@@ -23,20 +24,11 @@ fn are_replies(replies: &Result<Vec<Reply>, Refusal>) -> bool {
     )
 }
 
-// Makes a point. Returns whether that was answered.
-fn has_point(alloc: Global, machine: &mut Machine) -> bool {
-    let class = point(alloc);
-    match &class {
-        Ok(class) => machine.step(class).is_ok() && machine.step(&new(0)).is_ok(),
-        Err(_) => false,
-    }
-}
-
-// Makes a point, and drives a machine through a step, a refused rewind, and what a dump asks for. Returns whether the replies are
-// as expected, with the place and the number of retained steps after them.
-fn driven(alloc: Global, machine: &mut Machine) -> Option<(bool, u64, u64)> {
+/// Makes a point, and drives a machine through a step, a refused rewind, and what a dump asks for. Returns whether the replies,
+/// the place and the number of retained steps after them are as expected.
+pub fn is_driven(alloc: Global, machine: &mut Machine) -> bool {
     if !has_point(alloc, machine) {
-        return None;
+        return false;
     }
     let actions = [
         Action::OpenPin(None),
@@ -46,24 +38,11 @@ fn driven(alloc: Global, machine: &mut Machine) -> Option<(bool, u64, u64)> {
         Action::ClosePin(1),
     ];
     let replies = machine.drive(actions.as_slice());
-    Some((
-        are_replies(&replies),
-        machine.place(),
-        machine.retained_count(),
-    ))
-}
-
-// Does so with a new machine, which keeps two steps.
-fn new_driven(alloc: Global) -> Option<(bool, u64, u64)> {
-    let config = Config::new(1, 1, 2)?;
-    match Machine::new(alloc, config) {
-        Ok(mut machine) => driven(alloc, &mut machine),
-        Err(_) => None,
-    }
+    are_replies(&replies) && machine.place() == 3 && machine.retained_count() == 2
 }
 
 #[test]
 fn lists_are_driven(rt: HostRuntime) -> Result<(), Fail> {
-    assert_eq!(rt; new_driven(rt.alloc()), Some((true, 3, 2)));
+    assert!(rt; goes_alone(&rt, rt.alloc(), Trial::IsDriven));
     Ok(())
 }

@@ -1,13 +1,11 @@
 //! Pumps that are cancelled between two parts.
-ghost use Rattle.std.specs.Prelude.{◌≡◌};
-
-use super::dumps::{Case, Noted, Seen, Wanted, Way};
+use super::dumps::{Case, MeterWatch, Noted, PinnedText, Seen, Wanted, Way};
 use super::scenes::{Scene, play_scene};
 use super::shared::pump_into;
 use super::sinks::{Flags, Sink};
 use super::sources::AskingSource;
-use dump_pipe::{AskSeat, Watched};
-use heap_lock::{Dumper, Heap, LockedSource, Shared};
+use dump_pipe::Watched;
+use heap_lock::{Dumper, Heap, LockedSource};
 use live_dump::StreamSeats;
 use std::sync::Wait;
 use std::test::*;
@@ -15,33 +13,34 @@ use std::test::*;
 /// Pumps a pin, watched, from a source that is taken to have given `turn` parts: it asks to cancel before the second, if that
 /// is to come.
 pub fn pumped_asking<L: Heap, R: Wait>(
-    rt: &R,
-    shared: &Shared<L>,
-    pin: u64,
+    at: &PinnedText<'_, L, R>,
     seats: StreamSeats<'_>,
-    asker: &mut AskSeat,
-    text: &[u8],
+    watch: MeterWatch<'_>,
     turn: u64,
-) -> (Noted, Seen)
-    requires { asker.old.meter ≡ seats.meter.now }
-{
+) -> (Noted, Seen) {
+    let (rt, shared) = (at.rt, at.shared);
     let StreamSeats {
         meter,
         out: _,
         feed,
     } = seats;
+    let MeterWatch {
+        meter: asked,
+        mut asker,
+        reader: _,
+    } = watch;
     let mut source = Watched {
         source: AskingSource {
-            source: LockedSource::new(Dumper::new(shared, rt, shared.witness(rt)), pin, 0),
-            cancel: meter.cancel(),
-            seat: asker,
+            source: LockedSource::new(Dumper::new(shared, rt, shared.witness(rt)), at.pin, 0),
+            cancel: asked.cancel(),
+            seat: &mut asker,
             turn,
         },
         cancel: meter.cancel(),
         seat: feed,
     };
     let flags = Flags::new();
-    let seen = pump_into(&mut source, Sink::new(text, &flags));
+    let seen = pump_into(&mut source, Sink::new(at.text, &flags));
     ((true, 0, 0), seen)
 }
 

@@ -4,7 +4,7 @@ ghost use Rattle.std.specs.Prelude.{◌≡◌};
 use super::cancelling::pumped_asking;
 use super::ends::piped;
 use super::live::{streamed_alone, streamed_beside};
-use super::shared::{closes_pin, has_points, opened_pin, pumped_text};
+use super::shared::{Stage, closes_pin, has_points, opened_pin, pumped_text};
 use crate::scripts::ONE_POINT;
 use dump_pipe::{AskSeat, Meter, ReadSeat};
 use dump_pump::Pumped;
@@ -31,40 +31,37 @@ pub enum Act {
     Reads,
 }
 
+/// A dump to an outlet that is held once it took `held` bytes, until another thread acted. It is streamed, or else pumped.
+#[derive(Clone, Copy)]
+pub struct Beside {
+    pub streams: bool,
+    pub held: usize,
+    pub act: Act,
+}
+
 /// How a pin is dumped.
 #[derive(Clone, Copy)]
 pub enum Way {
     /// Pumped, and watched, from a source that is taken to have given `turn` parts: it asks to cancel before the second, if
     /// that is to come.
-    Asking {
-        turn: u64,
-    },
+    Asking { turn: u64 },
     /// Streamed to an outlet of this room, after somebody asked to cancel if they `asked`.
-    Alone {
-        asked: bool,
-        room: usize,
-    },
-    /// Streamed, or else pumped, to an outlet that is held once it took `held` bytes, until another thread acted.
-    Beside {
-        streams: bool,
-        held: usize,
-        act: Act,
-    },
+    Alone { asked: bool, room: usize },
+    /// Streamed or pumped to an outlet that is held.
+    Held(Beside),
     /// Fed to a pipe in one thread, and drained in another once the source was asked `first` times. Notes whether all was fed,
     /// how many parts, and how often the source had been asked when the drain began.
-    Piped {
-        first: u64,
-    },
+    Piped { first: u64 },
 }
 
 /// How a dump is to end. What is out is a beginning of the text.
 #[derive(Clone, Copy)]
 pub enum Wanted {
-    /// All bytes are out, which are so many.
+    /// All bytes are out, and this is their number.
     Done(u64),
-    /// So many are out, and the outlet failed.
+    /// This number of bytes is out, and the outlet failed.
     Failed(u64),
-    /// At least and at most so many are out, and it was cancelled.
+    /// The number of bytes that are out lies between these two or is one of them, and the dump was cancelled.
     Cancelled(u64, u64),
 }
 
@@ -74,6 +71,26 @@ pub struct Case {
     pub way: Way,
     pub noted: Noted,
     pub wanted: Wanted,
+}
+
+/// A pin of a shared heap that is dumped, and the text of its dump.
+#[derive(Drop)]
+pub struct PinnedText<'a, L: Heap, R: Wait> {
+    pub rt: &'a R,
+    pub alloc: Global,
+    pub shared: &'a Shared<L>,
+    pub pin: u64,
+    pub text: &'a [u8],
+}
+
+/// The seats of a meter by which a dump is asked to be cancelled, and its progress is read.
+#[derive(Drop)]
+pub struct MeterWatch<'m> {
+    pub meter: &'m Meter,
+    pub asker: AskSeat,
+    pub reader: ReadSeat,
+    ghost asks: { asker.meter ≡ meter.now },
+    ghost reads: { reader.meter ≡ meter.now },
 }
 
 // Returns whether a dump ended as it was to.
@@ -91,88 +108,80 @@ fn is_wanted(wanted: Wanted, (pumped, taken, is_text): Seen) -> bool {
 
 // Dumps a pin by the seats of a meter. None if there is no pipe.
 fn dumped_by<L: Heap + Send + Sync, R: Threads + Wait + Sync>(
-    rt: &R,
-    alloc: Global,
-    shared: &Shared<L>,
+    at: &PinnedText<'_, L, R>,
     mutator: &mut Seat<L>,
-    pin: u64,
     seats: StreamSeats<'_>,
-    asker: &mut AskSeat,
-    reader: &mut ReadSeat,
-    text: &[u8],
+    watch: MeterWatch<'_>,
     way: Way,
 ) -> Option<(Noted, Seen)>
-    requires out { seats.out.known ≡ 0 }
-    requires asker { asker.old.meter ≡ seats.meter.now }
-    requires reader { reader.old.meter ≡ seats.meter.now }
+    requires { seats.out.known ≡ 0 }
 {
     match way {
-        Way::Asking { turn } => Some(pumped_asking(rt, shared, pin, seats, asker, text, turn)),
-        Way::Alone { asked, room } => Some(streamed_alone(
-            rt, alloc, shared, pin, seats, asker, text, asked, room,
-        )),
-        Way::Beside { streams, held, act } => Some(streamed_beside(
-            rt, alloc, shared, mutator, pin, seats, asker, reader, text, streams, held, act,
-        )),
-        Way::Piped { first } => piped(rt, alloc, shared, pin, seats, text, first),
+        Way::Asking { turn } => Some(pumped_asking(at, seats, watch, turn)),
+        Way::Alone { asked, room } => Some(streamed_alone(at, seats, watch, asked, room)),
+        Way::Held(beside) => Some(streamed_beside(at, mutator, seats, watch, beside)),
+        Way::Piped { first } => piped(at, seats, first),
     }
 }
 
-// Dumps the current state, with a new meter. None if something is refused before.
+// Dumps a pin, with a new meter. None if there is no meter or no pipe.
 fn dumped<L: Heap + Send + Sync, R: Threads + Wait + Sync>(
-    rt: &R,
-    alloc: Global,
-    shared: &Shared<L>,
+    at: &PinnedText<'_, L, R>,
     mutator: &mut Seat<L>,
-    text: &[u8],
     way: Way,
 ) -> Option<(Noted, Seen)> {
-    let pin = opened_pin(rt, shared)?;
-    let Ok(mut made) = Meter::new(alloc, 1, 1) else {
+    let Ok(mut made) = Meter::new(at.alloc, 1, 1) else {
         return None;
     };
-    let Some(mut reader) = made.readers.pop() else {
-        unreachable!();
-    };
-    let Some(mut asker) = made.askers.pop() else {
+    let (Some(reader), Some(asker)) = (made.readers.pop(), made.askers.pop()) else {
         unreachable!();
     };
     let (out, feed) = (made.out, made.feed);
-    let seats = StreamSeats {
-        meter: &made.meter,
-        out,
-        feed,
+    let meter = &made.meter;
+    let seats = StreamSeats { meter, out, feed };
+    let watch = MeterWatch {
+        meter,
+        asker,
+        reader,
     };
-    let went = dumped_by(
+    dumped_by(at, mutator, seats, watch, way)
+}
+
+// Opens a pin, dumps it and closes it. Returns whether the dump goes as it must.
+fn goes<L: Heap + Send + Sync, R: Threads + Wait + Sync>(
+    stage: &Stage<'_, L, R>,
+    mutator: &mut Seat<L>,
+    text: &[u8],
+    case: &Case,
+) -> bool {
+    let (rt, alloc, shared) = (stage.rt, stage.alloc, stage.shared);
+    let Some(pin) = opened_pin(rt, shared) else {
+        return false;
+    };
+    let at = PinnedText {
         rt,
         alloc,
         shared,
-        mutator,
         pin,
-        seats,
-        &mut asker,
-        &mut reader,
         text,
-        way,
-    );
+    };
+    let went = dumped(&at, mutator, case.way);
     closes_pin(rt, shared, pin);
-    went
+    match went {
+        Some((noted, seen)) => noted == case.noted && is_wanted(case.wanted, seen),
+        None => false,
+    }
 }
 
 // Returns whether each of these dumps goes as it must, one after the other.
 fn all_go<L: Heap + Send + Sync, R: Threads + Wait + Sync>(
-    rt: &R,
-    alloc: Global,
-    shared: &Shared<L>,
+    stage: &Stage<'_, L, R>,
     mutator: &mut Seat<L>,
     text: &[u8],
     cases: &[Case],
 ) -> bool {
     for case in cases {
-        let Some((noted, seen)) = dumped(rt, alloc, shared, mutator, text, case.way) else {
-            return false;
-        };
-        if noted != case.noted || !is_wanted(case.wanted, seen) {
+        if !goes(stage, mutator, text, case) {
             return false;
         }
     }
@@ -181,14 +190,12 @@ fn all_go<L: Heap + Send + Sync, R: Threads + Wait + Sync>(
 
 // Returns whether each of these dumps goes as it must, where the text is what a pump puts out.
 fn all_go_as_pumped<L: Heap + Send + Sync, R: Threads + Wait + Sync>(
-    rt: &R,
-    alloc: Global,
-    shared: &Shared<L>,
+    stage: &Stage<'_, L, R>,
     mutator: &mut Seat<L>,
     cases: &[Case],
 ) -> bool {
-    match pumped_text(rt, alloc, shared) {
-        Some(text) => all_go(rt, alloc, shared, mutator, text.as_slice(), cases),
+    match pumped_text(stage) {
+        Some(text) => all_go(stage, mutator, text.as_slice(), cases),
         None => false,
     }
 }
@@ -196,19 +203,17 @@ fn all_go_as_pumped<L: Heap + Send + Sync, R: Threads + Wait + Sync>(
 /// Makes `points` points, each in the first register, and dumps them. Returns whether each dump goes as it must. The text of one
 /// point is given by hand, and of more by a pump.
 pub fn dumps_go<L: Heap + Send + Sync, R: Threads + Wait + Sync>(
-    rt: &R,
-    alloc: Global,
-    shared: &Shared<L>,
+    stage: &Stage<'_, L, R>,
     user: &mut Seat<L>,
     mutator: &mut Seat<L>,
     points: u64,
     cases: &[Case],
 ) -> bool {
-    if !has_points(rt, alloc, shared, user, points) {
+    if !has_points(stage, user, points) {
         return false;
     }
     if points == 1 {
-        return all_go(rt, alloc, shared, mutator, ONE_POINT, cases);
+        return all_go(stage, mutator, ONE_POINT, cases);
     }
-    all_go_as_pumped(rt, alloc, shared, mutator, cases)
+    all_go_as_pumped(stage, mutator, cases)
 }

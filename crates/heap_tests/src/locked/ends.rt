@@ -4,7 +4,7 @@ ghost use Rattle.dump_pipe.specs.Claims.{view, IsSeatAt};
 ghost use Rattle.dump_pipe.specs.Ends.{sends_on, receives_on};
 ghost use Rattle.dump_pipe.specs.declared.end_view.EndView.TheVariants.{Sends, Gets};
 
-use super::dumps::{Case, Noted, Seen, Wanted, Way};
+use super::dumps::{Case, Noted, PinnedText, Seen, Wanted, Way};
 use super::scenes::{Scene, play_scene};
 use super::sinks::{Flags, Sink, reaches};
 use super::sources::Counted;
@@ -12,7 +12,6 @@ use dump_pipe::{BothEnds, Counter, End, Knowledge, Receiver, Sender, drain_pipe,
 use dump_pump::{Ending, WriteOutlet};
 use heap_lock::{Dumper, Heap, LockedSource, Shared};
 use live_dump::StreamSeats;
-use std::alloc::Global;
 use std::sync::Wait;
 use std::sync::atomic::{AtomicU64, Ordering};
 use std::test::*;
@@ -39,6 +38,13 @@ fn feed_counted<L: Heap, R: Wait>(
     (ending == Ending::Whole, source.source.count)
 }
 
+// The number of times that a source was asked, and the number after which its parts are drained.
+#[derive(Clone, Copy)]
+struct Asked<'a> {
+    count: &'a AtomicU64,
+    first: u64,
+}
+
 // Drains a pipe into a sink once the source was asked `first` times. Returns how often it had been asked then, and how that went.
 fn drain_after<R: Wait>(
     rt: &R,
@@ -46,14 +52,13 @@ fn drain_after<R: Wait>(
     end: &mut End,
     counter: &mut Counter<'_>,
     text: &[u8],
-    first: u64,
-    asked: &AtomicU64,
+    asked: Asked<'_>,
 ) -> (u64, Seen)
     requires end { IsSeatAt (receives_on receiver.now) end.old × (view end.old ≡ Gets []) }
     requires counter { counter.old.known ≡ 0 }
 {
-    reaches(asked, first);
-    let count = asked.load(Ordering::SeqCst);
+    reaches(asked.count, asked.first);
+    let count = asked.count.load(Ordering::SeqCst);
     let flags = Flags::new();
     let mut outlet = WriteOutlet::new(Sink::new(text, &flags));
     let pumped = drain_pipe(rt, receiver, end, &mut outlet, counter);
@@ -63,13 +68,10 @@ fn drain_after<R: Wait>(
 
 // Feeds the parts of a pin in one thread, and drains them into a sink in another once the source was asked `first` times.
 fn by_two<L: Heap + Send + Sync, R: Threads + Wait + Sync>(
-    rt: &R,
-    shared: &Shared<L>,
-    pin: u64,
+    at: &PinnedText<'_, L, R>,
     ends: &BothEnds,
     known: &mut Knowledge,
     counter: &mut Counter<'_>,
-    text: &[u8],
     first: u64,
 ) -> (Noted, Seen)
     requires one { IsSeatAt (sends_on ends.now.sender) known.old.one
@@ -78,48 +80,37 @@ fn by_two<L: Heap + Send + Sync, R: Threads + Wait + Sync>(
         × (view known.old.other ≡ Gets []) }
     requires counter { counter.old.known ≡ 0 }
 {
+    let (rt, shared, pin, text) = (at.rt, at.shared, at.pin, at.text);
     let (sender, receiver) = (&ends.sender, &ends.receiver);
     let (one, other) = (&mut known.one, &mut known.other);
-    let asked = &AtomicU64::new(0);
-    let ((whole, given), (count, seen)) = thread::join(
+    let count = &AtomicU64::new(0);
+    let asked = Asked { count, first };
+    let ((whole, given), (before, seen)) = thread::join(
         rt,
         move || -> (bool, u64)
             requires { IsSeatAt (sends_on sender.now) one.now × (view one.now ≡ Sends []) }
-        { feed_counted(rt, shared, pin, sender, one, asked) },
+        { feed_counted(rt, shared, pin, sender, one, count) },
         move || -> (u64, Seen)
             requires { IsSeatAt (receives_on receiver.now) other.now
                 × (view other.now ≡ Gets []) × (counter.now.known ≡ 0) }
-        { drain_after(rt, receiver, other, counter, text, first, asked) },
+        { drain_after(rt, receiver, other, counter, text, asked) },
     );
-    ((whole, given, count), seen)
+    ((whole, given, before), seen)
 }
 
 /// Feeds the parts of a pin in one thread to a new pipe, and drains them in another once the source was asked `first` times.
 /// Notes whether all was fed, how many parts, and how often the source had been asked when the drain began. None if there is no
 /// pipe.
 pub fn piped<L: Heap + Send + Sync, R: Threads + Wait + Sync>(
-    rt: &R,
-    alloc: Global,
-    shared: &Shared<L>,
-    pin: u64,
+    at: &PinnedText<'_, L, R>,
     seats: StreamSeats<'_>,
-    text: &[u8],
     first: u64,
 ) -> Option<(Noted, Seen)>
     requires { seats.out.known ≡ 0 }
 {
     let mut counter = Counter::new(seats.meter.progress(), seats.out);
-    match pipe(alloc) {
-        Ok((ends, mut known)) => Some(by_two(
-            rt,
-            shared,
-            pin,
-            &ends,
-            &mut known,
-            &mut counter,
-            text,
-            first,
-        )),
+    match pipe(at.alloc) {
+        Ok((ends, mut known)) => Some(by_two(at, &ends, &mut known, &mut counter, first)),
         Err(_) => None,
     }
 }

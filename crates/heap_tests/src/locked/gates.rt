@@ -12,20 +12,26 @@ use std::test::*;
 use std::thread;
 use std::thread::Threads;
 
+// The turn that a gate was told, and the turn at which another seat acted.
+#[derive(Drop)]
+struct Turns {
+    here: AtomicU64,
+    seen: AtomicU64,
+}
+
 // A gate at which another seat acts: each pass waits until that is answered, and lets no act begin if it never is. Counts the
 // passes.
 #[derive(Drop)]
 struct WatchedGate<'a> {
     passes: u64,
-    here: &'a AtomicU64,
-    seen: &'a AtomicU64,
+    turns: &'a Turns,
 }
 
 impl<'a> Gate for WatchedGate<'a> {
     fn pass(&mut self, turn: u64) -> bool {
         self.passes = self.passes.saturating_add(1);
-        self.here.store(turn, Ordering::SeqCst);
-        reaches(self.seen, turn)
+        self.turns.here.store(turn, Ordering::SeqCst);
+        reaches(&self.turns.seen, turn)
     }
 }
 
@@ -45,46 +51,40 @@ fn acts_at_each<L: Heap, R: Wait>(
     user: &mut Seat<L>,
     first: u64,
     passes: u64,
-    here: &AtomicU64,
-    seen: &AtomicU64,
+    turns: &Turns,
 ) -> bool {
     let mut entries = first;
     for before in 0..passes {
         let turn = before + 1;
-        if !reaches(here, turn)
-            || here.load(Ordering::SeqCst) != turn
+        if !reaches(&turns.here, turn)
+            || turns.here.load(Ordering::SeqCst) != turn
             || clears(rt, shared, user) != entries.saturating_add(1)
         {
             return false;
         }
         entries = entries.saturating_add(2);
-        seen.store(turn, Ordering::SeqCst);
+        turns.seen.store(turn, Ordering::SeqCst);
     }
     true
 }
 
-// Runs the worker of a seat for `turns` turns. Returns whether it used them up, and passed the gate as often.
+// Runs the worker of a seat for `count` turns. Returns whether it used them up, and passed the gate as often.
 fn works<L: Heap, R: Wait>(
     rt: &R,
     shared: &Shared<L>,
     seat: &mut Seat<L>,
-    turns: u64,
-    here: &AtomicU64,
-    seen: &AtomicU64,
+    count: u64,
+    turns: &Turns,
 ) -> bool {
-    let mut gate = WatchedGate {
-        passes: 0,
-        here,
-        seen,
-    };
+    let mut gate = WatchedGate { passes: 0, turns };
     let ended = matches!(
-        run_worker(rt, shared, seat, &mut gate, turns),
+        run_worker(rt, shared, seat, &mut gate, count),
         Some((
             WorkEnd::Marked(MarkEnd::TurnsOver) | WorkEnd::Swept(SweepEnd::Swept),
             _
         ))
     );
-    ended && gate.passes == turns
+    ended && gate.passes == count
 }
 
 // Runs a worker in one thread, and acts at each of its passes in another, after `first` entries. Returns whether both went as
@@ -95,14 +95,16 @@ fn both_go<L: Heap + Send + Sync, R: Threads + Wait + Sync>(
     worker: &mut Seat<L>,
     user: &mut Seat<L>,
     first: u64,
-    turns: u64,
+    count: u64,
 ) -> bool {
-    let here = &AtomicU64::new(0);
-    let seen = &AtomicU64::new(0);
+    let turns = &Turns {
+        here: AtomicU64::new(0),
+        seen: AtomicU64::new(0),
+    };
     let (worked, acted) = thread::join(
         rt,
-        move || works(rt, shared, worker, turns, here, seen),
-        move || acts_at_each(rt, shared, user, first, turns, here, seen),
+        move || works(rt, shared, worker, count, turns),
+        move || acts_at_each(rt, shared, user, first, count, turns),
     );
     worked && acted
 }

@@ -2,14 +2,14 @@
 ghost use Rattle.std.specs.Prelude.{◌≡◌};
 ghost use denote.Param.Send.{IsSync};
 
-use super::dumps::{Act, Noted, Seen};
-use super::shared::{acts, pump_into, put_x};
+use super::dumps::{Act, Beside, MeterWatch, Noted, PinnedText, Seen};
+use super::shared::{acts, pump_into};
 use super::sinks::{Flags, Sink, TURNS, reaches};
-use dump_pipe::{AskSeat, Meter, Progress, ReadSeat};
+use crate::scripts::put_x;
+use dump_pipe::{Progress, ReadSeat};
 use dump_pump::WriteOutlet;
 use heap_lock::{Dumper, Heap, LockedSource, Seat, Shared};
 use live_dump::{LivePin, StreamSeats, stream};
-use std::alloc::Global;
 use std::sync::Wait;
 use std::sync::atomic::{AtomicU64, Ordering};
 use std::thread;
@@ -38,14 +38,14 @@ fn acts_once_held<L: Heap, R: Wait>(
     shared: &Shared<L>,
     mutator: &mut Seat<L>,
     act: Act,
-    meter: &Meter,
-    asker: &mut AskSeat,
-    reader: &mut ReadSeat,
+    watch: MeterWatch<'_>,
     flags: &Flags,
-) -> Noted
-    requires asker { asker.old.meter ≡ meter.now }
-    requires reader { reader.old.meter ≡ meter.now }
-{
+) -> Noted {
+    let MeterWatch {
+        meter,
+        mut asker,
+        mut reader,
+    } = watch;
     let held = reaches(&flags.here, 1);
     match act {
         Act::Writes => {
@@ -54,15 +54,15 @@ fn acts_once_held<L: Heap, R: Wait>(
             (held && answered, 0, 0)
         }
         Act::Asks => {
-            meter.cancel().ask(asker);
+            meter.cancel().ask(&mut asker);
             flags.gate.store(1, Ordering::SeqCst);
             (held, 0, 0)
         }
         Act::Reads => {
             let progress = meter.progress();
-            let first = progress.read(reader);
+            let first = progress.read(&mut reader);
             flags.gate.store(1, Ordering::SeqCst);
-            let (last, is_most) = read_along(&progress, reader, &flags.done);
+            let (last, is_most) = read_along(&progress, &mut reader, &flags.done);
             (held && is_most, first, last)
         }
     }
@@ -70,59 +70,49 @@ fn acts_once_held<L: Heap, R: Wait>(
 
 // Streams the dump of a pin into a sink.
 fn stream_into<L: Heap + Send + Sync, R: Threads + Wait + Sync>(
-    rt: &R,
-    alloc: Global,
-    shared: &Shared<L>,
-    pin: u64,
+    at: &PinnedText<'_, L, R>,
     seats: StreamSeats<'_>,
     sink: Sink<'_>,
 ) -> Seen
     requires { seats.out.known ≡ 0 }
 {
     let live = LivePin {
-        dumper: Dumper::new(shared, rt, shared.witness(rt)),
-        pin,
+        dumper: Dumper::new(at.shared, at.rt, at.shared.witness(at.rt)),
+        pin: at.pin,
         time: 0,
     };
     let mut outlet = WriteOutlet::new(sink);
-    let (pumped, _, _) = stream(rt, alloc, live, &mut outlet, seats);
+    let (pumped, _, _) = stream(at.rt, at.alloc, live, &mut outlet, seats);
     let sink = outlet.into_writer();
     (pumped, sink.taken, sink.is_text)
 }
 
 /// Streams the dump of a pin into a sink of this room, after somebody asked to cancel it if they `asked`.
 pub fn streamed_alone<L: Heap + Send + Sync, R: Threads + Wait + Sync>(
-    rt: &R,
-    alloc: Global,
-    shared: &Shared<L>,
-    pin: u64,
+    at: &PinnedText<'_, L, R>,
     seats: StreamSeats<'_>,
-    asker: &mut AskSeat,
-    text: &[u8],
+    watch: MeterWatch<'_>,
     asked: bool,
     room: usize,
 ) -> (Noted, Seen)
-    requires out { seats.out.known ≡ 0 }
-    requires asker { asker.old.meter ≡ seats.meter.now }
+    requires { seats.out.known ≡ 0 }
 {
+    let mut watch = watch;
     if asked {
-        seats.meter.cancel().ask(asker);
+        watch.meter.cancel().ask(&mut watch.asker);
     }
     let flags = Flags::new();
     let sink = Sink {
         room,
-        ..Sink::new(text, &flags)
+        ..Sink::new(at.text, &flags)
     };
-    let seen = stream_into(rt, alloc, shared, pin, seats, sink);
+    let seen = stream_into(at, seats, sink);
     ((true, 0, 0), seen)
 }
 
 // Streams, or else pumps, the dump of a pin into a sink that is held.
 fn held_into<L: Heap + Send + Sync, R: Threads + Wait + Sync>(
-    rt: &R,
-    alloc: Global,
-    shared: &Shared<L>,
-    pin: u64,
+    at: &PinnedText<'_, L, R>,
     seats: StreamSeats<'_>,
     streams: bool,
     sink: Sink<'_>,
@@ -130,46 +120,37 @@ fn held_into<L: Heap + Send + Sync, R: Threads + Wait + Sync>(
     requires { seats.out.known ≡ 0 }
 {
     if streams {
-        return stream_into(rt, alloc, shared, pin, seats, sink);
+        return stream_into(at, seats, sink);
     }
-    let mut source = LockedSource::new(Dumper::new(shared, rt, shared.witness(rt)), pin, 0);
+    let dumper = Dumper::new(at.shared, at.rt, at.shared.witness(at.rt));
+    let mut source = LockedSource::new(dumper, at.pin, 0);
     pump_into(&mut source, sink)
 }
 
 /// Streams, or else pumps, the dump of a pin into a sink that is held once it took `held` bytes, until another thread acted.
 pub fn streamed_beside<L: Heap + Send + Sync, R: Threads + Wait + Sync>(
-    rt: &R,
-    alloc: Global,
-    shared: &Shared<L>,
+    at: &PinnedText<'_, L, R>,
     mutator: &mut Seat<L>,
-    pin: u64,
     seats: StreamSeats<'_>,
-    asker: &mut AskSeat,
-    reader: &mut ReadSeat,
-    text: &[u8],
-    streams: bool,
-    held: usize,
-    act: Act,
+    watch: MeterWatch<'_>,
+    beside: Beside,
 ) -> (Noted, Seen)
-    requires out { seats.out.known ≡ 0 }
-    requires asker { asker.old.meter ≡ seats.meter.now }
-    requires reader { reader.old.meter ≡ seats.meter.now }
+    requires { seats.out.known ≡ 0 }
 {
-    let meter = seats.meter;
+    let (rt, shared) = (at.rt, at.shared);
+    let Beside { streams, held, act } = beside;
     let flags = &Flags::new();
     thread::join(
         rt,
-        move || -> Noted
-            requires { (asker.now.meter ≡ meter.now) × (reader.now.meter ≡ meter.now) }
-        { acts_once_held(rt, shared, mutator, act, meter, asker, reader, flags) },
+        move || acts_once_held(rt, shared, mutator, act, watch, flags),
         move || -> Seen
             requires { IsSync R.row × (seats.out.known ≡ 0) }
         {
             let sink = Sink {
                 held,
-                ..Sink::new(text, flags)
+                ..Sink::new(at.text, flags)
             };
-            let seen = held_into(rt, alloc, shared, pin, seats, streams, sink);
+            let seen = held_into(at, seats, streams, sink);
             flags.done.store(1, Ordering::SeqCst);
             seen
         },

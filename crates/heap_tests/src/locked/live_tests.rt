@@ -1,26 +1,26 @@
 //! Dumps of a shared heap's pin while another thread acts, by `pump` and by `stream`.
-use super::dumps::{Act, Case, Wanted, Way};
+use super::dumps::{Act, Beside, Case, Wanted, Way};
 use super::scenes::{Scene, play_scene};
 use std::test::*;
 
 // A dump of one point, pumped while a mutator writes to it. It is that of its pin.
 const PUMPED: &[Case] = &[Case {
-    way: Way::Beside {
+    way: Way::Held(Beside {
         streams: false,
         held: 0,
         act: Act::Writes,
-    },
+    }),
     noted: (true, 0, 0),
     wanted: Wanted::Done(301),
 }];
 
 // The same, streamed.
 const STREAMED: &[Case] = &[Case {
-    way: Way::Beside {
+    way: Way::Held(Beside {
         streams: true,
         held: 0,
         act: Act::Writes,
-    },
+    }),
     noted: (true, 0, 0),
     wanted: Wanted::Done(301),
 }];
@@ -36,11 +36,11 @@ const CUT: &[Case] = &[
         wanted: Wanted::Done(66412),
     },
     Case {
-        way: Way::Beside {
+        way: Way::Held(Beside {
             streams: true,
             held: 8000,
             act: Act::Asks,
-        },
+        }),
         noted: (true, 0, 0),
         wanted: Wanted::Cancelled(8000, 66411),
     },

@@ -1,5 +1,5 @@
 //! Dumps of a shared heap's pin that count their bytes by a meter: read, failing, and cancelled before they begin.
-use super::dumps::{Act, Case, Wanted, Way};
+use super::dumps::{Act, Beside, Case, Wanted, Way};
 use super::scenes::{Scene, play_scene};
 use std::test::*;
 
@@ -8,11 +8,11 @@ use std::test::*;
 // them is whole.
 const METERED: &[Case] = &[
     Case {
-        way: Way::Beside {
+        way: Way::Held(Beside {
             streams: true,
             held: 1,
             act: Act::Reads,
-        },
+        }),
         noted: (true, 143, 1258),
         wanted: Wanted::Done(1258),
     },

@@ -4,7 +4,9 @@ ghost use Rattle.heap_lock.specs.Blanks.{IsNamed};
 use super::dumps::{Case, dumps_go};
 use super::gates::watched_workers;
 use super::rolls::rolling;
+use super::shared::Stage;
 use super::threads::four_threads;
+use super::watched::cuts;
 use super::workers::cycles;
 use heap_lock::{Action, Blank, Config, Heap, Receipt, Role, Seat, Seats, Shared};
 use std::alloc::Global;
@@ -15,12 +17,13 @@ use std::thread::Threads;
 /// What is played on a new heap. The function of the same name says what it is.
 #[derive(Clone, Copy)]
 pub enum Scene {
-    /// `dumps_go`, with so many points, and these dumps.
+    /// `dumps_go`, with this number of points, and these dumps.
     Dumps(u64, &'static [Case]),
     WatchedWorkers,
     Rolling,
     FourThreads,
     Cycles,
+    Cuts,
 }
 
 /// A seat, and what it claims: its actions with their receipts.
@@ -57,11 +60,13 @@ fn play<L: Heap + Send + Sync, R: Threads + Wait + Sync>(
     };
     let (user, marker) = (&mut user.seat, &mut marker.seat);
     let (sweeper, mutator) = (&mut sweeper.seat, &mut mutator.seat);
+    let stage = &Stage { rt, alloc, shared };
     match scene {
-        Scene::Dumps(points, cases) => dumps_go(rt, alloc, shared, user, mutator, points, cases),
+        Scene::Dumps(points, cases) => dumps_go(stage, user, mutator, points, cases),
         Scene::WatchedWorkers => watched_workers(rt, alloc, shared, user, marker, sweeper),
         Scene::Rolling => rolling(rt, shared, user),
         Scene::FourThreads => four_threads(rt, shared, actors),
+        Scene::Cuts => cuts(stage, user),
         Scene::Cycles => cycles(rt, alloc, shared, user, marker, sweeper),
     }
 }

@@ -3,11 +3,19 @@ ghost use Rattle.std.specs.Prelude.{◌<◌};
 
 use super::dumps::Seen;
 use super::sinks::Sink;
-use crate::scripts::{new, point};
+use crate::scripts::{new, point, put_x};
 use dump_pump::{Source, WriteOutlet, pump};
 use heap_lock::{Dumper, Event, Heap, LockedSource, Receipt, Seat, Shared};
 use std::alloc::Global;
 use std::sync::Wait;
+
+/// A heap that a scene is played on, and what it takes beside it.
+#[derive(Drop)]
+pub struct Stage<'a, L: Heap, R: Wait> {
+    pub rt: &'a R,
+    pub alloc: Global,
+    pub shared: &'a Shared<L>,
+}
 
 /// Does an event, if the seat may. Returns its receipt, or None if it has no entry.
 pub fn did<L: Heap, R: Wait>(
@@ -32,26 +40,15 @@ pub fn acts<L: Heap, R: Wait>(
     did(rt, shared, seat, event).is_some()
 }
 
-/// Creates a write to x of the point in the first register.
-pub fn put_x(value: u64) -> Event {
-    Event::Put {
-        m: 0,
-        target: 0,
-        slot: 0,
-        value,
-    }
-}
-
 /// Defines the class of points and makes `count` points, each in the first register, and writes 7 to x of the last. Returns
 /// whether all was answered.
 pub fn has_points<L: Heap, R: Wait>(
-    rt: &R,
-    alloc: Global,
-    shared: &Shared<L>,
+    stage: &Stage<'_, L, R>,
     user: &mut Seat<L>,
     count: u64,
 ) -> bool {
-    let Ok(class) = point(alloc) else {
+    let (rt, shared) = (stage.rt, stage.shared);
+    let Ok(class) = point(stage.alloc) else {
         return false;
     };
     if !acts(rt, shared, user, class) {
@@ -89,10 +86,11 @@ pub fn pump_into<S: Source>(source: &mut S, sink: Sink<'_>) -> Seen
 }
 
 /// Pumps the dump of the current state, and returns it. None if no pin is opened.
-pub fn pumped_text<L: Heap, R: Wait>(rt: &R, alloc: Global, shared: &Shared<L>) -> Option<Vec<u8>> {
+pub fn pumped_text<L: Heap, R: Wait>(stage: &Stage<'_, L, R>) -> Option<Vec<u8>> {
+    let (rt, shared) = (stage.rt, stage.shared);
     let pin = opened_pin(rt, shared)?;
     let mut source = LockedSource::new(Dumper::new(shared, rt, shared.witness(rt)), pin, 0);
-    let mut outlet = WriteOutlet::new(Vec::new(alloc));
+    let mut outlet = WriteOutlet::new(Vec::new(stage.alloc));
     pump(&mut source, &mut outlet);
     closes_pin(rt, shared, pin);
     Some(outlet.into_writer())

@@ -366,6 +366,102 @@ def lists_beside_cycles(program):
         yield "lists beside cycles", (found, server.ended()), wanted
 
 
+def undone_cycles(program):
+    """Yields where the heap is 30 ms after each of 40 times 3,000 cycles that are begun and undone at once, with a marker beside
+    them: where it was, whenever the last `rewind` undid its `snap`, as it does almost always."""
+    pairs = b"snap\nrewind 1\n" * 3000
+    with Server(program, 1, "--workers", "1") as server, server.client() as client, client.makefile("rb") as come:
+        made = replies_to(client, come, [b"class Point - x:int", b"new 0 0 0", b"clear 0 0"])
+        undone, found = 0, []
+        for _ in range(40):
+            client.sendall(pairs)
+            last = [come.readline() for _ in range(6000)][-1]
+            time.sleep(0.03)
+            place = replies_to(client, come, [b"rewind 0"])[0]
+            if last == b"ok place 3\n":
+                undone += 1
+                found.append(place)
+            # A mark came between, so the cycle that the last `snap` began goes on: back to before it.
+            elif (steps := int(place.split()[2]) - 3) > 0:
+                replies_to(client, come, [b"rewind %d" % steps])
+        client.sendall(b"end\n")
+        found = made[-1], undone > 10, set(found), server.ended()
+    yield "cycles that are undone", found, (b"ok\n", True, {b"ok place 3\n"}, (0, ["quit"], b""))
+
+
+def entries_of_collect(program):
+    """Yields what `collect` answers, and how many entries it takes, on a heap of 256 regions: one for each of its four steps, so
+    that it ends while the chronicle has room for just these."""
+    lines = b"class Point - x:int\nnew 0 0 0\n"
+    with Server(program, 1, "--regions", "256", "--questions", "1") as server, server.client() as client:
+        # Two entries are made, four are the cycle's, and one is left.
+        given = lines + b"clear 0 9\n" * 999_993 + b"collect\nclear 0 9\nclear 0 9\ncollect\nend\n"
+        writer = threading.Thread(target=client.sendall, args=(given,))
+        writer.start()
+        answers = all_of(client).splitlines()
+        writer.join(LIMIT)
+        found = answers[:2], set(answers[2:999_995]), answers[999_995:], server.ended()
+    bad, full = b"no 7 BadRegister", b"no 26 ChronicleFull"
+    made = [b"ok class 0", b"ok object 0x10000000"]
+    yield "entries of collect", found, (made, {bad}, [b"ok condemned 0 swept 0", bad, full, full], (0, ["quit"], b""))
+
+
+HTTP = b"POST / HTTP/1.1\r\nHost: 127.0.0.1\r\n\r\nclear 0 0\nrewind 1\nend\n"
+# First lines that end a session of `serve` before anything is run.
+REQUESTS = HTTP, HTTP.replace(b"\r", b""), b"GET /x HTTP/1.0\n", b" HTTP/1.9\r\n", b"array HTTP/1.1\nend\n"
+# First lines that don't, and what the session answers.
+OTHER_LINES = (
+    (b"x HTTP/1.1 y\nclear 0 0\nend\n", b"bad command\nok\n", "quit"),
+    (b"x HTTP/1.11\nend\n", b"bad command\n", "quit"),
+    (b"HTTP/1.1\nend\n", b"bad command\n", "quit"),
+    (b"x HTTP/1.x\nend\n", b"bad command\n", "quit"),
+    (b"x HTTP/1.1\r\r\nend\n", b"bad command\n", "quit"),
+    (b"x HTTP/2.0\nend\n", b"bad command\n", "quit"),
+    (b"clear 0 0\nPOST / HTTP/1.1\nclear 0 0\nend\n", b"ok\nbad command\nok\n", "quit"),
+    (b"\nPOST / HTTP/1.1\nend\n", b"bad command\n", "quit"),
+    (b"POST / HTTP/1.1", b"bad cut\n", "cut"),
+    (b"", b"", "eof"),
+    (b"a" * 4087 + b" HTTP/1.1\nend\n", None, "http"),
+    (b"a" * 4088 + b" HTTP/1.1\nend\n", b"bad long\n", "long"),
+)
+
+
+def exchanged_in_parts(server, given, size):
+    """Sends bytes from a new client in parts of a size, and returns what came until the server closed or cut the connection."""
+    with server.client() as client:
+        client.setsockopt(socket.IPPROTO_TCP, socket.TCP_NODELAY, 1)
+        come = b""
+        with contextlib.suppress(ConnectionError):
+            for at in range(0, len(given), size):
+                client.sendall(given[at : at + size])
+                time.sleep(0.0005 if size < 64 else 0)
+            client.shutdown(socket.SHUT_WR)
+        with contextlib.suppress(ConnectionError):
+            while part := client.recv(4096):
+                come += part
+        return come
+
+
+def http_requests(program):
+    """Yields what clients have whose first line ends as that of an HTTP request does, in one write or many: no byte, and none of
+    their lines is run; and what those have whose first line doesn't."""
+    with Server(program, 2 + 2 * len(REQUESTS)) as server:
+        with server.client() as client, client.makefile("rb") as come:
+            before = replies_to(client, come, [b"class Point - x:int", b"new 0 0 0"])
+            found = [exchanged_in_parts(server, given, size) for given in REQUESTS for size in (1, len(given))]
+            after = replies_to(client, come, [b"load 0 1 0 0", b"rewind 0"])
+            client.sendall(b"end\n")
+            found = before, found, after, exchanged(server, b"end\n"), server.ended()
+    made = [b"ok class 0\n", b"ok object 0x10000000\n"]
+    wanted = [b""] * 2 * len(REQUESTS), [b"ok value 0\n", b"ok place 3\n"], b""
+    yield "HTTP requests", found, (made, *wanted, (0, ["quit"] + ["http"] * 2 * len(REQUESTS) + ["quit"], b""))
+    for given, answers, word in OTHER_LINES:
+        with Server(program, 3) as server:
+            sizes = (len(given) or 1, 7 if len(given) < 100 else 1000, 4090)
+            found = [exchanged_in_parts(server, given, size) for size in sizes], server.ended()
+        yield f"first line {given[-40:]!r}", found, ([answers or b""] * 3, (0, [word] * 3, b""))
+
+
 def old_acts(program):
     """Yields what a client has of more acts than a heap keeps, of a heap that drops old ones and of one that doesn't."""
     lines = b"clear 0 0\n" * 1_000_001 + b"rewind 2\nend\n"
@@ -545,8 +641,9 @@ def cut_dumps(program):
 
 HOSTILE = closing_clients, resetting_clients, silent_reader, endless_line, many_sessions, taken_port, closing_servers
 OTHERS = other_addresses, answers_one_by_one, lines_in_parts, open_input, full_output, one_client_more, workers, lists_beside_cycles, old_acts
+ADDED = undone_cycles, entries_of_collect, http_requests
 DUMPS = served_dumps, unread_dump, resetting_dumps, cut_dumps
-CASES = (*HOSTILE, *OTHERS, *DUMPS)
+CASES = (*HOSTILE, *OTHERS, *ADDED, *DUMPS)
 
 
 def differences(program):

@@ -5,3 +5,6 @@ pub mod Acts
 pub mod DumpTexts
 pub mod WorkerRuns
 pub mod HeldSteps
+pub mod FirstLines
+pub mod AheadReads
+pub mod ClientSessions

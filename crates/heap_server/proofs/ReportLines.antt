@@ -3,10 +3,10 @@ use Rattle.std.proofs.Common.{◌≡◌, ℕ, zero, suc, ◌+◌, ◌<◌, List,
 use Rattle.std.proofs.lemmas.List.{append-nil}
 use Rattle.std.specs.Prelude.{slice_index_or}
 use Rattle.std.specs.Io.KnownBytes.{Appends}
-use Rattle.session_text.specs.declared.Ended.{Ended}
+use Rattle.heap_server.specs.declared.client_session.SessionEnd.{SessionEnd}
 use Rattle.heap_server.specs.Reports.{line_of, report_of}
 
-report_more : (n i : ℕ) (xs : List Ended) (d : Ended) → i < length xs → report_of n (take (i + 1) xs) ≡ report_of n (take i xs) ++ line_of (n + i) (slice_index_or xs i d)
+report_more : (n i : ℕ) (xs : List SessionEnd) (d : SessionEnd) → i < length xs → report_of n (take (i + 1) xs) ≡ report_of n (take i xs) ++ line_of (n + i) (slice_index_or xs i d)
 report_more n i [] d lt = absurd (omega arith)
 report_more n zero (x ∷ xs) d lt = append-nil (line_of n x) ∙ ap (λ k. line_of k x) (omega arith)
 report_more n (suc i) (x ∷ xs) d lt =
@@ -24,7 +24,7 @@ appends_then (Some x) (Some y) None xs ys p q = absurd q
 appends_then (Some x) (Some y) (Some z) xs ys p q = q ∙ ap (λ l. l ++ ys) p ∙ append_assoc x xs ys
 
 -- a line more is written
-pub told : (a b c : Option (List ℕ)) (i : ℕ) (ends : List Ended) (d : Ended) → i < length ends → Appends a b (report_of 1 (take i ends)) → Appends b c (line_of (i + 1) (slice_index_or ends i d))
+pub told : (a b c : Option (List ℕ)) (i : ℕ) (ends : List SessionEnd) (d : SessionEnd) → i < length ends → Appends a b (report_of 1 (take i ends)) → Appends b c (line_of (i + 1) (slice_index_or ends i d))
     → Appends a c (report_of 1 (take (i + 1) ends))
 told a b c i ends d lt p q =
     subst (λ l. Appends a c l) (sym (report_more 1 i ends d lt ∙ ap (λ k. report_of 1 (take i ends) ++ line_of k (slice_index_or ends i d)) (omega arith)))

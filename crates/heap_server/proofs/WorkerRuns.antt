@@ -1,5 +1,6 @@
 -- Runs of a worker, one after another.
-use Rattle.std.proofs.Common.{◌≡◌, ℕ, Bool, true, false, List, [], ◌∷◌, ◌++◌, refl, sym, ap, ◌∙◌, subst, inl, inr}
+use Rattle.std.proofs.Common.{◌≡◌, ℕ, Bool, true, false, List, [], ◌∷◌, ◌++◌, refl, sym, ap, ◌∙◌, subst, inl, inr, append_assoc, append-nil}
+use Rattle.std.specs.List.{AllByRecursion}
 use Rattle.heap_lock.specs.HeapLimits.{HeapSettings}
 use Rattle.heap_lock.specs.Entry.{Entry}
 use Rattle.heap_lock.specs.declared.role.Role.TheVariants.{Marker, Sweeper}
@@ -10,7 +11,7 @@ use Rattle.heap_work.specs.declared.MarkEnd.{MarkEnd}
 use Rattle.heap_work.specs.declared.MarkEnd.TheVariants.{Finished, NotMarking, Pending, Refused, Stopped, TurnsOver}
 use Rattle.heap_work.specs.declared.Stage.{Stage}
 use Rattle.heap_work.specs.declared.SweepEnd.{SweepEnd}
-use Rattle.heap_work.specs.Rule.{EndsMarking, IsMarkWork, IsSweepWork}
+use Rattle.heap_work.specs.Rule.{BeginsNoCycle, EndsMarking, IsMarkWorkFrom, IsNoSnap, IsResumedWork, IsSweepWork}
 use Rattle.heap_server.specs.Tending.{AreRuns, MarksOnce, SweepsOnce, TakesTurn, Tends, rests_in, role_for, turn_limit}
 use Rattle.heap_server.specs.declared.tending.Duty.{Duty}
 use Rattle.heap_server.specs.declared.tending.Duty.TheVariants.{Mark, Sweep}
@@ -23,14 +24,24 @@ runs_more : {E : Type 0} (W : Chair → Chair → E → Type 0) (s m s' : Chair)
     → (all : List (Chair × E)) × AreRuns W s all s'
 runs_more W s m s' a b = (a.0 ++ b.0, joined W a.0 b.0 s m s' a.1 b.1)
 
+all_join : (P : ℕ × Entry → Type 0) (xs ys : List (ℕ × Entry)) → AllByRecursion P xs → AllByRecursion P ys → AllByRecursion P (xs ++ ys)
+all_join P [] ys h k = k
+all_join P (x ∷ xs) ys h k = (h.0, all_join P xs ys h.1 k)
+
+begins_more : (s m s' : Chair) → BeginsNoCycle s m → BeginsNoCycle m s' → BeginsNoCycle s s'
+begins_more s m s' a b =
+    (a.0 ++ b.0, b.1 ∙ ap (λ l. l ++ b.0) a.1 ∙ append_assoc s.share a.0 b.0, all_join IsNoSnap a.0 b.0 a.2 b.2)
+
 -- ---- runs of a work
 
 pub works_none : (duty : Duty) (config : HeapSettings) (s : Chair) → Tends duty config s s
-works_none Mark config s = ([], refl)
+works_none Mark config s = record { runs = []; each = refl; begins = ([], sym (append-nil s.share), tt) }
 works_none Sweep config s = ([], refl)
 
 pub works_more : (duty : Duty) (config : HeapSettings) (s m s' : Chair) → Tends duty config s m → Tends duty config m s' → Tends duty config s s'
-works_more Mark config s m s' a b = runs_more (MarksOnce config) s m s' a b
+works_more Mark config s m s' a b =
+    let all = runs_more (MarksOnce config) s m s' (a.runs, a.each) (b.runs, b.each) in
+    record { runs = all.0; each = all.1; begins = begins_more s m s' a.begins b.begins }
 works_more Sweep config s m s' a b = runs_more (SweepsOnce config) s m s' a b
 
 -- ---- one run
@@ -54,12 +65,12 @@ seen_as config duty seen seen' b d is h = (h.0, h.1, sym h.2 ∙ is)
 pub rests : (duty : Duty) (config : HeapSettings) (s s' : Chair) (seen seen' : List Call) (b : Bool) → b ≡ true → IsSeen config seen (λ w. b ≡ rests_in duty w) seen' → s' ≡ s → TakesTurn duty config s seen s' seen'
 rests duty config s s' seen seen' b is h same = inl (seen_as config duty seen seen' b true is h, same)
 
-pub marks : (duty : Duty) (config : HeapSettings) (s s' : Chair) (seen seen' : List Call) (b : Bool) (end : MarkEnd) → duty ≡ Mark → b ≡ false → IsSeen config seen (λ w. b ≡ rests_in duty w) seen' → IsMarkWork config s s' turn_limit end → TakesTurn duty config s seen s' seen'
-marks Mark config s s' seen seen' b end is off h w = inr (seen_as config Mark seen seen' b false off h, (end, w))
-marks Sweep config s s' seen seen' b end is off h w = absurd cc
+pub marks : (duty : Duty) (config : HeapSettings) (s s' : Chair) (seen seen' : List Call) (b : Bool) (end : MarkEnd) → duty ≡ Mark → b ≡ false → IsSeen config seen (λ w. b ≡ rests_in duty w) seen' → IsResumedWork config s s' turn_limit end → BeginsNoCycle s s' → TakesTurn duty config s seen s' seen'
+marks Mark config s s' seen seen' b end is off h w none = inr (seen_as config Mark seen seen' b false off h, (end, w, none))
+marks Sweep config s s' seen seen' b end is off h w none = absurd cc
 
-pub role_stays : (duty : Duty) (config : HeapSettings) (s s' : Chair) (turns : ℕ) (end : MarkEnd) → IsMarkWork config s s' turns end → s.role ≡ role_for duty → s'.role ≡ role_for duty
-role_stays duty config s s' turns end w is = end_keeps config s s' turns w.gained w.next end w.ends ∙ is
+pub role_stays : {first : Stage} (duty : Duty) (config : HeapSettings) (s s' : Chair) (turns : ℕ) (end : MarkEnd) → IsMarkWorkFrom first config s s' turns end → s.role ≡ role_for duty → s'.role ≡ role_for duty
+role_stays {first} duty config s s' turns end w is = end_keeps config s s' turns w.gained w.next end w.ends ∙ is
 
 pub is_sweeper : (duty : Duty) (s : Chair) → duty ≡ Sweep → s.role ≡ role_for duty → s.role ≡ Sweeper
 is_sweeper Mark s is role = absurd cc
@@ -75,5 +86,5 @@ role_keeps duty config s s' turns end w is = ap (λ (c : Chair). c.role) w.seat 
 -- a turn is a run, or none
 pub turn_tends : (duty : Duty) (config : HeapSettings) (s s' : Chair) (seen seen' : List Call) → TakesTurn duty config s seen s' seen' → Tends duty config s s'
 turn_tends duty config s s' seen seen' (inl t) = subst (λ (x : Chair). Tends duty config s x) (sym t.1) (works_none duty config s)
-turn_tends Mark config s s' seen seen' (inr t) = ((s', t.1.0) ∷ [], (t.1.1, refl))
+turn_tends Mark config s s' seen seen' (inr t) = record { runs = (s', t.1.0) ∷ []; each = (t.1.1, refl); begins = t.1.2 }
 turn_tends Sweep config s s' seen seen' (inr t) = ((s', t.1.0) ∷ [], (t.1.1, refl))

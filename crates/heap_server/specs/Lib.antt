@@ -6,5 +6,7 @@ pub mod SessionSeats
 pub mod Reports
 pub mod DumpAnswers
 pub mod Tending
+pub mod Http
+pub mod Ahead
 -- What clauses here, and proofs above, cite of the crates below.
 pub use Rattle.heap_lock.specs.Blanks

@@ -2,6 +2,8 @@
 use Rattle.std.specs.Prelude.{ℕ, ◌+◌, List, [], ◌∷◌, ◌++◌, codes, decimal}
 use Rattle.session_text.specs.declared.Ended.{Ended}
 use Rattle.session_text.specs.declared.Ended.TheVariants.{Quit, Eof, CutLine, TooLong, ReadFault, TooManyReads, WriteFault, NoMemory}
+use Rattle.heap_server.specs.declared.client_session.SessionEnd.{SessionEnd}
+use Rattle.heap_server.specs.declared.client_session.SessionEnd.TheVariants.{Ran, Http}
 
 -- the word that names how a session ended
 abbrev pub word_of_ending : Ended → List ℕ
@@ -14,12 +16,17 @@ word_of_ending TooManyReads = codes "reads"
 word_of_ending WriteFault = codes "write"
 word_of_ending NoMemory = codes "memory"
 
+-- the word that names a session's end
+abbrev pub word_of_end : SessionEnd → List ℕ
+word_of_end (Ran ended) = word_of_ending ended
+word_of_end Http = codes "http"
+
 -- the line of a session of this number
-abbrev pub line_of : ℕ → Ended → List ℕ
-line_of number ended =
-    codes "session " ++ (decimal number ++ (codes " " ++ (word_of_ending ended ++ codes "\n")))
+abbrev pub line_of : ℕ → SessionEnd → List ℕ
+line_of number end =
+    codes "session " ++ (decimal number ++ (codes " " ++ (word_of_end end ++ codes "\n")))
 
 -- the lines of all, the first with this number
-abbrev pub report_of : ℕ → List Ended → List ℕ
+abbrev pub report_of : ℕ → List SessionEnd → List ℕ
 report_of number [] = []
-report_of number (ended ∷ more) = line_of number ended ++ report_of (number + 1) more
+report_of number (end ∷ more) = line_of number end ++ report_of (number + 1) more

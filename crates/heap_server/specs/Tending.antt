@@ -14,7 +14,7 @@ use Rattle.heap_lock.specs.Blanks.{Maker, chair_of}
 use Rattle.heap_lock.specs.LockStates.{Chair}
 use Rattle.heap_work.specs.declared.MarkEnd.{MarkEnd}
 use Rattle.heap_work.specs.declared.SweepEnd.{SweepEnd}
-use Rattle.heap_work.specs.Rule.{IsMarkWork, IsSweepWork}
+use Rattle.heap_work.specs.Rule.{BeginsNoCycle, IsResumedWork, IsSweepWork}
 use Rattle.heap_server.specs.SessionSeats.{AreUsers, IsOver}
 use Rattle.heap_server.specs.declared.sessions.Terms.{Terms}
 use Rattle.heap_server.specs.declared.tended.TendedHeap.{TendedHeap}
@@ -31,17 +31,19 @@ abbrev pub AreRuns : {E : Type 0} → (Chair → Chair → E → Type 0) → Cha
 AreRuns Works s [] s' = s' ≡ s
 AreRuns Works s (run ∷ runs) s' = Works s run.0 run.1 × AreRuns Works run.0 runs s'
 
--- a run of a mark worker
+-- a run of a worker on a cycle that runs
 abbrev pub MarksOnce : HeapSettings → Chair → Chair → MarkEnd → Type 0
-MarksOnce config s s' end = IsMarkWork config s s' turn_limit end
+MarksOnce config s s' end = IsResumedWork config s s' turn_limit end
 
 -- a run of a sweep worker
 abbrev pub SweepsOnce : HeapSettings → Chair → Chair → SweepEnd → Type 0
 SweepsOnce config s s' end = IsSweepWork config s s' turn_limit end
 
--- the seat's share is what it was and what runs of a mark worker gained
-abbrev pub MarkRuns : HeapSettings → Chair → Chair → Type 0
-MarkRuns config s s' = (runs : List (Chair × MarkEnd)) × AreRuns (MarksOnce config) s runs s'
+-- the seat's share is what it was and what runs of a worker on cycles that others began gained; no act of theirs begins a cycle
+pub record MarkRuns (config : HeapSettings) (s s' : Chair) : Type 0 where
+  pub runs : List (Chair × MarkEnd)
+  pub each : AreRuns (MarksOnce config) s runs s'
+  pub begins : BeginsNoCycle s s'
 
 -- the seat's share is what it was and what runs of a sweep worker gained
 abbrev pub SweepRuns : HeapSettings → Chair → Chair → Type 0
@@ -69,7 +71,7 @@ rests_in Sweep w = is_none (pending_in w)
 
 -- one run of this work's worker
 abbrev pub WorksOnce : Duty → HeapSettings → Chair → Chair → Type 0
-WorksOnce Mark config s s' = (end : MarkEnd) × MarksOnce config s s' end
+WorksOnce Mark config s s' = (end : MarkEnd) × MarksOnce config s s' end × BeginsNoCycle s s'
 WorksOnce Sweep config s s' = (end : SweepEnd) × SweepsOnce config s s' end
 
 -- the heap was seen to have no work of this kind, and nothing was done; or to have some, and the worker ran

@@ -1,10 +1,13 @@
 //! Sessions of clients over one shared heap, each in a thread of its own, and the client that asks.
 #![tactic(auto)]
 
+mod ahead;
 pub mod asking;
 pub mod client;
+pub mod client_session;
 pub mod copy;
 mod held_heap;
+mod http;
 pub mod joined;
 pub mod laws;
 pub mod report;
@@ -14,6 +17,7 @@ pub mod tending;
 
 pub use asking::AskingSeat;
 pub use client::{Asked, ask};
+pub use client_session::SessionEnd;
 pub use copy::{Copied, copy_all};
 pub use heap_lock::{Blank, Refusal};
 pub use joined::Joined;

@@ -1,14 +1,15 @@
 //! How sessions ended, in words.
 ghost use Rattle.std.specs.Prelude.{◌≡◌, OnOk};
 ghost use Rattle.std.specs.Io.KnownBytes.{Appends};
-ghost use Rattle.heap_server.specs.Reports.{line_of, report_of, word_of_ending};
+ghost use Rattle.heap_server.specs.Reports.{line_of, report_of, word_of_end, word_of_ending};
 
+use crate::client_session::SessionEnd;
 use session_text::Ended;
 use std::io;
 use std::io::Write;
 
-/// Returns the word of an ending: quit, eof, cut, long, read, reads, write or memory.
-pub fn word(ended: Ended) -> &'static str
+// Returns the word of an ending: quit, eof, cut, long, read, reads, write or memory.
+fn word_of_ending(ended: Ended) -> &'static str
     ensures { result.now ≡ word_of_ending ended }
 {
     match ended {
@@ -23,17 +24,27 @@ pub fn word(ended: Ended) -> &'static str
     }
 }
 
-// Writes the line of a session of this number.
-fn tell_session<W: Write>(writer: &mut W, number: u64, ended: Ended) -> io::Result<()>
-    ensures { OnOk result
-        (Appends (W.contents writer.old) (W.contents writer.new) (line_of number ended)) }
+/// Returns the word of a session's end: that of its ending, or http.
+pub fn word(end: SessionEnd) -> &'static str
+    ensures { result.now ≡ word_of_end end }
 {
-    let name = word(ended);
+    match end {
+        SessionEnd::Ran(ended) => word_of_ending(ended),
+        SessionEnd::Http => "http",
+    }
+}
+
+// Writes the line of a session of this number.
+fn tell_session<W: Write>(writer: &mut W, number: u64, end: SessionEnd) -> io::Result<()>
+    ensures { OnOk result
+        (Appends (W.contents writer.old) (W.contents writer.new) (line_of number end)) }
+{
+    let name = word(end);
     writeln!(writer, "session {number} {name}")
 }
 
 /// Writes a line `session I WORD` for each session, counted from 1. Fails if a write does.
-pub fn tell_sessions<W: Write>(writer: &mut W, ends: &[Ended]) -> io::Result<()>
+pub fn tell_sessions<W: Write>(writer: &mut W, ends: &[SessionEnd]) -> io::Result<()>
     ensures { OnOk result
         (Appends (W.contents writer.old) (W.contents writer.new) (report_of 1 ends.now)) }
 {

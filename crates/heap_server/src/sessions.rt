@@ -5,12 +5,14 @@ ghost use Rattle.heap_lock.specs.Refusal.TheVariants.{NoMemory};
 ghost use Rattle.heap_lock.specs.declared.role.Role.TheVariants.{User};
 ghost use Rattle.heap_server.specs.SessionSeats.{AreUsers, IsFor, IsOver, session_limit};
 
+use crate::ahead::read_line;
 use crate::asking::AskingSeat;
+use crate::client_session::{SessionEnd, serve_client};
 use crate::joined::Joined;
 use dump_pump::WriteOutlet;
 use heap_lock::{Blank, Config, Heap, Refusal, Role, Seat, Seats, Shared};
 use live_dump::{DumpListener, tend_dumps};
-use session_text::{Ended, ReadInlet, serve};
+use session_text::{Ended, ReadInlet};
 use std::alloc::{AllocError, Global};
 use std::marker::Brand;
 use std::net::{TcpListener, TcpStream};
@@ -48,7 +50,7 @@ pub struct ServicePlan {
 /// How the sessions ended, in order of acceptance, and whether an accept failed.
 #[derive(Drop)]
 pub struct Served {
-    pub ends: Vec<Ended>,
+    pub ends: Vec<SessionEnd>,
     pub refused: bool,
 }
 
@@ -73,7 +75,8 @@ pub fn users(alloc: Global, config: Config, sessions: u64) -> Result<Blank, Refu
     Blank::new(alloc, config, roles.as_slice())
 }
 
-// Serves one client between its socket and the heap. Each part of an answer goes out at once. Closes no pin at its end. May wait.
+// Serves one client between its socket and the heap, unless its first line begins an HTTP request: then it reads nothing more, and
+// puts out and runs nothing. Each part of an answer goes out at once. Closes no pin at its end. May wait.
 fn session<L: Heap, R: Wait>(
     rt: &R,
     alloc: Global,
@@ -81,26 +84,29 @@ fn session<L: Heap, R: Wait>(
     seat: Seat<L>,
     stream: TcpStream,
     terms: Terms,
-) -> Ended
+) -> SessionEnd
     requires { seat.role ≡ User }
 {
     let _ = stream.set_nodelay(true);
     let mut reader = ReadInlet::new(&stream);
     let mut writer = WriteOutlet::new(&stream);
+    let Ok(ahead) = read_line(alloc, &mut reader) else {
+        return SessionEnd::Ran(Ended::NoMemory);
+    };
     let mut joined = Joined::new(shared, rt, seat, shared.witness(rt));
     if terms.questions {
         let mut asking = AskingSeat { joined };
-        serve(alloc, &mut reader, &mut writer, &mut asking, terms.time)
+        serve_client(alloc, reader, ahead, &mut writer, &mut asking, terms.time)
     } else {
-        serve(alloc, &mut reader, &mut writer, &mut joined, terms.time)
+        serve_client(alloc, reader, ahead, &mut writer, &mut joined, terms.time)
     }
 }
 
-// Waits for each session in turn. One for which no thread could be had ended by NoMemory.
+// Waits for each session in turn. One whose thread couldn't be started ended by NoMemory.
 fn await_all<R: Threads>(
     rt: &R,
-    running: &mut Vec<Option<JoinHandle<Ended>>>,
-    ends: &mut Vec<Ended>,
+    running: &mut Vec<Option<JoinHandle<SessionEnd>>>,
+    ends: &mut Vec<SessionEnd>,
 )
     requires { vec_len ends.old + vec_len running.old ≤ vec_capacity ends.old }
     ensures { vec_len ends.new ≡ vec_len ends.old + vec_len running.old }
@@ -108,7 +114,7 @@ fn await_all<R: Threads>(
     for i in 0..running.len() {
         ends.push_reserved(match running[i].take() {
             Some(thread) => thread.join(rt),
-            None => Ended::NoMemory,
+            None => SessionEnd::Ran(Ended::NoMemory),
         });
     }
 }
@@ -144,7 +150,7 @@ fn serve_seats<'s, E, L: Heap + Send + Sync, R: Threads + Wait + Sync>(
     Ok(Served { ends, refused })
 }
 
-// Begins the thread that sends dumps. Fails if none can be had.
+// Begins the thread that sends dumps. Fails if it can't be started.
 fn begin_dumps<'s, E, L: Heap + Send + Sync, R: Clock + Eprint + Threads + Wait + Sync>(
     scope: &Scope<'s, E>,
     rt: &'s R,
@@ -160,9 +166,9 @@ fn begin_dumps<'s, E, L: Heap + Send + Sync, R: Clock + Eprint + Threads + Wait 
 
 /// Accepts as many clients as there are seats, in turn, and serves each in a thread of its own. After the last of them, or after
 /// an accept that failed, it stops listening, so that a further client is refused at once. Returns once all sessions have ended;
-/// that of a client for which no thread could be had ends by NoMemory. If the ports have a listener for dumps, one more thread
+/// that of a client whose thread can't be started ends by NoMemory. If the ports have a listener for dumps, one more thread
 /// sends a dump to each of its clients, from before the first accept until the last session has ended. Fails if that thread can't
-/// be had, or there is no memory for their endings, and accepts nothing. May wait.
+/// be started, or memory is refused to their endings, and accepts nothing. May wait.
 pub fn serve_clients<L: Heap + Send + Sync, R: Clock + Eprint + Threads + Wait + Sync>(
     rt: &R,
     alloc: Global,
@@ -214,7 +220,7 @@ pub fn serve_heap<R: Clock + Eprint + Threads + Wait + Sync>(
     serve_opened::<Brand, R>(rt, alloc, blank, plan)
 }
 
-// Does so for a heap that a type names.
+// Opens a heap that a type names, and serves clients as `serve_heap` does.
 fn serve_opened<L: Heap + Send + Sync, R: Clock + Eprint + Threads + Wait + Sync>(
     rt: &R,
     alloc: Global,

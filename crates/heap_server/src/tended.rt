@@ -97,7 +97,7 @@ struct Workers<L: Heap> {
     sweeping: PromisedHandle<Seat<L>, SweepsFrom<L>>,
 }
 
-// Begins the threads of both workers. Fails if one can't be had; the other is then told to stop, and joined.
+// Begins the threads of both workers. Fails if one can't be started; the other is then told to stop, and joined.
 fn begin_workers<'s, E, L: Heap + Send + Sync, R: Clock + Threads + Wait + Sync>(
     scope: &Scope<'s, E>,
     rt: &'s R,
@@ -124,7 +124,7 @@ fn begin_workers<'s, E, L: Heap + Send + Sync, R: Clock + Threads + Wait + Sync>
 }
 
 /// Serves clients as `serve_clients` does, while two threads tend the collector. They begin before the first accept, and are
-/// told to stop and joined after the last session. Fails if a thread for them can't be had, or there is no memory for the
+/// told to stop and joined after the last session. Fails if a thread for them can't be started, or memory is refused to the
 /// endings, and accepts nothing. May wait.
 pub fn serve_tended<L: Heap + Send + Sync, R: Clock + Eprint + Threads + Wait + Sync>(
     rt: &R,
@@ -200,7 +200,7 @@ fn staff_of<L: Heap>(seats: Seats<L>, most: usize) -> Staff<L>
     }
 }
 
-// Does so for a heap that a type names.
+// Opens a heap that a type names, and serves clients as `serve_tended_heap` does.
 fn serve_staffed<L: Heap + Send + Sync, R: Clock + Eprint + Threads + Wait + Sync>(
     rt: &R,
     alloc: Global,

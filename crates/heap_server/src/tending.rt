@@ -4,7 +4,7 @@ ghost use Rattle.heap_lock.specs.Collector.{IsSeen};
 ghost use Rattle.heap_server.specs.Tending.{TakesTurn, Tends, rests_in, role_for};
 
 use heap_lock::{Heap, Phase, Seat, Shared, Witness};
-use heap_work::{Gate, MarkEnd, SweepEnd, mark_worker, sweep_worker};
+use heap_work::{Gate, MarkEnd, SweepEnd, resume_worker, sweep_worker};
 use std::sync::Wait;
 use std::sync::atomic::{AtomicBool, Ordering};
 use std::thread;
@@ -35,7 +35,7 @@ fn pause<R: Clock>(rt: &R) {
 /// The work of a thread that tends the collector.
 #[derive(Clone, Copy)]
 pub enum Duty {
-    /// To mark each cycle that others begin, by runs of a mark worker.
+    /// To go on with each cycle that others begin, by runs of a worker that begins none.
     Mark,
     /// To sweep the regions that wait for it, by runs of a sweep worker.
     Sweep,
@@ -102,7 +102,7 @@ fn works_on<L: Heap, R: Clock + Wait>(
     }
     let mut gate = Unstopped { stop };
     match duty {
-        Duty::Mark => match mark_worker(shared, rt, seat, &mut gate, RUN_TURNS) {
+        Duty::Mark => match resume_worker(shared, rt, seat, &mut gate, RUN_TURNS) {
             MarkEnd::Refused(_) => false,
             MarkEnd::Pending(_) => {
                 pause(rt);

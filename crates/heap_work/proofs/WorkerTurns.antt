@@ -1,5 +1,5 @@
 -- A worker on its way, and how it ends.
-use Rattle.std.proofs.Common.{◌≡◌, ◌⊎◌, ℕ, ◌+◌, ◌<◌, ◌≤◌, Bool, false, List, [], ◌∷◌, ◌++◌, length, Option, Some, None, refl, sym, ap, ◌∙◌, subst, append-nil, append_assoc, length-append, arith}
+use Rattle.std.proofs.Common.{◌≡◌, ◌⊎◌, ℕ, suc, ◌+◌, ◌<◌, ◌≤◌, Bool, true, false, List, [], ◌∷◌, ◌++◌, length, Option, Some, None, refl, sym, ap, ◌∙◌, subst, append-nil, append_assoc, length-append, arith}
 use Rattle.std.proofs.lemmas.Option.{none-some}
 use Rattle.std.specs.Prelude.{unwrap_or}
 use Rattle.heap_lock.specs.Refusal.{Refusal}
@@ -16,14 +16,16 @@ use Rattle.heap_lock.specs.LockStates.{Chair, Stands, with_entry}
 use Rattle.heap_work.specs.declared.MarkEnd.{MarkEnd}
 use Rattle.heap_work.specs.declared.MarkEnd.TheVariants.{Finished, NotMarking, Pending}
 use Rattle.heap_work.specs.declared.Stage.{Stage}
-use Rattle.heap_work.specs.declared.Stage.TheVariants.{Snap}
+use Rattle.heap_work.specs.declared.Stage.TheVariants.{Mark, Drain, Finish}
 use Rattle.heap_work.specs.declared.SweepEnd.{SweepEnd}
-use Rattle.heap_work.specs.Rule.{IsSweepWork, event_of, stage_after, mark_end_by, mark_end_of, with_more, GoesOn, EndsMarking, IsMarkWork, AreSweeps, WasStopped, MarkStops}
+use Rattle.heap_work.specs.Rule.{IsSweepWork, event_of, stage_after, mark_end_by, mark_end_of, with_more, GoesOn, IsEnd, EndsMarking, IsMarkWorkFrom, IsResumedWork, AreSweeps, WasStopped, MarkStops, BeginsNoCycle, IsNoSnap}
+use Rattle.heap_work.specs.Gates.{LetsBegin, Gains, AsksForEach, AsksForOneMore, AsksUntilStopped, MarkAsks}
+use Rattle.std.specs.List.{AllByRecursion}
 
--- after i acts of a mark worker, none an end
-pub record IsMarking (s s' : Chair) (stage : Stage) (i : ℕ) : Type 0 where
+-- after i acts of a mark worker that began at a stage, none an end
+pub record IsMarking (first : Stage) (s s' : Chair) (stage : Stage) (i : ℕ) : Type 0 where
   pub gained : List (ℕ × Entry)
-  pub goes_on : GoesOn Snap gained stage
+  pub goes_on : GoesOn first gained stage
   pub count : length gained ≡ i
   pub seat : s' ≡ with_more gained s
 
@@ -35,19 +37,19 @@ one_more : (s s' s'' : Chair) (gained : List (ℕ × Entry)) (turn : ℕ) (actio
 one_more s s' s'' gained turn action answer was is =
     is ∙ ap (with_entry turn action answer) was ∙ ap (λ l. let c : Chair = record s { share = l } in c) (append_assoc s.share gained ((turn, entry s.number action answer) ∷ []))
 
-pub marking_begins : (s : Chair) → IsMarking s s Snap 0
-marking_begins s = record { gained = []; goes_on = refl; count = refl; seat = no_more s }
+pub marking_begins : (first : Stage) (s : Chair) → IsMarking first s s first 0
+marking_begins first s = record { gained = []; goes_on = refl; count = refl; seat = no_more s }
 
 goes_push : (first last : Stage) (ms : List (ℕ × Entry)) (m : ℕ × Entry) → GoesOn first ms last → m.1.action ≡ Step (event_of last) → mark_end_by m.1.answer (record { seat = m.1.seat; turn = m.0; answer = m.1.answer }) ≡ None → GoesOn first (ms ++ m ∷ []) (stage_after m.1.answer)
 goes_push first last [] m h is none = (is ∙ ap (λ k. Step (event_of k)) (sym h), none, refl)
 goes_push first last (x ∷ ms) m h is none = (h.0, h.1, goes_push (stage_after x.1.answer) last ms m h.2 is none)
 
-pub marking_goes : (s s' s'' : Chair) (stage : Stage) (i : ℕ) (r : Receipt) → IsMarking s s' stage i → r.seat ≡ s'.number → s'' ≡ with_entry r.turn (Step (event_of stage)) r.answer s' → mark_end_of r ≡ None → IsMarking s s'' (stage_after r.answer) (i + 1)
-marking_goes s s' s'' stage i r h seat is none =
+pub marking_goes : (first : Stage) (s s' s'' : Chair) (stage : Stage) (i : ℕ) (r : Receipt) → IsMarking first s s' stage i → r.seat ≡ s'.number → s'' ≡ with_entry r.turn (Step (event_of stage)) r.answer s' → mark_end_of r ≡ None → IsMarking first s s'' (stage_after r.answer) (i + 1)
+marking_goes first s s' s'' stage i r h seat is none =
     let number : r.seat ≡ s.number = seat ∙ ap (λ (c : Chair). c.number) h.seat in
     let m : ℕ × Entry = (r.turn, entry s.number (Step (event_of stage)) r.answer) in record {
       gained = h.gained ++ m ∷ [];
-      goes_on = goes_push Snap stage h.gained m h.goes_on refl (ap (λ k. mark_end_by r.answer (record { seat = k; turn = r.turn; answer = r.answer })) (sym number) ∙ none);
+      goes_on = goes_push first stage h.gained m h.goes_on refl (ap (λ k. mark_end_by r.answer (record { seat = k; turn = r.turn; answer = r.answer })) (sym number) ∙ none);
       count = omega (arith, length-append h.gained (m ∷ []), h.count);
       seat = one_more s s' s'' h.gained r.turn (Step (event_of stage)) r.answer h.seat is;
     }
@@ -93,9 +95,9 @@ end_shape (Outcome.Refused Refusal.NotRetained) r end P e fin non pen = absurd (
 end_shape (Outcome.Refused Refusal.PinLimit) r end P e fin non pen = absurd (none-some end e)
 end_shape (Outcome.Refused Refusal.ChronicleFull) r end P e fin non pen = absurd (none-some end e)
 
-pub marking_ends : (config : HeapSettings) (s s' s'' : Chair) (stage : Stage) (i turns : ℕ) (r : Receipt) (end : MarkEnd) → IsMarking s s' stage i → i < turns → r.seat ≡ s'.number → s'' ≡ with_entry r.turn (Step (event_of stage)) r.answer s' → Stands config s'' r.turn (Step (event_of stage)) r.answer
-    → mark_end_of r ≡ Some end → IsMarkWork config s s'' turns end
-marking_ends config s s' s'' stage i turns r end h lt seat is stands ends =
+pub marking_ends : (first : Stage) (config : HeapSettings) (s s' s'' : Chair) (stage : Stage) (i turns : ℕ) (r : Receipt) (end : MarkEnd) → IsMarking first s s' stage i → i < turns → r.seat ≡ s'.number → s'' ≡ with_entry r.turn (Step (event_of stage)) r.answer s' → Stands config s'' r.turn (Step (event_of stage)) r.answer
+    → mark_end_of r ≡ Some end → IsMarkWorkFrom first config s s'' turns end
+marking_ends first config s s' s'' stage i turns r end h lt seat is stands ends =
     let number : r.seat ≡ s.number = seat ∙ ap (λ (c : Chair). c.number) h.seat in
     let share = one_more s s' s'' h.gained r.turn (Step (event_of stage)) r.answer h.seat is in
     let under : length h.gained < turns = omega (arith, h.count, lt) in
@@ -107,14 +109,14 @@ marking_ends config s s' s'' stage i turns r end h lt seat is stands ends =
           (λ e. (under, e, number, share, stands)) (λ e. (under, e, number, share, stands)) (λ e. (under, e, number, share, stands)) ends;
     }
 
-pub marking_refused : (config : HeapSettings) (s s' s'' : Chair) (stage : Stage) (i turns : ℕ) (e : Refusal) → IsMarking s s' stage i → i < turns → s'' ≡ s' → (e ≡ Refusal.NoMemory) ⊎ (e ≡ Refusal.ChronicleFull) → IsMarkWork config s s'' turns (MarkEnd.Refused e)
-marking_refused config s s' s'' stage i turns e h lt same why = record { gained = h.gained; next = stage; goes_on = h.goes_on; ends = (omega (arith, h.count, lt), same ∙ h.seat, why) }
+pub marking_refused : (first : Stage) (config : HeapSettings) (s s' s'' : Chair) (stage : Stage) (i turns : ℕ) (e : Refusal) → IsMarking first s s' stage i → i < turns → s'' ≡ s' → (e ≡ Refusal.NoMemory) ⊎ (e ≡ Refusal.ChronicleFull) → IsMarkWorkFrom first config s s'' turns (MarkEnd.Refused e)
+marking_refused first config s s' s'' stage i turns e h lt same why = record { gained = h.gained; next = stage; goes_on = h.goes_on; ends = (omega (arith, h.count, lt), same ∙ h.seat, why) }
 
-pub marking_stopped : (config : HeapSettings) (s s' : Chair) (stage : Stage) (i turns : ℕ) → IsMarking s s' stage i → i < turns → IsMarkWork config s s' turns MarkEnd.Stopped
-marking_stopped config s s' stage i turns h lt = record { gained = h.gained; next = stage; goes_on = h.goes_on; ends = (omega (arith, h.count, lt), h.seat) }
+pub marking_stopped : (first : Stage) (config : HeapSettings) (s s' : Chair) (stage : Stage) (i turns : ℕ) → IsMarking first s s' stage i → i < turns → IsMarkWorkFrom first config s s' turns MarkEnd.Stopped
+marking_stopped first config s s' stage i turns h lt = record { gained = h.gained; next = stage; goes_on = h.goes_on; ends = (omega (arith, h.count, lt), h.seat) }
 
-pub marking_over : (config : HeapSettings) (s s' : Chair) (stage : Stage) (turns : ℕ) → IsMarking s s' stage turns → IsMarkWork config s s' turns MarkEnd.TurnsOver
-marking_over config s s' stage turns h = record { gained = h.gained; next = stage; goes_on = h.goes_on; ends = (h.count, h.seat) }
+pub marking_over : (first : Stage) (config : HeapSettings) (s s' : Chair) (stage : Stage) (turns : ℕ) → IsMarking first s s' stage turns → IsMarkWorkFrom first config s s' turns MarkEnd.TurnsOver
+marking_over first config s s' stage turns h = record { gained = h.gained; next = stage; goes_on = h.goes_on; ends = (h.count, h.seat) }
 
 -- ---- the sweeper, after i of its acts
 
@@ -160,11 +162,141 @@ sweeping_stopped config s s' turns i h lt left = record { gained = h.gained; swe
 pub never_stops : {G : Type 0} (says : G → ℕ → Bool → G → Type 0) (s s' : Chair) (after : G) (r : Receipt) (end : MarkEnd) → mark_end_of r ≡ Some end → MarkStops says s s' after end
 never_stops says s s' after r end is = end_shape r.answer r end (λ z. MarkStops says s s' after z) is tt tt tt
 
--- a gate that lets no act begin, after so many
-pub marking_halts : {G : Type 0} (says : G → ℕ → Bool → G → Type 0) (s s' : Chair) (stage : Stage) (i : ℕ) (before after : G) → IsMarking s s' stage i → says before (i + 1) false after → WasStopped says s s' after
-marking_halts says s s' stage i before after h said =
+-- a gate that lets no act begin, after this number of acts
+pub marking_halts : {G : Type 0} (says : G → ℕ → Bool → G → Type 0) (first : Stage) (s s' : Chair) (stage : Stage) (i : ℕ) (before after : G) → IsMarking first s s' stage i → says before (i + 1) false after → WasStopped says s s' after
+marking_halts says first s s' stage i before after h said =
     (before, i, ap (λ (c : Chair). length c.share) h.seat ∙ length-append s.share h.gained ∙ ap (λ n. length s.share + n) h.count, said)
 
 pub sweeping_halts : {G : Type 0} (says : G → ℕ → Bool → G → Type 0) (s s' : Chair) (turns i : ℕ) (before after : G) → IsSweeping s s' turns i → says before (i + 1) false after → WasStopped says s s' after
 sweeping_halts says s s' turns i before after h said =
     (before, i, ap (λ (c : Chair). length c.share) h.seat ∙ length-append s.share h.gained ∙ ap (λ n. length s.share + n) h.count, said)
+
+-- ---- how often the gate was asked
+
+pub gains : (s s' : Chair) (gained : List (ℕ × Entry)) → s' ≡ with_more gained s → Gains s s' (length gained)
+gains s s' gained is = ap (λ (c : Chair). length c.share) is ∙ length-append s.share gained
+
+pub lets_more : {G : Type 0} (says : G → ℕ → Bool → G → Type 0) (i : ℕ) (before between after : G) → LetsBegin says before i between → says between (i + 1) true after → LetsBegin says before (i + 1) after
+lets_more says i before between after lets said =
+    let one : suc i ≡ i + 1 = omega arith in
+    subst (λ n. LetsBegin says before n after) one (between, lets, said)
+
+pub marked_each : {G : Type 0} (says : G → ℕ → Bool → G → Type 0) (first : Stage) (s s' : Chair) (stage : Stage) (i : ℕ) (before after : G) → IsMarking first s s' stage i → LetsBegin says before i after → AsksForEach says before s s' after
+marked_each says first s s' stage i before after h lets = (i, subst (Gains s s') h.count (gains s s' h.gained h.seat), lets)
+
+pub marked_more : {G : Type 0} (says : G → ℕ → Bool → G → Type 0) (first : Stage) (s s' s'' : Chair) (stage : Stage) (i : ℕ) (before between after : G) → IsMarking first s s' stage i → s'' ≡ s' → LetsBegin says before i between → says between (i + 1) true after → AsksForOneMore says before s s'' after
+marked_more says first s s' s'' stage i before between after h same lets said =
+    (i, subst (λ (x : Chair). Gains s x i) (sym same) (subst (Gains s s') h.count (gains s s' h.gained h.seat)), lets_more says i before between after lets said)
+
+pub marked_stopped : {G : Type 0} (says : G → ℕ → Bool → G → Type 0) (first : Stage) (s s' : Chair) (stage : Stage) (i : ℕ) (before between after : G) → IsMarking first s s' stage i → LetsBegin says before i between → says between (i + 1) false after → AsksUntilStopped says before s s' after
+marked_stopped says first s s' stage i before between after h lets said =
+    (i, subst (Gains s s') h.count (gains s s' h.gained h.seat), between, lets, said)
+
+-- an act whose answer is an end
+pub marked_last : {G : Type 0} (says : G → ℕ → Bool → G → Type 0) (first : Stage) (s s' s'' : Chair) (stage : Stage) (i : ℕ) (before between after : G) (r : Receipt) (end : MarkEnd) → IsMarking first s s' stage i → s'' ≡ with_entry r.turn (Step (event_of stage)) r.answer s' → LetsBegin says before i between → says between (i + 1) true after → mark_end_of r ≡ Some end → MarkAsks says before s s'' after end
+marked_last says first s s' s'' stage i before between after r end h is lets said ends =
+    let m : ℕ × Entry = (r.turn, entry s.number (Step (event_of stage)) r.answer) in
+    let count : length (h.gained ++ m ∷ []) ≡ i + 1 = omega (arith, length-append h.gained (m ∷ []), h.count) in
+    let all : AsksForEach says before s s'' after = (i + 1, subst (Gains s s'') count (gains s s'' (h.gained ++ m ∷ []) (one_more s s' s'' h.gained r.turn (Step (event_of stage)) r.answer h.seat is)), lets_more says i before between after lets said) in
+    end_shape r.answer r end (λ z. MarkAsks says before s s'' after z) ends all all all
+
+pub swept_each : {G : Type 0} (says : G → ℕ → Bool → G → Type 0) (s s' : Chair) (turns i : ℕ) (before after : G) → IsSweeping s s' turns i → LetsBegin says before i after → AsksForEach says before s s' after
+swept_each says s s' turns i before after h lets = (i, subst (Gains s s') h.count (gains s s' h.gained h.seat), lets)
+
+pub swept_more : {G : Type 0} (says : G → ℕ → Bool → G → Type 0) (s s' s'' : Chair) (turns i : ℕ) (before between after : G) → IsSweeping s s' turns i → s'' ≡ s' → LetsBegin says before i between → says between (i + 1) true after → AsksForOneMore says before s s'' after
+swept_more says s s' s'' turns i before between after h same lets said =
+    (i, subst (λ (x : Chair). Gains s x i) (sym same) (subst (Gains s s') h.count (gains s s' h.gained h.seat)), lets_more says i before between after lets said)
+
+pub swept_stopped : {G : Type 0} (says : G → ℕ → Bool → G → Type 0) (s s' : Chair) (turns i : ℕ) (before between after : G) → IsSweeping s s' turns i → LetsBegin says before i between → says between (i + 1) false after → AsksUntilStopped says before s s' after
+swept_stopped says s s' turns i before between after h lets said =
+    (i, subst (Gains s s') h.count (gains s s' h.gained h.seat), between, lets, said)
+
+-- ---- no cycle is begun
+
+-- a stage at which no cycle is begun
+abbrev IsOn : Stage → Type 0
+IsOn stage = event_of stage ≡ Event.Snap → ⊥
+
+mark_on : IsOn Mark
+mark_on is = cc
+
+drain_on : IsOn Drain
+drain_on is = cc
+
+finish_on : IsOn Finish
+finish_on is = cc
+
+after_on : (o : Outcome) → IsOn (stage_after o)
+after_on (Outcome.Answered (Answer.Class n)) = mark_on
+after_on (Outcome.Answered (Answer.Object x)) = mark_on
+after_on (Outcome.Answered Answer.Null) = mark_on
+after_on (Outcome.Answered (Answer.Value v)) = mark_on
+after_on (Outcome.Answered Answer.Done) = mark_on
+after_on (Outcome.Answered (Answer.Pushed n)) = mark_on
+after_on (Outcome.Answered (Answer.Condemned n)) = mark_on
+after_on (Outcome.Answered (Answer.Swept emptied dead)) = mark_on
+after_on (Outcome.Place k) = mark_on
+after_on (Outcome.Refused Refusal.NoMemory) = mark_on
+after_on (Outcome.Refused Refusal.NoClass) = mark_on
+after_on (Outcome.Refused Refusal.ClassLimit) = mark_on
+after_on (Outcome.Refused Refusal.BadName) = mark_on
+after_on (Outcome.Refused Refusal.DuplicateName) = mark_on
+after_on (Outcome.Refused Refusal.FieldLimit) = mark_on
+after_on (Outcome.Refused Refusal.BadRegister) = mark_on
+after_on (Outcome.Refused Refusal.NullRegister) = mark_on
+after_on (Outcome.Refused Refusal.BadSlot) = mark_on
+after_on (Outcome.Refused Refusal.WrongKind) = mark_on
+after_on (Outcome.Refused Refusal.OutOfRange) = mark_on
+after_on (Outcome.Refused Refusal.TooLarge) = mark_on
+after_on (Outcome.Refused Refusal.HeapFull) = mark_on
+after_on (Outcome.Refused Refusal.AlreadyMarking) = mark_on
+after_on (Outcome.Refused Refusal.NotMarking) = mark_on
+after_on (Outcome.Refused Refusal.NothingToMark) = drain_on
+after_on (Outcome.Refused Refusal.NothingToDrain) = finish_on
+after_on (Outcome.Refused (Refusal.NotDone gray undrained)) = mark_on
+after_on (Outcome.Refused (Refusal.SweepPending region)) = mark_on
+after_on (Outcome.Refused (Refusal.NothingToSweep region)) = mark_on
+after_on (Outcome.Refused (Refusal.TooFar asked retained)) = mark_on
+after_on (Outcome.Refused Refusal.NoPin) = mark_on
+after_on (Outcome.Refused (Refusal.Lost cause)) = mark_on
+after_on (Outcome.Refused Refusal.NotRetained) = mark_on
+after_on (Outcome.Refused Refusal.PinLimit) = mark_on
+after_on (Outcome.Refused Refusal.ChronicleFull) = mark_on
+
+step_inv : (e f : Event) → Step e ≡ Step f → e ≡ f
+step_inv e f is = cc
+
+no_snap : (stage : Stage) (m : ℕ × Entry) → IsOn stage → m.1.action ≡ Step (event_of stage) → IsNoSnap m
+no_snap stage m on is snap = on (step_inv (event_of stage) Event.Snap (sym is ∙ snap))
+
+none_snaps : (stage next : Stage) (ms : List (ℕ × Entry)) → IsOn stage → GoesOn stage ms next → AllByRecursion IsNoSnap ms × IsOn next
+none_snaps stage next [] on h = (tt, subst IsOn h on)
+none_snaps stage next (m ∷ ms) on h =
+    let rest = none_snaps (stage_after m.1.answer) next ms (after_on m.1.answer) h.2 in
+    ((no_snap stage m on h.0, rest.0), rest.1)
+
+none_more : (ms : List (ℕ × Entry)) (m : ℕ × Entry) → AllByRecursion IsNoSnap ms → IsNoSnap m → AllByRecursion IsNoSnap (ms ++ m ∷ [])
+none_more [] m h none = (none, tt)
+none_more (x ∷ ms) m h none = (h.0, none_more ms m h.1 none)
+
+share_of : (s s' : Chair) (gained : List (ℕ × Entry)) → s' ≡ with_more gained s → s'.share ≡ s.share ++ gained
+share_of s s' gained is = ap (λ (c : Chair). c.share) is
+
+-- the acts, and one more that is an end
+with_end : (config : HeapSettings) (s s' : Chair) (turns : ℕ) (gained : List (ℕ × Entry)) (next : Stage) (r : Receipt) (end : MarkEnd) → AllByRecursion IsNoSnap gained → IsOn next → IsEnd config s s' turns gained next r end → BeginsNoCycle s s'
+with_end config s s' turns gained next r end none on e =
+    let m : ℕ × Entry = (r.turn, entry s.number (Step (event_of next)) r.answer) in
+    (gained ++ m ∷ [], share_of s s' (gained ++ m ∷ []) e.3, none_more gained m none (no_snap next m on refl))
+
+none_by : (config : HeapSettings) (s s' : Chair) (turns : ℕ) (gained : List (ℕ × Entry)) (next : Stage) (end : MarkEnd) → AllByRecursion IsNoSnap gained → IsOn next → EndsMarking config s s' turns gained next end → BeginsNoCycle s s'
+none_by config s s' turns gained next (Finished r) none on e = with_end config s s' turns gained next r (Finished r) none on e
+none_by config s s' turns gained next (NotMarking r) none on e = with_end config s s' turns gained next r (NotMarking r) none on e
+none_by config s s' turns gained next (Pending r) none on e = with_end config s s' turns gained next r (Pending r) none on e
+none_by config s s' turns gained next (MarkEnd.Refused f) none on e = (gained, share_of s s' gained e.1, none)
+none_by config s s' turns gained next MarkEnd.Stopped none on e = (gained, share_of s s' gained e.1, none)
+none_by config s s' turns gained next MarkEnd.TurnsOver none on e = (gained, share_of s s' gained e.1, none)
+
+pub begins_none : (config : HeapSettings) (s s' : Chair) (turns : ℕ) (end : MarkEnd) → IsResumedWork config s s' turns end → BeginsNoCycle s s'
+begins_none config s s' turns end w =
+    let none = none_snaps Mark w.next w.gained mark_on w.goes_on in
+    none_by config s s' turns w.gained w.next end none.0 none.1 w.ends

@@ -3,7 +3,8 @@
 
 ghost use Rattle.std.specs.Prelude.{◌≡◌};
 ghost use Rattle.heap_lock.specs.declared.role.Role.TheVariants.{Marker, Sweeper};
-ghost use Rattle.heap_work.specs.Rule.{mark_end_of, event_of, stage_after, IsMarkWork, IsSweepWork, MarkStops, SweepStops};
+ghost use Rattle.heap_work.specs.Rule.{mark_end_of, event_of, stage_after, BeginsNoCycle, IsMarkWork, IsMarkWorkFrom, IsResumedWork, IsSweepWork, MarkStops, SweepStops};
+ghost use Rattle.heap_work.specs.Gates.{MarkAsks, SweepAsks};
 
 use heap_lock::{Answer, Event, Heap, Outcome, Receipt, Refusal, Seat, Shared};
 use std::sync::Wait;
@@ -114,22 +115,21 @@ fn end_of_receipt(receipt: Receipt) -> Option<MarkEnd>
     }
 }
 
-/// Marks until the cycle is finished, in at most `turns` acts: Snap, then Mark; Drain if nothing is left to mark, Finish if
-/// nothing is left to drain, and Mark again after any other answer. Passes the gate before each act, without the lock, and ends
-/// if it lets none begin. May wait.
-#[tactic(auto, using(crate::proofs::WorkerTurns::marking_stopped))]
-pub fn mark_worker<L: Heap, R: Wait, G: Gate>(
+// Does acts from this stage on until the cycle is finished, as `mark_worker` says.
+fn mark_from<L: Heap, R: Wait, G: Gate>(
     shared: &Shared<L>,
     rt: &R,
     seat: &mut Seat<L>,
     gate: &mut G,
     turns: u64,
+    first: Stage,
 ) -> MarkEnd
     requires { seat.old.role ≡ Marker }
-    ensures work { IsMarkWork L.config seat.old seat.new turns result }
+    ensures work { IsMarkWorkFrom first L.config seat.old seat.new turns result }
     ensures stops { MarkStops G.says seat.old seat.new gate.new result }
+    ensures asks { MarkAsks G.says gate.old seat.old seat.new gate.new result }
 {
-    let mut stage = Stage::Snap;
+    let mut stage = first;
     for turn in 0..turns {
         if !gate.pass(turn + 1) {
             return MarkEnd::Stopped;
@@ -147,9 +147,44 @@ pub fn mark_worker<L: Heap, R: Wait, G: Gate>(
     MarkEnd::TurnsOver
 }
 
+/// Begins a cycle, and marks until it is finished, in at most `turns` acts: Snap, then Mark; Drain if nothing is left to mark,
+/// Finish if nothing is left to drain, and Mark again after any other answer. Passes the gate before each act, without the lock,
+/// and ends if it lets none begin. May wait.
+pub fn mark_worker<L: Heap, R: Wait, G: Gate>(
+    shared: &Shared<L>,
+    rt: &R,
+    seat: &mut Seat<L>,
+    gate: &mut G,
+    turns: u64,
+) -> MarkEnd
+    requires { seat.old.role ≡ Marker }
+    ensures work { IsMarkWork L.config seat.old seat.new turns result }
+    ensures stops { MarkStops G.says seat.old seat.new gate.new result }
+    ensures asks { MarkAsks G.says gate.old seat.old seat.new gate.new result }
+{
+    mark_from(shared, rt, seat, gate, turns, Stage::Snap)
+}
+
+/// Goes on with the cycle that runs until it is finished, as `mark_worker` does from its Mark on, and begins none: if no cycle runs,
+/// its first act is refused NotMarking, and it ends. May wait.
+pub fn resume_worker<L: Heap, R: Wait, G: Gate>(
+    shared: &Shared<L>,
+    rt: &R,
+    seat: &mut Seat<L>,
+    gate: &mut G,
+    turns: u64,
+) -> MarkEnd
+    requires { seat.old.role ≡ Marker }
+    ensures work { IsResumedWork L.config seat.old seat.new turns result }
+    ensures begins { BeginsNoCycle seat.old seat.new }
+    ensures stops { MarkStops G.says seat.old seat.new gate.new result }
+    ensures asks { MarkAsks G.says gate.old seat.old seat.new gate.new result }
+{
+    mark_from(shared, rt, seat, gate, turns, Stage::Mark)
+}
+
 /// Asks for a sweep of each region once, from 0 on, in at most `turns` acts. Passes the gate before each act, without the
 /// lock, and ends if it lets none begin. May wait.
-#[tactic(auto, using(crate::proofs::WorkerTurns::sweeping_stopped))]
 pub fn sweep_worker<L: Heap, R: Wait, G: Gate>(
     shared: &Shared<L>,
     rt: &R,
@@ -160,6 +195,7 @@ pub fn sweep_worker<L: Heap, R: Wait, G: Gate>(
     requires { seat.old.role ≡ Sweeper }
     ensures work { IsSweepWork L.config seat.old seat.new turns result }
     ensures stops { SweepStops G.says seat.old seat.new gate.new result }
+    ensures asks { SweepAsks G.says gate.old seat.old seat.new gate.new result }
 {
     let regions = shared.config().regions();
     for region in 0..regions {

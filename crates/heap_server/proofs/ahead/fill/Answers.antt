@@ -1,0 +1,46 @@
+use Rattle.std.proofs.Common.{◌≡◌, ◌+◌, ◌∙◌, length, take, sym, subst, inl, inr, arith}
+use Rattle.std.proofs.lemmas.List.{length-take-le}
+use Rattle.dump_pump.specs.declared.inlet.Take.TheVariants.{End, Failed}
+use Rattle.session_text.specs.Buffers.{IsInletRead}
+use Rattle.heap_server.proofs.AheadReads.{end_came, fault_came, grew, line_came, reading_goes}
+use Rattle.heap_server.proofs.ahead.fill.Goals.{then-is_some-via-then-is_some, then-is_some-via-else-is_some+then-end-gt-LINE_LIMIT}
+use Rattle.heap_server.proofs.ahead.fill.Goals as goal
+
+pub returns-then-is_some : goal.returns-then-is_some
+returns-then-is_some g c =
+    let size : length (take (c.loop-read.end + c.in-Got.n) c.read_more.new.room) ≡ c.loop-read.end + c.in-Got.n = length-take-le (c.loop-read.end + c.in-Got.n) c.read_more.new.room c.in-Got.ensures.fits in
+    record {
+      ahead = line_came c.line_end.result (take c.loop-read.end c.loop-read.room) (take (c.loop-read.end + c.in-Got.n) c.read_more.new.room) c.loop-read.end c.loop-read.read c.in-Got.n
+          (g.I.Inlet.seen c.args.inlet.now) (g.I.Inlet.seen c.loop-read.inlet) (g.I.Inlet.seen c.read_more.new.inlet) c.loop-read.invariant c.in-Got.ensures.read c.line_end.ensures
+          (elim c.then-is_some.branch [
+            | then-is_some-via-then-is_some w ↦ inl (sym c.is_some.ensures ∙ w.if-is_some.true)
+            | then-is_some-via-else-is_some+then-end-gt-LINE_LIMIT w ↦ inr (omega (arith, size, w.if-end-gt-LINE_LIMIT.true))
+          ]);
+    }
+
+pub returns-in-End : goal.returns-in-End
+returns-in-End g c =
+    let none : c.loop-read.end + 0 ≡ c.loop-read.end = omega arith in
+    record {
+      ahead = end_came (take c.loop-read.end c.loop-read.room) (take c.loop-read.end c.read_more.new.room) c.loop-read.end c.loop-read.read
+          (g.I.Inlet.seen c.args.inlet.now) (g.I.Inlet.seen c.loop-read.inlet) (g.I.Inlet.seen c.read_more.new.inlet) c.loop-read.invariant
+          (subst (λ k. IsInletRead (take c.loop-read.end c.loop-read.room) (take k c.read_more.new.room) (g.I.Inlet.seen c.loop-read.inlet) (g.I.Inlet.seen c.read_more.new.inlet) End) none c.in-End.ensures.read);
+    }
+
+pub returns-in-Failed : goal.returns-in-Failed
+returns-in-Failed g c =
+    let none : c.loop-read.end + 0 ≡ c.loop-read.end = omega arith in
+    record {
+      ahead = fault_came (take c.loop-read.end c.loop-read.room) (take c.loop-read.end c.read_more.new.room) c.loop-read.end c.loop-read.read
+          (g.I.Inlet.seen c.args.inlet.now) (g.I.Inlet.seen c.loop-read.inlet) (g.I.Inlet.seen c.read_more.new.inlet) c.loop-read.invariant
+          (subst (λ k. IsInletRead (take c.loop-read.end c.loop-read.room) (take k c.read_more.new.room) (g.I.Inlet.seen c.loop-read.inlet) (g.I.Inlet.seen c.read_more.new.inlet) Failed) none c.in-Failed.ensures.read);
+    }
+
+pub loop-read-preserved : goal.loop-read-preserved
+loop-read-preserved g c =
+    let was : length (take c.loop-read.end c.loop-read.room) ≡ c.loop-read.end = length-take-le c.loop-read.end c.loop-read.room (omega (arith, c.loop-read.invariant.most, c.requires.room, c.loop-read.auto.room)) in
+    let size : length (take (c.loop-read.end + c.in-Got.n) c.read_more.new.room) ≡ c.loop-read.end + c.in-Got.n = length-take-le (c.loop-read.end + c.in-Got.n) c.read_more.new.room c.in-Got.ensures.fits in
+    reading_goes (take c.loop-read.end c.loop-read.room) (take (c.loop-read.end + c.in-Got.n) c.read_more.new.room) c.loop-read.end c.loop-read.read c.in-Got.n
+    (g.I.Inlet.seen c.args.inlet.now) (g.I.Inlet.seen c.loop-read.inlet) (g.I.Inlet.seen c.read_more.new.inlet) c.loop-read.invariant c.in-Got.ensures.read
+    (grew (take c.loop-read.end c.loop-read.room) (take (c.loop-read.end + c.in-Got.n) c.read_more.new.room) c.loop-read.end c.in-Got.n (g.I.Inlet.seen c.loop-read.inlet) (g.I.Inlet.seen c.read_more.new.inlet) c.in-Got.ensures.read was size)
+    (omega (arith, c.if-end-gt-LINE_LIMIT.false))

@@ -1,0 +1,52 @@
+-- Lines that begin an HTTP request.
+use Rattle.std.specs.Prelude.{◌≡◌, ℕ, ◌-◌, ◌==◌, ◌&&◌, Bool, true, false, List, [], ◌∷◌, length, take, drop, slice_index, nat_le, codes, Option, Some, None, option_map, if◌then◌else◌}
+use Rattle.std.specs.Option.{option_map_or}
+use Rattle.std.specs.Str.{bytes_eq}
+use Rattle.std.specs.Io.KnownBytes.{prepend_known}
+use Rattle.dump_pump.specs.Inlets.{Incoming}
+use Rattle.dump_pump.specs.Outlets.{Outgoing}
+use Rattle.session_grammar.specs.Grammar.{without_cr}
+use Rattle.session_grammar.specs.declared.TheConstants.{LINE_LIMIT}
+use Rattle.session_text.specs.Answers.{AnswerRelation}
+use Rattle.session_text.specs.Talks.{Serves}
+use Rattle.heap_server.specs.declared.client_session.SessionEnd.{SessionEnd}
+use Rattle.heap_server.specs.declared.client_session.SessionEnd.TheVariants.{Ran, Http}
+
+-- the number of bytes of ` HTTP/1.` and a digit
+abbrev pub version_size : ℕ
+version_size = 9
+
+-- the byte is a decimal digit
+abbrev pub is_digit : ℕ → Bool
+is_digit b = nat_le 48 b && nat_le b 57
+
+-- the line ends in ` HTTP/1.` and a digit
+abbrev pub is_request_line : List ℕ → Bool
+is_request_line l =
+    nat_le version_size (length l)
+    && (bytes_eq (take 8 (drop (length l - version_size) l)) (codes " HTTP/1.")
+    && is_digit (slice_index l (length l - 1)))
+
+-- the first line without its LF, or None if none is whole
+abbrev pub first_line : List ℕ → Option (List ℕ)
+first_line [] = None
+first_line (b ∷ bytes) =
+    if b == 10 then Some [] else option_map (λ l. b ∷ l) (first_line bytes)
+
+-- the line, without its LF, isn't too long and begins an HTTP request
+abbrev pub is_request : List ℕ → Bool
+is_request l = nat_le (length l) LINE_LIMIT && is_request_line (without_cr l)
+
+-- the first line, if it is whole, begins an HTTP request
+abbrev pub asks_http : List ℕ → Bool
+asks_http bytes = option_map_or is_request (first_line bytes) false
+
+-- these bytes were read ahead of a session: they begin an HTTP request, and nothing was done or put out; or they don't, and a
+-- session was served over them and all that the inlet had left behind them
+abbrev pub ServesClient : {S : Type 0} → AnswerRelation S → AnswerRelation S → List ℕ → Incoming → S
+    → Outgoing → S → Outgoing → SessionEnd → Type 0
+ServesClient says begins bytes b c w c' w' Http =
+    (asks_http bytes ≡ true) × (c' ≡ c) × (w' ≡ w)
+ServesClient says begins bytes b c w c' w' (Ran ended) =
+    (asks_http bytes ≡ false) × (i : Incoming) × (j : Incoming) × (i.taken ≡ [])
+    × (i.left ≡ prepend_known bytes b.left) × Serves says begins i j c w c' w' ended

@@ -1,0 +1,189 @@
+//! An inlet whose first line is read ahead.
+ghost use Rattle.std.specs.Prelude.{◌≡◌, ◌+◌, ◌≤◌, ◌<◌, ◌^◌, [], IfOk, drop, length, take};
+ghost use Rattle.std.specs.Io.KnownBytes.{prepend_known};
+ghost use Rattle.dump_pump.specs.Inlets.{IsTriedRead, count_of};
+ghost use Rattle.dump_pump.specs.Outlets.{bytes_of};
+ghost use Rattle.session_text.specs.Buffers.{IsInletRead};
+ghost use Rattle.heap_server.specs.Ahead.{IsAhead};
+ghost use Rattle.session_grammar.specs.declared.TheConstants.{LINE_LIMIT};
+
+use crate::http::line_end;
+use dump_pump::Log;
+use dump_pump::inlet::count_of;
+use dump_pump::ledger::note_bytes;
+use session_grammar::LINE_LIMIT;
+use session_text::{Inlet, Take};
+use std::alloc::{AllocError, Global};
+
+// The most bytes that are read ahead: as many as a session reads at once.
+const ROOM: usize = 65_536;
+
+// One less than the largest size of a read.
+const LAST_SIZE: usize = ROOM - 1;
+
+// The most reads that are made ahead, each of at least one byte, until a line is too long.
+const READS_LIMIT: usize = LINE_LIMIT + 1;
+
+/// What was read ahead: bytes, the size of each read, and whether the last one failed.
+#[derive(Drop)]
+pub(crate) struct Ahead {
+    pub(crate) bytes: Vec<u8>,
+    // One less than each size.
+    sizes: Vec<u16>,
+    failed: bool,
+}
+
+// Reads once behind the first `end` bytes of a room.
+fn read_more<I: Inlet>(inlet: &mut I, room: &mut [u8], end: usize) -> Take
+    requires { end < length room.old }
+    ensures read { IsInletRead (take end room.old) (take (end + count_of result) room.new)
+        (I.seen inlet.old) (I.seen inlet.new) result }
+    ensures fits { end + count_of result ≤ length room.new }
+{
+    inlet.take(&mut room[end..])
+}
+
+// Reads into a room until the first line is whole or too long, the end comes, or a read fails. Returns the number of bytes that
+// came, and whether the last read failed.
+fn fill<I: Inlet>(inlet: &mut I, room: &mut [u8], sizes: &mut [u16]) -> (usize, bool)
+    requires room { LINE_LIMIT < length room.old }
+    requires sizes { LINE_LIMIT < length sizes.old }
+    ensures ahead { IsAhead (take result.0 room.new) result.1 (I.seen inlet.old)
+        (I.seen inlet.new) }
+{
+    let mut end = 0;
+    for read in 0..READS_LIMIT {
+        match read_more(inlet, room, end) {
+            Take::Got(n) => {
+                sizes[read] = n.saturating_sub(1).min(LAST_SIZE) as u16;
+                end += n;
+                if line_end(&room[..end]).is_some() || end > LINE_LIMIT {
+                    return (end, false);
+                }
+            }
+            Take::End => return (end, false),
+            Take::Failed => return (end, true),
+        }
+    }
+    unreachable!()
+}
+
+/// Reads until the first line is whole or too long, the end comes, or a read fails. Fails if an allocation fails, and has read
+/// nothing then.
+pub(crate) fn read_line<I: Inlet>(alloc: Global, inlet: &mut I) -> Result<Ahead, AllocError>
+    ensures { IfOk result
+        (λ a. IsAhead a.bytes.items a.failed (I.seen inlet.old) (I.seen inlet.new)) }
+{
+    let mut bytes = vec![in alloc; 0; ROOM]?;
+    let mut sizes = vec![in alloc; 0; READS_LIMIT]?;
+    let (end, failed) = fill(inlet, bytes.as_mut_slice(), sizes.as_mut_slice());
+    bytes.truncate(end);
+    bytes.shrink_to_fit();
+    Ok(Ahead {
+        bytes,
+        sizes,
+        failed,
+    })
+}
+
+/// An inlet whose first line was read ahead. It gives what came in parts of the same sizes, and then reads on, or fails if the last
+/// read ahead did.
+#[derive(Drop)]
+pub(crate) struct AheadInlet<I: Inlet + Drop> {
+    inlet: I,
+    ahead: Ahead,
+    // How many of the bytes ahead were given, and the number of the next part.
+    start: usize,
+    part: usize,
+    taken: Log<u8, ()>,
+    asked: Log<usize, ()>,
+    faults: Log<(), ()>,
+}
+
+impl<I: Inlet + Drop> AheadInlet<I> {
+    /// Creates the inlet that begins with what was read ahead.
+    pub(crate) fn new(inlet: I, ahead: Ahead) -> AheadInlet<I>
+        ensures bytes { (result.inlet ≡ inlet) × (result.ahead ≡ ahead) × (result.start ≡ 0) }
+        ensures nothing { bytes_of result.taken.items ≡ [] }
+    {
+        AheadInlet {
+            inlet,
+            ahead,
+            start: 0,
+            part: 0,
+            taken: Log::new(),
+            asked: Log::new(),
+            faults: Log::new(),
+        }
+    }
+}
+
+// Copies the next part of what was read ahead, behind the first `start` bytes, to the front of a room. Returns its size.
+fn copy_part(ahead: &Ahead, start: usize, part: usize, room: &mut [u8]) -> usize
+    requires room { 0 < length room.old }
+    requires more { start < length ahead.now.bytes.items }
+    ensures some { (0 < result) × (result ≤ length room.new) }
+    ensures within { start + result ≤ length ahead.now.bytes.items }
+    ensures bytes { take result room.new ≡ take result (drop start ahead.now.bytes.items) }
+{
+    let left = (ahead.bytes.len() - start).min(room.len());
+    let n = match ahead.sizes.get(part) {
+        Some(size) => (*size as usize + 1).min(left),
+        None => left,
+    };
+    room[..n].copy_from_slice(&ahead.bytes[start..start + n]);
+    n
+}
+
+// Gives the next part of what was read ahead, behind the first `start` bytes; or fails if the last read ahead did, or reads on. Tells
+// how many of the bytes ahead were given.
+fn take_on<I: Inlet>(
+    inlet: &mut I,
+    ahead: &Ahead,
+    start: usize,
+    part: usize,
+    room: &mut [u8],
+) -> (Take, usize)
+    requires { 0 < length room.old }
+    ensures took { IsTriedRead
+        (prepend_known (drop start ahead.now.bytes.items) (I.seen inlet.old).left)
+        (prepend_known (drop (start + result.1) ahead.now.bytes.items) (I.seen inlet.new).left)
+        result.0 room.new }
+    ensures fits { start + result.1 < 2 ^ 64 }
+{
+    if start < ahead.bytes.len() {
+        let given = copy_part(ahead, start, part, room);
+        return (Take::Got(given), given);
+    }
+    if ahead.failed {
+        return (Take::Failed, 0);
+    }
+    (inlet.take(room), 0)
+}
+
+impl<I: Inlet + Drop> Inlet for AheadInlet<I> {
+    ghost use Rattle.std.specs.Prelude.{drop, length, map};
+    ghost use Rattle.std.specs.Io.KnownBytes.{prepend_known};
+    ghost use Rattle.dump_pump.specs.Outlets.{bytes_of};
+
+    ghost seen = { λ i.
+        record {
+          taken = bytes_of i.taken.items;
+          left = prepend_known (drop i.start i.ahead.bytes.items) (I.seen i.inlet).left;
+          reads = map (λ e. e.0) i.asked.items;
+          failures = length i.faults.items;
+        } };
+
+    fn take(&mut self, room: &mut [u8]) -> Take {
+        let (took, given) = take_on(&mut self.inlet, &self.ahead, self.start, self.part, room);
+        self.start += given;
+        self.part = self.part.saturating_add(1);
+        self.asked = self.asked.and(&count_of(took), &());
+        match took {
+            Take::Got(n) => note_bytes(&mut self.taken, &room[..n]),
+            Take::End => {}
+            Take::Failed => self.faults = self.faults.and(&(), &()),
+        }
+        took
+    }
+}

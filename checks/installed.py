@@ -1,10 +1,12 @@
 #!/usr/bin/env python3
-"""Installs a built program as a user does, and packs it, from a copy of this repository: `installed.py PROGRAM`.
+"""Installs a built program as a user does, from a copy of this repository, and types there what the pages type:
+`installed.py PROGRAM`.
 
-Looks whether the installed program does the example, whether the manual page and the completions know each option that the
-program's help names, whether `make uninstall` leaves nothing, and whether what `make dist` packs runs. Prints a line for each thing
-that is otherwise, and ends with status 1 if there is one; prints nothing where all is well."""
-import hashlib
+Looks whether the manual page and the completions know each option that the program's help names, whether the examples of the
+page, as `man` shows them, and the commands of README, HUNT, VIEWERS and of the client's README do in the installed folder what
+they say, and whether `make uninstall` leaves nothing. Prints a line for each thing that is otherwise, and ends with status 1 if
+there is one; prints nothing where all is well."""
+import contextlib
 import os
 import pathlib
 import re
@@ -13,17 +15,33 @@ import subprocess
 import sys
 import tempfile
 
+from typed import Shell, command_word, manual_examples
+
 TOP = pathlib.Path(__file__).resolve().parent.parent
 COMMANDS = ("run", "explore", "draw", "save", "serve", "ask", "fetch")
 COMPLETED = 'source "$1"; COMP_WORDS=(heapdbg "$2" --); COMP_CWORD=2; _heapdbg; echo "${COMPREPLY[@]}"'
 EXAMPLE = TOP / "examples/point.session"
 REPLIES = (TOP / "crates/heapdbg/stdout").read_bytes()
+# How the last line begins that each command of the manual page's examples writes, and what must stand in the file that it makes.
+LAST = {"run": rb"ok dump \d+", "save": rb"saved \d+", "ask": rb"ok", "fetch": rb"fetched \d+"}
+MADE = {"save": "heap.hprof", "fetch": "heap.hprof"}
 
 
 def make(folder, *words):
     """Runs make in a folder. Returns its status and what it said on standard error."""
     ran = subprocess.run(["make", "--no-print-directory", *words], cwd=folder, capture_output=True)
     return ran.returncode, ran.stderr.decode()
+
+
+@contextlib.contextmanager
+def copied(program):
+    """A copy of this repository without its history, with a program as bin/heapdbg."""
+    with tempfile.TemporaryDirectory() as name:
+        folder = pathlib.Path(name, "copy")
+        shutil.copytree(TOP, folder, ignore=shutil.ignore_patterns("out", ".git", "dist", "bin", "edits", "proofs", "__pycache__"))
+        (folder / "bin").mkdir()
+        shutil.copy(program, folder / "bin/heapdbg")
+        yield folder
 
 
 def answered(*words):
@@ -33,8 +51,8 @@ def answered(*words):
 
 def options_of(program, command):
     """Returns the options that the help of a command names."""
-    said = subprocess.run([program, command, "--help"], capture_output=True, text=True).stderr
-    return set(re.findall(r"^ +(?:-\w, )?(--[a-z]+)", said, re.MULTILINE))
+    ran = subprocess.run([program, command, "--help"], capture_output=True, text=True)
+    return set(re.findall(r"^ +(?:-\w, )?(--[a-z]+)", ran.stdout + ran.stderr, re.MULTILINE))
 
 
 def misses(program, man, completions):
@@ -51,6 +69,28 @@ def misses(program, man, completions):
         yield from said.splitlines()
 
 
+def manual(man, shell):
+    """Yields what is wrong with the examples of the manual page, as `man` shows them."""
+    if not shutil.which("man"):
+        yield "man isn't installed (apt-get install man-db groff-base), so nobody saw the manual page's examples"
+        return
+    examples = manual_examples(man)
+    written = re.search(r"^\.EX\n(.*?)^\.EE", man.read_text(), re.MULTILINE | re.DOTALL)[1].count("\n")
+    if len(examples) != written:
+        yield f"the manual page has {written} examples, and man shows {len(examples)}"
+    shutil.copy(TOP / "examples/viewer.session", shell.folder / "session")
+    for example in examples:
+        word = command_word(example)
+        file = shell.folder / MADE.get(word, "session")
+        if word in MADE:
+            file.unlink(missing_ok=True)
+        status, out, error = shell.run(example)
+        last = out.rstrip(b"\n").split(b"\n")[-1]
+        refused = re.search(rb"^(no|bad) .*", out, re.MULTILINE)
+        if status or error or refused or not re.match(LAST[word], last) or not file.exists():
+            yield f"the manual page's example {example!r}: status {status}, {(refused or [last])[0]!r}, {error!r:.100}"
+
+
 def installed(folder, where):
     """Yields what is wrong with what `make install` and `make uninstall` do."""
     words = (f"DESTDIR={where}", "PREFIX=/usr")
@@ -58,40 +98,22 @@ def installed(folder, where):
     if status or said:
         yield f"make install: status {status}, {said}"
         return
-    program = where / "usr/bin/heapdbg"
-    if answered(program, "run") != REPLIES or answered(where / "usr/bin/heapdbg-explore", "--keep", "4") != REPLIES:
+    programs, man = where / "usr/bin", where / "usr/share/man/man1/heapdbg.1"
+    if answered(programs / "heapdbg", "run") != REPLIES or answered(programs / "heapdbg-explore", "--keep", "4") != REPLIES:
         yield "the installed program or script answers the example otherwise"
-    yield from misses(program, where / "usr/share/man/man1/heapdbg.1", where / "usr/share/bash-completion/completions/heapdbg")
+    yield from misses(programs / "heapdbg", man, where / "usr/share/bash-completion/completions/heapdbg")
+    with tempfile.TemporaryDirectory() as name, Shell(pathlib.Path(name), programs) as shell:
+        yield from manual(man, shell)
     status, said = make(folder, "uninstall", *words)
     left = [str(path) for path in where.rglob("*") if path.is_file()]
     if status or left:
         yield f"make uninstall: status {status}, and {left} stay"
 
 
-def packed(folder, where):
-    """Yields what is wrong with what `make dist` packs."""
-    status, said = make(folder, "dist")
-    found = list((folder / "dist").glob("heapdbg-*-x86_64.tar.gz"))
-    if status or len(found) != 1:
-        yield f"make dist: status {status}, {said}"
-        return
-    shutil.unpack_archive(found[0], where)
-    top = where / found[0].name.removesuffix(".tar.gz")
-    program = top / "bin/heapdbg"
-    if answered(program, "run") != REPLIES:
-        yield "the packed program answers the example otherwise"
-    if hashlib.sha256(program.read_bytes()).hexdigest() not in (top / "PROVED").read_text():
-        yield "PROVED names another program"
-
-
 def main(program):
     """Returns the exit status."""
-    with tempfile.TemporaryDirectory() as name:
-        folder = pathlib.Path(name, "copy")
-        shutil.copytree(TOP, folder, ignore=shutil.ignore_patterns("out", ".git", "dist", "bin", "edits"))
-        (folder / "bin").mkdir()
-        shutil.copy(program, folder / "bin/heapdbg")
-        found = [*installed(folder, pathlib.Path(name, "installed")), *packed(folder, pathlib.Path(name, "unpacked"))]
+    with copied(program) as folder:
+        found = list(installed(folder, folder.parent / "installed"))
     for line in found:
         print(line)
     return 1 if found else 0

@@ -3,7 +3,6 @@ import contextlib
 import os
 import pathlib
 import re
-import shlex
 import signal
 import socket
 import subprocess
@@ -15,7 +14,7 @@ LIMIT = 60
 # Ports that the pages name.
 PORTS = ("7000", "7001")
 # How much shorter `sleep` is here than the pages have it.
-FASTER = 4
+FASTER = 5
 SLEEP = f"#!/bin/sh\nexec /bin/sleep \"$(echo \"$1\" | awk '{{ print $1 / {FASTER} }}')\"\n"
 
 
@@ -50,6 +49,15 @@ class Shell:
         for port, other in self.ports.items():
             command = re.sub(rf"\b{port}\b", other, command)
         return Typed(command, self.folder, self.path, lines)
+
+    def waits_for_lines(self, name, count):
+        """Returns once a file of the folder has so many lines."""
+        for _ in range(LIMIT * 20):
+            file = self.folder / name
+            if file.exists() and file.read_bytes().count(b"\n") >= count:
+                return
+            time.sleep(0.05)
+        raise TimeoutError(f"{name} has fewer lines than {count}")
 
     def run(self, command, lines=b""):
         """Runs a command to its end. Returns its status and what it wrote to standard output and standard error."""
@@ -125,8 +133,3 @@ def commands_of(page):
 def command_word(command):
     """Returns the command of the program that a line ends with."""
     return re.findall(r"\bheapdbg (\w+)", command)[-1]
-
-
-def quoted(word):
-    """Returns a word as a shell reads it."""
-    return shlex.quote(str(word))

@@ -23,6 +23,7 @@ test:
 	cmp examples/point.session crates/heapdbg/stdin
 	python3 checks/edits.py fit
 	python3 checks/map.py
+	python3 checks/headline.py
 	python3 checks/no_memory.py
 	rt ci
 	@python3 checks/growths.py crates/heapdbg/out/heapdbg

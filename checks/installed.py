@@ -19,7 +19,7 @@ import tempfile
 
 import viewers
 from hunt import fits, page
-from typed import Shell, command_word, commands_of, manual_examples
+from typed import Shell, command_word, commands_of, complaints, manual_examples
 
 TOP = pathlib.Path(__file__).resolve().parent.parent
 COMMANDS = ("run", "explore", "draw", "save", "serve", "ask", "fetch")
@@ -78,6 +78,7 @@ def manual(man, shell):
     if not shutil.which("man"):
         yield "man isn't installed (apt-get install man-db groff-base), so nobody saw the manual page's examples"
         return
+    yield from (f"man says: {line}" for line in complaints(man))
     examples = manual_examples(man)
     written = re.search(r"^\.EX\n(.*?)^\.EE", man.read_text(), re.MULTILINE | re.DOTALL)[1].count("\n")
     if len(examples) != written:
@@ -171,7 +172,8 @@ def live(shell, readme):
     with shell.start(serve) as server:
         server.waits_for(shell.ports["7001"])
         with shell.start(ask) as session:
-            shell.waits_for_lines("replies", 2000)
+            # The classes, and two lines for each node.
+            shell.waits_for_lines("replies", 16 + 2 * nodes[0])
             came = shell.run(fetch)
             if came != (0, b"".join(b"fetched %d\n" % size for size in wanted), b""):
                 yield f"README, {fetch!r}: {came}"

@@ -116,6 +116,12 @@ def shown(page):
     return ran.stdout.decode()
 
 
+def complaints(page):
+    """Returns what `man` finds wrong with a manual page at the width of a terminal."""
+    ran = subprocess.run(["man", "--warnings", "-l", page], env={**os.environ, "MANWIDTH": "80"}, capture_output=True)
+    return ran.stderr.decode().splitlines()
+
+
 def manual_examples(page):
     """Returns the examples of a manual page, as they are shown."""
     text = re.search(r"^EXAMPLES\n(.*?)^\S", shown(page), re.MULTILINE | re.DOTALL)

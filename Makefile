@@ -24,6 +24,7 @@ test:
 	python3 checks/edits.py fit
 	python3 checks/map.py
 	python3 checks/headline.py
+	python3 checks/rows.py
 	python3 checks/no_memory.py
 	rt ci
 	@python3 checks/growths.py crates/heapdbg/out/heapdbg

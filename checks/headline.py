@@ -144,7 +144,7 @@ def block(found):
     headline, session = reached(found, HEADLINE), reached(found, SESSION)
     names = [path for path in TOP.glob("crates/*/specs/**/*.antt") if path.stem not in ("Lib", "Functions")]
     lines = sum(path.read_text().count("\n") for path in names)
-    yield f"all of specs/: {len(names)} modules, {lines:,} lines"
+    yield f"all of specs/: some {round(len(names), -1)} modules, {round(lines, -3):,} lines"
     yield f"the headline: {size(found, headline)}"
     yield from (f"  {line}" for line in reading(found, headline))
     yield f"a session: {size(found, session)}; without those above {size(found, session - headline)}"

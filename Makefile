@@ -16,10 +16,15 @@ build: prove
 prove:
 	rt all check --jobs $(JOBS)
 
-# The gate. What stands after `rt ci` prints nothing where all is well, and looks at the programs that it left.
+# The gate. What stands after `rt ci` prints nothing where all is well, and looks at the programs that it left. The first of them
+# becomes bin/heapdbg.
 test:
+	@bash bench/dist.sh begin
 	cmp examples/point.session crates/heapdbg/stdin
 	python3 checks/edits.py fit
+	python3 checks/map.py
+	python3 checks/headline.py
+	python3 checks/rows.py
 	python3 checks/no_memory.py
 	rt ci
 	@python3 checks/growths.py crates/heapdbg/out/heapdbg
@@ -33,6 +38,8 @@ test:
 	@QUIET=1 SECONDS=5 python3 bench/soak.py crates/heapdbg/out/heapdbg
 	@python3 clients/python/test_heapdbg.py crates/heapdbg/out/heapdbg
 	@python3 checks/installed.py crates/heapdbg/out/heapdbg
+	@python3 checks/package.py crates/heapdbg/out/heapdbg
+	@bash bench/dist.sh passed crates/heapdbg/out/heapdbg
 
 # Tries the edits that are not in the gate: of all crates, or of those that CRATE names.
 edits:
@@ -57,29 +64,32 @@ soak:
 audit:
 	SECONDS=$(SECONDS) python3 bench/audit.py
 
-# Where `make install` puts things: below DESTDIR if that is given.
+# Where `make install` puts things: below DESTDIR if that is given. Documents, examples and the client in Python lie in DOCDIR as they
+# do here, so that the documents' commands work there; `bin/heapdbg` is then `heapdbg`. examples/leak.py needs the checks.
 PREFIX ?= /usr/local
 VERSION := $(shell sed -n 's/.*VERSION: &str = "\(.*\)";/\1/p' crates/heapdbg_options/src/refusal.rt)
-DOCS := README.md CHANGES.md $(wildcard docs/*.md)
+PAGES := README.md CHANGES.md $(wildcard docs/*.md) clients/python/README.md
+EXAMPLES := $(filter-out examples/leak.py,$(wildcard examples/*.*))
+CLIENT := $(wildcard clients/python/*.py clients/python/*.toml)
 BINDIR = $(DESTDIR)$(PREFIX)/bin
 MANDIR = $(DESTDIR)$(PREFIX)/share/man/man1
 BASHDIR = $(DESTDIR)$(PREFIX)/share/bash-completion/completions
 DOCDIR = $(DESTDIR)$(PREFIX)/share/doc/heapdbg
 
-# Installs what `make build` left: the program, the script beside it, its manual page, completions for bash and the documents.
+# Installs what `make build` or `make test` left: the program, the script beside it, its manual page, completions for bash, the
+# documents, the examples and the client in Python.
 install:
 	install -D bin/heapdbg $(BINDIR)/heapdbg
 	install scripts/heapdbg-explore $(BINDIR)/heapdbg-explore
 	install -D -m 644 man/heapdbg.1 $(MANDIR)/heapdbg.1
 	install -D -m 644 completions/heapdbg.bash $(BASHDIR)/heapdbg
-	install -d $(DOCDIR)
-	install -m 644 $(DOCS) $(DOCDIR)
-	install -D -m 644 examples/leak.svg $(DOCDIR)/examples/leak.svg
+	for each in $(PAGES) $(EXAMPLES) $(CLIENT); do install -D -m 644 $$each $(DOCDIR)/$$each || exit 1; done
+	cd $(DOCDIR) && sed -i 's:bin/heapdbg \([a-z]\):heapdbg \1:g' $(PAGES)
 
 uninstall:
 	rm -f $(BINDIR)/heapdbg $(BINDIR)/heapdbg-explore $(MANDIR)/heapdbg.1 $(BASHDIR)/heapdbg
 	rm -rf $(DOCDIR)
 
-# Packs the same, with an account of what proved it, into dist/.
+# Packs the same into dist/, with an account of the gate: only the program that passed it at this commit.
 dist:
-	bash bench/dist.sh $(VERSION)
+	@bash bench/dist.sh pack $(VERSION)

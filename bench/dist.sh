@@ -1,24 +1,75 @@
 #!/bin/bash
-# Packs the proved program and its documents: `dist.sh VERSION`. It needs bin/heapdbg, as `make build` leaves it.
+# Packs the program that passed the gate, with its documents: `dist.sh pack VERSION`.
+#
+# `dist.sh begin` and `dist.sh passed PROGRAM` are the first and the last step of the gate. They leave that program as
+# bin/heapdbg, and its sum, the commit and the kit in bin/gate. Nothing else is packed.
 set -eu
-version=$1
-name=heapdbg-$version-x86_64
-folder=$(mktemp -d)
-trap 'rm -rf "$folder"' EXIT
-make --no-print-directory install DESTDIR="$folder/$name" PREFIX=
-cp -r examples "$folder/$name/share/doc/heapdbg/"
-cp -r clients "$folder/$name/share/"
-# It needs the checks' model, which isn't packed.
-rm -f "$folder/$name/share/doc/heapdbg/examples/leak.py"
-find "$folder/$name" -name __pycache__ -prune -exec rm -rf {} +
-{
-    echo "heapdbg $version"
-    echo "commit $(git rev-parse HEAD)$(git diff --quiet HEAD || echo ', changed')"
-    echo "kit $(rt version)"
-    echo "program $(sha256sum bin/heapdbg | cut -d ' ' -f 1)"
-    echo "proved by: make build, which proves each function of the crates that the program is made of"
-    echo "gate: make test, of this commit"
-} > "$folder/$name/PROVED"
-mkdir -p dist
-tar -C "$folder" --sort=name --owner=0 --group=0 --numeric-owner -czf "dist/$name.tar.gz" "$name"
-echo "dist/$name.tar.gz"
+note=bin/gate
+
+# Prints the commit that the files are: `HASH`, `HASH, changed` or `none`.
+commit() {
+    if git rev-parse --verify --quiet HEAD 2> /dev/null; then
+        [ -z "$(git status --porcelain)" ] || echo ", changed"
+    else
+        echo none
+    fi | tr -d '\n'
+}
+
+# Prints what the note says of a word.
+noted() {
+    sed -n "s/^$1 //p" $note
+}
+
+# Prints the sum of a program.
+sum() {
+    sha256sum "$1" | cut -d ' ' -f 1
+}
+
+refuse() {
+    echo "make dist: $1" >&2
+    exit 1
+}
+
+begin() {
+    mkdir -p bin
+    rm -f $note
+    commit > $note.begun
+}
+
+passed() {
+    local now
+    now=$(commit)
+    [ "$now" = "$(cat $note.begun)" ] || now="$now, changed"
+    install -D "$1" bin/heapdbg
+    printf '%s\n' "commit $now" "kit $(rt version)" "program $(sum bin/heapdbg)" > $note
+}
+
+# Refuses to pack anything but the program that passed the gate, at the commit that the files are.
+check() {
+    local now
+    now=$(commit)
+    [ "$now" != none ] || refuse "git names no commit of this folder, and a package says of which one it is"
+    [ "$now" = "${now%, changed}" ] || refuse "files differ from commit ${now%, changed}, as git status shows: commit them, then make test"
+    [ -f $note ] || refuse "no gate has passed here: make test"
+    [ "$(noted commit)" = "$now" ] || refuse "the gate passed at commit $(noted commit), and this is $now: make test"
+    [ -f bin/heapdbg ] || refuse "there is no bin/heapdbg: make test"
+    [ "$(noted program)" = "$(sum bin/heapdbg)" ] || refuse "bin/heapdbg isn't the program that passed the gate: make test"
+}
+
+pack() {
+    local name=heapdbg-$1-x86_64 folder
+    check
+    folder=$(mktemp -d)
+    trap "rm -rf '$folder'" EXIT
+    make --no-print-directory install DESTDIR="$folder/$name" PREFIX=
+    {
+        echo "heapdbg $1"
+        cat $note
+        echo "gate: make test passed at this commit; it proves each function, and builds and tests this program"
+    } > "$folder/$name/PROVED"
+    mkdir -p dist
+    tar -C "$folder" --sort=name --owner=0 --group=0 --numeric-owner -czf "dist/$name.tar.gz" "$name"
+    echo "dist/$name.tar.gz"
+}
+
+"$@"

@@ -1,29 +1,51 @@
 #!/usr/bin/env python3
-"""Installs a built program as a user does, and packs it, from a copy of this repository: `installed.py PROGRAM`.
+"""Installs a built program as a user does, from a copy of this repository, and types there what the pages type:
+`installed.py PROGRAM`.
 
-Looks whether the installed program does the example, whether the manual page and the completions know each option that the
-program's help names, whether `make uninstall` leaves nothing, and whether what `make dist` packs runs. Prints a line for each thing
-that is otherwise, and ends with status 1 if there is one; prints nothing where all is well."""
-import hashlib
+Looks whether the manual page and the completions know each option that the program's help names, whether the examples of the
+page, as `man` shows them, and the commands of README, HUNT, VIEWERS and of the client's README do in the installed folder what
+they say, and whether `make uninstall` leaves nothing. Prints a line for each thing that is otherwise, and ends with status 1 if
+there is one; prints nothing where all is well."""
+import concurrent.futures
+import contextlib
 import os
 import pathlib
 import re
+import shlex
 import shutil
 import subprocess
 import sys
 import tempfile
+
+import viewers
+from hunt import fits, page
+from typed import Shell, command_word, commands_of, complaints, manual_examples
 
 TOP = pathlib.Path(__file__).resolve().parent.parent
 COMMANDS = ("run", "explore", "draw", "save", "serve", "ask", "fetch")
 COMPLETED = 'source "$1"; COMP_WORDS=(heapdbg "$2" --); COMP_CWORD=2; _heapdbg; echo "${COMPREPLY[@]}"'
 EXAMPLE = TOP / "examples/point.session"
 REPLIES = (TOP / "crates/heapdbg/stdout").read_bytes()
+# How the last line begins that each command of the manual page's examples writes, and what must stand in the file that it makes.
+LAST = {"run": rb"ok dump \d+", "save": rb"saved \d+", "ask": rb"ok", "fetch": rb"fetched \d+"}
+MADE = {"save": "heap.hprof", "fetch": "heap.hprof"}
 
 
 def make(folder, *words):
     """Runs make in a folder. Returns its status and what it said on standard error."""
     ran = subprocess.run(["make", "--no-print-directory", *words], cwd=folder, capture_output=True)
     return ran.returncode, ran.stderr.decode()
+
+
+@contextlib.contextmanager
+def copied(program):
+    """A copy of this repository without its history, with a program as bin/heapdbg."""
+    with tempfile.TemporaryDirectory() as name:
+        folder = pathlib.Path(name, "copy")
+        shutil.copytree(TOP, folder, ignore=shutil.ignore_patterns("out", ".git", "dist", "bin", "edits", "proofs", "__pycache__"))
+        (folder / "bin").mkdir()
+        shutil.copy(program, folder / "bin/heapdbg")
+        yield folder
 
 
 def answered(*words):
@@ -33,8 +55,8 @@ def answered(*words):
 
 def options_of(program, command):
     """Returns the options that the help of a command names."""
-    said = subprocess.run([program, command, "--help"], capture_output=True, text=True).stderr
-    return set(re.findall(r"^ +(?:-\w, )?(--[a-z]+)", said, re.MULTILINE))
+    ran = subprocess.run([program, command, "--help"], capture_output=True, text=True)
+    return set(re.findall(r"^ +(?:-\w, )?(--[a-z]+)", ran.stdout + ran.stderr, re.MULTILINE))
 
 
 def misses(program, man, completions):
@@ -51,6 +73,162 @@ def misses(program, man, completions):
         yield from said.splitlines()
 
 
+def manual(man, shell):
+    """Yields what is wrong with the examples of the manual page, as `man` shows them."""
+    if not shutil.which("man"):
+        yield "man isn't installed (apt-get install man-db groff-base), so nobody saw the manual page's examples"
+        return
+    yield from (f"man says: {line}" for line in complaints(man))
+    examples = manual_examples(man)
+    written = re.search(r"^\.EX\n(.*?)^\.EE", man.read_text(), re.MULTILINE | re.DOTALL)[1].count("\n")
+    if len(examples) != written:
+        yield f"the manual page has {written} examples, and man shows {len(examples)}"
+    shutil.copy(TOP / "examples/viewer.session", shell.folder / "session")
+    for example in examples:
+        word = command_word(example)
+        file = shell.folder / MADE.get(word, "session")
+        if word in MADE:
+            file.unlink(missing_ok=True)
+        status, out, error = shell.run(example)
+        last = out.rstrip(b"\n").split(b"\n")[-1]
+        refused = re.search(rb"^(no|bad) .*", out, re.MULTILINE)
+        if status or error or refused or not re.match(LAST[word], last) or not file.exists():
+            yield f"the manual page's example {example!r}: status {status}, {(refused or [last])[0]!r}, {error!r:.100}"
+
+
+def groups(out):
+    """Returns the lines of answers, each with its rows before its last line."""
+    found, group = [], []
+    for line in out.split(b"\n")[:-1]:
+        group.append(line)
+        if not line.startswith((b"row ", b"data ")):
+            found.append(group)
+            group = []
+    return found
+
+
+def block(text, first):
+    """Returns the left and the right column of README's block whose first line begins so."""
+    lines = re.search(rf"^    {re.escape(first)}.*?(?=\n\n)", text, re.MULTILINE | re.DOTALL)[0].split("\n")
+    rows = [re.split(r" {2,}", line[4:].rstrip(), maxsplit=1) for line in lines]
+    return [row[0] for row in rows if row[0]], [row[1].encode() for row in rows if len(row) > 1]
+
+
+def hunted(shell, hunt):
+    """Yields what the lines that HUNT types are answered otherwise than it says, by the command that it types."""
+    indented, _ = commands_of(hunt)
+    asked = page()
+    status, out, error = shell.run(indented[0], b"".join(line + b"\n" for line, _ in asked))
+    came = groups(out)
+    wrong = [line for (line, wanted), got in zip(asked, came) if not fits(got, wanted)]
+    if status or error or wrong or len(came) != len(asked):
+        yield f"HUNT, {indented[0]!r}: status {status}, {len(came)} answers, others than the page has to {wrong[:2]}, {error!r:.100}"
+
+
+def viewed(shell, pages):
+    """Yields what is wrong with the files that VIEWERS makes."""
+    indented, _ = commands_of(pages)
+    first, example = (shell.folder / f"examples/{name}.session" for name in ("java", "viewer"))
+    if len(indented) != 2 or not example.read_text().startswith(first.read_text()):
+        yield f"VIEWERS types {indented}, or {example.name} doesn't begin with {first.name}"
+    for command in indented:
+        file = shell.folder / command.split("--out ")[1].split()[0]
+        status, out, error = shell.run(command)
+        refused = re.search(rb"^(no|bad) .*", out, re.MULTILINE)
+        if status or error or refused or not out.endswith(b"\nsaved %d\n" % file.stat().st_size):
+            yield f"VIEWERS, {command!r}: status {status}, {refused}, {out[-40:]!r}, {error!r:.100}"
+        yield from (f"VIEWERS, {command!r}: {fault}" for fault in viewers.faults(file.read_bytes()))
+
+
+def asked(shell, readme):
+    """Yields what README's questions, picture and example do otherwise than it says."""
+    text = readme.read_text()
+    _, quoted = commands_of(readme)
+    explore, draw, run = ([each for each in quoted if each.startswith(f"heapdbg {word} ")] for word in ("explore", "draw", "run"))
+    lines, replies = block(text, "growth @816")
+    came = shell.run(explore[0], "".join(f"{line}\n" for line in lines).encode())
+    if came != (0, b"".join(reply + b"\n" for reply in replies), b""):
+        yield f"README, {explore[0]!r}: {came}"
+    status, out, error = shell.run(draw[0])
+    if status or error or (shell.folder / "leak.svg").read_bytes() != (TOP / "examples/leak.svg").read_bytes():
+        yield f"README, {draw[0]!r}: status {status}, {error!r}, or another picture"
+    came = shell.run(run[0])
+    if came != (0, REPLIES, b""):
+        yield f"README, {run[0]!r}: {came}"
+    lines, replies = block(text, "class Point")
+    last = [group[-1] for group in groups(REPLIES)]
+    if EXAMPLE.read_text().split("\n")[:-1] != lines or [reply.split(b": ")[-1] for reply in replies] != last:
+        yield "README's example is another than examples/point.session"
+
+
+def live(shell, readme):
+    """Yields what README's heap that is served, its two sessions and its dumps do otherwise than it says."""
+    text = readme.read_text()
+    indented, quoted = commands_of(readme)
+    serve, ask, fetch = indented
+    explore = [each for each in quoted if each.startswith("heapdbg explore --port")]
+    wanted = [int(each) for each in re.findall(r"fetched (\d+)", text)]
+    nodes = [int(each.replace(",", "")) for each in re.findall(r"([\d,]+) instances", text)]
+    with shell.start(serve) as server:
+        server.waits_for(shell.ports["7001"])
+        with shell.start(ask) as session:
+            # The classes, and two lines for each node.
+            shell.waits_for_lines("replies", 16 + 2 * nodes[0])
+            came = shell.run(fetch)
+            if came != (0, b"".join(b"fetched %d\n" % size for size in wanted), b""):
+                yield f"README, {fetch!r}: {came}"
+            for name, count in zip(("before", "after"), nodes):
+                data = (shell.folder / f"{name}.hprof").read_bytes()
+                yield from (f"README, {name}.hprof: {fault}" for fault in viewers.faults(data))
+                if viewers.Dump(data).count("Node") != count:
+                    yield f"README, {name}.hprof: {viewers.Dump(data).count('Node')} nodes"
+            status, out, error = shell.run(explore[0], b"histogram -\n")
+            if status or error or not re.match(rb"row %d \d+ Node\nok " % nodes[1], out):
+                yield f"README, {explore[0]!r}: status {status}, {out!r}, {error!r}"
+            if session.ended() != (0, b"", b""):
+                yield f"README, {ask!r}: {session.ended()}"
+        if server.ended() != (0, b"session 1 quit\nsession 2 quit\n", b""):
+            yield f"README, {serve!r}: {server.ended()}"
+
+
+def client(shell, folder):
+    """Yields what the example of the client's README does otherwise than its comments say. It has fewer lines here."""
+    text = (folder / "README.md").read_text()
+    code = re.search(r"```python\n(.*?)```", text, re.DOTALL)[1].replace("1_000_000", "1_000").replace("999502", "502")
+    (shell.folder / "example.py").write_text(code)
+    status, out, error = shell.run(f"PYTHONDONTWRITEBYTECODE=1 PYTHONPATH={shlex.quote(str(folder))} python3 example.py")
+    wanted = re.findall(r"print\(.*?\) +# ([^,\n]+, [^,\n]+, '\w+'\)\]|\d+ \w+|\d+)", code)
+    if status or error or out.decode().split("\n")[:-1] != wanted or len(wanted) != 3:
+        yield f"the client's example: status {status}, {out!r}, and must be {wanted}, {error.decode()[-200:]!r}"
+    version = re.search(r'^version = "(.*)"', (folder / "pyproject.toml").read_text(), re.MULTILINE)[1]
+    status, out, error = shell.run("heapdbg --version")
+    if version.encode() not in (out + error).split():
+        yield f"the client's version is {version}, and the program's {out + error!r}"
+
+
+def seen(look, name, shell, folder):
+    """Returns what a look at a page finds. It also finds where the look broke off."""
+    found = []
+    try:
+        found.extend(look(shell, folder / name))
+    except (OSError, subprocess.SubprocessError, LookupError, TypeError, ValueError, AssertionError) as fault:
+        found.append(f"{name}: {fault!r}")
+    return found
+
+
+def documents(folder, programs):
+    """Yields what the documents do otherwise than they say, typed where they are installed."""
+    with Shell(folder, programs) as shell:
+        looks = ((live, "README.md"), (asked, "README.md"), (hunted, "docs/HUNT.md"), (viewed, "docs/VIEWERS.md"), (client, "clients/python"))
+        with concurrent.futures.ThreadPoolExecutor(len(looks)) as pool:
+            for found in pool.map(lambda look: seen(*look, shell, folder), looks):
+                yield from found
+    for path in (folder / "README.md", folder / "docs/VIEWERS.md", folder / "docs/HUNT.md"):
+        for name in re.findall(r"`((?:docs|examples|clients)/[\w./]+)`", path.read_text()):
+            if name != "examples/leak.py" and not (folder / name).exists():
+                yield f"{path.name} names {name}, which isn't installed"
+
+
 def installed(folder, where):
     """Yields what is wrong with what `make install` and `make uninstall` do."""
     words = (f"DESTDIR={where}", "PREFIX=/usr")
@@ -58,40 +236,23 @@ def installed(folder, where):
     if status or said:
         yield f"make install: status {status}, {said}"
         return
-    program = where / "usr/bin/heapdbg"
-    if answered(program, "run") != REPLIES or answered(where / "usr/bin/heapdbg-explore", "--keep", "4") != REPLIES:
+    programs, man = where / "usr/bin", where / "usr/share/man/man1/heapdbg.1"
+    if answered(programs / "heapdbg", "run") != REPLIES or answered(programs / "heapdbg-explore", "--keep", "4") != REPLIES:
         yield "the installed program or script answers the example otherwise"
-    yield from misses(program, where / "usr/share/man/man1/heapdbg.1", where / "usr/share/bash-completion/completions/heapdbg")
+    yield from misses(programs / "heapdbg", man, where / "usr/share/bash-completion/completions/heapdbg")
+    with tempfile.TemporaryDirectory() as name, Shell(pathlib.Path(name), programs) as shell:
+        yield from manual(man, shell)
+    yield from documents(where / "usr/share/doc/heapdbg", programs)
     status, said = make(folder, "uninstall", *words)
     left = [str(path) for path in where.rglob("*") if path.is_file()]
     if status or left:
         yield f"make uninstall: status {status}, and {left} stay"
 
 
-def packed(folder, where):
-    """Yields what is wrong with what `make dist` packs."""
-    status, said = make(folder, "dist")
-    found = list((folder / "dist").glob("heapdbg-*-x86_64.tar.gz"))
-    if status or len(found) != 1:
-        yield f"make dist: status {status}, {said}"
-        return
-    shutil.unpack_archive(found[0], where)
-    top = where / found[0].name.removesuffix(".tar.gz")
-    program = top / "bin/heapdbg"
-    if answered(program, "run") != REPLIES:
-        yield "the packed program answers the example otherwise"
-    if hashlib.sha256(program.read_bytes()).hexdigest() not in (top / "PROVED").read_text():
-        yield "PROVED names another program"
-
-
 def main(program):
     """Returns the exit status."""
-    with tempfile.TemporaryDirectory() as name:
-        folder = pathlib.Path(name, "copy")
-        shutil.copytree(TOP, folder, ignore=shutil.ignore_patterns("out", ".git", "dist", "bin", "edits"))
-        (folder / "bin").mkdir()
-        shutil.copy(program, folder / "bin/heapdbg")
-        found = [*installed(folder, pathlib.Path(name, "installed")), *packed(folder, pathlib.Path(name, "unpacked"))]
+    with copied(program) as folder:
+        found = list(installed(folder, folder.parent / "installed"))
     for line in found:
         print(line)
     return 1 if found else 0

@@ -10,6 +10,7 @@ import sys
 import time
 import unittest
 
+import heapdbg
 from heapdbg import BadCommand, Collected, Ended, ObjectId, Piece, PinAt, Refused, Session, Swept
 
 PROGRAM = os.path.abspath(sys.argv[1]) if len(sys.argv) > 1 else "heapdbg"
@@ -93,12 +94,107 @@ class Replies(unittest.TestCase):
         self.assertEqual(heap.writer.getvalue(), b"show - 0x10000000\ndropped 0x10000000\nborn 0x10000000\n")
 
     def test_classes_pins_and_collect(self):
-        lines = "row 0 Node - next:object v:long", "row 1 Nodes array", "ok 2", "row 1 3 held 2", "row 4 9 lost Rewound", "ok 2"
-        heap = canned(*lines, "ok condemned 3 swept 5")
+        pins = "row 1 3 held 2", "row 4 9 lost Rewound", "row 5 7 lost Memory", "ok 3"
+        heap = canned("row 0 Node - next:object v:long", "row 1 Nodes array", "ok 2", *pins, "ok condemned 3 swept 5")
         self.assertEqual(heap.classes("@3"), [(0, "Node", "-", "next:object", "v:long"), (1, "Nodes", "array")])
-        self.assertEqual(heap.pins(), [(1, 3, "held", 2), (4, 9, "lost", "Rewound")])
+        lost = [(4, 9, "lost", "Rewound"), (5, 7, "lost", "Memory")]
+        self.assertEqual(heap.pins(), [(1, 3, "held", 2), *lost])
         self.assertEqual(heap.collect(), Collected(condemned=3, swept=5))
         self.assertEqual(heap.writer.getvalue(), b"classes @3\npins\ncollect\n")
+
+
+class Names(unittest.TestCase):
+    """Names that look like numbers, ids or null."""
+
+    # Each is a legal name of a class, and of a field.
+    ODD = ("null", "2024", "0xyz", "0x10000000", "array", "object", "row", "ok")
+
+    def test_rows(self):
+        with session("--questions", "1") as heap:
+            for number, name in enumerate(self.ODD):
+                self.assertEqual(heap.define_class(name, [(name, "int"), ("null", "object")][: 2 - (name == "null")]), number)
+            ids = [heap.new(0, number, number) for number in range(len(self.ODD))]
+            sizes = [4 if name == "null" else 12 for name in self.ODD]
+            rows = sorted((1, size, name) for name, size in zip(self.ODD, sizes))
+            self.assertEqual(sorted(heap.histogram()), rows)
+            self.assertEqual(heap.registers()[:8], [(0, r, ids[r], name) for r, name in enumerate(self.ODD)])
+            self.assertEqual(heap.registers()[8], (1, 0, None))
+            fields = [(f"{name}:int", "null:object")[: 2 - (name == "null")] for name in self.ODD]
+            self.assertEqual(heap.classes(), [(n, name, "-", *fields[n]) for n, name in enumerate(self.ODD)])
+            self.assertEqual(heap.show(None, ids[1]), [(0, "2024", "int", 0), (1, "null", "object", None)])
+            grown = [(name, 0, 0, 1, size) for name, size in zip(self.ODD, sizes)]
+            self.assertEqual(heap.growth("@8", None), grown)
+            heap.clear(0, 2)
+            self.assertEqual(heap.garbage(), [(1, 12, "0xyz")])
+            self.assertEqual(heap.history(1), [(17, "reg", 0, 2, ids[2])])
+            self.assertEqual(heap.path(None, ids[3]), [(0, 3, ids[3])])
+            self.assertEqual(heap.referrers(None, ids[3]), [(0, 3)])
+            with self.assertRaises(Refused) as caught:
+                heap.path(None, ids[2])
+            self.assertEqual((caught.exception.number, caught.exception.name), (27, "Unreachable"))
+
+    def test_elements_supers_and_moments(self):
+        with session("--questions", "1") as heap:
+            heap.define_class("null", [("next", "object")])
+            heap.define_class("2024", sup=0)
+            heap.define_array("[null;")
+            self.assertEqual(heap.classes()[1:], [(1, "2024", 0), (2, "[null;", "array")])
+            array = heap.new_array(0, 0, 2, 2)
+            node = heap.new(0, 1, 1)
+            heap.store(0, 0, 1, 1)
+            self.assertEqual(heap.show(None, array), [(0, "0", "object", None), (1, "1", "object", node)])
+            self.assertEqual(heap.path("@6", node), [(0, 1, node)])
+            self.assertEqual(heap.referrers(heap.open(), node), [(0, 1), (array, 1)])
+            self.assertEqual((heap.born(node), heap.wrote(array, 1)), (("place", 5), ("place", 6)))
+            heap.clear(0, 1)
+            self.assertEqual(heap.path(None, node), [(0, 0, array), (array, 1, node)])
+
+    def test_all_is_public(self):
+        self.assertEqual([name for name in ("Collected", *heapdbg.__all__) if name not in dir(heapdbg)], [])
+        self.assertIn("Collected", heapdbg.__all__)
+
+
+class Texts(unittest.TestCase):
+    """Texts that would be another line than they are taken for."""
+
+    def test_more_lines_than_one(self):
+        with session("--questions", "1") as heap:
+            for text in ("a\nb", "a\rb", "a\r\n", "\n", "a\x00b", "a\tb", "\x7f", "\xe4"):
+                for call in (lambda: heap.say(text), lambda: heap.define_array(text), lambda: heap.define_class(text), lambda: heap.open(text),
+                             lambda: heap.define_class("C", [(text, "int")]), lambda: heap.define_class("C", [("x", text)]),
+                             lambda: heap.histogram(text), lambda: heap.new_values(0, 0, text, 1), lambda: heap.dump(text)):
+                    with self.assertRaises(BadCommand):
+                        call()
+            with self.assertRaises(BadCommand):
+                heap.say("histogram -\nhistogram -")
+            self.assertEqual(heap.define_class("C"), 0)
+            self.assertEqual(heap.pins(), [])
+
+    def test_more_words_than_one(self):
+        with session() as heap:
+            for call in (lambda: heap.define_array("A B"), lambda: heap.define_class("A -"), lambda: heap.define_class(""),
+                         lambda: heap.define_class("A", [("x", "int y:int")]), lambda: heap.new_values(0, 0, "int 7", 1)):
+                with self.assertRaises(BadCommand):
+                    call()
+            self.assertEqual(heap.define_class("C"), 0)
+
+    def test_in_a_batch(self):
+        with session() as heap:
+            with heap.batch() as batch:
+                for text in ("a\nb", "a\r", "", "# a", "end"):
+                    with self.assertRaises(BadCommand):
+                        batch.send(text, lambda words, lines: None)
+                number = batch.define_class("C")
+            self.assertEqual(number.value, 0)
+
+    def test_a_question_without_questions(self):
+        with session() as heap:
+            with self.assertRaisesRegex(BadCommand, "--questions 1"):
+                heap.histogram()
+            with self.assertRaises(BadCommand) as caught:
+                heap.say("what")
+            self.assertNotIn("--questions", str(caught.exception))
+            self.assertEqual(caught.exception.line, "what")
 
 
 class Refusals(unittest.TestCase):
@@ -215,7 +311,7 @@ class Endings(unittest.TestCase):
     def test_end(self):
         heap = session()
         self.assertEqual(heap.end(), 0)
-        with self.assertRaises((Ended, ValueError)):
+        with self.assertRaises(Ended):
             heap.clear(0, 0)
 
     def test_a_line_too_long(self):
@@ -233,6 +329,42 @@ class Endings(unittest.TestCase):
         with self.assertRaises(Ended) as caught:
             canned().snap()
         self.assertIsNone(caught.exception.word)
+
+    def test_bad_options(self):
+        for words in (["run", "--keep", "0"], ["walk"], ["explore", "--from", "/nowhere/at/all"]):
+            heap = Session.run(PROGRAM, *words)
+            with self.assertRaises(Ended) as caught:
+                heap.snap()
+            wanted = subprocess.run([PROGRAM, *words], stdin=subprocess.DEVNULL, capture_output=True, text=True)
+            self.assertTrue(wanted.stderr.strip())
+            self.assertEqual((caught.exception.status, caught.exception.text), (wanted.returncode, wanted.stderr.strip()))
+            self.assertIn(wanted.stderr.strip(), str(caught.exception))
+            self.assertEqual((heap.end(), heap.text), (wanted.returncode, wanted.stderr.strip()))
+
+    def test_faults(self):
+        heap = Session.run(PROGRAM, "run")
+        with self.assertRaises(Ended) as caught:
+            heap.say("clear 0 0" + " " * 4096)
+        self.assertEqual((caught.exception.word, caught.exception.status, caught.exception.text), ("long", 1, "heapdbg: long"))
+        heap = Session.run(PROGRAM, "run", stderr=subprocess.PIPE)
+        self.assertEqual((heap.end(), heap.text, heap.child.stderr.read()), (0, "", b""))
+        heap.child.stderr.close()
+
+    def test_a_reply_that_is_not_read(self):
+        class Slow(io.BytesIO):
+            def readline(self):
+                raise TimeoutError
+
+        heap = Session(Slow(), io.BytesIO())
+        with self.assertRaises(TimeoutError):
+            heap.snap()
+        with self.assertRaisesRegex(Ended, "an earlier line"):
+            heap.mark()
+        self.assertEqual(heap.writer.getvalue(), b"snap\n")
+        with heap.batch() as batch:
+            later = batch.mark()
+        with self.assertRaises(Ended):
+            later.value
 
     def test_bad_commands(self):
         with session() as heap:
@@ -259,6 +391,31 @@ class Batches(unittest.TestCase):
             self.assertEqual(len(dump.value), len(heap.dump()))
             with self.assertRaises(Refused):
                 wrong.value
+
+    def test_an_exception(self):
+        with session() as heap:
+            heap.define_class("Node", NODE)
+            heap.new(0, 0, 0)
+            with self.assertRaises(KeyError):
+                with heap.batch() as batch:
+                    laters = [batch.put(0, 0, 1, number) for number in range(5_000)]
+                    raise KeyError
+            self.assertEqual([later.value for later in laters], [None] * 5_000)
+            self.assertEqual(heap.load(0, 1, 0, 1), 4_999)
+            self.assertEqual(heap.rewind(1), 5_002)
+
+    def test_of_a_session_that_ended(self):
+        heap = session()
+        with heap.batch() as batch:
+            first = batch.clear(0, 0)
+            long = batch.send("clear 0 0" + " " * 4096, lambda words, lines: None)
+            late = [batch.clear(0, 0) for _ in range(5_000)]
+        self.assertIsNone(first.value)
+        for later in (long, *late):
+            with self.assertRaises(Ended) as caught:
+                later.value
+            self.assertEqual(caught.exception.status, 1)
+        self.assertEqual(heap.end(), 1)
 
     def test_a_hundred_thousand_lines(self):
         started = time.monotonic()

@@ -2,7 +2,7 @@
 ghost use Rattle.std.specs.Prelude.{◌≡◌, ◌+◌, ◌≤◌, ◌<◌, ◌^◌, [], IfOk, drop, length, take};
 ghost use Rattle.std.specs.Io.KnownBytes.{prepend_known};
 ghost use Rattle.dump_pump.specs.Inlets.{IsTriedRead, count_of};
-ghost use Rattle.dump_pump.specs.Outlets.{bytes_of};
+ghost use Rattle.dump_pump.specs.Outlets.{log_bytes};
 ghost use Rattle.session_text.specs.Buffers.{IsInletRead};
 ghost use Rattle.heap_server.specs.Ahead.{IsAhead};
 ghost use Rattle.session_grammar.specs.declared.TheConstants.{LINE_LIMIT};
@@ -104,7 +104,7 @@ impl<I: Inlet + Drop> AheadInlet<I> {
     /// Creates the inlet that begins with what was read ahead.
     pub(crate) fn new(inlet: I, ahead: Ahead) -> AheadInlet<I>
         ensures bytes { (result.inlet ≡ inlet) × (result.ahead ≡ ahead) × (result.start ≡ 0) }
-        ensures nothing { bytes_of result.taken.items ≡ [] }
+        ensures nothing { log_bytes result.taken.items ≡ [] }
     {
         AheadInlet {
             inlet,
@@ -164,11 +164,11 @@ fn take_on<I: Inlet>(
 impl<I: Inlet + Drop> Inlet for AheadInlet<I> {
     ghost use Rattle.std.specs.Prelude.{drop, length, map};
     ghost use Rattle.std.specs.Io.KnownBytes.{prepend_known};
-    ghost use Rattle.dump_pump.specs.Outlets.{bytes_of};
+    ghost use Rattle.dump_pump.specs.Outlets.{log_bytes};
 
     ghost seen = { λ i.
         record {
-          taken = bytes_of i.taken.items;
+          taken = log_bytes i.taken.items;
           left = prepend_known (drop i.start i.ahead.bytes.items) (I.seen i.inlet).left;
           reads = map (λ e. e.0) i.asked.items;
           failures = length i.faults.items;

@@ -21,6 +21,7 @@ from serve_cases import (
     worked,
 )
 from settings_cases import settings_shown
+from terminal_cases import at_a_terminal
 
 
 def differences(program):
@@ -28,7 +29,8 @@ def differences(program):
     parts = ("status", "standard output", "standard error", "first of the clients or the dump", "second", "third", "fourth")
     saves = (saved_files, saved_to_long_names, saved_faults, saved_to_listeners, saved_on_terminals)
     serves = (served_sessions, served_on_terminals, pins_of_ended_sessions, worked, tended, served_questions, asking, served_faults)
-    for cases in (sessions, questions, pictures, settings_shown, lines_at_the_limits, faults, would_block, bad_lines, *saves, *serves):
+    explores = (questions, at_a_terminal, pictures)
+    for cases in (sessions, *explores, settings_shown, lines_at_the_limits, faults, would_block, bad_lines, *saves, *serves):
         for name, happened, wanted in cases(program):
             if not len(happened) == len(wanted) <= len(parts):
                 yield f"{program}, {name}: {len(happened)} facts, and must be {len(wanted)}, at most {len(parts)}"

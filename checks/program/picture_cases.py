@@ -1,10 +1,12 @@
 """Cases of `draw`: what a picture shows of a state that is worked out by hand."""
 import pathlib
+import re
 import tempfile
 import xml.etree.ElementTree as trees
 
 from runs import EXAMPLE, EXAMPLE_REPLIES, TOP, run
 
+PATH = "{http://www.w3.org/2000/svg}path"
 # Four nodes in cells of four words, and an array of bytes in one of 64. The first cycle condemns a node and the array; another
 # node is dropped then, and of the two that the second cycle shades one is marked.
 CYCLES = b"""class Node - next:object value:int
@@ -36,6 +38,8 @@ STROKES = {
 TEXTS = ["place 16: 3 live objects, 36 bytes", "Node: 3 objects, 36 bytes"]
 # The most bytes of a picture of 256 full regions.
 LIMIT = 2_000_000
+# Where a stroke for each cell of four words of 256 regions runs: in which row, from which pixel to which.
+ROWS = [(region, 4 * cell, 4 * cell + 3) for region in range(256) for cell in range(256)]
 
 
 def drawn(program, given, *words):
@@ -50,10 +54,38 @@ def drawn(program, given, *words):
 def strokes_of(root):
     """Returns how many strokes there are of each colour and width."""
     found = {}
-    for path in root.iter("{http://www.w3.org/2000/svg}path"):
+    for path in root.iter(PATH):
         key = path.get("stroke"), path.get("stroke-width")
         found[key] = found.get(key, 0) + path.get("d").count("h")
     return {key: count for key, count in found.items() if count}
+
+
+def all_gray():
+    """Returns lines that fill 256 regions with a list of 65,536 nodes and leave each of them marked and gray: the first by `snap`,
+    and each other by the log, to which the reference that named it was added when it was overwritten."""
+    more = 65_535
+    nodes = b"class Node - next:object\nnew 0 0 0\n" + b"new 0 1 0\nstore 0 1 0 0\nmove 0 0 0 1\n" * more
+    cut = b"clear 0 1\nsnap\n" + b"load 0 1 0 0\nstore 0 0 0 2\nmove 0 0 0 1\n" * more
+    return nodes + cut + b"drain\n" * more
+
+
+def extents_of(root):
+    """Yields where the strokes of the first class, of marked and of gray objects run, each from the top and from the left."""
+    for key in (("#4269d0", "9"), ("#000000", "2"), ("#e00000", "2")):
+        paths = [path.get("d") for path in root.iter(PATH) if (path.get("stroke"), path.get("stroke-width")) == key]
+        strokes = sorted(strokes_in(paths[0]))
+        rows = {height: row for row, height in enumerate(sorted({height for height, _, _ in strokes}))}
+        left = min(x for _, x, _ in strokes)
+        yield from ((rows[height], x - left, end - left) for height, x, end in strokes)
+
+
+def strokes_in(path):
+    """Yields the strokes of a path, as height, left end and right end."""
+    x = y = 0
+    for mode, one, other, length in re.findall(r"([Mm])(\d+) (\d+)h(\d+)", path):
+        x, y = (int(one), int(other)) if mode == "M" else (x + int(one), y + int(other))
+        yield y, x, x + int(length)
+        x += int(length)
 
 
 def pictures(program):
@@ -65,6 +97,10 @@ def pictures(program):
     full = b"class Node - next:object\n" + b"new 0 0 0\n" * 65_536 + b"snap\n"
     status, root, picture, _, _ = drawn(program, full, "--regions", "256")
     yield "a full heap", (status, len(picture) < LIMIT, strokes_of(root)[("#4269d0", "9")]), (0, True, 65_536 + 1)
+    status, root, picture, _, error = drawn(program, all_gray(), "--regions", "256", "--keep", "1")
+    counts = [strokes_of(root)[key] for key in (("#4269d0", "9"), ("#000000", "2"), ("#e00000", "2"))]
+    yield "a full heap whose objects are all gray", (status, error, len(picture) < LIMIT, counts), (0, b"", True, [65_536 + 1] * 3)
+    yield "where its strokes are", (list(extents_of(root)),), (ROWS * 3,)
     _, _, picture, _, _ = drawn(program, (TOP / "examples/leak.session").read_bytes(), "--keep", "4096")
     yield "the picture of README", (picture,), ((TOP / "examples/leak.svg").read_bytes(),)
     status, root, _, out, error = drawn(program, EXAMPLE)

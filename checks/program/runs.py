@@ -62,6 +62,14 @@ def run(program, words, given=b"", **how):
     return ran.returncode, ran.stdout or b"", ran.stderr
 
 
+def read_or_nothing(stream):
+    """Returns what a terminal shows next, or nothing if its program has ended."""
+    try:
+        return os.read(stream.fileno(), 4096)
+    except OSError:
+        return b""
+
+
 def limited(size):
     """Returns what a child does first: it gives up all address space above `size` bytes."""
     return lambda: resource.setrlimit(resource.RLIMIT_AS, (size, size))

@@ -1,51 +1,14 @@
-//! Advice on lines that are no command.
-use question_text::keyword_help;
+//! Advice on lines that were refused or are no command.
+use question_text::{all_help, keyword_help, question_help};
 use std::alloc::{AllocError, Global};
 use std::str;
 use strsim::levenshtein;
 
-// The keywords of all lines.
-const KEYWORDS: &[&str] = &[
-    "class",
-    "array",
-    "new",
-    "newarray",
-    "newprim",
-    "load",
-    "store",
-    "put",
-    "move",
-    "clear",
-    "snap",
-    "mark",
-    "drain",
-    "finish",
-    "sweep",
-    "rewind",
-    "open",
-    "piece",
-    "dump",
-    "close",
-    "end",
-    "histogram",
-    "garbage",
-    "growth",
-    "registers",
-    "classes",
-    "referrers",
-    "path",
-    "show",
-    "born",
-    "wrote",
-    "dropped",
-    "history",
-    "pins",
-    "collect",
-    "help",
-];
-
-// The largest distance, in letters changed, from a word to the keyword that may be meant.
+// The largest distance, in letters changed, from a word to the keyword of a question that may be meant.
 const NEAR: usize = 2;
+
+// The same distance to the keyword of a line that changes something.
+const NEAREST: usize = 1;
 
 // What may help after a line that is no command.
 #[derive(Clone, Copy)]
@@ -58,28 +21,51 @@ pub(crate) enum Advice {
     Help,
 }
 
-// Returns the first word of a line, or None if it is no text.
-fn first_word(line: &[u8]) -> Option<&str> {
-    let text = str::from_utf8(line).ok()?;
+// Returns the first word of a text.
+fn first_word(text: &str) -> Option<&str> {
     text.split_ascii_whitespace().next()
 }
 
-// Returns the form of the line that begins with a keyword.
-fn form_of(keyword: &str) -> Option<&'static str> {
-    let text = str::from_utf8(keyword_help(keyword.as_bytes())?).ok()?;
-    let form = text.lines().next()?;
-    form.strip_prefix("row ")
+// Returns the text of a row.
+fn form_in(row: &'static str) -> Option<&'static str> {
+    row.strip_prefix("row ")
 }
 
-// Returns the keyword that is nearest to a word, if one is near. Fails if an allocation fails.
+// Returns the form of the line that begins with a keyword.
+fn form_with(keyword: &str) -> Option<&'static str> {
+    let text = str::from_utf8(keyword_help(keyword.as_bytes())?).ok()?;
+    form_in(text.lines().next()?)
+}
+
+/// Returns the form of a line by its first word, if that is a keyword.
+pub(crate) fn form_of(line: &[u8]) -> Option<&'static str> {
+    form_with(first_word(str::from_utf8(line).ok()?)?)
+}
+
+// Returns how far a word may be from a keyword that it stands for.
+fn reach(keyword: &str) -> usize {
+    if question_help(keyword.as_bytes()).is_some() && keyword != "collect" {
+        NEAR
+    } else {
+        NEAREST
+    }
+}
+
+// Returns the form of the line whose keyword is nearest to a word, if one is near enough: of several the first that `help`
+// lists. Fails if an allocation fails.
 fn nearest(alloc: Global, word: &str) -> Result<Option<&'static str>, AllocError> {
     let mut found = None;
     let mut least = NEAR + 1;
-    for keyword in KEYWORDS {
-        let distance = levenshtein(alloc, word, keyword)?;
-        if distance < least {
-            least = distance;
-            found = Some(*keyword);
+    let rows = str::from_utf8(all_help()).unwrap_or("");
+    for row in rows.lines() {
+        if let Some(form) = form_in(row)
+            && let Some(keyword) = first_word(form)
+        {
+            let distance = levenshtein(alloc, word, keyword)?;
+            if distance <= reach(keyword) && distance < least {
+                least = distance;
+                found = Some(form);
+            }
         }
     }
     Ok(found)
@@ -87,17 +73,28 @@ fn nearest(alloc: Global, word: &str) -> Result<Option<&'static str>, AllocError
 
 // Returns the advice for a line that is no command.
 pub(crate) fn advise(alloc: Global, line: &[u8]) -> Advice {
-    let Some(word) = first_word(line) else {
-        return Advice::Help;
-    };
-    if let Some(form) = form_of(word) {
+    if let Some(form) = form_of(line) {
         return Advice::Form(form);
     }
-    let Ok(Some(keyword)) = nearest(alloc, word) else {
+    let Some(word) = str::from_utf8(line).ok().and_then(first_word) else {
         return Advice::Help;
     };
-    match form_of(keyword) {
-        Some(form) => Advice::Near(form),
-        None => Advice::Help,
+    match nearest(alloc, word) {
+        Ok(Some(form)) => Advice::Near(form),
+        Ok(None) | Err(_) => Advice::Help,
+    }
+}
+
+// Returns how a line of this form names a state, or None if it names none.
+pub(crate) fn state_names(form: &str) -> Option<&'static str> {
+    if !form.split_ascii_whitespace().any(|word| word == "AT") {
+        return None;
+    }
+    if form.starts_with("open ") {
+        Some("AT is - for the current state, or P or @P for the state at place P")
+    } else {
+        Some(
+            "AT is - for the current state, the number of an open pin, or @P for the state at place P",
+        )
     }
 }

@@ -1,16 +1,21 @@
-//! What people look at: a session with questions on a terminal (a prompt, advice on bad lines, rows in columns, and a file of
-//! lines that is read first), and a picture of the regions, as SVG.
+//! What people look at: a session with questions on a terminal (a prompt, advice on lines, rows in columns), reports of the
+//! lines of a file that were refused, and a picture of the regions, as SVG.
 #![tactic(auto)]
 
 mod advice;
 mod columns;
 mod discard;
+mod given;
 mod line_inlet;
 mod load;
+mod meant;
+mod newest;
 mod picture;
 mod prompt;
 
 pub use columns::ColumnOutlet;
+pub use line_inlet::LineInlet;
 pub use load::load_lines;
+pub use newest::{NewestLine, NotingOutlet};
 pub use picture::picture_of;
 pub use prompt::PromptInlet;

@@ -3,45 +3,29 @@ ghost use Rattle.std.specs.Prelude.{◌≡◌, ◌<◌, ◌≤◌, length};
 ghost use Rattle.heap_console.specs.Lines.{IsLineGiven};
 
 use crate::columns::LINE_END;
-use dump_pump::Log;
-use dump_pump::inlet::count_of;
-use dump_pump::ledger::note_bytes;
-use question_text::{BAD_COMMAND, Watch};
+use crate::given::Given;
+use crate::newest::NewestLine;
 use session_text::{Inlet, Take};
 use std::alloc::{AllocError, Global};
 use std::io::{BufRead, BufReader, Read};
-use std::marker::Model;
 use std::str;
 
-// An inlet over a file, which gives at most a line at a read. So all lines before were answered when it is asked again, and it
-// reports the last of them on standard error if that was refused. Contracts see the bytes that it gave.
+/// An inlet over a file, which gives at most a line at a read. So all lines before were answered when it is asked again, and it
+/// reports the last of them on standard error if that was refused or no command. Contracts see the bytes that it gave.
 #[derive(Drop)]
-pub(crate) struct LineInlet<'a, F: Read + Drop, R> {
+pub struct LineInlet<'a, F: Read + Drop, R> {
     rt: &'a R,
-    watch: &'a Watch,
+    answers: &'a NewestLine,
     name: &'a str,
     reader: BufReader<F>,
     line: Vec<u8>,
     number: u64,
-    taken: Log<u8, ()>,
-    asked: Log<usize, ()>,
-    failed: Log<(), ()>,
+    given: Given,
 }
 
-impl<'a, F: Read + Drop, R> Model for LineInlet<'a, F, R> {
-    ghost use Rattle.std.specs.Prelude.{None, length, map};
-    ghost use Rattle.dump_pump.specs.Outlets.{log_bytes};
-    ghost use Rattle.dump_pump.specs.Inlets.{Incoming};
-
-    ghost Value = { Incoming };
-
-    ghost view = { λ i.
-        record {
-          taken = log_bytes i.taken.items;
-          left = None;
-          reads = map (λ e. e.0) i.asked.items;
-          failures = length i.failed.items;
-        } };
+// Returns a line without its end, or nothing if it is no text.
+fn text_of(line: &[u8]) -> &str {
+    str::from_utf8(line).unwrap_or("").trim_end()
 }
 
 // Copies bytes to the front of a room, up to the first LF, the last byte or the end of the room. Returns how many.
@@ -60,11 +44,12 @@ fn copy_line(bytes: &[u8], room: &mut [u8]) -> usize
 }
 
 impl<'a, F: Read + Drop, R> LineInlet<'a, F, R> {
-    // Creates an inlet that has given nothing. Fails if a buffer can't be allocated.
-    pub(crate) fn new(
+    /// Creates an inlet that has given nothing, over a file that reports call by this name. `answers` has the newest line that
+    /// the session wrote. Fails if a buffer can't be allocated.
+    pub fn new(
         rt: &'a R,
         alloc: Global,
-        watch: &'a Watch,
+        answers: &'a NewestLine,
         name: &'a str,
         file: F,
     ) -> Result<LineInlet<'a, F, R>, AllocError> {
@@ -73,34 +58,27 @@ impl<'a, F: Read + Drop, R> LineInlet<'a, F, R> {
         };
         Ok(LineInlet {
             rt,
-            watch,
+            answers,
             name,
             reader,
             line: Vec::new(alloc),
             number: 0,
-            taken: Log::new(),
-            asked: Log::new(),
-            failed: Log::new(),
+            given: Given::new(),
         })
     }
 }
 
 impl<F: Read + Drop, R: Eprint> LineInlet<'_, F, R> {
-    // Reports the newest line if it was refused.
+    // Reports the newest line, with its answer, if it was refused or no command.
     fn report(&self) {
-        let refusal = self.watch.take_refusal();
-        if refusal == 0 {
+        let answers = self.answers.take();
+        let answer = text_of(answers.as_slice());
+        if !answer.starts_with("no ") && answer != "bad command" {
             return;
         }
         let (name, number) = (self.name, self.number);
-        let text = str::from_utf8(self.line.as_slice())
-            .unwrap_or("")
-            .trim_end();
-        let _ = if refusal == BAD_COMMAND {
-            eprintln!(self.rt; "heapdbg: {name}:{number}: bad command: {text}")
-        } else {
-            eprintln!(self.rt; "heapdbg: {name}:{number}: no {refusal}: {text}")
-        };
+        let text = text_of(self.line.as_slice());
+        let _ = eprintln!(self.rt; "heapdbg: {name}:{number}: {answer}: {text}");
     }
 
     // Reports the newest line with the reason why none was read after it.
@@ -111,7 +89,7 @@ impl<F: Read + Drop, R: Eprint> LineInlet<'_, F, R> {
 
     // Keeps a part of a line, if there is memory for it, and counts the line if it begins here.
     fn keep(&mut self, part: &[u8])
-        ensures { self.new ≡ self.old }
+        ensures { self.new.given ≡ self.old.given }
     {
         let is_begun = match self.line.last() {
             Some(last) => *last != LINE_END,
@@ -126,12 +104,22 @@ impl<F: Read + Drop, R: Eprint> LineInlet<'_, F, R> {
         }
     }
 
+    // Keeps what a read gave, if there is memory for it.
+    fn keep_read(&mut self, room: &[u8], took: Take)
+        requires { IsLineGiven room.now took }
+        ensures { self.new.given ≡ self.old.given }
+    {
+        if let Take::Got(n) = took {
+            self.keep(&room[..n]);
+        }
+    }
+
     // Reads at most a line to the front of a room.
     fn read_line(&mut self, room: &mut [u8]) -> Take
         requires { 0 < length room.old }
         ensures taken { IsLineGiven room.new result }
         ensures room { length room.new ≡ length room.old }
-        ensures unchanged { self.new ≡ self.old }
+        ensures unchanged { self.new.given ≡ self.old.given }
     {
         let count = match self.reader.fill_buf() {
             Ok(bytes) if bytes.is_empty() => return Take::End,
@@ -144,20 +132,13 @@ impl<F: Read + Drop, R: Eprint> LineInlet<'_, F, R> {
 }
 
 impl<F: Read + Drop, R: Eprint> Inlet for LineInlet<'_, F, R> {
-    ghost seen = { λ i. i };
+    ghost seen = { λ i. i.given };
 
     fn take(&mut self, room: &mut [u8]) -> Take {
         self.report();
         let took = self.read_line(room);
-        self.asked = self.asked.and(&count_of(took), &());
-        match took {
-            Take::Got(n) => {
-                self.keep(&room[..n]);
-                note_bytes(&mut self.taken, &room[..n]);
-            }
-            Take::End => {}
-            Take::Failed => self.failed = self.failed.and(&(), &()),
-        }
+        self.keep_read(room, took);
+        self.given.note(room, took);
         took
     }
 }

@@ -4,6 +4,7 @@ ghost use Rattle.heap_console.specs.Loads.{IsLoaded};
 
 use crate::discard::Discard;
 use crate::line_inlet::LineInlet;
+use crate::newest::{NewestLine, NotingOutlet};
 use question_text::{Asking, serve_asking};
 use session_text::Ended;
 use std::alloc::{AllocError, Global};
@@ -22,8 +23,8 @@ fn reason_of(ended: Ended) -> Option<&'static str> {
 }
 
 /// Serves the lines of a file as a session with questions, whose answers go nowhere. Reports on standard error, by the file's
-/// name and the line's number and text, each line that is no command or is refused, and why reading ended early. Fails if an
-/// allocation for reading the file fails, and reads nothing.
+/// name and the line's number, answer and text, each line that is no command or is refused, and why reading ended early. Fails
+/// if an allocation for reading the file fails, and reads nothing.
 pub fn load_lines<F: Read + Drop, R: Eprint>(
     rt: &R,
     alloc: Global,
@@ -34,8 +35,9 @@ pub fn load_lines<F: Read + Drop, R: Eprint>(
 ) -> Result<Ended, AllocError>
     ensures { IfOk result (IsLoaded time asking.old asking.new) }
 {
-    let mut lines = LineInlet::new(rt, alloc, asking.watch, name, file)?;
-    let mut answers = Discard::new();
+    let newest = NewestLine::new(alloc);
+    let mut lines = LineInlet::new(rt, alloc, &newest, name, file)?;
+    let mut answers = NotingOutlet::new(Discard::new(), &newest);
     let ended = serve_asking(alloc, &mut lines, &mut answers, asking, time);
     if let Some(reason) = reason_of(ended) {
         lines.report_end(reason);

@@ -1,14 +1,20 @@
 //! An inlet that prompts before each read.
-ghost use Rattle.std.specs.Prelude.{◌≡◌};
+ghost use Rattle.std.specs.Prelude.{◌≡◌, ◌<◌, length};
+ghost use Rattle.heap_console.specs.Lines.{IsLineGiven};
+ghost use Rattle.heap_console.specs.Meant.{IsReadMeant};
 
-use crate::advice::{Advice, advise};
+use crate::advice::{Advice, advise, form_of, state_names};
+use crate::columns::LINE_END;
+use crate::given::Given;
+use crate::meant::give_meant;
+use heap_class::Refusal;
 use question_text::{BAD_COMMAND, Watch};
 use session_text::{Inlet, Take};
 use std::alloc::Global;
 
-/// An inlet for a person at a terminal. Before each read it writes advice on the line before, if that was no command, and the
-/// place of the session's machine as a prompt, both to standard error. A write that fails changes nothing. Contracts see what
-/// they see of the inlet behind it.
+/// An inlet for a person at a terminal. Before each read it writes advice on the line before, if that was no command or named
+/// no state, and the place of the session's machine as a prompt, both to standard error. A write that fails changes nothing. A
+/// line `quit`, `exit` or `q` is given as `end`, and `?` as `help`. Contracts see the bytes that it gave.
 #[derive(Drop)]
 pub struct PromptInlet<'a, I: Inlet + Drop, R> {
     inlet: I,
@@ -16,6 +22,7 @@ pub struct PromptInlet<'a, I: Inlet + Drop, R> {
     alloc: Global,
     watch: &'a Watch,
     typed: Vec<u8>,
+    given: Given,
 }
 
 impl<'a, I: Inlet + Drop, R> PromptInlet<'a, I, R> {
@@ -27,48 +34,98 @@ impl<'a, I: Inlet + Drop, R> PromptInlet<'a, I, R> {
             alloc,
             watch,
             typed: Vec::new(alloc),
+            given: Given::new(),
         }
     }
 }
 
 impl<I: Inlet + Drop, R: Eprint> PromptInlet<'_, I, R> {
-    // Writes advice on the line that was read before, if it was no command.
+    // Writes advice on the line that was read before.
     fn write_advice(&self) {
-        if self.watch.take_refusal() != BAD_COMMAND {
-            return;
+        let refusal = self.watch.take_refusal();
+        if refusal == BAD_COMMAND {
+            self.write_form();
+        } else if refusal == Refusal::NoPin.number() || refusal == Refusal::NotRetained.number() {
+            self.write_places();
         }
+    }
+
+    // Writes the form of the line that was read before, or of the line with the nearest keyword.
+    fn write_form(&self) {
         let _ = match advise(self.alloc, self.typed.as_slice()) {
-            Advice::Form(form) => eprintln!(self.rt; "the form of this line is: {form}"),
+            Advice::Form(form) => match state_names(form) {
+                Some(names) => { eprintln!(self.rt; "the form of this line is: {form}\n{names}") }
+                None => eprintln!(self.rt; "the form of this line is: {form}"),
+            },
             Advice::Near(form) => eprintln!(self.rt; "did you mean: {form}"),
             Advice::Help => eprintln!(self.rt; "help lists all lines"),
         };
     }
 
+    // Writes how the line that was read before names a state, and the oldest place, or else how to find the pins.
+    fn write_places(&self) {
+        let oldest = self.watch.oldest();
+        let _ = match form_of(self.typed.as_slice()).and_then(state_names) {
+            Some(names) => eprintln!(self.rt; "{names}\nthe oldest retained place is @{oldest}"),
+            None => eprintln!(self.rt; "pins lists the open pins"),
+        };
+    }
+
+    // Tells whether a line begins with what is read next.
+    fn is_between_lines(&self) -> bool {
+        match self.typed.last() {
+            Some(last) => *last == LINE_END,
+            None => true,
+        }
+    }
+
     // Keeps what was read, if there is memory for it.
     fn keep(&mut self, read: &[u8])
-        ensures { self.new.inlet ≡ self.old.inlet }
+        ensures { (self.new.inlet ≡ self.old.inlet) × (self.new.given ≡ self.old.given) }
     {
         self.typed.clear();
         if self.typed.extend_from_slice(read).is_err() {
             self.typed.clear();
         }
     }
-}
 
-impl<I: Inlet + Drop, R: Eprint> Inlet for PromptInlet<'_, I, R> {
-    ghost seen = { λ i. I.seen i.inlet };
-
-    fn take(&mut self, room: &mut [u8]) -> Take {
-        self.write_advice();
-        let place = self.watch.place();
-        let _ = eprint!(self.rt; "heapdbg {place}> ");
-        let took = self.inlet.take(room);
+    // Keeps what was read, if there is memory for it, or ends the line of the prompt if nothing came.
+    fn note_typed(&mut self, room: &[u8], took: Take)
+        requires { IsLineGiven room.now took }
+        ensures { (self.new.inlet ≡ self.old.inlet) × (self.new.given ≡ self.old.given) }
+    {
         match took {
             Take::Got(n) => self.keep(&room[..n]),
             Take::End | Take::Failed => {
                 let _ = eprintln!(self.rt; "");
             }
         }
+    }
+
+    // Reads once, and gives the line that is meant if a line was read.
+    fn read_meant(&mut self, room: &mut [u8]) -> Take
+        requires { 0 < length room.old }
+        ensures read { IsReadMeant (I.seen self.old.inlet) (I.seen self.new.inlet) room.new result }
+        ensures given { IsLineGiven room.new result }
+        ensures room { length room.new ≡ length room.old }
+        ensures unchanged { self.new.given ≡ self.old.given }
+    {
+        let begins = self.is_between_lines();
+        let took = self.inlet.take(room);
+        self.note_typed(room, took);
+        if begins { give_meant(room, took) } else { took }
+    }
+}
+
+impl<I: Inlet + Drop, R: Eprint> Inlet for PromptInlet<'_, I, R> {
+    ghost seen = { λ i. i.given };
+
+    fn take(&mut self, room: &mut [u8]) -> Take {
+        self.write_advice();
+        let place = self.watch.place();
+        let _ = eprint!(self.rt; "heapdbg {place}> ");
+        let took = self.read_meant(room);
+        self.given.note(room, took);
         took
     }
 }

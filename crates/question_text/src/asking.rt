@@ -41,20 +41,20 @@ impl Commands for Asking<'_> {
     #[inline(always)]
     fn act(&mut self, action: Action) -> Reply {
         let reply = self.local.act(action);
-        self.watch.note_reply(self.local.machine.place(), &reply);
+        self.watch.note_reply(&self.local.machine, &reply);
         reply
     }
 
     #[inline(always)]
     fn step<E: IntoEvent>(&mut self, event: E) -> Reply {
         let reply = self.local.step(event);
-        self.watch.note_reply(self.local.machine.place(), &reply);
+        self.watch.note_reply(&self.local.machine, &reply);
         reply
     }
 
     fn answer_unknown(&mut self, alloc: Global, line: &[u8]) -> LineAnswer {
         let answer = answer_question(alloc, &mut self.local, line);
-        self.watch.note_answer(self.local.machine.place(), &answer);
+        self.watch.note_answer(&self.local.machine, &answer);
         answer
     }
 }

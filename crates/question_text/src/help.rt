@@ -9,9 +9,9 @@ use session_grammar::by_word;
 use session_grammar::words::{Words, is_word};
 use session_text::LineAnswer;
 
-// Returns what `help` answers about a keyword of a question, `collect` or `help`.
+/// Returns what `help` answers about a keyword of a question, `collect` or `help`, or None if it is none. Takes no memory.
 #[tactic(auto, unfolding(crate::specs::Help::form_text, crate::specs::Help::form_with, crate::specs::Help::question_forms))]
-fn question_help(word: &[u8]) -> Option<&'static [u8]>
+pub fn question_help(word: &[u8]) -> Option<&'static [u8]>
     ensures { option_map (λ t. t.now) result ≡ form_with question_forms word.now }
 {
     by_word!(word;
@@ -75,9 +75,9 @@ pub fn keyword_help(word: &[u8]) -> Option<&'static [u8]>
     )
 }
 
-// Returns the forms of all lines.
+/// Returns what `help` answers: a row with the form of each line. Takes no memory.
 #[tactic(auto, unfolding(crate::specs::Help::help_text, crate::specs::Help::write_forms, crate::specs::Help::act_forms, crate::specs::Help::question_forms))]
-fn all_help() -> &'static [u8]
+pub fn all_help() -> &'static [u8]
     ensures { result.now ≡ help_text }
 {
     b"row class NAME SUPER FIELD ..\nrow array NAME\nrow new M R CLASS\nrow newarray M R CLASS LEN\nrow newprim M R KIND LEN\n\

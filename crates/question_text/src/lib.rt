@@ -46,7 +46,7 @@ mod write;
 pub use answers::{answer, answer_line};
 pub use asking::Asking;
 pub use cycle::{CycleCounts, collect_answer, is_collect, run_cycle};
-pub use help::keyword_help;
+pub use help::{all_help, keyword_help, question_help};
 pub use names::push_row_name;
 pub use question::{At, Question, question_of};
 pub use session::serve_asking;

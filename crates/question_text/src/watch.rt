@@ -1,15 +1,17 @@
 //! What a session with questions shows to readers beside it.
-use heap_trail::Reply;
+use heap_trail::{Machine, Reply};
 use session_text::LineAnswer;
 use std::sync::atomic::{AtomicU64, Ordering};
 
 /// The number that stands for `bad command`, beside those of refusals.
 pub const BAD_COMMAND: u64 = 1_000;
 
-/// The place of a session's machine, and the newest line that was refused, for readers beside the session such as a prompt.
+/// The place of a session's machine, its oldest retained place, and the newest line that was refused, for readers beside the
+/// session such as a prompt.
 #[derive(Drop)]
 pub struct Watch {
     place: AtomicU64,
+    oldest: AtomicU64,
     refusal: AtomicU64,
 }
 
@@ -18,6 +20,7 @@ impl Watch {
     pub fn new() -> Watch {
         Watch {
             place: AtomicU64::new(0),
+            oldest: AtomicU64::new(0),
             refusal: AtomicU64::new(0),
         }
     }
@@ -27,26 +30,41 @@ impl Watch {
         self.place.load(Ordering::SeqCst)
     }
 
+    /// Returns the oldest place that is retained after the machine's last line.
+    pub fn oldest(&self) -> u64 {
+        self.oldest.load(Ordering::SeqCst)
+    }
+
     /// Returns the number of the newest refusal, BAD_COMMAND if the line was none, or 0 if no line was refused since this was
     /// asked last.
     pub fn take_refusal(&self) -> u64 {
         self.refusal.swap(0, Ordering::SeqCst)
     }
 
-    // Notes the place after an action, and its refusal, if there is one.
-    pub(crate) fn note_reply(&self, place: u64, reply: &Reply) {
+    // Notes the places of a machine.
+    fn note_places(&self, machine: &Machine) {
+        let place = machine.place();
         self.place.store(place, Ordering::SeqCst);
+        self.oldest.store(
+            place.saturating_sub(machine.retained_count()),
+            Ordering::SeqCst,
+        );
+    }
+
+    // Notes the places of a machine after an action, and its refusal, if there is one.
+    pub(crate) fn note_reply(&self, machine: &Machine, reply: &Reply) {
+        self.note_places(machine);
         if let Reply::Refused(refusal) = reply {
             self.refusal.store(refusal.number(), Ordering::SeqCst);
         }
     }
 
-    // Notes the place after a line that the grammar of sessions doesn't know, and its refusal, if there is one.
-    pub(crate) fn note_answer(&self, place: u64, answer: &LineAnswer) {
+    // Notes the places of a machine after a line that the grammar of sessions doesn't know, and its refusal, if there is one.
+    pub(crate) fn note_answer(&self, machine: &Machine, answer: &LineAnswer) {
         match answer {
-            LineAnswer::Known(reply) => self.note_reply(place, reply),
+            LineAnswer::Known(reply) => self.note_reply(machine, reply),
             LineAnswer::BadCommand => self.refusal.store(BAD_COMMAND, Ordering::SeqCst),
-            _ => self.place.store(place, Ordering::SeqCst),
+            _ => self.note_places(machine),
         }
     }
 }

@@ -1,6 +1,6 @@
 //! The cells of a heap, as strokes of a picture: a row for each region, and a pixel for each word.
 use crate::picture::colors::Palette;
-use crate::picture::text::{add, add_stroke};
+use crate::picture::text::{add, add_next_stroke, add_stroke};
 use heap_class::ObjRef;
 use heap_region::Regions;
 use std::alloc::AllocError;
@@ -68,6 +68,7 @@ fn add_cells(
     };
     let y = middle_of(region).saturating_add(sort.drop_below());
     let number = regions.region_number(region);
+    let mut pen = None;
     for cell in 0..regions.cell_count(region) {
         let at = ObjRef {
             region: number,
@@ -75,7 +76,7 @@ fn add_cells(
         };
         if sort.has(regions, palette, at) {
             let x = LEFT.saturating_add(size.saturating_mul(cell as u64));
-            add_stroke(text, x, y, size.saturating_sub(1))?;
+            pen = Some(add_next_stroke(text, pen, x, y, size.saturating_sub(1))?);
         }
     }
     Ok(())

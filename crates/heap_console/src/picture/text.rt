@@ -30,3 +30,24 @@ pub(crate) fn add_stroke(text: &mut Vec<u8>, x: u64, y: u64, width: u64) -> Resu
     add(text, b"h")?;
     add_number(text, width)
 }
+
+// Appends a line from a point to the right, behind another at the same height that ended at `pen`, if there is one. Returns
+// where it ends. Behind another it takes fewer bytes.
+pub(crate) fn add_next_stroke(
+    text: &mut Vec<u8>,
+    pen: Option<u64>,
+    x: u64,
+    y: u64,
+    width: u64,
+) -> Result<u64, AllocError> {
+    match pen {
+        Some(end) => {
+            add(text, b"m")?;
+            add_number(text, x.saturating_sub(end))?;
+            add(text, b" 0h")?;
+            add_number(text, width)?;
+        }
+        None => add_stroke(text, x, y, width)?,
+    }
+    Ok(x.saturating_add(width))
+}

@@ -1,0 +1,185 @@
+"""Cases of `explore` at a terminal: its prompt, its advice, rows in columns, and the script that runs it."""
+import os
+import pty
+import select
+import shutil
+import signal
+import subprocess
+import tempfile
+import time
+
+from runs import SECONDS, TOP, read_or_nothing, run
+
+
+def shown_next(stream, seconds):
+    """Returns what a terminal shows next, or nothing if its program has ended or that takes too long."""
+    return read_or_nothing(stream) if select.select([stream], [], [], seconds)[0] else b""
+
+
+def status_of(child, seconds):
+    """Returns the status of a child that is to end by itself. Kills it if that takes too long."""
+    until = time.monotonic() + seconds
+    while (ended := os.waitpid(child, os.WNOHANG)) == (0, 0):
+        if time.monotonic() > until:
+            os.kill(child, signal.SIGKILL)
+        time.sleep(0.001)
+    return os.waitstatus_to_exitcode(ended[1])
+
+
+def typed(program, words, given, seconds=SECONDS):
+    """Returns what a terminal shows of a program whose three streams it is, with its echo off, and the status. Types nothing more
+    once a prompt takes too long."""
+    child, terminal = pty.fork()
+    if child == 0:
+        # (what a shell starts in the background ignores interrupts)
+        signal.signal(signal.SIGINT, signal.SIG_DFL)
+        os.execv(program, ["heapdbg", *words])
+    with os.fdopen(terminal, "r+b", buffering=0) as stream:
+        subprocess.run(["stty", "-echo", "-onlcr"], stdin=stream, check=True, timeout=SECONDS)
+        shown = bytearray()
+        for line in given:
+            while not shown.endswith(b"> ") and (more := shown_next(stream, seconds)):
+                shown += more
+            if not shown.endswith(b"> "):
+                break
+            stream.write(line)
+            shown += b"|"
+        else:
+            while more := shown_next(stream, seconds):
+                shown += more
+        return bytes(shown), status_of(child, seconds)
+
+
+# What a person types, and what is shown: `|` stands where a line was typed.
+TYPED = [
+    b"class Point - x:int description:int\n",
+    b"new 0 0 0\n",
+    b"show - 0x10000000\n",
+    b"class Other - i:int description:int a:boolean\n",
+    b"new 0 0 1\n",
+    b"show - 0x10000020\n",
+    b"collect\n",
+    b"histgram -\n",
+    b"histogram\n",
+    b"frobnicate\n",
+    b"# a comment\n",
+    b"rewind 1\n",
+    b"\x04",
+]
+SHOWN = b"""heapdbg 0> |ok class 0
+heapdbg 1> |ok object 0x10000000
+heapdbg 2> |  0  x            int  0
+  1  description  int  0
+ok object Point 2
+heapdbg 2> |ok class 1
+heapdbg 3> |ok object 0x10000020
+heapdbg 4> |  0  i            int      0
+  1  description  int      0
+  2  a            boolean  0
+ok object Other 3
+heapdbg 4> |ok condemned 1 swept 1
+heapdbg 8> |bad command
+did you mean: histogram AT
+heapdbg 8> |bad command
+the form of this line is: histogram AT
+AT is - for the current state, the number of an open pin, or @P for the state at place P
+heapdbg 8> |bad command
+help lists all lines
+heapdbg 8> |heapdbg 8> |ok place 7
+heapdbg 7> |
+"""
+
+
+# The forms of all lines, in the order of `help`, and the keywords of those that change nothing.
+FORMS = [row[4:] for row in (TOP / "examples/questions/help.expected").read_bytes().split(b"ok\n")[0].splitlines()]
+HARMLESS = b"histogram garbage growth registers classes referrers path show born wrote dropped history pins help".split()
+# Words that people type at other prompts, and words that are as near to two keywords.
+WORDS = b"undo find back exitt list info hist goto step print HISTOGRAM rewing reiwnd classs pars endd edn hlep".split()
+
+
+def distance(one, other):
+    """Returns how many letters have to be put in, taken out or changed to make one word of another."""
+    row = list(range(len(other) + 1))
+    for at, letter in enumerate(one, 1):
+        before, row[0] = row[0], at
+        for place, second in enumerate(other, 1):
+            before, row[place] = row[place], min(before + (letter != second), row[place] + 1, row[place - 1] + 1)
+    return row[-1]
+
+
+def advice(word):
+    """Returns what is said after a line of this word, which is no keyword: the form of the line with the nearest keyword, of
+    several the first, if one letter is wrong, or two and it changes nothing."""
+    near = [(distance(word, form.split()[0]), at) for at, form in enumerate(FORMS)]
+    near = [(far, at) for far, at in near if far <= (2 if FORMS[at].split()[0] in HARMLESS else 1)]
+    return b"did you mean: " + FORMS[min(near)[1]] if near else b"help lists all lines"
+
+
+def advised(program):
+    """Yields what is said after words that are no keywords, each at the same prompt, as (name, what happened, what must happen)."""
+    keys = [form.split()[0] for form in FORMS]
+    words = [*WORDS, *(key + b"x" for key in keys), *(key + b"xx" for key in keys), *(key[1:] + b"q" for key in keys)]
+    words = [word for word in words if word not in keys]
+    shown = b"".join(b"heapdbg 0> |bad command\n" + advice(word) + b"\n" for word in words)
+    happened = typed(program, ["explore"], [*(word + b"\n" for word in words), b"quit\n"])
+    yield "advice on words", happened, (shown + b"heapdbg 0> |", 0)
+    for word in (b"quit", b"exit", b"q", b"end", b"  quit "):
+        yield f"{word} at a prompt", typed(program, ["explore"], [word + b"\n"]), (b"heapdbg 0> |", 0)
+    shown, status = typed(program, ["explore"], [b"?\n", b"quit x\n", b"q\n"])
+    rows, _, rest = shown.partition(b"ok\n")
+    told = (b"heapdbg 0> | " + b"\n".join(FORMS), b"heapdbg 0> |bad command\nhelp lists all lines\nheapdbg 0> |")
+    yield "? at a prompt", (b"\n".join(b" ".join(row.split()) for row in rows.splitlines()), rest, status), (*told, 0)
+    piped = run(program, ["explore"], b"quit\nexit\nq\n?\n")
+    yield "the same on a pipe", piped, (0, b"bad command\n" * 4, b"")
+
+
+# What is said of states that aren't there.
+AT_FORMS = b"AT is - for the current state, the number of an open pin, or @P for the state at place P\n"
+STATES = [line + b"\n" for line in [b"clear 0 0"] * 3 + [b"histogram 1", b"growth - @0", b"classes x", b"open 0", b"close 1"]]
+STATES += [b"rewind 1\n", b"show @0 0x10000000\n", b"q\n"]
+STATES_SHOWN = b"""heapdbg 0> |ok
+heapdbg 1> |ok
+heapdbg 2> |ok
+heapdbg 3> |no 22 NoPin
+%(forms)sthe oldest retained place is @1
+heapdbg 3> |no 24 NotRetained
+%(forms)sthe oldest retained place is @1
+heapdbg 3> |bad command
+the form of this line is: classes AT
+%(forms)sheapdbg 3> |no 24 NotRetained
+AT is - for the current state, or P or @P for the state at place P
+the oldest retained place is @1
+heapdbg 3> |no 22 NoPin
+pins lists the open pins
+heapdbg 3> |ok place 2
+heapdbg 2> |no 24 NotRetained
+%(forms)sthe oldest retained place is @1
+heapdbg 2> |""" % {b"forms": AT_FORMS}
+
+
+def by_script(program):
+    """Yields what the script does that explores, with the program beside it, in the bin beside its folder, and on PATH, as (name,
+    what happened, what must happen)."""
+    for script_at, program_at, path in (("bin", "bin", ""), ("scripts", "bin", ""), ("scripts", "elsewhere", "elsewhere")):
+        with tempfile.TemporaryDirectory() as folder:
+            for place in {script_at, program_at}:
+                os.mkdir(os.path.join(folder, place))
+            os.symlink(program, os.path.join(folder, program_at, "heapdbg"))
+            script = shutil.copy(TOP / "scripts/heapdbg-explore", os.path.join(folder, script_at))
+            paths = {"PATH": os.path.join(folder, path) + ":/usr/bin:/bin"}
+            lines = b"clear 0 0\n" * 2 + b"rewind 2\n"
+            ran = subprocess.run([script, "--keep", "1"], input=lines, capture_output=True, env=paths)
+            wanted = (0, b"ok\nok\nno 21 TooFar 2 1\n", b"")
+            yield f"heapdbg-explore of {script_at}, {program_at}", (ran.returncode, ran.stdout, ran.stderr), wanted
+            if script_at == program_at:
+                interrupted = typed(script, [], [b"frobnic\x03pins\n", b"\x04"])
+                yield "an interrupt of heapdbg-explore", interrupted, (b"heapdbg 0> |ok 0\nheapdbg 0> |\n", 0)
+
+
+def at_a_terminal(program):
+    """Yields what `explore` and `run` show at a terminal as (name, what happened, what must happen)."""
+    yield "explore at a terminal", typed(program, ["explore"], TYPED), (SHOWN, 0)
+    yield from advised(program)
+    yield "states that aren't there", typed(program, ["explore", "--keep", "2"], STATES), (STATES_SHOWN, 0)
+    yield from by_script(program)
+    yield "an interrupt", typed(program, ["explore"], [b"frobnic\x03"])[1:], (-signal.SIGINT,)

@@ -33,7 +33,7 @@ def answered(*words):
 
 def options_of(program, command):
     """Returns the options that the help of a command names."""
-    said = subprocess.run([program, command, "--help"], capture_output=True, text=True).stderr
+    said = subprocess.run([program, command, "--help"], capture_output=True, text=True).stdout
     return set(re.findall(r"^ +(?:-\w, )?(--[a-z]+)", said, re.MULTILINE))
 
 

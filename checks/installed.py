@@ -55,8 +55,8 @@ def answered(*words):
 
 def options_of(program, command):
     """Returns the options that the help of a command names."""
-    ran = subprocess.run([program, command, "--help"], capture_output=True, text=True)
-    return set(re.findall(r"^ +(?:-\w, )?(--[a-z]+)", ran.stdout + ran.stderr, re.MULTILINE))
+    said = subprocess.run([program, command, "--help"], capture_output=True, text=True).stdout
+    return set(re.findall(r"^ +(?:-\w, )?(--[a-z]+)", said, re.MULTILINE))
 
 
 def misses(program, man, completions):

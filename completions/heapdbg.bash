@@ -2,7 +2,7 @@
 
 _heapdbg() {
     local word=${COMP_WORDS[COMP_CWORD]} before=${COMP_WORDS[COMP_CWORD - 1]}
-    local heap="--regions --mutators --keep --time --ids" options
+    local heap="--regions --mutators --keep --time --ids" commands="run explore draw save serve ask fetch" options
     COMPREPLY=()
     case $before in
         --ids)
@@ -23,10 +23,14 @@ _heapdbg() {
             ;;
     esac
     if ((COMP_CWORD == 1)); then
-        mapfile -t COMPREPLY < <(compgen -W "run explore draw save serve ask fetch --help --version" -- "$word")
+        mapfile -t COMPREPLY < <(compgen -W "$commands help version --help --version" -- "$word")
         return
     fi
     case ${COMP_WORDS[1]} in
+        help)
+            mapfile -t COMPREPLY < <(compgen -W "$commands" -- "$word")
+            return
+            ;;
         run) options="$heap --questions" ;;
         explore) options="$heap --from --port" ;;
         draw) options="$heap --out" ;;

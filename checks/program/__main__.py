@@ -8,6 +8,7 @@ import sys
 from explore_cases import questions
 from line_cases import bad_lines
 from picture_cases import pictures
+from reason_cases import reasons
 from run_cases import faults, lines_at_the_limits, sessions, would_block
 from save_cases import saved_faults, saved_files, saved_on_terminals, saved_to_listeners, saved_to_long_names
 from serve_cases import (
@@ -30,7 +31,7 @@ def differences(program):
     saves = (saved_files, saved_to_long_names, saved_faults, saved_to_listeners, saved_on_terminals)
     serves = (served_sessions, served_on_terminals, pins_of_ended_sessions, worked, tended, served_questions, asking, served_faults)
     explores = (questions, at_a_terminal, pictures)
-    for cases in (sessions, *explores, settings_shown, lines_at_the_limits, faults, would_block, bad_lines, *saves, *serves):
+    for cases in (sessions, *explores, settings_shown, lines_at_the_limits, faults, would_block, bad_lines, reasons, *saves, *serves):
         for name, happened, wanted in cases(program):
             if not len(happened) == len(wanted) <= len(parts):
                 yield f"{program}, {name}: {len(happened)} facts, and must be {len(wanted)}, at most {len(parts)}"

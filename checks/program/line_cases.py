@@ -44,10 +44,19 @@ MISTAKES = {
     b"save takes one of --out and --to": "save, save --out x --to 7000, save --regions 4, save --to 0 --out x",
 }
 
+# What is said of a file that is given to `explore` without its option.
+STRAY = b"""error: unexpected argument 'leak.session' found
+
+  tip: to run the lines of a file first, use '--from leak.session'
+
+Usage: """
+
 # Command lines that clap refuses, and the first line of what it says.
 REFUSED = {
     "": b"'heapdbg' requires a subcommand but one was not provided",
     "go": b"unrecognized subcommand 'go'",
+    "help go": b"unrecognized subcommand 'go'",
+    "version go": b"unrecognized subcommand 'version'",
     "--regions 4 run": b"unexpected argument '--regions' found",
     "run --version": b"unexpected argument '--version' found",
     "run four": b"unexpected argument 'four' found",
@@ -98,13 +107,23 @@ def bad_lines(program):
     for text, lines in MISTAKES.items():
         for words in map(str.split, lines.split(",")):
             yield " ".join(words), run(program, words, EXAMPLE), (2, b"", MISTAKE % text)
-    for words in ("--version", "-V"):
-        yield words, run(program, [words], EXAMPLE), (2, b"", VERSION)
+    for words, status in (("--version", 2), ("-V", 2), ("version", 0)):
+        yield words, run(program, [words], EXAMPLE), (status, VERSION, b"")
     for words in (["\udcff"], ["run", "--regions", "\udcff"]):
         yield "a word that is not UTF-8", run(program, words, EXAMPLE), (2, b"", NOT_UTF8)
     firsts = {words: b"error: %s\n" % text for words, text in REFUSED.items()}
     helps = {"--help": USAGE, "run --help": RUN_ABOUT, "save --help": SAVE_ABOUT, "serve --help": SERVE_ABOUT, "ask --help": ASK_ABOUT}
     helps["fetch --help"] = FETCH_ABOUT
-    for words, line in {**helps, **firsts}.items():
+    for words, line in helps.items():
+        status, out, error = run(program, words.split(), EXAMPLE)
+        yield words, (status, out[: len(line)], error), (2, line, b"")
+        command = " ".join(["help", *words.split()[:-1]])
+        yield command, run(program, command.split(), EXAMPLE), (0, out, b"")
+    for words, line in firsts.items():
         status, out, error = run(program, words.split(), EXAMPLE)
         yield words or "no words", (status, out, error[: len(line)]), (2, b"", line)
+    for words in ("explore leak.session", "explore --keep 4 leak.session", "explore leak.session --keep 4"):
+        status, out, error = run(program, words.split(), EXAMPLE)
+        yield words, (status, out, error[: len(STRAY)]), (2, b"", STRAY)
+    for words in ("run leak.session", "explore --form leak.session", "draw --out x leak.session"):
+        yield f"no tip for {words}", (b"--from leak.session" in run(program, words.split(), EXAMPLE)[2],), (False,)

@@ -40,6 +40,35 @@ TEXTS = ["place 16: 3 live objects, 36 bytes", "Node: 3 objects, 36 bytes"]
 LIMIT = 2_000_000
 # Where a stroke for each cell of four words of 256 regions runs: in which row, from which pixel to which.
 ROWS = [(region, 4 * cell, 4 * cell + 3) for region in range(256) for cell in range(256)]
+# Lines with a comment, a question and `collect`, of which three are reported, what they are answered, and what is said of them.
+REPORTED = b"""# a node that is dropped
+class Node - next:object
+new 0 0 0
+clear 0 0
+
+collect
+new 0 9 0
+frobnicate
+histogram -
+show - 0x10000000
+new 0 0 0
+"""
+REPORTED_ANSWERS = b"""ok class 0
+ok object 0x10000000
+ok
+ok condemned 1 swept 1
+no 7 BadRegister
+bad command
+ok 0 0
+no 28 NoObject
+ok object 0x10000000
+"""
+REPORTS = b"""heapdbg: stdin:7: no 7 BadRegister: new 0 9 0
+heapdbg: stdin:8: bad command: frobnicate
+heapdbg: stdin:10: no 28 NoObject: show - 0x10000000
+"""
+# Lines that take the same steps.
+REPORTED_PLAIN = b"class Node - next:object\nnew 0 0 0\nclear 0 0\nsnap\nfinish\nsweep 0\nnew 0 0 0\n"
 
 
 def drawn(program, given, *words):
@@ -107,5 +136,8 @@ def pictures(program):
     yield "a session that is drawn", (status, out, error), (0, EXAMPLE_REPLIES, b"")
     status, root, _, out, error = drawn(program, b"snap\nmark")
     yield "a cut session", (status, root, out, error), (1, None, b"ok pushed 0\nbad cut\n", b"heapdbg: cut\n")
+    status, _, picture, out, error = drawn(program, REPORTED)
+    yield "lines that are refused", (status, out, error), (0, REPORTED_ANSWERS, REPORTS)
+    yield "the same picture without them", (picture,), (drawn(program, REPORTED_PLAIN)[2],)
     words = ["draw", "--out", "/no/such/folder/heap.svg"]
     yield "no folder", run(program, words, b"snap\n"), (1, b"ok pushed 0\n", b"heapdbg: out\n")

@@ -62,6 +62,21 @@ def run(program, words, given=b"", **how):
     return ran.returncode, ran.stdout or b"", ran.stderr
 
 
+def run_by_terminal(program, words, given=b""):
+    """Returns the same of a run whose standard error is a terminal."""
+    terminal, error = os.openpty()
+    ran = subprocess.run(
+        ["heapdbg", *words], executable=program, input=given, stdout=subprocess.PIPE, stderr=error, timeout=SECONDS
+    )
+    os.close(error)
+    shown = b""
+    with os.fdopen(terminal, "rb", buffering=0) as stream:
+        # (a terminal that nobody holds any more fails to be read at its end)
+        while more := read_or_nothing(stream):
+            shown += more
+    return ran.returncode, ran.stdout, shown.replace(b"\r\n", b"\n")
+
+
 def read_or_nothing(stream):
     """Returns what a terminal shows next, or nothing if its program has ended."""
     try:

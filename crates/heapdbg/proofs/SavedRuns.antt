@@ -1,5 +1,5 @@
 -- A session that is saved is a run of the program.
-use Rattle.std.proofs.Common.{◌≡◌, ℕ, inl, refl, ap, ◌∙◌, subst, Bool, true, false, Option, Some, None, Result}
+use Rattle.std.proofs.Common.{◌≡◌, ℕ, refl, ◌∙◌, subst, Bool, true, false, Option, Some, None}
 use Rattle.std.specs.Prelude.{is_some, option_map}
 use Rattle.dump_pump.specs.declared.transfer.Pumped.{Pumped}
 use Rattle.dump_pump.specs.Outlets.{Outgoing}
@@ -11,35 +11,54 @@ use Rattle.session_text.specs.Endings.{EndsSession}
 use Rattle.session_text.specs.Limits.{is_whole_session}
 use Rattle.session_text.specs.Session.{IsSession}
 use Rattle.question_text.specs.declared.asking.Asking.{Asking}
-use Rattle.heap_save.specs.Saves.{EndsSave}
+use Rattle.question_text.specs.Sessions.{ServesAsking}
+use Rattle.heap_save.specs.Saves.{EndsSave, IsSaved}
 use Rattle.heap_save.proofs.SavedSessions.{ends_anywhere}
-use Rattle.heapdbg.specs.declared.failure.Fault.{Fault}
 use Rattle.heapdbg_options.specs.declared.settings.Settings.{Settings}
 use Rattle.heapdbg.specs.Explorations.{IsOpening}
-use Rattle.heapdbg.specs.SaveOutcomes.{IsSavedAs, IsSavedWith, IsTalked, any_outlet, save_outcome}
+use Rattle.heapdbg.specs.SaveOutcomes.{IsSavedWith, any_outlet}
 
 -- the first pin of a heap as it begins
 pub first_is : (ids : IdSize) (regions mutators keep : ℕ) → (opening_machine ids regions mutators keep).pins.next ≡ 1
 unfolding opening_machine
 first_is ids regions mutators keep = refl
 
--- the session, as its two kinds tell it, and what was done after it
-saved_with : (questions : Bool) (s : Settings) (c asked : Asking) (left : Machine) (a b : Incoming) (w between w' : Outgoing) (outlet : Option Outgoing) (talked ended : Ended) (pumped : Option Pumped)
-    → IsOpening s c → IsTalked questions s.time a b c w asked between talked → EndsSession a b w between talked
-    → EndsSave any_outlet 1 s.time asked.local.machine left between w' outlet talked ended pumped (is_whole_session talked) → IsSavedWith questions s left a b w w' outlet ended pumped
-saved_with true s c asked left a b w between w' outlet talked ended pumped opening session ends goes =
-    record { begun = c; asked = asked; talked = talked; between = between; opening = opening; session = session; ends = ends; goes = goes }
-saved_with false s c asked left a b w between w' outlet talked ended pumped opening session ends goes =
-    let here : IsSession (opening_machine s.ids s.regions s.mutators s.keep) s.time a b w between asked.local.machine talked = subst (λ (m : Machine). IsSession m s.time a b w between asked.local.machine talked) opening session in
-    record { talked = talked; left = asked.local.machine; between = between; session = here; ends = ends; goes = goes }
+-- what is done after a session of a heap as it begins, wherever an outlet may be made
+ends_here : (makes : Option Outgoing → Type 0) (own mine time : ℕ) (left m' : Machine) (between w' : Outgoing) (outlet : Option Outgoing) (talked ended : Ended) (pumped : Option Pumped)
+    → own ≡ 1 → mine ≡ time → EndsSave makes own mine left m' between w' outlet talked ended pumped (is_whole_session talked) → EndsSave any_outlet 1 time left m' between w' outlet talked ended pumped (is_whole_session talked)
+ends_here makes own mine time left m' between w' outlet talked ended pumped one same goes =
+    ends_anywhere makes any_outlet 1 time left m' between w' outlet talked ended pumped (is_whole_session talked) (λ o h. tt)
+    (subst (λ n. EndsSave makes n time left m' between w' outlet talked ended pumped (is_whole_session talked)) one
+    (subst (λ t. EndsSave makes own t left m' between w' outlet talked ended pumped (is_whole_session talked)) same goes))
 
-pub saved_to : (questions : Bool) (unmade : Fault) (s : Settings) (makes : Option Outgoing → Type 0) (own : ℕ) (c asked : Asking) (left : Machine) (a b : Incoming) (w between w' : Outgoing) (outlet : Option Outgoing) (made : Bool) (talked ended : Ended) (pumped : Option Pumped) (result : Result (Unit {0}) Fault)
-    → IsOpening s c → c.local.first_pin ≡ 1 → own ≡ c.local.first_pin → made ≡ is_some outlet → IsTalked questions s.time a b c w asked between talked → EndsSession a b w between talked
-    → EndsSave makes own s.time asked.local.machine left between w' outlet talked ended pumped (is_whole_session talked) → result ≡ save_outcome unmade made ended pumped → IsSavedAs questions unmade s a b w w' result
-saved_to questions unmade s makes own c asked left a b w between w' outlet made talked ended pumped result opening one same there session ends goes so =
-    let here : EndsSave makes 1 s.time asked.local.machine left between w' outlet talked ended pumped (is_whole_session talked) = subst (λ n. EndsSave makes n s.time asked.local.machine left between w' outlet talked ended pumped (is_whole_session talked)) (same ∙ one) goes in
-    let any = ends_anywhere makes any_outlet 1 s.time asked.local.machine left between w' outlet talked ended pumped (is_whole_session talked) (λ o h. tt) here in
-    inl (left, outlet, ended, pumped, saved_with questions s c asked left a b w between w' outlet talked ended pumped opening session ends any, so ∙ ap (λ k. save_outcome unmade k ended pumped) there)
+-- a session with questions, and what was done after it
+pub asking_saved : (questions : Bool) (s : Settings) (makes : Option Outgoing → Type 0) (own mine : ℕ) (c asked : Asking) (left : Machine) (a b : Incoming) (w between w' : Outgoing) (outlet : Option Outgoing) (talked ended : Ended) (pumped : Option Pumped)
+    → questions ≡ true → own ≡ 1 → mine ≡ s.time → IsOpening s c → ServesAsking s.time a b c w asked between talked → EndsSession a b w between talked
+    → EndsSave makes own mine asked.local.machine left between w' outlet talked ended pumped (is_whole_session talked) → IsSavedWith questions s left a b w w' outlet ended pumped
+asking_saved true s makes own mine c asked left a b w between w' outlet talked ended pumped is one same opening session ends goes = record {
+  begun = c;
+  asked = asked;
+  talked = talked;
+  between = between;
+  opening = opening;
+  session = session;
+  ends = ends;
+  goes = ends_here makes own mine s.time asked.local.machine left between w' outlet talked ended pumped one same goes;
+}
+asking_saved false s makes own mine c asked left a b w between w' outlet talked ended pumped is one same opening session ends goes = cc
+
+-- a session without questions, and what was done after it
+pub plain_saved : (questions : Bool) (s : Settings) (makes : Option Outgoing → Type 0) (own mine : ℕ) (c : Asking) (left : Machine) (a b : Incoming) (w w' : Outgoing) (outlet : Option Outgoing) (ended : Ended) (pumped : Option Pumped)
+    → questions ≡ false → own ≡ 1 → mine ≡ s.time → IsOpening s c → IsSaved makes own mine c.local.machine left a b w w' outlet ended pumped → IsSavedWith questions s left a b w w' outlet ended pumped
+plain_saved true s makes own mine c left a b w w' outlet ended pumped is one same opening h = cc
+plain_saved false s makes own mine c left a b w w' outlet ended pumped is one same opening h = record {
+  talked = h.talked;
+  left = h.left;
+  between = h.between;
+  session = subst (λ (m : Machine). IsSession m s.time a b w h.between h.left h.talked) opening (subst (λ t. IsSession c.local.machine t a b w h.between h.left h.talked) same h.session);
+  ends = h.ends;
+  goes = ends_here makes own mine s.time h.left left h.between w' outlet h.talked ended pumped one same h.goes;
+}
 
 -- an outlet is there however it is seen
 pub still_some : {A B : Type 0} (f : A → B) (o : Option A) → is_some o ≡ is_some (option_map f o)

@@ -6,6 +6,8 @@ use Rattle.session_text.specs.declared.Ended.{Ended}
 use Rattle.session_text.specs.Endings.{EndsSession}
 use Rattle.dump_pump.specs.Inlets.{Incoming}
 use Rattle.session_text.specs.Session.{IsSession}
+use Rattle.question_text.specs.declared.asking.Asking.{Asking}
+use Rattle.question_text.specs.Sessions.{ServesAsking}
 use Rattle.heapdbg.specs.declared.failure.Fault.{Fault}
 use Rattle.heapdbg.specs.declared.failure.Fault.TheVariants.{Memory}
 use Rattle.heapdbg.specs.declared.failure.Failure.{Failure}
@@ -17,7 +19,7 @@ use Rattle.heapdbg_options.specs.declared.settings.Task.TheVariants.{Run, Explor
 use Rattle.heapdbg_options.specs.declared.settings.Target.TheVariants.{Out, To}
 use Rattle.heapdbg_options.specs.CommandLine.{settings_of}
 use Rattle.heapdbg.specs.Endings.{failure_of, outcome_of, work_of}
-use Rattle.heapdbg.specs.Explorations.{IsExplored}
+use Rattle.heapdbg.specs.Explorations.{IsExplored, IsOpening}
 use Rattle.heapdbg.specs.FetchOutcomes.{IsDumpFetched}
 use Rattle.heapdbg_options.specs.Refusals.{IsRefusalOf}
 use Rattle.heapdbg.specs.SaveOutcomes.{IsSavedTo}
@@ -45,13 +47,13 @@ IsDrawingOutcome (Err f) result = result ≡ Err f
 IsDrawingOutcome (Ok done) result =
     (result ≡ Ok done) ⊎ ((result ≡ Err fault.Out) ⊎ (result ≡ Err Memory))
 
--- a session over a heap with these settings as it begins, and a picture of what it left, if it ended well; or the heap couldn't
--- be allocated, and nothing is read or written
+-- a session with questions over a heap with these settings as it begins, and a picture of what it left, if it ended well; or the
+-- heap couldn't be allocated, and nothing is read or written
 abbrev pub IsSessionDrawn : Settings → Incoming → Incoming → Outgoing → Outgoing
     → Result (Unit {0}) Fault → Type 0
 IsSessionDrawn s a b w w' result =
-    ((ended : Ended) × (left : Machine)
-    × IsSession (opening_machine s.ids s.regions s.mutators s.keep) s.time a b w w' left ended
+    ((ended : Ended) × (c : Asking) × (left : Asking) × IsOpening s c
+    × ServesAsking s.time a b c w left w' ended
     × EndsSession a b w w' ended × IsDrawingOutcome (outcome_of ended) result)
     ⊎ ((result ≡ Err Memory) × (b ≡ a) × (w' ≡ w))
 

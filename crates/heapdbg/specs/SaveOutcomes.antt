@@ -42,13 +42,6 @@ save_outcome unmade made ended pumped =
 abbrev pub any_outlet : Option Outgoing → Type 0
 any_outlet o = Unit {0}
 
--- a session over a heap, with questions or without
-abbrev pub IsTalked : Bool → ℕ → Incoming → Incoming → Asking → Outgoing → Asking → Outgoing
-    → Ended → Type 0
-IsTalked true time a b c w c' w' ended = ServesAsking time a b c w c' w' ended
-IsTalked false time a b c w c' w' ended =
-    IsSession c.local.machine time a b w w' c'.local.machine ended
-
 -- a session with questions over a heap with these settings as it begins, and what was done after it
 pub record IsAskingSaved (s : Settings) (left : Machine) (a b : Incoming) (w w' : Outgoing)
     (outlet : Option Outgoing) (ended : Ended) (pumped : Option Pumped) : Type 0 where

@@ -3,31 +3,36 @@ ghost use Rattle.std.specs.Prelude.{◌≡◌};
 ghost use Rattle.heapdbg.specs.ServeOutcomes.{IsServerAsked, asked_outcome};
 
 use crate::failure::Fault;
+use crate::reasons::tell_port;
 use dump_pump::Outlet;
 use heap_server::{Asked, ask};
 use session_text::Inlet;
-use std::alloc::Global;
 use std::net::{Ipv4Addr, Net, TcpStream};
 use std::sync::Wait;
 use std::thread::Threads;
 
 /// Sends all input to the session on a port, and puts out what comes back, until the session has ended. Fails with Connect,
-/// and then writes nothing, if no connection can be made. May wait.
+/// and then writes nothing, if no connection can be made; why, it says on standard error, if that is a terminal. May wait.
 pub fn ask_port<R, I: Inlet + Send + Drop + 'static, O: Outlet>(
     rt: &R,
-    alloc: Global,
     port: u16,
     input: I,
     writer: &mut O,
+    is_terminal: bool,
 ) -> Result<(), Fault>
 where
     R: Net<Stream = TcpStream> + Threads + Wait + Copy + Send + Sync + Drop + 'static,
+    R: AllocGlobal + Eprint,
     ensures { IsServerAsked (O.seen writer.old) (O.seen writer.new) result }
 {
-    let Ok(stream) = TcpStream::connect(rt, (Ipv4Addr::LOCALHOST, port)) else {
-        return Err(Fault::Connect);
+    let stream = match TcpStream::connect(rt, (Ipv4Addr::LOCALHOST, port)) {
+        Ok(stream) => stream,
+        Err(error) => {
+            tell_port(rt, is_terminal, port, &error);
+            return Err(Fault::Connect);
+        }
     };
-    outcome(ask(rt, alloc, stream, input, writer))
+    outcome(ask(rt, rt.alloc(), stream, input, writer))
 }
 
 // Returns the outcome of a client that has ended.

@@ -1,24 +1,27 @@
-//! A session, and a picture of the regions of the state that it leaves.
+//! A session with questions, and a picture of the regions of the state that it leaves.
 ghost use Rattle.std.specs.Prelude.{◌≡◌, ◌⊎◌, Ok, Err};
 ghost use Rattle.heapdbg_options.specs.CommandLine.{IsHeapWithin};
 ghost use Rattle.heapdbg.specs.Runs.{IsDrawingOutcome, IsSessionDrawn};
 
+use crate::explore::open;
 use crate::failure::{Fault, outcome};
-use crate::opening::open_local;
+use crate::reasons::tell_path;
 use crate::request::Request;
+use crate::terminals::Screen;
 use dump_pump::{Outlet, WriteOutlet};
 use heap_console::picture_of;
-use session_text::{Inlet, Machine, serve_local, write_all};
-use std::alloc::Global;
+use question_text::serve_asking;
+use session_text::{Inlet, Machine, write_all};
 use std::fs;
 use std::fs::Files;
 
-/// Runs one session over a private heap, and draws the regions of the state that it leaves to the file of the path. Fails
-/// as a session does, with Memory, and with Out if the file can't be made or a write to it fails.
-pub fn draw<R: Files, I: Inlet, O: Outlet>(
+/// Runs one session, in which questions are answered, over a private heap, and draws the regions of the state that it leaves to
+/// the file of the path. Fails as a session does, with Memory, and with Out if the file can't be made, in which case it says
+/// why on standard error, if that is a terminal, or if a write to it fails.
+pub fn draw<R: AllocGlobal + Eprint + Files, I: Inlet, O: Outlet>(
     rt: &R,
-    alloc: Global,
     request: Request<'_>,
+    screen: Screen<'_>,
     reader: &mut I,
     writer: &mut O,
 ) -> Result<(), Fault>
@@ -26,47 +29,54 @@ pub fn draw<R: Files, I: Inlet, O: Outlet>(
     ensures { IsSessionDrawn request.entry.settings (I.seen reader.old) (I.seen reader.new)
         (O.seen writer.old) (O.seen writer.new) result }
 {
-    match open_local(alloc, &request.settings) {
-        Ok(mut local) => {
-            let ended = serve_local(alloc, reader, writer, &mut local, request.settings.time);
-            draw_after(rt, alloc, request.path, outcome(ended), &local.machine)
+    let Screen { is_terminal, watch } = screen;
+    match open(rt.alloc(), &request.settings, watch) {
+        Ok(mut asking) => {
+            let time = request.settings.time;
+            let ended = serve_asking(rt.alloc(), reader, writer, &mut asking, time);
+            let machine = &asking.local.machine;
+            draw_after(rt, request.path, is_terminal, outcome(ended), machine)
         }
         Err(fault) => Err(fault),
     }
 }
 
 // Draws the state that a session left, if its outcome is none of a fault.
-fn draw_after<R: Files>(
+fn draw_after<R: AllocGlobal + Eprint + Files>(
     rt: &R,
-    alloc: Global,
     path: Option<&str>,
+    is_terminal: bool,
     session: Result<(), Fault>,
     machine: &Machine,
 ) -> Result<(), Fault>
     ensures { IsDrawingOutcome session result }
 {
     session?;
-    write_picture(rt, alloc, path, machine)
+    write_picture(rt, path, is_terminal, machine)
 }
 
 // Draws the current state of a machine to the file of a path.
-fn write_picture<R: Files>(
+fn write_picture<R: AllocGlobal + Eprint + Files>(
     rt: &R,
-    alloc: Global,
     path: Option<&str>,
+    is_terminal: bool,
     machine: &Machine,
 ) -> Result<(), Fault>
     ensures { (result ≡ Ok tt)
         ⊎ ((result ≡ Err Fault.Out) ⊎ (result ≡ Err Fault.Memory)) }
 {
-    let Ok(picture) = picture_of(alloc, machine) else {
+    let Ok(picture) = picture_of(rt.alloc(), machine) else {
         return Err(Fault::Memory);
     };
     let Some(path) = path else {
         return Err(Fault::Memory);
     };
-    let Ok(file) = fs::create(rt, path) else {
-        return Err(Fault::Out);
+    let file = match fs::create(rt, path) {
+        Ok(file) => file,
+        Err(error) => {
+            tell_path(rt, is_terminal, path, &error);
+            return Err(Fault::Out);
+        }
     };
     if write_all(&mut WriteOutlet::new(file), picture.as_slice()) {
         Ok(())

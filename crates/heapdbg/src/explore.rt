@@ -6,8 +6,11 @@ ghost use Rattle.heapdbg_options.specs.CommandLine.{IsHeapWithin};
 ghost use Rattle.heapdbg.specs.Explorations.{IsSessionBegun, IsExplored, IsHindrance, IsOpening};
 
 use crate::failure::{Fault, outcome};
+use crate::folder::is_folder;
 use crate::opening::open_local;
+use crate::reasons::tell_path;
 use crate::request::Request;
+use crate::terminals::Screen;
 use dump_pump::Outlet;
 use heap_console::load_lines;
 use heapdbg_options::settings::Settings;
@@ -16,15 +19,17 @@ use session_text::Inlet;
 use std::alloc::Global;
 use std::fs;
 use std::fs::Files;
+use std::io::Error;
 
-/// Runs one session, in which questions are answered, over a heap of its own. If `from` says so, the lines of the file of
-/// the path are run first; their answers are not shown, and each line that is refused is reported on standard error.
-/// Fails as a session does, with Memory if the heap can't be allocated, and with From if the file can't be opened.
+/// Runs one session, in which questions are answered, over a heap of its own. If `from` says so, the lines of the file of the
+/// path are run first; their answers are not shown, and each line that is refused is reported on standard error. Fails as a
+/// session does, with Memory if the heap can't be allocated, and with From if the file can't be opened or is a folder; why, it
+/// says on standard error, if that is a terminal.
 pub fn explore<R: AllocGlobal + Eprint + Files, I: Inlet, O: Outlet>(
     rt: &R,
     request: Request<'_>,
     from: bool,
-    watch: &Watch,
+    screen: Screen<'_>,
     reader: &mut I,
     writer: &mut O,
 ) -> Result<(), Fault>
@@ -32,8 +37,9 @@ pub fn explore<R: AllocGlobal + Eprint + Files, I: Inlet, O: Outlet>(
     ensures { IsExplored from request.entry.settings (I.seen reader.old) (I.seen reader.new)
         (O.seen writer.old) (O.seen writer.new) result }
 {
+    let Screen { is_terminal, watch } = screen;
     match open(rt.alloc(), &request.settings, watch) {
-        Ok(mut asking) => explore_on(rt, request, from, &mut asking, reader, writer),
+        Ok(mut asking) => explore_on(rt, request, from, is_terminal, &mut asking, reader, writer),
         Err(fault) => Err(fault),
     }
 }
@@ -43,6 +49,7 @@ fn explore_on<R: AllocGlobal + Eprint + Files, I: Inlet, O: Outlet>(
     rt: &R,
     request: Request<'_>,
     from: bool,
+    is_terminal: bool,
     asking: &mut Asking<'_>,
     reader: &mut I,
     writer: &mut O,
@@ -51,7 +58,7 @@ fn explore_on<R: AllocGlobal + Eprint + Files, I: Inlet, O: Outlet>(
     ensures { IsExplored from request.entry.settings (I.seen reader.old) (I.seen reader.new)
         (O.seen writer.old) (O.seen writer.new) result }
 {
-    begin(rt, request, from, asking)?;
+    begin(rt, request, from, is_terminal, asking)?;
     let ended = serve_asking(rt.alloc(), reader, writer, asking, request.settings.time);
     outcome(ended)
 }
@@ -61,6 +68,7 @@ fn begin<R: AllocGlobal + Eprint + Files>(
     rt: &R,
     request: Request<'_>,
     from: bool,
+    is_terminal: bool,
     asking: &mut Asking<'_>,
 ) -> Result<(), Fault>
     requires { IsOpening request.settings asking.old }
@@ -68,7 +76,7 @@ fn begin<R: AllocGlobal + Eprint + Files>(
     ensures hindrance { IfErr result (IsHindrance from) }
 {
     if from {
-        return load(rt, request, asking);
+        return load(rt, request, is_terminal, asking);
     }
     Ok(())
 }
@@ -94,6 +102,7 @@ pub(crate) fn open<'a>(
 fn load<R: AllocGlobal + Eprint + Files>(
     rt: &R,
     request: Request<'_>,
+    is_terminal: bool,
     asking: &mut Asking<'_>,
 ) -> Result<(), Fault>
     ensures loaded { IfOk result
@@ -103,12 +112,27 @@ fn load<R: AllocGlobal + Eprint + Files>(
     let Some(path) = request.path else {
         return Err(Fault::Memory);
     };
-    let Ok(file) = fs::open(rt, path) else {
-        return Err(Fault::From);
+    let file = match open_lines(rt, path) {
+        Ok(file) => file,
+        Err(error) => {
+            tell_path(rt, is_terminal, path, &error);
+            return Err(Fault::From);
+        }
     };
     let (alloc, time) = (rt.alloc(), request.settings.time);
     match load_lines(rt, alloc, path, file, asking, time) {
         Ok(_) => Ok(()),
         Err(_) => Err(Fault::Memory),
     }
+}
+
+// The number of the error that a folder is no file to read.
+const A_FOLDER: i32 = 21;
+
+// Opens a file of lines. Fails if the path is that of a folder, too.
+fn open_lines<R: Files>(rt: &R, path: &str) -> Result<R::File, Error> {
+    if is_folder(rt, path) {
+        return Err(Error::from_raw_os_error(A_FOLDER));
+    }
+    fs::open(rt, path)
 }

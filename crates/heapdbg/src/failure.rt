@@ -2,7 +2,7 @@
 ghost use Rattle.std.specs.Prelude.{◌≡◌, OnOk};
 ghost use Rattle.std.specs.Io.KnownBytes.{Appends};
 ghost use Rattle.std.specs.Process.{exit_status};
-ghost use Rattle.heapdbg.specs.Endings.{message_of, outcome_of, exit_status_of, word_of_fault};
+ghost use Rattle.heapdbg.specs.Endings.{IsErrorKept, IsOutKept, exit_status_of, is_asked, message_of, outcome_of, word_of_fault};
 
 use heapdbg_options::settings::LineFault;
 use session_text::Ended;
@@ -39,11 +39,15 @@ pub enum Fault {
     Lost,
 }
 
-/// The reason why the program failed. Its `Display` is the text for standard error.
+/// The reason why the program did no work, or failed. Its `Display` is the text for the user.
 #[derive(Debug, Drop)]
 pub enum Failure {
-    /// The command line is bad. It holds a text for the user.
+    /// The command line is bad. It holds a text for standard error.
     Line(String),
+    /// An option asks for help or for the version. It holds a text for standard output.
+    OptionText(String),
+    /// A command asks for help or for the version. It holds a text for standard output.
+    CommandText(String),
     /// The work is not done.
     Work(Fault),
 }
@@ -89,7 +93,9 @@ impl fmt::Display for Failure {
 
     fn fmt<W: fmt::Write>(&self, f: &mut fmt::Formatter<W>) -> fmt::Result {
         match self {
-            Failure::Line(text) => f.write_str(text.as_str()),
+            Failure::Line(text) | Failure::OptionText(text) | Failure::CommandText(text) => {
+                f.write_str(text.as_str())
+            }
             Failure::Work(fault) => writeln!(f, "heapdbg: {fault}"),
         }
     }
@@ -106,6 +112,8 @@ impl From<LineFault> for Failure {
     fn from(line: LineFault) -> Failure {
         match line {
             LineFault::Bad(text) => Failure::Line(text),
+            LineFault::OptionText(text) => Failure::OptionText(text),
+            LineFault::CommandText(text) => Failure::CommandText(text),
             LineFault::Memory => Failure::Work(Fault::Memory),
         }
     }
@@ -137,32 +145,63 @@ pub fn outcome(ended: Ended) -> Result<(), Fault>
     }
 }
 
-// Returns the exit status: 0 if the work is done, 1 after a fault, 2 after a bad command line.
+// Returns the exit status: 0 if the work is done or a command asks for a text, 1 after a fault, 2 after a bad command line or
+// an option that asks for a text.
 fn status(done: &Result<(), Failure>) -> u8
     ensures { result ≡ exit_status_of done.now }
 {
     match done {
-        Ok(()) => 0,
+        Ok(()) | Err(Failure::CommandText(_)) => 0,
         Err(Failure::Work(_)) => 1,
-        Err(Failure::Line(_)) => 2,
+        Err(Failure::Line(_) | Failure::OptionText(_)) => 2,
     }
 }
 
 // Writes the text of a failure.
-fn tell<W: Write>(stderr: &mut W, failure: &Failure) -> io::Result<()>
+fn tell<W: Write>(writer: &mut W, failure: &Failure) -> io::Result<()>
     ensures { OnOk result
-        (Appends (W.contents stderr.old) (W.contents stderr.new) (message_of failure.now)) }
+        (Appends (W.contents writer.old) (W.contents writer.new) (message_of failure.now)) }
 {
-    write!(stderr, "{failure}")
+    write!(writer, "{failure}")
 }
 
-/// Writes the text of a failure to standard error, if there is one, and returns the exit code. A write that fails changes
-/// nothing.
-pub fn report<W: Write>(stderr: &mut W, done: &Result<(), Failure>) -> ExitCode
-    ensures { exit_status result ≡ exit_status_of done.now }
+// Tells whether the text of a failure is one that the command line asks for.
+fn is_asked(failure: &Failure) -> bool
+    ensures { result ≡ is_asked failure.now }
 {
-    if let Err(failure) = done {
+    match failure {
+        Failure::OptionText(_) | Failure::CommandText(_) => true,
+        Failure::Line(_) | Failure::Work(_) => false,
+    }
+}
+
+// Writes the text of a failure, if there is one, to standard output if the command line asks for it, else to standard error. A
+// write that fails changes nothing.
+fn tell_failure<W: Write, V: Write>(stdout: &mut W, stderr: &mut V, done: &Result<(), Failure>)
+    ensures out { IsOutKept done.now stdout.old stdout.new }
+    ensures error { IsErrorKept done.now stderr.old stderr.new }
+{
+    let Err(failure) = done else {
+        return;
+    };
+    if is_asked(failure) {
+        let _ = tell(stdout, failure);
+    } else {
         let _ = tell(stderr, failure);
     }
+}
+
+/// Writes the text of a failure, if there is one, to standard output if the command line asks for it, else to standard error, and
+/// returns the exit code. A write that fails changes nothing.
+pub fn report<W: Write, V: Write>(
+    stdout: &mut W,
+    stderr: &mut V,
+    done: &Result<(), Failure>,
+) -> ExitCode
+    ensures status { exit_status result ≡ exit_status_of done.now }
+    ensures out { IsOutKept done.now stdout.old stdout.new }
+    ensures error { IsErrorKept done.now stderr.old stderr.new }
+{
+    tell_failure(stdout, stderr, done);
     ExitCode::from(status(done))
 }

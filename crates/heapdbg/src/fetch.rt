@@ -1,9 +1,10 @@
 //! The client that fetches a dump of a heap that is served.
-ghost use Rattle.std.specs.Prelude.{◌≡◌};
+ghost use Rattle.std.specs.Prelude.{◌≡◌, IfErr};
 ghost use Rattle.heapdbg.specs.FetchOutcomes.{IsDumpFetched, fetched_outcome};
 
 use crate::failure::Fault;
 use crate::progress::ProgressLine;
+use crate::reasons::{tell_path, tell_port};
 use dump_client::{Finish, fetch, write_last};
 use dump_pump::{Outlet, WriteOutlet};
 use session_text::ReadInlet;
@@ -16,7 +17,8 @@ use std::time::Clock;
 /// Fetches the dump that a port gives into a file, and puts out a last line: `fetched`, or `cut` if what came is no whole dump,
 /// or `failed` if a write to the file failed, and the number of bytes that the file took. Shows its progress on standard error
 /// if that is a terminal. Fails with Connect if no connection can be made and with Out if no file can be made, and then puts
-/// out nothing; else with Write if the last line can't be put out, with Cut, or with Out. May wait.
+/// out nothing, and says why on such a terminal; else with Write if the last line can't be put out, with Cut, or with Out. May
+/// wait.
 pub fn fetch_port<R, O: Outlet>(
     rt: &R,
     port: u16,
@@ -25,15 +27,11 @@ pub fn fetch_port<R, O: Outlet>(
     is_terminal: bool,
 ) -> Result<(), Fault>
 where
-    R: Clock + Eprint + Files + Net + Wait,
+    R: AllocGlobal + Clock + Eprint + Files + Net + Wait,
     ensures { IsDumpFetched (O.seen writer.old) (O.seen writer.new) result }
 {
-    let Ok(stream) = TcpStream::connect(rt, (Ipv4Addr::LOCALHOST, port)) else {
-        return Err(Fault::Connect);
-    };
-    let Ok(file) = fs::create(rt, path) else {
-        return Err(Fault::Out);
-    };
+    let stream = connect(rt, port, is_terminal)?;
+    let file = create(rt, path, is_terminal)?;
     let mut line = ProgressLine::new(rt);
     if is_terminal {
         line.begin(None);
@@ -44,6 +42,40 @@ where
     line.end(fetched.bytes);
     let written = write_last(writer, &fetched);
     outcome(fetched.finish, written)
+}
+
+// Connects to a port. Fails with Connect.
+fn connect<R: AllocGlobal + Eprint + Net>(
+    rt: &R,
+    port: u16,
+    is_terminal: bool,
+) -> Result<R::Stream, Fault>
+    ensures { IfErr result (λ f. f ≡ Fault.Connect) }
+{
+    match TcpStream::connect(rt, (Ipv4Addr::LOCALHOST, port)) {
+        Ok(stream) => Ok(stream),
+        Err(error) => {
+            tell_port(rt, is_terminal, port, &error);
+            Err(Fault::Connect)
+        }
+    }
+}
+
+// Makes the file of a path. Fails with Out.
+fn create<R: AllocGlobal + Eprint + Files>(
+    rt: &R,
+    path: &str,
+    is_terminal: bool,
+) -> Result<R::File, Fault>
+    ensures { IfErr result (λ f. f ≡ Fault.Out) }
+{
+    match fs::create(rt, path) {
+        Ok(file) => Ok(file),
+        Err(error) => {
+            tell_path(rt, is_terminal, path, &error);
+            Err(Fault::Out)
+        }
+    }
 }
 
 // Returns the outcome of a fetch, whose last line was put out or not.

@@ -11,6 +11,7 @@ mod fetch;
 mod folder;
 mod opening;
 mod progress;
+mod reasons;
 mod request;
 mod save;
 mod serve;
@@ -21,12 +22,13 @@ use std::io::IsTerminal;
 use std::process::ExitCode;
 use terminals::Terminals;
 
-// Runs the program, and reports its failure, if any, on standard error.
+// Runs the program, and reports its failure, if any, on standard error, or a text that is asked for on standard output.
 fn main(rt: HostRuntime) -> ExitCode {
     let terminals = Terminals {
         input: rt.stdin().is_terminal(),
         output: rt.stdout().is_terminal(),
         error: rt.stderr().is_terminal(),
     };
-    failure::report(&mut rt.stderr(), &task::perform(&rt, terminals))
+    let done = task::perform(&rt, terminals);
+    failure::report(&mut rt.stdout(), &mut rt.stderr(), &done)
 }

@@ -1,32 +1,33 @@
 //! A session whose last state is dumped to a file or a socket.
-ghost use Rattle.std.specs.Prelude.{◌≡◌};
-ghost use Rattle.session_text.specs.Endings.{EndsSession};
+ghost use Rattle.std.specs.Prelude.{◌≡◌, option_map};
 ghost use Rattle.heapdbg_options.specs.CommandLine.{IsHeapWithin};
-ghost use Rattle.heapdbg.specs.SaveOutcomes.{IsSavedTo, IsTalked, save_outcome};
+ghost use Rattle.heapdbg.specs.Explorations.{IsOpening};
+ghost use Rattle.heapdbg.specs.SaveOutcomes.{IsSavedTo, IsSavedWith, save_outcome};
 
 use crate::explore::open;
 use crate::failure::{Fault, outcome};
+use crate::reasons::{tell_path, tell_port};
 use dump_pump::{Outlet, Pumped, WriteOutlet};
-use heap_save::{LastDump, Outlets};
+use heap_save::{LastDump, Outlets, Saved};
 use heapdbg_options::settings::Settings;
 use pin_dump::Gauge;
 use question_text::{Asking, Watch, serve_asking};
-use session_text::{Ended, Inlet, serve_local};
-use std::alloc::Global;
+use session_text::{Ended, Inlet};
 use std::fs;
 use std::fs::Files;
 use std::net::{Ipv4Addr, Net, TcpStream};
 use std::sync::Wait;
 use std::thread::Threads;
 
-/// A file that is made, or cut to nothing if it is there.
+/// A file that is made, or cut to nothing if it is there. Why it can't be made is said on standard error, if that is a terminal.
 #[derive(Drop)]
 pub struct OutFile<'a, R> {
     rt: &'a R,
     path: &'a str,
+    is_terminal: bool,
 }
 
-impl<R: Files> Outlets for OutFile<'_, R> {
+impl<R: AllocGlobal + Eprint + Files> Outlets for OutFile<'_, R> {
     type Out = WriteOutlet<R::File>;
 
     ghost makes = { λ place outlet. Unit {0} };
@@ -34,19 +35,23 @@ impl<R: Files> Outlets for OutFile<'_, R> {
     fn open(&mut self) -> Option<WriteOutlet<R::File>> {
         match fs::create(self.rt, self.path) {
             Ok(file) => Some(WriteOutlet::new(file)),
-            Err(_) => None,
+            Err(error) => {
+                tell_path(self.rt, self.is_terminal, self.path, &error);
+                None
+            }
         }
     }
 }
 
-/// A port of this computer that is connected to.
+/// A port of this computer that is connected to. Why it can't be is said on standard error, if that is a terminal.
 #[derive(Drop)]
 pub struct OutPort<'a, R> {
     rt: &'a R,
     port: u16,
+    is_terminal: bool,
 }
 
-impl<R: Net> Outlets for OutPort<'_, R> {
+impl<R: AllocGlobal + Eprint + Net> Outlets for OutPort<'_, R> {
     type Out = WriteOutlet<R::Stream>;
 
     ghost makes = { λ place outlet. Unit {0} };
@@ -54,7 +59,10 @@ impl<R: Net> Outlets for OutPort<'_, R> {
     fn open(&mut self) -> Option<WriteOutlet<R::Stream>> {
         match TcpStream::connect(self.rt, (Ipv4Addr::LOCALHOST, self.port)) {
             Ok(stream) => Some(WriteOutlet::new(stream)),
-            Err(_) => None,
+            Err(error) => {
+                tell_port(self.rt, self.is_terminal, self.port, &error);
+                None
+            }
         }
     }
 }
@@ -69,43 +77,66 @@ pub struct Destination<P> {
 }
 
 /// Returns the file of a path as a destination. A session fails with Out if the file can't be made.
-pub fn out_file<'a, R: Files>(rt: &'a R, path: &'a str) -> Destination<OutFile<'a, R>>
+pub fn out_file<'a, R: AllocGlobal + Eprint + Files>(
+    rt: &'a R,
+    path: &'a str,
+    is_terminal: bool,
+) -> Destination<OutFile<'a, R>>
     ensures { result.unmade ≡ Fault.Out }
 {
     Destination {
-        place: OutFile { rt, path },
+        place: OutFile {
+            rt,
+            path,
+            is_terminal,
+        },
         unmade: Fault::Out,
     }
 }
 
 /// Returns a port as a destination. A session fails with Connect if no connection can be made.
-pub fn peer<R: Net>(rt: &R, port: u16) -> Destination<OutPort<'_, R>>
+pub fn peer<R: AllocGlobal + Eprint + Net>(
+    rt: &R,
+    port: u16,
+    is_terminal: bool,
+) -> Destination<OutPort<'_, R>>
     ensures { result.unmade ≡ Fault.Connect }
 {
     Destination {
-        place: OutPort { rt, port },
+        place: OutPort {
+            rt,
+            port,
+            is_terminal,
+        },
         unmade: Fault::Connect,
     }
 }
 
-// Runs a session over a heap, in which questions are answered if the settings say so.
-fn talk<I: Inlet, O: Outlet>(
-    alloc: Global,
+// Runs a session over a heap as it begins, in which questions are answered if the settings say so, and does what a save does after
+// its session.
+fn save_session<I: Inlet, O: Outlet, P: Outlets, G: Gauge, R>(
+    rt: &R,
     settings: &Settings,
+    dump: LastDump<'_, P, G>,
     reader: &mut I,
     writer: &mut O,
     asking: &mut Asking<'_>,
-) -> Ended
-    ensures ends { EndsSession (I.seen reader.old) (I.seen reader.new) (O.seen writer.old)
-        (O.seen writer.new) result }
-    ensures first { asking.new.local.first_pin ≡ asking.old.local.first_pin }
-    ensures session { IsTalked settings.now.questions settings.now.time (I.seen reader.old)
-        (I.seen reader.new) asking.old (O.seen writer.old) asking.new (O.seen writer.new) result }
+) -> Saved<P, P::Out>
+where
+    R: AllocGlobal + Threads + Wait + Sync,
+    requires opening { IsOpening settings.now asking.old }
+    requires first { asking.old.local.first_pin ≡ 1 }
+    requires time { dump.time ≡ settings.now.time }
+    ensures { IsSavedWith settings.now.questions settings.now asking.new.local.machine
+        (I.seen reader.old) (I.seen reader.new) (O.seen writer.old) (O.seen writer.new)
+        (option_map P.Out.seen result.outlet) result.ended result.pumped }
 {
+    let alloc = rt.alloc();
     if settings.questions {
-        serve_asking(alloc, reader, writer, asking, settings.time)
+        let ended = serve_asking(alloc, reader, writer, asking, settings.time);
+        dump.save_after(rt, alloc, ended, &mut asking.local, writer)
     } else {
-        serve_local(alloc, reader, writer, &mut asking.local, settings.time)
+        dump.save_into(rt, alloc, &mut asking.local, reader, writer)
     }
 }
 
@@ -126,15 +157,13 @@ where
     ensures { IsSavedTo to.unmade settings.now (I.seen reader.old) (I.seen reader.new)
         (O.seen writer.old) (O.seen writer.new) result }
 {
-    let alloc = rt.alloc();
     let watch = Watch::new();
-    match open(alloc, settings, &watch) {
+    match open(rt.alloc(), settings, &watch) {
         Ok(mut asking) => {
             let Destination { place, unmade } = to;
             let time = settings.time;
             let dump = LastDump { place, gauge, time };
-            let ended = talk(alloc, settings, reader, writer, &mut asking);
-            let saved = dump.save_after(rt, alloc, ended, &mut asking.local, writer);
+            let saved = save_session(rt, settings, dump, reader, writer, &mut asking);
             save_outcome(unmade, saved.outlet.is_some(), saved.ended, saved.pumped)
         }
         Err(fault) => Err(fault),

@@ -8,6 +8,7 @@ ghost use Rattle.heapdbg.specs.Services.{IsOpened};
 ghost use Rattle.heapdbg.specs.ServeOutcomes.{IsReportTold, IsServed, config_of, served_outcome, terms_of};
 
 use crate::failure::Fault;
+use crate::reasons::tell_port;
 use dump_pump::Outlet;
 use heap_server::{
     Blank, DumpListener, Ports, Refusal, Served, ServicePlan, Terms, serve_heap, serve_tended_heap,
@@ -52,11 +53,11 @@ impl Service {
     }
 }
 
-/// Serves sessions to clients of a port, while two threads tend the collector if there are workers, and one sends dumps if there
-/// is a port for them, and puts out how each session ended. Fails with Memory if the heap can't be allocated or
-/// no thread for the workers or the dumps can be had, with Listen if a port can't be listened on, with Accept if a client could
-/// not be accepted, and else with Write if a write failed. Says on standard error that it listens, if that is a terminal. May
-/// wait.
+/// Serves sessions to clients of a port, while two threads tend the collector if there are workers, and one sends dumps if
+/// there is a port for them, and puts out how each session ended. Fails with Memory if the heap can't be allocated or no thread
+/// for the workers or the dumps can be had, with Listen if a port can't be listened on, with Accept if a client could not be
+/// accepted, and else with Write if a write failed. Says on standard error that it listens, or why it can't, if that is a
+/// terminal. May wait.
 pub fn serve_port<R, O: Outlet>(
     rt: &R,
     alloc: Global,
@@ -67,7 +68,7 @@ pub fn serve_port<R, O: Outlet>(
 ) -> Result<(), Fault>
 where
     R: Net<Listener = TcpListener, Stream = TcpStream> + Threads + Wait + Sync,
-    R: Clock + Eprint,
+    R: AllocGlobal + Clock + Eprint,
     requires heap { IsHeapWithin settings.now }
     requires sessions { (1 ≤ service.sessions) × (service.sessions ≤ session_limit) }
     ensures { IsServed service.workers settings.now service.sessions (O.seen writer.old)
@@ -108,7 +109,7 @@ fn open_service<R>(
     is_terminal: bool,
 ) -> Result<Opened, Fault>
 where
-    R: Net<Listener = TcpListener, Stream = TcpStream> + Eprint,
+    R: Net<Listener = TcpListener, Stream = TcpStream> + AllocGlobal + Eprint,
     requires heap { IsHeapWithin settings.now }
     requires sessions { (1 ≤ service.sessions) × (service.sessions ≤ session_limit) }
     ensures opened { IfOk result (IsOpened service.workers settings.now service.sessions) }
@@ -169,7 +170,7 @@ fn listen<R>(
     is_terminal: bool,
 ) -> Result<(Ports, Vec<u8>), Fault>
 where
-    R: Net<Listener = TcpListener, Stream = TcpStream> + Eprint,
+    R: Net<Listener = TcpListener, Stream = TcpStream> + AllocGlobal + Eprint,
     requires { service.sessions ≤ session_limit }
     ensures report { IfOk result (λ p. p.1.items ≡ []) }
     ensures fault { IfErr result (λ f. (f ≡ Memory) ⊎ (f ≡ Listen)) }
@@ -178,10 +179,10 @@ where
         return Err(Fault::Memory);
     };
     let dumps = match service.dumps {
-        Some(port) => Some(dump_listener(rt, port)?),
+        Some(port) => Some(dump_listener(rt, port, is_terminal)?),
         None => None,
     };
-    let sessions = listener(rt, service.port)?;
+    let sessions = listener(rt, service.port, is_terminal)?;
     if is_terminal {
         let port = service.port;
         let _ = eprintln!(rt; "heapdbg: listening on 127.0.0.1:{port}");
@@ -190,26 +191,27 @@ where
 }
 
 // Listens on a port. Fails with Listen.
-fn listener<R: Net<Listener = TcpListener, Stream = TcpStream>>(
-    rt: &R,
-    port: u16,
-) -> Result<TcpListener, Fault>
+fn listener<R>(rt: &R, port: u16, is_terminal: bool) -> Result<TcpListener, Fault>
+where
+    R: Net<Listener = TcpListener, Stream = TcpStream> + AllocGlobal + Eprint,
     ensures { IfErr result (λ f. f ≡ Listen) }
 {
     match TcpListener::bind(rt, (Ipv4Addr::LOCALHOST, port)) {
         Ok(listener) => Ok(listener),
-        Err(_) => Err(Fault::Listen),
+        Err(error) => {
+            tell_port(rt, is_terminal, port, &error);
+            Err(Fault::Listen)
+        }
     }
 }
 
 // Listens on the port for dumps. Fails with Listen.
-fn dump_listener<R: Net<Listener = TcpListener, Stream = TcpStream>>(
-    rt: &R,
-    port: u16,
-) -> Result<DumpListener, Fault>
+fn dump_listener<R>(rt: &R, port: u16, is_terminal: bool) -> Result<DumpListener, Fault>
+where
+    R: Net<Listener = TcpListener, Stream = TcpStream> + AllocGlobal + Eprint,
     ensures { IfErr result (λ f. f ≡ Listen) }
 {
-    match DumpListener::new(listener(rt, port)?) {
+    match DumpListener::new(listener(rt, port, is_terminal)?) {
         Ok(listener) => Ok(listener),
         Err(_) => Err(Fault::Listen),
     }

@@ -12,15 +12,16 @@ use crate::draw::draw;
 use crate::explore::explore;
 use crate::failure::{Failure, Fault, outcome};
 use crate::fetch::fetch_port;
-use crate::folder::has_folder;
+use crate::folder::missing_folder;
 use crate::opening::open_local;
 use crate::progress::TerminalGauge;
+use crate::reasons::tell_path;
 use crate::request::Request;
 use crate::save::{out_file, peer, save};
 use crate::serve::{Service, serve_port};
 use crate::terminals::{Screen, Terminals};
 use dump_pump::{Outlet, WriteOutlet};
-use heap_console::{ColumnOutlet, PromptInlet};
+use heap_console::{ColumnOutlet, LineInlet, NewestLine, NotingOutlet, PromptInlet};
 use heapdbg_options::command_line::{path_option, settings};
 use heapdbg_options::line_words::borrow_words;
 use heapdbg_options::refusal::bad;
@@ -38,7 +39,7 @@ use std::time::Clock;
 use std::{env, io};
 
 /// Reads the command line, and does the task that it asks for between standard input and standard output. At terminals `explore`
-/// prompts, and shows rows in columns.
+/// prompts, and shows rows in columns. `draw` reports lines that are refused.
 pub fn perform<R>(rt: &R, terminals: Terminals) -> Result<(), Failure>
 where
     R: AllocGlobal + Clock + Env + Eprint + Files + Input + Print,
@@ -55,28 +56,30 @@ where
         is_terminal: terminals.error,
         watch: &watch,
     };
-    let explores = is_explore(words.as_slice());
+    let explores = asks_for(words.as_slice(), "explore");
     let shows = explores && terminals.output;
     let reader = ReadInlet::new(rt.reader());
     if explores && terminals.input && terminals.error {
         let mut reader = PromptInlet::new(rt, rt.alloc(), &watch, reader);
         perform_shown(rt, words.as_slice(), &mut reader, screen, shows)
+    } else if asks_for(words.as_slice(), "draw") {
+        perform_reported(rt, words.as_slice(), screen)
     } else {
         let mut reader = reader;
         perform_shown(rt, words.as_slice(), &mut reader, screen, shows)
     }
 }
 
-// Tells whether the words ask for `explore`.
-fn is_explore(words: &[String]) -> bool {
+// Tells whether the words ask for the command of this name.
+fn asks_for(words: &[String], name: &str) -> bool {
     match words.get(1) {
-        Some(word) => word.as_str() == "explore",
+        Some(word) => word.as_str() == name,
         None => false,
     }
 }
 
 // Does the task that the words ask for between a reader and standard output. `shows` tells whether rows are shown in columns.
-fn perform_shown<R, I: Inlet + Send>(
+fn perform_shown<R, I: Inlet>(
     rt: &R,
     words: &[String],
     reader: &mut I,
@@ -100,10 +103,28 @@ where
     }
 }
 
+// Does the task that the words ask for, and reports each line of standard input that is refused or no command.
+fn perform_reported<R>(rt: &R, words: &[String], screen: Screen<'_>) -> Result<(), Failure>
+where
+    R: AllocGlobal + Clock + Eprint + Files + Input + Print,
+    R: Net<Listener = TcpListener, Stream = TcpStream> + Threads + Wait,
+    R: Copy + Send + Sync + Drop + 'static,
+    R::Reader: Send + 'static,
+{
+    let answers = NewestLine::new(rt.alloc());
+    let lines = LineInlet::new(rt, rt.alloc(), &answers, "stdin", rt.reader());
+    let Ok(mut reader) = lines else {
+        return Err(Fault::Memory.into());
+    };
+    let input = ReadInlet::new(rt.reader());
+    let mut writer = NotingOutlet::new(WriteOutlet::new(io::writer(rt)), &answers);
+    perform_words(rt, words, &mut reader, input, &mut writer, screen)
+}
+
 // Does the task that the words ask for: a private session between a reader and a writer, or a client's between `input`, which
 // a thread takes that may outlive this call, and the writer. If they ask for none, or an allocation for reading them fails,
 // nothing is read or written.
-fn perform_words<R, I: Inlet + Send, J: Inlet + Send + Drop + 'static, O: Outlet>(
+fn perform_words<R, I: Inlet, J: Inlet + Send + Drop + 'static, O: Outlet>(
     rt: &R,
     words: &[String],
     reader: &mut I,
@@ -148,7 +169,7 @@ fn path_of_task<'a>(alloc: Global, line: &'a [&'a str], task: Task) -> Option<&'
 }
 
 // Does the task of the settings, which the words ask for.
-fn work<R, I: Inlet + Send, J: Inlet + Send + Drop + 'static, O: Outlet>(
+fn work<R, I: Inlet, J: Inlet + Send + Drop + 'static, O: Outlet>(
     rt: &R,
     request: Request<'_>,
     screen: Screen<'_>,
@@ -164,11 +185,11 @@ where
         (I.seen reader.new) (O.seen writer.old) (O.seen writer.new) result }
 {
     let settings = request.settings;
-    let Screen { is_terminal, watch } = screen;
+    let is_terminal = screen.is_terminal;
     match settings.task {
-        Task::Run => run(rt, request, watch, reader, writer),
-        Task::Explore { from } => explore(rt, request, from, watch, reader, writer),
-        Task::Draw => draw(rt, rt.alloc(), request, reader, writer),
+        Task::Run => run(rt, request, screen, reader, writer),
+        Task::Explore { from } => explore(rt, request, from, screen, reader, writer),
+        Task::Draw => draw(rt, request, screen, reader, writer),
         Task::Save(target) => save_at(rt, request, target, is_terminal, reader, writer),
         Task::Serve {
             port,
@@ -179,7 +200,7 @@ where
             let service = Service::new(port, dumps, sessions, workers);
             serve_port(rt, rt.alloc(), &settings, service, writer, is_terminal)
         }
-        Task::Ask { port } => ask_port(rt, rt.alloc(), port, input, writer),
+        Task::Ask { port } => ask_port(rt, port, input, writer, is_terminal),
         Task::Fetch { port } => fetch_to(rt, port, request.path, writer, is_terminal),
     }
 }
@@ -203,15 +224,18 @@ where
     let mut gauge = TerminalGauge::new(rt, rt.alloc(), settings.ids, is_terminal);
     match target {
         Target::Out => {
-            let to = out_file(rt, file_of(rt, path)?);
+            let to = out_file(rt, file_of(rt, path, is_terminal)?, is_terminal);
             save(rt, &settings, to, reader, writer, &mut gauge)
         }
-        Target::To(port) => save(rt, &settings, peer(rt, port), reader, writer, &mut gauge),
+        Target::To(port) => {
+            let to = peer(rt, port, is_terminal);
+            save(rt, &settings, to, reader, writer, &mut gauge)
+        }
     }
 }
 
 // Fetches the dump that a port gives into the file of the path.
-fn fetch_to<R: Clock + Eprint + Files + Net + Wait, O: Outlet>(
+fn fetch_to<R: AllocGlobal + Clock + Eprint + Files + Net + Wait, O: Outlet>(
     rt: &R,
     port: u16,
     path: Option<&str>,
@@ -220,7 +244,8 @@ fn fetch_to<R: Clock + Eprint + Files + Net + Wait, O: Outlet>(
 ) -> Result<(), Fault>
     ensures { IsDumpFetched (O.seen writer.old) (O.seen writer.new) result }
 {
-    fetch_port(rt, port, file_of(rt, path)?, writer, is_terminal)
+    let path = file_of(rt, path, is_terminal)?;
+    fetch_port(rt, port, path, writer, is_terminal)
 }
 
 // The text for a word that is no UTF-8.
@@ -253,7 +278,7 @@ fn settings_of_words(alloc: Global, words: &[String]) -> Result<Settings, LineFa
 fn run<R: AllocGlobal + Eprint + Files, I: Inlet, O: Outlet>(
     rt: &R,
     request: Request<'_>,
-    watch: &Watch,
+    screen: Screen<'_>,
     reader: &mut I,
     writer: &mut O,
 ) -> Result<(), Fault>
@@ -262,7 +287,7 @@ fn run<R: AllocGlobal + Eprint + Files, I: Inlet, O: Outlet>(
         (I.seen reader.new) (O.seen writer.old) (O.seen writer.new) result }
 {
     if request.settings.questions {
-        explore(rt, request, false, watch, reader, writer)
+        explore(rt, request, false, screen, reader, writer)
     } else {
         session(rt.alloc(), &request.settings, reader, writer)
     }
@@ -285,13 +310,21 @@ fn session<I: Inlet, O: Outlet>(
     }
 }
 
-// Returns the path of the task's file. Fails with Out if its folder is not there, and with Memory if there is no path.
-fn file_of<'a, R: Files>(rt: &R, path: Option<&'a str>) -> Result<&'a str, Fault>
+// Returns the path of the task's file. Fails with Out if its folder is not there, and says why on standard error, if that is a
+// terminal; and with Memory if there is no path.
+fn file_of<'a, R: AllocGlobal + Eprint + Files>(
+    rt: &R,
+    path: Option<&'a str>,
+    is_terminal: bool,
+) -> Result<&'a str, Fault>
     ensures { IfErr result (λ f. (f ≡ Fault.Out) ⊎ (f ≡ Fault.Memory)) }
 {
-    match path {
-        Some(path) if has_folder(rt, path) => Ok(path),
-        Some(_) => Err(Fault::Out),
-        None => Err(Fault::Memory),
+    let Some(path) = path else {
+        return Err(Fault::Memory);
+    };
+    if let Some(error) = missing_folder(rt, path) {
+        tell_path(rt, is_terminal, path, &error);
+        return Err(Fault::Out);
     }
+    Ok(path)
 }

@@ -3,3 +3,4 @@ pub mod AskedSettings
 pub mod GivenOptions
 pub mod MadeParsers
 pub mod NamedTasks
+pub mod AskedTexts

@@ -20,7 +20,7 @@ use Rattle.heapdbg_options.specs.declared.settings.Target.{Target}
 use Rattle.heapdbg_options.specs.declared.settings.Target.TheVariants.{Out, To}
 use Rattle.heapdbg_options.specs.declared.settings.Settings.{Settings}
 use Rattle.heapdbg_options.specs.declared.settings.LineFault.{LineFault}
-use Rattle.heapdbg_options.specs.declared.settings.LineFault.TheVariants.{Bad, Memory}
+use Rattle.heapdbg_options.specs.declared.settings.LineFault.TheVariants.{Bad, CommandText, Memory, OptionText}
 
 -- the texts that a list of words holds
 abbrev pub texts : List (Bor Text) → List Text
@@ -368,4 +368,6 @@ pub record HasDefaults (words : List Text) (s : Settings) : Type 0 where
 -- the fault has this text, or memory ran out
 abbrev pub IsBadWith : Text → LineFault → Type 0
 IsBadWith text (Bad shown) = string_bytes shown ≡ text
+IsBadWith text (OptionText shown) = ⊥
+IsBadWith text (CommandText shown) = ⊥
 IsBadWith text Memory = ⊤

@@ -1,15 +1,17 @@
 -- The texts for command lines that the program refuses.
-use Rattle.std.specs.Prelude.{◌≡◌, ◌⊎◌, ◌++◌, ℕ, List, Option, Some, None, [], ◌∷◌, ⊤, false, true, codes, is_some, string_bytes, IfErr, IfOk, Result}
+use Rattle.std.specs.Prelude.{◌≡◌, ◌≢◌, ◌⊎◌, ◌++◌, ℕ, Bool, List, Option, Some, None, [], ◌∷◌, ⊤, false, true, codes, is_some, string_bytes, IfErr, IfOk, Result}
 use Rattle.std.specs.Option.{option_map_or}
-use Rattle.clap.specs.Words.{Row, Text, fault_of, first_of, subcommand_of}
-use Rattle.clap.specs.declared.error.kind.ErrorKind.TheVariants.{DisplayVersion}
+use Rattle.std.specs.Str.{bytes_eq}
+use Rattle.clap.specs.Words.{IsAmong, Row, Text, fault_of, first_of, subcommand_of}
+use Rattle.clap.specs.declared.error.kind.ErrorKind.{ErrorKind}
+use Rattle.clap.specs.declared.error.kind.ErrorKind.TheVariants.{DisplayHelp, DisplayVersion, OutOfMemory}
 use Rattle.heap_world.specs.RegionLimits.{region_limit}
 use Rattle.heap_world.specs.Limits.{keep_limit, mutator_limit}
 use Rattle.heapdbg_options.specs.CommandLine.{dumps_with, heapdbg_line, id_size_in, is_task, keep_default, number_in, port_in, port_limit, questions_in, rolls_in, sessions_in, settings_of, option_value, time_limit, workers_in}
 use Rattle.heapdbg_options.specs.declared.refusal.Mistake.{Mistake}
 use Rattle.heapdbg_options.specs.declared.refusal.Mistake.TheVariants.{Command, Regions, Mutators, Keep, Time, Ids, Port, Sessions, Workers, Questions, Roll, Dumps, To, Place, Source}
 use Rattle.heapdbg_options.specs.declared.settings.LineFault.{LineFault}
-use Rattle.heapdbg_options.specs.declared.settings.LineFault.TheVariants.{Bad, Memory}
+use Rattle.heapdbg_options.specs.declared.settings.LineFault.TheVariants.{Bad, CommandText, Memory, OptionText}
 use Rattle.heapdbg_options.specs.declared.settings.Task.{Task}
 
 -- a value is given that is no number in this range
@@ -51,7 +53,8 @@ IsMistakeIn Place rows =
     IsTargetMistake Place (first_of (codes "out") rows) (first_of (codes "to") rows)
 
 -- what is read, or why there is none: a mistake
-abbrev pub IsValueOrMistake : {A : Type 0} → Option A → (Mistake → Type 0) → Result A Mistake → Type 0
+abbrev pub IsValueOrMistake : {A : Type 0} → Option A → (Mistake → Type 0) → Result A Mistake
+    → Type 0
 IsValueOrMistake read IsMade result =
     IfOk result (λ x. read ≡ Some x) × IfErr result (λ m. (read ≡ None) × IsMade m)
 
@@ -108,11 +111,64 @@ abbrev pub NamesMistake : List Text → Text → Type 0
 NamesMistake words text =
     (m : Mistake) × IsMistake m (subcommand_of heapdbg_line words) × (text ≡ text_of_mistake m)
 
--- a refusal fits the words: they ask for no settings. If the parser finds no fault in them, the text names a mistake; if it
--- finds that they ask for the version, the text is that
+-- the command is `help`
+abbrev pub is_help : List Text → Bool
+is_help (program ∷ word ∷ rest) = bytes_eq word (codes "help")
+is_help _ = false
+
+-- the command is `version`, and nothing follows
+abbrev pub is_version : List Text → Bool
+is_version (program ∷ word ∷ []) = bytes_eq word (codes "version")
+is_version _ = false
+
+-- a text that an option asks for is this one, or memory ran out
+abbrev pub IsOptionWith : Text → LineFault → Type 0
+IsOptionWith text (OptionText shown) = string_bytes shown ≡ text
+IsOptionWith text Memory = ⊤
+IsOptionWith text _ = ⊥
+
+-- a text that a command asks for is this one, or memory ran out
+abbrev pub IsCommandWith : Text → LineFault → Type 0
+IsCommandWith text (CommandText shown) = string_bytes shown ≡ text
+IsCommandWith text Memory = ⊤
+IsCommandWith text _ = ⊥
+
+-- what is said of words, which are the command `help` or not, that the parser refuses for this reason
+abbrev pub IsSaidOf : ErrorKind → Bool → LineFault → Type 0
+IsSaidOf kind help (Bad text) =
+    (kind ≢ OutOfMemory) × (kind ≢ DisplayHelp) × (kind ≢ DisplayVersion)
+IsSaidOf kind help (OptionText text) =
+    ((kind ≡ DisplayVersion) × (string_bytes text ≡ version_text))
+    ⊎ ((kind ≡ DisplayHelp) × (help ≡ false))
+IsSaidOf kind help (CommandText text) = (kind ≡ DisplayHelp) × (help ≡ true)
+IsSaidOf kind help Memory = ⊤
+
+-- the parser may refuse the words for this reason
+abbrev pub MayFailBy : List Text → ErrorKind → Type 0
+MayFailBy words kind = IsAmong kind (fault_of heapdbg_line words)
+
+-- the words ask by an option for this text: that of the version, or a help
+abbrev pub IsOptionText : List Text → Text → Type 0
+IsOptionText words text =
+    (MayFailBy words DisplayVersion × (text ≡ version_text))
+    ⊎ (MayFailBy words DisplayHelp × (is_help words ≡ false))
+
+-- the words ask by a command for this text: that of the version, or a help
+abbrev pub IsCommandText : List Text → Text → Type 0
+IsCommandText words text =
+    ((is_version words ≡ true) × (text ≡ version_text))
+    ⊎ (MayFailBy words DisplayHelp × (is_help words ≡ true))
+
+-- a refusal fits the words: they ask for no settings. A text that they ask for is that of the version or a help. They are bad
+-- only if they don't ask for one, and if the parser finds no fault in them, the text names a mistake
 abbrev pub IsRefusalOf : List Text → LineFault → Type 0
 IsRefusalOf words (Bad text) =
-    (settings_of words ≡ None)
+    (settings_of words ≡ None) × (is_version words ≡ false)
     × (fault_of heapdbg_line words ≡ [] → NamesMistake words (string_bytes text))
-    × (fault_of heapdbg_line words ≡ DisplayVersion ∷ [] → string_bytes text ≡ version_text)
+    × (fault_of heapdbg_line words ≢ DisplayHelp ∷ [])
+    × (fault_of heapdbg_line words ≢ DisplayVersion ∷ [])
+IsRefusalOf words (OptionText text) =
+    (settings_of words ≡ None) × (is_version words ≡ false) × IsOptionText words (string_bytes text)
+IsRefusalOf words (CommandText text) =
+    (settings_of words ≡ None) × IsCommandText words (string_bytes text)
 IsRefusalOf words Memory = ⊤

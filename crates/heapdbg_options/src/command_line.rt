@@ -6,34 +6,40 @@ ghost use Rattle.std.specs.Char.{is_ascii_digit};
 ghost use Rattle.clap.specs.Words.{FailsBy, app_of, fault_of, found_of, kind_of, rows_of, subcommand_of, subcommand_rows_of};
 ghost use Rattle.clap.specs.declared.builder.Command.TheViews.{out-Command};
 ghost use Rattle.heapdbg_options.specs.Parsers.{IsParserOf};
-ghost use Rattle.heapdbg_options.specs.CommandLine.{AreSettingsWithin, HasDefaults, IsBadWith, heapdbg_line, named_line, number_in};
+ghost use Rattle.heapdbg_options.specs.CommandLine.{AreSettingsWithin, HasDefaults, heapdbg_line, named_line, number_in};
 ghost use Rattle.heapdbg_options.specs.CommandLine.{settings_in, settings_of, settings_under, texts, option_value};
 ghost use Rattle.heapdbg_options.specs.CommandLine.{id_size_in, id_size_of, flag_in, path_of, task_in};
-ghost use Rattle.heapdbg_options.specs.Refusals.{IsMistake, IsMistakeIn, IsRefusalOf, IsValueOrMistake, version_text};
+ghost use Rattle.heapdbg_options.specs.Refusals.{IsMistake, IsMistakeIn, IsRefusalOf, IsSaidOf, IsValueOrMistake, is_help};
 
+use crate::line_words::{is_help, is_version};
 use crate::option_rows::{CommandRow, with_commands};
-use crate::refusal::{Mistake, VERSION, version};
+use crate::refusal::{Mistake, VERSION, version_by_command, version_by_option};
 use crate::save_options::{SAVE, save_task};
 use crate::session_options::{DRAW, EXPLORE, RUN, explore_task};
 use crate::settings::{LineFault, Settings, Task};
 use crate::socket_options::{ASK, FETCH, SERVE, ask_task, fetch_task, serve_task};
+use crate::tip::with_tip;
 use clap::error::ErrorKind;
 use clap::{ArgMatches, Command, Error};
 use heap_class::IdSize;
 use heap_world::{KEEP_LIMIT, MUTATOR_LIMIT, REGION_LIMIT};
 use std::alloc::{AllocError, Global};
 
-/// Returns the settings that the words ask for, the first of which is the program's name. Fails with Bad if they are no
-/// command line of this program or ask for help or for the version, and with Memory only if an allocation fails.
+/// Returns the settings that the words ask for, the first of which is the program's name. Fails with Bad if they are no command
+/// line of this program, with OptionText or CommandText if they ask for help or for the version, and with Memory only if an
+/// allocation fails.
 pub fn settings(alloc: Global, words: &[&str]) -> Result<Settings, LineFault>
     ensures ok { IfOk result (λ s. settings_of (texts words.now) ≡ Some s) }
     ensures refused { IfErr result (IsRefusalOf (texts words.now)) }
     ensures limits { IfOk result AreSettingsWithin }
     ensures defaults { IfOk result (HasDefaults (texts words.now)) }
 {
+    if is_version(words) {
+        return Err(version_by_command(alloc));
+    }
     let matches = match parse(alloc, words) {
         Ok(matches) => matches,
-        Err(error) => return Err(refusal(alloc, &error)),
+        Err(error) => return Err(refusal(alloc, words, &error)),
     };
     match settings_of_matches(&matches) {
         Ok(settings) => Ok(settings),
@@ -230,20 +236,36 @@ fn is_digits(text: &str) -> bool
     text.bytes().all(|byte| byte.is_ascii_digit())
 }
 
-// Returns the refusal for an error of the parser: the version if that is asked for, and else the parser's text, of which no
-// contract speaks.
-fn refusal(alloc: Global, error: &Error) -> LineFault
-    ensures memory { kind_of error.now ≡ ErrorKind.OutOfMemory → result ≡ LineFault.Memory }
-    ensures version { kind_of error.now ≡ ErrorKind.DisplayVersion → IsBadWith version_text result }
+// Returns the refusal of words for an error of the parser: the version or a help that is asked for, and else the parser's text,
+// of which no contract speaks.
+fn refusal(alloc: Global, words: &[&str], error: &Error) -> LineFault
+    ensures { IsSaidOf (kind_of error.now) (is_help (texts words.now)) result }
 {
     if error.kind() == ErrorKind::OutOfMemory {
         return LineFault::Memory;
     }
     if error.kind() == ErrorKind::DisplayVersion {
-        return version(alloc);
+        return version_by_option(alloc);
     }
-    match error.to_string(alloc) {
+    let Ok(text) = error.to_string(alloc) else {
+        return LineFault::Memory;
+    };
+    if error.kind() == ErrorKind::DisplayHelp {
+        return help_text(words, text);
+    }
+    match with_tip(alloc, words, text) {
         Ok(text) => LineFault::Bad(text),
         Err(_) => LineFault::Memory,
+    }
+}
+
+// Returns the refusal of words that ask for a help, by the command `help` or by an option.
+fn help_text(words: &[&str], text: String) -> LineFault
+    ensures { IsSaidOf ErrorKind.DisplayHelp (is_help (texts words.now)) result }
+{
+    if is_help(words) {
+        LineFault::CommandText(text)
+    } else {
+        LineFault::OptionText(text)
     }
 }

@@ -9,5 +9,6 @@ mod save_options;
 mod session_options;
 pub mod settings;
 mod socket_options;
+mod tip;
 
 pub use heap_class::IdSize;

@@ -1,7 +1,7 @@
 //! The texts for command lines that the program refuses.
 ghost use Rattle.std.specs.Prelude.{◌≡◌, ◌++◌, IfOk, codes, string_bytes};
 ghost use Rattle.heapdbg_options.specs.CommandLine.{IsBadWith};
-ghost use Rattle.heapdbg_options.specs.Refusals.{mistake_of, text_of_mistake, version_text};
+ghost use Rattle.heapdbg_options.specs.Refusals.{IsCommandWith, IsOptionWith, mistake_of, text_of_mistake, version_text};
 
 use crate::settings::LineFault;
 use std::alloc::{AllocError, Global};
@@ -93,14 +93,31 @@ fn refusal_text(alloc: Global, mistake: &str) -> Result<String, AllocError>
     format!(in alloc; "error: {mistake}\n\nFor more information, try 'heapdbg --help'.\n")
 }
 
-// Returns the answer to `--version`: the program's version and the logic's hash; or Memory if it can't be allocated.
-pub(crate) fn version(alloc: Global) -> LineFault
-    ensures { IsBadWith version_text result }
+// Returns the text of the version: the program's and the logic's hash. Fails if an allocation fails.
+fn version_text(alloc: Global) -> Result<String, AllocError>
+    ensures { IfOk result (λ s. string_bytes s ≡ version_text) }
 {
     let version = VERSION;
     let logic = LOGIC;
-    match format!(in alloc; "heapdbg {version} (logic {logic})\n") {
-        Ok(text) => LineFault::Bad(text),
+    format!(in alloc; "heapdbg {version} (logic {logic})\n")
+}
+
+// Returns the answer to `--version`, or Memory if it can't be allocated.
+pub(crate) fn version_by_option(alloc: Global) -> LineFault
+    ensures { IsOptionWith version_text result }
+{
+    match version_text(alloc) {
+        Ok(text) => LineFault::OptionText(text),
+        Err(_) => LineFault::Memory,
+    }
+}
+
+// Returns the answer to `version`, or Memory if it can't be allocated.
+pub(crate) fn version_by_command(alloc: Global) -> LineFault
+    ensures { IsCommandWith version_text result }
+{
+    match version_text(alloc) {
+        Ok(text) => LineFault::CommandText(text),
         Err(_) => LineFault::Memory,
     }
 }

@@ -77,9 +77,15 @@ pub struct Settings {
 /// The reason why a command line gives no settings.
 #[derive(Debug, Drop, Error)]
 pub enum LineFault {
-    /// The words are no command line of this program, or ask for help. It holds a text for the user.
+    /// The words are no command line of this program. It holds a text for the user.
     #[error("{0}")]
     Bad(String),
+    /// The words ask for help or for the version by an option. It holds the text.
+    #[error("{0}")]
+    OptionText(String),
+    /// The words ask for help or for the version by a command. It holds the text.
+    #[error("{0}")]
+    CommandText(String),
     /// Memory ran out while the words were read.
     #[error("out of memory")]
     Memory,

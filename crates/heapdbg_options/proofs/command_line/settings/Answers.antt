@@ -3,6 +3,7 @@ use Rattle.std.specs.Prelude.{option_and_then}
 use Rattle.clap.specs.Words.{subcommand_of}
 use Rattle.heapdbg_options.specs.CommandLine.{heapdbg_line, settings_under, texts}
 use Rattle.heapdbg_options.proofs.AskedSettings.{defaults_of, limits_of}
+use Rattle.heapdbg_options.proofs.AskedTexts.{version_refuses}
 use Rattle.heapdbg_options.proofs.command_line.settings.Goals as goal
 
 pub returns-in-Ok-settings_of_matches-clause-limits : goal.returns-in-Ok-settings_of_matches-clause-limits
@@ -14,3 +15,7 @@ pub returns-in-Ok-settings_of_matches-clause-defaults : goal.returns-in-Ok-setti
 returns-in-Ok-settings_of_matches-clause-defaults c =
     defaults_of (texts c.args.words.now) c.in-Ok-settings_of_matches.settings
     (ap (option_and_then settings_under) (sym c.in-Ok.ensures.ok) ∙ c.in-Ok-settings_of_matches.ensures.0)
+
+pub returns-then-is_version-clause-refused : goal.returns-then-is_version-clause-refused
+returns-then-is_version-clause-refused c =
+    version_refuses (texts c.args.words.now) c.version_by_command.result (sym c.is_version.ensures ∙ c.if-is_version.true) c.version_by_command.ensures

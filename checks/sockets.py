@@ -9,6 +9,7 @@ import contextlib
 import os
 import pathlib
 import select
+import shutil
 import socket
 import struct
 import subprocess
@@ -462,6 +463,39 @@ def http_requests(program):
         yield f"first line {given[-40:]!r}", found, ([answers or b""] * 3, (0, [word] * 3, b""))
 
 
+# The page sends lines to a port, and then shows that it did.
+PAGE = """<!doctype html><title>A page</title><script>
+fetch("http://127.0.0.1:%d/", {method: "POST", mode: "no-cors", body: "rewind 2\\nend\\n"})
+  .catch(() => {}).then(() => document.body.append("sent"))
+</script><body></body>"""
+
+
+def opened_in(browser, port):
+    """Has a browser open a page that sends lines to a port, and returns whether it sent them."""
+    with tempfile.TemporaryDirectory() as folder:
+        page = pathlib.Path(folder, "page.html")
+        page.write_text(PAGE % port)
+        words = [browser, "--headless=new", "--no-sandbox", "--disable-gpu", f"--user-data-dir={folder}/profile"]
+        words += ["--timeout=10000", "--virtual-time-budget=5000", "--dump-dom", page.as_uri()]
+        ran = subprocess.run(words, capture_output=True, text=True, timeout=6 * LIMIT)
+        return ">sent<" in ran.stdout.replace("\n", "")
+
+
+def web_pages(program):
+    """Yields where a heap is after a page in a browser has sent it lines, if Chromium is there: where it was."""
+    browser = shutil.which("chromium") or shutil.which("chromium-browser")
+    if browser is None:
+        return
+    with Server(program, 2) as server, server.client() as client, client.makefile("rb") as come:
+        made = replies_to(client, come, [b"class Point - x:int", b"new 0 0 0"])
+        sent = opened_in(browser, server.port)
+        place = replies_to(client, come, [b"rewind 0"])
+        client.sendall(b"end\n")
+        found = made, sent, place, server.ended()
+    wanted = [b"ok class 0\n", b"ok object 0x10000000\n"], True, [b"ok place 2\n"], (0, ["quit", "http"], b"")
+    yield "a page that sends lines", found, wanted
+
+
 def old_acts(program):
     """Yields what a client has of more acts than a heap keeps, of a heap that drops old ones and of one that doesn't."""
     lines = b"clear 0 0\n" * 1_000_001 + b"rewind 2\nend\n"
@@ -641,7 +675,7 @@ def cut_dumps(program):
 
 HOSTILE = closing_clients, resetting_clients, silent_reader, endless_line, many_sessions, taken_port, closing_servers
 OTHERS = other_addresses, answers_one_by_one, lines_in_parts, open_input, full_output, one_client_more, workers, lists_beside_cycles, old_acts
-ADDED = undone_cycles, entries_of_collect, http_requests
+ADDED = undone_cycles, entries_of_collect, http_requests, web_pages
 DUMPS = served_dumps, unread_dump, resetting_dumps, cut_dumps
 CASES = (*HOSTILE, *OTHERS, *ADDED, *DUMPS)
 

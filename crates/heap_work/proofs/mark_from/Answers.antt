@@ -22,8 +22,7 @@ loop-turn-preserved g c =
     let goes = marking_goes c.args.first c.args.seat.now c.loop-turn.seat c.act.new.seat c.loop-turn.stage c.loop-turn.turn r c.loop-turn.invariant.0
     c.in-Ok.ensures.receipt.0
     (c.in-Ok.ensures.receipt.1 ∙ ap (λ (e : Event). with_entry r.turn (Step e) r.answer c.loop-turn.seat) c.event_of_stage.ensures)
-    (sym c.end_of_receipt.ensures ∙ c.in_default.is) in
-    (
+    (sym c.end_of_receipt.ensures ∙ c.in_default.is) in (
       subst (λ (stage : Stage). IsMarking c.args.first c.args.seat.now c.act.new.seat stage (c.loop-turn.turn + 1)) (sym c.next-stage.ensures) goes,
       lets_more g.G.Gate.says c.loop-turn.turn c.args.gate.now c.loop-turn.gate c.pass.new.self c.loop-turn.invariant.1 c.if-not-pass.ensures,
     )

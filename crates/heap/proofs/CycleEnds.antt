@@ -58,7 +58,7 @@ finish_of : (m : Machine) (e : Event) (n : ℕ) → (acted m (Step e)).1 ≡ Rep
 unfolding acted after_result after_step_at applied applied_unless answer_of
 finish_of m e n is = at (nat_le last_place m.trail.place) is
   where
-    of : (o : Option Refusal) → (after_result m (applied_unless o e m.trail.current)).1 ≡ Reply.Answered (Answer.Condemned n) → e ≡ Event.Finish
+    of : (o : Option Refusal) → (after_result e m (applied_unless o e m.trail.current)).1 ≡ Reply.Answered (Answer.Condemned n) → e ≡ Event.Finish
     of None h = finishes e m.trail.current (state_after e m.trail.current) n (cc h)
     of (Some r) h = absurd (cc h)
 

@@ -64,7 +64,7 @@ plain_enters : (r : Reply) → IsPlainReply r → MayEnter r
 unfolding is_rare
 plain_enters r p = (λ e. true_false (subst IsPlainReply e p), λ e. true_false (subst IsPlainReply e p))
 
-applied_plain : (o : Option Refusal) (e : Event) (m : Machine) → IsPlain o → IsPlainReply (after_result m (applied_unless o e m.trail.current)).1
+applied_plain : (o : Option Refusal) (e : Event) (m : Machine) → IsPlain o → IsPlainReply (after_result e m (applied_unless o e m.trail.current)).1
 unfolding applied_unless after_result
 applied_plain None e m p = tt
 applied_plain (Some r) e m p = p

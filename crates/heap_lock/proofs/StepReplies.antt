@@ -15,7 +15,7 @@ pub no_place : (m : Machine) (e : Event) (p : ℕ) → (acted m (Step e)).1 ≡ 
 unfolding acted after_result after_step_at
 no_place m e p is = at (nat_le last_place m.trail.place) is
   where
-    of : (x : Result (HeapState × Answer) Refusal) → (after_result m x).1 ≡ Place p → ⊥
+    of : (x : Result (HeapState × Answer) Refusal) → (after_result e m x).1 ≡ Place p → ⊥
     of (Ok v) h = cc h
     of (Err x) h = cc h
 

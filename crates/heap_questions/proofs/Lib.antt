@@ -14,6 +14,7 @@ pub mod PathOrder
 pub mod ToldObjects
 pub mod Writes
 pub mod Walk
+pub mod NewestSteps
 pub mod Sizes
 pub mod ImagePaths
 pub mod UnreachedObjects

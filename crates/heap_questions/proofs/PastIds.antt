@@ -5,6 +5,7 @@ use Rattle.std.specs.Option.{option_map_or}
 use Rattle.std.proofs.lemmas.Bool.{cases_eq, false≢true}
 use Rattle.std.proofs.lemmas.Option.{none-some, same_Some}
 use Rattle.heap_class.specs.declared.ObjRef.{ObjRef}
+use Rattle.hprof_text.proofs.Loops.{some_item}
 use Rattle.heap_region.specs.Regions.{Object, Region, UsedRegion, id_of, object_at, used_at}
 use Rattle.heap_region.specs.RegionCopies.{region_frozen}
 use Rattle.heap_region.proofs.ChangedLookups.{object_at_ref}
@@ -14,17 +15,16 @@ use Rattle.heap_world.specs.State.{HeapState}
 use Rattle.heap_step.specs.declared.Event.{Event}
 use Rattle.heap_step.specs.declared.Undo.{Undo}
 use Rattle.heap_step.specs.declared.Undo.TheVariants.{Reclaim}
-use Rattle.heap_step.specs.Apply.{refusal_of, state_after}
 use Rattle.heap_step.specs.Laws.{IsStep}
-use Rattle.heap_step.specs.Records.{undo_record}
 use Rattle.heap_pins.specs.KeptCopies.{patched, touched}
 use Rattle.heap_pins.specs.Covers.{Covers}
 use Rattle.heap_pins.specs.Walk.{TellsBefore}
 use Rattle.heap_pins.proofs.CoveringCopies.{covers_same}
 use Rattle.heap_pins.proofs.RecordCases.{by_patch}
-use Rattle.heap_trail.specs.Laws.{AreSteps, IsTrail}
+use Rattle.heap_trail.specs.Laws.{IsTrail}
 use Rattle.heap_trail.specs.Trail.{Trail, retained, state_ago}
-use Rattle.heap_trail.proofs.RetainedStates.{steps_legal}
+use Rattle.heap_trail.proofs.RetainedRecords.{HasRecord, has_record}
+use Rattle.heap_trail.proofs.RetainedStates.{as_many, steps_legal}
 use Rattle.heap_questions.specs.Losses.{StoodFor, UnreachedFor, id_now}
 use Rattle.heap_questions.proofs.ImagePaths.{id_back}
 use Rattle.heap_questions.proofs.Sizes.{covered_size, patched_size, used_of}
@@ -87,33 +87,22 @@ stands_object w at legal h =
 -- ---- the retained states
 
 -- the step that led to the state of n steps ago
-record CameBy (w v : HeapState) : Type 0 where
-  legal : IsLegal v
-  event : Event
-  accepted : refusal_of event v ≡ None
-  gave : state_after event v ≡ w
-
-came_by : (w : HeapState) (vs : List HeapState) (n : ℕ) (d : HeapState) → AreSteps w vs → n < length vs → CameBy (slice_index_or (w ∷ vs) n d) (slice_index_or (w ∷ vs) (suc n) d)
-came_by w [] n d s l = absurd (omega (arith, l))
-came_by w (v ∷ vs) zero d s l = record { legal = steps_legal v vs s.1; event = s.0.0; accepted = s.0.1; gave = s.0.2 }
-came_by w (v ∷ vs) (suc n) d s l = came_by v vs n d s.1 (omega (arith, l))
-
-came_ago : (keep : ℕ) (t : Trail) (n : ℕ) → IsTrail keep t → n < retained t → CameBy (state_ago n t) (state_ago (n + 1) t)
-unfolding state_ago
-came_ago keep t n trail l = subst (λ k. CameBy (slice_index_or (t.current ∷ t.past) n t.current) (slice_index_or (t.current ∷ t.past) k t.current)) (sym (add-one n)) (came_by t.current t.past n t.current trail.steps l)
+came_ago : (keep : ℕ) (t : Trail) (n : ℕ) → IsTrail keep t → n < retained t → (left : Undo) × HasRecord t n left
+came_ago keep t n trail l =
+    let left = some_item t.records n (omega (arith, l, as_many t.current t.past t.records trail.steps)) in
+    (left.0, has_record keep t n left.0 trail left.1)
 
 pub legal_ago : (keep : ℕ) (t : Trail) (n : ℕ) → IsTrail keep t → n ≤ retained t → IsLegal (state_ago n t)
-legal_ago keep t zero trail l = subst IsLegal (sym (now_is t)) (steps_legal t.current t.past trail.steps)
-legal_ago keep t (suc n) trail l = subst (λ k. IsLegal (state_ago k t)) (add-one n) (came_ago keep t n trail (omega (arith, l))).legal
+legal_ago keep t zero trail l = subst IsLegal (sym (now_is t)) (steps_legal t.current t.past t.records trail.steps)
+legal_ago keep t (suc n) trail l = subst (λ k. IsLegal (state_ago k t)) (add-one n) (came_ago keep t n trail (omega (arith, l))).1.1.legal
 
 -- the object had the id that it has now
 id_ago : (keep : ℕ) (t : Trail) (at : ObjRef) (n : ℕ) → IsTrail keep t → n ≤ retained t → StoodFor t at (n + 1) → id_of (state_ago n t).regions at ≡ id_now t at
 id_ago keep t at zero trail l s = ap (λ (w : HeapState). id_of w.regions at) (now_is t)
 id_ago keep t at (suc n) trail l s =
     let c = came_ago keep t n trail (omega (arith, l)) in
-    let step : IsStep c.event (state_ago (n + 1) t) (state_ago n t) (undo_record c.event (state_ago (n + 1) t)) = record { legal = c.legal; accepted = c.accepted; gave = sym c.gave; recorded = refl } in
     ap (λ k. id_of (state_ago k t).regions at) (sym (add-one n))
-    ∙ id_stays c.event (state_ago (n + 1) t) (state_ago n t) (undo_record c.event (state_ago (n + 1) t)) at step (s (n + 1) (omega arith)) (s n (omega arith))
+    ∙ id_stays c.1.0 (state_ago (n + 1) t) (state_ago n t) c.0 at c.1.1 (s (n + 1) (omega arith)) (s n (omega arith))
     ∙ id_ago keep t at n trail (omega (arith, l)) (λ m k. s m (omega (arith, k)))
 
 -- an object that was unreached n steps ago has been since
@@ -125,8 +114,8 @@ unreached_since keep t at (suc n) trail l s u m k = elim (cases_eq m (suc n)) [
       let c = came_ago keep t n trail (omega (arith, l)) in
       let w = state_ago (n + 1) t in
       let id : id_of w.regions at ≡ id_now t at = id_ago keep t at (n + 1) trail (omega (arith, l)) (λ j z. s j (omega (arith, z))) in
-      let there : IsObject w (id_now t at) = subst (IsObject w) id (stands_object w at c.legal (s (n + 1) (omega arith))) in
+      let there : IsObject w (id_now t at) = subst (IsObject w) id (stands_object w at c.1.1.legal (s (n + 1) (omega arith))) in
       let before : ¬ Reaches w (id_now t at) = subst (λ j. ¬ Reaches (state_ago j t) (id_now t at)) (sym (add-one n)) u in
-      let after : ¬ Reaches (state_ago n t) (id_now t at) = subst (λ (v : HeapState). ¬ Reaches v (id_now t at)) c.gave (stays_unreached c.event w c.legal c.accepted (id_now t at) there before) in
+      let after : ¬ Reaches (state_ago n t) (id_now t at) = subst (λ (v : HeapState). ¬ Reaches v (id_now t at)) (sym c.1.1.gave) (stays_unreached c.1.0 w c.1.1.legal c.1.1.accepted (id_now t at) there before) in
       unreached_since keep t at n trail (omega (arith, l)) (λ j z. s j (omega (arith, z))) after m (omega (arith, k, d))
 ]

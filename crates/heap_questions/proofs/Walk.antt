@@ -10,7 +10,7 @@ use Rattle.heap_region.specs.Regions.{Object, object_at}
 use Rattle.heap_world.specs.State.{HeapState, pool_of}
 use Rattle.heap_step.specs.declared.Undo.{Undo}
 use Rattle.heap_trail.specs.Trail.{Trail, retained, state_ago}
-use Rattle.heap_trail.specs.Views.{HasRecord}
+use Rattle.heap_trail.proofs.RetainedRecords.{HasRecord}
 use Rattle.heap_questions.specs.Changes.{AllLeave, IsBirth, IsLastWrite, Leaves, changed_by, made_by, slot_word}
 use Rattle.heap_questions.proofs.Writes.{record_makes, record_tells}
 

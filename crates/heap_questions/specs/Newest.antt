@@ -1,13 +1,13 @@
 -- The newest retained steps, and the objects that they wrote or created.
-use Rattle.std.specs.Prelude.{◌≡◌, ℕ, ◌+◌, ◌-◌, ◌*◌, ◌/◌, ◌≤◌, min, List, length, Option, Some, None, option_map, slice_get, slice_set, slice_index_or, unwrap_or, All}
+use Rattle.std.specs.Prelude.{◌≡◌, ℕ, ◌+◌, ◌-◌, ◌*◌, ◌/◌, ◌≤◌, List, length, map, zip, Option, Some, None, option_map, slice_set, slice_index_or, unwrap_or, All}
+use Rattle.std.specs.List.{range_with_len}
 use Rattle.heap_class.specs.declared.ObjRef.{ObjRef}
 use Rattle.heap_region.specs.Limits.{region_words}
 use Rattle.heap_region.specs.Regions.{Region, UsedRegion, id_of, object_base, used_at}
 use Rattle.heap_world.specs.State.{HeapState}
 use Rattle.heap_step.specs.declared.Undo.{Undo}
 use Rattle.heap_step.specs.declared.Undo.TheVariants.{Put, Store, Reg, New, Class, Snap, Mark, Drain, Finish, Sweep, Reclaim}
-use Rattle.heap_trail.specs.Trail.{Trail, retained, state_ago}
-use Rattle.heap_trail.specs.Views.{HasRecord}
+use Rattle.heap_trail.specs.Trail.{Trail, state_ago}
 use Rattle.heap_questions.specs.declared.past.events.PastEvent.{PastEvent}
 use Rattle.heap_questions.specs.declared.past.events.PastEvent.TheVariants.{Register}
 use Rattle.heap_questions.specs.declared.past.steps.PastStep.{PastStep}
@@ -37,17 +37,18 @@ event_with (Reclaim region storage) x = PastEvent.Reclaim region
 abbrev pub id_written : List Region → Undo → ℕ
 id_written regions left = unwrap_or (option_map (id_of regions) (written_at left)) 0
 
--- the step to the state of n steps ago: the place that it led to, and what it did
-pub record IsPastStep (t : Trail) (n : ℕ) (s : PastStep) : Type 0 where
-  pub place : s.place ≡ t.place - n
-  pub left : Undo
-  pub recorded : HasRecord t n left
-  pub event : s.event ≡ event_with left (id_written (state_ago n t).regions left)
+-- the step to the state of n steps ago, which left this record: the place that it led to, and what it did
+abbrev pub past_step : Trail → ℕ → Undo → PastStep
+past_step t n left =
+    record {
+      place = t.place - n;
+      event = event_with left (id_written (state_ago n t).regions left);
+    }
 
 -- the newest `count` retained steps, or all if fewer are retained, the newest first
-pub record AreNewest (t : Trail) (count : ℕ) (steps : List PastStep) : Type 0 where
-  pub many : length steps ≡ min count (retained t)
-  pub each : (n : ℕ) (s : PastStep) → slice_get steps n ≡ Some s → IsPastStep t n s
+unfoldable pub newest_steps : Trail → ℕ → List PastStep
+newest_steps t count =
+    map (λ p. past_step t p.0 p.1) (zip (range_with_len 0 count) t.records)
 
 -- ---- cell sizes
 

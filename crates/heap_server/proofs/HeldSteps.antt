@@ -32,7 +32,7 @@ step_refused : (m n : Machine) (e : Event) (r : Refusal) → acted m (Step e) �
 unfolding acted after_result after_step_at
 step_refused m n e r is = at (nat_le last_place m.trail.place) is
   where
-    of : (x : Result (HeapState × Answer) Refusal) → after_result m x ≡ (n, Refused r) → n ≡ m
+    of : (x : Result (HeapState × Answer) Refusal) → after_result e m x ≡ (n, Refused r) → n ≡ m
     of (Ok v) h = let clash : Answered v.1 ≡ Refused r = ap (λ (x : Machine × Reply). x.1) h in absurd (cc clash)
     of (Err x) h = sym (ap (λ (x : Machine × Reply). x.0) h)
 

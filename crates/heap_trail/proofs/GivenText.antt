@@ -153,15 +153,15 @@ pub record Goes (m n : Machine) : Type 0 where
 goes_alike : (m n : Machine) → n.ids ≡ m.ids → n.pins ≡ m.pins → Goes m n
 goes_alike m n i p = record { ids = i; next = subst (λ (q : Pins). m.pins.next ≤ q.next) (sym p) (omega arith) }
 
-result_ids : (m : Machine) (r : Result (HeapState × Answer) Refusal) → (after_result m r).0.ids ≡ m.ids
+result_ids : (e : Event) (m : Machine) (r : Result (HeapState × Answer) Refusal) → (after_result e m r).0.ids ≡ m.ids
 unfolding after_result
-result_ids m (Ok r) = refl
-result_ids m (Err r) = refl
+result_ids e m (Ok r) = refl
+result_ids e m (Err r) = refl
 
 step_ids : (m : Machine) (e : Event) (b : Bool) → (after_step_at b e m).0.ids ≡ m.ids
 unfolding after_step_at
 step_ids m e true = refl
-step_ids m e false = result_ids m (applied e m.trail.current)
+step_ids m e false = result_ids e m (applied e m.trail.current)
 
 rewind_goes : (m : Machine) (n : ℕ) (r : Option Refusal) → Goes m (unless r (after_rewind_by n) m).0
 unfolding unless after_rewind_by after_rewind each_kept

@@ -146,15 +146,15 @@ closed_same pin n ps = go (same_or_not n pin)
 Same : ℕ → Machine → Machine → Type 0
 Same pin m n = SameImage (pin_at pin m.pins) (pin_at pin n.pins)
 
-result_same : (m : Machine) (r : Result (HeapState × Answer) Refusal) → (after_result m r).0.pins ≡ m.pins
+result_same : (e : Event) (m : Machine) (r : Result (HeapState × Answer) Refusal) → (after_result e m r).0.pins ≡ m.pins
 unfolding after_result
-result_same m (Ok r) = refl
-result_same m (Err r) = refl
+result_same e m (Ok r) = refl
+result_same e m (Err r) = refl
 
 pub step_same : (m : Machine) (e : Event) (b : Bool) → (after_step_at b e m).0.pins ≡ m.pins
 unfolding after_step_at
 step_same m e true = refl
-step_same m e false = result_same m (applied e m.trail.current)
+step_same m e false = result_same e m (applied e m.trail.current)
 
 rewound_same : (m : Machine) (n pin : ℕ) (r : Option Refusal) → SameImage (pin_at pin m.pins) (pin_at pin (unless r (after_rewind_by n) m).0.pins)
 unfolding unless after_rewind_by

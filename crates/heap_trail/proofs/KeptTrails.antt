@@ -6,7 +6,9 @@ use Rattle.heap_class.specs.declared.Refusal.TheVariants.{TooFar}
 use Rattle.heap_class.proofs.Refusals.{none_holds}
 use Rattle.heap_world.specs.State.{HeapState}
 use Rattle.heap_step.specs.declared.Event.{Event}
+use Rattle.heap_step.specs.declared.Undo.{Undo}
 use Rattle.heap_step.specs.Apply.{refusal_of, state_after, applied, applied_unless}
+use Rattle.heap_step.specs.Records.{undo_record}
 use Rattle.heap_trail.specs.declared.Action.{Action}
 use Rattle.heap_trail.specs.declared.Action.TheVariants.{Step, Rewind, OpenPin, NextPiece, ClosePin}
 use Rattle.heap_trail.specs.Limits.{last_place}
@@ -16,22 +18,27 @@ use Rattle.heap_trail.specs.Machine.{Machine, Allocation, Granted, Denied, Loses
 use Rattle.heap_trail.specs.Laws.{AreSteps, IsTrail}
 use Rattle.heap_trail.proofs.RetainedStates.{steps_legal}
 
-first_steps : (k : ℕ) (v : HeapState) (vs : List HeapState) → AreSteps v vs → AreSteps v (take k vs)
-first_steps zero v [] s = s
-first_steps zero v (w ∷ ws) s = steps_legal v (w ∷ ws) s
-first_steps (suc k) v [] s = s
-first_steps (suc k) v (w ∷ ws) s = (s.0, first_steps k w ws s.1)
+first_steps : (k : ℕ) (v : HeapState) (vs : List HeapState) (rs : List Undo) → AreSteps v vs rs → AreSteps v (take k vs) (take k rs)
+first_steps zero v [] [] s = s
+first_steps zero v (w ∷ ws) (r ∷ rs) s = steps_legal v (w ∷ ws) (r ∷ rs) s
+first_steps (suc k) v [] [] s = s
+first_steps (suc k) v (w ∷ ws) (r ∷ rs) s = (s.0, first_steps k w ws rs s.1)
+first_steps k v [] (r ∷ rs) s = absurd s
+first_steps k v (w ∷ ws) [] s = absurd s
 
-older_steps : (n : ℕ) (v d : HeapState) (vs : List HeapState) → n ≤ length vs → AreSteps v vs → AreSteps (slice_index_or (v ∷ vs) n d) (drop n vs)
-older_steps zero v d [] few s = s
-older_steps zero v d (w ∷ ws) few s = s
-older_steps (suc n) v d [] few s = absurd (omega (arith, few))
-older_steps (suc n) v d (w ∷ ws) few s = older_steps n w d ws (omega (arith, few)) s.1
+older_steps : (n : ℕ) (v d : HeapState) (vs : List HeapState) (rs : List Undo) → n ≤ length vs → AreSteps v vs rs → AreSteps (slice_index_or (v ∷ vs) n d) (drop n vs) (drop n rs)
+older_steps zero v d [] [] few s = s
+older_steps zero v d (w ∷ ws) (r ∷ rs) few s = s
+older_steps (suc n) v d [] [] few s = absurd (omega (arith, few))
+older_steps (suc n) v d (w ∷ ws) (r ∷ rs) few s = older_steps n w d ws rs (omega (arith, few)) s.1
+older_steps n v d [] (r ∷ rs) few s = absurd s
+older_steps n v d (w ∷ ws) [] few s = absurd s
 
-stepped_trail : (keep : ℕ) (e : Event) (t : Trail) → refusal_of e t.current ≡ None → IsTrail keep t → IsTrail keep (stepped keep (state_after e t.current) t)
+stepped_trail : (keep : ℕ) (e : Event) (t : Trail) → refusal_of e t.current ≡ None → IsTrail keep t → IsTrail keep (stepped keep (undo_record e t.current) (state_after e t.current) t)
 unfolding stepped
 stepped_trail keep e t accepted s = record {
-  steps = first_steps keep (state_after e t.current) (t.current ∷ t.past) ((e, accepted, refl), s.steps);
+  steps = first_steps keep (state_after e t.current) (t.current ∷ t.past) (undo_record e t.current ∷ t.records)
+      ((e, record { legal = steps_legal t.current t.past t.records s.steps; accepted = accepted; gave = refl; recorded = refl }), s.steps);
   few = omega (arith, length-take keep (t.current ∷ t.past));
   placed = omega (arith, length-take keep (t.current ∷ t.past), s.placed);
 }
@@ -39,7 +46,7 @@ stepped_trail keep e t accepted s = record {
 rewound_trail : (keep n : ℕ) (t : Trail) → n ≤ retained t → IsTrail keep t → IsTrail keep (rewound n t)
 unfolding rewound state_ago
 rewound_trail keep n t few s = record {
-  steps = older_steps n t.current t.current t.past few s.steps;
+  steps = older_steps n t.current t.current t.past t.records few s.steps;
   few = omega (arith, length-drop n t.past, s.few);
   placed = omega (arith, length-drop n t.past, s.placed);
 }
@@ -51,7 +58,7 @@ step_trail : (m : Machine) (e : Event) → HasTrail m → HasTrail (acted m (Ste
 unfolding acted after_step_at after_result applied applied_unless
 step_trail m e s = go (nat_le last_place m.trail.place)
   where
-    one : (r : Option Refusal) → refusal_of e m.trail.current ≡ r → HasTrail (after_result m (applied_unless r e m.trail.current)).0
+    one : (r : Option Refusal) → refusal_of e m.trail.current ≡ r → HasTrail (after_result e m (applied_unless r e m.trail.current)).0
     one (Some r) is = s
     one None is = stepped_trail m.keep e m.trail is s
 

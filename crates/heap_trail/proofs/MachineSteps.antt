@@ -73,9 +73,12 @@ pub step_done : (ids : IdSize) (e : Event) (w v : HeapState) (left : Undo) (ring
 unfolding acted after_step_at after_result stepped
 step_done ids e w v left ring place keep ps answer k a h done =
     ap (λ b. after_step_at b e (machine_with ids w ring place keep ps)) (not_last place h)
-    ∙ ap (after_result (machine_with ids w ring place keep ps)) done
-    ∙ ap (λ vs. (let m : Machine = record (machine_with ids w ring place keep ps) { trail = record { place = place + 1; current = v; past = vs } } in m, Answered answer)) past
+    ∙ ap (after_result e (machine_with ids w ring place keep ps)) done
+    ∙ λ i. (let m : Machine = record (machine_with ids w ring place keep ps) { trail = record { place = place + 1; current = v; past = past i; records = records i } } in m, Answered answer)
   where
+    records : take keep (undo_record e w ∷ ring.items) ≡ take ring.capacity (left ∷ ring.items)
+    records = λ i. take (sym k.room i) (sym a.recorded i ∷ ring.items)
+
     past : take keep (w ∷ past_of w ring.items) ≡ past_of v (take ring.capacity (left ∷ ring.items))
     past = ap (λ n. take n (w ∷ past_of w ring.items)) (sym k.room)
         ∙ ap (λ u. take ring.capacity (u ∷ past_of u ring.items)) (sym (leads_back e w v left k.legal a))
@@ -86,7 +89,7 @@ pub step_refused : (ids : IdSize) (e : Event) (w : HeapState) (ring : Buffer Und
 unfolding acted after_step_at after_result
 step_refused ids e w ring place keep ps r h refused =
     ap (λ b. after_step_at b e (machine_with ids w ring place keep ps)) (not_last place h)
-    ∙ ap (after_result (machine_with ids w ring place keep ps)) refused
+    ∙ ap (after_result e (machine_with ids w ring place keep ps)) refused
 
 -- at the last place
 pub step_full : (ids : IdSize) (e : Event) (w : HeapState) (ring : Buffer Undo) (place keep : ℕ) (ps : Pins) → last_place ≤ place
@@ -101,7 +104,7 @@ unfolding acted after_step_at after_result applied applied_unless may_grow is_ac
 step_starved ids e w ring place keep ps h none grows = (
   grows,
   ap (λ b. is_accepted (after_step_at b e (machine_with ids w ring place keep ps)).1) (not_last place h)
-      ∙ ap (λ r. is_accepted (after_result (machine_with ids w ring place keep ps) (applied_unless r e w)).1) none,
+      ∙ ap (λ r. is_accepted (after_result e (machine_with ids w ring place keep ps) (applied_unless r e w)).1) none,
 )
 
 -- a step that is refused by its event

@@ -11,7 +11,6 @@ use Rattle.heap_step.specs.Apply.{refusal_of, state_after}
 use Rattle.heap_step.proofs.EventLaws.{sweep_spares, finish_spares}
 use Rattle.heap_trail.specs.Laws.{SparesReached, ReachesLive, FindsSnapshot}
 use Rattle.heap_trail.specs.Records.{past_of, IsRetaining}
-use Rattle.heap_trail.proofs.RecordedPast.{steps_told}
 use Rattle.heap_trail.proofs.SnapshotFindings.{finds_snapshot}
 
 -- w accepts the event, which leads to v
@@ -31,4 +30,4 @@ finish_lives w v e legal h is =
 pub finish_finds : (w v : HeapState) (e : Event) (ring : Buffer Undo) (place keep : ℕ) → IsRetaining w ring place keep → LeadsTo e w v → e ≡ Finish → FindsSnapshot (past_of w ring.items) v
 finish_finds w v e ring place keep k h is =
     let s = subst (λ f. LeadsTo f w v) is h in
-    subst (FindsSnapshot (past_of w ring.items)) (sym s.1) (finds_snapshot w (past_of w ring.items) (steps_told w ring.items k.legal k.recorded) s.0)
+    subst (FindsSnapshot (past_of w ring.items)) (sym s.1) (finds_snapshot w (past_of w ring.items) ring.items k.recorded s.0)

@@ -23,8 +23,8 @@ answered_leads : (m : Machine) (e : Event) (a : Answer) → (acted m (Step e)).1
 unfolding acted after_step_at after_result applied applied_unless stepped
 answered_leads m e a h = go (nat_le last_place m.trail.place) h
   where
-    one : (r : Option Refusal) → refusal_of e m.trail.current ≡ r → (after_result m (applied_unless r e m.trail.current)).1 ≡ Answered a
-        → LeadsTo e m.trail.current (after_result m (applied_unless r e m.trail.current)).0.trail.current
+    one : (r : Option Refusal) → refusal_of e m.trail.current ≡ r → (after_result e m (applied_unless r e m.trail.current)).1 ≡ Answered a
+        → LeadsTo e m.trail.current (after_result e m (applied_unless r e m.trail.current)).0.trail.current
     one (Some r) is t = cc
     one None is t = (is, refl)
 
@@ -39,17 +39,17 @@ marked_leads m e a Granted h = answered_leads m e a h
 marked_leads m e a Denied h = cc
 marked_leads m e a (LosesPins pins) h = answered_leads m e a h
 
-leads_keeps : (t : Trail) (e : Event) (v : HeapState) → AreSteps t.current t.past → LeadsTo e t.current v → KeepsReached e t v
+leads_keeps : (t : Trail) (e : Event) (v : HeapState) → AreSteps t.current t.past t.records → LeadsTo e t.current v → KeepsReached e t v
 leads_keeps t e v steps led = record {
-  spares = sweep_leaves t.current v e (steps_legal t.current t.past steps) led;
-  live = finish_lives t.current v e (steps_legal t.current t.past steps) led;
+  spares = sweep_leaves t.current v e (steps_legal t.current t.past t.records steps) led;
+  live = finish_lives t.current v e (steps_legal t.current t.past t.records steps) led;
   finds = finds;
 }
   where
     finds : e ≡ Finish → FindsSnapshot t.past v
     finds is =
         let s = subst (λ f. LeadsTo f t.current v) is led in
-        subst (FindsSnapshot t.past) (sym s.1) (finds_snapshot t.current t.past steps s.0)
+        subst (FindsSnapshot t.past) (sym s.1) (finds_snapshot t.current t.past t.records steps s.0)
 
 pub keeps_reached : (m : Machine) (e : Event) (n : Machine) (a : Answer) → IsTrail m.keep m.trail → MayReply m (Step e) n (Answered a) → KeepsReached e m.trail n.trail.current
 keeps_reached m e n a trail may =

@@ -1,14 +1,14 @@
 -- What records tell of the past.
 use Rattle.heap_class.specs.declared.IdSize.{IdSize}
-use Rattle.std.proofs.Common.{◌≡◌, ℕ, zero, suc, List, [], ◌∷◌, length, take, refl, sym, ap, arith}
+use Rattle.std.proofs.Common.{◌≡◌, ℕ, zero, suc, List, [], ◌∷◌, length, take, refl, ap, arith}
 use Rattle.heap_world.specs.State.{HeapState}
-use Rattle.heap_world.specs.Legal.{IsLegal}
 use Rattle.heap_step.specs.declared.Undo.{Undo}
 use Rattle.heap_step.specs.Records.{undone}
 use Rattle.circular_buffer.specs.Buffer.{Buffer}
-use Rattle.heap_trail.specs.Laws.{AreSteps, IsTrail}
+use Rattle.heap_trail.specs.Laws.{IsTrail}
 use Rattle.heap_trail.specs.Records.{past_of, AreRecorded, IsRetaining, machine_with}
 use Rattle.heap_trail.specs.Pins.{Pins}
+use Rattle.heap_trail.proofs.RetainedStates.{steps_legal}
 
 -- as many states as records
 pub length-past_of : (w : HeapState) (rs : List Undo) → length (past_of w rs) ≡ length rs
@@ -23,20 +23,15 @@ past_of-take (suc n) w [] = refl
 past_of-take (suc n) w (r ∷ rs) = ap (λ vs. undone r w ∷ vs) (past_of-take n (undone r w) rs)
 
 pub recorded-take : (n : ℕ) (w : HeapState) (rs : List Undo) → AreRecorded w rs → AreRecorded w (take n rs)
-recorded-take zero w [] h = tt
-recorded-take zero w (r ∷ rs) h = tt
-recorded-take (suc n) w [] h = tt
+recorded-take zero w [] h = h
+recorded-take zero w (r ∷ rs) h = steps_legal w (past_of w (r ∷ rs)) (r ∷ rs) h
+recorded-take (suc n) w [] h = h
 recorded-take (suc n) w (r ∷ rs) h = (h.0, recorded-take n (undone r w) rs h.1)
 
--- what rightly told records tell are the steps of one run
-pub steps_told : (w : HeapState) (rs : List Undo) → IsLegal w → AreRecorded w rs → AreSteps w (past_of w rs)
-steps_told w [] legal h = legal
-steps_told w (r ∷ rs) legal h = ((h.0.0, h.0.1.accepted, sym h.0.1.gave), steps_told (undone r w) rs h.0.1.legal h.1)
-
--- and so a machine's states are the steps of one run
+-- a machine's trail is legal
 pub is_trail : (ids : IdSize) (w : HeapState) (ring : Buffer Undo) (place keep : ℕ) (ps : Pins) → IsRetaining w ring place keep → IsTrail keep (machine_with ids w ring place keep ps).trail
 is_trail ids w ring place keep ps k = record {
-  steps = steps_told w ring.items k.legal k.recorded;
+  steps = k.recorded;
   few = omega (arith, k.few, length-past_of w ring.items);
   placed = omega (arith, k.placed, length-past_of w ring.items);
 }

@@ -74,6 +74,7 @@ unfolding rewound state_ago
 rewinds_retained m n few = subst (IsRewound n m) (sym (rewind_done m n few)) record {
   state = nth_there n (m.trail.current ∷ m.trail.past) m.trail.current (omega (arith, few));
   past = refl;
+  records = refl;
   place = refl;
   reply = refl;
 }

@@ -7,7 +7,9 @@ use Rattle.heap_class.specs.declared.Refusal.{Refusal}
 use Rattle.heap_world.specs.State.{HeapState}
 use Rattle.heap_step.specs.declared.Event.{Event}
 use Rattle.heap_step.specs.declared.Answer.{Answer}
+use Rattle.heap_step.specs.declared.Undo.{Undo}
 use Rattle.heap_step.specs.Apply.{applied}
+use Rattle.heap_step.specs.Records.{undo_record}
 use Rattle.heap_trail.specs.declared.Action.{Action}
 use Rattle.heap_trail.specs.declared.Action.TheVariants.{Step, Rewind, OpenPin, NextPiece, ClosePin}
 use Rattle.heap_trail.specs.declared.Reply.TheVariants.{Place}
@@ -21,17 +23,17 @@ use Rattle.heap_trail.proofs.Rewinds.{rewinds_retained}
 -- ---- one action that is no rewind
 
 abbrev StaysOrSteps : ℕ → Trail → Trail → Type 0
-StaysOrSteps keep t u = (u ≡ t) ⊎ ((v : HeapState) × (u ≡ stepped keep v t))
+StaysOrSteps keep t u = (u ≡ t) ⊎ ((left : Undo) × (v : HeapState) × (u ≡ stepped keep left v t))
 
-result_trail : (m : Machine) (r : Result (HeapState × Answer) Refusal) → StaysOrSteps m.keep m.trail (after_result m r).0.trail
+result_trail : (e : Event) (m : Machine) (r : Result (HeapState × Answer) Refusal) → StaysOrSteps m.keep m.trail (after_result e m r).0.trail
 unfolding after_result
-result_trail m (Ok r) = inr (r.0, refl)
-result_trail m (Err r) = inl refl
+result_trail e m (Ok r) = inr (undo_record e m.trail.current, r.0, refl)
+result_trail e m (Err r) = inl refl
 
 at_trail : (m : Machine) (e : Event) (b : Bool) → StaysOrSteps m.keep m.trail (after_step_at b e m).0.trail
 unfolding after_step_at
 at_trail m e true = inl refl
-at_trail m e false = result_trail m (applied e m.trail.current)
+at_trail m e false = result_trail e m (applied e m.trail.current)
 
 step_trail : (m : Machine) (e : Event) → StaysOrSteps m.keep m.trail (acted m (Step e)).0.trail
 unfolding acted
@@ -65,13 +67,13 @@ keep_stays m a (LosesPins pins) = acted_keep m a
 
 -- ---- places rise
 
-step_place : (keep : ℕ) (v : HeapState) (t : Trail) → (stepped keep v t).place ≡ t.place + 1
+step_place : (keep : ℕ) (left : Undo) (v : HeapState) (t : Trail) → (stepped keep left v t).place ≡ t.place + 1
 unfolding stepped
-step_place keep v t = refl
+step_place keep left v t = refl
 
 place_rises : (keep : ℕ) (t u : Trail) → StaysOrSteps keep t u → t.place ≤ u.place
 place_rises keep t u (inl e) = omega (arith, ap (λ (t : Trail). t.place) e)
-place_rises keep t u (inr s) = omega (arith, ap (λ (t : Trail). t.place) s.1, step_place keep s.0 t)
+place_rises keep t u (inr s) = omega (arith, ap (λ (t : Trail). t.place) s.2, step_place keep s.0 s.1 t)
 
 places_rise : (m : Machine) (later : List (Action × Allocation)) → HasNoRewind later → m.trail.place ≤ (machine_after m later).trail.place
 unfolding machine_after
@@ -93,10 +95,10 @@ taken i (suc keep) [] h = refl
 taken zero (suc keep) (x ∷ xs) h = refl
 taken (suc i) (suc keep) (x ∷ xs) h = taken i keep xs (omega (arith, h))
 
-one_more_ago : (w : HeapState) (i keep : ℕ) (v : HeapState) (t : Trail) → i < keep → WasAgo w i t → WasAgo w (i + 1) (stepped keep v t)
+one_more_ago : (w : HeapState) (i keep : ℕ) (left : Undo) (v : HeapState) (t : Trail) → i < keep → WasAgo w i t → WasAgo w (i + 1) (stepped keep left v t)
 unfolding stepped
-one_more_ago w i keep v t h was =
-    subst (λ n. WasAgo w n (stepped keep v t)) (let e : suc i ≡ i + 1 = omega arith in e) (taken i keep (t.current ∷ t.past) h ∙ was)
+one_more_ago w i keep left v t h was =
+    subst (λ n. WasAgo w n (stepped keep left v t)) (let e : suc i ≡ i + 1 = omega arith in e) (taken i keep (t.current ∷ t.past) h ∙ was)
 
 -- from i steps after the place `start` on
 still_ago : (w : HeapState) (start : ℕ) (m : Machine) (later : List (Action × Allocation)) (i n : ℕ) → HasNoRewind later → n ≤ m.keep → m.trail.place ≡ start + i → (machine_after m later).trail.place ≡ start + n
@@ -112,9 +114,9 @@ still_ago w start m ((a, k) ∷ more) i n none few here there was =
     go : StaysOrSteps m.keep m.trail after.trail → ((j : ℕ) → after.trail.place ≡ start + j → WasAgo w j after.trail → WasAgo w n (machine_after after more).trail) → WasAgo w n (machine_after after more).trail
     go (inl e) rest = rest i (ap (λ (t : Trail). t.place) e ∙ here) (subst (WasAgo w i) (sym e) was)
     go (inr s) rest =
-        let at : after.trail.place ≡ m.trail.place + 1 = ap (λ (t : Trail). t.place) s.1 ∙ step_place m.keep s.0 m.trail in
+        let at : after.trail.place ≡ m.trail.place + 1 = ap (λ (t : Trail). t.place) s.2 ∙ step_place m.keep s.0 s.1 m.trail in
         let up = places_rise after more (All-tail (λ (b : Action × Allocation). is_rewind b.0 ≡ false) (a, k) more none) in
-        rest (i + 1) (omega (arith, at, here)) (subst (WasAgo w (i + 1)) (sym s.1) (one_more_ago w i m.keep s.0 m.trail (omega (arith, few, here, there, at, up)) was))
+        rest (i + 1) (omega (arith, at, here)) (subst (WasAgo w (i + 1)) (sym s.2) (one_more_ago w i m.keep s.0 s.1 m.trail (omega (arith, few, here, there, at, up)) was))
 
 within : (n : ℕ) (xs : List HeapState) (w : HeapState) → slice_get xs n ≡ Some w → n < length xs
 within n [] w h = absurd (clash h)

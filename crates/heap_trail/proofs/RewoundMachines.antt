@@ -76,13 +76,13 @@ past_ago i [] d c h = absurd (omega (arith, h))
 past_ago zero (x ∷ xs) d c h = refl
 past_ago (suc i) (x ∷ xs) d c h = past_ago i xs d c (omega (arith, h))
 
-drop_next : (i : ℕ) (xs : List HeapState) → drop 1 (drop i xs) ≡ drop (suc i) xs
+drop_next : {A : Type 0} (i : ℕ) (xs : List A) → drop 1 (drop i xs) ≡ drop (suc i) xs
 drop_next zero [] = refl
 drop_next zero (x ∷ xs) = refl
 drop_next (suc i) [] = refl
 drop_next (suc i) (x ∷ xs) = drop_next i xs
 
-drop_more : (i : ℕ) (xs : List HeapState) → drop 1 (drop i xs) ≡ drop (i + 1) xs
+drop_more : {A : Type 0} (i : ℕ) (xs : List A) → drop 1 (drop i xs) ≡ drop (i + 1) xs
 drop_more i xs = drop_next i xs ∙ ap (λ n. drop n xs) (let e : suc i ≡ i + 1 = omega arith in e)
 
 pub rewound_place : (i : ℕ) (t : Trail) → (rewound i t).place ≡ t.place - i
@@ -96,6 +96,7 @@ rewound_more i t h = λ k. record {
   place = (let e : t.place - i - 1 ≡ t.place - (i + 1) = omega arith in e) k;
   current = (past_ago i t.past (state_ago i t) t.current h ∙ ap (λ n. get_or (t.current ∷ t.past) n t.current) (let e : suc i ≡ i + 1 = omega arith in e)) k;
   past = drop_more i t.past k;
+  records = drop_more i t.records k;
 }
 
 pub some_left : (i : ℕ) (t : Trail) → i < retained t → 0 < retained (rewound i t)

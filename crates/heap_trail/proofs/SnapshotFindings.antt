@@ -16,10 +16,10 @@ use Rattle.heap_world.proofs.Shapes.{NamesLike, like_still}
 use Rattle.heap_world.proofs.MarkerEvents.{snap_shape, snap_reaches}
 use Rattle.heap_step.specs.declared.Event.{Event}
 use Rattle.heap_step.specs.declared.Event.TheVariants.{Snap, Finish}
+use Rattle.heap_step.specs.declared.Undo.{Undo}
 use Rattle.heap_step.specs.Apply.{refusal_of, state_after}
 use Rattle.heap_step.proofs.EventLaws.{keeps_legal, stays_found, keeps_shape, has_run}
 use Rattle.heap_trail.specs.Laws.{AreSteps, FindsSnapshot}
-use Rattle.heap_trail.proofs.RetainedStates.{steps_legal}
 
 -- the id names a marked or sheltered object, of the kind and the number of words of this one
 abbrev IsFoundLike : HeapState → Object → ℕ → Type 0
@@ -56,38 +56,39 @@ newest_idle v w rest = go v.phase refl
     go Marking e f = inr (e, f)
 
 -- in a state in which a cycle runs, all is found that was reached in the newest state before it in which none ran
-since_snapshot : (c : HeapState) (vs : List HeapState) → AreSteps c vs → c.phase ≡ Marking → (w : HeapState) → find (λ v. not (is_marking v.phase)) vs ≡ Some w → (x : ℕ) (o : Object) → Reaches w x → object_of w.regions x ≡ Some o → IsFoundLike c o x
-since_snapshot c [] s running w f x o r h = cc
-since_snapshot c (v ∷ vs) s running w f x o r h = subst (λ u. IsFoundLike u o x) s.0.2 (go (newest_idle v w _ f) (λ before g. since_snapshot v vs s.1 before w g x o r h))
+since_snapshot : (c : HeapState) (vs : List HeapState) (rs : List Undo) → AreSteps c vs rs → c.phase ≡ Marking → (w : HeapState) → find (λ v. not (is_marking v.phase)) vs ≡ Some w → (x : ℕ) (o : Object) → Reaches w x → object_of w.regions x ≡ Some o → IsFoundLike c o x
+since_snapshot c [] rs s running w f x o reached h = cc
+since_snapshot c (v ∷ vs) [] s running w f x o reached h = absurd s
+since_snapshot c (v ∷ vs) (r ∷ rs) s running w f x o reached h = subst (λ u. IsFoundLike u o x) (sym s.0.1.gave) (go (newest_idle v w _ f) (λ before g. since_snapshot v vs rs s.1 before w g x o reached h))
   where
     e : Event
     e = s.0.0
 
     legal : IsLegal v
-    legal = steps_legal v vs s.1
+    legal = s.0.1.legal
 
     after : (state_after e v).phase ≡ Marking
-    after = ap (λ (u : HeapState). u.phase) s.0.2 ∙ running
+    after = ap (λ (u : HeapState). u.phase) (sym s.0.1.gave) ∙ running
 
     first : v.phase ≡ Idle → (e ≡ Snap) ⊎ (v.phase ≡ Marking) → e ≡ Snap
     first idle (inl q) = q
     first idle (inr q) = let c : Idle ≡ Marking = sym idle ∙ q in cc
 
     go : ((v.phase ≡ Idle) × (v ≡ w)) ⊎ ((v.phase ≡ Marking) × (find (λ v. not (is_marking v.phase)) vs ≡ Some w)) → (v.phase ≡ Marking → find (λ v. not (is_marking v.phase)) vs ≡ Some w → IsFoundLike v o x) → IsFoundLike (state_after e v) o x
-    go (inl q) rest = begun_found e v legal s.0.1 (first q.0 (has_run e v after)) after o x (subst (λ u. Reaches u x) (sym q.1) r) (ap (λ (u : HeapState). object_of u.regions x) q.1 ∙ h)
-    go (inr q) rest = found_still e v legal s.0.1 q.0 after o x (rest q.0 q.1)
+    go (inl q) rest = begun_found e v legal s.0.1.accepted (first q.0 (has_run e v after)) after o x (subst (λ u. Reaches u x) (sym q.1) reached) (ap (λ (u : HeapState). object_of u.regions x) q.1 ∙ h)
+    go (inr q) rest = found_still e v legal s.0.1.accepted q.0 after o x (rest q.0 q.1)
 
 -- an accepted finish leaves it, and live
-pub finds_snapshot : (c : HeapState) (past : List HeapState) → AreSteps c past → refusal_of Finish c ≡ None → FindsSnapshot past (state_after Finish c)
+pub finds_snapshot : (c : HeapState) (past : List HeapState) (records : List Undo) → AreSteps c past records → refusal_of Finish c ≡ None → FindsSnapshot past (state_after Finish c)
 unfolding refusal_of state_after
-finds_snapshot c past steps accepted w f x o r h =
+finds_snapshot c past records steps accepted w f x o r h =
     (settled p.0, finish_settles c x p.0 p.1, (p.2, p.3, marked))
   where
     due : (c.phase ≡ Marking) × (length c.gray ≡ 0) × (length c.log ≤ c.drained)
     due = finish_due c accepted
 
     found : IsFoundLike c o x
-    found = since_snapshot c past steps due.0 w f x o r h
+    found = since_snapshot c past records steps due.0 w f x o r h
 
     p : NamesLike c o x
     p = found.1

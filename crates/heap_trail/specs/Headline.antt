@@ -15,10 +15,12 @@ use Rattle.heap_trail.specs.Laws.{GivesText, LeavesTrail}
 
 -- ---- steps and rewinds
 
--- after a rewind of n: the state of n steps ago is the current one, what was retained before it stays, and the place is n less
+-- after a rewind of n: the state of n steps ago is the current one, what was retained before it stays with its records, and the
+-- place is n less
 pub record IsRewound (n : ℕ) (m : Machine) (r : Machine × Reply) : Type 0 where
   pub state : slice_get (m.trail.current ∷ m.trail.past) n ≡ Some r.0.trail.current
   pub past : r.0.trail.past ≡ drop n m.trail.past
+  pub records : r.0.trail.records ≡ drop n m.trail.records
   pub place : r.0.trail.place ≡ m.trail.place - n
   pub reply : r.1 ≡ Place (m.trail.place - n)
 

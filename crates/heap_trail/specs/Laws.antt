@@ -1,5 +1,5 @@
 -- What holds of a trail.
-use Rattle.std.specs.Prelude.{◌≡◌, ℕ, ◌<◌, ◌≤◌, ◌^◌, Bool, true, false, not, ◌&&◌, ◌||◌, ◌==◌, List, [], ◌∷◌, ◌++◌, length, find, Some, None, if◌then◌else◌}
+use Rattle.std.specs.Prelude.{◌≡◌, ℕ, ◌<◌, ◌≤◌, ◌^◌, Bool, true, false, not, ◌&&◌, ◌||◌, ◌==◌, List, [], ◌∷◌, ◌++◌, length, find, Some, if◌then◌else◌}
 use Rattle.heap_class.specs.declared.IdSize.{IdSize}
 use Rattle.heap_world.specs.Regions.{Object, object_of}
 use Rattle.heap_world.specs.MarkSteps.{is_marking}
@@ -8,7 +8,8 @@ use Rattle.heap_world.specs.Reach.{Reaches}
 use Rattle.heap_world.specs.Legal.{IsLegal, IsLive, NamesOne}
 use Rattle.heap_step.specs.declared.Event.{Event}
 use Rattle.heap_step.specs.declared.Event.TheVariants.{Finish, Sweep}
-use Rattle.heap_step.specs.Apply.{refusal_of, state_after}
+use Rattle.heap_step.specs.declared.Undo.{Undo}
+use Rattle.heap_step.specs.Laws.{IsStep}
 use Rattle.heap_step.specs.declared.Answer.{Answer}
 use Rattle.hprof_text.specs.declared.Piece.{Piece}
 use Rattle.hprof_text.specs.Segments.{dump_text, piece_of}
@@ -23,15 +24,15 @@ use Rattle.heap_trail.specs.Machine.{Machine, Allocation, acted, acted_under, ma
 use Rattle.heap_trail.specs.Pins.{Kept, pin_at}
 use Rattle.heap_trail.specs.Trail.{Trail, retained}
 
--- each state is legal, and came by an accepted event from the one after it in the list
-abbrev pub AreSteps : HeapState → List HeapState → Type 0
-AreSteps w [] = IsLegal w
-AreSteps w (v ∷ vs) =
-    ((e : Event) × (refusal_of e v ≡ None) × (state_after e v ≡ w)) × AreSteps v vs
+-- each state is legal, and came from the one after it in the list by an event that left the record beside that one
+abbrev pub AreSteps : HeapState → List HeapState → List Undo → Type 0
+AreSteps w [] [] = IsLegal w
+AreSteps w (v ∷ vs) (left ∷ records) = ((e : Event) × IsStep e v w left) × AreSteps v vs records
+AreSteps w past records = ⊥
 
--- the retained states are steps of one run, and no more than are kept
+-- the retained states and records are those of the steps of one run, and no more than are kept
 pub record IsTrail (keep : ℕ) (t : Trail) : Type 0 where
-  pub steps : AreSteps t.current t.past
+  pub steps : AreSteps t.current t.past t.records
   pub few : retained t ≤ keep
   pub placed : retained t ≤ t.place
 

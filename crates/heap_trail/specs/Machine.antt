@@ -8,6 +8,7 @@ use Rattle.heap_step.specs.declared.Event.{Event}
 use Rattle.heap_step.specs.declared.Event.TheVariants.{Store, Put, Sweep}
 use Rattle.heap_step.specs.declared.Answer.{Answer}
 use Rattle.heap_step.specs.Apply.{applied, event_may_grow}
+use Rattle.heap_step.specs.Records.{undo_record}
 use Rattle.hprof_text.specs.Segments.{pieces_of, piece_of}
 use Rattle.heap_trail.specs.declared.Action.{Action}
 use Rattle.heap_trail.specs.declared.Action.TheVariants.{Step, Rewind, OpenPin, NextPiece, ClosePin}
@@ -38,14 +39,17 @@ opening_machine ids regions mutators keep =
 -- ---- one action
 
 -- the machine after an event's result, and the reply
-unfoldable pub after_result : Machine → Result (HeapState × Answer) Refusal → Machine × Reply
-after_result m (Ok r) = (record m { trail = stepped m.keep r.0 m.trail }, Answered r.1)
-after_result m (Err r) = (m, Refused r)
+unfoldable pub after_result : Event → Machine → Result (HeapState × Answer) Refusal
+    → Machine × Reply
+after_result e m (Ok r) =
+    let left = undo_record e m.trail.current in
+    (record m { trail = stepped m.keep left r.0 m.trail }, Answered r.1)
+after_result e m (Err r) = (m, Refused r)
 
 -- the machine after a step, and the reply; the step is refused if it is at the last place
 unfoldable pub after_step_at : Bool → Event → Machine → Machine × Reply
 after_step_at true e m = (m, Refused ChronicleFull)
-after_step_at false e m = after_result m (applied e m.trail.current)
+after_step_at false e m = after_result e m (applied e m.trail.current)
 
 -- the refusal with no change, if there is one, and else what f makes of the machine
 unfoldable pub unless : Option Refusal → (Machine → Machine × Reply) → Machine → Machine × Reply

@@ -4,12 +4,11 @@ use Rattle.circular_buffer.specs.Buffer.{Buffer, buffer}
 use Rattle.heap_world.specs.Limits.{keep_limit}
 use Rattle.heap_world.specs.State.{HeapState}
 use Rattle.heap_world.specs.Legal.{IsLegal}
-use Rattle.heap_step.specs.declared.Event.{Event}
 use Rattle.heap_step.specs.declared.Undo.{Undo}
 use Rattle.heap_step.specs.Records.{undone}
-use Rattle.heap_step.specs.Laws.{IsStep}
 use Rattle.heap_class.specs.declared.IdSize.{IdSize}
 use Rattle.heap_trail.specs.Limits.{last_place}
+use Rattle.heap_trail.specs.Laws.{AreSteps}
 use Rattle.heap_trail.specs.Machine.{Machine}
 use Rattle.heap_trail.specs.Limits.{pin_limit, last_pin}
 use Rattle.heap_trail.specs.Pins.{Pins}
@@ -21,10 +20,9 @@ abbrev pub past_of : HeapState → List Undo → List HeapState
 past_of w [] = []
 past_of w (r ∷ rs) = let v = undone r w in v ∷ past_of v rs
 
--- each record is that of an event that led from the state before it to the state after it
+-- the records, and the states to which they lead back, are those of the steps of one run
 abbrev pub AreRecorded : HeapState → List Undo → Type 0
-AreRecorded w [] = Unit {0}
-AreRecorded w (r ∷ rs) = ((e : Event) × IsStep e (undone r w) w r) × AreRecorded (undone r w) rs
+AreRecorded w records = AreSteps w (past_of w records) records
 
 -- a ring with one more record in front, and without the oldest if it was full
 abbrev pub with_record : Undo → Buffer Undo → Buffer Undo
@@ -53,7 +51,13 @@ machine_with ids w ring place keep pins =
     record {
       keep = keep;
       ids = ids;
-      trail = record { place = place; current = w; past = past_of w ring.items };
+      trail =
+          record {
+            place = place;
+            current = w;
+            past = past_of w ring.items;
+            records = ring.items;
+          };
       pins = pins;
     }
 

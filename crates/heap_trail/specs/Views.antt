@@ -1,13 +1,10 @@
--- What a machine lends to be read: records, and what pins show.
-use Rattle.std.specs.Prelude.{◌≡◌, ◌+◌, ℕ, Option, Some, None}
+-- What a machine lends to be read of its pins.
+use Rattle.std.specs.Prelude.{◌≡◌, ℕ, Option, Some, None}
 use Rattle.heap_class.specs.declared.IdSize.{IdSize}
 use Rattle.heap_class.specs.declared.Refusal.{Refusal}
 use Rattle.heap_class.specs.declared.Refusal.TheVariants.{NoPin}
 use Rattle.heap_class.specs.declared.Refusal.TheVariants.{Lost as IsLost}
 use Rattle.heap_world.specs.State.{HeapState}
-use Rattle.heap_step.specs.declared.Event.{Event}
-use Rattle.heap_step.specs.declared.Undo.{Undo}
-use Rattle.heap_step.specs.Laws.{IsStep}
 use Rattle.heap_pins.specs.Images.{image_of}
 use Rattle.heap_pins.specs.Pin.{PinContents, pin_image}
 use Rattle.heap_pins.specs.View.{PinShown, ShowsSome}
@@ -17,10 +14,6 @@ use Rattle.heap_trail.specs.Trail.{Trail, state_ago}
 use Rattle.heap_trail.specs.Pins.{PinState, pin_at}
 use Rattle.heap_trail.specs.Pins.{Kept as KeptState, Gone}
 use Rattle.heap_trail.specs.Machine.{Machine}
-
--- the step that led to the state of n steps ago left this record
-abbrev pub HasRecord : Trail → ℕ → Undo → Type 0
-HasRecord t n left = (e : Event) × IsStep e (state_ago (n + 1) t) (state_ago n t) left
 
 -- beside the current state the pin shows the image of the state of n steps ago
 pub record ShowsAgo (t : Trail) (n : ℕ) (p : PinContents) : Type 0 where

@@ -1,7 +1,6 @@
 //! The records of retained steps, lent to be read.
-ghost use Rattle.std.specs.Prelude.{◌<◌};
+ghost use Rattle.std.specs.Prelude.{◌≡◌, ◌<◌, Some, slice_get};
 ghost use Rattle.heap_trail.specs.Trail.{retained};
-ghost use Rattle.heap_trail.specs.Views.{HasRecord};
 
 use crate::Machine;
 use heap_step::Undo;
@@ -11,7 +10,7 @@ impl Machine {
     /// retained. Takes no memory.
     pub fn record_ago(&self, n: u64) -> &Undo
         requires { n < retained self.now.trail }
-        ensures { HasRecord self.now.trail n result.now }
+        ensures { slice_get self.now.trail.records n ≡ Some result.now }
     {
         match self.records.nth_front(n as usize) {
             Some(left) => left,

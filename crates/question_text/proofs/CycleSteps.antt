@@ -104,7 +104,7 @@ answered_taken : (m n : Machine) (e : Event) (a : Answer) → IsAnswered m e n a
 unfolding acted after_result after_step_at stepped
 answered_taken m n e a is = at (nat_le last_place m.trail.place) refl is
   where
-    of : (r : Result (HeapState × Answer) Refusal) → m.trail.place < last_place → applied e m.trail.current ≡ r → after_result m r ≡ (n, Answered a) → IsTaken m e n a
+    of : (r : Result (HeapState × Answer) Refusal) → m.trail.place < last_place → applied e m.trail.current ≡ r → after_result e m r ≡ (n, Answered a) → IsTaken m e n a
     of (Ok r) lt h is =
         let same : Answered r.1 ≡ Answered a = ap (λ (x : Machine × Reply). x.1) is in
         let answer : r.1 ≡ a = cc same in
@@ -136,7 +136,7 @@ unfolding acted after_result after_step_at applied applied_unless
 short m x e free (inr h) = inl h.1
 short m x e free (inl h) = at (nat_le last_place m.trail.place) h
   where
-    of : (o : Option Refusal) → o ≡ None → after_result m (applied_unless o x m.trail.current) ≡ (m, Refused e) → IsShortage e
+    of : (o : Option Refusal) → o ≡ None → after_result x m (applied_unless o x m.trail.current) ≡ (m, Refused e) → IsShortage e
     of None is h = let clash : Answered (answer_of x m.trail.current (state_after x m.trail.current)) ≡ Refused e = ap (λ (p : Machine × Reply). p.1) h in absurd (cc clash)
     of (Some r) is h = absurd (cc is)
 

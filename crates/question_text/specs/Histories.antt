@@ -4,7 +4,7 @@ use Rattle.heap_trail.specs.Trail.{Trail}
 use Rattle.heap_questions.specs.declared.past.events.PastEvent.{PastEvent}
 use Rattle.heap_questions.specs.declared.past.events.PastEvent.TheVariants.{Put, Store, Register, New, Class, Snap, Mark, Drain, Finish, Sweep, Reclaim}
 use Rattle.heap_questions.specs.declared.past.steps.PastStep.{PastStep}
-use Rattle.heap_questions.specs.Newest.{AreNewest}
+use Rattle.heap_questions.specs.Newest.{newest_steps}
 use Rattle.session_text.specs.Replies.{and_number, line}
 use Rattle.question_text.specs.Ids.{and_id, and_reference}
 use Rattle.question_text.specs.Places.{IsTextOrNoMemory}
@@ -40,10 +40,9 @@ past_step_line s = line ((codes "row" ++ and_number s.place) ++ event_words s.ev
 abbrev pub steps_text : List PastStep → List ℕ
 steps_text steps = flat_map past_step_line steps ++ count_text (length steps)
 
--- the lines of the newest `count` retained steps, newest first
+-- the text is the lines of the newest `count` retained steps, newest first, and their number
 abbrev pub IsNewestText : ℕ → Trail → List ℕ → Type 0
-IsNewestText count t text =
-    (steps : List PastStep) × AreNewest t count steps × (text ≡ steps_text steps)
+IsNewestText count t text = text ≡ steps_text (newest_steps t count)
 
 -- the answer of `history`
 abbrev pub IsHistoryText : ℕ → Trail → List ℕ → Type 0

@@ -57,10 +57,11 @@ pub fn last_write(machine: &Machine, at: ObjRef, slot: u64) -> Option<u64>
     ensures written { IfSome result (λ place. IsLastWrite machine.now.trail at slot place) }
     ensures none { IfNone result (IsUnwritten machine.now.trail at slot) }
 {
+    let place = machine.place();
     let now = machine.world().regions().word(at, slot);
     for n in 0..machine.retained_count() {
         if changes(machine.record_ago(n), at, slot, now) {
-            return Some(machine.place() - n);
+            return Some(place - n);
         }
     }
     None
@@ -73,9 +74,10 @@ pub fn birth(machine: &Machine, at: ObjRef) -> Option<u64>
     ensures born { IfSome result (λ place. IsBirth machine.now.trail at place) }
     ensures none { IfNone result (IsOld machine.now.trail at) }
 {
+    let place = machine.place();
     for n in 0..machine.retained_count() {
         if makes(machine.record_ago(n), at) {
-            return Some(machine.place() - n);
+            return Some(place - n);
         }
     }
     None

@@ -6,7 +6,7 @@ ghost use Rattle.heap_region.specs.Limits.{region_words};
 ghost use Rattle.heap_region.specs.Regions.{UsedRegion, used_at};
 ghost use Rattle.heap_step.specs.declared.Undo.TheVariants.{Reclaim};
 ghost use Rattle.heap_world.specs.Legal.{IsLegal};
-ghost use Rattle.heap_questions.specs.Newest.{AreNewest, AreCellSizes, event_with, id_by, storage_cell_size, sizes_before, written_at};
+ghost use Rattle.heap_questions.specs.Newest.{AreCellSizes, event_with, id_by, newest_steps, storage_cell_size, sizes_before, written_at};
 
 use crate::past::events::{PastEvent, event_with};
 use heap_class::{ObjRef, Refusal};
@@ -115,9 +115,10 @@ fn undo_size(left: &Undo, sizes: &mut Vec<u64>)
 /// Returns the newest `count` retained steps, or all if fewer are retained, the newest first. Fails with NoMemory if an
 /// allocation fails. Reads each record once.
 pub fn history(alloc: Global, machine: &Machine, count: u64) -> Result<Vec<PastStep>, Refusal>
-    ensures steps { IfOk result (λ steps. AreNewest machine.now.trail count steps.items) }
+    ensures steps { IfOk result (λ steps. steps.items ≡ newest_steps machine.now.trail count) }
     ensures refused { IfErr result (λ e. e ≡ NoMemory) }
 {
+    let place = machine.place();
     let world = machine.world();
     let mut sizes = sizes_now(alloc, world)?;
     let count = count.min(machine.retained_count());
@@ -125,7 +126,7 @@ pub fn history(alloc: Global, machine: &Machine, count: u64) -> Result<Vec<PastS
     for n in 0..count {
         let left = machine.record_ago(n);
         steps.push(PastStep {
-            place: machine.place() - n,
+            place: place - n,
             event: event_by(left, sizes.as_slice()),
         })?;
         undo_size(left, &mut sizes);

@@ -1,9 +1,8 @@
 use Rattle.std.proofs.Common.{◌<◌, sym, ap, subst, ◌∙◌, arith}
+use Rattle.std.specs.Prelude.{slice_get}
 use Rattle.std.specs.Option.{option_copied}
 use Rattle.heap_trail.specs.Machine.{Machine}
 use Rattle.heap_trail.specs.Trail.{retained}
-use Rattle.heap_trail.specs.Views.{HasRecord}
-use Rattle.heap_trail.proofs.RetainedRecords.{lent}
 use Rattle.heap_trail.proofs.RecordedPast.{length-past_of}
 use Rattle.heap_trail.proofs.PastWalks.{record_there}
 use Rattle.heap_trail.proofs.Machine.record_ago.Goals as goal
@@ -17,5 +16,4 @@ unreachable-requires c =
 pub returns : goal.returns
 returns c =
     let i = c.self.inside in
-    subst (λ (m : Machine). HasRecord m.trail c.args.n c.in-Some.left.now) c.self.view_is
-    (lent i.ids i.world i.records i.place i.keep i.next i.pins.items c.args.n c.in-Some.left.now c.self.invariant.0.recorded (sym c.nth_front.ensures ∙ ap option_copied c.in-Some.is))
+    ap (λ (m : Machine). slice_get m.trail.records c.args.n) (sym c.self.view_is) ∙ sym c.nth_front.ensures ∙ ap option_copied c.in-Some.is

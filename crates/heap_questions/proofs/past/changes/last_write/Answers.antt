@@ -2,6 +2,7 @@ use Rattle.std.proofs.Common.{List, ◌≡◌, ◌-◌, ◌<◌, length, sym, �
 use Rattle.std.specs.Prelude.{IsSome, IfSome, slice_index}
 use Rattle.heap_region.specs.Regions.{Region, object_at}
 use Rattle.heap_trail.specs.Trail.{retained}
+use Rattle.heap_trail.proofs.RetainedRecords.{has_record}
 use Rattle.heap_questions.specs.Changes.{IsLastWrite}
 use Rattle.heap_questions.proofs.Walk.{object_there, regions_now, slot_within, unwritten, word_is, written}
 use Rattle.heap_questions.proofs.past.changes.last_write.Goals as goal
@@ -24,8 +25,9 @@ returns-then-changes-clause-written c =
     let now = c.word-now.result in
     let h = word_is t.current at s now c.requires (subst (λ (rs : List Region). IfSome (object_at rs at) (λ o. now ≡ slice_index o.words s)) (regions_now _ _ _ c.regions.ensures c.world.ensures.value) c.word-now.ensures) in
     let lt : c.loop-n.n < retained t = omega (arith, c.loop-n-test.true, c.retained_count-n-end.ensures) in
-    subst (λ p. IsLastWrite t at s (p - c.loop-n.n)) (sym c.place.ensures.value)
-    (written t at s c.loop-n.n now c.record_ago.result.now lt h c.loop-n.invariant c.record_ago.ensures (sym c.changes.ensures ∙ c.if-changes.true))
+    let r = has_record c.args.machine.now.keep t c.loop-n.n c.record_ago.result.now c.place-place.ensures.trail c.record_ago.ensures in
+    subst (λ p. IsLastWrite t at s (p - c.loop-n.n)) (sym c.place-place.ensures.value)
+    (written t at s c.loop-n.n now c.record_ago.result.now lt h c.loop-n.invariant r (sym c.changes.ensures ∙ c.if-changes.true))
 
 pub loop-n-preserved : goal.loop-n-preserved
 loop-n-preserved c =
@@ -34,4 +36,5 @@ loop-n-preserved c =
     let s = c.args.slot in
     let now = c.word-now.result in
     let h = word_is t.current at s now c.requires (subst (λ (rs : List Region). IfSome (object_at rs at) (λ o. now ≡ slice_index o.words s)) (regions_now _ _ _ c.regions.ensures c.world.ensures.value) c.word-now.ensures) in
-    unwritten t at s c.loop-n.n now c.record_ago.result.now h c.loop-n.invariant c.record_ago.ensures (sym c.changes.ensures ∙ c.if-changes.false)
+    let r = has_record c.args.machine.now.keep t c.loop-n.n c.record_ago.result.now c.place-place.ensures.trail c.record_ago.ensures in
+    unwritten t at s c.loop-n.n now c.record_ago.result.now h c.loop-n.invariant r (sym c.changes.ensures ∙ c.if-changes.false)

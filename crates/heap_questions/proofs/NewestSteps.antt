@@ -43,7 +43,7 @@ unfolding newest_steps
 newest_more t n left there =
     let step : ℕ × Undo → PastStep = λ p. past_step t p.0 p.1 in
     ap (λ k. map step (zip (range_with_len 0 k) t.records)) (add-one n)
-    ∙ ap (map step) (zip_more 0 n t.records left there)
+    ∙ ap (map step) (zip_more 0 n t.records left there ∙ ap (λ k. zip (range_with_len 0 n) t.records ++ (k, left) ∷ []) (let e : 0 + n ≡ n = omega arith in e))
     ∙ map-append step (zip (range_with_len 0 n) t.records) ((n, left) ∷ [])
 
 -- no more than are retained

@@ -45,9 +45,9 @@ loop-n-preserved c =
     let sizes = c.loop-n.sizes.items in
     let i = c.loop-n.invariant in
     let event : c.event_by.result ≡ (past_step t n left).event = c.event_by.ensures
-        ∙ ap (λ (o : Option ℕ). event_with left (unwrap_or o 0))
-        (ap (λ (xs : List ℕ). option_map (id_by xs) (written_at left)) c.as_slice.ensures.value
-        ∙ ids_are left r.0 (state_ago (n + 1) t) (state_ago n t) sizes r.1 i.sizes) in
+    ∙ ap (λ (o : Option ℕ). event_with left (unwrap_or o 0))
+    (ap (λ (xs : List ℕ). option_map (id_by xs) (written_at left)) c.as_slice.ensures.value
+    ∙ ids_are left r.0 (state_ago (n + 1) t) (state_ago n t) sizes r.1 i.sizes) in
     let x : PastStep = record { place = c.place-place.result - n; event = c.event_by.result } in
     let one : x ≡ past_step t n left = λ j. record { place = c.place-place.ensures.value j - n; event = event j } in
     record {

@@ -3,12 +3,15 @@ use Rattle.std.proofs.Common.{◌≡◌, ◌≢◌, ℕ, zero, suc, ◌+◌, ◌
 use Rattle.std.specs.Prelude.{slice_index, slice_set, bit_or}
 use Rattle.std.proofs.lemmas.Bool.Decides.{nat_tests}
 use mathlib.Core.Option.{none, some, some-ne-none, some-injective}
+use mathlib.Core.Logic.{dite}
+use native.Mathlib.Decide.{ℕ_discrete}
 use lib.ListN.{get_elem?}
-use Rattle.atomic_table.specs.Table.{State, keeps, step, Allows, Splits}
+use Rattle.atomic_table.specs.Table.{State, keeps, step, Allows, Splits, Joins}
 use Rattle.atomic_table.proofs.Lists.{at_set, set_else, set_again, at_longer, at_snoc}
 use Rattle.dump_pipe.specs.declared.meter_view.MeterView.{MeterView}
-use Rattle.dump_pipe.specs.declared.meter_view.MeterView.TheVariants.{Out, Read, Ask, Feed}
-use Rattle.dump_pipe.specs.Meters.{SitsAtMeter, IsCancel, IsMeter, WasAdded, WasRead, WasAsked, WasLookedAt}
+use Rattle.dump_pipe.specs.declared.meter_view.MeterView.TheVariants.{Whole, Out, Read, Ask, Feed, Met}
+use Rattle.dump_pipe.specs.Meters.{SitsAtMeter, DidAsk, IsCancel, IsMeterUsed, IsMeter, WasAdded, WasRead, WasAsked, WasLookedAt, WasSettled}
+use Rattle.dump_pipe.specs.Seats.{flag}
 
 abbrev Kept : State (Unit {0}) MeterView → Type 0
 Kept s = IsMeter s.words s.views
@@ -34,81 +37,100 @@ here (x ∷ xs) (suc i) a b e = here xs i a b e
 apart : (views : List MeterView) (id j : ℕ) (v x : MeterView) → get_elem? views id ≡ some v → get_elem? views j ≡ some x → v ≢ x → j ≢ id
 apart views id j v x at there ne q = ne (some-injective v x (sym at ∙ ap (get_elem? views) (sym q) ∙ there))
 
-later : (out p p' c c' seat : ℕ) (v : MeterView) → (seat ≡ out → p' ≡ p) → p ≤ p' → (c ≡ 1 → c' ≡ 1) → SitsAtMeter out p c seat v → SitsAtMeter out p' c' seat v
-later out p p' c c' seat (Out n) same le up h = (h.0, h.1 ∙ sym (same h.0))
-later out p p' c c' seat (Read n) same le up h = omega arith
-later out p p' c c' seat (Ask b) same le up h = λ t. up (h t)
-later out p p' c c' seat (Feed b) same le up h = λ t. up (h t)
+-- a meter with another seat than a new one's is in use
+only_whole : (id : ℕ) (v : MeterView) → get_elem? (Whole ∷ []) id ≡ some v → v ≡ Whole
+only_whole zero v e = sym (some-injective _ _ e)
+only_whole (suc n) v e = absurd (some-ne-none v (sym e))
 
-keeps_rule : (words words' : List ℕ) (views : List MeterView) (id : ℕ) (w : MeterView) (h : IsMeter words views) → length words' ≡ 2
-    → (h.0 ≢ id → slice_index words' 0 ≡ slice_index words 0) → slice_index words 0 ≤ slice_index words' 0 → (slice_index words 1 ≡ 1 → slice_index words' 1 ≡ 1)
-    → get_elem? (set views id w) h.0 ≡ some (Out (slice_index words' 0)) → SitsAtMeter h.0 (slice_index words' 0) (slice_index words' 1) id w → IsCancel (slice_index words' 1) (set views id w)
-    → IsMeter words' (set views id w)
-keeps_rule words words' views id w h len still le up out mine cancel = (
-  h.0,
-  len,
-  out,
-  λ seat v e. ⊎_elim
-      (λ (t : (seat ≡ id) × (w ≡ v)). subst (λ (x : ℕ × MeterView). SitsAtMeter h.0 (slice_index words' 0) (slice_index words' 1) x.0 x.1) (λ i. (sym t.0 i, t.1 i)) mine)
-      (λ (t : (seat ≢ id) × (get_elem? views seat ≡ some v)). later h.0 (slice_index words 0) (slice_index words' 0) (slice_index words 1) (slice_index words' 1) seat v (λ q. still (λ z. t.0 (q ∙ z))) le up (h.3 seat v t.1))
-      (at_set views id seat w v e),
-  cancel,
-)
+used : (words : List ℕ) (views : List MeterView) (id : ℕ) (v : MeterView) → get_elem? views id ≡ some v → v ≢ Whole → IsMeter words views → IsMeterUsed words views
+used words views id v at ne (inl t) = absurd (ne (only_whole id v (subst (λ (l : List MeterView). get_elem? l id ≡ some v) t.1 at)))
+used words views id v at ne (inr u) = u
 
-cancel_keeps : (c c' : ℕ) (views : List MeterView) (id : ℕ) (v w : MeterView) → c' ≡ c → get_elem? views id ≡ some v → v ≢ Ask true → IsCancel c views → IsCancel c' (set views id w)
-cancel_keeps c c' views id v w same at ne (inl z) = inl (same ∙ z)
-cancel_keeps c c' views id v w same at ne (inr t) = inr (same ∙ t.0, (t.1.0, set_else views id t.1.0 w (apart views id t.1.0 v (Ask true) at t.1.1 ne) ∙ t.1.1))
+later : (out asker p p' c c' seat : ℕ) (v : MeterView) → (seat ≡ out → p' ≡ p) → p ≤ p' → (c ≡ 1 → c' ≡ 1) → (seat ≡ asker → c' ≡ c) → SitsAtMeter out asker p c seat v → SitsAtMeter out asker p' c' seat v
+later out asker p p' c c' seat Whole same le up calm h = h
+later out asker p p' c c' seat (Out n) same le up calm h = (h.0, h.1 ∙ sym (same h.0))
+later out asker p p' c c' seat (Read n) same le up calm h = omega arith
+later out asker p p' c c' seat (Ask b) same le up calm h = (h.0, (λ t. up (h.1.0 t), λ e. h.1.1 (sym (calm h.0) ∙ e)))
+later out asker p p' c c' seat (Feed b) same le up calm h = λ t. up (h t)
+later out asker p p' c c' seat (Met f b) same le up calm h = (h.0, (λ t. up (h.1.0 t), λ e. h.1.1 (sym (calm h.0) ∙ e)), λ t. up (h.2 t))
+
+keeps_rule : (words words' : List ℕ) (views : List MeterView) (id : ℕ) (w : MeterView) (u : IsMeterUsed words views) → length words' ≡ 2
+    → (u.out ≢ id → slice_index words' 0 ≡ slice_index words 0) → slice_index words 0 ≤ slice_index words' 0 → (slice_index words 1 ≡ 1 → slice_index words' 1 ≡ 1)
+    → (u.asker ≢ id → slice_index words' 1 ≡ slice_index words 1) → get_elem? (set views id w) u.out ≡ some (Out (slice_index words' 0))
+    → SitsAtMeter u.out u.asker (slice_index words' 0) (slice_index words' 1) id w → IsCancel (slice_index words' 1) u.asker (set views id w) → IsMeter words' (set views id w)
+keeps_rule words words' views id w u len still le up calm out mine cancel = inr (record {
+  out = u.out;
+  asker = u.asker;
+  two = len;
+  sum = out;
+  seats = λ seat v e. ⊎_elim
+      (λ (t : (seat ≡ id) × (w ≡ v)). subst (λ (x : ℕ × MeterView). SitsAtMeter u.out u.asker (slice_index words' 0) (slice_index words' 1) x.0 x.1) (λ i. (sym t.0 i, t.1 i)) mine)
+      (λ (t : (seat ≢ id) × (get_elem? views seat ≡ some v)). later u.out u.asker (slice_index words 0) (slice_index words' 0) (slice_index words 1) (slice_index words' 1) seat v (λ q. still (λ z. t.0 (q ∙ z))) le up (λ q. calm (λ z. t.0 (q ∙ z))) (u.seats seat v t.1))
+      (at_set views id seat w v e);
+  cancel = cancel;
+})
+
+-- a seat that asked, asked still
+cancel_keeps : (c c' asker : ℕ) (views : List MeterView) (id : ℕ) (v w : MeterView) → c' ≡ c → get_elem? views id ≡ some v → (DidAsk v → DidAsk w) → IsCancel c asker views → IsCancel c' asker (set views id w)
+cancel_keeps c c' asker views id v w same at more (inl z) = inl (same ∙ z)
+cancel_keeps c c' asker views id v w same at more (inr t) = dite (ℕ_discrete asker id)
+    (λ e. inr (same ∙ t.0, w, ap (get_elem? (set views id w)) e ∙ here views id v w at, more (subst DidAsk (some-injective _ _ (sym t.2 ∙ ap (get_elem? views) e ∙ at)) t.3)))
+    (λ ne. inr (same ∙ t.0, t.1, set_else views id asker w ne ∙ t.2, t.3))
 
 adds : (slots id n k : ℕ) → n + k < 2 ^ 64 → Allows Kept slots id (Out n, []) 0 (λ x. (x + k) % 2 ^ 64) (WasAdded (step slots 0 k 0 none) (Out n, []))
 adds slots id n k fits s h len at small =
+    let u = used s.words s.views id (Out n) at (λ e. absurd cc) h in
     let p = slice_index s.words 0 in
-    let mine = h.3 id (Out n) at in
+    let mine = u.seats id (Out n) at in
     let x : ℕ = (p + k) % 2 ^ 64 in
     let is : x ≡ n + k = omega (arith, mine.1, fits) in
-    let w = set_first s.words x h.1 in (
+    let w = set_first s.words x u.two in (
       Out (n + k),
       keeps,
       tt,
-      keeps_rule s.words (slice_set s.words 0 x) s.views id (Out (n + k)) h w.2 (λ q. absurd (q (sym mine.0))) (omega (arith, w.0, is, mine.1)) (λ q. w.1 ∙ q)
+      keeps_rule s.words (slice_set s.words 0 x) s.views id (Out (n + k)) u w.2 (λ q. absurd (q (sym mine.0))) (omega (arith, w.0, is, mine.1)) (λ q. w.1 ∙ q) (λ _. w.1)
           (ap (get_elem? (set s.views id (Out (n + k)))) (sym mine.0) ∙ here s.views id (Out n) (Out (n + k)) at ∙ ap (λ z. some (Out z)) (sym (w.0 ∙ is)))
           (mine.0, sym (w.0 ∙ is))
-          (cancel_keeps _ _ s.views id (Out n) (Out (n + k)) w.1 at (λ e. absurd cc) h.4),
+          (cancel_keeps _ _ u.asker s.views id (Out n) (Out (n + k)) w.1 at (λ e. e) u.cancel),
       (refl, refl),
     )
 
 reads : (slots id n : ℕ) → Allows Kept slots id (Read n, []) 0 (λ x. x) (WasRead (step slots 0 0 0 none) (Read n, []))
 reads slots id n s h len at small =
+    let u = used s.words s.views id (Read n) at (λ e. absurd cc) h in
     let p = slice_index s.words 0 in
-    let w = set_first s.words p h.1 in
-    let away = apart s.views id h.0 (Read n) (Out p) at h.2 (λ e. absurd cc) in (
+    let w = set_first s.words p u.two in
+    let away = apart s.views id u.out (Read n) (Out p) at u.sum (λ e. absurd cc) in (
       Read p,
       keeps,
       tt,
-      keeps_rule s.words (slice_set s.words 0 p) s.views id (Read p) h w.2 (λ _. w.0) (omega (arith, w.0)) (λ q. w.1 ∙ q)
-          (set_else s.views id h.0 (Read p) away ∙ h.2 ∙ ap (λ z. some (Out z)) (sym w.0))
+      keeps_rule s.words (slice_set s.words 0 p) s.views id (Read p) u w.2 (λ _. w.0) (omega (arith, w.0)) (λ q. w.1 ∙ q) (λ _. w.1)
+          (set_else s.views id u.out (Read p) away ∙ u.sum ∙ ap (λ z. some (Out z)) (sym w.0))
           (omega (arith, w.0))
-          (cancel_keeps _ _ s.views id (Read n) (Read p) w.1 at (λ e. absurd cc) h.4),
-      ((h.3 id (Read n) at, refl), refl),
+          (cancel_keeps _ _ u.asker s.views id (Read n) (Read p) w.1 at (λ e. e) u.cancel),
+      ((u.seats id (Read n) at, refl), refl),
     )
 
-or_one : (c : ℕ) (views : List MeterView) → IsCancel c views → bit_or c 1 ≡ 1
-or_one c views (inl z) = ap (λ k. bit_or k 1) z
-or_one c views (inr t) = ap (λ k. bit_or k 1) t.0
+or_one : (c asker : ℕ) (views : List MeterView) → IsCancel c asker views → bit_or c 1 ≡ 1
+or_one c asker views (inl z) = ap (λ k. bit_or k 1) z
+or_one c asker views (inr t) = ap (λ k. bit_or k 1) t.0
 
 asks : (slots id : ℕ) (b : Bool) → Allows Kept slots id (Ask b, []) 1 (λ x. bit_or x 1) (WasAsked (step slots 1 1 0 none) (Ask b, []))
 asks slots id b s h len at small =
+    let u = used s.words s.views id (Ask b) at (λ e. absurd cc) h in
     let p = slice_index s.words 0 in
     let x = bit_or (slice_index s.words 1) 1 in
-    let w = set_second s.words x h.1 in
-    let one : slice_index (slice_set s.words 1 x) 1 ≡ 1 = w.1 ∙ or_one _ _ h.4 in
-    let away = apart s.views id h.0 (Ask b) (Out p) at h.2 (λ e. absurd cc) in (
+    let w = set_second s.words x u.two in
+    let mine = u.seats id (Ask b) at in
+    let one : slice_index (slice_set s.words 1 x) 1 ≡ 1 = w.1 ∙ or_one (slice_index s.words 1) u.asker s.views u.cancel in
+    let away = apart s.views id u.out (Ask b) (Out p) at u.sum (λ e. absurd cc) in (
       Ask true,
       keeps,
       tt,
-      keeps_rule s.words (slice_set s.words 1 x) s.views id (Ask true) h w.2 (λ _. w.0) (omega (arith, w.0)) (λ _. one)
-          (set_else s.views id h.0 (Ask true) away ∙ h.2 ∙ ap (λ z. some (Out z)) (sym w.0))
-          (λ _. one)
-          (inr (one, (id, here s.views id (Ask b) (Ask true) at))),
+      keeps_rule s.words (slice_set s.words 1 x) s.views id (Ask true) u w.2 (λ _. w.0) (omega (arith, w.0)) (λ _. one) (λ q. absurd (q (sym mine.0)))
+          (set_else s.views id u.out (Ask true) away ∙ u.sum ∙ ap (λ z. some (Out z)) (sym w.0))
+          (mine.0, (λ _. one, λ _. refl))
+          (inr (one, Ask true, ap (get_elem? (set s.views id (Ask true))) (sym mine.0) ∙ here s.views id (Ask b) (Ask true) at, refl)),
       (refl, refl),
     )
 
@@ -117,19 +139,74 @@ is_one c e = grind (arith, nat_tests)
 
 looks : (slots id : ℕ) (b : Bool) → Allows Kept slots id (Feed b, []) 1 (λ x. x) (WasLookedAt (step slots 1 0 0 none) (Feed b, []))
 looks slots id b s h len at small =
+    let u = used s.words s.views id (Feed b) at (λ e. absurd cc) h in
     let p = slice_index s.words 0 in
     let c = slice_index s.words 1 in
-    let w = set_second s.words c h.1 in
-    let away = apart s.views id h.0 (Feed b) (Out p) at h.2 (λ e. absurd cc) in (
+    let w = set_second s.words c u.two in
+    let away = apart s.views id u.out (Feed b) (Out p) at u.sum (λ e. absurd cc) in (
       Feed (c == 1),
       keeps,
       tt,
-      keeps_rule s.words (slice_set s.words 1 c) s.views id (Feed (c == 1)) h w.2 (λ _. w.0) (omega (arith, w.0)) (λ q. w.1 ∙ q)
-          (set_else s.views id h.0 (Feed (c == 1)) away ∙ h.2 ∙ ap (λ z. some (Out z)) (sym w.0))
+      keeps_rule s.words (slice_set s.words 1 c) s.views id (Feed (c == 1)) u w.2 (λ _. w.0) (omega (arith, w.0)) (λ q. w.1 ∙ q) (λ _. w.1)
+          (set_else s.views id u.out (Feed (c == 1)) away ∙ u.sum ∙ ap (λ z. some (Out z)) (sym w.0))
           (λ t. w.1 ∙ is_one c t)
-          (cancel_keeps _ _ s.views id (Feed b) (Feed (c == 1)) w.1 at (λ e. absurd cc) h.4),
-      ((h.3 id (Feed b) at, refl), refl),
+          (cancel_keeps _ _ u.asker s.views id (Feed b) (Feed (c == 1)) w.1 at (λ e. e) u.cancel),
+      ((u.seats id (Feed b) at, refl), refl),
     )
+
+settles : (slots id : ℕ) (f b : Bool) → Allows Kept slots id (Met f b, []) 1 (λ x. x) (WasSettled (step slots 1 0 0 none) (Met f b, []))
+settles slots id f b s h len at small =
+    let u = used s.words s.views id (Met f b) at (λ e. absurd cc) h in
+    let p = slice_index s.words 0 in
+    let c = slice_index s.words 1 in
+    let w = set_second s.words c u.two in
+    let mine = u.seats id (Met f b) at in
+    let away = apart s.views id u.out (Met f b) (Out p) at u.sum (λ e. absurd cc) in (
+      Met f b,
+      keeps,
+      tt,
+      keeps_rule s.words (slice_set s.words 1 c) s.views id (Met f b) u w.2 (λ _. w.0) (omega (arith, w.0)) (λ q. w.1 ∙ q) (λ _. w.1)
+          (set_else s.views id u.out (Met f b) away ∙ u.sum ∙ ap (λ z. some (Out z)) (sym w.0))
+          (mine.0, (λ t. w.1 ∙ mine.1.0 t, λ e. mine.1.1 (sym w.1 ∙ e)), λ t. w.1 ∙ mine.2 t)
+          (cancel_keeps _ _ u.asker s.views id (Met f b) (Met f b) w.1 at (λ e. e) u.cancel),
+      (λ t. mine.1.1 (mine.2 t)),
+    )
+
+-- a seat that doesn't ask sits well whichever does
+elsewhere : (out asker asker' p c seat : ℕ) (v : MeterView) → seat ≢ asker → SitsAtMeter out asker p c seat v → SitsAtMeter out asker' p c seat v
+elsewhere out asker asker' p c seat Whole ne h = h
+elsewhere out asker asker' p c seat (Out n) ne h = h
+elsewhere out asker asker' p c seat (Read n) ne h = h
+elsewhere out asker asker' p c seat (Ask b) ne h = absurd (ne h.0)
+elsewhere out asker asker' p c seat (Feed b) ne h = h
+elsewhere out asker asker' p c seat (Met f b) ne h = absurd (ne h.0)
+
+joins : (id other : ℕ) (f b : Bool) → Joins Kept id (Feed f) other (Ask b) (Met f b) (Read 0)
+joins id other f b s h at ne there =
+    let u = used s.words s.views id (Feed f) at (λ e. absurd cc) h in
+    let p = slice_index s.words 0 in
+    let c = slice_index s.words 1 in
+    let m = Met f b in
+    let was : get_elem? s.views other ≡ some (Ask b) = ⊎_elim (λ (t : (other ≡ id) × (m ≡ Ask b)). absurd (ne t.0)) (λ (t : (other ≢ id) × (get_elem? s.views other ≡ some (Ask b))). t.1) (at_set s.views id other m (Ask b) there) in
+    let mine = u.seats id (Feed f) at in
+    let theirs = u.seats other (Ask b) was in
+    let met = set s.views id m in
+    let out_id = apart s.views id u.out (Feed f) (Out p) at u.sum (λ e. absurd cc) in
+    let out_other = apart s.views other u.out (Ask b) (Out p) was u.sum (λ e. absurd cc) in
+    inr (record {
+      out = u.out;
+      asker = id;
+      two = u.two;
+      sum = set_else met other u.out (Read 0) out_other ∙ set_else s.views id u.out m out_id ∙ u.sum;
+      seats = λ seat v e. ⊎_elim
+          (λ (t : (seat ≡ other) × (Read 0 ≡ v)). subst (SitsAtMeter u.out id p c seat) t.1 (omega arith))
+          (λ (t : (seat ≢ other) × (get_elem? met seat ≡ some v)). ⊎_elim
+          (λ (q : (seat ≡ id) × (m ≡ v)). subst (SitsAtMeter u.out id p c seat) q.1 (q.0, theirs.1, mine))
+          (λ (q : (seat ≢ id) × (get_elem? s.views seat ≡ some v)). elsewhere u.out u.asker id p c seat v (λ z. t.0 (z ∙ sym theirs.0)) (u.seats seat v q.1))
+          (at_set s.views id seat m v t.1))
+          (at_set met other seat (Read 0) v e);
+      cancel = ⊎_elim (λ z. inl z) (λ t. inr (t.0, m, set_else met other id (Read 0) (λ z. ne (sym z)) ∙ here s.views id (Feed f) m at, theirs.1.1 t.0)) u.cancel;
+    })
 
 pub adds_as : (slots id n k : ℕ) (m : MeterView × List (ℕ × Unit {0})) → m ≡ (Out n, []) → n + k < 2 ^ 64 → Allows Kept slots id m 0 (λ x. (x + k) % 2 ^ 64) (WasAdded (step slots 0 k 0 none) m)
 adds_as slots id n k m is fits = subst (λ (u : MeterView × List (ℕ × Unit {0})). Allows Kept slots id u 0 (λ x. (x + k) % 2 ^ 64) (WasAdded (step slots 0 k 0 none) u)) (sym is) (adds slots id n k fits)
@@ -143,24 +220,51 @@ asks_as slots id b m is = subst (λ (u : MeterView × List (ℕ × Unit {0})). A
 pub looks_as : (slots id : ℕ) (b : Bool) (m : MeterView × List (ℕ × Unit {0})) → m ≡ (Feed b, []) → Allows Kept slots id m 1 (λ x. x) (WasLookedAt (step slots 1 0 0 none) m)
 looks_as slots id b m is = subst (λ (u : MeterView × List (ℕ × Unit {0})). Allows Kept slots id u 1 (λ x. x) (WasLookedAt (step slots 1 0 0 none) u)) (sym is) (looks slots id b)
 
--- a seat that has done nothing yet
-pub splits : (id : ℕ) (v w : MeterView) → ((out p c seat : ℕ) → SitsAtMeter out p c seat w) → Splits Kept id v v w
-splits id v w new s h at =
+pub settles_as : (slots id : ℕ) (f b : Bool) (m : MeterView × List (ℕ × Unit {0})) → m ≡ (Met f b, []) → Allows Kept slots id m 1 (λ x. x) (WasSettled (step slots 1 0 0 none) m)
+settles_as slots id f b m is = subst (λ (u : MeterView × List (ℕ × Unit {0})). Allows Kept slots id u 1 (λ x. x) (WasSettled (step slots 1 0 0 none) u)) (sym is) (settles slots id f b)
+
+pub joins_as : (id other : ℕ) (v w : MeterView) (f b : Bool) → v ≡ Feed f → w ≡ Ask b → Joins Kept id v other w (Met (flag v) (flag w)) (Read 0)
+joins_as id other v w f b is is' = subst (λ (x : MeterView × MeterView). Joins Kept id x.0 other x.1 (Met (flag x.0) (flag x.1)) (Read 0)) (λ k. (sym is k, sym is' k)) (joins id other f b)
+
+-- a seat that has done nothing yet, and doesn't ask, beside one of a meter in use
+splits : (id : ℕ) (v w : MeterView) → v ≢ Whole → ((out asker p c seat : ℕ) → SitsAtMeter out asker p c seat w) → Splits Kept id v v w
+splits id v w ne new s h at =
+    let u = used s.words s.views id v at ne h in
     let same = set_again s.views id v at in
-    subst (λ l. IsMeter s.words (l ++ w ∷ [])) (sym same) (
-      h.0,
-      h.1,
-      at_longer s.views (w ∷ []) h.0 _ h.2,
-      λ seat u e. ⊎_elim (λ was. h.3 seat u was) (λ is. subst (λ x. SitsAtMeter h.0 (slice_index s.words 0) (slice_index s.words 1) seat x) is (new h.0 (slice_index s.words 0) (slice_index s.words 1) seat)) (at_snoc s.views w u seat e),
-      ⊎_elim (λ z. inl z) (λ t. inr (t.0, (t.1.0, at_longer s.views (w ∷ []) t.1.0 _ t.1.1))) h.4,
-    )
+    subst (λ l. IsMeter s.words (l ++ w ∷ [])) (sym same) (inr (record {
+      out = u.out;
+      asker = u.asker;
+      two = u.two;
+      sum = at_longer s.views (w ∷ []) u.out _ u.sum;
+      seats = λ seat x e. ⊎_elim (λ was. u.seats seat x was) (λ is. subst (λ y. SitsAtMeter u.out u.asker (slice_index s.words 0) (slice_index s.words 1) seat y) is (new u.out u.asker (slice_index s.words 0) (slice_index s.words 1) seat)) (at_snoc s.views w x seat e);
+      cancel = ⊎_elim (λ z. inl z) (λ t. inr (t.0, t.1, at_longer s.views (w ∷ []) u.asker _ t.2, t.3)) u.cancel;
+    }))
 
-pub new_feeder : (id : ℕ) (v : MeterView) → Splits Kept id v v (Feed false)
-new_feeder id v = splits id v (Feed false) (λ out p c seat e. absurd cc)
+splits_as : (id : ℕ) (v w : MeterView) (m : MeterView × List (ℕ × Unit {0})) → m ≡ (Out 0, []) → v ≡ m.0 → ((out asker p c seat : ℕ) → SitsAtMeter out asker p c seat w) → Splits Kept id v v w
+splits_as id v w m is of new = splits id v w (λ e. absurd cc) new
 
-pub meter_begins : IsMeter (0 ∷ 0 ∷ []) (Out 0 ∷ [])
-meter_begins = (0, refl, refl, one, inl refl)
-  where
-    one : (seat : ℕ) (v : MeterView) → get_elem? (Out 0 ∷ []) seat ≡ some v → SitsAtMeter 0 0 0 seat v
-    one zero v e = subst (SitsAtMeter 0 0 0 0) (some-injective _ _ e) (refl, refl)
-    one (suc n) v e = absurd (some-ne-none v (sym e))
+pub new_reader : (id : ℕ) (m : MeterView × List (ℕ × Unit {0})) → m ≡ (Out 0, []) → Splits Kept id m.0 m.0 (Read 0)
+new_reader id m is = splits_as id m.0 (Read 0) m is refl (λ out asker p c seat. omega arith)
+
+pub new_feeder : (id : ℕ) (m : MeterView × List (ℕ × Unit {0})) → m ≡ (Out 0, []) → Splits Kept id m.0 m.0 (Feed false)
+new_feeder id m is = splits_as id m.0 (Feed false) m is refl (λ out asker p c seat e. absurd cc)
+
+pub meter_begins : IsMeter (0 ∷ 0 ∷ []) (Whole ∷ [])
+meter_begins = inl (refl, refl)
+
+-- the two seats of a new meter
+both_sit : (seat : ℕ) (v : MeterView) → get_elem? (Out 0 ∷ Ask false ∷ []) seat ≡ some v → SitsAtMeter 0 1 0 0 seat v
+both_sit zero v e = subst (SitsAtMeter 0 1 0 0 0) (some-injective _ _ e) (refl, refl)
+both_sit (suc zero) v e = subst (SitsAtMeter 0 1 0 0 1) (some-injective _ _ e) (refl, (λ t. absurd cc, λ t. absurd cc))
+both_sit (suc (suc n)) v e = absurd (some-ne-none v (sym e))
+
+opened : (id : ℕ) → get_elem? (Whole ∷ []) id ≡ some Whole → IsMeter (0 ∷ 0 ∷ []) (set (Whole ∷ []) id (Out 0) ++ Ask false ∷ [])
+opened zero e = inr (record { out = 0; asker = 1; two = refl; sum = refl; seats = both_sit; cancel = inl refl })
+opened (suc n) e = absurd (some-ne-none Whole (sym e))
+
+opens : (id : ℕ) → Splits Kept id Whole (Out 0) (Ask false)
+opens id s (inl t) at = subst (λ (x : List ℕ × List MeterView). IsMeter x.0 (set x.1 id (Out 0) ++ Ask false ∷ [])) (λ k. (sym t.0 k, sym t.1 k)) (opened id (subst (λ (l : List MeterView). get_elem? l id ≡ some Whole) t.1 at))
+opens id s (inr u) at = absurd (u.seats id Whole at)
+
+pub opens_as : (id : ℕ) (m : MeterView × List (ℕ × Unit {0})) → m ≡ (Whole, []) → Splits Kept id m.0 (Out 0) (Ask false)
+opens_as id m is = subst (λ (u : MeterView × List (ℕ × Unit {0})). Splits Kept id u.0 (Out 0) (Ask false)) (sym is) (opens id)

@@ -2,10 +2,10 @@
 use Rattle.std.specs.Prelude.{ℕ, ◌+◌, ◌<◌, ◌^◌, Bool, false}
 use Rattle.atomic_table.specs.Seated.{TableId}
 use Rattle.dump_pipe.specs.declared.meter_view.MeterView.{MeterView}
-use Rattle.dump_pipe.specs.declared.meter_view.MeterView.TheVariants.{Out, Read, Ask, Feed}
+use Rattle.dump_pipe.specs.declared.meter_view.MeterView.TheVariants.{Whole, Out, Read, Ask, Feed, Met}
 use Rattle.dump_pipe.specs.Pipes.{byte_limit}
 
--- the largest number of seats that read or ask, together
+-- the largest number of seats that read
 abbrev pub meter_seat_limit : ℕ
 meter_seat_limit = 16
 
@@ -28,14 +28,18 @@ HasDumpRoom s = s.known + byte_limit < 2 ^ 64
 
 -- the number that a seat knows
 abbrev pub count_of_seat : MeterView → ℕ
+count_of_seat Whole = 0
 count_of_seat (Out n) = n
 count_of_seat (Read n) = n
 count_of_seat (Ask b) = 0
 count_of_seat (Feed b) = 0
+count_of_seat (Met found b) = 0
 
 -- the mark that a seat knows
 abbrev pub flag : MeterView → Bool
+flag Whole = false
 flag (Out n) = false
 flag (Read n) = false
 flag (Ask b) = b
 flag (Feed b) = b
+flag (Met found b) = b

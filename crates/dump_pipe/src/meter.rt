@@ -1,19 +1,19 @@
 //! Meters, and the making of one with its seats.
-ghost use Rattle.std.specs.Prelude.{◌≡◌, ℕ, ◌+◌, ◌<◌, ◌≤◌, All, length, IfOk, false};
-ghost use Rattle.dump_pipe.specs.Meters.{SitsAtMeter};
+ghost use Rattle.std.specs.Prelude.{◌≡◌, ◌<◌, ◌≤◌, All, [], length, IfOk, false};
+ghost use Rattle.dump_pipe.specs.declared.meter_view.MeterView.TheVariants.{Out};
 ghost use Rattle.dump_pipe.specs.Seats.{knows, meter_seat_limit};
 
 use crate::cancel::Cancel;
 use crate::meter_view::MeterView;
 use crate::progress::Progress;
-use crate::rule::{Asks, Counts, Reads};
-use crate::seats::{AskSeat, FeedSeat, MeterSeat, OutSeat, ReadSeat, SeatFact, SeatKind};
+use crate::rule::{Counts, Opens};
+use crate::seats::{AskSeat, FeedSeat, MeterSeat, OutSeat, ReadSeat};
 use crate::word::Word;
 use atomic_table::{Seat, Shared, Table};
 use std::alloc::{AllocError, Global};
 use std::marker::Model;
 
-/// The largest number of seats that read or ask, together.
+/// The largest number of seats that read.
 pub const SEAT_LIMIT: usize = 16;
 
 /// A progress word and a cancel word. Contracts see which meter it is.
@@ -35,7 +35,7 @@ impl Model for Meter {
     ghost invariant = { λ m. m.table.shared.table_id.words ≡ 2 };
 }
 
-/// A meter with its seats: one that adds, those that read, those that ask, and one that looks whether they did.
+/// A meter with its seats: one that adds, those that read, one that asks, and one that looks whether it did.
 #[derive(Drop)]
 pub struct NewMeter {
     /// The meter.
@@ -44,55 +44,53 @@ pub struct NewMeter {
     pub out: OutSeat,
     /// The seats that read.
     pub readers: Vec<ReadSeat>,
-    /// The seats that ask.
-    pub askers: Vec<AskSeat>,
-    /// The seat that looks whether any of them asked.
+    /// The seat that asks.
+    pub asker: AskSeat,
+    /// The seat that looks whether it asked.
     pub feed: FeedSeat,
 }
 
-// Creates `count` seats of a kind. Fails if an allocation fails.
-fn new_seats<K: SeatKind<T>, T: SeatFact>(
+// Creates `count` seats that read, beside the one that adds. Fails if an allocation fails.
+fn new_readers(
     alloc: Global,
     table: &Shared<(), MeterView, (), Counts>,
     out: &mut Seat<(), MeterView>,
     count: usize,
-) -> Result<Vec<MeterSeat<K, T>>, AllocError>
+) -> Result<Vec<ReadSeat>, AllocError>
     requires table { (out.old.table_id ≡ table.now.table_id) × (0 < table.now.table_id.words) }
-    requires first { T.within (K.view K.first) ≡ K.first }
-    requires sits { (out p c seat : ℕ) → SitsAtMeter out p c seat (K.view K.first) }
+    requires adds { out.old.me ≡ (Out 0, []) }
     ensures out { (out.new.table_id ≡ out.old.table_id) × (out.new.me ≡ out.old.me) }
     ensures count { IfOk result (λ v. length v.items ≡ count) }
-    ensures seats { IfOk result (λ v. All (λ s. s ≡ knows table.now.table_id K.first) v.items) }
+    ensures seats { IfOk result (λ v. All (λ s. s ≡ knows table.now.table_id 0) v.items) }
 {
     let mut seats = Vec::new(alloc);
     for _ in 0..count {
-        let seat = table.split_seat::<MeterSeat<K, T>>(out);
+        let seat = table.split_seat::<ReadSeat>(out);
         seats.push(MeterSeat::of(seat))?;
     }
     Ok(seats)
 }
 
 impl Meter {
-    /// Creates a meter at 0 that nobody asked to cancel, with `readers` seats that read and `askers` seats that ask, together
-    /// at most 16. Fails if an allocation fails.
-    pub fn new(alloc: Global, readers: usize, askers: usize) -> Result<NewMeter, AllocError>
-        requires { readers + askers ≤ meter_seat_limit }
+    /// Creates a meter at 0 that nobody asked to cancel, with `readers` seats that read, at most 16. Fails if an allocation
+    /// fails.
+    pub fn new(alloc: Global, readers: usize) -> Result<NewMeter, AllocError>
+        requires { readers ≤ meter_seat_limit }
         ensures out { IfOk result (λ m. m.out ≡ knows m.meter 0) }
         ensures reader_count { IfOk result (λ m. length m.readers.items ≡ readers) }
         ensures readers { IfOk result (λ m. All (λ s. s ≡ knows m.meter 0) m.readers.items) }
-        ensures asker_count { IfOk result (λ m. length m.askers.items ≡ askers) }
-        ensures askers { IfOk result (λ m. All (λ s. s ≡ knows m.meter false) m.askers.items) }
+        ensures asker { IfOk result (λ m. m.asker ≡ knows m.meter false) }
         ensures feed { IfOk result (λ m. m.feed ≡ knows m.meter false) }
     {
         let (table, mut out) = Table::of_words(alloc, &[0, 0], &())?;
-        let read = new_seats::<Reads, u64>(alloc, &table.shared, &mut out, readers)?;
-        let ask = new_seats::<Asks, bool>(alloc, &table.shared, &mut out, askers)?;
+        let asker = table.shared.split_seat::<Opens>(&mut out);
+        let read = new_readers(alloc, &table.shared, &mut out, readers)?;
         let feed = table.shared.split_seat::<FeedSeat>(&mut out);
         Ok(NewMeter {
             meter: Meter { table },
             out: MeterSeat::of(out),
             readers: read,
-            askers: ask,
+            asker: MeterSeat::of(asker),
             feed: MeterSeat::of(feed),
         })
     }

@@ -2,12 +2,16 @@
 
 /// The knowledge of a seat of a meter, for contracts alone. No value of it is made.
 pub enum MeterView {
+    /// A new meter, with no seat but this one.
+    Whole,
     /// The bytes that the out seat added.
     Out(u64),
     /// The sum that a reader read last.
     Read(u64),
-    /// Whether an asker asked.
+    /// Whether the asker asked.
     Ask(bool),
-    /// Whether a feeder found that somebody had asked.
+    /// Whether a feeder found that the asker had asked.
     Feed(bool),
+    /// A feeder and the asker as one seat: whether the first found that the second had asked, and whether it did.
+    Met(bool, bool),
 }

@@ -1,19 +1,19 @@
 //! The rule of a meter's two words, and the kinds of its seats.
 use crate::meter_view::MeterView;
 use crate::seats::SeatKind;
-use atomic_table::TableRule;
+use atomic_table::{Join, Play, Split, TableRule};
 
-/// The rule: the progress word is the sum of the out seat, and no reader saw more. The cancel word is 1 if an asker asked, else
-/// 0, and it is 1 if a feeder found it so.
+/// The rule: the progress word is the sum of the out seat, and no reader saw more. The cancel word is 1 if the asker asked, else
+/// 0, and it is 1 if a feeder found it so. A meter has one asker.
 pub struct Counts;
 
 impl TableRule<(), MeterView, ()> for Counts {
-    ghost use Rattle.dump_pipe.specs.declared.meter_view.MeterView.TheVariants.{Out};
+    ghost use Rattle.dump_pipe.specs.declared.meter_view.MeterView.TheVariants.{Whole};
     ghost use Rattle.dump_pipe.specs.Meters.{IsMeter};
 
     ghost holds = { λ _ s. IsMeter s.words s.views };
 
-    ghost first = { λ _. Out 0 };
+    ghost first = { λ _. Whole };
 }
 
 /// The kind of the out seat, which adds.
@@ -44,7 +44,7 @@ impl SeatKind<u64> for Reads {
     ghost then = { WasRead };
 }
 
-/// The kind of an asker, which asks.
+/// The kind of the asker, which asks.
 pub struct Asks;
 
 impl SeatKind<bool> for Asks {
@@ -72,4 +72,34 @@ impl SeatKind<bool> for Looks {
     ghost first = { false };
 
     ghost then = { WasLookedAt };
+}
+
+/// The way in which a new meter's seat is cut in two: the seat that adds, and the one that asks.
+pub struct Opens;
+
+impl Split<MeterView> for Opens {
+    ghost use Rattle.std.specs.Prelude.{false};
+    ghost use Rattle.dump_pipe.specs.declared.meter_view.MeterView.TheVariants.{Ask, Out};
+
+    ghost left = { λ _. Out 0 };
+
+    ghost right = { λ _. Ask false };
+}
+
+/// The way in which a feeder takes in the asker, and the step by which they compare.
+pub struct Settles;
+
+impl Join<MeterView> for Settles {
+    ghost use Rattle.dump_pipe.specs.declared.meter_view.MeterView.TheVariants.{Met, Read};
+    ghost use Rattle.dump_pipe.specs.Seats.{flag};
+
+    ghost both = { λ v w. Met (flag v) (flag w) };
+
+    ghost spent = { Read 0 };
+}
+
+impl Play<(), MeterView> for Settles {
+    ghost use Rattle.dump_pipe.specs.Meters.{WasSettled};
+
+    ghost then = { WasSettled };
 }

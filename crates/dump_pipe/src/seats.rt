@@ -49,7 +49,7 @@ pub trait SeatKind<T> {
 #[derive(Drop)]
 pub struct MeterSeat<K: SeatKind<T>, T: SeatFact> {
     pub(crate) seat: Seat<(), MeterView>,
-    of: PhantomData<(K, T)>,
+    pub(crate) of: PhantomData<(K, T)>,
 }
 
 impl<K: SeatKind<T>, T: SeatFact> Model for MeterSeat<K, T> {
@@ -92,8 +92,8 @@ pub type OutSeat = MeterSeat<Adds, u64>;
 /// A seat that reads the sum. It knows the sum that it read last, 0 at first.
 pub type ReadSeat = MeterSeat<Reads, u64>;
 
-/// A seat that asks to cancel. It knows whether it asked.
+/// The seat that asks to cancel. A meter has one. It knows whether it asked.
 pub type AskSeat = MeterSeat<Asks, bool>;
 
-/// The seat that looks whether anybody asked. It knows whether it found that somebody had.
+/// The seat that looks whether the asker asked. It knows whether it found that it had.
 pub type FeedSeat = MeterSeat<Looks, bool>;

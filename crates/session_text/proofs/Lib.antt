@@ -13,3 +13,4 @@ pub mod QuickDigits
 pub mod QuickLines
 pub mod ActionLists
 pub mod OtherCommands
+pub mod ComputedSession

@@ -9,6 +9,7 @@ pub mod Answers
 pub mod Talks
 pub mod Endings
 pub mod Session
+pub mod Examples
 pub mod Laws
 -- What clauses here, and proofs above, cite of the crates below.
 pub use Rattle.heap_trail.specs.Machine

@@ -14,6 +14,7 @@ pub mod commands;
 mod data;
 mod digits;
 mod dump;
+mod examples;
 mod mutator;
 mod page;
 mod reply;
@@ -24,6 +25,7 @@ mod write;
 
 pub use commands::{Commands, LineAnswer, Local};
 pub use dump_pump::{Inlet, Outlet, ReadInlet, Take};
+pub use examples::worked_session;
 pub use heap_trail::Machine;
 pub use reply::cause_word;
 pub use talk::{serve, serve_local};

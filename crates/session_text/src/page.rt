@@ -2,7 +2,7 @@
 ghost use Rattle.std.specs.Prelude.{◌≡◌, ◌+◌, ◌*◌, ◌≤◌, ◌++◌, [], take, length, IfOk};
 ghost use Rattle.hex.specs.Hex.{encode_lower};
 ghost use Rattle.session_text.specs.Replies.{and_number};
-ghost use Rattle.session_text.specs.declared.page.TheConstants.{PAGE_LIMIT};
+ghost use Rattle.session_text.specs.declared.page.TheConstants.{NUMBER_LIMIT, PAGE_LIMIT};
 
 use crate::digits::write_digits;
 use std::alloc::{AllocError, Global};
@@ -10,6 +10,9 @@ use std::marker::Model;
 
 /// The largest number of bytes of a page.
 pub const PAGE_LIMIT: usize = 8192;
+
+/// The largest number of bytes of a space and a number.
+pub const NUMBER_LIMIT: usize = 21;
 
 /// Text that isn't written yet. All memory is allocated when the page is made. Contracts see the bytes.
 #[derive(Drop)]
@@ -73,9 +76,9 @@ impl Page {
 
     /// Adds a space and a number.
     pub fn add_number(&mut self, n: u64)
-        requires { length self.old + 21 ≤ PAGE_LIMIT }
+        requires { length self.old + NUMBER_LIMIT ≤ PAGE_LIMIT }
         ensures text { self.new ≡ self.old ++ and_number n }
-        ensures short { length self.new ≤ length self.old + 21 }
+        ensures short { length self.new ≤ length self.old + NUMBER_LIMIT }
     {
         self.add(b" ");
         self.add(itoa::Buffer::new().format(n).as_bytes());

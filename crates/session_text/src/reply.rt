@@ -5,7 +5,7 @@ ghost use Rattle.heap_step.specs.declared.Answer.TheVariants.{Object, Swept};
 ghost use Rattle.heap_trail.specs.declared.Reply.TheVariants.{Answered, Pinned};
 ghost use Rattle.session_text.specs.Replies.{and_number, answer_text, cause_text, facts_text, refusal_text, line, piece_words, reply_words, reply_data, reply_text, data_lines, piece_in, pin_in};
 ghost use Rattle.session_text.specs.Writes.{IsTextAdded};
-ghost use Rattle.session_text.specs.declared.page.TheConstants.{PAGE_LIMIT};
+ghost use Rattle.session_text.specs.declared.page.TheConstants.{NUMBER_LIMIT, PAGE_LIMIT};
 ghost use Rattle.session_text.specs.declared.write.TheConstants.{LINE_START};
 
 use crate::data::write_data;
@@ -19,9 +19,9 @@ use heap_trail::Reply;
 // Adds words, a space and a number.
 #[inline(always)]
 fn add_numbered(page: &mut Page, words: &[u8], n: u64)
-    requires { length page.old + length words.now + 21 ≤ PAGE_LIMIT }
+    requires { length page.old + length words.now + NUMBER_LIMIT ≤ PAGE_LIMIT }
     ensures text { page.new ≡ page.old ++ (words.now ++ and_number n) }
-    ensures short { length page.new ≤ length page.old + length words.now + 21 }
+    ensures short { length page.new ≤ length page.old + length words.now + NUMBER_LIMIT }
 {
     page.add(words);
     page.add_number(n);

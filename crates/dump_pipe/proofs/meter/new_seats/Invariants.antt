@@ -1,7 +1,0 @@
-use Rattle.std.proofs.Common.{◌≡◌, length}
-use Rattle.std.specs.Prelude.{All}
-use Rattle.dump_pipe.specs.Seats.{knows}
-use Rattle.dump_pipe.proofs.meter.new_seats.Given as goal
-
-abbrev pub invariant-loop : goal.invariant-loop
-invariant-loop g l = (l.out.table_id ≡ l.initial.out.table_id) × (l.out.me ≡ l.initial.out.me) × (length l.seats.items ≡ l.counter) × All (λ s. s ≡ knows l.table.table_id g.K.SeatKind.first) l.seats.items

@@ -46,7 +46,11 @@ pub(crate) fn next_unless(written: bool) -> Flow
 }
 
 // Adds the answer of a line that the grammar doesn't know to a page, which is flushed whenever it is full.
-fn write_line_answer<O: Outlet>(page: &mut Page, writer: &mut O, answer: &LineAnswer) -> bool
+pub(crate) fn write_line_answer<O: Outlet>(
+    page: &mut Page,
+    writer: &mut O,
+    answer: &LineAnswer,
+) -> bool
     ensures { IsTextAdded (line_answer_text answer.now) page.old (O.seen writer.old) page.new
         (O.seen writer.new) result }
 {

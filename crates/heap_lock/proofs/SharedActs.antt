@@ -1,5 +1,5 @@
 -- An act under the lock, with what lay there before.
-use Rattle.std.proofs.Common.{◌≡◌, Result, Ok, Err, refl, ap, ◌∙◌, subst, sym}
+use Rattle.std.proofs.Common.{◌≡◌, Ok, Err, refl, ◌∙◌, subst}
 use Rattle.heap_class.specs.declared.Refusal.{Refusal}
 use Rattle.heap_world.specs.Limits.{HeapSettings}
 use Rattle.heap_trail.specs.declared.Action.{Action}

@@ -12,8 +12,8 @@ use Rattle.heap_trail.specs.Trail.{Trail}
 use Rattle.heap_trail.specs.Machine.{Machine}
 use Rattle.heap_chronicle.specs.History.{tally}
 use Rattle.heap_lock.specs.Calls.{Call, IsHeapLedger, IsLegalLedger, IsWitnessed, Witnesses}
-use Rattle.heap_lock.specs.Collector.{IsSeen, state_after}
-use Rattle.heap_lock.specs.LockStates.{AreMet, Chair, IsKnown, LockState, IsDumperAct}
+use Rattle.heap_lock.specs.Collector.{SeesState, state_of_calls}
+use Rattle.heap_lock.specs.LockStates.{AreMet, Chair, AreAllCalls, LockState, IsDumperAct}
 use Rattle.heap_lock.proofs.CallTrails.{ledger_trail}
 
 last_of_all : (config : HeapSettings) (before after : List Call) (action : Action) (r : Reply) (k k1 k2 : LockState) → IsPrefix before k.ledger → k1 ≡ k → IsDumperAct action k1 r k2 → after ≡ k2.ledger → IsLegalLedger config k2.ledger → Witnesses config before action r after
@@ -28,18 +28,18 @@ witnessed config before after action reply (Ok a) k k1 k2 begins same done refus
 witnessed config before after action reply (Err e) k k1 k2 begins same done refused is legal = record { done = tt; refused = last_of_all config before after action (Refused e) k k1 k2 begins same refused is legal }
 
 -- what is so of the machine's state is so of the one that all calls leave
-pub seen_state : (config : HeapSettings) (before after : List Call) (k : LockState) (m : Machine) (is : HeapState → Type 0) → IsPrefix before k.ledger → IsHeapLedger config k.machine k.chronicle k.ledger → after ≡ k.ledger → m ≡ k.machine → is m.trail.current → IsSeen config before is after
+pub seen_state : (config : HeapSettings) (before after : List Call) (k : LockState) (m : Machine) (is : HeapState → Type 0) → IsPrefix before k.ledger → IsHeapLedger config k.machine k.chronicle k.ledger → after ≡ k.ledger → m ≡ k.machine → is m.trail.current → SeesState config before is after
 seen_state config before after k m is begins heap same here now =
     let trail = ap (λ (x : Machine). x.trail) here ∙ ledger_trail config k.machine k.chronicle k.ledger heap.0 heap.1 in (
       subst (IsPrefix before) (sym same) begins,
       subst (IsLegalLedger config) (sym same) (k.machine, k.chronicle, heap.0, heap.1),
-      subst is (ap (λ (t : Trail). t.current) trail ∙ ap (state_after config) (sym same)) now,
+      subst is (ap (λ (t : Trail). t.current) trail ∙ ap (state_of_calls config) (sym same)) now,
     )
 
 -- a seat whose share is just what the history of these calls has of it
-pub known : (config : HeapSettings) (s : Chair) (k k1 : LockState) → tally s.number k.chronicle ≡ s.share → k1 ≡ k → IsHeapLedger config k1.machine k1.chronicle k1.ledger → IsKnown config k.machine s k.ledger
+pub known : (config : HeapSettings) (s : Chair) (k k1 : LockState) → tally s.number k.chronicle ≡ s.share → k1 ≡ k → IsHeapLedger config k1.machine k1.chronicle k1.ledger → AreAllCalls config k.machine s k.ledger
 known config s k k1 share same heap = (k.chronicle, subst (λ (x : LockState). IsHeapLedger config x.machine x.chronicle x.ledger) same heap, share)
 
 -- and one that was shown these calls under the lock
-pub met : (config : HeapSettings) (s : Chair) (after : List Call) (k : LockState) → IsKnown config k.machine s k.ledger → after ≡ k.ledger → AreMet config s after
-met config s after k is same = (k.machine, subst (IsKnown config k.machine s) (sym same) is)
+pub met : (config : HeapSettings) (s : Chair) (after : List Call) (k : LockState) → AreAllCalls config k.machine s k.ledger → after ≡ k.ledger → AreMet config s after
+met config s after k is same = (k.machine, subst (AreAllCalls config k.machine s) (sym same) is)

@@ -9,14 +9,14 @@ use Rattle.heap_lock.specs.Calls.{Call, IsLegalLedger}
 use Rattle.heap_lock.specs.Laws.{trail_by}
 
 -- the state that calls on a heap leave
-abbrev pub state_after : HeapSettings → List Call → HeapState
-state_after config calls = (trail_by config.keep (opening config) calls).current
+abbrev pub state_of_calls : HeapSettings → List Call → HeapState
+state_of_calls config calls = (trail_by config.keep (opening config) calls).current
 
 -- the lowest region that waits to be swept, if one does
 abbrev pub pending_in : HeapState → Option ℕ
 pending_in w = slice_get (pending_regions w.regions) 0
 
 -- more calls of the heap were seen, maybe none, and the state that they leave is so
-abbrev pub IsSeen : HeapSettings → List Call → (HeapState → Type 0) → List Call → Type 0
-IsSeen config before is after =
-    IsPrefix before after × IsLegalLedger config after × is (state_after config after)
+abbrev pub SeesState : HeapSettings → List Call → (HeapState → Type 0) → List Call → Type 0
+SeesState config before is after =
+    IsPrefix before after × IsLegalLedger config after × is (state_of_calls config after)

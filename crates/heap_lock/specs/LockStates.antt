@@ -158,14 +158,14 @@ IsDumperAct action k r k' =
     × (k'.ledger ≡ k.ledger ++ (action, r) ∷ []) × (k'.rolls ≡ k.rolls)
 
 -- these are all calls of a heap with this machine, whose history is legal and has of the seat just the share
-abbrev pub IsKnown : HeapSettings → Machine → Chair → List Call → Type 0
-IsKnown config m s calls =
+abbrev pub AreAllCalls : HeapSettings → Machine → Chair → List Call → Type 0
+AreAllCalls config m s calls =
     (chronicle : List Entry) × IsHeapLedger config m chronicle calls
     × (tally s.number chronicle ≡ s.share)
 
 -- a caller's seat and what its witness has seen are of one moment of the heap
 abbrev pub AreMet : HeapSettings → Chair → List Call → Type 0
-AreMet config s calls = (m : Machine) × IsKnown config m s calls
+AreMet config s calls = (m : Machine) × AreAllCalls config m s calls
 
 -- what lies under the lock is what the calls so far leave: they lead to the machine, and their acts are a legal history, which
 -- leaves the machine's trail

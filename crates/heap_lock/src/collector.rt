@@ -1,6 +1,6 @@
 //! What a worker sees of the collector, without an entry.
 ghost use Rattle.std.specs.Prelude.{◌≡◌};
-ghost use Rattle.heap_lock.specs.Collector.{IsSeen, pending_in};
+ghost use Rattle.heap_lock.specs.Collector.{SeesState, pending_in};
 
 use crate::heap::{Heap, Kept, Shared};
 use crate::witness::Witness;
@@ -27,7 +27,7 @@ impl<L: Heap> Shared<L> {
     /// Returns the phase of the collector under the lock, without an entry: that of the state which all calls leave that the
     /// witness has seen then. Takes no memory. May wait.
     pub fn phase<R: Wait>(&self, rt: &R, witness: &mut Witness<L>) -> Phase
-        ensures { IsSeen L.config witness.old (λ w. result ≡ w.phase) witness.new }
+        ensures { SeesState L.config witness.old (λ w. result ≡ w.phase) witness.new }
     {
         let mut kept = self.lock(rt);
         kept.show(witness);
@@ -37,7 +37,7 @@ impl<L: Heap> Shared<L> {
     /// Returns the lowest region that waits to be swept, or None, under the lock, without an entry: that of the state which all
     /// calls leave that the witness has seen then. Takes no memory. May wait.
     pub fn pending<R: Wait>(&self, rt: &R, witness: &mut Witness<L>) -> Option<u64>
-        ensures { IsSeen L.config witness.old (λ w. result ≡ pending_in w) witness.new }
+        ensures { SeesState L.config witness.old (λ w. result ≡ pending_in w) witness.new }
     {
         let mut kept = self.lock(rt);
         kept.show(witness);

@@ -3,7 +3,7 @@ ghost use Rattle.std.specs.Prelude.{◌≡◌};
 ghost use mathlib.Core.List.{IsPrefix};
 ghost use Rattle.heap_lock.specs.Calls.{IsHeapLedger, IsLegalLedger};
 ghost use Rattle.heap_lock.specs.Ledgers.{calls_in, IsSight};
-ghost use Rattle.heap_lock.specs.LockStates.{AreMet, IsKnown};
+ghost use Rattle.heap_lock.specs.LockStates.{AreMet, AreAllCalls};
 
 use crate::heap::{Heap, Kept, Seat, Shared};
 use crate::sight::Sight;
@@ -70,7 +70,7 @@ impl<L: Heap> Kept<L> {
     /// Shows a witness all calls so far, and compares them with a seat: the acts among them are a history that has of the seat
     /// just its share. Changes nothing but the witness. Takes no memory.
     pub fn meet(&mut self, seat: &mut Seat<L>, witness: &mut Witness<L>)
-        ensures known { IsKnown L.config self.old.machine seat.old self.old.ledger }
+        ensures known { AreAllCalls L.config self.old.machine seat.old self.old.ledger }
         ensures witness { witness.new ≡ self.old.ledger }
         ensures begins { IsPrefix witness.old self.old.ledger }
         ensures same { (self.new ≡ self.old) × (seat.new ≡ seat.old) }

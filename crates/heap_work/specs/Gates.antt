@@ -1,9 +1,12 @@
--- How often a worker's gate was asked.
+-- How often a worker's gate was asked, and what a mark worker did.
 use Rattle.std.specs.Prelude.{◌≡◌, ℕ, zero, suc, ◌+◌, Bool, true, false, length}
+use Rattle.heap_lock.specs.HeapLimits.{HeapSettings}
 use Rattle.heap_lock.specs.LockStates.{Chair}
 use Rattle.heap_work.specs.declared.MarkEnd.{MarkEnd}
 use Rattle.heap_work.specs.declared.MarkEnd.TheVariants.{Finished, NotMarking, Pending, Refused, Stopped, TurnsOver}
+use Rattle.heap_work.specs.declared.Stage.{Stage}
 use Rattle.heap_work.specs.declared.SweepEnd.{SweepEnd}
+use Rattle.heap_work.specs.Rule.{IsMarkWorkFrom, MarkStops}
 
 -- a gate let this many acts begin, asked for each by its number, from 1 on
 abbrev pub LetsBegin : {G : Type 0} → (G → ℕ → Bool → G → Type 0) → G → ℕ → G → Type 0
@@ -50,3 +53,11 @@ SweepAsks says before s s' after SweepEnd.Swept = AsksForEach says before s s' a
 SweepAsks says before s s' after (SweepEnd.Refused e) = AsksForOneMore says before s s' after
 SweepAsks says before s s' after SweepEnd.Stopped = AsksUntilStopped says before s s' after
 SweepAsks says before s s' after SweepEnd.TurnsOver = AsksForEach says before s s' after
+
+-- what a mark worker does from this stage on, and how it asks its gate
+pub record IsMarkRun {G : Type 0} (first : Stage) (config : HeapSettings)
+    (says : G → ℕ → Bool → G → Type 0) (before after : G) (s s' : Chair) (turns : ℕ)
+    (end : MarkEnd) : Type 0 where
+  pub work : IsMarkWorkFrom first config s s' turns end
+  pub stops : MarkStops says s s' after end
+  pub asks : MarkAsks says before s s' after end

@@ -3,8 +3,9 @@
 
 ghost use Rattle.std.specs.Prelude.{◌≡◌};
 ghost use Rattle.heap_lock.specs.declared.role.Role.TheVariants.{Marker, Sweeper};
-ghost use Rattle.heap_work.specs.Rule.{mark_end_of, event_of, stage_after, BeginsNoCycle, IsMarkWork, IsMarkWorkFrom, IsResumedWork, IsSweepWork, MarkStops, SweepStops};
-ghost use Rattle.heap_work.specs.Gates.{MarkAsks, SweepAsks};
+ghost use Rattle.heap_work.specs.declared.Stage.TheVariants.{Mark, Snap};
+ghost use Rattle.heap_work.specs.Rule.{mark_end_of, event_of, stage_after, BeginsNoCycle, IsMarkWorkFrom, IsSweepWork, MarkStops, SweepStops};
+ghost use Rattle.heap_work.specs.Gates.{IsMarkRun, MarkAsks, SweepAsks};
 
 use heap_lock::{Answer, Event, Heap, Outcome, Receipt, Refusal, Seat, Shared};
 use std::sync::Wait;
@@ -158,9 +159,7 @@ pub fn mark_worker<L: Heap, R: Wait, G: Gate>(
     turns: u64,
 ) -> MarkEnd
     requires { seat.old.role ≡ Marker }
-    ensures work { IsMarkWork L.config seat.old seat.new turns result }
-    ensures stops { MarkStops G.says seat.old seat.new gate.new result }
-    ensures asks { MarkAsks G.says gate.old seat.old seat.new gate.new result }
+    ensures { IsMarkRun Snap L.config G.says gate.old gate.new seat.old seat.new turns result }
 {
     mark_from(shared, rt, seat, gate, turns, Stage::Snap)
 }
@@ -175,10 +174,8 @@ pub fn resume_worker<L: Heap, R: Wait, G: Gate>(
     turns: u64,
 ) -> MarkEnd
     requires { seat.old.role ≡ Marker }
-    ensures work { IsResumedWork L.config seat.old seat.new turns result }
+    ensures run { IsMarkRun Mark L.config G.says gate.old gate.new seat.old seat.new turns result }
     ensures begins { BeginsNoCycle seat.old seat.new }
-    ensures stops { MarkStops G.says seat.old seat.new gate.new result }
-    ensures asks { MarkAsks G.says gate.old seat.old seat.new gate.new result }
 {
     mark_from(shared, rt, seat, gate, turns, Stage::Mark)
 }

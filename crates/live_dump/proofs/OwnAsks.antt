@@ -1,7 +1,6 @@
 -- A dumper's own requests for pieces, among the calls of others.
-use Rattle.std.proofs.Common.{◌≡◌, ◌≢◌, ℕ, ◌==◌, Bool, true, false, List, [], ◌∷◌, ◌++◌, Option, Some, None, if◌then◌else◌, refl, sym, ap, ◌∙◌, subst, inl, inr, append_assoc, append-nil}
+use Rattle.std.proofs.Common.{◌≡◌, ◌≢◌, ℕ, Bool, List, [], ◌∷◌, ◌++◌, if◌then◌else◌, refl, sym, ap, ◌∙◌, subst, inl, inr, append_assoc, append-nil}
 use Rattle.std.proofs.lemmas.Bool.{ne_eqb, eq-eqb}
-use Rattle.std.specs.Prelude.{flat_map}
 use Rattle.heap_lock.specs.Refusal.{Refusal}
 use Rattle.heap_lock.specs.Action.{Action}
 use Rattle.heap_lock.specs.Action.TheVariants.{Step, Rewind, OpenPin, NextPiece, ClosePin}
@@ -10,7 +9,7 @@ use Rattle.heap_lock.specs.Reply.TheVariants.{Answered, Place, Pinned, Part, Clo
 use Rattle.heap_lock.specs.Piece.{Piece}
 use Rattle.heap_lock.specs.TrailLaws.{AsksAt}
 use Rattle.heap_lock.specs.Calls.{Call}
-use Rattle.heap_lock.specs.Dumpers.{AllAsk, AsksElsewhere, OthersKeepOff}
+use Rattle.heap_lock.specs.Dumpers.{AllAsk, OthersKeepOff}
 use Rattle.heap_lock.specs.Laws.{CallsAskAt, piece_replied, pieces_given}
 
 -- ---- a request more

@@ -1,5 +1,5 @@
 -- Dumps of a pin that was opened on the current state.
-use Rattle.std.proofs.Common.{◌≡◌, ℕ, Bool, List, [], ◌∷◌, ◌++◌, None, refl, sym, ap, ◌∙◌, subst, inr, append_assoc, Result, Ok, Err, IfOk, IfErr}
+use Rattle.std.proofs.Common.{◌≡◌, ℕ, Bool, [], ◌∷◌, ◌++◌, None, ap, ◌∙◌, subst, inr, append_assoc, Result, Ok, Err, IfOk, IfErr}
 use Rattle.heap_lock.specs.Refusal.{Refusal}
 use Rattle.heap_lock.specs.Refusal.TheVariants.{NoMemory}
 use Rattle.heap_lock.specs.HeapLimits.{HeapSettings}
@@ -7,7 +7,6 @@ use Rattle.heap_lock.specs.Action.TheVariants.{OpenPin, ClosePin}
 use Rattle.heap_lock.specs.Reply.TheVariants.{Pinned, Closed, Refused}
 use Rattle.dump_pump.specs.declared.transfer.Pumped.{Pumped}
 use Rattle.dump_pump.specs.Outlets.{Outgoing}
-use Rattle.heap_lock.specs.Calls.{Call}
 use Rattle.heap_lock.specs.Dumpers.{DumperState, Makes}
 use Rattle.heap_lock.specs.Laws.{pieces_given}
 use Rattle.live_dump.specs.Dumps.{PutsServedPin, PutsState, Closes, IsDump, IsDumpRefused}

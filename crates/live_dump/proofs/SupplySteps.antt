@@ -2,7 +2,6 @@
 use Rattle.std.proofs.Common.{◌≡◌, ◌≤◌, ◌+◌, ℕ, Bool, true, false, List, [], ◌∷◌, ◌++◌, length, Option, Some, None, if◌then◌else◌, refl, ap, sym, ◌∙◌, subst, inl, inr, arith, append_assoc, append-nil, length-append}
 use mathlib.Core.List.{IsPrefix}
 use Rattle.heap_lock.specs.IdSize.{IdSize}
-use Rattle.heap_lock.specs.LostCause.{LostCause}
 use Rattle.heap_lock.specs.HeapLimits.{HeapSettings}
 use Rattle.heap_lock.specs.Action.TheVariants.{NextPiece}
 use Rattle.heap_lock.specs.Reply.{Reply}

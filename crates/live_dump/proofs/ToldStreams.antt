@@ -1,5 +1,5 @@
 -- What a stream of a told source puts out.
-use Rattle.std.proofs.Common.{◌≡◌, ℕ, Bool, true, false, List, ◌++◌, Option, Some, None, if◌then◌else◌, refl, sym, ap, ◌∙◌, subst, inl, ◌⊎◌}
+use Rattle.std.proofs.Common.{◌≡◌, ℕ, Bool, true, false, List, ◌++◌, Option, Some, None, if◌then◌else◌, refl, ap, ◌∙◌, subst, inl, ◌⊎◌}
 use Rattle.heap_lock.specs.LostCause.{LostCause}
 use Rattle.heap_lock.specs.HeapLimits.{HeapSettings}
 use Rattle.heap_lock.specs.Piece.{Piece}
@@ -13,7 +13,7 @@ use Rattle.dump_pipe.specs.Watches.{watched}
 use Rattle.dump_pipe.specs.Streams.{IsStreamed}
 use Rattle.dump_pipe.proofs.PageStreams.{from_some}
 use Rattle.heap_lock.specs.Calls.{Call}
-use Rattle.heap_lock.specs.Dumpers.{AllAsk, DumperState}
+use Rattle.heap_lock.specs.Dumpers.{DumperState}
 use Rattle.heap_lock.specs.Laws.{pieces_given}
 use Rattle.live_dump.specs.Supplies.{ToldSupply, nothing_of, AreGiven, AllLegal, AreGot, HasAsked, IsTooMany, MayEnd, IsSupplied, told_supply}
 use Rattle.live_dump.specs.Streams.{GotFor, TellsStream, PutsLive}

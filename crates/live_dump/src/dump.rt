@@ -54,7 +54,7 @@ fn dump_pin<'a, L: Heap + Send + Sync, O: Outlet, R: Threads + Wait + Sync>(
     ensures refused { IfErr result.0 (λ e. (e ≡ NoMemory) × (result.1 ≡ live.entry.dumper)) }
     ensures unchanged { IfErr result.0 (λ e. O.seen outlet.new ≡ O.seen outlet.old) }
 {
-    let Ok(made) = Meter::new(alloc, 0, 0) else {
+    let Ok(made) = Meter::new(alloc, 0) else {
         return (Err(Refusal::NoMemory), live.dumper);
     };
     let NewMeter { meter, out, .. } = made;

@@ -12,7 +12,7 @@ pub mod tending;
 pub mod words;
 
 pub use dump::dump_current;
-pub use dump_pipe::{AskSeat, FeedSeat, Meter, NewMeter, OutSeat, ReadSeat};
+pub use dump_pipe::{AskSeat, Cancel, FeedSeat, Meter, NewMeter, OutSeat, ReadSeat};
 pub use laws::streams_are_text;
 pub use listener::DumpListener;
 pub use socket::StoppableSocket;

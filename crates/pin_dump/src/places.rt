@@ -90,7 +90,7 @@ fn stream_shown<'a, O: Outlet, G: Gauge, R: Threads + Wait + Sync>(
         ≡ ungiven source.entry.pin source.entry.machine.now }
     ensures machine { result.1.machine.ghost_name ≡ source.entry.machine.ghost_name }
 {
-    let Ok(mut made) = Meter::new(alloc, 1, 0) else {
+    let Ok(mut made) = Meter::new(alloc, 1) else {
         let lost = Pumped::Lost {
             cause: LostCause::Memory,
             bytes: 0,

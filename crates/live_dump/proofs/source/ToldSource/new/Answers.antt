@@ -1,7 +1,7 @@
-use Rattle.std.proofs.Common.{◌≡◌, List, [], ◌∷◌, ◌++◌, None, sym, ap, ◌∙◌, subst}
+use Rattle.std.proofs.Common.{List, [], ◌∷◌, ◌++◌, None, sym, ap, ◌∙◌, subst}
 use Rattle.dump_pump.specs.Sources.{parts_in}
 use Rattle.heap_lock.specs.Dumpers.{DumperState}
-use Rattle.live_dump.specs.Supplies.{ToldSupply, IsSupplied, first_dumper, nothing_of, supply_of}
+use Rattle.live_dump.specs.Supplies.{ToldSupply, IsSupplied, first_dumper, supply_of}
 use Rattle.live_dump.proofs.SupplySteps.{nothing_supplied}
 use Rattle.live_dump.proofs.source.ToldSource.new.Goals as goal
 

@@ -421,9 +421,9 @@ class Calls:
         for a gray one, and `x` for one that isn't live."""
         return self.send("cells", rows_by(cells_of))
 
-    def status(self) -> Any:
-        """Returns a dict of numbers, but for "phase", which is "idle" or "marking": "place", "retained", "gray", "undrained",
-        "unswept", "regions", and of a served heap "acts"."""
+    def heap_status(self) -> Any:
+        """Asks `status`, and returns a dict of numbers, but for "phase", which is "idle" or "marking": "place", "retained", "gray",
+        "undrained", "unswept", "regions", and of a served heap "acts"."""
         return self.send("status", facts_by_name)
 
     def collect(self) -> Any:

@@ -111,7 +111,7 @@ class Replies(unittest.TestCase):
         self.assertEqual(objects, [(0x10000000, "unreached", 2, False), (0x10000020, "Node", 0, True)])
         self.assertEqual(str(objects[1][0]), "0x10000020")
         self.assertEqual(heap.cells(), [Cells(0, 256, False, "o.gx"), Cells(3, 1024, True, "m")])
-        told = heap.status()
+        told = heap.heap_status()
         self.assertEqual(told.pop("phase"), "marking")
         numbers = {"place": 9, "retained": 4, "gray": 1, "undrained": 2, "unswept": 3, "regions": 16, "acts": 12}
         self.assertEqual(told, numbers)
@@ -128,7 +128,7 @@ class Replies(unittest.TestCase):
             self.assertEqual(heap.objects("@2"), [(first, "Node", 2, False)])
             self.assertEqual(heap.cells(), [Cells(0, 4, False, "og" + "." * 254)])
             status = {"place": 4, "retained": 4, "phase": "marking", "gray": 1, "undrained": 0, "unswept": 0, "regions": 2}
-            self.assertEqual(heap.status(), status)
+            self.assertEqual(heap.heap_status(), status)
 
 
 class Names(unittest.TestCase):

@@ -19,3 +19,5 @@ pub mod ImagePaths
 pub mod UnreachedObjects
 pub mod PastIds
 pub mod PastLosses
+pub mod ListedObjects
+pub mod GrayMarks

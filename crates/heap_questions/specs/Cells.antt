@@ -34,8 +34,8 @@ cell_state w at =
 abbrev pub cell_number : ObjRef → ℕ
 cell_number at = cell_limit * at.region + at.cell
 
--- the marks tell of each cell with an object whether it is gray
-abbrev pub AreGrayMarks : HeapState → List Bool → Type 0
-AreGrayMarks w marks =
-    (at : ObjRef) (o : Object) → object_at w.regions at ≡ Some o
-    → slice_index_or marks (cell_number at) false ≡ is_gray w at
+-- the marks tell of each cell with an object whether its id is one of these
+abbrev pub AreMarksOf : List Region → List ℕ → List Bool → Type 0
+AreMarksOf regions ids marks =
+    (at : ObjRef) (o : Object) → object_at regions at ≡ Some o
+    → slice_index_or marks (cell_number at) false ≡ list_any (λ x. x == id_of regions at) ids

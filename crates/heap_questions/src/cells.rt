@@ -1,10 +1,8 @@
 //! What the cells of a heap hold.
-ghost use Rattle.std.specs.Prelude.{◌≡◌, ◌<◌, length, IsSome, IfSome, IfOk, IfErr};
+ghost use Rattle.std.specs.Prelude.{◌≡◌, IsSome, IfOk, IfErr};
 ghost use Rattle.heap_class.specs.declared.Refusal.TheVariants.{NoMemory};
-ghost use Rattle.heap_region.specs.Limits.{region_limit};
 ghost use Rattle.heap_region.specs.Regions.{object_at};
-ghost use Rattle.heap_world.specs.Legal.{IsLegal};
-ghost use Rattle.heap_questions.specs.Cells.{AreGrayMarks, cell_number, cell_state, is_gray};
+ghost use Rattle.heap_questions.specs.Cells.{AreMarksOf, cell_number, cell_state, is_gray};
 
 use heap_class::{ObjRef, Refusal};
 use heap_world::World;
@@ -38,16 +36,17 @@ fn cell_number(at: ObjRef) -> usize
 
 // Returns for each cell whether a gray object stands there. Fails with NoMemory.
 fn gray_marks(alloc: Global, world: &World) -> Result<Vec<bool>, Refusal>
-    ensures marks { IfOk result (λ marks. AreGrayMarks world.now marks.items) }
+    ensures marks { IfOk result (λ marks. AreMarksOf world.now.regions world.now.gray marks.items) }
     ensures refused { IfErr result (λ e. e ≡ NoMemory) }
 {
-    // Its contract says that the heap is legal.
-    world.phase();
     let regions = world.regions();
     let gray = world.gray();
-    let mut marks = vec![in alloc; false; regions.count() as usize * CELLS_EACH]?;
+    let count = regions.count() as usize;
+    let mut marks = vec![in alloc; false; count * CELLS_EACH]?;
     for i in 0..gray.len() {
-        marks[cell_number(regions.place(gray[i]))] = true;
+        if let Some(at) = regions.find(gray[i]) {
+            marks[cell_number(at)] = true;
+        }
     }
     Ok(marks)
 }
@@ -61,13 +60,13 @@ pub struct CellStates<'a> {
 
 impl<'a> Model for CellStates<'a> {
     ghost use Rattle.heap_world.specs.State.{HeapState};
-    ghost use Rattle.heap_questions.specs.Cells.{AreGrayMarks};
+    ghost use Rattle.heap_questions.specs.Cells.{AreMarksOf};
 
     ghost Value = { HeapState };
 
     ghost view = { λ c. c.world.now };
 
-    ghost invariant = { λ c. AreGrayMarks c.world.now c.gray.items };
+    ghost invariant = { λ c. AreMarksOf c.world.now.regions c.world.now.gray c.gray.items };
 }
 
 impl<'a> CellStates<'a> {
@@ -103,7 +102,11 @@ impl<'a> CellStates<'a> {
         if self.is_gray(at) {
             return CellState::Gray;
         }
-        if mark { CellState::Marked } else { CellState::Live }
+        if mark {
+            CellState::Marked
+        } else {
+            CellState::Live
+        }
     }
 
     // Tells whether the object in a cell is gray.

@@ -38,11 +38,14 @@ fn list_nodes<V: View>(
     for node in 0..nodes.len() {
         let at = nodes.place(node);
         let id = nodes.id(node);
+        let kind = view.kind(at);
+        let words = view.words(at);
+        let reached = is_reached(nodes, seen, id);
         all.push(ListedObject {
             id,
-            kind: view.kind(at),
-            slots: view.words(at).len() as u64,
-            unreached: !is_reached(nodes, seen, id),
+            kind,
+            slots: words.len() as u64,
+            unreached: !reached,
         })?;
     }
     Ok(all)

@@ -52,8 +52,8 @@ fn push_all(
     ensures { Appends (flat_map (listed_text classes.now) all.now)
         text.old.items text.new.items result }
 {
-    for object in all {
-        push_listed(text, classes, object)?;
+    for i in 0..all.len() {
+        push_listed(text, classes, &all[i])?;
     }
     Ok(())
 }

@@ -201,7 +201,8 @@ def served_questions(program):
     quit = (0, b"session 1 quit\n", b"")
     with_questions = ["--questions", "1"]
     for path in sorted(TOP.glob("examples/questions/*.session")):
-        lines, answers = path.read_bytes(), path.with_suffix(".expected").read_bytes()
+        served_file = path.with_suffix(".served")
+        lines, answers = path.read_bytes(), (served_file if served_file.exists() else path.with_suffix(".expected")).read_bytes()
         yield f"{path.stem}, served", served(program, ended(lines + b"end\n"), with_questions), (*quit, answers)
         happened = served(program, lambda port: explored(program, port, lines), with_questions)
         yield f"{path.stem}, explored from a port", happened, (*quit, 0, answers, b"")

@@ -13,7 +13,7 @@ import tempfile
 from typing import Any, BinaryIO, Callable, Iterable, Iterator, NamedTuple, Optional, Sequence, Union
 
 __all__ = ["Session", "Batch", "Later", "Refused", "Ended", "BadCommand"]
-__all__ += ["ObjectId", "Swept", "Collected", "PinAt", "Piece", "Moment"]
+__all__ += ["ObjectId", "Swept", "Collected", "Cells", "PinAt", "Piece", "Moment"]
 
 # The most bytes of lines that a batch sends before it reads replies: they fit into any pipe or socket, so neither side waits.
 CHUNK = 32_768
@@ -22,7 +22,8 @@ LAST_SECONDS = 10
 # What a line may hold, and a word of it. A line feed in a line would make it two, and shift all later replies.
 LINE = re.compile(r"[ -~]*")
 WORD = re.compile(r"[!-~]+")
-QUESTIONS = "show registers classes histogram growth path referrers garbage wrote born dropped history pins collect help".split()
+QUESTIONS = """show registers classes objects histogram growth path referrers garbage wrote born dropped history pins cells status collect
+help""".split()
 
 
 class ObjectId(int):
@@ -46,6 +47,15 @@ class Collected(NamedTuple):
 
     condemned: int
     swept: int
+
+
+class Cells(NamedTuple):
+    """The cells of a region in use: its number, the words of a cell, whether it waits to be swept, and a letter for each cell."""
+
+    region: int
+    size: int
+    waits: bool
+    letters: str
 
 
 class PinAt(NamedTuple):
@@ -189,6 +199,23 @@ def register(row: list) -> tuple:
 def defined(row: list) -> tuple:
     """Reads K NAME SUPER FIELD .., where SUPER is a number, `-` or `array`."""
     return (int(row[0]), row[1], row[2] if row[2] in ("-", "array") else int(row[2]), *row[3:])
+
+
+def listed(row: list) -> tuple:
+    """Reads ID CLASS SLOTS, or ID CLASS SLOTS unreached."""
+    return ObjectId(row[0], 16), row[1], int(row[2]), row[3:] == ["unreached"]
+
+
+def cells_of(row: list) -> Cells:
+    """Reads REGION SIZE - LETTERS, or REGION SIZE sweep LETTERS."""
+    region, size, waits, letters = row
+    return Cells(int(region), int(size), waits == "sweep", letters)
+
+
+def facts_by_name(_words: list, lines: list) -> dict[str, Union[int, str]]:
+    """Returns the values of rows by their names: numbers, but for `phase`."""
+    rows = (line.split()[1:] for line in lines)
+    return {name: value if name == "phase" else int(value) for name, value in rows}
 
 
 def slot(row: list) -> tuple:
@@ -345,6 +372,10 @@ class Calls:
         """Returns rows (number, name, super, "field:kind"..): super is a number, "-", or "array" for an array class."""
         return self.send(f"classes {at_of(moment)}", rows_by(defined))
 
+    def objects(self, moment: Moment = None) -> Any:
+        """Returns rows (id, class, slots, unreached) of the live objects, in the order of a dump."""
+        return self.send(f"objects {at_of(moment)}", rows_by(listed))
+
     def histogram(self, moment: Moment = None) -> Any:
         """Returns rows (objects, bytes, class), the most bytes first."""
         return self.send(f"histogram {at_of(moment)}", rows_by(counted))
@@ -384,6 +415,16 @@ class Calls:
     def pins(self) -> Any:
         """Returns rows (pin, place, "held", pieces) or (pin, place, "lost", cause) of the open pins."""
         return self.send("pins", rows_by(open_pin))
+
+    def cells(self) -> Any:
+        """Returns `Cells` of each region in use: a letter is `.` for a free cell, `o` for a live object, `m` for a marked one, `g`
+        for a gray one, and `x` for one that isn't live."""
+        return self.send("cells", rows_by(cells_of))
+
+    def heap_status(self) -> Any:
+        """Asks `status`, and returns a dict of numbers, but for "phase", which is "idle" or "marking": "place", "retained", "gray",
+        "undrained", "unswept", "regions", and of a served heap "acts"."""
+        return self.send("status", facts_by_name)
 
     def collect(self) -> Any:
         """Runs a whole cycle, or finishes the one that runs, and returns what it did as `Collected`. The only question that

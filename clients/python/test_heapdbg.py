@@ -11,7 +11,7 @@ import time
 import unittest
 
 import heapdbg
-from heapdbg import BadCommand, Collected, Ended, ObjectId, Piece, PinAt, Refused, Session, Swept
+from heapdbg import BadCommand, Cells, Collected, Ended, ObjectId, Piece, PinAt, Refused, Session, Swept
 
 PROGRAM = os.path.abspath(sys.argv[1]) if len(sys.argv) > 1 else "heapdbg"
 NODE = [("next", "object"), ("v", "long")]
@@ -101,6 +101,34 @@ class Replies(unittest.TestCase):
         self.assertEqual(heap.pins(), [(1, 3, "held", 2), *lost])
         self.assertEqual(heap.collect(), Collected(condemned=3, swept=5))
         self.assertEqual(heap.writer.getvalue(), b"classes @3\npins\ncollect\n")
+
+
+    def test_objects_cells_and_status(self):
+        rows = "row 0x10000000 unreached 2", "row 0x10000020 Node 0 unreached", "ok 2", "row 0 256 - o.gx", "row 3 1024 sweep m", "ok 2"
+        facts = "place 9", "retained 4", "phase marking", "gray 1", "undrained 2", "unswept 3", "regions 16", "acts 12"
+        heap = canned(*rows, *(f"row {fact}" for fact in facts), "ok 8", "ok 0")
+        objects = heap.objects(PinAt(2, 7))
+        self.assertEqual(objects, [(0x10000000, "unreached", 2, False), (0x10000020, "Node", 0, True)])
+        self.assertEqual(str(objects[1][0]), "0x10000020")
+        self.assertEqual(heap.cells(), [Cells(0, 256, False, "o.gx"), Cells(3, 1024, True, "m")])
+        told = heap.heap_status()
+        self.assertEqual(told.pop("phase"), "marking")
+        numbers = {"place": 9, "retained": 4, "gray": 1, "undrained": 2, "unswept": 3, "regions": 16, "acts": 12}
+        self.assertEqual(told, numbers)
+        self.assertEqual(heap.objects(), [])
+        self.assertEqual(heap.writer.getvalue(), b"objects 2\ncells\nstatus\nobjects -\n")
+
+    def test_objects_cells_and_status_of_a_heap(self):
+        with session("--questions", "1", "--regions", "2") as heap:
+            heap.define_class("Node", NODE)
+            first = heap.new(0, 0, 0)
+            second = heap.new(0, 0, 0)
+            heap.snap()
+            self.assertEqual(heap.objects(), [(first, "Node", 2, True), (second, "Node", 2, False)])
+            self.assertEqual(heap.objects("@2"), [(first, "Node", 2, False)])
+            self.assertEqual(heap.cells(), [Cells(0, 4, False, "og" + "." * 254)])
+            status = {"place": 4, "retained": 4, "phase": "marking", "gray": 1, "undrained": 0, "unswept": 0, "regions": 2}
+            self.assertEqual(heap.heap_status(), status)
 
 
 class Names(unittest.TestCase):

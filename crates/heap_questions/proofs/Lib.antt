@@ -20,3 +20,5 @@ pub mod ImagePaths
 pub mod UnreachedObjects
 pub mod PastIds
 pub mod PastLosses
+pub mod ListedObjects
+pub mod GrayMarks

@@ -4,8 +4,10 @@ pub mod Graph
 pub mod Referrers
 pub mod Search
 pub mod Garbage
+pub mod ObjectLists
 pub mod Registers
 pub mod Ranking
 pub mod Changes
 pub mod Newest
 pub mod Losses
+pub mod Cells

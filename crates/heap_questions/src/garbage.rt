@@ -11,7 +11,7 @@ use hprof_text::View;
 use std::alloc::Global;
 
 // Tells whether the node with this id was found.
-fn is_reached(nodes: &NodeList, seen: &[bool], id: u64) -> bool
+pub(crate) fn is_reached(nodes: &NodeList, seen: &[bool], id: u64) -> bool
     ensures { result ≡ is_reached nodes.now seen.now id }
 {
     match nodes.find(id) {

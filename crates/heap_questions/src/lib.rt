@@ -1,10 +1,12 @@
 //! Exact answers about the heap that a view shows, of the current state or of a pin, and about the past that a machine retains.
 #![tactic(auto)]
 
+mod cells;
 mod garbage;
 mod growth;
 mod index;
 mod nodes;
+mod object_list;
 mod objects;
 mod order;
 mod past;
@@ -14,9 +16,11 @@ mod registers;
 mod rows;
 mod search;
 
+pub use cells::{CellState, CellStates};
 pub use garbage::count_garbage;
 pub use growth::{Change, compare};
 pub use index::ObjectIndex;
+pub use object_list::{ListedObject, list_objects};
 pub use objects::{ShownObject, object_with, slot_kind};
 pub use order::ranking;
 pub use past::{

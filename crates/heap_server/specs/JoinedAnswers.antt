@@ -1,9 +1,9 @@
 -- What a seat at a shared heap answers a question, and `collect`.
-use Rattle.std.specs.Prelude.{◌≡◌, ℕ, ◌++◌, Bool, true, false, List, Result}
+use Rattle.std.specs.Prelude.{◌≡◌, ℕ, ◌++◌, Bool, true, false, List, length, Result, Some}
 use mathlib.Core.List.{IsPrefix}
 use Rattle.heap_lock.specs.Refusal.{Refusal}
 use Rattle.heap_lock.specs.HeapLimits.{HeapSettings}
-use Rattle.heap_lock.specs.Calls.{Call}
+use Rattle.heap_lock.specs.Calls.{Call, IsHeapLedger}
 use Rattle.heap_lock.specs.Machine.{Machine}
 use Rattle.heap_lock.specs.Entry.{Entry}
 use Rattle.heap_lock.specs.declared.role.Role.TheVariants.{User}
@@ -12,11 +12,13 @@ use Rattle.question_text.specs.Answers.{IsAnswerOfLine}
 use Rattle.question_text.specs.declared.cycle.CycleCounts.{CycleCounts}
 use Rattle.question_text.specs.Collections.{IsCycleAnswer, RunsCycle}
 
--- the answer of a question about the heap's machine, when all calls were those that the witness has seen then, and their history
--- has of the seat just its share
+-- the answer of a question about the heap's machine and the length of its chronicle, when all calls were those that the witness has
+-- seen then, and the chronicle has of the seat just its share
 abbrev pub IsAnswerOfHeap : HeapSettings → Chair → List Call → List ℕ → List ℕ → List Call → Type 0
 IsAnswerOfHeap config s seen l text seen' =
-    (m : Machine) × IsKnown config m s seen' × IsPrefix seen seen' × IsAnswerOfLine l m text
+    (m : Machine) × (chronicle : List Entry) × IsHeapLedger config m chronicle seen'
+    × (tally s.number chronicle ≡ s.share) × IsPrefix seen seen'
+    × IsAnswerOfLine l m (Some (length chronicle)) text
 
 -- a cycle that ended so led the heap's machine from where it was after the calls `before` to where it is after those that the
 -- witness has seen then, each time with a history that has of the seat just its share; or its steps up to one that was refused,

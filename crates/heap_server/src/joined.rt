@@ -121,8 +121,10 @@ impl<'a, L: Heap, R: Wait> Joined<'a, L, R> {
         ensures seat { self.new.seat ≡ self.old.seat }
     {
         let mut kept = self.shared.lock(self.rt);
-        kept.meet(&mut self.seat, &mut self.witness);
-        answer_line(alloc, kept.machine(), line)
+        kept.agree(&mut self.seat);
+        kept.show(&mut self.witness);
+        let acts = kept.chronicle().len() as u64;
+        answer_line(alloc, kept.machine(), Some(acts), line)
     }
 
     // Takes the steps of `collect` under the lock, each an act of this seat, and returns its answer.

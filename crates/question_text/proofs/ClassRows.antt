@@ -6,7 +6,7 @@ use Rattle.session_text.specs.Replies.{and_number}
 use Rattle.question_text.specs.ClassLists.{and_fields, class_text, super_words}
 
 -- two pieces that were appended, one after the other
-joined : (old first second text more : List ℕ) → text ≡ old ++ first → more ≡ text ++ second → more ≡ old ++ (first ++ second)
+pub joined : (old first second text more : List ℕ) → text ≡ old ++ first → more ≡ text ++ second → more ≡ old ++ (first ++ second)
 joined old first second text more e h = h ∙ ap (λ (t : List ℕ). t ++ second) e ∙ append_assoc old first second
 
 -- the pieces of the line of class k, one after another

@@ -66,7 +66,7 @@ no_text l e = go (is_comment l) e
 local_silent : (b : Bool) (l text : List ℕ) (c d : Local) → b ≡ false → is_comment l ≡ true → AnswersLine b l c text d → (text ≡ []) × (d ≡ c)
 local_silent true l text c d h e a = absurd (cc h)
 local_silent false l text c d h e a =
-    (subst (λ (q : Option Question). IsAnswerOf q l c.machine text) (asks_none (words_of_line l) e) a.0 ∙ no_text l e, a.1)
+    (subst (λ (q : Option Question). IsAnswerOf q l c.machine None text) (asks_none (words_of_line l) e) a.0 ∙ no_text l e, a.1)
 
 pub comment_silent : (l text : List ℕ) (c d : Asking) → is_comment l ≡ true → AskingAnswers l c text d → (text ≡ []) × (d ≡ c)
 comment_silent l text c d e a =

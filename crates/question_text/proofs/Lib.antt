@@ -12,6 +12,7 @@ pub mod FieldNames
 pub mod FieldRows
 pub mod NamedObjects
 pub mod PinRows
+pub mod UsedRegions
 pub mod WaitingRegions
 pub mod CycleSteps
 pub mod KeptPins

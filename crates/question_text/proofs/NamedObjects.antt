@@ -1,5 +1,5 @@
--- The classes of what registers name are there.
-use Rattle.std.proofs.Common.{◌≡◌, ℕ, Bool, true, false, cond, List, [], ◌∷◌, Option, Some, length, map, subst}
+-- The classes of what registers name, and of listed objects, are there.
+use Rattle.std.proofs.Common.{◌≡◌, ℕ, Bool, true, false, cond, List, [], ◌∷◌, Option, Some, length, map, subst, sym}
 use Rattle.std.specs.Prelude.{All, find, option_map, ◌==◌}
 use Rattle.std.specs.List.{AllByRecursion}
 use Rattle.std.proofs.lemmas.List.Elements.{All-from_recursion, recursion_from_All}
@@ -8,8 +8,11 @@ use Rattle.heap_class.specs.declared.ObjKind.TheVariants.{Instance, Array, Prim}
 use Rattle.heap_class.specs.Classes.{Class}
 use Rattle.hprof_text.specs.Image.{DumpedObject, Image, IsDumpable, IsKnown}
 use Rattle.heap_questions.specs.Graph.{object_with}
+use Rattle.heap_questions.specs.ObjectLists.{IsObjectList, listed_object}
 use Rattle.heap_questions.specs.Registers.{object_named}
+use Rattle.heap_questions.specs.declared.object_list.ListedObject.{ListedObject}
 use Rattle.question_text.specs.Names.{IsClassThere}
+use Rattle.question_text.specs.ObjectLists.{IsListedThere}
 use Rattle.question_text.specs.Registers.{IsKindKnown, NamesKnown}
 
 there : (classes : List Class) (kind : ObjKind) (n : ℕ) → IsKnown classes kind n → IsClassThere classes kind
@@ -46,3 +49,13 @@ unfolding object_with
 class_there image x o d e =
     subst (λ (p : Option DumpedObject). IsKindKnown image.classes (option_map (λ (o : DumpedObject). o.kind) p)) e
     (found_there image.classes (λ o. o.id == x) image.objects (recursion_from_All (IsThere image.classes) image.objects d.known))
+
+listed_there : (classes : List Class) (test : DumpedObject → Bool) (objects : List DumpedObject) → AllByRecursion (IsThere classes) objects → AllByRecursion (IsListedThere classes) (map (listed_object test) objects)
+listed_there classes test [] all = tt
+listed_there classes test (o ∷ os) all = (there classes o.kind (length o.words) all.0, listed_there classes test os all.1)
+
+-- the classes of the objects of a list are there
+pub all_listed_there : (image : Image) (all : List ListedObject) → IsDumpable image → IsObjectList image all → All (IsListedThere image.classes) all
+all_listed_there image all d is =
+    All-from_recursion (IsListedThere image.classes) all
+    (subst (λ (l : List ListedObject). AllByRecursion (IsListedThere image.classes) l) (sym is.2) (listed_there image.classes is.0 image.objects (recursion_from_All (IsThere image.classes) image.objects d.known)))

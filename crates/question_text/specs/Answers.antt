@@ -7,8 +7,9 @@ use Rattle.heap_trail.specs.Machine.{Machine}
 use Rattle.hprof_text.specs.Image.{Image}
 use Rattle.question_text.specs.declared.answers.StateQuestion.{StateQuestion}
 use Rattle.question_text.specs.declared.question.Question.{Question}
-use Rattle.question_text.specs.declared.question.Question.TheVariants.{Histogram, Garbage, Growth, Registers, Classes, Referrers, Path, Show, Born, Wrote, Dropped, History, Pins}
+use Rattle.question_text.specs.declared.question.Question.TheVariants.{Histogram, Garbage, Growth, Registers, Classes, Objects, Referrers, Path, Show, Born, Wrote, Dropped, History, Pins, Cells, Status}
 use Rattle.question_text.specs.Births.{IsBornText}
+use Rattle.question_text.specs.CellLists.{IsCellsText}
 use Rattle.question_text.specs.ClassLists.{IsClassesText}
 use Rattle.question_text.specs.Histograms.{IsGarbageText, IsHistogramText}
 use Rattle.question_text.specs.Moments.{IsAnswerAbout, IsAnswerBetween, image_at, refused_text}
@@ -16,12 +17,14 @@ use Rattle.question_text.specs.Growths.{IsGrowthText}
 use Rattle.question_text.specs.Comments.{unasked_text}
 use Rattle.question_text.specs.Histories.{IsHistoryText}
 use Rattle.question_text.specs.Losses.{IsDroppedText}
+use Rattle.question_text.specs.ObjectLists.{IsObjectsText}
 use Rattle.question_text.specs.Objects.{IsShowText, shows_mark}
 use Rattle.question_text.specs.Paths.{IsPathText}
 use Rattle.question_text.specs.PinLists.{IsPinsText}
 use Rattle.question_text.specs.Registers.{IsRegistersText}
 use Rattle.question_text.specs.Referrers.{IsReferrersText}
 use Rattle.question_text.specs.Questions.{question_of}
+use Rattle.question_text.specs.Statuses.{IsStatusText}
 use Rattle.question_text.specs.Writes.{IsWroteText}
 
 -- the text of the answer about an image to what a question asks about one state
@@ -30,6 +33,7 @@ IsStateText StateQuestion.Histogram ids = IsHistogramText ids
 IsStateText StateQuestion.Garbage ids = IsGarbageText ids
 IsStateText StateQuestion.Registers ids = IsRegistersText
 IsStateText StateQuestion.Classes ids = IsClassesText
+IsStateText StateQuestion.Objects ids = IsObjectsText
 IsStateText (StateQuestion.Referrers x) ids = IsReferrersText x
 IsStateText (StateQuestion.Path x) ids = IsPathText x
 IsStateText (StateQuestion.Show x marked) ids = IsShowText x marked
@@ -39,29 +43,32 @@ abbrev pub lines_text : Result (Vec ℕ) Refusal → List ℕ
 lines_text (Ok text) = text.items
 lines_text (Err e) = refused_text e
 
--- the text of a question's answer
-abbrev pub IsAnswer : Question → Machine → List ℕ → Type 0
-IsAnswer (Histogram at) m text = IsAnswerAbout (IsHistogramText m.ids) (image_at at m) text
-IsAnswer (Garbage at) m text = IsAnswerAbout (IsGarbageText m.ids) (image_at at m) text
-IsAnswer (Growth older newer) m text =
+-- the text of a question's answer about a machine, which may have a chronicle of this length
+abbrev pub IsAnswer : Question → Machine → Option ℕ → List ℕ → Type 0
+IsAnswer (Histogram at) m acts text = IsAnswerAbout (IsHistogramText m.ids) (image_at at m) text
+IsAnswer (Garbage at) m acts text = IsAnswerAbout (IsGarbageText m.ids) (image_at at m) text
+IsAnswer (Growth older newer) m acts text =
     IsAnswerBetween (IsGrowthText m.ids) (image_at older m) (image_at newer m) text
-IsAnswer (Registers at) m text = IsAnswerAbout IsRegistersText (image_at at m) text
-IsAnswer (Classes at) m text = IsAnswerAbout IsClassesText (image_at at m) text
-IsAnswer (Referrers at x) m text = IsAnswerAbout (IsReferrersText x) (image_at at m) text
-IsAnswer (Path at x) m text = IsAnswerAbout (IsPathText x) (image_at at m) text
-IsAnswer (Show at x) m text =
+IsAnswer (Registers at) m acts text = IsAnswerAbout IsRegistersText (image_at at m) text
+IsAnswer (Classes at) m acts text = IsAnswerAbout IsClassesText (image_at at m) text
+IsAnswer (Objects at) m acts text = IsAnswerAbout IsObjectsText (image_at at m) text
+IsAnswer (Referrers at x) m acts text = IsAnswerAbout (IsReferrersText x) (image_at at m) text
+IsAnswer (Path at x) m acts text = IsAnswerAbout (IsPathText x) (image_at at m) text
+IsAnswer (Show at x) m acts text =
     IsAnswerAbout (IsShowText x (shows_mark at m x)) (image_at at m) text
-IsAnswer (Born x) m text = IsBornText x m.trail text
-IsAnswer (Wrote x s) m text = IsWroteText x s m.trail text
-IsAnswer (Dropped x) m text = IsDroppedText x m.trail text
-IsAnswer (History count) m text = IsHistoryText count m.trail text
-IsAnswer Pins m text = IsPinsText m.pins text
+IsAnswer (Born x) m acts text = IsBornText x m.trail text
+IsAnswer (Wrote x s) m acts text = IsWroteText x s m.trail text
+IsAnswer (Dropped x) m acts text = IsDroppedText x m.trail text
+IsAnswer (History count) m acts text = IsHistoryText count m.trail text
+IsAnswer Pins m acts text = IsPinsText m.pins text
+IsAnswer Cells m acts text = IsCellsText m.trail.current text
+IsAnswer Status m acts text = IsStatusText m acts text
 
 -- the answer of a line that asks this question; or none, and it may be a comment or ask for help
-abbrev pub IsAnswerOf : Option Question → List ℕ → Machine → List ℕ → Type 0
-IsAnswerOf None l m text = text ≡ unasked_text l
-IsAnswerOf (Some q) l m text = IsAnswer q m text
+abbrev pub IsAnswerOf : Option Question → List ℕ → Machine → Option ℕ → List ℕ → Type 0
+IsAnswerOf None l m acts text = text ≡ unasked_text l
+IsAnswerOf (Some q) l m acts text = IsAnswer q m acts text
 
 -- the answer of a line that the grammar of sessions doesn't know
-abbrev pub IsAnswerOfLine : List ℕ → Machine → List ℕ → Type 0
-IsAnswerOfLine l m text = IsAnswerOf (question_of l) l m text
+abbrev pub IsAnswerOfLine : List ℕ → Machine → Option ℕ → List ℕ → Type 0
+IsAnswerOfLine l m acts text = IsAnswerOf (question_of l) l m acts text

@@ -22,6 +22,7 @@ question_forms =
     ∷ form_of (codes "growth") (codes "growth AT AT") (codes "growth @120 -")
     ∷ form_of (codes "registers") (codes "registers AT") (codes "registers -")
     ∷ form_of (codes "classes") (codes "classes AT") (codes "classes -")
+    ∷ form_of (codes "objects") (codes "objects AT") (codes "objects -")
     ∷ form_of (codes "referrers") (codes "referrers AT ID") (codes "referrers - 0x10000020")
     ∷ form_of (codes "path") (codes "path AT ID") (codes "path @120 0x10000020")
     ∷ form_of (codes "show") (codes "show AT ID") (codes "show - 0x10000020")
@@ -30,6 +31,8 @@ question_forms =
     ∷ form_of (codes "dropped") (codes "dropped ID") (codes "dropped 0x10000020")
     ∷ form_of (codes "history") (codes "history N") (codes "history 10")
     ∷ form_of (codes "pins") (codes "pins") (codes "pins")
+    ∷ form_of (codes "cells") (codes "cells") (codes "cells")
+    ∷ form_of (codes "status") (codes "status") (codes "status")
     ∷ form_of (codes "collect") (codes "collect") (codes "collect")
     ∷ form_of (codes "help") (codes "help WORD") (codes "help path")
     ∷ []

@@ -10,8 +10,11 @@ pub mod ClassLists
 pub mod Growths
 pub mod Paths
 pub mod Objects
+pub mod ObjectLists
 pub mod Places
 pub mod PinLists
+pub mod CellLists
+pub mod Statuses
 pub mod Births
 pub mod Writes
 pub mod Losses

@@ -5,7 +5,7 @@ use Rattle.session_grammar.specs.Grammar.{at_end, next_number, number_of_word, o
 use Rattle.question_text.specs.declared.question.At.{At}
 use Rattle.question_text.specs.declared.question.At.TheVariants.{Current, Pin, Place}
 use Rattle.question_text.specs.declared.question.Question.{Question}
-use Rattle.question_text.specs.declared.question.Question.TheVariants.{Histogram, Garbage, Growth, Registers, Classes, Referrers, Path, Show, Born, Wrote, Dropped, History, Pins}
+use Rattle.question_text.specs.declared.question.Question.TheVariants.{Histogram, Garbage, Growth, Registers, Classes, Objects, Referrers, Path, Show, Born, Wrote, Dropped, History, Pins, Cells, Status}
 use Rattle.question_text.specs.Ids.{id_of_word}
 
 -- the state that a word names: `-`, `@` and a place, or the number of a pin
@@ -58,12 +58,14 @@ id_and_number ws =
 abbrev pub QuestionRule : Type 0
 QuestionRule = List ℕ × (List (List ℕ) → Option Question)
 
--- the questions about what retained steps did, and about pins
+-- the questions about what retained steps did, about pins, and about the current state
 unfoldable pub past_rules : List QuestionRule
 past_rules =
     (codes "born", λ ws. option_map (λ x. Born x) (one_id ws))
     ∷ (codes "dropped", λ ws. option_map (λ x. Dropped x) (one_id ws))
     ∷ (codes "pins", λ ws. at_end Pins ws)
+    ∷ (codes "cells", λ ws. at_end Cells ws)
+    ∷ (codes "status", λ ws. at_end Status ws)
     ∷ (codes "history", λ ws. option_map (λ n. History n) (one_number ws))
     ∷ (codes "wrote", λ ws. option_map (λ a. Wrote a.0 a.1) (id_and_number ws))
     ∷ []
@@ -76,6 +78,7 @@ question_rules =
     ∷ (codes "registers", λ ws. option_map (λ at. Registers at) (one_at ws))
     ∷ (codes "growth", λ ws. option_map (λ a. Growth a.0 a.1) (two_ats ws))
     ∷ (codes "classes", λ ws. option_map (λ at. Classes at) (one_at ws))
+    ∷ (codes "objects", λ ws. option_map (λ at. Objects at) (one_at ws))
     ∷ (codes "referrers", λ ws. option_map (λ a. Referrers a.0 a.1) (at_and_id ws))
     ∷ (codes "path", λ ws. option_map (λ a. Path a.0 a.1) (at_and_id ws))
     ∷ (codes "show", λ ws. option_map (λ a. Show a.0 a.1) (at_and_id ws))

@@ -1,5 +1,5 @@
 -- Sessions with questions.
-use Rattle.std.specs.Prelude.{◌≡◌, ℕ, Bool, true, false, List, [], ◌∷◌, filter, flat_map, map}
+use Rattle.std.specs.Prelude.{◌≡◌, ℕ, Bool, true, false, List, [], ◌∷◌, None, filter, flat_map, map}
 use Rattle.std.specs.List.{AllByRecursion}
 use Rattle.heap_trail.specs.declared.Action.{Action}
 use Rattle.heap_trail.specs.declared.Reply.{Reply}
@@ -31,7 +31,7 @@ AskingActs c a r d =
 abbrev pub AnswersLine : Bool → AnswerRelation Local
 AnswersLine true l c text d =
     Collects NoneDenies c.machine text d.machine × (d.first_pin ≡ c.first_pin)
-AnswersLine false l c text d = IsAnswerOfLine l c.machine text × (d ≡ c)
+AnswersLine false l c text d = IsAnswerOfLine l c.machine None text × (d ≡ c)
 
 -- the answer of a line that the grammar of sessions doesn't know
 abbrev pub AskingAnswers : AnswerRelation Asking

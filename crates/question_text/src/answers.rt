@@ -8,12 +8,14 @@ ghost use Rattle.question_text.specs.Moments.{IsAnswerAbout, IsAnswerBesides, Is
 
 use crate::at::{moment_at, view_of};
 use crate::birth::born_answer;
+use crate::cell_list::cells_answer;
 use crate::class_list::classes_answer;
 use crate::comment::unasked_answer;
 use crate::growth::growth_answer;
 use crate::histogram::{garbage_text, histogram_text};
 use crate::history::history_answer;
 use crate::loss::dropped_answer;
+use crate::object_list::objects_answer;
 use crate::path::path_answer;
 use crate::pin_list::pins_answer;
 use crate::question::{At, Question, question_of};
@@ -21,6 +23,7 @@ use crate::referrers::referrers_answer;
 use crate::registers::registers_answer;
 use crate::rows::{Unanswered, reason_line};
 use crate::show::{show_answer, shows_mark};
+use crate::status::status_answer;
 use crate::write::wrote_answer;
 use heap_class::Refusal;
 use heap_pins::PinView;
@@ -39,6 +42,8 @@ enum StateQuestion {
     Registers,
     // The classes.
     Classes,
+    // The objects.
+    Objects,
     // What names the object with this id.
     Referrers(u64),
     // Why the object with this id is alive.
@@ -78,6 +83,7 @@ fn view_lines(
         StateQuestion::Garbage => or_refused(garbage_text(alloc, view)),
         StateQuestion::Registers => or_refused(registers_answer(alloc, view)),
         StateQuestion::Classes => or_refused(classes_answer(alloc, view)),
+        StateQuestion::Objects => or_refused(objects_answer(alloc, view)),
         StateQuestion::Referrers(id) => referrers_answer(alloc, view, id),
         StateQuestion::Path(id) => path_answer(alloc, view, id),
         StateQuestion::Show { id, marked } => show_answer(alloc, view, id, marked),
@@ -145,9 +151,15 @@ fn growth(alloc: Global, machine: &Machine, older: At, newer: At) -> Result<Vec<
     growth_since(alloc, machine, &view_of(machine, &moment)?, newer)
 }
 
-/// Returns the answer of a question about a machine, or the refusal NoMemory if an allocation fails.
-pub fn answer(alloc: Global, machine: &Machine, question: Question) -> LineAnswer
-    ensures { IsAnswer question machine.now (line_answer_text result) }
+/// Returns the answer of a question about a machine, which may have a chronicle of this length, or the refusal NoMemory if an
+/// allocation fails.
+pub fn answer(
+    alloc: Global,
+    machine: &Machine,
+    acts: Option<u64>,
+    question: Question,
+) -> LineAnswer
+    ensures { IsAnswer question machine.now acts (line_answer_text result) }
 {
     match question {
         Question::Histogram(at) => state_answer(alloc, machine, at, StateQuestion::Histogram),
@@ -155,6 +167,7 @@ pub fn answer(alloc: Global, machine: &Machine, question: Question) -> LineAnswe
         Question::Growth { older, newer } => line_answer(growth(alloc, machine, older, newer)),
         Question::Registers(at) => state_answer(alloc, machine, at, StateQuestion::Registers),
         Question::Classes(at) => state_answer(alloc, machine, at, StateQuestion::Classes),
+        Question::Objects(at) => state_answer(alloc, machine, at, StateQuestion::Objects),
         Question::Referrers { at, id } => {
             state_answer(alloc, machine, at, StateQuestion::Referrers(id))
         }
@@ -168,16 +181,24 @@ pub fn answer(alloc: Global, machine: &Machine, question: Question) -> LineAnswe
         Question::Dropped(id) => dropped_answer(alloc, machine, id),
         Question::History(count) => line_answer(history_answer(alloc, machine, count)),
         Question::Pins => line_answer(pins_answer(alloc, machine)),
+        Question::Cells => line_answer(cells_answer(alloc, machine)),
+        Question::Status => line_answer(status_answer(alloc, machine, acts)),
     }
 }
 
-/// Returns the answer of a line that the grammar of sessions doesn't know: that of a question about a machine, or of `help`; and
-/// `bad command`, if it is neither. Answers NoMemory if an allocation fails. The line `collect` is no question.
-pub fn answer_line(alloc: Global, machine: &Machine, line: &[u8]) -> LineAnswer
-    ensures { IsAnswerOfLine line.now machine.now (line_answer_text result) }
+/// Returns the answer of a line that the grammar of sessions doesn't know: that of a question about a machine, which may have
+/// a chronicle of this length, or of `help`; and `bad command`, if it is neither. Answers NoMemory if an allocation fails. The line
+/// `collect` is no question.
+pub fn answer_line(
+    alloc: Global,
+    machine: &Machine,
+    acts: Option<u64>,
+    line: &[u8],
+) -> LineAnswer
+    ensures { IsAnswerOfLine line.now machine.now acts (line_answer_text result) }
 {
     match question_of(line) {
-        Some(question) => answer(alloc, machine, question),
+        Some(question) => answer(alloc, machine, acts, question),
         None => unasked_answer(line),
     }
 }

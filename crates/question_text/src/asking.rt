@@ -28,7 +28,7 @@ fn answer_question(alloc: Global, local: &mut Local, line: &[u8]) -> LineAnswer
     if is_collect(line) {
         return collect(alloc, &mut local.machine);
     }
-    answer_line(alloc, &local.machine, line)
+    answer_line(alloc, &local.machine, None, line)
 }
 
 impl Commands for Asking<'_> {

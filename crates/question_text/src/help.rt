@@ -20,6 +20,7 @@ pub fn question_help(word: &[u8]) -> Option<&'static [u8]>
         b"growth" => Some(b"row growth AT AT\nrow growth @120 -\nok\n"),
         b"registers" => Some(b"row registers AT\nrow registers -\nok\n"),
         b"classes" => Some(b"row classes AT\nrow classes -\nok\n"),
+        b"objects" => Some(b"row objects AT\nrow objects -\nok\n"),
         b"referrers" => Some(b"row referrers AT ID\nrow referrers - 0x10000020\nok\n"),
         b"path" => Some(b"row path AT ID\nrow path @120 0x10000020\nok\n"),
         b"show" => Some(b"row show AT ID\nrow show - 0x10000020\nok\n"),
@@ -28,6 +29,8 @@ pub fn question_help(word: &[u8]) -> Option<&'static [u8]>
         b"dropped" => Some(b"row dropped ID\nrow dropped 0x10000020\nok\n"),
         b"history" => Some(b"row history N\nrow history 10\nok\n"),
         b"pins" => Some(b"row pins\nrow pins\nok\n"),
+        b"cells" => Some(b"row cells\nrow cells\nok\n"),
+        b"status" => Some(b"row status\nrow status\nok\n"),
         b"collect" => Some(b"row collect\nrow collect\nok\n"),
         b"help" => Some(b"row help WORD\nrow help path\nok\n"),
         _ => None
@@ -84,8 +87,10 @@ pub fn all_help() -> &'static [u8]
         row load M TO FROM SLOT\nrow store M TARGET SLOT SOURCE\nrow put M TARGET SLOT VALUE\nrow move M TO FROM_M FROM\nrow clear M R\n\
         row snap\nrow mark\nrow drain\nrow finish\nrow sweep REGION\n\
         row rewind N\nrow open AT\nrow piece PIN\nrow dump PIN\nrow close PIN\nrow end\n\
-        row histogram AT\nrow garbage AT\nrow growth AT AT\nrow registers AT\nrow classes AT\nrow referrers AT ID\nrow path AT ID\nrow show AT ID\n\
-        row born ID\nrow wrote ID SLOT\nrow dropped ID\nrow history N\nrow pins\nrow collect\nrow help WORD\nok\n"
+        row histogram AT\nrow garbage AT\nrow growth AT AT\nrow registers AT\nrow classes AT\n\
+        row objects AT\nrow referrers AT ID\nrow path AT ID\nrow show AT ID\n\
+        row born ID\nrow wrote ID SLOT\nrow dropped ID\nrow history N\nrow pins\nrow cells\nrow status\nrow collect\n\
+        row help WORD\nok\n"
 }
 
 // Returns what the words after `help` are answered, or None if they name no line.

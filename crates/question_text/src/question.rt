@@ -33,6 +33,8 @@ pub enum Question {
     Registers(At),
     /// The classes.
     Classes(At),
+    /// The objects.
+    Objects(At),
     /// What names an object.
     Referrers { at: At, id: u64 },
     /// Why an object is alive: a shortest path from a register.
@@ -49,6 +51,10 @@ pub enum Question {
     History(u64),
     /// The open pins.
     Pins,
+    /// What each cell of the regions in use holds.
+    Cells,
+    /// Where the heap and its collector are.
+    Status,
 }
 
 // Returns the state that a word names.
@@ -116,7 +122,7 @@ fn id_and_number(mut words: Words) -> Option<(u64, u64)>
     at_end((next_id(&mut words)?, next_number(&mut words)?), words)
 }
 
-// Reads the words behind a keyword of a question about what retained steps did, or about pins.
+// Reads the words behind a keyword of a question about what retained steps did, about pins, or about the current state.
 #[tactic(auto, unfolding(crate::specs::Questions::past_rules))]
 fn past_question(keyword: &[u8], words: Words) -> Option<Question>
     ensures { result ≡ question_by past_rules keyword.now (words_of_line words.entry) }
@@ -130,6 +136,12 @@ fn past_question(keyword: &[u8], words: Words) -> Option<Question>
     if is_word(keyword, b"pins") {
         return at_end(Question::Pins, words);
     }
+    if is_word(keyword, b"cells") {
+        return at_end(Question::Cells, words);
+    }
+    if is_word(keyword, b"status") {
+        return at_end(Question::Status, words);
+    }
     if is_word(keyword, b"history") {
         return Some(Question::History(one_number(words)?));
     }
@@ -140,7 +152,7 @@ fn past_question(keyword: &[u8], words: Words) -> Option<Question>
     None
 }
 
-// Reads the words behind a keyword of a question about classes, objects, retained steps or pins.
+// Reads the words behind a keyword of a question about classes, objects, retained steps, pins or the current state.
 #[tactic(auto, unfolding(crate::specs::Questions::question_rules))]
 fn later_question(keyword: &[u8], words: Words) -> Option<Question>
     ensures { result
@@ -148,6 +160,9 @@ fn later_question(keyword: &[u8], words: Words) -> Option<Question>
 {
     if is_word(keyword, b"classes") {
         return Some(Question::Classes(one_at(words)?));
+    }
+    if is_word(keyword, b"objects") {
+        return Some(Question::Objects(one_at(words)?));
     }
     if is_word(keyword, b"referrers") {
         let (at, id) = at_and_id(words)?;

@@ -1,0 +1,32 @@
+-- The text of `objects`.
+use Rattle.std.specs.Prelude.{◌≡◌, ℕ, Bool, true, false, List, [], ◌∷◌, ◌++◌, codes, flat_map, length}
+use Rattle.heap_class.specs.Classes.{Class}
+use Rattle.hprof_text.specs.Image.{Image}
+use Rattle.heap_questions.specs.declared.object_list.ListedObject.{ListedObject}
+use Rattle.heap_questions.specs.ObjectLists.{IsObjectList}
+use Rattle.session_text.specs.Replies.{and_number, line}
+use Rattle.question_text.specs.Ids.{and_id}
+use Rattle.question_text.specs.Names.{IsClassThere, class_name}
+use Rattle.question_text.specs.Referrers.{count_text}
+
+-- the class of a listed object is there
+abbrev pub IsListedThere : List Class → ListedObject → Type 0
+IsListedThere classes o = IsClassThere classes o.kind
+
+-- what a row says of an object that no register reaches
+abbrev pub unreached_words : Bool → List ℕ
+unreached_words true = codes " unreached"
+unreached_words false = []
+
+-- the line of an object: its id, its class, the number of its slots, and whether no register reaches it
+unfoldable pub listed_text : List Class → ListedObject → List ℕ
+listed_text classes o =
+    line
+    ((((codes "row" ++ and_id o.id) ++ 32 ∷ class_name classes o.kind) ++ and_number o.slots)
+    ++ unreached_words o.unreached)
+
+-- the answer of `objects`
+abbrev pub IsObjectsText : Image → List ℕ → Type 0
+IsObjectsText image text =
+    (all : List ListedObject) × IsObjectList image all
+    × (text ≡ flat_map (listed_text image.classes) all ++ count_text (length all))

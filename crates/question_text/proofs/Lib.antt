@@ -17,3 +17,4 @@ pub mod WaitingRegions
 pub mod CycleSteps
 pub mod KeptPins
 pub mod QuestionsLeftOut
+pub mod JoinedDump

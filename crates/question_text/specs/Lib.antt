@@ -24,3 +24,4 @@ pub mod Comments
 pub mod Collections
 pub mod Answers
 pub mod Sessions
+pub mod StateDumps

@@ -41,6 +41,7 @@ mod registers;
 mod rows;
 mod session;
 mod show;
+mod state_dump;
 mod status;
 mod steps;
 mod watch;
@@ -51,8 +52,9 @@ pub use asking::Asking;
 pub use cycle::{CycleCounts, collect_answer, is_collect, run_cycle};
 pub use help::{all_help, keyword_help, question_help};
 pub use names::push_row_name;
-pub use question::{At, Question, question_of};
+pub use question::{At, Question, at_of, question_of};
 pub use session::serve_asking;
+pub use state_dump::dump_at;
 pub use steps::Steps;
 pub use watch::{BAD_COMMAND, Watch};
 

@@ -57,9 +57,9 @@ pub enum Question {
     Status,
 }
 
-// Returns the state that a word names.
+/// Returns the state that a word names, or None if it names none. Takes no memory.
 #[tactic(auto, unfolding(crate::specs::Questions::at_of_word))]
-fn at_of(word: &[u8]) -> Option<At>
+pub fn at_of(word: &[u8]) -> Option<At>
     ensures { result ≡ at_of_word word.now }
 {
     if is_word(word, b"-") {

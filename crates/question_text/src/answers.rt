@@ -182,8 +182,8 @@ pub fn answer(alloc: Global, machine: &Machine, acts: Option<u64>, question: Que
 }
 
 /// Returns the answer of a line that the grammar of sessions doesn't know: that of a question about a machine, which may have
-/// a chronicle of this length, or of `help`; and `bad command`, if it is neither. Answers NoMemory if an allocation fails. The line
-/// `collect` is no question.
+/// a chronicle of this length, or of `help`; and `bad command`, if it is neither. Answers NoMemory if an allocation fails. The
+/// line `collect` is no question.
 pub fn answer_line(alloc: Global, machine: &Machine, acts: Option<u64>, line: &[u8]) -> LineAnswer
     ensures { IsAnswerOfLine line.now machine.now acts (line_answer_text result) }
 {

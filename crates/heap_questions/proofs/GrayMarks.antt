@@ -1,6 +1,6 @@
 -- Which cells hold gray objects.
 use Rattle.std.proofs.Common.{◌≡◌, ◌≢◌, ◌∙◌, ℕ, zero, suc, ◌+◌, ◌*◌, ◌/◌, ◌<◌, ◌≤◌, Bool, true, false, List, [], ◌∷◌, ◌++◌, length, get_or, replicate, take, refl, sym, ap, ap₂, subst, inl, inr, arith}
-use Rattle.std.specs.Prelude.{Contains, IsSome, Option, Some, None, slice_get, slice_index_or, slice_set, ◌==◌, ◌||◌, option_and_then, reverse}
+use Rattle.std.specs.Prelude.{IsSome, Option, Some, None, slice_get, slice_index_or, slice_set, ◌==◌, ◌||◌, option_and_then, reverse}
 use Rattle.std.specs.List.{list_any}
 use Rattle.std.proofs.lemmas.Bool.{cases_eq, eq-eqb, ne_eqb, false≢true}
 use Rattle.std.proofs.lemmas.List.{get_or-set_other, get_or-set_same, take_more}
@@ -8,7 +8,7 @@ use Rattle.std.proofs.lemmas.List.Folds.{list_any-append}
 use Rattle.std.proofs.lemmas.List.Sorted.{IsPermutation-reverse, list_any-IsPermutation}
 use Rattle.std.proofs.lemmas.Option.{none-some, same_Some}
 use Rattle.heap_class.specs.declared.ObjRef.{ObjRef}
-use Rattle.heap_region.specs.Legal.{IsRegionPool}
+use Rattle.heap_region.specs.Legal.{IsCellTable, IsRegionPool}
 use Rattle.heap_region.specs.Limits.{cell_sizes}
 use Rattle.heap_region.specs.Pool.{RegionPool}
 use Rattle.heap_region.specs.Regions.{Object, Region, UsedRegion, cell_object, id_of, object_at, object_of, ref_of, used_at}
@@ -20,10 +20,12 @@ use Rattle.heap_questions.specs.Cells.{AreMarksOf, cell_number, is_gray}
 
 -- ---- cells
 
-few_cells : (size : ℕ) → Contains cell_sizes size → 1024 / size ≤ 256
-few_cells size c = subst (λ s. 1024 / s ≤ 256) c.2 (at_index c.0 c.1)
+table_few : (u : UsedRegion) → IsCellTable u → length u.cells ≤ 256
+table_few u table =
+    let few : 1024 / u.cell_size ≤ 256 = subst (λ s. 1024 / s ≤ 256) table.size.2 (at_index table.size.0 table.size.1) in
+    omega (arith, few, table.cells)
   where
-    at_index : (k : ℕ) → k < 5 → 1024 / get_or cell_sizes k size ≤ 256
+    at_index : (k : ℕ) → k < 5 → 1024 / get_or cell_sizes k u.cell_size ≤ 256
     at_index zero h = omega arith
     at_index (suc zero) h = omega arith
     at_index (suc (suc zero)) h = omega arith
@@ -50,10 +52,10 @@ placed s at legal i = go (used_at s.regions at.region) refl (used_by_object s.re
     go (Some u) e h =
         let table = legal.tables at.region u e in
         let c : at.cell < length u.cells = cell_there u.cells at.cell (subst IsSome (object_here s.regions at u e) i) in
-        let few = few_cells u.cell_size table.size in
+        let few = table_few u table in
         record {
           region = used_below s.regions at.region (subst IsSome (sym e) refl);
-          cell = omega (arith, c, few, table.cells);
+          cell = omega (arith, c, few);
           back = ref_back s.regions at u e (omega (arith, c, table.cells));
         }
 

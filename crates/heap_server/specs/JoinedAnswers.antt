@@ -12,8 +12,8 @@ use Rattle.question_text.specs.Answers.{IsAnswerOfLine}
 use Rattle.question_text.specs.declared.cycle.CycleCounts.{CycleCounts}
 use Rattle.question_text.specs.Collections.{IsCycleAnswer, RunsCycle}
 
--- the answer of a question about the heap's machine and the length of its chronicle, when all calls were those that the witness has
--- seen then, and the chronicle has of the seat just its share
+-- the answer of a question about the heap's machine, and about the length of its chronicle, when all calls were those that the
+-- witness has seen then, and the chronicle has of the seat just its share
 abbrev pub IsAnswerOfHeap : HeapSettings → Chair → List Call → List ℕ → List ℕ → List Call → Type 0
 IsAnswerOfHeap config s seen l text seen' =
     (m : Machine) × (chronicle : List Entry) × IsHeapLedger config m chronicle seen'

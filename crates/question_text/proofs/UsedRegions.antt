@@ -81,14 +81,14 @@ one_read regions r lt =
     at_drop_more (λ xs. length (waiting r xs)) regions r Empty lt
     ∙ ap (λ (x : Option UsedRegion). length (cons_option (number_if r x) (waiting (r + 1) (drop (r + 1) regions)))) (region_read regions r)
 
-pub one_waits : (regions : List Region) (r : ℕ) → r < length regions → unwrap_or (option_map (λ (u : UsedRegion). u.pending) (used_at regions r)) false ≡ true → waiting_from regions r ≡ 1 + waiting_from regions (r + 1)
+pub one_waits : (regions : List Region) (r : ℕ) → r < length regions → unwrap_or (option_map (λ (u : UsedRegion). u.pending) (used_at regions r)) false ≡ true → waiting_from regions r ≡ suc (waiting_from regions (r + 1))
 one_waits regions r lt there = one_read regions r lt ∙ go (used_at regions r) there
   where
-    bit : (b : Bool) → b ≡ true → length (cons_option (cond b (Some r) None) (waiting (r + 1) (drop (r + 1) regions))) ≡ 1 + waiting_from regions (r + 1)
+    bit : (b : Bool) → b ≡ true → length (cons_option (cond b (Some r) None) (waiting (r + 1) (drop (r + 1) regions))) ≡ suc (waiting_from regions (r + 1))
     bit true e = refl
     bit false e = cc
 
-    go : (x : Option UsedRegion) → unwrap_or (option_map (λ (u : UsedRegion). u.pending) x) false ≡ true → length (cons_option (number_if r x) (waiting (r + 1) (drop (r + 1) regions))) ≡ 1 + waiting_from regions (r + 1)
+    go : (x : Option UsedRegion) → unwrap_or (option_map (λ (u : UsedRegion). u.pending) x) false ≡ true → length (cons_option (number_if r x) (waiting (r + 1) (drop (r + 1) regions))) ≡ suc (waiting_from regions (r + 1))
     go None e = cc
     go (Some u) e = bit u.pending e
 

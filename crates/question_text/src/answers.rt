@@ -153,12 +153,7 @@ fn growth(alloc: Global, machine: &Machine, older: At, newer: At) -> Result<Vec<
 
 /// Returns the answer of a question about a machine, which may have a chronicle of this length, or the refusal NoMemory if an
 /// allocation fails.
-pub fn answer(
-    alloc: Global,
-    machine: &Machine,
-    acts: Option<u64>,
-    question: Question,
-) -> LineAnswer
+pub fn answer(alloc: Global, machine: &Machine, acts: Option<u64>, question: Question) -> LineAnswer
     ensures { IsAnswer question machine.now acts (line_answer_text result) }
 {
     match question {
@@ -187,14 +182,9 @@ pub fn answer(
 }
 
 /// Returns the answer of a line that the grammar of sessions doesn't know: that of a question about a machine, which may have
-/// a chronicle of this length, or of `help`; and `bad command`, if it is neither. Answers NoMemory if an allocation fails. The line
-/// `collect` is no question.
-pub fn answer_line(
-    alloc: Global,
-    machine: &Machine,
-    acts: Option<u64>,
-    line: &[u8],
-) -> LineAnswer
+/// a chronicle of this length, or of `help`; and `bad command`, if it is neither. Answers NoMemory if an allocation fails. The
+/// line `collect` is no question.
+pub fn answer_line(alloc: Global, machine: &Machine, acts: Option<u64>, line: &[u8]) -> LineAnswer
     ensures { IsAnswerOfLine line.now machine.now acts (line_answer_text result) }
 {
     match question_of(line) {

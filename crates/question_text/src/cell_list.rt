@@ -67,11 +67,7 @@ fn push_region(
     requires { option_map (λ u. u.cell_size) (used_at cells.now.regions region) ≡ Some size }
     ensures { Appends (region_text cells.now region) text.old.items text.new.items result }
 {
-    let waits = cells
-        .world()
-        .regions()
-        .pending(region)
-        .unwrap_or(false);
+    let waits = cells.world().regions().pending(region).unwrap_or(false);
     push_row(text, region)?;
     push_number(text, size)?;
     push_sweep(text, waits)?;

@@ -1,5 +1,5 @@
 //! The answer of `status`.
-ghost use Rattle.std.specs.Prelude.{◌≡◌, ◌+◌, ◌++◌, codes, flat_map, length, Option};
+ghost use Rattle.std.specs.Prelude.{◌≡◌, ◌+◌, ◌-◌, ◌++◌, codes, flat_map, length, Option};
 ghost use Rattle.heap_class.specs.declared.Refusal.TheVariants.{NoMemory};
 ghost use Rattle.heap_mark.specs.MarkSteps.{pending_regions};
 ghost use Rattle.session_text.specs.Replies.{and_number};
@@ -36,8 +36,22 @@ fn push_phase(text: &mut Vec<u8>, phase: Phase) -> Result<(), AllocError>
     }
 }
 
+// Returns how many objects are gray.
+fn gray_count(world: &World) -> u64
+    ensures { result ≡ length world.now.gray }
+{
+    world.gray().len() as u64
+}
+
+// Returns how many entries of the log aren't drained.
+fn undrained_count(world: &World) -> u64
+    ensures { result ≡ length world.now.log - world.now.drained }
+{
+    world.log().len() as u64 - world.drain_count()
+}
+
 // Returns how many regions wait to be swept.
-fn unswept(world: &World) -> u64
+fn unswept_count(world: &World) -> u64
     ensures { result ≡ length (pending_regions world.now.regions) }
 {
     let regions = world.regions();
@@ -65,13 +79,9 @@ fn push_collector(text: &mut Vec<u8>, world: &World) -> Result<(), AllocError>
         text.old.items text.new.items result }
 {
     push_phase(text, world.phase())?;
-    push_fact(text, b"gray", world.gray().len() as u64)?;
-    push_fact(
-        text,
-        b"undrained",
-        world.log().len() as u64 - world.drain_count(),
-    )?;
-    push_fact(text, b"unswept", unswept(world))?;
+    push_fact(text, b"gray", gray_count(world))?;
+    push_fact(text, b"undrained", undrained_count(world))?;
+    push_fact(text, b"unswept", unswept_count(world))?;
     push_fact(text, b"regions", world.regions().count())
 }
 

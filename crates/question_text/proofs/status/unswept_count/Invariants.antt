@@ -1,6 +1,6 @@
 use Rattle.std.proofs.Common.{◌≡◌, ◌+◌, ◌≤◌}
 use Rattle.question_text.proofs.UsedRegions.{waiting_from}
-use Rattle.question_text.proofs.status.unswept.Given as goal
+use Rattle.question_text.proofs.status.unswept_count.Given as goal
 
 abbrev pub invariant-loop-region : goal.invariant-loop-region
 invariant-loop-region l = record {

@@ -5,3 +5,4 @@ pub mod OwnClaims
 pub mod CycleEnds
 pub mod ActorAudits
 pub mod OpenGates
+pub mod WatchedDumps

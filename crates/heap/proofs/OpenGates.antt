@@ -1,5 +1,5 @@
 -- Workers whose gate is always open are never stopped.
-use Rattle.std.proofs.Common.{◌≡◌, ◌≢◌, ℕ, Bool, true, false}
+use Rattle.std.proofs.Common.{◌≢◌, ℕ, Bool, false}
 use Rattle.heap_lock.specs.LockStates.{Chair}
 use Rattle.heap_work.specs.declared.MarkEnd.{MarkEnd}
 use Rattle.heap_work.specs.declared.SweepEnd.{SweepEnd}

@@ -11,7 +11,6 @@ use Rattle.heap_lock.specs.Verdict.TheVariants.{Fails}
 use Rattle.heap_lock.specs.Audits.{Audits, AuditsKept, IsVerdict, NamesEntry}
 use Rattle.heap_chronicle.specs.Chronicles.{dropped_of}
 use Rattle.heap_chronicle.specs.declared.entry.Entry.{Entry}
-use Rattle.heap_chronicle.specs.declared.entry.Outcome.{Outcome}
 use Rattle.heap_chronicle.specs.History.{entry, tally}
 use Rattle.heap_lock.specs.Calls.{Call, IsHeapLedger}
 use Rattle.heap_lock.specs.LockStates.{Chair, LockState, IsReceived}

@@ -1,25 +1,31 @@
 //! Dumps of the current state in one call, watched from another thread.
-ghost use Rattle.std.specs.Prelude.{◌≡◌};
+ghost use Rattle.std.specs.Prelude.{◌≡◌, ◌⊎◌, Bool, false, true, Err};
 ghost use denote.Param.Send.{IsSync};
+ghost use Rattle.heap_class.specs.declared.Refusal.TheVariants.{NoMemory};
 ghost use Rattle.live_dump.specs.Seats.{knows};
-ghost use Rattle.heap.specs.Dumps.{IsDumped};
+ghost use Rattle.heap.specs.Dumps.{IsCancelledBy, IsDumped, SaidNo};
 
 use dump_pump::{Outlet, Pumped};
 use heap_class::Refusal;
 use heap_lock::{Dumper, Heap};
-use live_dump::{
-    AskSeat, FeedSeat, LivePin, Meter, NewMeter, OutSeat, ReadSeat, StreamSeats, stream,
-};
+use live_dump::{AskSeat, Cancel, FeedSeat, LivePin, Meter, ReadSeat, StreamSeats, stream};
 use std::alloc::Global;
 use std::sync::Wait;
 use std::sync::atomic::{AtomicU64, Ordering};
 use std::thread::{Threads, join, yield_now};
 
-/// Who watches a dump, in a thread beside it.
+/// Who watches a dump, in a thread beside it. Contracts see what it may say.
 pub trait DumpWatcher {
+    ghost use Rattle.std.specs.Prelude.{ℕ, Bool};
+
+    // The watcher before it sees this number of bytes, whether it lets the dump go on then, and the watcher after. A watcher may
+    // say anything if it states nothing else.
+    ghost says: { Self → ℕ → Bool → Self → Type 0 } = { λ before bytes word after. Unit {0} };
+
     /// Sees how many bytes are out, again and again, and once more after the dump has ended. Returns whether the dump may go
     /// on; after the first false it is cancelled.
-    fn see(&mut self, bytes: u64) -> bool;
+    fn see(&mut self, bytes: u64) -> bool
+        ensures { Self.says self.old bytes result self.new };
 }
 
 /// A watcher that lets each dump go on, and keeps what it was told last.
@@ -30,6 +36,10 @@ pub struct LastSeen {
 }
 
 impl DumpWatcher for LastSeen {
+    ghost use Rattle.std.specs.Prelude.{◌≡◌, true};
+
+    ghost says = { λ before bytes word after. (word ≡ true) × (after.bytes ≡ bytes) };
+
     fn see(&mut self, bytes: u64) -> bool {
         self.bytes = bytes;
         true
@@ -55,24 +65,44 @@ struct Watching<'a, W: DumpWatcher + Drop> {
     reader: ReadSeat,
     asker: AskSeat,
     ghost reads: { reader.meter ≡ meter.now },
-    ghost asks: { asker.meter ≡ meter.now },
+    ghost asks: { asker ≡ knows meter.now false },
 }
 
-// An outlet, the time in the header of a dump, and the seats of a meter that it needs.
+// An outlet, and the seats of a meter that a stream needs.
 #[derive(Drop)]
 struct Sending<'a, O: Outlet + Drop> {
     outlet: O,
-    time: u64,
-    meter: &'a Meter,
-    out: OutSeat,
+    seats: StreamSeats<'a>,
+    ghost fresh: { seats.out.known ≡ 0 },
+}
+
+// How a dump ended, its outlet, its dumper, and the seat that looked whether it was to be cancelled.
+#[derive(Drop)]
+struct Written<'a, L: Heap, O: Outlet + Drop, R: Wait> {
+    end: Result<Pumped, Refusal>,
+    outlet: O,
+    dumper: Dumper<'a, L, R>,
     feed: FeedSeat,
-    ghost adds: { out ≡ knows meter.now 0 },
-    ghost looks: { feed.meter ≡ meter.now },
+}
+
+// Shows a watcher this number of bytes, and asks to cancel its dump if the watcher wants that.
+fn show<W: DumpWatcher>(watcher: &mut W, bytes: u64, cancel: &Cancel<'_>, asker: &mut AskSeat)
+    requires { asker.old.meter ≡ cancel.now }
+    ensures meter { asker.new.meter ≡ cancel.now }
+    ensures said { (word : Bool) × W.says watcher.old bytes word watcher.new
+        × (asker.new.known ≡ true → (asker.old.known ≡ true) ⊎ (word ≡ false)) }
+{
+    if !watcher.see(bytes) {
+        cancel.ask(asker);
+    }
 }
 
 // Shows a watcher the bytes that are out until the dump has ended, and asks to cancel it if the watcher wants that. Returns the
-// watcher.
-fn watch<W: DumpWatcher + Drop>(watching: Watching<'_, W>, has_ended: &AtomicU64) -> W {
+// watcher, and the seat that asked only if it wanted that.
+fn watch<W: DumpWatcher + Drop>(watching: Watching<'_, W>, has_ended: &AtomicU64) -> (W, AskSeat)
+    ensures meter { result.1.meter ≡ watching.entry.meter.now }
+    ensures said { result.1.known ≡ true → SaidNo W.says watching.entry.watcher result.0 }
+{
     let Watching {
         mut watcher,
         meter,
@@ -83,52 +113,61 @@ fn watch<W: DumpWatcher + Drop>(watching: Watching<'_, W>, has_ended: &AtomicU64
     let cancel = meter.cancel();
     for _ in 0..u64::MAX {
         let is_last = has_ended.load(Ordering::SeqCst) == 1;
-        if !watcher.see(progress.read(&mut reader)) {
-            cancel.ask(&mut asker);
-        }
+        show(
+            &mut watcher,
+            progress.read(&mut reader),
+            &cancel,
+            &mut asker,
+        );
         if is_last {
             break;
         }
         yield_now();
     }
-    watcher
+    (watcher, asker)
 }
 
-// Puts out the dump of the current state. Returns how that ended, the outlet, and the dumper, which has made the calls for it and
-// no others.
+// Puts out the dump of the current state. Returns how that ended, with the dumper, which has made the calls for it and no others.
 fn write<'a, L: Heap + Send + Sync, O: Outlet + Drop, R: Threads + Wait + Sync>(
     rt: &R,
     alloc: Global,
     dumper: Dumper<'a, L, R>,
+    time: u64,
     sending: Sending<'_, O>,
-) -> (Result<Pumped, Refusal>, O, Dumper<'a, L, R>)
-    ensures { IsDumped L.config sending.entry.time dumper.entry (O.seen sending.entry.outlet) result.0
-        (O.seen result.1) result.2 }
+) -> Written<'a, L, O, R>
+    ensures written { IsDumped L.config time result.feed.known dumper.entry
+        (O.seen sending.entry.outlet) result.end (O.seen result.outlet) result.dumper }
+    ensures feed { result.feed.meter ≡ sending.entry.seats.meter.now }
 {
-    let Sending {
-        mut outlet,
-        time,
-        meter,
-        out,
-        feed,
-    } = sending;
+    let Sending { mut outlet, seats } = sending;
     let mut asking = dumper;
     let pin = match asking.open_pin(None) {
         Ok(pinned) => pinned.pin,
-        Err(refusal) => return (Err(refusal), outlet, asking),
+        Err(refusal) => {
+            return Written {
+                end: Err(refusal),
+                outlet,
+                dumper: asking,
+                feed: seats.feed,
+            };
+        }
     };
     let live = LivePin {
         dumper: asking,
         pin,
         time,
     };
-    let seats = StreamSeats { meter, out, feed };
-    let (pumped, _, mut closing) = stream(rt, alloc, live, &mut outlet, seats);
+    let (pumped, left, mut closing) = stream(rt, alloc, live, &mut outlet, seats);
     let _ = closing.close_pin(pin);
-    (Ok(pumped), outlet, closing)
+    Written {
+        end: Ok(pumped),
+        outlet,
+        dumper: closing,
+        feed: left.feed,
+    }
 }
 
-// Puts out the dump while another thread watches it.
+// Puts out the dump while another thread watches it, which alone can ask to cancel it.
 fn write_watched<
     'a,
     L: Heap + Send + Sync,
@@ -139,37 +178,42 @@ fn write_watched<
     rt: &R,
     alloc: Global,
     dumper: Dumper<'a, L, R>,
+    time: u64,
     sending: Sending<'_, O>,
     watching: Watching<'_, W>,
 ) -> (Dumped<O, W>, Dumper<'a, L, R>)
-    ensures { IsDumped L.config sending.entry.time dumper.entry (O.seen sending.entry.outlet)
-        result.0.end (O.seen result.0.outlet) result.1 }
+    requires { watching.meter.now ≡ sending.seats.meter.now }
+    ensures dumped { (found : Bool) × IsDumped L.config time found dumper.entry
+        (O.seen sending.entry.outlet) result.0.end (O.seen result.0.outlet) result.1 }
+    ensures cancelled { IsCancelledBy W.says watching.entry.watcher result.0.watcher result.0.end }
 {
-    let has_ended = AtomicU64::new(0);
-    let ended = &has_ended;
-    let (watcher, (end, outlet, dumper)) = join(
+    let ended = &AtomicU64::new(0);
+    let cancel = watching.meter.cancel();
+    let ((watcher, asker), written) = join(
         rt,
         move || watch(watching, ended),
-        move || -> (Result<Pumped, Refusal>, O, Dumper<'_, L, R>)
+        move || -> Written<'_, L, O, R>
             requires { IsSync R.row }
         {
-            let written = write(rt, alloc, dumper, sending);
+            let written = write(rt, alloc, dumper, time, sending);
             ended.store(1, Ordering::SeqCst);
             written
         },
     );
+    cancel.settle(written.feed, asker);
     let dumped = Dumped {
-        end,
-        outlet,
+        end: written.end,
+        outlet: written.outlet,
         watcher,
     };
-    (dumped, dumper)
+    (dumped, written.dumper)
 }
 
 /// Puts out the dump of the current state, with `time` in its header. Opens a pin and a meter, streams as `stream` does, and
 /// closes the pin, unless somebody else did. A second thread tells the watcher how many bytes are out, and cancels the dump if
-/// it says so. The dump is of a state with all that the dumper had seen. Returns the dumper, too, which has made the calls for it
-/// and no others. Fails with NoMemory if a meter can't be allocated, and as `Shared::open_pin` does; then nothing is put out. May wait.
+/// it says so; nothing else does. The dump is of a state with all that the dumper had seen. Returns the dumper, too, which has
+/// made the calls for it and no others. Fails with NoMemory if a meter can't be allocated, and as `Shared::open_pin` does; then
+/// nothing is put out. May wait.
 pub fn dump<
     'a,
     L: Heap + Send + Sync,
@@ -184,39 +228,36 @@ pub fn dump<
     outlet: O,
     watcher: W,
 ) -> (Dumped<O, W>, Dumper<'a, L, R>)
-    ensures { IsDumped L.config time dumper.entry (O.seen outlet) result.0.end
-        (O.seen result.0.outlet) result.1 }
+    ensures dumped { (found : Bool) × IsDumped L.config time found dumper.entry (O.seen outlet)
+        result.0.end (O.seen result.0.outlet) result.1 }
+    ensures cancelled { IsCancelledBy W.says watcher result.0.watcher result.0.end }
 {
-    let Ok(made) = Meter::new(alloc, 1, 1) else {
-        let refused = Dumped {
-            end: Err(Refusal::NoMemory),
-            outlet,
-            watcher,
-        };
-        return (refused, dumper);
+    let Ok(mut made) = Meter::new(alloc, 1) else {
+        return (refused(outlet, watcher), dumper);
     };
-    let NewMeter {
-        meter,
-        out,
-        mut readers,
-        mut askers,
-        feed,
-    } = made;
-    let (Some(reader), Some(asker)) = (readers.pop(), askers.pop()) else {
+    let Some(reader) = made.readers.pop() else {
         unreachable!();
     };
+    let (asker, out, feed) = (made.asker, made.out, made.feed);
+    let meter = &made.meter;
     let watching = Watching {
         watcher,
-        meter: &meter,
+        meter,
         reader,
         asker,
     };
-    let sending = Sending {
+    let seats = StreamSeats { meter, out, feed };
+    write_watched(rt, alloc, dumper, time, Sending { outlet, seats }, watching)
+}
+
+// Returns a dump for which there was no memory.
+fn refused<O: Outlet + Drop, W: DumpWatcher + Drop>(outlet: O, watcher: W) -> Dumped<O, W>
+    ensures end { result.end ≡ Err NoMemory }
+    ensures outlet { O.seen result.outlet ≡ O.seen outlet }
+{
+    Dumped {
+        end: Err(Refusal::NoMemory),
         outlet,
-        time,
-        meter: &meter,
-        out,
-        feed,
-    };
-    write_watched(rt, alloc, dumper, sending, watching)
+        watcher,
+    }
 }

@@ -130,13 +130,13 @@ fn dumped<L: Heap + Send + Sync, R: Threads + Wait + Sync>(
     mutator: &mut Seat<L>,
     way: Way,
 ) -> Option<(Noted, Seen)> {
-    let Ok(mut made) = Meter::new(at.alloc, 1, 1) else {
+    let Ok(mut made) = Meter::new(at.alloc, 1) else {
         return None;
     };
-    let (Some(reader), Some(asker)) = (made.readers.pop(), made.askers.pop()) else {
+    let Some(reader) = made.readers.pop() else {
         unreachable!();
     };
-    let (out, feed) = (made.out, made.feed);
+    let (asker, out, feed) = (made.asker, made.out, made.feed);
     let meter = &made.meter;
     let seats = StreamSeats { meter, out, feed };
     let watch = MeterWatch {

@@ -1,5 +1,11 @@
-use Rattle.std.proofs.Common.{◌≡◌}
+use Rattle.std.proofs.Common.{◌≡◌, ℕ, true}
+use Rattle.heap.specs.Dumps.{Sees, SaidNo}
 use Rattle.heap.proofs.dumps.watch.Given as goal
 
 abbrev pub invariant-loop : goal.invariant-loop
-invariant-loop g l = (l.reader.meter ≡ l.progress) × (l.asker.meter ≡ l.cancel)
+invariant-loop g l = record {
+  reads : l.reader.meter ≡ l.progress;
+  asks : l.asker.meter ≡ l.cancel;
+  sees : (n : ℕ) × Sees g.W.DumpWatcher.says l.initial.watcher n l.watcher;
+  said : l.asker.known ≡ true → SaidNo g.W.DumpWatcher.says l.initial.watcher l.watcher;
+}

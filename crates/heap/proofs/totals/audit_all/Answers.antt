@@ -15,7 +15,7 @@ returns-then-ne-clause-refused g c =
     let below : i < length xs = omega (arith, c.loop-i-test.true, ap length same) in
     let at : a ≡ get_or xs i a = ap (λ (l : List ActorState). get_or l i r) same ∙ ap (get_or xs i) c.index-actors-i.is in
     let differs : c.audit-verdict.result ≢ Holds = search rules in
-    (dropped c.audit-verdict.result differs c.audit-verdict.ensures.stands, stops g.L.Heap.config g.L.Heap.rolls c.args.witness.now c.loop-i.witness c.audit-verdict.new.witness xs i a c.audit-verdict.result below at c.loop-i.invariant.hold c.audit-verdict.ensures.audited)
+    (dropped c.audit-verdict.result differs c.audit-verdict.ensures.stands, stops g.L.Heap.config g.L.Heap.rolls c.args.witness.now c.loop-i.witness c.audit-verdict.new.witness xs i a c.audit-verdict.result (record { below = below; at = at; hold = c.loop-i.invariant.hold; audited = c.audit-verdict.ensures.audited }))
 
 pub loop-i-preserved : goal.loop-i-preserved
 loop-i-preserved g c =
@@ -29,5 +29,5 @@ loop-i-preserved g c =
     let holds : c.audit-verdict.result ≡ Holds = search rules in
     record {
       same = ap (set c.loop-i.actors i) c.audit-verdict.ensures.same ∙ set-get_or c.loop-i.actors i r ∙ same;
-      hold = hold_next g.L.Heap.config g.L.Heap.rolls c.args.witness.now c.loop-i.witness c.audit-verdict.new.witness xs i a c.audit-verdict.result below at c.loop-i.invariant.hold holds c.audit-verdict.ensures.audited;
+      hold = hold_next g.L.Heap.config g.L.Heap.rolls c.args.witness.now c.loop-i.witness c.audit-verdict.new.witness xs i a c.audit-verdict.result holds (record { below = below; at = at; hold = c.loop-i.invariant.hold; audited = c.audit-verdict.ensures.audited });
     }

@@ -13,6 +13,7 @@ pub mod Blanks
 pub mod Sources
 pub mod Laws
 -- What clauses here, and proofs above, cite of the crates below.
+pub use Rattle.atomic_table.specs.Seated
 pub use Rattle.heap_class.specs.Table as RefusalTable
 pub use Rattle.heap_class.specs.declared.IdSize
 pub use Rattle.heap_class.specs.declared.LostCause

@@ -130,9 +130,11 @@ impl<L: Heap> Seat<L> {
         self.role
     }
 
-    /// Gives this seat up, and returns what it is made of, of a type that names no heap.
+    /// Gives this seat up, and returns what it is made of, of a type that names no heap. It is one of the seats of the heap with
+    /// these tables.
     pub fn into_stub(self) -> Stub
-        ensures { chair_of result ≡ self }
+        ensures chair { chair_of result ≡ self }
+        ensures seat { IsChair L.tables result.number result.share }
     {
         Stub {
             number: self.number,

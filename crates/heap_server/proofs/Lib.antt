@@ -8,3 +8,4 @@ pub mod HeldSteps
 pub mod FirstLines
 pub mod AheadReads
 pub mod ClientSessions
+pub mod SeatOrder

@@ -3,19 +3,19 @@ use Rattle.std.proofs.Common.{◌≡◌, ℕ, zero, suc, ◌+◌, ◌<◌, List,
 use Rattle.std.proofs.lemmas.List.{append-nil}
 use Rattle.std.specs.Prelude.{slice_index_or}
 use Rattle.std.specs.Io.KnownBytes.{Appends}
-use Rattle.heap_server.specs.declared.client_session.SessionEnd.{SessionEnd}
+use Rattle.heap_server.specs.declared.sessions.SeatEnd.{SeatEnd}
 use Rattle.heap_server.specs.Reports.{line_of, report_of}
 
-report_more : (n i : ℕ) (xs : List SessionEnd) (d : SessionEnd) → i < length xs → report_of n (take (i + 1) xs) ≡ report_of n (take i xs) ++ line_of (n + i) (slice_index_or xs i d)
+report_more : (n i : ℕ) (xs : List SeatEnd) (d : SeatEnd) → i < length xs → report_of n (take (i + 1) xs) ≡ report_of n (take i xs) ++ line_of (n + i) (slice_index_or xs i d).end
 report_more n i [] d lt = absurd (omega arith)
-report_more n zero (x ∷ xs) d lt = append-nil (line_of n x) ∙ ap (λ k. line_of k x) (omega arith)
+report_more n zero (x ∷ xs) d lt = append-nil (line_of n x.end) ∙ ap (λ k. line_of k x.end) (omega arith)
 report_more n (suc i) (x ∷ xs) d lt =
     let one : suc i + 1 ≡ suc (i + 1) = omega arith in
     let place : n + 1 + i ≡ n + suc i = omega arith in
     ap (λ k. report_of n (take k (x ∷ xs))) one
-    ∙ ap (λ l. line_of n x ++ l) (report_more (n + 1) i xs d (omega arith))
-    ∙ sym (append_assoc (line_of n x) (report_of (n + 1) (take i xs)) (line_of (n + 1 + i) (slice_index_or xs i d)))
-    ∙ ap (λ k. (line_of n x ++ report_of (n + 1) (take i xs)) ++ line_of k (slice_index_or xs i d)) place
+    ∙ ap (λ l. line_of n x.end ++ l) (report_more (n + 1) i xs d (omega arith))
+    ∙ sym (append_assoc (line_of n x.end) (report_of (n + 1) (take i xs)) (line_of (n + 1 + i) (slice_index_or xs i d).end))
+    ∙ ap (λ k. (line_of n x.end ++ report_of (n + 1) (take i xs)) ++ line_of k (slice_index_or xs i d).end) place
 
 appends_then : (a b c : Option (List ℕ)) (xs ys : List ℕ) → Appends a b xs → Appends b c ys → Appends a c (xs ++ ys)
 appends_then None b c xs ys p q = tt
@@ -24,8 +24,8 @@ appends_then (Some x) (Some y) None xs ys p q = absurd q
 appends_then (Some x) (Some y) (Some z) xs ys p q = q ∙ ap (λ l. l ++ ys) p ∙ append_assoc x xs ys
 
 -- a line more is written
-pub told : (a b c : Option (List ℕ)) (i : ℕ) (ends : List SessionEnd) (d : SessionEnd) → i < length ends → Appends a b (report_of 1 (take i ends)) → Appends b c (line_of (i + 1) (slice_index_or ends i d))
+pub told : (a b c : Option (List ℕ)) (i : ℕ) (ends : List SeatEnd) (d : SeatEnd) → i < length ends → Appends a b (report_of 1 (take i ends)) → Appends b c (line_of (i + 1) (slice_index_or ends i d).end)
     → Appends a c (report_of 1 (take (i + 1) ends))
 told a b c i ends d lt p q =
-    subst (λ l. Appends a c l) (sym (report_more 1 i ends d lt ∙ ap (λ k. report_of 1 (take i ends) ++ line_of k (slice_index_or ends i d)) (omega arith)))
-    (appends_then a b c (report_of 1 (take i ends)) (line_of (i + 1) (slice_index_or ends i d)) p q)
+    subst (λ l. Appends a c l) (sym (report_more 1 i ends d lt ∙ ap (λ k. report_of 1 (take i ends) ++ line_of k (slice_index_or ends i d).end) (omega arith)))
+    (appends_then a b c (report_of 1 (take i ends)) (line_of (i + 1) (slice_index_or ends i d).end) p q)

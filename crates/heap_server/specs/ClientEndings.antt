@@ -1,5 +1,5 @@
 -- What a client sends, and how it ends.
-use Rattle.std.specs.Prelude.{◌≡◌, ◌⊎◌, ℕ, [], Bool, true, false, codes}
+use Rattle.std.specs.Prelude.{◌≡◌, ◌⊎◌, ℕ, Bool, true, false, codes}
 use Rattle.dump_pump.specs.Outlets.{Outgoing}
 use Rattle.dump_pump.specs.Pumps.{PutsAll}
 use Rattle.dump_pump.specs.Inlets.{Incoming}
@@ -38,8 +38,7 @@ Receives a b w w' result =
     (copied : Copied) × (failed : Bool) × Copies a b w w' copied
     × (result ≡ asked_end failed copied)
 
--- a socket that had given nothing before was received from; or there was no memory, and nothing was put out
-abbrev pub AsksServer : Outgoing → Outgoing → Asked → Type 0
-AsksServer w w' result =
-    ((a : Incoming) × (b : Incoming) × (a.taken ≡ []) × Receives a b w w' result)
-    ⊎ ((result ≡ NoMemory) × (w' ≡ w))
+-- a socket was received from; or there was no memory, and nothing was taken or put out
+abbrev pub AsksServer : Incoming → Incoming → Outgoing → Outgoing → Asked → Type 0
+AsksServer a b w w' result =
+    Receives a b w w' result ⊎ ((result ≡ NoMemory) × (b ≡ a) × (w' ≡ w))

@@ -4,6 +4,7 @@ use Rattle.session_text.specs.declared.Ended.{Ended}
 use Rattle.session_text.specs.declared.Ended.TheVariants.{Quit, Eof, CutLine, TooLong, ReadFault, TooManyReads, WriteFault, NoMemory}
 use Rattle.heap_server.specs.declared.client_session.SessionEnd.{SessionEnd}
 use Rattle.heap_server.specs.declared.client_session.SessionEnd.TheVariants.{Ran, Http}
+use Rattle.heap_server.specs.declared.sessions.SeatEnd.{SeatEnd}
 
 -- the word that names how a session ended
 abbrev pub word_of_ending : Ended → List ℕ
@@ -27,6 +28,6 @@ line_of number end =
     codes "session " ++ (decimal number ++ (codes " " ++ (word_of_end end ++ codes "\n")))
 
 -- the lines of all, the first with this number
-abbrev pub report_of : ℕ → List SessionEnd → List ℕ
+abbrev pub report_of : ℕ → List SeatEnd → List ℕ
 report_of number [] = []
-report_of number (end ∷ more) = line_of number end ++ report_of (number + 1) more
+report_of number (session ∷ more) = line_of number session.end ++ report_of (number + 1) more

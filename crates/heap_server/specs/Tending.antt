@@ -1,5 +1,6 @@
 -- What the threads did that tend the collector of a served heap.
 use Rattle.std.specs.Prelude.{◌≡◌, ◌⊎◌, ℕ, Bool, true, false, List, [], ◌∷◌, length, is_none}
+use Rattle.heap_lock.specs.Seated.{TableId}
 use Rattle.heap_lock.specs.Phase.{Phase}
 use Rattle.heap_lock.specs.Phase.TheVariants.{Idle, Marking}
 use Rattle.heap_lock.specs.HeapLimits.{HeapSettings}
@@ -11,11 +12,11 @@ use Rattle.heap_lock.specs.declared.role.Role.TheVariants.{Marker, Sweeper}
 use Rattle.heap_lock.specs.declared.stub.Stub.{Stub}
 use Rattle.heap_lock.specs.ChronicleLimits.{chronicle_limit}
 use Rattle.heap_lock.specs.Blanks.{Maker, chair_of}
-use Rattle.heap_lock.specs.LockStates.{Chair}
+use Rattle.heap_lock.specs.LockStates.{Chair, IsChair}
 use Rattle.heap_work.specs.declared.MarkEnd.{MarkEnd}
 use Rattle.heap_work.specs.declared.SweepEnd.{SweepEnd}
 use Rattle.heap_work.specs.Rule.{BeginsNoCycle, IsResumedWork, IsSweepWork}
-use Rattle.heap_server.specs.SessionSeats.{AreUsers, IsOver}
+use Rattle.heap_server.specs.SessionSeats.{AreUsers, IsFor}
 use Rattle.heap_server.specs.declared.sessions.Terms.{Terms}
 use Rattle.heap_server.specs.declared.tended.TendedHeap.{TendedHeap}
 use Rattle.heap_server.specs.declared.tending.Duty.{Duty}
@@ -86,13 +87,20 @@ AreStaff most (marker ∷ sweeper ∷ users) =
     (marker.role ≡ Marker) × (sweeper.role ≡ Sweeper) × AreUsers users × (length users ≡ most)
 AreStaff most seats = ⊥
 
--- the first two seats of a heap, as the runs of their workers left them
-abbrev pub AreTended : HeapSettings → List Chair → Stub → Stub → Type 0
-AreTended config (marker ∷ sweeper ∷ users) marked swept =
-    MarkRuns config marker (chair_of marked) × SweepRuns config sweeper (chair_of swept)
-AreTended config seats marked swept = ⊥
+-- a seat of the heap with these tables, as runs of a worker left it
+abbrev pub IsSeatAfterRuns : List TableId → (Chair → Type 0) → Stub → Type 0
+IsSeatAfterRuns tables Runs stub = IsChair tables stub.number stub.share × Runs (chair_of stub)
 
--- these sessions were over this heap, and this is what its workers did
-abbrev pub IsTendedOver : Maker → Terms → ℕ → TendedHeap → Type 0
-IsTendedOver blank terms most h =
-    IsOver blank terms most h.heap × AreTended blank.config blank.seats h.marker h.sweeper
+-- the first two of these seats of a heap, as the runs of their workers left them, and sessions from the others, on these terms
+abbrev pub AreTended : HeapSettings → List TableId → Terms → List Chair → TendedHeap → Type 0
+AreTended config tables terms (marker ∷ sweeper ∷ users) h =
+    IsSeatAfterRuns tables (MarkRuns config marker) h.marker
+    × IsSeatAfterRuns tables (SweepRuns config sweeper) h.sweeper
+    × IsFor config tables terms users h.heap.served
+AreTended config tables terms seats h = ⊥
+
+-- these sessions were from the users' seats of this heap, on these terms, and this is what its workers did
+abbrev pub IsTendedOver : Maker → Terms → TendedHeap → Type 0
+IsTendedOver blank terms h =
+    (h.heap.made.value ≡ blank) × (h.heap.terms ≡ terms)
+    × AreTended blank.config blank.tables terms blank.seats h

@@ -2,30 +2,52 @@
 ghost use Rattle.std.specs.Prelude.{◌≡◌};
 
 use crate::joined::Joined;
-use heap_lock::{Action, Heap, Reply};
+use heap_lock::{Action, Heap, Reply, Seat};
 use question_text::is_collect;
 use session_text::{Commands, LineAnswer};
 use std::alloc::Global;
+use std::marker::Model;
 use std::sync::Wait;
 
 /// A user's seat, with its heap, that acts on the lines of a session and answers questions about the heap. Each is answered
 /// under the lock, so it is about one state, and others wait for it; so they do for `collect`, whose steps are acts of the seat.
-/// No other question has an entry.
+/// No other question has an entry. Contracts see what they see of `Joined`.
 #[derive(Drop)]
 pub struct AskingSeat<'a, L: Heap, R: Wait> {
-    pub joined: Joined<'a, L, R>,
+    joined: Joined<'a, L, R>,
+}
+
+impl<'a, L: Heap, R: Wait> Model for AskingSeat<'a, L, R> {
+    ghost use Rattle.heap_server.specs.Stations.{Station};
+
+    ghost Value = { Station };
+
+    ghost view = { λ a. a.joined };
+}
+
+impl<'a, L: Heap, R: Wait> AskingSeat<'a, L, R> {
+    /// Creates the commands that answer questions too.
+    pub fn new(joined: Joined<'a, L, R>) -> AskingSeat<'a, L, R>
+        ensures { result ≡ joined.entry }
+    {
+        AskingSeat { joined }
+    }
+
+    /// Gives the seat back.
+    pub fn into_seat(self) -> Seat<L>
+        ensures { result ≡ self.entry.seat }
+    {
+        self.joined.into_seat()
+    }
 }
 
 impl<'a, L: Heap, R: Wait> Commands for AskingSeat<'a, L, R> {
-    ghost use Rattle.question_text.specs.Collections.{is_collect};
-    ghost use Rattle.heap_server.specs.JoinedActs.{IsJoined};
-    ghost use Rattle.heap_server.specs.JoinedAnswers.{AnswersForSeat};
+    ghost use Rattle.std.specs.Prelude.{true};
+    ghost use Rattle.heap_server.specs.Stations.{seat_acts, seat_answers};
 
-    ghost acts = { λ c a r d. IsJoined L.config c.joined.seat c.joined.witness a r d.joined.seat
-        d.joined.witness };
+    ghost acts = { seat_acts L.config };
 
-    ghost unknown = { λ l c text d. AnswersForSeat L.config (is_collect l) l c.joined.seat
-        c.joined.witness text d.joined.seat d.joined.witness };
+    ghost unknown = { seat_answers L.config true };
 
     fn act(&mut self, action: Action) -> Reply {
         self.joined.act(action)

@@ -1,17 +1,18 @@
 //! The client of a session: what it sends, and what comes back.
-ghost use Rattle.std.specs.Prelude.{◌≡◌};
+ghost use Rattle.std.specs.Prelude.{◌≡◌, IfSome, IfNone};
+ghost use Rattle.heap_server.specs.declared.client.Asked.TheVariants.{NoMemory};
 ghost use Rattle.heap_server.specs.ClientEndings.{AsksServer, Receives, Sends, asked_end};
 
 use crate::copy::{Copied, copy_all};
+use dump_pump::Outlet;
 use dump_pump::transfer::put_all;
-use dump_pump::{Outlet, WriteOutlet};
-use session_text::{Inlet, ReadInlet};
+use session_text::Inlet;
 use std::alloc::Global;
-use std::net::TcpStream;
+use std::snapshot::Snapshot;
 use std::sync::atomic::{AtomicBool, Ordering};
 use std::sync::{Arc, Wait};
 use std::thread;
-use std::thread::Threads;
+use std::thread::{Promise, PromisedHandle, Threads};
 
 /// How a client ended.
 #[derive(Clone, Copy)]
@@ -26,52 +27,103 @@ pub enum Asked {
     NoMemory,
 }
 
-// A client's socket, and whether its input failed: what its two threads share.
+/// What an input and an outlet are once the input was sent, and whether the input failed.
 #[derive(Drop)]
-struct Connection {
-    stream: TcpStream,
-    input_failed: AtomicBool,
+pub struct Sent<I, T> {
+    pub input: Snapshot<I>,
+    pub outlet: Snapshot<T>,
+    pub failed: bool,
 }
 
-/// Sends all input and then an empty line and the line `end` in a thread of its own, and copies to the output what comes from
-/// the socket until it ends or a read or a write fails. Returns then, even if that thread still waits for input or for the socket:
-/// it is not joined, and ends with its input, with the connection or with the program. Of two faults the input's is named, if it
-/// came before the session ended. May wait.
-pub fn ask<R, I: Inlet + Send + Drop + 'static, O: Outlet>(
+/// The promise of a thread that it sends this input to this outlet.
+#[derive(Drop)]
+pub struct SendsFrom<I, T> {
+    pub input: Snapshot<I>,
+    pub outlet: Snapshot<T>,
+}
+
+impl<I: Inlet, T: Outlet> Promise<Sent<I, T>> for SendsFrom<I, T> {
+    ghost use Rattle.heap_server.specs.ClientEndings.{Sends};
+
+    ghost kept_by = { λ p r. Sends (I.seen p.input.value) (I.seen r.input.value)
+        (T.seen p.outlet.value) (T.seen r.outlet.value) r.failed };
+}
+
+/// How a client ended, and the thread that sends its input, if one was started.
+#[derive(Drop)]
+pub struct Client<I: Inlet, T: Outlet> {
+    pub asked: Asked,
+    pub sender: Option<PromisedHandle<Sent<I, T>, SendsFrom<I, T>>>,
+}
+
+/// Sends all input and then an empty line and the line `end` to the outlet of a socket, in a thread of its own, and copies to the
+/// output what comes from the socket until it ends or a read or a write fails. Returns then, even if that thread still waits for
+/// input or for the socket: it ends with its input, with the connection or with the program. Of two faults the input's is named,
+/// if it came before the session ended. May wait.
+pub fn ask<R, I, T, S: Inlet, O: Outlet>(
     rt: &R,
     alloc: Global,
-    stream: TcpStream,
     input: I,
+    outlet: T,
+    socket: &mut S,
     output: &mut O,
-) -> Asked
+) -> Client<I, T>
 where
     R: Threads + Wait + Copy + Send + Sync + Drop + 'static,
-    ensures { AsksServer (O.seen output.old) (O.seen output.new) result }
+    I: Inlet + Send + Drop + 'static,
+    T: Outlet + Send + Drop + 'static,
+    ensures receives { AsksServer (S.seen socket.old) (S.seen socket.new) (O.seen output.old)
+        (O.seen output.new) result.asked }
+    ensures sends { IfSome result.sender
+        (λ h. (h.promise.input.value ≡ input) × (h.promise.outlet.value ≡ outlet)) }
+    ensures unsent { IfNone result.sender (result.asked ≡ NoMemory) }
 {
-    let _ = stream.set_nodelay(true);
-    let connection = Connection {
-        stream,
-        input_failed: AtomicBool::new(false),
+    let Some((own, theirs)) = marks(alloc) else {
+        let asked = Asked::NoMemory;
+        let sender = None;
+        return Client { asked, sender };
     };
-    let Ok(shared) = Arc::new(alloc, connection) else {
-        return Asked::NoMemory;
+    let promise = SendsFrom {
+        input: Snapshot::of(&input),
+        outlet: Snapshot::of(&outlet),
     };
-    let Ok(theirs) = Arc::try_clone(&shared) else {
-        return Asked::NoMemory;
+    let handle = *rt;
+    let send = move || send_from(&handle, input, outlet, &theirs);
+    let Ok(sender) = thread::spawn_with(rt, promise, send) else {
+        let asked = Asked::NoMemory;
+        let sender = None;
+        return Client { asked, sender };
     };
-    let own = *rt;
-    let Ok(_sender) = thread::spawn(rt, move || send_to(&own, &theirs, input)) else {
-        return Asked::NoMemory;
-    };
-    let mut socket = ReadInlet::new(&shared.stream);
-    receive(rt, &mut socket, output, &shared.input_failed)
+    let asked = receive(rt, socket, output, &own);
+    let sender = Some(sender);
+    Client { asked, sender }
 }
 
-// Sends all input over a connection, as `send_all` does.
-fn send_to<R: Wait, I: Inlet + Drop>(rt: &R, connection: &Connection, input: I) {
+// Returns a mark that isn't set, for each of two threads. Fails if it can't be allocated.
+fn marks(alloc: Global) -> Option<(Arc<AtomicBool>, Arc<AtomicBool>)> {
+    let own = Arc::new(alloc, AtomicBool::new(false)).ok()?;
+    let theirs = Arc::try_clone(&own).ok()?;
+    Some((own, theirs))
+}
+
+// Sends all input to an outlet, as `send_all` does.
+fn send_from<R: Wait, I: Inlet + Drop, T: Outlet + Drop>(
+    rt: &R,
+    input: I,
+    outlet: T,
+    input_failed: &AtomicBool,
+) -> Sent<I, T>
+    ensures { Sends (I.seen input) (I.seen result.input.value) (T.seen outlet)
+        (T.seen result.outlet.value) result.failed }
+{
     let mut input = input;
-    let mut socket = WriteOutlet::new(&connection.stream);
-    send_all(rt, &mut input, &mut socket, &connection.input_failed);
+    let mut outlet = outlet;
+    let failed = send_all(rt, &mut input, &mut outlet, input_failed);
+    Sent {
+        input: Snapshot::of(&input),
+        outlet: Snapshot::of(&outlet),
+        failed,
+    }
 }
 
 // Sends all input, and then a line's end and the line `end`, also after a fault of the input, which is noted before. A write that

@@ -14,18 +14,30 @@ use heap_lock::{Action, Heap, Outcome, Receipt, Refusal, Reply, Seat, Shared, Wi
 use question_text::answer_line;
 use session_text::{Commands, LineAnswer};
 use std::alloc::Global;
+use std::marker::Model;
 use std::sync::Wait;
 
 /// A user's seat, with its heap. What others do on the heap goes on between any two actions. Contracts see the seat, whose
-/// share has what this session did, in order, and the witness, which has seen the calls up to this session's last dump call or
-/// question.
+/// share has what this session did, in order, and the calls that its witness has seen: those up to this session's last dump
+/// call or question.
 #[derive(Drop)]
 pub struct Joined<'a, L: Heap, R: Wait> {
     shared: &'a Shared<L>,
     rt: &'a R,
-    pub seat: Seat<L>,
-    pub witness: Witness<L>,
-    ghost user: { seat.role ≡ User },
+    seat: Seat<L>,
+    witness: Witness<L>,
+}
+
+impl<'a, L: Heap, R: Wait> Model for Joined<'a, L, R> {
+    ghost use Rattle.std.specs.Prelude.{◌≡◌};
+    ghost use Rattle.heap_lock.specs.declared.role.Role.TheVariants.{User};
+    ghost use Rattle.heap_server.specs.Stations.{Station};
+
+    ghost Value = { Station };
+
+    ghost view = { λ j. record { seat = j.seat; seen = j.witness } };
+
+    ghost invariant = { λ j. j.seat.role ≡ User };
 }
 
 // Returns the reply that an outcome is.
@@ -59,7 +71,7 @@ impl<'a, L: Heap, R: Wait> Joined<'a, L, R> {
         witness: Witness<L>,
     ) -> Joined<'a, L, R>
         requires { seat.role ≡ User }
-        ensures { (result.seat ≡ seat) × (result.witness ≡ witness) }
+        ensures { result ≡ record { seat = seat; seen = witness } }
     {
         Joined {
             shared,
@@ -69,9 +81,16 @@ impl<'a, L: Heap, R: Wait> Joined<'a, L, R> {
         }
     }
 
+    /// Gives the seat back.
+    pub fn into_seat(self) -> Seat<L>
+        ensures { result ≡ self.entry.seat }
+    {
+        self.seat
+    }
+
     // Opens a pin on a state with all that the seat did, and leaves the seat.
     fn reply_to_open(&mut self, at: Option<u64>) -> Reply
-        ensures done { OpensMet L.config self.old.seat self.old.witness at result self.new.witness }
+        ensures done { OpensMet L.config self.old.seat self.old.seen at result self.new.seen }
         ensures seat { self.new.seat ≡ self.old.seat }
         ensures small { IsSmall result }
     {
@@ -87,8 +106,8 @@ impl<'a, L: Heap, R: Wait> Joined<'a, L, R> {
 
     // Gives the next piece of a pin, and leaves the seat.
     fn part(&mut self, pin: u64, time: u64) -> Reply
-        ensures done { Witnesses L.config self.old.witness (NextPiece pin time) result
-            self.new.witness }
+        ensures done { Witnesses L.config self.old.seen (NextPiece pin time) result
+            self.new.seen }
         ensures seat { self.new.seat ≡ self.old.seat }
         ensures legal { IsLegalPart L.config.ids time result }
         ensures small { IsSmall result }
@@ -104,7 +123,7 @@ impl<'a, L: Heap, R: Wait> Joined<'a, L, R> {
 
     // Closes a pin, and leaves the seat.
     fn reply_to_close(&mut self, pin: u64) -> Reply
-        ensures done { Witnesses L.config self.old.witness (ClosePin pin) result self.new.witness }
+        ensures done { Witnesses L.config self.old.seen (ClosePin pin) result self.new.seen }
         ensures seat { self.new.seat ≡ self.old.seat }
         ensures small { IsSmall result }
     {
@@ -116,8 +135,8 @@ impl<'a, L: Heap, R: Wait> Joined<'a, L, R> {
 
     // Answers a question about the heap, at one moment under the lock.
     pub(crate) fn answer(&mut self, alloc: Global, line: &[u8]) -> LineAnswer
-        ensures answer { IsAnswerOfHeap L.config self.old.seat self.old.witness line.now
-            (line_answer_text result) self.new.witness }
+        ensures answer { IsAnswerOfHeap L.config self.old.seat self.old.seen line.now
+            (line_answer_text result) self.new.seen }
         ensures seat { self.new.seat ≡ self.old.seat }
     {
         let mut kept = self.shared.lock(self.rt);
@@ -129,8 +148,8 @@ impl<'a, L: Heap, R: Wait> Joined<'a, L, R> {
 
     // Takes the steps of `collect` under the lock, each an act of this seat, and returns its answer.
     pub(crate) fn collect(&mut self, alloc: Global) -> LineAnswer
-        ensures collects { IsCollectionOfHeap L.config self.old.seat self.old.witness
-            (line_answer_text result) self.new.seat self.new.witness }
+        ensures collects { IsCollectionOfHeap L.config self.old.seat self.old.seen
+            (line_answer_text result) self.new.seat self.new.seen }
         ensures seat { IsSeatAfter self.old.seat self.new.seat }
     {
         let mut kept = self.shared.lock(self.rt);
@@ -139,12 +158,12 @@ impl<'a, L: Heap, R: Wait> Joined<'a, L, R> {
 }
 
 impl<'a, L: Heap, R: Wait> Commands for Joined<'a, L, R> {
-    ghost use Rattle.session_text.specs.Answers.{all_bad};
-    ghost use Rattle.heap_server.specs.JoinedActs.{IsJoined};
+    ghost use Rattle.std.specs.Prelude.{false};
+    ghost use Rattle.heap_server.specs.Stations.{seat_acts, seat_answers};
 
-    ghost acts = { λ c a r d. IsJoined L.config c.seat c.witness a r d.seat d.witness };
+    ghost acts = { seat_acts L.config };
 
-    ghost unknown = { all_bad };
+    ghost unknown = { seat_answers L.config false };
 
     fn act(&mut self, action: Action) -> Reply {
         match action {

@@ -12,11 +12,12 @@ pub mod joined;
 pub mod laws;
 pub mod report;
 pub mod sessions;
+pub mod socket;
 pub mod tended;
 pub mod tending;
 
 pub use asking::AskingSeat;
-pub use client::{Asked, ask};
+pub use client::{Asked, Client, SendsFrom, Sent, ask};
 pub use client_session::SessionEnd;
 pub use copy::{Copied, copy_all};
 pub use heap_lock::{Blank, Refusal};
@@ -25,7 +26,8 @@ pub use laws::served_dumps_are_text;
 pub use live_dump::DumpListener;
 pub use report::{tell_sessions, word};
 pub use sessions::{
-    Ports, Served, ServedHeap, ServicePlan, Terms, serve_clients, serve_heap, users,
+    Ports, SeatEnd, Served, ServedHeap, ServicePlan, Terms, serve_clients, serve_heap, users,
 };
+pub use socket::{Half, halves};
 pub use tended::{Staff, Tended, TendedHeap, serve_tended, serve_tended_heap, workers_and_users};
 pub use tending::{Duty, tend};

@@ -4,6 +4,7 @@ ghost use Rattle.std.specs.Io.KnownBytes.{Appends};
 ghost use Rattle.heap_server.specs.Reports.{line_of, report_of, word_of_end, word_of_ending};
 
 use crate::client_session::SessionEnd;
+use crate::sessions::SeatEnd;
 use session_text::Ended;
 use std::io;
 use std::io::Write;
@@ -44,12 +45,12 @@ fn tell_session<W: Write>(writer: &mut W, number: u64, end: SessionEnd) -> io::R
 }
 
 /// Writes a line `session I WORD` for each session, counted from 1. Fails if a write does.
-pub fn tell_sessions<W: Write>(writer: &mut W, ends: &[SessionEnd]) -> io::Result<()>
+pub fn tell_sessions<W: Write>(writer: &mut W, sessions: &[SeatEnd]) -> io::Result<()>
     ensures { OnOk result
-        (Appends (W.contents writer.old) (W.contents writer.new) (report_of 1 ends.now)) }
+        (Appends (W.contents writer.old) (W.contents writer.new) (report_of 1 sessions.now)) }
 {
-    for i in 0..ends.len() {
-        tell_session(writer, i as u64 + 1, ends[i])?;
+    for i in 0..sessions.len() {
+        tell_session(writer, i as u64 + 1, sessions[i].end)?;
     }
     Ok(())
 }

@@ -1,26 +1,28 @@
 //! Sessions over one shared heap.
-ghost use Rattle.std.specs.Prelude.{◌≡◌, ◌+◌, ◌≤◌, IfOk, IfErr, length, vec_len, vec_capacity};
+ghost use Rattle.std.specs.Prelude.{◌≡◌, ◌≤◌, IfOk, IfErr, [], length, vec_len, vec_capacity};
 ghost use Rattle.heap_lock.specs.Blanks.{IsNamed};
 ghost use Rattle.heap_lock.specs.Refusal.TheVariants.{NoMemory};
 ghost use Rattle.heap_lock.specs.declared.role.Role.TheVariants.{User};
-ghost use Rattle.heap_server.specs.SessionSeats.{AreUsers, IsFor, IsOver, session_limit};
+ghost use Rattle.heap_server.specs.SessionSeats.{AreUsers, EndAs, EndsAs, IsBegun, IsFor, IsOver, session_limit};
+ghost use Rattle.heap_server.specs.Stations.{IsAttended, IsClientOf};
 
 use crate::ahead::read_line;
 use crate::asking::AskingSeat;
 use crate::client_session::{SessionEnd, serve_client};
 use crate::joined::Joined;
-use dump_pump::WriteOutlet;
-use heap_lock::{Blank, Config, Heap, Refusal, Role, Seat, Seats, Shared};
+use dump_pump::{Outlet, WriteOutlet};
+use heap_lock::{Blank, Config, Heap, Refusal, Role, Seat, Seats, Shared, Stub};
 use live_dump::{DumpListener, tend_dumps};
-use session_text::{Ended, ReadInlet};
+use session_text::{Ended, Inlet, ReadInlet};
 use std::alloc::{AllocError, Global};
-use std::marker::Brand;
+use std::collections::VecDeque;
+use std::marker::{Brand, Model};
 use std::net::{TcpListener, TcpStream};
 use std::snapshot::Snapshot;
 use std::sync::Wait;
 use std::sync::atomic::{AtomicBool, Ordering};
 use std::thread;
-use std::thread::{JoinHandle, Scope, Threads};
+use std::thread::{JoinHandle, Promise, PromisedHandle, Scope, Threads};
 use std::time::Clock;
 
 /// The listener for the clients of sessions, and the one for the clients of dumps, if there is one.
@@ -47,10 +49,17 @@ pub struct ServicePlan {
     pub terms: Terms,
 }
 
-/// How the sessions ended, in order of acceptance, and whether an accept failed.
+/// How a session ended, and its seat as it left it: None if no thread could be started for it.
+#[derive(Drop)]
+pub struct SeatEnd {
+    pub end: SessionEnd,
+    pub stub: Option<Stub>,
+}
+
+/// How the sessions ended, each beside its seat, in order of acceptance, and whether an accept failed.
 #[derive(Drop)]
 pub struct Served {
-    pub ends: Vec<SessionEnd>,
+    pub sessions: Vec<SeatEnd>,
     pub refused: bool,
 }
 
@@ -75,8 +84,60 @@ pub fn users(alloc: Global, config: Config, sessions: u64) -> Result<Blank, Refu
     Blank::new(alloc, config, roles.as_slice())
 }
 
-// Serves one client between its socket and the heap, unless its first line begins an HTTP request: then it reads nothing more, and
-// puts out and runs nothing. Each part of an answer goes out at once. Closes no pin at its end. May wait.
+// How a session ended, and its seat as it left it.
+#[derive(Drop)]
+struct Attended<L: Heap> {
+    end: SessionEnd,
+    seat: Seat<L>,
+}
+
+// The promise that a client of some socket was served from this seat on these terms.
+#[derive(Drop)]
+struct AttendsFrom<L: Heap> {
+    seat: Snapshot<Seat<L>>,
+    terms: Terms,
+}
+
+impl<L: Heap> Promise<Attended<L>> for AttendsFrom<L> {
+    ghost use Rattle.heap_server.specs.Stations.{IsClientOf};
+
+    ghost kept_by = { λ p r. IsClientOf L.config p.terms p.seat.value r.seat r.end };
+}
+
+// Serves one client from a seat, between an inlet and an outlet, unless its first line begins an HTTP request: then it reads nothing
+// more, and puts out and runs nothing. Each part of an answer goes out at once. Closes no pin at its end. May wait.
+fn attend<L: Heap, R: Wait, I: Inlet + Drop, O: Outlet>(
+    rt: &R,
+    alloc: Global,
+    shared: &Shared<L>,
+    seat: Seat<L>,
+    inlet: I,
+    outlet: &mut O,
+    terms: Terms,
+) -> Attended<L>
+    requires { seat.role ≡ User }
+    ensures { IsAttended L.config terms seat (I.seen inlet) (O.seen outlet.old) (O.seen outlet.new)
+        result.seat result.end }
+{
+    let mut inlet = inlet;
+    let Ok(ahead) = read_line(alloc, &mut inlet) else {
+        let end = SessionEnd::Ran(Ended::NoMemory);
+        return Attended { end, seat };
+    };
+    let mut joined = Joined::new(shared, rt, seat, shared.witness(rt));
+    if terms.questions {
+        let mut asking = AskingSeat::new(joined);
+        let end = serve_client(alloc, inlet, ahead, outlet, &mut asking, terms.time);
+        let seat = asking.into_seat();
+        Attended { end, seat }
+    } else {
+        let end = serve_client(alloc, inlet, ahead, outlet, &mut joined, terms.time);
+        let seat = joined.into_seat();
+        Attended { end, seat }
+    }
+}
+
+// Serves the client of a socket from a seat.
 fn session<L: Heap, R: Wait>(
     rt: &R,
     alloc: Global,
@@ -84,38 +145,81 @@ fn session<L: Heap, R: Wait>(
     seat: Seat<L>,
     stream: TcpStream,
     terms: Terms,
-) -> SessionEnd
+) -> Attended<L>
     requires { seat.role ≡ User }
+    ensures { IsClientOf L.config terms seat result.seat result.end }
 {
     let _ = stream.set_nodelay(true);
-    let mut reader = ReadInlet::new(&stream);
+    let reader = ReadInlet::new(&stream);
     let mut writer = WriteOutlet::new(&stream);
-    let Ok(ahead) = read_line(alloc, &mut reader) else {
-        return SessionEnd::Ran(Ended::NoMemory);
+    attend(rt, alloc, shared, seat, reader, &mut writer, terms)
+}
+
+// A session in a thread; None if no thread could be started. Contracts see the seat and the terms that it began with.
+#[derive(Drop)]
+struct Running<L: Heap> {
+    thread: Option<PromisedHandle<Attended<L>, AttendsFrom<L>>>,
+}
+
+impl<L: Heap> Model for Running<L> {
+    ghost use Rattle.std.specs.Prelude.{Option, option_map};
+    ghost use Rattle.heap_lock.specs.LockStates.{Chair};
+    ghost use Rattle.heap_server.specs.declared.sessions.Terms.{Terms};
+
+    ghost Value = { Option (Chair × Terms) };
+
+    ghost view = { λ r. option_map (λ h. (h.promise.seat.value, h.promise.terms)) r.thread };
+}
+
+// Begins the session of a client, in a thread.
+fn begin_session<'s, E, L: Heap + Send + Sync, R: Threads + Wait + Sync>(
+    scope: &Scope<'s, E>,
+    rt: &'s R,
+    alloc: Global,
+    shared: &'s Shared<L>,
+    seat: Seat<L>,
+    stream: TcpStream,
+    terms: Terms,
+) -> Running<L>
+    requires { seat.role ≡ User }
+    ensures { IsBegun terms seat result }
+{
+    let promise = AttendsFrom {
+        seat: Snapshot::of(&seat),
+        terms,
     };
-    let mut joined = Joined::new(shared, rt, seat, shared.witness(rt));
-    if terms.questions {
-        let mut asking = AskingSeat { joined };
-        serve_client(alloc, reader, ahead, &mut writer, &mut asking, terms.time)
-    } else {
-        serve_client(alloc, reader, ahead, &mut writer, &mut joined, terms.time)
+    let attend = move || session(rt, alloc, shared, seat, stream, terms);
+    Running {
+        thread: scope.spawn_with(promise, attend).ok(),
     }
 }
 
-// Waits for each session in turn. One whose thread couldn't be started ended by NoMemory.
-fn await_all<R: Threads>(
-    rt: &R,
-    running: &mut Vec<Option<JoinHandle<SessionEnd>>>,
-    ends: &mut Vec<SessionEnd>,
-)
-    requires { vec_len ends.old + vec_len running.old ≤ vec_capacity ends.old }
-    ensures { vec_len ends.new ≡ vec_len ends.old + vec_len running.old }
+// Waits for a session, and gives its seat up. One whose thread couldn't be started ended by NoMemory.
+fn await_one<L: Heap, R: Threads>(rt: &R, running: Running<L>) -> SeatEnd
+    ensures { EndsAs L.config L.tables running result }
 {
-    for i in 0..running.len() {
-        ends.push_reserved(match running[i].take() {
-            Some(thread) => thread.join(rt),
-            None => SessionEnd::Ran(Ended::NoMemory),
-        });
+    match running.thread {
+        Some(thread) => {
+            let Attended { end, seat } = thread.join(rt);
+            let stub = Some(seat.into_stub());
+            SeatEnd { end, stub }
+        }
+        None => {
+            let end = SessionEnd::Ran(Ended::NoMemory);
+            SeatEnd { end, stub: None }
+        }
+    }
+}
+
+// Waits for each session in turn.
+fn await_all<L: Heap, R: Threads>(rt: &R, running: Vec<Running<L>>, ends: &mut Vec<SeatEnd>)
+    requires room { vec_len running ≤ vec_capacity ends.old }
+    requires first { ends.old.items ≡ [] }
+    ensures { EndAs L.config L.tables running.items ends.new.items }
+{
+    let mut threads = VecDeque::from_vec(running);
+    while let Some(session) = threads.pop_front() {
+        ends.push_reserved(await_one(rt, session));
     }
 }
 
@@ -130,24 +234,23 @@ fn serve_seats<'s, E, L: Heap + Send + Sync, R: Threads + Wait + Sync>(
     listener: TcpListener,
 ) -> Result<Served, AllocError>
     requires { AreUsers seats }
-    ensures { IfOk result (IsFor (length seats)) }
+    ensures { IfOk result (IsFor L.config L.tables terms seats) }
 {
     let mut seats = seats;
     let count = seats.count();
     let mut running = Vec::with_capacity(alloc, count)?;
-    let mut ends = Vec::with_capacity(alloc, count)?;
+    let mut sessions = Vec::with_capacity(alloc, count)?;
     let mut refused = false;
     while let Some(seat) = seats.take() {
         let Ok((stream, _)) = listener.accept() else {
             refused = true;
             break;
         };
-        let thread = scope.spawn(move || session(rt, alloc, shared, seat, stream, terms));
-        running.push_reserved(thread.ok());
+        running.push_reserved(begin_session(scope, rt, alloc, shared, seat, stream, terms));
     }
     drop(listener);
-    await_all(rt, &mut running, &mut ends);
-    Ok(Served { ends, refused })
+    await_all(rt, running, &mut sessions);
+    Ok(Served { sessions, refused })
 }
 
 // Begins the thread that sends dumps. Fails if it can't be started.
@@ -165,8 +268,8 @@ fn begin_dumps<'s, E, L: Heap + Send + Sync, R: Clock + Eprint + Threads + Wait 
 }
 
 /// Accepts as many clients as there are seats, in turn, and serves each in a thread of its own. After the last of them, or after
-/// an accept that failed, it stops listening, so that a further client is refused at once. Returns once all sessions have ended;
-/// that of a client whose thread can't be started ends by NoMemory. If the ports have a listener for dumps, one more thread
+/// an accept that failed, it stops listening, so that a further client is refused at once. Returns once all sessions have ended,
+/// with their seats; that of a client whose thread can't be started ends by NoMemory, and its seat is gone. If the ports have a listener for dumps, one more thread
 /// sends a dump to each of its clients, from before the first accept until the last session has ended. Fails if that thread can't
 /// be started, or memory is refused to their endings, and accepts nothing. May wait.
 pub fn serve_clients<L: Heap + Send + Sync, R: Clock + Eprint + Threads + Wait + Sync>(
@@ -178,7 +281,7 @@ pub fn serve_clients<L: Heap + Send + Sync, R: Clock + Eprint + Threads + Wait +
     terms: Terms,
 ) -> Result<Served, AllocError>
     requires { AreUsers seats }
-    ensures { IfOk result (IsFor (length seats)) }
+    ensures { IfOk result (IsFor L.config L.tables terms seats) }
 {
     let word = AtomicBool::new(false);
     let stop = &word;
@@ -187,7 +290,7 @@ pub fn serve_clients<L: Heap + Send + Sync, R: Clock + Eprint + Threads + Wait +
         rt,
         move |scope| -> Result<Served, AllocError>
             requires { AreUsers seats }
-            ensures { IfOk result (IsFor (length seats)) }
+            ensures { IfOk result (IsFor L.config L.tables terms seats) }
         {
             let Ports { sessions, dumps } = ports;
             let dumping = match dumps {
@@ -214,8 +317,7 @@ pub fn serve_heap<R: Clock + Eprint + Threads + Wait + Sync>(
     plan: ServicePlan,
 ) -> Result<ServedHeap, AllocError>
     requires users { AreUsers blank.seats }
-    requires most { length blank.seats ≡ plan.most }
-    ensures { IfOk result (IsOver blank plan.terms plan.most) }
+    ensures { IfOk result (IsOver blank plan.terms) }
 {
     serve_opened::<Brand, R>(rt, alloc, blank, plan)
 }
@@ -229,8 +331,7 @@ fn serve_opened<L: Heap + Send + Sync, R: Clock + Eprint + Threads + Wait + Sync
 ) -> Result<ServedHeap, AllocError>
     requires named { IsNamed L.config L.tables L.ledger L.rolls blank }
     requires users { AreUsers blank.seats }
-    requires most { length blank.seats ≡ plan.most }
-    ensures { IfOk result (IsOver blank plan.terms plan.most) }
+    ensures { IfOk result (IsOver blank plan.terms) }
 {
     let made = Snapshot::of(&blank);
     let (shared, seats) = blank.open::<L>();

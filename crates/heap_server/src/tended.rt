@@ -135,7 +135,7 @@ pub fn serve_tended<L: Heap + Send + Sync, R: Clock + Eprint + Threads + Wait + 
     terms: Terms,
 ) -> Result<Tended<L>, AllocError>
     requires { AreStaff (length staff.users) (staff.marker ∷ staff.sweeper ∷ staff.users) }
-    ensures served { IfOk result (λ t. IsFor (length staff.users) t.served) }
+    ensures served { IfOk result (λ t. IsFor L.config L.tables terms staff.users t.served) }
     ensures marks { IfOk result (λ t. MarkRuns L.config staff.marker t.marker) }
     ensures sweeps { IfOk result (λ t. SweepRuns L.config staff.sweeper t.sweeper) }
 {
@@ -147,7 +147,8 @@ pub fn serve_tended<L: Heap + Send + Sync, R: Clock + Eprint + Threads + Wait + 
         move |scope| -> Result<Tended<L>, AllocError>
             requires { AreStaff (length staff.users)
                 (staff.marker ∷ staff.sweeper ∷ staff.users) }
-            ensures served { IfOk result (λ t. IsFor (length staff.users) t.served) }
+            ensures served { IfOk result
+                (λ t. IsFor L.config L.tables terms staff.users t.served) }
             ensures marks { IfOk result (λ t. MarkRuns L.config staff.marker t.marker) }
             ensures sweeps { IfOk result (λ t. SweepRuns L.config staff.sweeper t.sweeper) }
         {
@@ -174,7 +175,7 @@ pub fn serve_tended_heap<R: Clock + Eprint + Threads + Wait + Sync>(
     plan: ServicePlan,
 ) -> Result<TendedHeap, AllocError>
     requires { AreStaff plan.most blank.seats }
-    ensures { IfOk result (IsTendedOver blank plan.terms plan.most) }
+    ensures { IfOk result (IsTendedOver blank plan.terms) }
 {
     serve_staffed::<Brand, R>(rt, alloc, blank, plan)
 }
@@ -209,7 +210,7 @@ fn serve_staffed<L: Heap + Send + Sync, R: Clock + Eprint + Threads + Wait + Syn
 ) -> Result<TendedHeap, AllocError>
     requires named { IsNamed L.config L.tables L.ledger L.rolls blank }
     requires staff { AreStaff plan.most blank.seats }
-    ensures { IfOk result (IsTendedOver blank plan.terms plan.most) }
+    ensures { IfOk result (IsTendedOver blank plan.terms) }
 {
     let made = Snapshot::of(&blank);
     let (shared, seats) = blank.open::<L>();

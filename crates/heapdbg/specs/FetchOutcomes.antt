@@ -22,11 +22,17 @@ abbrev pub IsUnfetched : Result (Unit {0}) Fault → Type 0
 IsUnfetched result =
     (result ≡ Err fault.Connect) ⊎ ((result ≡ Err fault.Out) ⊎ (result ≡ Err fault.Memory))
 
--- what a socket gave was put out to a file, and then a last line; or nothing was fetched, and nothing was put out
+-- what a socket gave was put out to a file, and then a last line
+abbrev pub IsFetchTold : Incoming → Incoming → Outgoing → Outgoing → Outgoing → Outgoing
+    → Result (Unit {0}) Fault → Type 0
+IsFetchTold socket socket' file file' w w' result =
+    (fetched : Fetched) × IsFetched socket socket' file file' fetched
+    × ((written : Bool) × IsTextWritten (fetch_line_of fetched) w w' written
+    × (result ≡ fetched_outcome fetched.finish written))
+
+-- so it was for a socket that had given nothing before; or nothing was fetched, and nothing was put out
 abbrev pub IsDumpFetched : Outgoing → Outgoing → Result (Unit {0}) Fault → Type 0
 IsDumpFetched w w' result =
-    ((socket socket' : Incoming) × (file file' : Outgoing) × (fetched : Fetched)
-    × (socket.taken ≡ []) × IsFetched socket socket' file file' fetched
-    × ((written : Bool) × IsTextWritten (fetch_line_of fetched) w w' written
-    × (result ≡ fetched_outcome fetched.finish written)))
+    ((socket socket' : Incoming) × (file file' : Outgoing) × (socket.taken ≡ [])
+    × IsFetchTold socket socket' file file' w w' result)
     ⊎ (IsUnfetched result × (w' ≡ w))

@@ -1,9 +1,10 @@
 -- The outcomes of serving and asking. Sockets tell nothing of their bytes, so nothing is said of the bytes that go over them.
-use Rattle.std.specs.Prelude.{◌≡◌, ◌≤◌, ℕ, ◌⊎◌, Bool, true, false, Result, Ok, Err, length}
+use Rattle.std.specs.Prelude.{◌≡◌, ◌≤◌, ℕ, ◌⊎◌, Bool, true, false, [], Result, Ok, Err, length}
+use Rattle.dump_pump.specs.Inlets.{Incoming}
 use Rattle.dump_pump.specs.Outlets.{Outgoing}
 use Rattle.session_text.specs.Writes.{IsTextWritten}
 use Rattle.heap_server.specs.Reports.{report_of}
-use Rattle.heap_server.specs.SessionSeats.{IsFor}
+use Rattle.heap_server.specs.SessionSeats.{IsOver}
 use Rattle.heap_server.specs.ClientEndings.{AsksServer}
 use Rattle.heap_server.specs.declared.client.Asked.{Asked}
 use Rattle.heap_server.specs.declared.client.Asked.TheVariants as asked
@@ -11,7 +12,7 @@ use Rattle.heap_server.specs.declared.sessions.Served.{Served}
 use Rattle.heap_server.specs.declared.sessions.ServedHeap.{ServedHeap}
 use Rattle.heap_server.specs.declared.sessions.Terms.{Terms}
 use Rattle.heap_server.specs.declared.tended.TendedHeap.{TendedHeap}
-use Rattle.heap_server.specs.Tending.{AreStaff, AreTended}
+use Rattle.heap_server.specs.Tending.{AreStaff, IsTendedOver}
 use Rattle.heapdbg.specs.declared.failure.Fault.{Fault}
 use Rattle.heapdbg.specs.declared.failure.Fault.TheVariants.{Accept, Connect, Listen, Memory, Read, Write}
 use Rattle.heapdbg_options.specs.HeapLimits.{HeapSettings}
@@ -27,7 +28,7 @@ served_outcome false false = Err Write
 -- nothing was put out
 abbrev pub IsReportTold : Served → Outgoing → Outgoing → Result (Unit {0}) Fault → Type 0
 IsReportTold served w w' result =
-    ((written : Bool) × IsTextWritten (report_of 1 served.ends.items) w w' written
+    ((written : Bool) × IsTextWritten (report_of 1 served.sessions.items) w w' written
     × (result ≡ served_outcome served.refused written))
     ⊎ ((result ≡ Err Memory) × (w' ≡ w))
 
@@ -40,13 +41,12 @@ config_of s =
 abbrev pub terms_of : Settings → Terms
 terms_of s = record { time = s.time; questions = s.questions }
 
--- a heap was made of these settings with a seat for each of this number of sessions, which ended, or fewer if an accept failed;
--- it drops old entries or refuses new ones, as the settings say
+-- a heap was made of these settings with a seat for each of this number of sessions, and clients were served from its seats, from
+-- fewer if an accept failed; it drops old entries or refuses new ones, as the settings say
 abbrev pub IsHeapOf : Settings → ℕ → ServedHeap → Type 0
 IsHeapOf s sessions h =
-    (h.made.value.config ≡ config_of s)
-    × (length h.made.value.seats ≡ sessions) × (h.terms ≡ terms_of s) × IsFor sessions h.served
-    × (h.made.value.rolls ≡ s.rolls)
+    (h.made.value.config ≡ config_of s) × (h.made.value.rolls ≡ s.rolls)
+    × (length h.made.value.seats ≡ sessions) × IsOver h.made.value (terms_of s) h
 
 -- a heap of these settings was served, and its sessions' endings were put out; or an allocation failed or the port couldn't
 -- be listened on, and nothing was put out
@@ -55,15 +55,13 @@ IsHeapServed s sessions w w' result =
     ((h : ServedHeap) × IsHeapOf s sessions h × IsReportTold h.served w w' result)
     ⊎ (((result ≡ Err Memory) ⊎ (result ≡ Err Listen)) × (w' ≡ w))
 
--- a heap was made of these settings with the marker's seat, the sweeper's, and one for each of this number of sessions, which
--- ended, or fewer if an accept failed; and the two seats gained what runs of their workers did
+-- a heap was made of these settings with the marker's seat, the sweeper's, and one for each of this number of sessions, from which
+-- clients were served, from fewer if an accept failed; and the two seats gained what runs of their workers did
 abbrev pub IsTendedHeapOf : Settings → ℕ → TendedHeap → Type 0
 IsTendedHeapOf s sessions t =
-    (t.heap.made.value.config ≡ config_of s)
-    × AreStaff sessions t.heap.made.value.seats × (t.heap.terms ≡ terms_of s)
-    × IsFor sessions t.heap.served
-    × AreTended t.heap.made.value.config t.heap.made.value.seats t.marker t.sweeper
-    × (t.heap.made.value.rolls ≡ s.rolls)
+    (t.heap.made.value.config ≡ config_of s) × (t.heap.made.value.rolls ≡ s.rolls)
+    × AreStaff sessions t.heap.made.value.seats
+    × IsTendedOver t.heap.made.value (terms_of s) t
 
 -- the same of a heap whose collector two threads tended; an allocation that failed may be that of a thread
 abbrev pub IsTendedServed : Settings → ℕ → Outgoing → Outgoing → Result (Unit {0}) Fault → Type 0
@@ -84,8 +82,10 @@ asked_outcome asked.ReadFault = Err Read
 asked_outcome asked.WriteFault = Err Write
 asked_outcome asked.NoMemory = Err Memory
 
--- a client ended, and what came to it was put out; or no connection could be made, and nothing was put out
+-- a client of a socket that had given nothing before ended, and what came to it was put out; or there was no connection or no
+-- memory, and nothing was put out
 abbrev pub IsServerAsked : Outgoing → Outgoing → Result (Unit {0}) Fault → Type 0
 IsServerAsked w w' result =
-    ((ended : Asked) × AsksServer w w' ended × (result ≡ asked_outcome ended))
-    ⊎ ((result ≡ Err Connect) × (w' ≡ w))
+    ((ended : Asked) × (a : Incoming) × (b : Incoming) × (a.taken ≡ [])
+    × AsksServer a b w w' ended × (result ≡ asked_outcome ended))
+    ⊎ (((result ≡ Err Connect) ⊎ (result ≡ Err Memory)) × (w' ≡ w))

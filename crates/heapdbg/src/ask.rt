@@ -5,14 +5,15 @@ ghost use Rattle.heapdbg.specs.ServeOutcomes.{IsServerAsked, asked_outcome};
 use crate::failure::Fault;
 use crate::reasons::tell_port;
 use dump_pump::Outlet;
-use heap_server::{Asked, ask};
+use heap_server::{Asked, ask, halves};
 use session_text::Inlet;
 use std::net::{Ipv4Addr, Net, TcpStream};
 use std::sync::Wait;
 use std::thread::Threads;
 
 /// Sends all input to the session on a port, and puts out what comes back, until the session has ended. Fails with Connect,
-/// and then writes nothing, if no connection can be made; why, it says on standard error, if that is a terminal. May wait.
+/// and then writes nothing, if no connection can be made; why, it says on standard error, if that is a terminal. Fails with Memory,
+/// and writes nothing, if an allocation fails or no thread can be started. May wait.
 pub fn ask_port<R, I: Inlet + Send + Drop + 'static, O: Outlet>(
     rt: &R,
     port: u16,
@@ -32,7 +33,12 @@ where
             return Err(Fault::Connect);
         }
     };
-    outcome(ask(rt, rt.alloc(), stream, input, writer))
+    let Ok((receiving, sending)) = halves(rt.alloc(), stream) else {
+        return Err(Fault::Memory);
+    };
+    let mut socket = receiving;
+    let client = ask(rt, rt.alloc(), input, sending, &mut socket, writer);
+    outcome(client.asked)
 }
 
 // Returns the outcome of a client that has ended.

@@ -1,13 +1,13 @@
 //! The client that fetches a dump of a heap that is served.
 ghost use Rattle.std.specs.Prelude.{◌≡◌, IfErr};
-ghost use Rattle.heapdbg.specs.FetchOutcomes.{IsDumpFetched, fetched_outcome};
+ghost use Rattle.heapdbg.specs.FetchOutcomes.{IsDumpFetched, IsFetchTold, fetched_outcome};
 
 use crate::failure::Fault;
 use crate::progress::ProgressLine;
 use crate::reasons::{tell_path, tell_port};
 use dump_client::{Finish, fetch, write_last};
 use dump_pump::{Outlet, WriteOutlet};
-use session_text::ReadInlet;
+use session_text::{Inlet, ReadInlet};
 use std::fs;
 use std::fs::Files;
 use std::net::{Ipv4Addr, Net, TcpStream};
@@ -32,13 +32,29 @@ where
 {
     let stream = connect(rt, port, is_terminal)?;
     let file = create(rt, path, is_terminal)?;
+    let mut inlet = ReadInlet::new(stream);
+    let mut outlet = WriteOutlet::new(file);
+    fetch_told(rt, &mut inlet, &mut outlet, writer, is_terminal)
+}
+
+// Fetches what an inlet gives into an outlet, and puts out the last line, as `fetch_port` does.
+fn fetch_told<R, I: Inlet, F: Outlet, O: Outlet>(
+    rt: &R,
+    inlet: &mut I,
+    file: &mut F,
+    writer: &mut O,
+    is_terminal: bool,
+) -> Result<(), Fault>
+where
+    R: AllocGlobal + Clock + Eprint + Wait,
+    ensures { IsFetchTold (I.seen inlet.old) (I.seen inlet.new) (F.seen file.old) (F.seen file.new)
+        (O.seen writer.old) (O.seen writer.new) result }
+{
     let mut line = ProgressLine::new(rt);
     if is_terminal {
         line.begin(None);
     }
-    let mut inlet = ReadInlet::new(stream);
-    let mut outlet = WriteOutlet::new(file);
-    let fetched = fetch(rt, &mut inlet, &mut outlet, &mut line);
+    let fetched = fetch(rt, inlet, file, &mut line);
     line.end(fetched.bytes);
     let written = write_last(writer, &fetched);
     outcome(fetched.finish, written)

@@ -223,7 +223,7 @@ fn tell<O: Outlet>(served: &Served, report: Vec<u8>, writer: &mut O) -> Result<(
     ensures { IsReportTold served.now (O.seen writer.old) (O.seen writer.new) result }
 {
     let mut report = report;
-    if tell_sessions(&mut report, served.ends.as_slice()).is_err() {
+    if tell_sessions(&mut report, served.sessions.as_slice()).is_err() {
         return Err(Fault::Memory);
     }
     let written = write_all(writer, report.as_slice());

@@ -1,11 +1,13 @@
-use Rattle.std.proofs.Common.{◌≡◌, ◌+◌, ◌≤◌, false, length, vec_len, vec_capacity}
-use Rattle.heap_server.specs.SessionSeats.{AreUsers}
+use Rattle.std.proofs.Common.{◌≡◌, ◌+◌, ◌≤◌, false, [], length, vec_len, vec_capacity}
+use Rattle.heap_server.specs.SessionSeats.{AreUsers, IsBegun}
+use Rattle.heap_server.specs.Stations.{InTurn}
 use Rattle.heap_server.proofs.sessions.serve_seats.Given as goal
 
 abbrev pub invariant-loop-seat : goal.invariant-loop-seat
 invariant-loop-seat g l =
-    AreUsers l.seats × (vec_len l.running + length l.seats ≡ l.count) × (l.count ≤ vec_capacity l.running) × (vec_len l.ends ≡ 0)
-    × (l.count ≤ vec_capacity l.ends) × (l.refused ≡ false)
+    AreUsers l.seats × InTurn (IsBegun l.terms) l.initial.seats l.running.items l.seats
+    × (vec_len l.running + length l.seats ≡ l.count) × (l.count ≤ vec_capacity l.running) × (l.sessions.items ≡ [])
+    × (l.count ≤ vec_capacity l.sessions) × (l.refused ≡ false)
 
 abbrev pub decreases-loop-seat : goal.decreases-loop-seat
 decreases-loop-seat g l = length l.seats

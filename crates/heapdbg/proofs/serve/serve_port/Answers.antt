@@ -1,9 +1,8 @@
-use Rattle.std.proofs.Common.{◌≤◌, sym, ◌∙◌, ap, arith, inl, subst}
+use Rattle.std.proofs.Common.{◌≡◌, ◌≤◌, refl, sym, ◌∙◌, ap, arith, inl, subst}
 use Rattle.std.specs.Prelude.{length}
 use Rattle.heap_server.specs.Blanks.{Maker}
-use Rattle.heap_server.specs.SessionSeats.{IsFor}
-use Rattle.heap_server.specs.Tending.{AreStaff, AreTended}
-use Rattle.heapdbg.proofs.ServedHeaps.{served_plain, served_tended}
+use Rattle.heap_server.specs.Tending.{AreStaff}
+use Rattle.heapdbg.proofs.ServedHeaps.{over_settings, served_plain, served_tended, tended_settings}
 use Rattle.heapdbg.proofs.serve.serve_port.Goals as goal
 
 pub returns-in-Ok : goal.returns-in-Ok
@@ -16,10 +15,9 @@ returns-in-Ok g c =
       h,
       (
         ap (λ (b : Maker). b.config) over.0 ∙ o.config,
-        ap (λ (b : Maker). length b.seats) over.0 ∙ (o.users none).1,
-        over.1 ∙ o.terms,
-        subst (λ n. IsFor n h.served) o.most over.2,
         ap (λ (b : Maker). b.rolls) over.0 ∙ o.rolls,
+        ap (λ (b : Maker). length b.seats) over.0 ∙ (o.users none).1,
+        over_settings _ _ _ h over o.terms,
       ),
       c.tell.ensures,
     ))
@@ -33,12 +31,10 @@ returns-in-Ok-serve_tended_heap g c =
     served_tended _ c.args.settings.now _ _ _ _ some (inl (
       t,
       (
-        ap (λ (b : Maker). b.config) over.0.0 ∙ o.config,
-        subst (λ (b : Maker). AreStaff c.args.service.sessions b.seats) (sym over.0.0) (o.staff some),
-        over.0.1 ∙ o.terms,
-        subst (λ n. IsFor n t.heap.served) o.most over.0.2,
-        subst (λ (b : Maker). AreTended b.config b.seats t.marker t.sweeper) (sym over.0.0) over.1,
-        ap (λ (b : Maker). b.rolls) over.0.0 ∙ o.rolls,
+        ap (λ (b : Maker). b.config) over.0 ∙ o.config,
+        ap (λ (b : Maker). b.rolls) over.0 ∙ o.rolls,
+        subst (λ (b : Maker). AreStaff c.args.service.sessions b.seats) (sym over.0) (o.staff some),
+        tended_settings _ _ _ t over o.terms,
       ),
       c.tell-in-Ok-serve_tended_heap.ensures,
     ))

@@ -1,0 +1,91 @@
+-- Where a session over a shared heap stands, and what a client did from a seat.
+use Rattle.std.specs.Prelude.{◌≡◌, ◌⊎◌, ℕ, Bool, true, false, List, [], ◌∷◌, Option, Some, None}
+use Rattle.heap_lock.specs.Seated.{TableId}
+use Rattle.dump_pump.specs.Inlets.{Incoming}
+use Rattle.dump_pump.specs.Outlets.{Outgoing}
+use Rattle.heap_lock.specs.HeapLimits.{HeapSettings}
+use Rattle.heap_lock.specs.Blanks.{chair_of}
+use Rattle.heap_lock.specs.Calls.{Call, IsLegalLedger}
+use Rattle.heap_lock.specs.LockStates.{Chair, IsChair}
+use Rattle.heap_lock.specs.declared.stub.Stub.{Stub}
+use Rattle.question_text.specs.Collections.{is_collect}
+use Rattle.session_text.specs.Answers.{AnswerRelation, AnswersCommand, Begins, all_bad}
+use Rattle.session_text.specs.Dumps.{Acts}
+use Rattle.session_text.specs.declared.Ended.TheVariants.{NoMemory}
+use Rattle.heap_server.specs.Ahead.{IsAhead}
+use Rattle.heap_server.specs.Http.{ServesClient}
+use Rattle.heap_server.specs.JoinedActs.{IsJoined}
+use Rattle.heap_server.specs.JoinedAnswers.{AnswersForSeat}
+use Rattle.heap_server.specs.declared.client_session.SessionEnd.{SessionEnd}
+use Rattle.heap_server.specs.declared.client_session.SessionEnd.TheVariants.{Ran}
+use Rattle.heap_server.specs.declared.sessions.SeatEnd.{SeatEnd}
+use Rattle.heap_server.specs.declared.sessions.Terms.{Terms}
+
+-- a session's seat, and the calls that its witness has seen
+pub record Station : Type 0 where
+  pub seat : Chair
+  pub seen : List Call
+
+-- what an action does from a seat on a heap of these settings
+abbrev pub seat_acts : HeapSettings → Acts Station
+seat_acts config c a r d = IsJoined config c.seat c.seen a r d.seat d.seen
+
+-- what a line does there that the grammar of sessions doesn't know, if questions are answered or not
+abbrev pub seat_answers : HeapSettings → Bool → AnswerRelation Station
+seat_answers config true l c text d =
+    AnswersForSeat config (is_collect l) l c.seat c.seen text d.seat d.seen
+seat_answers config false l c text d = all_bad l c text d
+
+-- what a line does there on these terms
+abbrev pub seat_says : HeapSettings → Terms → AnswerRelation Station
+seat_says config terms =
+    AnswersCommand (seat_acts config) (seat_answers config terms.questions) terms.time
+
+-- the same if a write fails in its answer
+abbrev pub seat_begins : HeapSettings → Terms → AnswerRelation Station
+seat_begins config terms =
+    Begins (seat_acts config) (seat_answers config terms.questions) terms.time
+
+-- a client was served from seat `s` over all that an inlet had left, of which `bytes` were read ahead, and left the seat as `s'`
+pub record IsServedFrom (config : HeapSettings) (terms : Terms) (s : Chair) (a : Incoming)
+    (w w' : Outgoing) (s' : Chair) (end : SessionEnd) : Type 0 where
+  pub bytes : List ℕ
+  pub failed : Bool
+  pub left : Incoming
+  pub seen : List Call
+  pub seen' : List Call
+  pub ahead : IsAhead bytes failed a left
+  pub legal : IsLegalLedger config seen
+  pub serves : ServesClient (seat_says config terms) (seat_begins config terms) bytes left
+      (record { seat = s; seen = seen }) w (record { seat = s'; seen = seen' }) w' end
+
+-- so it was; or memory for the first line was refused, and nothing was done or put out
+abbrev pub IsAttended : HeapSettings → Terms → Chair → Incoming → Outgoing → Outgoing → Chair
+    → SessionEnd → Type 0
+IsAttended config terms s a w w' s' end =
+    IsServedFrom config terms s a w w' s' end
+    ⊎ ((end ≡ Ran NoMemory) × (s' ≡ s) × (w' ≡ w))
+
+-- a client of some socket, which had given and taken nothing before
+abbrev pub IsClientOf : HeapSettings → Terms → Chair → Chair → SessionEnd → Type 0
+IsClientOf config terms s s' end =
+    (a : Incoming) × (w w' : Outgoing) × (a.taken ≡ []) × (w.out ≡ [])
+    × IsAttended config terms s a w w' s' end
+
+-- a seat of the heap with these tables as its session left it; or there was no thread for the session, which ended by NoMemory
+abbrev pub IsSeatLeft : HeapSettings → List TableId → Terms → Chair → SessionEnd → Option Stub
+    → Type 0
+IsSeatLeft config tables terms s end (Some stub) =
+    IsChair tables stub.number stub.share × IsClientOf config terms s (chair_of stub) end
+IsSeatLeft config tables terms s end None = end ≡ Ran NoMemory
+
+-- the same of an ending beside its seat
+abbrev pub IsSeatEnd : HeapSettings → List TableId → Terms → Chair → SeatEnd → Type 0
+IsSeatEnd config tables terms s e = IsSeatLeft config tables terms s e.end e.stub
+
+-- what the first of the seats led to, each in turn; the others are `rest`
+abbrev pub InTurn : {A : Type 0} → (Chair → A → Type 0) → List Chair → List A → List Chair
+    → Type 0
+InTurn Leads seats [] rest = rest ≡ seats
+InTurn Leads (s ∷ seats) (x ∷ xs) rest = Leads s x × InTurn Leads seats xs rest
+InTurn Leads [] (x ∷ xs) rest = ⊥

@@ -21,7 +21,7 @@ use Rattle.heap_lock.specs.Outcome.{Outcome}
 use Rattle.heap_lock.specs.Entry.{Entry}
 use Rattle.heap_lock.specs.Outcome.TheVariants as outcome
 use Rattle.heap_lock.specs.History.{entry, reply_of}
-use Rattle.heap_lock.specs.LockStates.{Chair, IsKnown, IsNoEntry, IsRefused, LockState, with_entry}
+use Rattle.heap_lock.specs.LockStates.{Chair, AreAllCalls, IsNoEntry, IsRefused, LockState, with_entry}
 use Rattle.heap_lock.proofs.StepReplies.{no_place}
 use Rattle.question_text.specs.declared.cycle.CycleCounts.{CycleCounts}
 use Rattle.question_text.specs.Collections.{RunsCycle}
@@ -102,7 +102,7 @@ since_on was s s' turn a o (role, (first, before, h)) is =
 -- ---- a cycle
 
 -- a cycle between two moments under the lock
-pub heap_cycle : (config : HeapSettings) (s s' : Chair) (seen seen' : List Call) (k k1 l : LockState) (cycle : Result CycleCounts Refusal) → IsPrefix seen k.ledger → IsKnown config k.machine s k.ledger → k1 ≡ k → (middle : List Call) → middle ≡ k.ledger → IsPrefix middle l.ledger → IsKnown config l.machine s' l.ledger → seen' ≡ l.ledger → RunsCycle IsNoEntry k1.machine cycle l.machine
+pub heap_cycle : (config : HeapSettings) (s s' : Chair) (seen seen' : List Call) (k k1 l : LockState) (cycle : Result CycleCounts Refusal) → IsPrefix seen k.ledger → AreAllCalls config k.machine s k.ledger → k1 ≡ k → (middle : List Call) → middle ≡ k.ledger → IsPrefix middle l.ledger → AreAllCalls config l.machine s' l.ledger → seen' ≡ l.ledger → RunsCycle IsNoEntry k1.machine cycle l.machine
     → RunsCycleOfHeap config s seen cycle s' seen'
 heap_cycle config s s' seen seen' k k1 l cycle begins from same middle is on to last runs = record {
   before = k.ledger;
@@ -111,6 +111,6 @@ heap_cycle config s s' seen seen' k k1 l cycle begins from same middle is on to 
   begins = begins;
   from = from;
   goes_on = subst (λ (x : List Call × List Call). IsPrefix x.0 x.1) (λ i. (is i, sym last i)) on;
-  to = subst (IsKnown config l.machine s') (sym last) to;
+  to = subst (AreAllCalls config l.machine s') (sym last) to;
   runs = subst (λ (x : LockState). RunsCycle IsNoEntry x.machine cycle l.machine) same runs;
 }

@@ -5,7 +5,7 @@ use Rattle.heap_lock.specs.HeapLimits.{HeapSettings}
 use Rattle.heap_lock.specs.Entry.{Entry}
 use Rattle.heap_lock.specs.declared.role.Role.TheVariants.{Marker, Sweeper}
 use Rattle.heap_lock.specs.Calls.{Call}
-use Rattle.heap_lock.specs.Collector.{IsSeen}
+use Rattle.heap_lock.specs.Collector.{SeesState}
 use Rattle.heap_lock.specs.LockStates.{Chair}
 use Rattle.heap_work.specs.declared.MarkEnd.{MarkEnd}
 use Rattle.heap_work.specs.declared.MarkEnd.TheVariants.{Finished, NotMarking, Pending, Refused, Stopped, TurnsOver}
@@ -58,14 +58,14 @@ pub is_marker : (duty : Duty) (s : Chair) → duty ≡ Mark → s.role ≡ role_
 is_marker Mark s is role = role
 is_marker Sweep s is role = absurd cc
 
-seen_as : (config : HeapSettings) (duty : Duty) (seen seen' : List Call) (b d : Bool) → b ≡ d → IsSeen config seen (λ w. b ≡ rests_in duty w) seen' → IsSeen config seen (λ w. rests_in duty w ≡ d) seen'
+seen_as : (config : HeapSettings) (duty : Duty) (seen seen' : List Call) (b d : Bool) → b ≡ d → SeesState config seen (λ w. b ≡ rests_in duty w) seen' → SeesState config seen (λ w. rests_in duty w ≡ d) seen'
 seen_as config duty seen seen' b d is h = (h.0, h.1, sym h.2 ∙ is)
 
 -- a worker with nothing to do
-pub rests : (duty : Duty) (config : HeapSettings) (s s' : Chair) (seen seen' : List Call) (b : Bool) → b ≡ true → IsSeen config seen (λ w. b ≡ rests_in duty w) seen' → s' ≡ s → TakesTurn duty config s seen s' seen'
+pub rests : (duty : Duty) (config : HeapSettings) (s s' : Chair) (seen seen' : List Call) (b : Bool) → b ≡ true → SeesState config seen (λ w. b ≡ rests_in duty w) seen' → s' ≡ s → TakesTurn duty config s seen s' seen'
 rests duty config s s' seen seen' b is h same = inl (seen_as config duty seen seen' b true is h, same)
 
-pub marks : (duty : Duty) (config : HeapSettings) (s s' : Chair) (seen seen' : List Call) (b : Bool) (end : MarkEnd) → duty ≡ Mark → b ≡ false → IsSeen config seen (λ w. b ≡ rests_in duty w) seen' → IsResumedWork config s s' turn_limit end → BeginsNoCycle s s' → TakesTurn duty config s seen s' seen'
+pub marks : (duty : Duty) (config : HeapSettings) (s s' : Chair) (seen seen' : List Call) (b : Bool) (end : MarkEnd) → duty ≡ Mark → b ≡ false → SeesState config seen (λ w. b ≡ rests_in duty w) seen' → IsResumedWork config s s' turn_limit end → BeginsNoCycle s s' → TakesTurn duty config s seen s' seen'
 marks Mark config s s' seen seen' b end is off h w none = inr (seen_as config Mark seen seen' b false off h, (end, w, none))
 marks Sweep config s s' seen seen' b end is off h w none = absurd cc
 
@@ -76,7 +76,7 @@ pub is_sweeper : (duty : Duty) (s : Chair) → duty ≡ Sweep → s.role ≡ rol
 is_sweeper Mark s is role = absurd cc
 is_sweeper Sweep s is role = role
 
-pub sweeps : (duty : Duty) (config : HeapSettings) (s s' : Chair) (seen seen' : List Call) (b : Bool) (end : SweepEnd) → duty ≡ Sweep → b ≡ false → IsSeen config seen (λ w. b ≡ rests_in duty w) seen' → IsSweepWork config s s' turn_limit end → TakesTurn duty config s seen s' seen'
+pub sweeps : (duty : Duty) (config : HeapSettings) (s s' : Chair) (seen seen' : List Call) (b : Bool) (end : SweepEnd) → duty ≡ Sweep → b ≡ false → SeesState config seen (λ w. b ≡ rests_in duty w) seen' → IsSweepWork config s s' turn_limit end → TakesTurn duty config s seen s' seen'
 sweeps Mark config s s' seen seen' b end is off h w = absurd cc
 sweeps Sweep config s s' seen seen' b end is off h w = inr (seen_as config Sweep seen seen' b false off h, (end, w))
 

@@ -7,7 +7,7 @@ use Rattle.heap_lock.specs.Calls.{Call, IsHeapLedger}
 use Rattle.heap_lock.specs.Machine.{Machine}
 use Rattle.heap_lock.specs.Entry.{Entry}
 use Rattle.heap_lock.specs.declared.role.Role.TheVariants.{User}
-use Rattle.heap_lock.specs.LockStates.{Chair, IsKnown, IsNoEntry}
+use Rattle.heap_lock.specs.LockStates.{AreAllCalls, Chair, IsNoEntry}
 use Rattle.question_text.specs.Answers.{IsAnswerOfLine}
 use Rattle.question_text.specs.declared.cycle.CycleCounts.{CycleCounts}
 use Rattle.question_text.specs.Collections.{IsCycleAnswer, RunsCycle}
@@ -29,9 +29,9 @@ pub record RunsCycleOfHeap (config : HeapSettings) (s : Chair) (seen : List Call
   pub first : Machine
   pub last : Machine
   pub begins : IsPrefix seen before
-  pub from : IsKnown config first s before
+  pub from : AreAllCalls config first s before
   pub goes_on : IsPrefix before seen'
-  pub to : IsKnown config last s' seen'
+  pub to : AreAllCalls config last s' seen'
   pub runs : RunsCycle IsNoEntry first cycle last
 
 -- the answer of `collect`, about such a cycle

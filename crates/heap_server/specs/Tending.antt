@@ -6,7 +6,7 @@ use Rattle.heap_lock.specs.Phase.TheVariants.{Idle, Marking}
 use Rattle.heap_lock.specs.HeapLimits.{HeapSettings}
 use Rattle.heap_lock.specs.State.{HeapState}
 use Rattle.heap_lock.specs.Calls.{Call}
-use Rattle.heap_lock.specs.Collector.{IsSeen, pending_in}
+use Rattle.heap_lock.specs.Collector.{SeesState, pending_in}
 use Rattle.heap_lock.specs.declared.role.Role.{Role}
 use Rattle.heap_lock.specs.declared.role.Role.TheVariants.{Marker, Sweeper}
 use Rattle.heap_lock.specs.declared.stub.Stub.{Stub}
@@ -78,8 +78,8 @@ WorksOnce Sweep config s s' = (end : SweepEnd) × SweepsOnce config s s' end
 -- the heap was seen to have no work of this kind, and nothing was done; or to have some, and the worker ran
 abbrev pub TakesTurn : Duty → HeapSettings → Chair → List Call → Chair → List Call → Type 0
 TakesTurn duty config s seen s' seen' =
-    (IsSeen config seen (λ w. rests_in duty w ≡ true) seen' × (s' ≡ s))
-    ⊎ (IsSeen config seen (λ w. rests_in duty w ≡ false) seen' × WorksOnce duty config s s')
+    (SeesState config seen (λ w. rests_in duty w ≡ true) seen' × (s' ≡ s))
+    ⊎ (SeesState config seen (λ w. rests_in duty w ≡ false) seen' × WorksOnce duty config s s')
 
 -- the marker's seat, the sweeper's, and those of `most` users
 abbrev pub AreStaff : ℕ → List Chair → Type 0

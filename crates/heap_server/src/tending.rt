@@ -1,6 +1,6 @@
 //! Threads that tend the collector of a shared heap.
 ghost use Rattle.std.specs.Prelude.{◌≡◌};
-ghost use Rattle.heap_lock.specs.Collector.{IsSeen};
+ghost use Rattle.heap_lock.specs.Collector.{SeesState};
 ghost use Rattle.heap_server.specs.Tending.{TakesTurn, Tends, rests_in, role_for};
 
 use heap_lock::{Heap, Phase, Seat, Shared, Witness};
@@ -74,7 +74,7 @@ fn is_idle<L: Heap, R: Wait>(
     witness: &mut Witness<L>,
     duty: Duty,
 ) -> bool
-    ensures { IsSeen L.config witness.old (λ w. result ≡ rests_in duty w) witness.new }
+    ensures { SeesState L.config witness.old (λ w. result ≡ rests_in duty w) witness.new }
 {
     match duty {
         Duty::Mark => matches!(shared.phase(rt, witness), Phase::Idle),

@@ -4,8 +4,8 @@ use Rattle.heap_server.proofs.tending.works_on.Goals as goal
 
 pub returns-in_default : goal.returns-in_default
 returns-in_default g c = record {
-  works = marks c.args.duty g.L.Heap.config c.args.seat.now c.resume_worker.new.seat c.args.witness.now c.is_idle.new.witness c.is_idle.result c.resume_worker.result c.in-Mark.is c.if-is_idle.false c.is_idle.ensures c.resume_worker.ensures.work c.resume_worker.ensures.begins;
-  role = role_stays c.args.duty g.L.Heap.config c.args.seat.now c.resume_worker.new.seat turn_limit c.resume_worker.result c.resume_worker.ensures.work c.requires;
+  works = marks c.args.duty g.L.Heap.config c.args.seat.now c.resume_worker.new.seat c.args.witness.now c.is_idle.new.witness c.is_idle.result c.resume_worker.result c.in-Mark.is c.if-is_idle.false c.is_idle.ensures c.resume_worker.ensures.run.work c.resume_worker.ensures.begins;
+  role = role_stays c.args.duty g.L.Heap.config c.args.seat.now c.resume_worker.new.seat turn_limit c.resume_worker.result c.resume_worker.ensures.run.work c.requires;
 }
 
 pub returns-in_default-sweep_worker : goal.returns-in_default-sweep_worker

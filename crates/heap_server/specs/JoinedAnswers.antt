@@ -6,6 +6,7 @@ use Rattle.heap_lock.specs.HeapLimits.{HeapSettings}
 use Rattle.heap_lock.specs.Calls.{Call, IsHeapLedger}
 use Rattle.heap_lock.specs.Machine.{Machine}
 use Rattle.heap_lock.specs.Entry.{Entry}
+use Rattle.heap_lock.specs.History.{tally}
 use Rattle.heap_lock.specs.declared.role.Role.TheVariants.{User}
 use Rattle.heap_lock.specs.LockStates.{AreAllCalls, Chair, IsNoEntry}
 use Rattle.question_text.specs.Answers.{IsAnswerOfLine}

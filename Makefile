@@ -26,6 +26,7 @@ test:
 	python3 checks/headline.py
 	python3 checks/rows.py
 	python3 checks/no_memory.py
+	python3 scripts/page.py fit
 	rt ci
 	@python3 checks/growths.py crates/heapdbg/out/heapdbg
 	@python3 checks/cases.py crates/heapdbg/out/heapdbg crates/heapdbg/out/heapdbg.by-rattle
@@ -35,6 +36,7 @@ test:
 	@python3 checks/program crates/heapdbg/out/heapdbg crates/heapdbg/out/heapdbg.by-rattle
 	@python3 checks/sockets.py crates/heapdbg/out/heapdbg
 	@python3 checks/serving.py crates/heapdbg/out/heapdbg
+	@python3 checks/page crates/heapdbg/out/heapdbg
 	@QUIET=1 SECONDS=5 python3 bench/soak.py crates/heapdbg/out/heapdbg
 	@python3 clients/python/test_heapdbg.py crates/heapdbg/out/heapdbg
 	@python3 checks/installed.py crates/heapdbg/out/heapdbg

@@ -8,6 +8,7 @@ they say, and whether `make uninstall` leaves nothing. Prints a line for each th
 there is one; prints nothing where all is well."""
 import concurrent.futures
 import contextlib
+import http.client
 import os
 import pathlib
 import re
@@ -19,7 +20,7 @@ import tempfile
 
 import viewers
 from hunt import fits, page
-from typed import Shell, command_word, commands_of, complaints, manual_examples
+from typed import LIMIT, Shell, command_word, commands_of, complaints, manual_examples
 
 TOP = pathlib.Path(__file__).resolve().parent.parent
 COMMANDS = ("run", "explore", "draw", "save", "serve", "ask", "fetch")
@@ -165,7 +166,7 @@ def live(shell, readme):
     """Yields what README's heap that is served, its two sessions and its dumps do otherwise than it says."""
     text = readme.read_text()
     indented, quoted = commands_of(readme)
-    serve, ask, fetch = indented
+    _, serve, ask, fetch = indented
     explore = [each for each in quoted if each.startswith("heapdbg explore --port")]
     wanted = [int(each) for each in re.findall(r"fetched (\d+)", text)]
     nodes = [int(each.replace(",", "")) for each in re.findall(r"([\d,]+) instances", text)]
@@ -189,6 +190,29 @@ def live(shell, readme):
                 yield f"README, {ask!r}: {session.ended()}"
         if server.ended() != (0, b"session 1 quit\nsession 2 quit\n", b""):
             yield f"README, {serve!r}: {server.ended()}"
+
+
+def paged(shell, readme):
+    """Yields what README's heap with a page does otherwise than it says. Its session ends at once here."""
+    serve = commands_of(readme)[0][0]
+    ask = re.search(r"^    (\(cat .*)$", readme.read_text(), re.MULTILINE)[1]
+    with shell.start(serve) as server:
+        server.waits_for(shell.ports["7080"])
+        server.waits_for(shell.ports["7010"])
+        said = server.text(server.error).decode()
+        address = re.fullmatch(r"heapdbg: page http://127\.0\.0\.1:(\d+)/#([0-9a-f]{32})\n", said)
+        browser = http.client.HTTPConnection("127.0.0.1", int(address[1]), LIMIT)
+        browser.request("GET", "/")
+        page = browser.getresponse()
+        if page.status != 200 or b"<title>heapdbg</title>" not in page.read():
+            yield f"README, {serve!r}: the page is {page.status}"
+        browser.request("POST", "/ask", "pins", {"X-Heapdbg-Key": address[2]})
+        if (come := browser.getresponse().read()) != b"ok 0\n":
+            yield f"README, {serve!r}: {come!r}"
+        if (came := shell.run(ask)) != (0, b"", b""):
+            yield f"README, {ask!r}: {came}"
+        if (came := server.ended()) != (0, b"session 1 quit\n", said.encode()):
+            yield f"README, {serve!r}: {came}"
 
 
 def client(shell, folder):
@@ -219,7 +243,7 @@ def seen(look, name, shell, folder):
 def documents(folder, programs):
     """Yields what the documents do otherwise than they say, typed where they are installed."""
     with Shell(folder, programs) as shell:
-        looks = ((live, "README.md"), (asked, "README.md"), (hunted, "docs/HUNT.md"), (viewed, "docs/VIEWERS.md"), (client, "clients/python"))
+        looks = ((live, "README.md"), (paged, "README.md"), (asked, "README.md"), (hunted, "docs/HUNT.md"), (viewed, "docs/VIEWERS.md"), (client, "clients/python"))
         with concurrent.futures.ThreadPoolExecutor(len(looks)) as pool:
             for found in pool.map(lambda look: seen(*look, shell, folder), looks):
                 yield from found

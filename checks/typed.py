@@ -12,7 +12,7 @@ import time
 # The seconds that a command may take.
 LIMIT = 60
 # Ports that the pages name.
-PORTS = ("7000", "7001")
+PORTS = ("7000", "7001", "7010", "7080")
 # How much shorter `sleep` is here than the pages have it.
 FASTER = 5
 SLEEP = f"#!/bin/sh\nexec /bin/sleep \"$(echo \"$1\" | awk '{{ print $1 / {FASTER} }}')\"\n"

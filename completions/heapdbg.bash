@@ -18,7 +18,7 @@ _heapdbg() {
             mapfile -t COMPREPLY < <(compgen -W "0 1" -- "$word")
             return
             ;;
-        --regions | --mutators | --keep | --time | --port | --to | --sessions | --workers | --dumps)
+        --regions | --mutators | --keep | --time | --port | --to | --sessions | --workers | --dumps | --page)
             return
             ;;
     esac
@@ -35,7 +35,7 @@ _heapdbg() {
         explore) options="$heap --from --port" ;;
         draw) options="$heap --out" ;;
         save) options="$heap --out --to --questions" ;;
-        serve) options="$heap --port --sessions --workers --dumps --questions --roll" ;;
+        serve) options="$heap --port --sessions --workers --dumps --page --questions --roll" ;;
         ask) options="--port" ;;
         fetch) options="--port --out" ;;
         *) return ;;

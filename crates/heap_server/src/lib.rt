@@ -3,6 +3,7 @@
 
 mod ahead;
 pub mod asking;
+mod beside;
 pub mod client;
 pub mod client_session;
 pub mod copy;
@@ -21,6 +22,7 @@ pub use client::{Asked, Client, SendsFrom, Sent, ask};
 pub use client_session::SessionEnd;
 pub use copy::{Copied, copy_all};
 pub use heap_lock::{Blank, Refusal};
+pub use heap_page::{PagePort, PageTerms};
 pub use joined::Joined;
 pub use laws::served_dumps_are_text;
 pub use live_dump::DumpListener;

@@ -8,11 +8,13 @@ ghost use Rattle.heap_server.specs.Stations.{IsAttended, IsClientOf};
 
 use crate::ahead::read_line;
 use crate::asking::AskingSeat;
+use crate::beside::Beside;
 use crate::client_session::{SessionEnd, serve_client};
 use crate::joined::Joined;
 use dump_pump::{Outlet, WriteOutlet};
 use heap_lock::{Blank, Config, Heap, Refusal, Role, Seat, Seats, Shared, Stub};
-use live_dump::{DumpListener, tend_dumps};
+use heap_page::PagePort;
+use live_dump::DumpListener;
 use session_text::{Ended, Inlet, ReadInlet};
 use std::alloc::{AllocError, Global};
 use std::collections::VecDeque;
@@ -20,16 +22,18 @@ use std::marker::{Brand, Model};
 use std::net::{TcpListener, TcpStream};
 use std::snapshot::Snapshot;
 use std::sync::Wait;
-use std::sync::atomic::{AtomicBool, Ordering};
+use std::sync::atomic::AtomicBool;
 use std::thread;
-use std::thread::{JoinHandle, Promise, PromisedHandle, Scope, Threads};
+use std::thread::{Promise, PromisedHandle, Scope, Threads};
 use std::time::Clock;
 
-/// The listener for the clients of sessions, and the one for the clients of dumps, if there is one.
+/// The listener for the clients of sessions, the one for the clients of dumps, if there is one, and the port of the page, if there is
+/// one.
 #[derive(Drop)]
 pub struct Ports {
     pub sessions: TcpListener,
     pub dumps: Option<DumpListener>,
+    pub page: Option<PagePort>,
 }
 
 /// What all sessions over a heap have in common. Contracts see the record itself.
@@ -253,25 +257,12 @@ fn serve_seats<'s, E, L: Heap + Send + Sync, R: Threads + Wait + Sync>(
     Ok(Served { sessions, refused })
 }
 
-// Begins the thread that sends dumps. Fails if it can't be started.
-fn begin_dumps<'s, E, L: Heap + Send + Sync, R: Clock + Eprint + Threads + Wait + Sync>(
-    scope: &Scope<'s, E>,
-    rt: &'s R,
-    alloc: Global,
-    shared: &'s Shared<L>,
-    listener: DumpListener,
-    time: u64,
-    stop: &'s AtomicBool,
-) -> Result<JoinHandle<()>, AllocError> {
-    let thread = scope.spawn(move || tend_dumps(rt, alloc, shared, listener, time, stop))?;
-    Ok(thread)
-}
-
 /// Accepts as many clients as there are seats, in turn, and serves each in a thread of its own. After the last of them, or after
 /// an accept that failed, it stops listening, so that a further client is refused at once. Returns once all sessions have ended,
-/// with their seats; that of a client whose thread can't be started ends by NoMemory, and its seat is gone. If the ports have a listener for dumps, one more thread
-/// sends a dump to each of its clients, from before the first accept until the last session has ended. Fails if that thread can't
-/// be started, or memory is refused to their endings, and accepts nothing. May wait.
+/// with their seats; that of a client whose thread can't be started ends by NoMemory, and its seat is gone. If the ports have a
+/// listener for dumps, one more thread sends a dump to each of its clients, and if they have a page, another answers its clients, from
+/// before the first accept until the last session has ended. Fails if such a thread can't be started, or memory is refused to the
+/// endings, and accepts nothing. May wait.
 pub fn serve_clients<L: Heap + Send + Sync, R: Clock + Eprint + Threads + Wait + Sync>(
     rt: &R,
     alloc: Global,
@@ -292,18 +283,15 @@ pub fn serve_clients<L: Heap + Send + Sync, R: Clock + Eprint + Threads + Wait +
             requires { AreUsers seats }
             ensures { IfOk result (IsFor L.config L.tables terms seats) }
         {
-            let Ports { sessions, dumps } = ports;
-            let dumping = match dumps {
-                Some(dumps) => Some(begin_dumps(
-                    scope, rt, alloc, shared, dumps, terms.time, stop,
-                )?),
-                None => None,
-            };
+            let Ports {
+                sessions,
+                dumps,
+                page,
+            } = ports;
+            let time = terms.time;
+            let beside = Beside::begin(scope, rt, alloc, shared, dumps, page, time, stop)?;
             let served = serve_seats(scope, rt, alloc, shared, terms, seats, sessions);
-            stop.store(true, Ordering::SeqCst);
-            if let Some(thread) = dumping {
-                thread.join(rt);
-            }
+            beside.end(rt, stop);
             served
         },
     )

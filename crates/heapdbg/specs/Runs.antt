@@ -71,7 +71,7 @@ IsTaskDone (Explore from) s a b w w' result = IsExplored from s a b w w' result
 IsTaskDone Draw s a b w w' result = IsSessionDrawn s a b w w' result
 IsTaskDone (Save Out) s a b w w' result = IsSavedOut s a b w w' result
 IsTaskDone (Save (To port)) s a b w w' result = IsSavedTo fault.Connect s a b w w' result
-IsTaskDone (Serve port sessions workers dumps) s a b w w' result =
+IsTaskDone (Serve port sessions workers dumps page) s a b w w' result =
     (b ≡ a) × IsServed workers s sessions w w' result
 IsTaskDone (Ask port) s a b w w' result = (b ≡ a) × IsServerAsked w w' result
 IsTaskDone (Fetch port) s a b w w' result = (b ≡ a) × IsDumpFetched w w' result

@@ -11,13 +11,15 @@ use crate::failure::Fault;
 use crate::reasons::tell_port;
 use dump_pump::Outlet;
 use heap_server::{
-    Blank, DumpListener, Ports, Refusal, Served, ServicePlan, Terms, serve_heap, serve_tended_heap,
-    tell_sessions, users, workers_and_users,
+    Blank, DumpListener, PagePort, PageTerms, Ports, Refusal, Served, ServicePlan, Terms,
+    serve_heap, serve_tended_heap, tell_sessions, users, workers_and_users,
 };
 use heapdbg_options::settings::{Settings, config};
 use session_text::write_all;
 use std::alloc::Global;
+use std::hash::RandomState;
 use std::net::{Ipv4Addr, Net, TcpListener, TcpStream};
+use std::random::RandomSource;
 use std::sync::Wait;
 use std::thread::Threads;
 use std::time::Clock;
@@ -32,32 +34,20 @@ pub struct Service {
     pub port: u16,
     /// The port that sends dumps, or None if there is none.
     pub dumps: Option<u16>,
+    /// The port of the page, or None if there is none.
+    pub page: Option<u16>,
     /// The number of sessions.
     pub sessions: u64,
     /// Whether two threads tend the collector: 0 if not.
     pub workers: u64,
 }
 
-impl Service {
-    /// Creates a service of these ports and numbers.
-    pub fn new(port: u16, dumps: Option<u16>, sessions: u64, workers: u64) -> Service
-        ensures { result
-            ≡ record { port = port; dumps = dumps; sessions = sessions; workers = workers } }
-    {
-        Service {
-            port,
-            dumps,
-            sessions,
-            workers,
-        }
-    }
-}
-
-/// Serves sessions to clients of a port, while two threads tend the collector if there are workers, and one sends dumps if
-/// there is a port for them, and puts out how each session ended. Fails with Memory if the heap can't be allocated or no thread
-/// for the workers or the dumps can be had, with Listen if a port can't be listened on, with Accept if a client could not be
-/// accepted, and else with Write if a write failed. Says on standard error that it listens, or why it can't, if that is a
-/// terminal. May wait.
+/// Serves sessions to clients of a port, and puts out how each session ended. Two threads tend the collector meanwhile if there are
+/// workers, one sends dumps if there is a port for them, and one answers the clients of the page if there is a port for it; the page's
+/// address, with its key, is said on standard error. Fails with Memory if the heap can't be allocated, no thread for the workers, the
+/// dumps or the page can be had, or the system gives no random bytes for the key, with Listen if a port can't be listened on, with
+/// Accept if a client could not be accepted, and else with Write if a write failed. Says on standard error that it listens, or why it
+/// can't, if that is a terminal. May wait.
 pub fn serve_port<R, O: Outlet>(
     rt: &R,
     alloc: Global,
@@ -68,7 +58,7 @@ pub fn serve_port<R, O: Outlet>(
 ) -> Result<(), Fault>
 where
     R: Net<Listener = TcpListener, Stream = TcpStream> + Threads + Wait + Sync,
-    R: AllocGlobal + Clock + Eprint,
+    R: AllocGlobal + Clock + Eprint + RandomSource,
     requires heap { IsHeapWithin settings.now }
     requires sessions { (1 ≤ service.sessions) × (service.sessions ≤ session_limit) }
     ensures { IsServed service.workers settings.now service.sessions (O.seen writer.old)
@@ -109,7 +99,7 @@ fn open_service<R>(
     is_terminal: bool,
 ) -> Result<Opened, Fault>
 where
-    R: Net<Listener = TcpListener, Stream = TcpStream> + AllocGlobal + Eprint,
+    R: Net<Listener = TcpListener, Stream = TcpStream> + AllocGlobal + Eprint + RandomSource,
     requires heap { IsHeapWithin settings.now }
     requires sessions { (1 ≤ service.sessions) × (service.sessions ≤ session_limit) }
     ensures opened { IfOk result (IsOpened service.workers settings.now service.sessions) }
@@ -119,7 +109,7 @@ where
         return Err(Fault::Memory);
     };
     blank.set_rolls(settings.rolls);
-    match listen(rt, alloc, service, is_terminal) {
+    match listen(rt, alloc, service, settings.time, is_terminal) {
         Ok((ports, report)) => {
             let plan = ServicePlan {
                 most: service.sessions as usize,
@@ -167,10 +157,11 @@ fn listen<R>(
     rt: &R,
     alloc: Global,
     service: Service,
+    time: u64,
     is_terminal: bool,
 ) -> Result<(Ports, Vec<u8>), Fault>
 where
-    R: Net<Listener = TcpListener, Stream = TcpStream> + AllocGlobal + Eprint,
+    R: Net<Listener = TcpListener, Stream = TcpStream> + AllocGlobal + Eprint + RandomSource,
     requires { service.sessions ≤ session_limit }
     ensures report { IfOk result (λ p. p.1.items ≡ []) }
     ensures fault { IfErr result (λ f. (f ≡ Memory) ⊎ (f ≡ Listen)) }
@@ -182,12 +173,21 @@ where
         Some(port) => Some(dump_listener(rt, port, is_terminal)?),
         None => None,
     };
+    let page = match service.page {
+        Some(port) => Some(page_port(rt, alloc, port, time, is_terminal)?),
+        None => None,
+    };
     let sessions = listener(rt, service.port, is_terminal)?;
     if is_terminal {
         let port = service.port;
         let _ = eprintln!(rt; "heapdbg: listening on 127.0.0.1:{port}");
     }
-    Ok((Ports { sessions, dumps }, report))
+    let ports = Ports {
+        sessions,
+        dumps,
+        page,
+    };
+    Ok((ports, report))
 }
 
 // Listens on a port. Fails with Listen.
@@ -205,7 +205,7 @@ where
     }
 }
 
-// Listens on the port for dumps. Fails with Listen.
+// Listens on a port for clients that nobody waits for. Fails with Listen.
 fn dump_listener<R>(rt: &R, port: u16, is_terminal: bool) -> Result<DumpListener, Fault>
 where
     R: Net<Listener = TcpListener, Stream = TcpStream> + AllocGlobal + Eprint,
@@ -215,6 +215,49 @@ where
         Ok(listener) => Ok(listener),
         Err(_) => Err(Fault::Listen),
     }
+}
+
+// Returns a key of 32 hexadecimal digits, 128 bits of the system's randomness. Fails with Memory.
+fn random_key<R: RandomSource>(rt: &R, alloc: Global) -> Result<String, Fault>
+    ensures { IfErr result (λ f. f ≡ Memory) }
+{
+    let mut bytes = [0u8; 16];
+    if rt.fill_bytes(&mut bytes).is_err() {
+        return Err(Fault::Memory);
+    }
+    let number = u128::from_le_bytes(bytes);
+    match format!(in alloc; "{number:032x}") {
+        Ok(key) => Ok(key),
+        Err(_) => Err(Fault::Memory),
+    }
+}
+
+// Listens on the port of the page under a new key, and says its address on standard error. Fails with Memory or Listen.
+fn page_port<R>(
+    rt: &R,
+    alloc: Global,
+    port: u16,
+    time: u64,
+    is_terminal: bool,
+) -> Result<PagePort, Fault>
+where
+    R: Net<Listener = TcpListener, Stream = TcpStream> + AllocGlobal + Eprint + RandomSource,
+    ensures { IfErr result (λ f. (f ≡ Memory) ⊎ (f ≡ Listen)) }
+{
+    let listener = dump_listener(rt, port, is_terminal)?;
+    let key = random_key(rt, alloc)?;
+    let Ok(keys) = RandomState::new(rt) else {
+        return Err(Fault::Memory);
+    };
+    let Ok(terms) = PageTerms::new(alloc, port, key.as_str(), time) else {
+        return Err(Fault::Memory);
+    };
+    let _ = eprintln!(rt; "heapdbg: page http://127.0.0.1:{port}/#{key}");
+    Ok(PagePort {
+        listener,
+        keys,
+        terms,
+    })
 }
 
 // Puts out how sessions ended, by way of a report that is still empty.

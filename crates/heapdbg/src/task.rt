@@ -32,6 +32,7 @@ use std::alloc::Global;
 use std::fs::Files;
 use std::io::{Error, ErrorKind};
 use std::net::{Net, TcpListener, TcpStream};
+use std::random::RandomSource;
 use std::rt::Env;
 use std::sync::Wait;
 use std::thread::Threads;
@@ -43,7 +44,7 @@ use std::{env, io};
 pub fn perform<R>(rt: &R, terminals: Terminals) -> Result<(), Failure>
 where
     R: AllocGlobal + Clock + Env + Eprint + Files + Input + Print,
-    R: Net<Listener = TcpListener, Stream = TcpStream> + Threads + Wait,
+    R: Net<Listener = TcpListener, Stream = TcpStream> + Threads + Wait + RandomSource,
     R: Copy + Send + Sync + Drop + 'static,
     R::Reader: Send + 'static,
 {
@@ -88,7 +89,7 @@ fn perform_shown<R, I: Inlet>(
 ) -> Result<(), Failure>
 where
     R: AllocGlobal + Clock + Eprint + Files + Input + Print,
-    R: Net<Listener = TcpListener, Stream = TcpStream> + Threads + Wait,
+    R: Net<Listener = TcpListener, Stream = TcpStream> + Threads + Wait + RandomSource,
     R: Copy + Send + Sync + Drop + 'static,
     R::Reader: Send + 'static,
 {
@@ -107,7 +108,7 @@ where
 fn perform_reported<R>(rt: &R, words: &[String], screen: Screen<'_>) -> Result<(), Failure>
 where
     R: AllocGlobal + Clock + Eprint + Files + Input + Print,
-    R: Net<Listener = TcpListener, Stream = TcpStream> + Threads + Wait,
+    R: Net<Listener = TcpListener, Stream = TcpStream> + Threads + Wait + RandomSource,
     R: Copy + Send + Sync + Drop + 'static,
     R::Reader: Send + 'static,
 {
@@ -133,7 +134,7 @@ fn perform_words<R, I: Inlet, J: Inlet + Send + Drop + 'static, O: Outlet>(
     screen: Screen<'_>,
 ) -> Result<(), Failure>
 where
-    R: Net<Listener = TcpListener, Stream = TcpStream> + Threads + Wait,
+    R: Net<Listener = TcpListener, Stream = TcpStream> + Threads + Wait + RandomSource,
     R: AllocGlobal + Clock + Eprint + Files + Copy + Send + Sync + Drop + 'static,
     ensures { IsPerformed (map string_bytes words.now) (I.seen reader.old) (I.seen reader.new)
         (O.seen writer.old) (O.seen writer.new) result }
@@ -178,7 +179,7 @@ fn work<R, I: Inlet, J: Inlet + Send + Drop + 'static, O: Outlet>(
     writer: &mut O,
 ) -> Result<(), Fault>
 where
-    R: Net<Listener = TcpListener, Stream = TcpStream> + Threads + Wait,
+    R: Net<Listener = TcpListener, Stream = TcpStream> + Threads + Wait + RandomSource,
     R: AllocGlobal + Clock + Eprint + Files + Copy + Send + Sync + Drop + 'static,
     requires { AreSettingsWithin request.settings }
     ensures { IsTaskDone request.entry.settings.task request.entry.settings (I.seen reader.old)
@@ -196,8 +197,15 @@ where
             sessions,
             workers,
             dumps,
+            page,
         } => {
-            let service = Service::new(port, dumps, sessions, workers);
+            let service = Service {
+                port,
+                dumps,
+                page,
+                sessions,
+                workers,
+            };
             serve_port(rt, rt.alloc(), &settings, service, writer, is_terminal)
         }
         Task::Ask { port } => ask_port(rt, port, input, writer, is_terminal),

@@ -2,6 +2,7 @@
 use Rattle.std.proofs.Common.{◌≡◌, ◌∙◌, ◌<◌, ◌≤◌, ◌^◌, ℕ, Bool, true, false, ◌&&◌, ◌||◌, cond, List, [], ◌∷◌, Option, Some, None, refl, sym, ap, subst, arith, codes, rules}
 use Rattle.std.specs.Prelude.{◌==◌, Err, is_some, not, find, drop, length, option_and_then, option_map, nat_le, nat_lt}
 use Rattle.std.specs.List.{list_all}
+use Rattle.std.specs.Option.{option_map_or}
 use Rattle.std.specs.Char.{is_ascii_digit}
 use Rattle.std.specs.Str.{bytes_eq}
 use Rattle.std.specs.Str.Parse.{IsNumeral, digits_value, without_leading_plus}
@@ -14,7 +15,7 @@ use Rattle.heap_class.specs.declared.IdSize.{IdSize}
 use Rattle.heap_class.specs.declared.IdSize.TheVariants.{Eight}
 use Rattle.heap_world.specs.RegionLimits.{region_limit}
 use Rattle.heap_world.specs.Limits.{AreHeapSettings, keep_limit, mutator_limit}
-use Rattle.heapdbg_options.specs.CommandLine.{AreSettingsWithin, HasDefaults, IsTask, ask_in, dumps_in, dumps_of, dumps_with, explore_in, explore_with, flag_in, fetch_in, heapdbg_line, id_size_in, id_size_of, is_given, is_task, IsOther, keep_default, most_sessions, number_in, number_or, other_port, port_in, port_limit, questions_in, rolls_in, reads_file, save_in, serve_in, serve_with, sessions_in, sessions_of, settings_in, settings_under, settings_with, target_in, task_in, time_limit, option_value, workers_in, workers_of}
+use Rattle.heapdbg_options.specs.CommandLine.{AreSettingsWithin, HasDefaults, IsTask, ask_in, dumps_in, dumps_of, dumps_with, page_beside, page_in, page_of, page_with, explore_in, explore_with, flag_in, fetch_in, heapdbg_line, id_size_in, id_size_of, is_given, is_task, IsOther, IsThird, keep_default, most_sessions, number_in, number_or, other_port, port_in, port_limit, questions_in, rolls_in, reads_file, save_in, serve_in, serve_with, sessions_in, sessions_of, settings_in, settings_under, settings_with, target_in, task_in, third_port, time_limit, option_value, workers_in, workers_of}
 use Rattle.heapdbg_options.specs.declared.settings.Settings.{Settings}
 use Rattle.heapdbg_options.specs.declared.settings.Task.{Task}
 use Rattle.heapdbg_options.specs.declared.settings.Task.TheVariants.{Run, Explore, Draw, Save, Serve, Ask, Fetch}
@@ -149,18 +150,43 @@ dumps_within : (port : ℕ) (given : Option Text) (dumps : Option ℕ) → dumps
 dumps_within port None dumps e = let same : None ≡ dumps = cc in subst (IsOther port) same tt
 dumps_within port (Some text) dumps e = other_within port (number_in 1 port_limit text) dumps (λ d is. number_within 1 port_limit text d is) e
 
-serve_within : (rows : List Row) (p n k : Option ℕ) (d : Option (Option ℕ)) (task : Task) → port_in rows ≡ p → sessions_in rows ≡ n → workers_in rows ≡ k
-    → option_and_then (λ port. dumps_with port (first_of (codes "dumps") rows)) p ≡ d → serve_with p n k d ≡ Some task → IsTask task
-serve_within rows None n k d task at many tending beside e = cc
-serve_within rows (Some port) None k d task at many tending beside e = cc
-serve_within rows (Some port) (Some sessions) None d task at many tending beside e = cc
-serve_within rows (Some port) (Some sessions) (Some workers) None task at many tending beside e = cc
-serve_within rows (Some port) (Some sessions) (Some workers) (Some dumps) task at many tending beside e =
-    let same : Serve port sessions workers dumps ≡ task = cc in
+third_within : (port : ℕ) (dumps n page : Option ℕ) → ((g : ℕ) → n ≡ Some g → (1 ≤ g) × (g ≤ port_limit)) → option_and_then (third_port port dumps) n ≡ Some page → IsThird port dumps page
+third_within port dumps None page within e = cc
+third_within port dumps (Some g) page within e = go (g == port) (option_map_or (λ d. g == d) dumps false) refl refl e
+  where
+    no_dumps : (o : Option ℕ) → option_map_or (λ d. g == d) o false ≡ false → o ≡ Some g → ⊥
+    no_dumps None h is = cc
+    no_dumps (Some d) h is = eqb-false g d h (sym (some_is d g is))
+      where
+        some_is : (a b : ℕ) → Some a ≡ Some b → a ≡ b
+        some_is a b e = cc
+
+    go : (b k : Bool) → (g == port) ≡ b → option_map_or (λ d. g == d) dumps false ≡ k → cond (b || k) None (Some (Some g)) ≡ Some page → IsThird port dumps page
+    go true k h t found = cc
+    go false true h t found = cc
+    go false false h t found =
+        let same : Some g ≡ page = cc in
+        let limits = within g refl in
+        subst (IsThird port dumps) same (limits.0, limits.1, eqb-false g port h, no_dumps dumps t)
+
+page_within : (port : ℕ) (dumps : Option ℕ) (given : Option Text) (page : Option ℕ) → page_with port dumps given ≡ Some page → IsThird port dumps page
+page_within port dumps None page e = let same : None ≡ page = cc in subst (IsThird port dumps) same tt
+page_within port dumps (Some text) page e = third_within port dumps (number_in 1 port_limit text) page (λ g is. number_within 1 port_limit text g is) e
+
+serve_within : (rows : List Row) (p n k : Option ℕ) (d g : Option (Option ℕ)) (task : Task) → port_in rows ≡ p → sessions_in rows ≡ n → workers_in rows ≡ k
+    → option_and_then (λ port. dumps_with port (first_of (codes "dumps") rows)) p ≡ d → option_and_then (λ port. option_and_then (λ dumps. page_beside port dumps rows) d) p ≡ g
+    → serve_with p n k d g ≡ Some task → IsTask task
+serve_within rows None n k d g task at many tending beside third e = cc
+serve_within rows (Some port) None k d g task at many tending beside third e = cc
+serve_within rows (Some port) (Some sessions) None d g task at many tending beside third e = cc
+serve_within rows (Some port) (Some sessions) (Some workers) None g task at many tending beside third e = cc
+serve_within rows (Some port) (Some sessions) (Some workers) (Some dumps) None task at many tending beside third e = cc
+serve_within rows (Some port) (Some sessions) (Some workers) (Some dumps) (Some page) task at many tending beside third e =
+    let same : Serve port sessions workers dumps page ≡ task = cc in
     let ports = port_within (first_of (codes "port") rows) port at in
     let counts = value_within 1 1 most_sessions (first_of (codes "sessions") rows) sessions (omega arith) (omega arith) many in
     let tended = value_within 0 0 1 (first_of (codes "workers") rows) workers (omega arith) (omega arith) tending in
-    subst IsTask same (ports.0, ports.1, counts.0, counts.1, tended.1, dumps_within port (first_of (codes "dumps") rows) dumps beside)
+    subst IsTask same (ports.0, ports.1, counts.0, counts.1, tended.1, dumps_within port (first_of (codes "dumps") rows) dumps beside, page_within port dumps (first_of (codes "page") rows) page third)
 
 ask_within : (rows : List Row) (p : Option ℕ) (task : Task) → port_in rows ≡ p → option_map (λ port. Ask port) p ≡ Some task → IsTask task
 ask_within rows None task at e = cc
@@ -204,7 +230,7 @@ task_within true explores draws saves serves asks fetches rows task e = let same
 task_within false true draws saves serves asks fetches rows task e = explore_within (first_of (codes "from") rows) (first_of (codes "port") rows) task e
 task_within false false true saves serves asks fetches rows task e = let same : Draw ≡ task = cc in subst IsTask same tt
 task_within false false false true serves asks fetches rows task e = save_within (first_of (codes "out") rows) (first_of (codes "to") rows) task e
-task_within false false false false true asks fetches rows task e = serve_within rows (port_in rows) (sessions_in rows) (workers_in rows) (dumps_in rows) task refl refl refl refl e
+task_within false false false false true asks fetches rows task e = serve_within rows (port_in rows) (sessions_in rows) (workers_in rows) (dumps_in rows) (page_in rows) task refl refl refl refl refl e
 task_within false false false false false true fetches rows task e = ask_within rows (port_in rows) task refl e
 task_within false false false false false false true rows task e = fetch_within rows (port_in rows) task refl e
 task_within false false false false false false false rows task e = cc
@@ -298,30 +324,46 @@ by_task P false false false false false false true rows task run explore draw sa
 by_task P false false false false false false false rows task run explore draw save ask fetch serve e = cc
 
 -- a served heap has the numbers of its options
-pub record IsServeOf (p n w : Option ℕ) (d : Option (Option ℕ)) (task : Task) : Type 0 where
+pub record IsServeOf (p n w : Option ℕ) (d g : Option (Option ℕ)) (task : Task) : Type 0 where
   pub port : ℕ
   pub at : p ≡ Some port
   pub sessions : n ≡ Some (sessions_of task)
   pub workers : w ≡ Some (workers_of task)
   pub dumps : d ≡ Some (dumps_of task)
+  pub page : g ≡ Some (page_of task)
 
-serve_of : (p n w : Option ℕ) (d : Option (Option ℕ)) (task : Task) → serve_with p n w d ≡ Some task → IsServeOf p n w d task
-serve_of None n w d task e = cc
-serve_of (Some port) None w d task e = cc
-serve_of (Some port) (Some sessions) None d task e = cc
-serve_of (Some port) (Some sessions) (Some workers) None task e = cc
-serve_of (Some port) (Some sessions) (Some workers) (Some dumps) task e =
-    let same : Serve port sessions workers dumps ≡ task = cc in
-    subst (IsServeOf (Some port) (Some sessions) (Some workers) (Some dumps)) same (record { port = port; at = refl; sessions = refl; workers = refl; dumps = refl })
+serve_of : (p n w : Option ℕ) (d g : Option (Option ℕ)) (task : Task) → serve_with p n w d g ≡ Some task → IsServeOf p n w d g task
+serve_of None n w d g task e = cc
+serve_of (Some port) None w d g task e = cc
+serve_of (Some port) (Some sessions) None d g task e = cc
+serve_of (Some port) (Some sessions) (Some workers) None g task e = cc
+serve_of (Some port) (Some sessions) (Some workers) (Some dumps) None task e = cc
+serve_of (Some port) (Some sessions) (Some workers) (Some dumps) (Some page) task e =
+    let same : Serve port sessions workers dumps page ≡ task = cc in
+    subst (IsServeOf (Some port) (Some sessions) (Some workers) (Some dumps) (Some page)) same (record { port = port; at = refl; sessions = refl; workers = refl; dumps = refl; page = refl })
 
 -- a port for dumps that no word tells is none
 default_dumps : (words : List Text) (f : Text × List Row) (task : Task) → subcommand_of heapdbg_line words ≡ Some f → is_task f.0 ≡ true
     → is_given (codes "dumps") words ≡ false → serve_in f.1 ≡ Some task → dumps_of task ≡ None
 default_dumps words f task is named other e =
-    let served = serve_of (port_in f.1) (sessions_in f.1) (workers_in f.1) (dumps_in f.1) task e in
+    let served = serve_of (port_in f.1) (sessions_in f.1) (workers_in f.1) (dumps_in f.1) (page_in f.1) task e in
     let missing : first_of (codes "dumps") f.1 ≡ None = none_of (codes "dumps") words f refl is named other in
     let none : dumps_in f.1 ≡ Some None = ap (λ o. option_and_then (λ port. dumps_with port o) (port_in f.1)) missing ∙ ap (option_and_then (λ port. dumps_with port None)) served.at in
     let same : Some (dumps_of task) ≡ Some None = sym served.dumps ∙ none in
+    cc
+
+-- a port of the page that no word tells is none
+default_page : (words : List Text) (f : Text × List Row) (task : Task) → subcommand_of heapdbg_line words ≡ Some f → is_task f.0 ≡ true
+    → is_given (codes "page") words ≡ false → serve_in f.1 ≡ Some task → page_of task ≡ None
+default_page words f task is named other e =
+    let served = serve_of (port_in f.1) (sessions_in f.1) (workers_in f.1) (dumps_in f.1) (page_in f.1) task e in
+    let missing : first_of (codes "page") f.1 ≡ None = none_of (codes "page") words f refl is named other in
+    let none : page_in f.1 ≡ Some None =
+    ap (λ o. option_and_then (λ port. option_and_then (λ dumps. page_with port dumps o) (dumps_in f.1)) (port_in f.1)) missing
+    ∙ ap (λ p. option_and_then (λ port. option_and_then (λ dumps. page_with port dumps None) (dumps_in f.1)) p) served.at
+    ∙ ap (λ d. option_and_then (λ dumps. page_with served.port dumps None) d) served.dumps
+    in
+    let same : Some (page_of task) ≡ Some None = sym served.page ∙ none in
     cc
 
 -- a file of lines that no word tells is none
@@ -329,13 +371,14 @@ unread : (given : Option Text) → given ≡ None → is_some given ≡ false
 unread None none = refl
 unread (Some path) none = cc
 
-served_unread : (p n w : Option ℕ) (d : Option (Option ℕ)) (task : Task) → serve_with p n w d ≡ Some task → reads_file task ≡ false
-served_unread None n w d task e = cc
-served_unread (Some port) None w d task e = cc
-served_unread (Some port) (Some sessions) None d task e = cc
-served_unread (Some port) (Some sessions) (Some workers) None task e = cc
-served_unread (Some port) (Some sessions) (Some workers) (Some dumps) task e =
-    let same : Serve port sessions workers dumps ≡ task = cc in subst (λ t. reads_file t ≡ false) same refl
+served_unread : (p n w : Option ℕ) (d g : Option (Option ℕ)) (task : Task) → serve_with p n w d g ≡ Some task → reads_file task ≡ false
+served_unread None n w d g task e = cc
+served_unread (Some port) None w d g task e = cc
+served_unread (Some port) (Some sessions) None d g task e = cc
+served_unread (Some port) (Some sessions) (Some workers) None g task e = cc
+served_unread (Some port) (Some sessions) (Some workers) (Some dumps) None task e = cc
+served_unread (Some port) (Some sessions) (Some workers) (Some dumps) (Some page) task e =
+    let same : Serve port sessions workers dumps page ≡ task = cc in subst (λ t. reads_file t ≡ false) same refl
 
 -- identifiers of which no word tells the size have 8 bytes
 default_size : (words : List Text) (f : Text × List Row) (x : IdSize) → subcommand_of heapdbg_line words ≡ Some f → is_task f.0 ≡ true
@@ -366,7 +409,7 @@ defaults_of words s e =
     let asked = are_asked (subcommand_of heapdbg_line words) s e in
     let name = asked.found.0 in
     let rows = asked.found.1 in
-    let served : serve_in rows ≡ Some s.task → IsServeOf (port_in rows) (sessions_in rows) (workers_in rows) (dumps_in rows) s.task = serve_of (port_in rows) (sessions_in rows) (workers_in rows) (dumps_in rows) s.task in
+    let served : serve_in rows ≡ Some s.task → IsServeOf (port_in rows) (sessions_in rows) (workers_in rows) (dumps_in rows) (page_in rows) s.task = serve_of (port_in rows) (sessions_in rows) (workers_in rows) (dumps_in rows) (page_in rows) s.task in
     record {
       regions = default_of (codes "regions") 16 1 region_limit words asked.found s.regions refl asked.is asked.named asked.read.regions;
       mutators = default_of (codes "mutators") 2 1 mutator_limit words asked.found s.mutators refl asked.is asked.named asked.read.mutators;
@@ -384,7 +427,10 @@ defaults_of words s e =
       dumps = λ other. by_task (λ t. dumps_of t ≡ None) (bytes_eq name (codes "run")) (bytes_eq name (codes "explore")) (bytes_eq name (codes "draw")) (bytes_eq name (codes "save")) (bytes_eq name (codes "serve")) (bytes_eq name (codes "ask")) (bytes_eq name (codes "fetch")) rows s.task
           refl refl refl (λ target. refl) (λ port. refl) (λ port. refl)
           (λ is. default_dumps words asked.found s.task asked.is asked.named other is) asked.task;
+      page = λ other. by_task (λ t. page_of t ≡ None) (bytes_eq name (codes "run")) (bytes_eq name (codes "explore")) (bytes_eq name (codes "draw")) (bytes_eq name (codes "save")) (bytes_eq name (codes "serve")) (bytes_eq name (codes "ask")) (bytes_eq name (codes "fetch")) rows s.task
+          refl refl refl (λ target. refl) (λ port. refl) (λ port. refl)
+          (λ is. default_page words asked.found s.task asked.is asked.named other is) asked.task;
       from = λ other. by_task (λ t. reads_file t ≡ false) (bytes_eq name (codes "run")) (bytes_eq name (codes "explore")) (bytes_eq name (codes "draw")) (bytes_eq name (codes "save")) (bytes_eq name (codes "serve")) (bytes_eq name (codes "ask")) (bytes_eq name (codes "fetch")) rows s.task
           refl (unread (first_of (codes "from") rows) (none_of (codes "from") words asked.found refl asked.is asked.named other)) refl (λ target. refl) (λ port. refl) (λ port. refl)
-          (λ is. served_unread (port_in rows) (sessions_in rows) (workers_in rows) (dumps_in rows) s.task is) asked.task;
+          (λ is. served_unread (port_in rows) (sessions_in rows) (workers_in rows) (dumps_in rows) (page_in rows) s.task is) asked.task;
     }

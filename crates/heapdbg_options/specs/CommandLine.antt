@@ -74,12 +74,15 @@ staffed_line =
     (value_option (codes "sessions")))
     (value_option (codes "workers"))
 
+-- the command `serve` with its ports beside that of the sessions
+abbrev pub ported_line : App
+ported_line =
+    with_rule (with_rule staffed_line (value_option (codes "dumps"))) (value_option (codes "page"))
+
 -- the command `serve`
 abbrev pub serve_line : App
 serve_line =
-    with_rule
-    (with_rule (with_rule staffed_line (value_option (codes "dumps")))
-    (value_option (codes "questions")))
+    with_rule (with_rule ported_line (value_option (codes "questions")))
     (value_option (codes "roll"))
 
 -- the command `ask`
@@ -238,15 +241,38 @@ abbrev pub dumps_in : List Row → Option (Option ℕ)
 dumps_in rows =
     option_and_then (λ port. dumps_with port (first_of (codes "dumps") rows)) (port_in rows)
 
+-- a port of the page, if it is neither that of the sessions nor that for dumps
+abbrev pub third_port : ℕ → Option ℕ → ℕ → Option (Option ℕ)
+third_port port dumps page =
+    if (page == port) || option_map_or (λ d. page == d) dumps false then None else Some (Some page)
+
+-- the port of the page beside these two: none, if the option is not given
+abbrev pub page_with : ℕ → Option ℕ → Option Text → Option (Option ℕ)
+page_with port dumps None = Some None
+page_with port dumps (Some text) =
+    option_and_then (third_port port dumps) (number_in 1 port_limit text)
+
+-- the port of the page that is given, beside these two
+abbrev pub page_beside : ℕ → Option ℕ → List Row → Option (Option ℕ)
+page_beside port dumps rows = page_with port dumps (first_of (codes "page") rows)
+
+-- the port of the page that is given, beside that of the sessions and that for dumps
+abbrev pub page_in : List Row → Option (Option ℕ)
+page_in rows =
+    option_and_then (λ port. option_and_then (λ dumps. page_beside port dumps rows) (dumps_in rows))
+    (port_in rows)
+
 -- a served heap, if each option has a value in its range
-abbrev pub serve_with : Option ℕ → Option ℕ → Option ℕ → Option (Option ℕ) → Option Task
-serve_with (Some port) (Some sessions) (Some workers) (Some dumps) =
-    Some (Serve port sessions workers dumps)
-serve_with _ _ _ _ = None
+abbrev pub serve_with : Option ℕ → Option ℕ → Option ℕ → Option (Option ℕ) → Option (Option ℕ)
+    → Option Task
+serve_with (Some port) (Some sessions) (Some workers) (Some dumps) (Some page) =
+    Some (Serve port sessions workers dumps page)
+serve_with _ _ _ _ _ = None
 
 -- the task of the options of `serve`
 abbrev pub serve_in : List Row → Option Task
-serve_in rows = serve_with (port_in rows) (sessions_in rows) (workers_in rows) (dumps_in rows)
+serve_in rows =
+    serve_with (port_in rows) (sessions_in rows) (workers_in rows) (dumps_in rows) (page_in rows)
 
 -- the task of the options of `ask`
 abbrev pub ask_in : List Row → Option Task
@@ -305,6 +331,12 @@ abbrev pub IsOther : ℕ → Option ℕ → Type 0
 IsOther port None = ⊤
 IsOther port (Some dumps) = (1 ≤ dumps) × (dumps ≤ port_limit) × (dumps ≢ port)
 
+-- a port of the page, if there is one, is within the limits, and neither that of the sessions nor that for dumps
+abbrev pub IsThird : ℕ → Option ℕ → Option ℕ → Type 0
+IsThird port dumps None = ⊤
+IsThird port dumps (Some page) =
+    (1 ≤ page) × (page ≤ port_limit) × (page ≢ port) × (dumps ≢ Some page)
+
 -- the ports and the numbers of sessions and workers are within their limits
 abbrev pub IsTask : Task → Type 0
 IsTask Run = ⊤
@@ -312,9 +344,9 @@ IsTask (Explore from) = ⊤
 IsTask Draw = ⊤
 IsTask (Save Out) = ⊤
 IsTask (Save (To port)) = (1 ≤ port) × (port ≤ port_limit)
-IsTask (Serve port sessions workers dumps) =
+IsTask (Serve port sessions workers dumps page) =
     (1 ≤ port) × (port ≤ port_limit) × (1 ≤ sessions) × (sessions ≤ most_sessions) × (workers ≤ 1)
-    × IsOther port dumps
+    × IsOther port dumps × IsThird port dumps page
 IsTask (Ask port) = (1 ≤ port) × (port ≤ port_limit)
 IsTask (Fetch port) = (1 ≤ port) × (port ≤ port_limit)
 
@@ -328,18 +360,23 @@ AreSettingsWithin s = IsHeapWithin s × IsTask s.task
 
 -- the number of sessions
 abbrev pub sessions_of : Task → ℕ
-sessions_of (Serve port sessions workers dumps) = sessions
+sessions_of (Serve port sessions workers dumps page) = sessions
 sessions_of _ = 1
 
 -- the number of markers, and of sweepers
 abbrev pub workers_of : Task → ℕ
-workers_of (Serve port sessions workers dumps) = workers
+workers_of (Serve port sessions workers dumps page) = workers
 workers_of _ = 0
 
 -- the port for dumps
 abbrev pub dumps_of : Task → Option ℕ
-dumps_of (Serve port sessions workers dumps) = dumps
+dumps_of (Serve port sessions workers dumps page) = dumps
 dumps_of _ = None
+
+-- the port of the page
+abbrev pub page_of : Task → Option ℕ
+page_of (Serve port sessions workers dumps page) = page
+page_of _ = None
 
 -- the lines of a file are read first
 abbrev pub reads_file : Task → Bool
@@ -347,7 +384,7 @@ reads_file Run = false
 reads_file (Explore from) = from
 reads_file Draw = false
 reads_file (Save target) = false
-reads_file (Serve port sessions workers dumps) = false
+reads_file (Serve port sessions workers dumps page) = false
 reads_file (Ask port) = false
 reads_file (Fetch port) = false
 
@@ -364,6 +401,7 @@ pub record HasDefaults (words : List Text) (s : Settings) : Type 0 where
   pub workers : is_given (codes "workers") words ≡ false → workers_of s.task ≡ 0
   pub from : is_given (codes "from") words ≡ false → reads_file s.task ≡ false
   pub dumps : is_given (codes "dumps") words ≡ false → dumps_of s.task ≡ None
+  pub page : is_given (codes "page") words ≡ false → page_of s.task ≡ None
 
 -- the fault has this text, or memory ran out
 abbrev pub IsBadWith : Text → LineFault → Type 0

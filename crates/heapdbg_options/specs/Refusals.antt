@@ -7,9 +7,9 @@ use Rattle.clap.specs.declared.error.kind.ErrorKind.{ErrorKind}
 use Rattle.clap.specs.declared.error.kind.ErrorKind.TheVariants.{DisplayHelp, DisplayVersion, OutOfMemory}
 use Rattle.heap_world.specs.RegionLimits.{region_limit}
 use Rattle.heap_world.specs.Limits.{keep_limit, mutator_limit}
-use Rattle.heapdbg_options.specs.CommandLine.{dumps_with, heapdbg_line, id_size_in, is_task, keep_default, number_in, port_in, port_limit, questions_in, rolls_in, sessions_in, settings_of, option_value, time_limit, workers_in}
+use Rattle.heapdbg_options.specs.CommandLine.{dumps_with, heapdbg_line, id_size_in, is_task, keep_default, number_in, page_with, port_in, port_limit, questions_in, rolls_in, sessions_in, settings_of, option_value, time_limit, workers_in}
 use Rattle.heapdbg_options.specs.declared.refusal.Mistake.{Mistake}
-use Rattle.heapdbg_options.specs.declared.refusal.Mistake.TheVariants.{Command, Regions, Mutators, Keep, Time, Ids, Port, Sessions, Workers, Questions, Roll, Dumps, To, Place, Source}
+use Rattle.heapdbg_options.specs.declared.refusal.Mistake.TheVariants.{Command, Regions, Mutators, Keep, Time, Ids, Port, Sessions, Workers, Questions, Roll, Dumps, Page, To, Place, Source}
 use Rattle.heapdbg_options.specs.declared.settings.LineFault.{LineFault}
 use Rattle.heapdbg_options.specs.declared.settings.LineFault.TheVariants.{Bad, CommandText, Memory, OptionText}
 use Rattle.heapdbg_options.specs.declared.settings.Task.{Task}
@@ -46,6 +46,10 @@ IsMistakeIn Roll rows = rolls_in rows ≡ None
 IsMistakeIn Dumps rows =
     (port : ℕ) × (port_in rows ≡ Some port)
     × (dumps_with port (first_of (codes "dumps") rows) ≡ None)
+IsMistakeIn Page rows =
+    (port : ℕ) × (dumps : Option ℕ) × (port_in rows ≡ Some port)
+    × (dumps_with port (first_of (codes "dumps") rows) ≡ Some dumps)
+    × (page_with port dumps (first_of (codes "page") rows) ≡ None)
 IsMistakeIn Source rows =
     IsExploreMistake Source (first_of (codes "from") rows) (first_of (codes "port") rows)
 IsMistakeIn To rows = IsTargetMistake To (first_of (codes "out") rows) (first_of (codes "to") rows)
@@ -93,6 +97,7 @@ mistake_of Workers = codes "--workers takes 0 or 1"
 mistake_of Questions = codes "--questions takes 0 or 1"
 mistake_of Roll = codes "--roll takes 0 or 1"
 mistake_of Dumps = codes "--dumps takes 1 to 65535, and not the number of --port"
+mistake_of Page = codes "--page takes 1 to 65535, and not the number of --port or --dumps"
 mistake_of To = codes "--to takes 1 to 65535"
 mistake_of Place = codes "save takes one of --out and --to"
 mistake_of Source = codes "explore takes one of --from and --port, or neither"

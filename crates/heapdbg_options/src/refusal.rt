@@ -39,6 +39,8 @@ pub enum Mistake {
     Roll,
     /// `--dumps` is out of its range, or the port of the sessions.
     Dumps,
+    /// `--page` is out of its range, or another port of the heap.
+    Page,
     /// `--to` is out of its range.
     To,
     /// Both of `--out` and `--to` are given, or neither.
@@ -66,6 +68,7 @@ impl Mistake {
             Mistake::Questions => "--questions takes 0 or 1",
             Mistake::Roll => "--roll takes 0 or 1",
             Mistake::Dumps => "--dumps takes 1 to 65535, and not the number of --port",
+            Mistake::Page => "--page takes 1 to 65535, and not the number of --port or --dumps",
             Mistake::To => "--to takes 1 to 65535",
             Mistake::Place => "save takes one of --out and --to",
             Mistake::Source => "explore takes one of --from and --port, or neither",

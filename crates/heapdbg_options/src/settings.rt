@@ -40,6 +40,8 @@ pub enum Task {
         workers: u64,
         /// The port to send dumps from, 1 to 65,535, or None if there is none.
         dumps: Option<u16>,
+        /// The port of the page, 1 to 65,535, or None if there is none.
+        page: Option<u16>,
     },
     /// Asks a session that is served: sends standard input, and copies what comes back to standard output.
     Ask {

@@ -1,7 +1,7 @@
 //! The command lines of the tasks over sockets.
 ghost use Rattle.std.specs.Prelude.{◌≡◌, codes, option_and_then};
 ghost use Rattle.clap.specs.Words.{first_of, found_of, rows_of};
-ghost use Rattle.heapdbg_options.specs.CommandLine.{ask_in, dumps_with, fetch_in, number_in, other_port, port_in, port_limit, serve_in};
+ghost use Rattle.heapdbg_options.specs.CommandLine.{ask_in, dumps_with, fetch_in, number_in, other_port, page_with, port_in, port_limit, serve_in, third_port};
 ghost use Rattle.heapdbg_options.specs.Refusals.{IsTaskOrMistake};
 
 use crate::command_line::{number, option_value};
@@ -57,6 +57,12 @@ pub(crate) const SERVE: CommandRow = CommandRow {
             help: "Port on 127.0.0.1 that sends a dump to each client, 1 to 65535 [default: none]",
             is_required: false,
         },
+        OptionRow {
+            name: "page",
+            value: "N",
+            help: "Port on 127.0.0.1 of a page that shows the heap to a browser, 1 to 65535 [default: none]",
+            is_required: false,
+        },
         QUESTIONS,
         OptionRow {
             name: "roll",
@@ -107,11 +113,15 @@ pub(crate) fn serve_task(options: &ArgMatches<'_>) -> Result<Task, Mistake>
     let Some(dumps) = dumps(options, port) else {
         return Err(Mistake::Dumps);
     };
+    let Some(page) = page(options, port, dumps) else {
+        return Err(Mistake::Page);
+    };
     Ok(Task::Serve {
         port,
         sessions,
         workers,
         dumps,
+        page,
     })
 }
 
@@ -143,6 +153,41 @@ fn other_port(port: u16, dumps: u16) -> Option<Option<u16>>
         return None;
     }
     Some(Some(dumps))
+}
+
+// Returns the port of the page that the options give beside that of the sessions and that for dumps.
+fn page(options: &ArgMatches<'_>, port: u16, dumps: Option<u16>) -> Option<Option<u16>>
+    ensures { result
+        ≡ page_with port dumps (first_of (codes "page") (rows_of (found_of options.now))) }
+{
+    match options.get_str("page") {
+        Some(text) => third_port_of(port, dumps, text),
+        None => Some(None),
+    }
+}
+
+// Returns the port of the page that a text writes beside those two.
+fn third_port_of(port: u16, dumps: Option<u16>, text: &str) -> Option<Option<u16>>
+    ensures { result
+        ≡ option_and_then (third_port port dumps) (number_in 1 port_limit text.now) }
+{
+    match port_of(text) {
+        Some(page) => third_port(port, dumps, page),
+        None => None,
+    }
+}
+
+// Returns a port of the page beside those two.
+fn third_port(port: u16, dumps: Option<u16>, page: u16) -> Option<Option<u16>>
+    ensures { result ≡ third_port port dumps page }
+{
+    if page == port {
+        return None;
+    }
+    match dumps {
+        Some(dumps) if page == dumps => None,
+        _ => Some(Some(page)),
+    }
 }
 
 // Returns the task of the options of `fetch`, or the mistake in them.

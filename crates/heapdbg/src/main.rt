@@ -15,6 +15,7 @@ mod reasons;
 mod request;
 mod save;
 mod serve;
+mod socket_outlet;
 mod task;
 mod terminals;
 

@@ -1,0 +1,57 @@
+//! An outlet over a socket, for another thread.
+ghost use Rattle.std.specs.Prelude.{◌≡◌, []};
+
+use dump_pump::ledger::note_bytes;
+use dump_pump::{Log, Outlet, Put, WriteOutlet};
+use heap_server::Half;
+use std::marker::Model;
+
+// An outlet that writes to a half of a socket. Other than `WriteOutlet` it holds no snapshot, which is no value that another thread may
+// be given. Contracts see the bytes that were put out, and the number of puts that failed.
+#[derive(Drop)]
+pub(crate) struct SocketOutlet {
+    half: Half,
+    put: Log<u8, ()>,
+    failed: Log<(), ()>,
+}
+
+impl Model for SocketOutlet {
+    ghost use Rattle.std.specs.Prelude.{length};
+    ghost use Rattle.dump_pump.specs.Outlets.{Outgoing, log_bytes};
+
+    ghost Value = { Outgoing };
+
+    ghost view = { λ o.
+        record { out = log_bytes o.put.items; failures = length o.failed.items } };
+}
+
+impl SocketOutlet {
+    // Creates an outlet that has put out nothing yet.
+    pub(crate) fn new(half: Half) -> SocketOutlet
+        ensures { result ≡ record { out = []; failures = 0 } }
+    {
+        SocketOutlet {
+            half,
+            put: Log::new(),
+            failed: Log::new(),
+        }
+    }
+}
+
+impl Outlet for SocketOutlet {
+    ghost seen = { λ o. o };
+
+    fn put(&mut self, given: &[u8]) -> Put {
+        let mut outlet = WriteOutlet::new(&mut self.half);
+        match outlet.put(given) {
+            Put::Took(n) => {
+                note_bytes(&mut self.put, &given[..n]);
+                Put::Took(n)
+            }
+            Put::Failed => {
+                self.failed = self.failed.and(&(), &());
+                Put::Failed
+            }
+        }
+    }
+}

@@ -11,7 +11,7 @@ use Rattle.heap_class.specs.declared.IdSize.{IdSize}
 use Rattle.heap_class.specs.Classes.{Class}
 use Rattle.hprof_text.specs.Image.{DumpedObject, Image}
 use Rattle.heap_questions.specs.declared.rows.Row.{Row}
-use Rattle.heap_questions.specs.Histogram.{AreRows, class_rows, counted_unless, members, no_objects, object_bytes, one_more, row_at, row_number, row_of, rows_of, without_marked, with_counted}
+use Rattle.heap_questions.specs.Histogram.{AreRows, class_rows, counted_unless, members, no_objects, object_bytes, one_more, row_at, row_number, row_of, rows_of, values_limit, without_marked, with_counted}
 
 -- ---- one object more
 
@@ -46,10 +46,10 @@ none_counted ids classes rows e =
     record {
       count = many;
       each = λ g h. ap (λ (rs : List Row). row_at rs g) e ∙ get_or-replicate n g no_objects no_objects (omega (arith, h, many));
-      small = subst (All (λ r. (r.objects ≤ 0) × (r.bytes ≤ 0 * 8192))) (sym e) (All-replicate (λ (r : Row). (r.objects ≤ 0) × (r.bytes ≤ 0 * 8192)) n no_objects (omega arith, omega arith));
+      small = subst (All (λ r. (r.objects ≤ 0) × (r.bytes ≤ 0 * values_limit))) (sym e) (All-replicate (λ (r : Row). (r.objects ≤ 0) × (r.bytes ≤ 0 * values_limit)) n no_objects (omega arith, omega arith));
     }
 
-one_counted : (ids : IdSize) (classes : List Class) (counted : List DumpedObject) (rows : List Row) (o : DumpedObject) → AreRows ids classes counted rows → row_number o.kind < length rows → object_bytes ids classes o ≤ 8192
+one_counted : (ids : IdSize) (classes : List Class) (counted : List DumpedObject) (rows : List Row) (o : DumpedObject) → AreRows ids classes counted rows → row_number o.kind < length rows → object_bytes ids classes o ≤ values_limit
     → AreRows ids classes (counted ++ o ∷ []) (with_counted rows (row_number o.kind) (object_bytes ids classes o))
 one_counted ids classes counted rows o a w b =
     let k = row_number o.kind in
@@ -57,7 +57,7 @@ one_counted ids classes counted rows o a w b =
     let i = length counted in
     let j = length (counted ++ o ∷ []) in
     let more : j ≡ i + 1 = length_push counted o in
-    let s = All-get_or (λ r. (r.objects ≤ i) × (r.bytes ≤ i * 8192)) rows k no_objects w a.small in
+    let s = All-get_or (λ r. (r.objects ≤ i) × (r.bytes ≤ i * values_limit)) rows k no_objects w a.small in
     record {
       count = length-set rows k (one_more (row_at rows k) n) ∙ a.count;
       each = λ g l.
@@ -74,8 +74,8 @@ one_counted ids classes counted rows o a w b =
                 ∙ a.each g l'
                 ∙ sym (more_elsewhere ids classes counted g o (λ p. e (sym p)))
           ];
-      small = All-set (λ r. (r.objects ≤ j) × (r.bytes ≤ j * 8192)) rows k (one_more (row_at rows k) n) (omega (arith, s.0, more), omega (arith, s.1, b, more))
-          (All-weaker (λ r. (r.objects ≤ i) × (r.bytes ≤ i * 8192)) (λ r. (r.objects ≤ j) × (r.bytes ≤ j * 8192)) (λ r p. (omega (arith, p.0, more), omega (arith, p.1, more))) rows a.small);
+      small = All-set (λ r. (r.objects ≤ j) × (r.bytes ≤ j * values_limit)) rows k (one_more (row_at rows k) n) (omega (arith, s.0, more), omega (arith, s.1, b, more))
+          (All-weaker (λ r. (r.objects ≤ i) × (r.bytes ≤ i * values_limit)) (λ r. (r.objects ≤ j) × (r.bytes ≤ j * values_limit)) (λ r p. (omega (arith, p.0, more), omega (arith, p.1, more))) rows a.small);
     }
 
 -- ---- objects that aren't marked
@@ -124,7 +124,7 @@ unmarked_is_filter f (o ∷ os) = go (f o.id) (unmarked_is_filter f os)
 pub rows_begin : (ids : IdSize) (classes : List Class) (marks : List Bool) (objects : List DumpedObject) (rows : List Row) → rows ≡ replicate (class_rows + length classes) no_objects → AreRows ids classes (without_marked marks (take 0 objects)) rows
 rows_begin ids classes marks objects rows e = subst (λ (os : List DumpedObject). AreRows ids classes os rows) (sym (none_unmarked marks)) (none_counted ids classes rows e)
 
-pub rows_more : (ids : IdSize) (classes : List Class) (marks : List Bool) (objects : List DumpedObject) (i : ℕ) (rows : List Row) (o : DumpedObject) → AreRows ids classes (without_marked marks (take i objects)) rows → slice_get objects i ≡ Some o → row_number o.kind < length rows → object_bytes ids classes o ≤ 8192
+pub rows_more : (ids : IdSize) (classes : List Class) (marks : List Bool) (objects : List DumpedObject) (i : ℕ) (rows : List Row) (o : DumpedObject) → AreRows ids classes (without_marked marks (take i objects)) rows → slice_get objects i ≡ Some o → row_number o.kind < length rows → object_bytes ids classes o ≤ values_limit
     → AreRows ids classes (without_marked marks (take (i + 1) objects)) (counted_unless (get_or marks i false) (row_number o.kind) (object_bytes ids classes o) rows)
 rows_more ids classes marks objects i rows o a h w b =
     let before = without_marked marks (take i objects) in
@@ -135,17 +135,17 @@ rows_more ids classes marks objects i rows o a h w b =
     go before true a = subst (λ (os : List DumpedObject). AreRows ids classes os rows) (sym (append-nil before)) a
     go before false a = one_counted ids classes before rows o a w b
 
-pub room : (ids : IdSize) (classes : List Class) (marks : List Bool) (objects : List DumpedObject) (i : ℕ) (rows : List Row) (k : ℕ) → AreRows ids classes (without_marked marks (take i objects)) rows → i ≤ length objects → k < length rows → ((row_at rows k).objects ≤ i) × ((row_at rows k).bytes ≤ i * 8192)
+pub room : (ids : IdSize) (classes : List Class) (marks : List Bool) (objects : List DumpedObject) (i : ℕ) (rows : List Row) (k : ℕ) → AreRows ids classes (without_marked marks (take i objects)) rows → i ≤ length objects → k < length rows → ((row_at rows k).objects ≤ i) × ((row_at rows k).bytes ≤ i * values_limit)
 room ids classes marks objects i rows k a l w =
     let n = length (without_marked marks (take i objects)) in
-    let s = All-get_or (λ r. (r.objects ≤ n) × (r.bytes ≤ n * 8192)) rows k no_objects w a.small in
+    let s = All-get_or (λ r. (r.objects ≤ n) × (r.bytes ≤ n * values_limit)) rows k no_objects w a.small in
     let few = unmarked_few marks (take i objects) in
     let m = length-take-le i objects l in
     (omega (arith, s.0, few, m), omega (arith, s.1, few, m))
 
 -- the room of the row of one of the classes
 pub room_among : (ids : IdSize) (image : Image) (classes : List Class) (marks : List Bool) (i : ℕ) (rows : List Row) (k : ℕ) → AreRows ids image.classes (without_marked marks (take i image.objects)) rows → i ≤ length image.objects → classes ≡ image.classes → k < class_rows + length classes
-    → ((row_at rows k).objects ≤ i) × ((row_at rows k).bytes ≤ i * 8192)
+    → ((row_at rows k).objects ≤ i) × ((row_at rows k).bytes ≤ i * values_limit)
 room_among ids image classes marks i rows k a l e w = room ids image.classes marks image.objects i rows k a l (omega (arith, ap length e, w, a.count))
 
 pub rows_end : (ids : IdSize) (classes : List Class) (marks : List Bool) (objects : List DumpedObject) (i : ℕ) (rows : List Row) → AreRows ids classes (without_marked marks (take i objects)) rows → i ≡ length objects → rows ≡ rows_of ids classes (without_marked marks objects)

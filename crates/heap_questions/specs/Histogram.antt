@@ -39,6 +39,10 @@ value_size ids classes (Instance k) n = instance_size ids classes k
 value_size ids classes (Array k) n = id_bytes ids * n
 value_size ids classes (Prim kind) n = width_of ids kind * n
 
+-- the most bytes that the values of one object have: an array has up to 1,024 of 8 bytes, and an instance fewer
+abbrev pub values_limit : ℕ
+values_limit = 8192
+
 -- the size of an object's values in bytes
 abbrev pub object_bytes : IdSize → List Class → DumpedObject → ℕ
 object_bytes ids classes o = value_size ids classes o.kind (length o.words)
@@ -97,4 +101,4 @@ pub record AreRows (ids : IdSize) (classes : List Class) (counted : List DumpedO
     (rows : List Row) : Type 0 where
   pub count : length rows ≡ class_rows + length classes
   pub each : (g : ℕ) → g < length rows → row_at rows g ≡ row_of ids classes counted g
-  pub small : All (λ r. (r.objects ≤ length counted) × (r.bytes ≤ length counted * 8192)) rows
+  pub small : All (λ r. (r.objects ≤ length counted) × (r.bytes ≤ length counted * values_limit)) rows

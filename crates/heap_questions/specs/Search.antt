@@ -14,6 +14,10 @@ pub record AreNodes (image : Image) (places : List ObjRef) (nodes : List Node) :
   pub ids : map (λ n. n.id) nodes ≡ map (λ o. o.id) image.objects
   pub placed : map (λ n. n.at) nodes ≡ places
 
+-- the most hints: one for the first id, and one for each step from it, up to the 262,144 words of a heap
+abbrev pub hint_limit : ℕ
+hint_limit = 262145
+
 -- no node has a smaller id than one before it
 abbrev pub AreRising : List Node → Type 0
 AreRising nodes =

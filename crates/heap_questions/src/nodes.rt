@@ -3,7 +3,7 @@ ghost use Rattle.std.specs.Prelude.{◌≡◌, ◌<◌, ◌≤◌, ◌^◌, leng
 ghost use Rattle.heap_class.specs.declared.Refusal.TheVariants.{NoMemory};
 ghost use Rattle.hprof_text.specs.Image.{object_limit};
 ghost use Rattle.heap_questions.specs.declared.nodes.Node.{Node};
-ghost use Rattle.heap_questions.specs.Search.{AreSmallerBefore, AreFrom, AreNodes, AreRising, node_with};
+ghost use Rattle.heap_questions.specs.Search.{AreSmallerBefore, AreFrom, AreNodes, AreRising, hint_limit, node_with};
 
 use heap_class::{ObjRef, Refusal};
 use hprof_text::View;
@@ -152,7 +152,7 @@ fn steps_between(first: u64, id: u64) -> u64
 
 // Returns how many hints the nodes need: one for each step from the first id to the last, but not more than a heap has words.
 fn hint_count(nodes: &[Node]) -> usize
-    ensures { result ≤ 262145 }
+    ensures { result ≤ hint_limit }
 {
     match (nodes.first(), nodes.last()) {
         (Some(first), Some(last)) => steps_between(first.id, last.id).min(HEAP_WORDS) as usize + 1,

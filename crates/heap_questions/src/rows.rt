@@ -3,7 +3,7 @@ ghost use Rattle.std.specs.Prelude.{◌≡◌, ◌+◌, ◌<◌, ◌≤◌, ◌^
 ghost use Rattle.heap_class.specs.Limits.{array_limit};
 ghost use Rattle.heap_class.specs.declared.Refusal.TheVariants.{NoMemory};
 ghost use Rattle.hprof_text.specs.Image.{IsKnown};
-ghost use Rattle.heap_questions.specs.Histogram.{class_rows, counted_unless, histogram_of, kind_row, row_at, row_number, rows_of, without_marked, value_size};
+ghost use Rattle.heap_questions.specs.Histogram.{class_rows, counted_unless, histogram_of, kind_row, row_at, row_number, rows_of, without_marked, value_size, values_limit};
 
 use heap_class::{FirstClasses, IdSize, Kind, ObjKind, Refusal};
 use hprof_text::View;
@@ -79,7 +79,7 @@ fn value_size(ids: IdSize, classes: &FirstClasses<'_>, kind: ObjKind, words: u64
     requires known { IsKnown classes.now kind words }
     requires small { words ≤ array_limit }
     ensures value { result ≡ value_size ids classes.now kind words }
-    ensures limit { result ≤ 8192 }
+    ensures limit { result ≤ values_limit }
 {
     match kind {
         ObjKind::Instance(class) => {

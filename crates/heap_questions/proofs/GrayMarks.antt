@@ -1,6 +1,6 @@
 -- Which cells hold gray objects.
-use Rattle.std.proofs.Common.{◌≡◌, ◌≢◌, ◌∙◌, ℕ, zero, suc, ◌+◌, ◌*◌, ◌/◌, ◌<◌, ◌≤◌, Bool, true, false, List, [], ◌∷◌, ◌++◌, length, get_or, replicate, take, refl, sym, ap, ap₂, subst, inl, inr, arith}
-use Rattle.std.specs.Prelude.{IsSome, Option, Some, None, slice_get, slice_index_or, slice_set, ◌==◌, ◌||◌, option_and_then, reverse}
+use Rattle.std.proofs.Common.{◌≡◌, ◌≢◌, ◌∙◌, ℕ, zero, suc, ◌+◌, ◌*◌, ◌/◌, ◌<◌, ◌≤◌, Bool, true, false, List, [], ◌∷◌, ◌++◌, length, get_or, replicate, take, refl, sym, ap, subst, inl, inr, arith}
+use Rattle.std.specs.Prelude.{IsSome, Option, Some, None, slice_index_or, slice_set, ◌==◌, ◌||◌, option_and_then, reverse}
 use Rattle.std.specs.List.{list_any}
 use Rattle.std.proofs.lemmas.Bool.{cases_eq, eq-eqb, ne_eqb, false≢true}
 use Rattle.std.proofs.lemmas.List.{get_or-set_other, get_or-set_same, take_more}
@@ -11,7 +11,7 @@ use Rattle.heap_class.specs.declared.ObjRef.{ObjRef}
 use Rattle.heap_region.specs.Legal.{IsCellTable, IsRegionPool}
 use Rattle.heap_region.specs.Limits.{cell_sizes}
 use Rattle.heap_region.specs.Pool.{RegionPool}
-use Rattle.heap_region.specs.Regions.{Object, Region, UsedRegion, cell_object, id_of, object_at, object_of, ref_of, used_at}
+use Rattle.heap_region.specs.Regions.{Object, Region, UsedRegion, id_of, object_at, object_of, ref_of, used_at}
 use Rattle.heap_region.proofs.Ids.{ref_back, ref_is}
 use Rattle.heap_region.proofs.Lookups.{used_below}
 use Rattle.heap_region.proofs.ShownRegions.{object_here, used_by_object}

@@ -1,6 +1,6 @@
 -- The objects of a view as a list has them.
 use Rattle.std.proofs.Common.{◌≡◌, ◌∙◌, ℕ, ◌+◌, Bool, List, [], ◌∷◌, ◌++◌, length, map, take, ap, sym}
-use Rattle.std.specs.Prelude.{slice_get, Option, Some, option_map}
+use Rattle.std.specs.Prelude.{slice_get, Some, option_map}
 use Rattle.std.proofs.lemmas.List.{map_more}
 use Rattle.std.proofs.lemmas.Option.{get_or_from_slice_get, same_Some, slice_get-map, slice_get_within}
 use Rattle.heap_class.specs.declared.ObjKind.{ObjKind}

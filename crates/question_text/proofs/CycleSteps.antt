@@ -1,9 +1,10 @@
 -- Steps of a cycle, one after another.
 use Rattle.std.proofs.Common.{◌≡◌, ◌∙◌, ◌+◌, ◌*◌, ◌<◌, ◌≤◌, ℕ, Bool, true, false, cond, not, List, [], ◌∷◌, ◌++◌, Option, Some, None, length, drop, nat_lt, refl, sym, ap, ap₂, subst, inl, inr, true≢false, arith}
-use Rattle.std.specs.Prelude.{◌⊎◌, ◌||◌, IfErr, IfOk, Result, Ok, Err, nat_le, slice_get, slice_index, sum_by}
+use Rattle.std.specs.Prelude.{◌⊎◌, ◌||◌, Result, Ok, Err, nat_le, slice_get, slice_index, sum_by}
 use Rattle.std.specs.Option.{option_map_or}
 use Rattle.std.specs.List.{enumerate_from}
 use Rattle.std.proofs.lemmas.Bool.{leb-false, ltb-false, ltb-true}
+use Rattle.std.proofs.lemmas.List.{append-nil, append_assoc}
 use Rattle.std.proofs.lemmas.List.FromFn.{length-enumerate_from}
 use Rattle.std.proofs.lemmas.List.Sums.{sum_by-append}
 use Rattle.heap_class.specs.declared.Refusal.{Refusal}
@@ -34,7 +35,7 @@ use Rattle.heap_trail.specs.Machine.{Machine, Allocation, Granted, Denied, Loses
 use Rattle.heap_trail.specs.Trail.{stepped}
 use Rattle.question_text.specs.declared.cycle.CycleCounts.{CycleCounts}
 use Rattle.question_text.specs.Places.{IsTextOrNoMemory}
-use Rattle.question_text.specs.Collections.{AreNext, AreSwept, IsCycleAnswer, IsShortage, IsSwept, IsWholeCycle, MarksLead, MayStop, MovesOn, RunsCycle, StepsLead, StopsAt, TakenStep, collected_text, condemned_of, ends_cycle, next_mark, next_step, swept_of, waiting_region}
+use Rattle.question_text.specs.Collections.{AreNext, AreSwept, IsCycleAnswer, IsShortage, IsSwept, IsWholeCycle, LeadOn, MarksLead, MayStop, MovesOn, StepsLead, StopsAt, TakenStep, collected_text, condemned_of, ends_cycle, next_mark, next_step, swept_of, waiting_region}
 use Rattle.question_text.proofs.WaitingRegions.{all_shaded, first_swept, first_waits}
 
 -- ---- lists of steps
@@ -43,26 +44,36 @@ next_on : (b c d : Bool) (m n k : Machine) (xs ys : List TakenStep) → AreNext 
 next_on b c d m n k [] ys h f = subst (λ (x : Bool). AreNext x m ys d k) h.0 (subst (λ (x : Machine). AreNext c x ys d k) h.1 f)
 next_on b c d m n k (x ∷ xs) ys h f = (h.0, (h.1.0, h.1.1, next_on (ends_cycle x.0 || b) c d h.1.0 n k xs ys h.1.2 f))
 
-pub none_lead : (b : Bool) (m : Machine) → StepsLead b m b m 0 0
-none_lead b m = ([], (refl, refl), refl, refl)
+pub none_lead : (b : Bool) (m : Machine) → StepsLead b m [] b m 0 0
+none_lead b m = ((refl, refl), refl, refl)
 
-pub leads_on : (b c d : Bool) (m n k : Machine) (x y v w : ℕ) → StepsLead b m c n x y → StepsLead c n d k v w → StepsLead b m d k (x + v) (y + w)
-leads_on b c d m n k x y v w s t = (
-  s.0 ++ t.0,
-  next_on b c d m n k s.0 t.0 s.1 t.1,
-  ap₂ (λ (i j : ℕ). i + j) s.2 t.2 ∙ sym (sum_by-append (λ (z : TakenStep). condemned_of z.1) s.0 t.0),
-  ap₂ (λ (i j : ℕ). i + j) s.3 t.3 ∙ sym (sum_by-append (λ (z : TakenStep). swept_of z.1) s.0 t.0),
+pub leads_on : (b c d : Bool) (m n k : Machine) (xs ys : List TakenStep) (x y v w : ℕ) → StepsLead b m xs c n x y → StepsLead c n ys d k v w → StepsLead b m (xs ++ ys) d k (x + v) (y + w)
+leads_on b c d m n k xs ys x y v w s t = (
+  next_on b c d m n k xs ys s.0 t.0,
+  ap₂ (λ (i j : ℕ). i + j) s.1 t.1 ∙ sym (sum_by-append (λ (z : TakenStep). condemned_of z.1) xs ys),
+  ap₂ (λ (i j : ℕ). i + j) s.2 t.2 ∙ sym (sum_by-append (λ (z : TakenStep). swept_of z.1) xs ys),
 )
 
-one_leads : (b : Bool) (m n : Machine) (e : Event) (a : Answer) → next_step b m.trail.current ≡ Some e → MayReply m (Step e) n (Answered a) → StepsLead b m (ends_cycle e || b) n (condemned_of a) (swept_of a)
-one_leads b m n e a h r = ((e, a) ∷ [], (h, (n, r, (refl, refl))), omega arith, omega arith)
+one_leads : (b : Bool) (m n : Machine) (e : Event) (a : Answer) → next_step b m.trail.current ≡ Some e → MayReply m (Step e) n (Answered a) → StepsLead b m ((e, a) ∷ []) (ends_cycle e || b) n (condemned_of a) (swept_of a)
+one_leads b m n e a h r = ((h, (n, r, (refl, refl))), omega arith, omega arith)
 
-pub stops_on : (D : Refusal → Type 0) (b c : Bool) (m n k : Machine) (x y : ℕ) (e : Refusal) → StepsLead b m c n x y → StopsAt D c n e k → StopsAt D b m e k
-stops_on D b c m n k x y e s t = (s.0 ++ t.0, t.1, next_on b c t.1 m n k s.0 t.0 s.1 t.2, t.3)
+pub stops_on : (D : Refusal → Type 0) (b c : Bool) (m n k : Machine) (xs ys : List TakenStep) (x y : ℕ) (e : Refusal) → StepsLead b m xs c n x y → StopsAt D c n ys e k → StopsAt D b m (xs ++ ys) e k
+stops_on D b c m n k xs ys x y e s t = (t.0, next_on b c t.0 m n k xs ys s.0 t.1, t.2)
 
 -- refused before any other
-pub stops_now : (D : Refusal → Type 0) (b : Bool) (m n : Machine) (e : Refusal) → MayStop D b m e → n ≡ m → StopsAt D b m e n
-stops_now D b m n e r h = ([], b, (refl, h), subst (λ (x : Machine). MayStop D b x e) (sym h) r)
+pub stops_now : (D : Refusal → Type 0) (b : Bool) (m n : Machine) (e : Refusal) → MayStop D b m e → n ≡ m → StopsAt D b m [] e n
+stops_now D b m n e r h = (b, (refl, h), subst (λ (x : Machine). MayStop D b x e) (sym h) r)
+
+-- ---- what has come of them
+
+abbrev Since : Type 0 → Type 0 → Type 1
+Since H B = H → B → List TakenStep → Type 0
+
+pub led_none : {H B : Type 0} (P : Since H B) → LeadOn P [] P
+led_none P h b before p = subst (λ (l : List TakenStep). P h b l) (sym (append-nil before)) p
+
+pub led_on : {H B : Type 0} (P Q R : Since H B) (xs ys : List TakenStep) → LeadOn P xs Q → LeadOn Q ys R → LeadOn P (xs ++ ys) R
+led_on P Q R xs ys f g h b before p = subst (λ (l : List TakenStep). R h b l) (append_assoc before xs ys) (g h b (before ++ xs) (f h b before p))
 
 -- ---- one step
 
@@ -131,7 +142,7 @@ taken m n e a r =
 -- ---- a step that the state allows
 
 -- it is refused for a shortage alone
-short : (m : Machine) (x : Event) (e : Refusal) → refusal_of x m.trail.current ≡ None → MayFail m (Step x) m e → IsShortage e
+pub short : (m : Machine) (x : Event) (e : Refusal) → refusal_of x m.trail.current ≡ None → MayFail m (Step x) m e → IsShortage e
 unfolding acted after_result after_step_at applied applied_unless
 short m x e free (inr h) = inl h.1
 short m x e free (inl h) = at (nat_le last_place m.trail.place) h
@@ -161,7 +172,7 @@ next_sweep : (b : Bool) (w : HeapState) (r : ℕ) → waiting_region w ≡ Some 
 unfolding next_step
 next_sweep b w r h = ap (λ (o : Option ℕ). option_map_or (λ r. Some (Sweep r)) o (cond b None (Some (next_mark w)))) h
 
-sweep_allowed : (w : HeapState) (r : ℕ) → waiting_region w ≡ Some r → refusal_of (Sweep r) w ≡ None
+pub sweep_allowed : (w : HeapState) (r : ℕ) → waiting_region w ≡ Some r → refusal_of (Sweep r) w ≡ None
 unfolding refusal_of sweep_refusal first_refusal
 sweep_allowed w r h = ap (λ (b : Bool). cond (not b) (Some (NothingToSweep r)) None) (first_waits w.regions r h)
 
@@ -177,7 +188,7 @@ swept_state : (w : HeapState) (r : ℕ) → waiting_region w ≡ Some r → (pen
 unfolding state_after after_sweep
 swept_state w r h = (first_swept (pool_of w) r h, refl)
 
-pub one_swept : (m n : Machine) (r : ℕ) (a : Answer) → IsLegal m.trail.current → waiting_region m.trail.current ≡ Some r → MayReply m (Step (Sweep r)) n (Answered a) → IsSwept m (swept_of a) n
+pub one_swept : (m n : Machine) (r : ℕ) (a : Answer) → IsLegal m.trail.current → waiting_region m.trail.current ≡ Some r → MayReply m (Step (Sweep r)) n (Answered a) → IsSwept m ((Sweep r, a) ∷ []) (swept_of a) n
 one_swept m n r a legal h reply =
     let w = m.trail.current in
     let t = taken m n (Sweep r) a reply in
@@ -185,7 +196,7 @@ one_swept m n r a legal h reply =
     let none : condemned_of a ≡ 0 = ap (λ (x : Answer). condemned_of x) t.answer ∙ told.0 in
     let state = swept_state w r h in
     record {
-      step = λ b. subst (λ (k : ℕ). StepsLead b m b n k (swept_of a)) none (one_leads b m n (Sweep r) a (next_sweep b w r h) reply);
+      step = λ b. subst (λ (k : ℕ). StepsLead b m ((Sweep r, a) ∷ []) b n k (swept_of a)) none (one_leads b m n (Sweep r) a (next_sweep b w r h) reply);
       few = subst (λ (x : Answer). swept_of x ≤ 256) (sym t.answer) told.1;
       waiting = ap (λ (v : HeapState). pending_regions v.regions) t.state ∙ state.0;
       phase = ap (λ (v : HeapState). v.phase) t.state ∙ state.1;
@@ -207,28 +218,28 @@ none_first [] h = refl
 none_first (x ∷ xs) h = absurd (cc h)
 
 -- the sweeps so far lead from m to n, and remove this number of objects; each region that still waits may have 256 more
-pub record AreSweeping (m : Machine) (count : ℕ) (n : Machine) : Type 0 where
-  pub steps : (b : Bool) → StepsLead b m b n 0 count
+pub record AreSweeping (m : Machine) (steps : List TakenStep) (count : ℕ) (n : Machine) : Type 0 where
+  pub lead : (b : Bool) → StepsLead b m steps b n 0 count
   pub few : count + 256 * length (pending_regions n.trail.current.regions) ≤ 65536
   pub phase : n.trail.current.phase ≡ m.trail.current.phase
 
-pub sweeping_begins : (m : Machine) → IsLegal m.trail.current → AreSweeping m 0 m
-sweeping_begins m legal = record { steps = λ b. none_lead b m; few = let most = few_wait m.trail.current legal in omega (arith, most); phase = refl }
+pub sweeping_begins : (m : Machine) → IsLegal m.trail.current → AreSweeping m [] 0 m
+sweeping_begins m legal = record { lead = λ b. none_lead b m; few = let most = few_wait m.trail.current legal in omega (arith, most); phase = refl }
 
-pub sweeping_on : (m n k : Machine) (x y r : ℕ) → waiting_region n.trail.current ≡ Some r → AreSweeping m x n → IsSwept n y k → AreSweeping m (x + y) k
-sweeping_on m n k x y r h s t =
+pub sweeping_on : (m n k : Machine) (xs ys : List TakenStep) (x y r : ℕ) → waiting_region n.trail.current ≡ Some r → AreSweeping m xs x n → IsSwept n ys y k → AreSweeping m (xs ++ ys) (x + y) k
+sweeping_on m n k xs ys x y r h s t =
     let fewer = one_fewer (pending_regions n.trail.current.regions) r h in
     let left = ap length t.waiting in
     let few = s.few in
     let one = t.few in
     record {
-      steps = λ b. leads_on b b b m n k 0 x 0 y (s.steps b) (t.step b);
+      lead = λ b. leads_on b b b m n k xs ys 0 x 0 y (s.lead b) (t.step b);
       few = omega (arith, fewer, left, few, one);
       phase = t.phase ∙ s.phase;
     }
 
-pub waits_less : (n k : Machine) (y r : ℕ) → waiting_region n.trail.current ≡ Some r → IsSwept n y k → length (pending_regions k.trail.current.regions) < length (pending_regions n.trail.current.regions)
-waits_less n k y r h t =
+pub waits_less : (n k : Machine) (ys : List TakenStep) (y r : ℕ) → waiting_region n.trail.current ≡ Some r → IsSwept n ys y k → length (pending_regions k.trail.current.regions) < length (pending_regions n.trail.current.regions)
+waits_less n k ys y r h t =
     let fewer = one_fewer (pending_regions n.trail.current.regions) r h in
     let left = ap length t.waiting in
     omega (arith, fewer, left)
@@ -237,10 +248,10 @@ pub none_waits : (o : Option ℕ) → ((r : ℕ) → o ≡ Some r → ⊥) → o
 none_waits None h = refl
 none_waits (Some r) h = absurd (h r refl)
 
-pub sweeping_ends : (m n : Machine) (x : ℕ) → waiting_region n.trail.current ≡ None → AreSweeping m x n → AreSwept m x n
-sweeping_ends m n x h s =
+pub sweeping_ends : (m n : Machine) (xs : List TakenStep) (x : ℕ) → waiting_region n.trail.current ≡ None → AreSweeping m xs x n → AreSwept m xs x n
+sweeping_ends m n xs x h s =
     let few = s.few in
-    record { steps = s.steps; few = omega (arith, few); none = none_first (pending_regions n.trail.current.regions) h; phase = s.phase }
+    record { lead = s.lead; few = omega (arith, few); none = none_first (pending_regions n.trail.current.regions) h; phase = s.phase }
 
 -- ---- steps of the marker
 
@@ -282,10 +293,13 @@ marks_allowed w e none (inr (inr (inr h))) =
     let log = h.3 in
     ap (λ (x : Event). refusal_of x w) h.0 ∙ finish_free (marking_of w) h.1 (omega (arith, gray, log)) (sym (ap (λ (l : List ℕ). slice_get l 0) none))
 
+pub mark_allowed : (w : HeapState) (x : Event) → x ≡ next_mark w → pending_regions w.regions ≡ [] → refusal_of x w ≡ None
+mark_allowed w x is none = marks_allowed w x none (subst (Marks w) (sym is) (which w))
+
 pub mark_stopped : (D : Refusal → Type 0) (m : Machine) (x : Event) (e : Refusal) → x ≡ next_mark m.trail.current → pending_regions m.trail.current.regions ≡ [] → MayFail m (Step x) m e ⊎ D e → MayStop D false m e
 mark_stopped D m x e is none f =
     let w = m.trail.current in
-    stopped D false m x e (next_marks w none ∙ ap (λ (y : Event). Some y) (sym is)) (marks_allowed w x none (subst (Marks w) (sym is) (which w))) f
+    stopped D false m x e (next_marks w none ∙ ap (λ (y : Event). Some y) (sym is)) (mark_allowed w x is none) f
 
 -- a step of the marker before its finish leaves which regions wait, and condemns and removes nothing
 abbrev Leaves : HeapState → Event → Type 0
@@ -321,22 +335,22 @@ finish_ends : (w : HeapState) → ((state_after Finish w).phase ≡ Idle) × (sw
 unfolding state_after answer_of after_finish finished
 finish_ends w = (refl, refl)
 
-pub marked_on : (m n : Machine) (e : Event) (a : Answer) (b : Bool) → e ≡ next_mark m.trail.current → pending_regions m.trail.current.regions ≡ [] → MayReply m (Step e) n (Answered a) → b ≡ ends_cycle e → b ≡ false → MovesOn m None n
+pub marked_on : (m n : Machine) (e : Event) (a : Answer) (b : Bool) → e ≡ next_mark m.trail.current → pending_regions m.trail.current.regions ≡ [] → MayReply m (Step e) n (Answered a) → b ≡ ends_cycle e → b ≡ false → MovesOn m ((e, a) ∷ []) None n
 marked_on m n e a b is none reply told going =
     let w = m.trail.current in
     let f : ends_cycle e ≡ false = sym told ∙ going in
     let t = taken m n e a reply in
     let kept = marks_leave w e (subst (Marks w) (sym is) (which w)) f in
     let one = one_leads false m n e a (next_marks w none ∙ ap (λ (y : Event). Some y) (sym is)) reply in (
-      subst (λ (b : Bool). StepsLead false m (b || false) n 0 0) f
-          (subst (λ (k : ℕ). StepsLead false m (ends_cycle e || false) n k 0) (ap (λ (x : Answer). condemned_of x) t.answer ∙ kept.1)
-          (subst (λ (k : ℕ). StepsLead false m (ends_cycle e || false) n (condemned_of a) k) (ap (λ (x : Answer). swept_of x) t.answer ∙ kept.2) one)),
+      subst (λ (b : Bool). StepsLead false m ((e, a) ∷ []) (b || false) n 0 0) f
+          (subst (λ (k : ℕ). StepsLead false m ((e, a) ∷ []) (ends_cycle e || false) n k 0) (ap (λ (x : Answer). condemned_of x) t.answer ∙ kept.1)
+          (subst (λ (k : ℕ). StepsLead false m ((e, a) ∷ []) (ends_cycle e || false) n (condemned_of a) k) (ap (λ (x : Answer). swept_of x) t.answer ∙ kept.2) one)),
       ap (λ (v : HeapState). pending_regions v.regions) t.state ∙ kept.0 ∙ none,
       t.below,
       t.place,
     )
 
-pub marked_last : (m n : Machine) (e : Event) (a : Answer) (b : Bool) (count : ℕ) → e ≡ next_mark m.trail.current → pending_regions m.trail.current.regions ≡ [] → MayReply m (Step e) n (Answered a) → b ≡ ends_cycle e → b ≡ true → count ≡ condemned_of a → MovesOn m (Some count) n
+pub marked_last : (m n : Machine) (e : Event) (a : Answer) (b : Bool) (count : ℕ) → e ≡ next_mark m.trail.current → pending_regions m.trail.current.regions ≡ [] → MayReply m (Step e) n (Answered a) → b ≡ ends_cycle e → b ≡ true → count ≡ condemned_of a → MovesOn m ((e, a) ∷ []) (Some count) n
 marked_last m n e a b count is none reply told last same =
     let w = m.trail.current in
     let f : ends_cycle e ≡ true = sym told ∙ last in
@@ -344,42 +358,38 @@ marked_last m n e a b count is none reply told last same =
     let t = taken m n e a reply in
     let ends = subst (λ (x : Event). ((state_after x w).phase ≡ Idle) × (swept_of (answer_of x w (state_after x w)) ≡ 0)) (sym finish) (finish_ends w) in
     let one = one_leads false m n e a (next_marks w none ∙ ap (λ (y : Event). Some y) (sym is)) reply in
-    subst (λ (k : ℕ). MovesOn m (Some k) n) (sym same) (
-      subst (λ (b : Bool). StepsLead false m (b || false) n (condemned_of a) 0) f
-          (subst (λ (k : ℕ). StepsLead false m (ends_cycle e || false) n (condemned_of a) k) (ap (λ (x : Answer). swept_of x) t.answer ∙ ends.1) one),
+    subst (λ (k : ℕ). MovesOn m ((e, a) ∷ []) (Some k) n) (sym same) (
+      subst (λ (b : Bool). StepsLead false m ((e, a) ∷ []) (b || false) n (condemned_of a) 0) f
+          (subst (λ (k : ℕ). StepsLead false m ((e, a) ∷ []) (ends_cycle e || false) n (condemned_of a) k) (ap (λ (x : Answer). swept_of x) t.answer ∙ ends.1) one),
       ap (λ (v : HeapState). v.phase) t.state ∙ ends.0,
     )
 
 -- the marker's steps so far
-pub marking_on : (m n k : Machine) (o : Option ℕ) → o ≡ None → StepsLead false m false n 0 0 → MovesOn n o k → StepsLead false m false k 0 0 × (pending_regions k.trail.current.regions ≡ [])
-marking_on m n k None is s t = (leads_on false false false m n k 0 0 0 0 s t.0, t.1)
-marking_on m n k (Some x) is s t = absurd (cc is)
+pub marking_on : (m n k : Machine) (xs ys : List TakenStep) (o : Option ℕ) → o ≡ None → StepsLead false m xs false n 0 0 → MovesOn n ys o k → StepsLead false m (xs ++ ys) false k 0 0 × (pending_regions k.trail.current.regions ≡ [])
+marking_on m n k xs ys None is s t = (leads_on false false false m n k xs ys 0 0 0 0 s t.0, t.1)
+marking_on m n k xs ys (Some x) is s t = absurd (cc is)
 
-pub place_on : (m n : Machine) (o : Option ℕ) → o ≡ None → MovesOn m o n → (m.trail.place < last_place) × (n.trail.place ≡ m.trail.place + 1)
-place_on m n None is t = (t.2, t.3)
-place_on m n (Some x) is t = absurd (cc is)
+pub place_on : (m n : Machine) (ys : List TakenStep) (o : Option ℕ) → o ≡ None → MovesOn m ys o n → (m.trail.place < last_place) × (n.trail.place ≡ m.trail.place + 1)
+place_on m n ys None is t = (t.2, t.3)
+place_on m n ys (Some x) is t = absurd (cc is)
 
-pub marking_ends : (m n k : Machine) (o : Option ℕ) (x : ℕ) → o ≡ Some x → StepsLead false m false n 0 0 → MovesOn n o k → MarksLead m x k
-marking_ends m n k None x is s t = absurd (cc is)
-marking_ends m n k (Some y) x is s t =
+pub marking_ends : (m n k : Machine) (xs ys : List TakenStep) (o : Option ℕ) (x : ℕ) → o ≡ Some x → StepsLead false m xs false n 0 0 → MovesOn n ys o k → MarksLead m (xs ++ ys) x k
+marking_ends m n k xs ys None x is s t = absurd (cc is)
+marking_ends m n k xs ys (Some y) x is s t =
     let same : 0 + y ≡ x = (let e : y ≡ x = cc is in omega (arith, e)) in
-    (subst (λ (z : ℕ). StepsLead false m true k z 0) same (leads_on false false true m n k 0 0 y 0 s t.0), t.1)
+    (subst (λ (z : ℕ). StepsLead false m (xs ++ ys) true k z 0) same (leads_on false false true m n k xs ys 0 0 y 0 s t.0), t.1)
 
 -- ---- a whole cycle
 
-pub whole_cycle : (m x y n : Machine) (a b d : ℕ) → AreSwept m a x → MarksLead x b y → AreSwept y d n → IsWholeCycle m b (a + d) n
-whole_cycle m x y n a b d s t f =
+pub whole_cycle : (m x y n : Machine) (xs ys zs : List TakenStep) (a b d : ℕ) → AreSwept m xs a x → MarksLead x ys b y → AreSwept y zs d n → IsWholeCycle m ((xs ++ ys) ++ zs) b (a + d) n
+whole_cycle m x y n xs ys zs a b d s t f =
     let condemned : (0 + b) + 0 ≡ b = omega arith in
     let swept : (a + 0) + d ≡ a + d = omega arith in
-    let steps = leads_on false true true m y n (0 + b) (a + 0) 0 d (leads_on false false true m x y 0 a b 0 (s.steps false) t.0) (f.steps true) in (
-      subst (λ (k : ℕ). StepsLead false m true n k (a + d)) condemned (subst (λ (k : ℕ). StepsLead false m true n ((0 + b) + 0) k) swept steps),
+    let all = (xs ++ ys) ++ zs in
+    let steps = leads_on false true true m y n (xs ++ ys) zs (0 + b) (a + 0) 0 d (leads_on false false true m x y xs ys 0 a b 0 (s.lead false) t.0) (f.lead true) in (
+      subst (λ (k : ℕ). StepsLead false m all true n k (a + d)) condemned (subst (λ (k : ℕ). StepsLead false m all true n ((0 + b) + 0) k) swept steps),
       (f.phase ∙ t.1, f.none),
     )
-
--- a cycle as its two clauses tell it
-pub runs_cycle : (D : Refusal → Type 0) (m n : Machine) (cycle : Result CycleCounts Refusal) → IfOk cycle (λ c. IsWholeCycle m c.condemned c.swept n) → IfErr cycle (λ e. StopsAt D false m e n) → RunsCycle D m cycle n
-runs_cycle D m n (Ok c) whole refused = whole
-runs_cycle D m n (Err e) whole refused = refused
 
 -- the answer about a whole cycle
 pub cycle_told : (cycle : Result CycleCounts Refusal) (c : CycleCounts) (text : List ℕ) → cycle ≡ Ok c → IsTextOrNoMemory (λ text. text ≡ collected_text c.condemned c.swept) text → IsCycleAnswer cycle text
@@ -416,10 +426,12 @@ unfolding next_step
 none_next w h = ap (λ (p : List ℕ). option_map_or (λ r. Some (Sweep r)) (slice_get p 0) None) h
 
 -- from one state two whole cycles do the same
-pub one_cycle : (m k n l : Machine) (condemned swept others removed : ℕ) → now m ≡ now k → IsWholeCycle m condemned swept n → IsWholeCycle k others removed l → (condemned ≡ others) × (swept ≡ removed) × (now n ≡ now l)
-one_cycle m k n l condemned swept others removed same h j =
-    let s = same_steps false true true m k n l h.0.0 j.0.0 same h.0.1 j.0.1 (none_next (now n) h.1.1) (none_next (now l) j.1.1) in (
-      h.0.2 ∙ ap (λ (steps : List TakenStep). sum_by (λ (z : TakenStep). condemned_of z.1) steps) s.0 ∙ sym j.0.2,
-      h.0.3 ∙ ap (λ (steps : List TakenStep). sum_by (λ (z : TakenStep). swept_of z.1) steps) s.0 ∙ sym j.0.3,
+pub one_cycle : (m k n l : Machine) (steps others : List TakenStep) (condemned swept doomed removed : ℕ) → now m ≡ now k → IsWholeCycle m steps condemned swept n → IsWholeCycle k others doomed removed l
+    → (steps ≡ others) × (condemned ≡ doomed) × (swept ≡ removed) × (now n ≡ now l)
+one_cycle m k n l steps others condemned swept doomed removed same h j =
+    let s = same_steps false true true m k n l steps others same h.0.0 j.0.0 (none_next (now n) h.1.1) (none_next (now l) j.1.1) in (
+      s.0,
+      h.0.1 ∙ ap (λ (xs : List TakenStep). sum_by (λ (z : TakenStep). condemned_of z.1) xs) s.0 ∙ sym j.0.1,
+      h.0.2 ∙ ap (λ (xs : List TakenStep). sum_by (λ (z : TakenStep). swept_of z.1) xs) s.0 ∙ sym j.0.2,
       s.1,
     )

@@ -102,12 +102,12 @@ driven_on m b c x n [] h d = subst (IsDriven m) (sym h.1) d
 driven_on m b c x n (s ∷ steps) h d =
     driven_on m (ends_cycle s.0 || b) c h.1.0 n steps h.1.2 (d.0 ++ Step s.0 ∷ [], d.1 ++ Answered s.1 ∷ [], driven_more m d.0 d.1 x h.1.0 (Step s.0) (Answered s.1) d.2 h.1.1)
 
-cycle_driven : (m x n : Machine) (cycle : Result CycleCounts Refusal) → RunsCycle NoneDenies x cycle n → IsDriven m x → IsDriven m n
-cycle_driven m x n (Ok c) h d = driven_on m false true x n h.0.0 h.0.1 d
-cycle_driven m x n (Err e) h d = driven_on m false h.1 x n h.0 h.2 d
+cycle_driven : (m x n : Machine) (steps : List TakenStep) (cycle : Result CycleCounts Refusal) → RunsCycle NoneDenies x steps cycle n → IsDriven m x → IsDriven m n
+cycle_driven m x n steps (Ok c) h d = driven_on m false true x n steps h.0.0 d
+cycle_driven m x n steps (Err e) h d = driven_on m false h.0 x n steps h.1 d
 
 unknown_driven : (m : Machine) (b : Bool) (l text : List ℕ) (c d : Local) → AnswersLine b l c text d → IsDriven m c.machine → IsDriven m d.machine
-unknown_driven m true l text c d h p = cycle_driven m c.machine d.machine h.0.0 h.0.1 p
+unknown_driven m true l text c d h p = cycle_driven m c.machine d.machine h.0.0 h.0.1 h.0.2 p
 unknown_driven m false l text c d h p = subst (λ (x : Local). IsDriven m x.machine) (sym h.1) p
 
 line_driven : (m : Machine) (time : ℕ) (l : List ℕ) (c : Asking) (text : List ℕ) (d : Asking) (b : Bool) → is_known (command_of l) ≡ b → Says time l c text d → IsDriven m c.local.machine → IsDriven m d.local.machine

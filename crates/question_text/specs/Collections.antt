@@ -73,6 +73,17 @@ AreNext b m (s ∷ steps) c n =
     × ((k : Machine) × MayReply m (Step s.0) k (Answered s.1)
     × AreNext (ends_cycle s.0 || b) k steps c n)
 
+-- whatever led to one moment, these steps more lead to the next
+abbrev pub LeadOn : {H B : Type 0} → (H → B → List TakenStep → Type 0) → List TakenStep
+    → (H → B → List TakenStep → Type 0) → Type 0
+LeadOn {H} {B} Led steps Leads =
+    (h : H) (b : B) (before : List TakenStep) → Led h b before → Leads h b (before ++ steps)
+
+-- steps of which this holds lead on so, and no others
+abbrev pub AreTaken : {H B : Type 0} → (H → B → List TakenStep → Type 0)
+    → (List TakenStep → Type 0) → (H → B → List TakenStep → Type 0) → Type 0
+AreTaken Led Are Leads = (steps : List TakenStep) × Are steps × LeadOn Led steps Leads
+
 -- nothing but the machine refuses a step
 abbrev pub NoneDenies : Refusal → Type 0
 NoneDenies e = ⊥
@@ -87,10 +98,9 @@ MayStop Denies b m e =
     (event : Event) × (next_step b m.trail.current ≡ Some event)
     × ((MayFail m (Step event) m e × IsShortage e) ⊎ Denies e)
 
--- the next steps lead from m to n, where another is refused
-abbrev pub StopsAt : (Refusal → Type 0) → Bool → Machine → Refusal → Machine → Type 0
-StopsAt Denies b m e n =
-    (steps : List TakenStep) × (c : Bool) × AreNext b m steps c n × MayStop Denies c n e
+-- these steps, each the next one, lead from m to n, where another is refused
+abbrev pub StopsAt : (Refusal → Type 0) → Bool → Machine → List TakenStep → Refusal → Machine → Type 0
+StopsAt Denies b m steps e n = (c : Bool) × AreNext b m steps c n × MayStop Denies c n e
 
 -- ---- what was collected
 
@@ -104,49 +114,49 @@ abbrev pub condemned_of : Answer → ℕ
 condemned_of (Condemned n) = n
 condemned_of a = 0
 
--- the next steps lead from m to n, and condemn and remove these numbers of objects
-abbrev pub StepsLead : Bool → Machine → Bool → Machine → ℕ → ℕ → Type 0
-StepsLead b m c n condemned swept =
-    (steps : List TakenStep) × AreNext b m steps c n
+-- these steps, each the next one, lead from m to n, and condemn and remove these numbers of objects
+abbrev pub StepsLead : Bool → Machine → List TakenStep → Bool → Machine → ℕ → ℕ → Type 0
+StepsLead b m steps c n condemned swept =
+    AreNext b m steps c n
     × (condemned ≡ sum_by (λ (s : TakenStep). condemned_of s.1) steps)
     × (swept ≡ sum_by (λ (s : TakenStep). swept_of s.1) steps)
 
--- a sweep of the lowest region that waits leads from m to n, and removes this number of objects
-pub record IsSwept (m : Machine) (count : ℕ) (n : Machine) : Type 0 where
-  pub step : (b : Bool) → StepsLead b m b n 0 count
+-- these steps, a sweep of the lowest region that waits, lead from m to n, and remove this number of objects
+pub record IsSwept (m : Machine) (steps : List TakenStep) (count : ℕ) (n : Machine) : Type 0 where
+  pub step : (b : Bool) → StepsLead b m steps b n 0 count
   pub few : count ≤ cell_limit
   pub waiting : pending_regions n.trail.current.regions
       ≡ drop 1 (pending_regions m.trail.current.regions)
   pub phase : n.trail.current.phase ≡ m.trail.current.phase
 
--- sweeps lead from m to n, where no region waits, and remove this number of objects
-pub record AreSwept (m : Machine) (count : ℕ) (n : Machine) : Type 0 where
-  pub steps : (b : Bool) → StepsLead b m b n 0 count
+-- these sweeps lead from m to n, where no region waits, and remove this number of objects
+pub record AreSwept (m : Machine) (steps : List TakenStep) (count : ℕ) (n : Machine) : Type 0 where
+  pub lead : (b : Bool) → StepsLead b m steps b n 0 count
   pub few : count ≤ region_limit * cell_limit
   pub none : pending_regions n.trail.current.regions ≡ []
   pub phase : n.trail.current.phase ≡ m.trail.current.phase
 
 -- the marker's next step leads from m to n; if it is the finish, it condemns this number of objects
-abbrev pub MovesOn : Machine → Option ℕ → Machine → Type 0
-MovesOn m None n =
-    StepsLead false m false n 0 0 × (pending_regions n.trail.current.regions ≡ [])
+abbrev pub MovesOn : Machine → List TakenStep → Option ℕ → Machine → Type 0
+MovesOn m steps None n =
+    StepsLead false m steps false n 0 0 × (pending_regions n.trail.current.regions ≡ [])
     × (m.trail.place < last_place) × (n.trail.place ≡ m.trail.place + 1)
-MovesOn m (Some condemned) n =
-    StepsLead false m true n condemned 0 × (n.trail.current.phase ≡ Idle)
+MovesOn m steps (Some condemned) n =
+    StepsLead false m steps true n condemned 0 × (n.trail.current.phase ≡ Idle)
 
--- steps of the marker, of which the finish is the last, lead from m to n, and condemn this number of objects
-abbrev pub MarksLead : Machine → ℕ → Machine → Type 0
-MarksLead m condemned n =
-    StepsLead false m true n condemned 0 × (n.trail.current.phase ≡ Idle)
+-- these steps of the marker, of which the finish is the last, lead from m to n, and condemn this number of objects
+abbrev pub MarksLead : Machine → List TakenStep → ℕ → Machine → Type 0
+MarksLead m steps condemned n =
+    StepsLead false m steps true n condemned 0 × (n.trail.current.phase ≡ Idle)
 
 -- no cycle runs, and no region waits to be swept
 abbrev pub IsCollected : HeapState → Type 0
 IsCollected w = (w.phase ≡ Idle) × (pending_regions w.regions ≡ [])
 
--- the steps of a whole cycle lead from m to n, and condemn and remove these numbers of objects
-abbrev pub IsWholeCycle : Machine → ℕ → ℕ → Machine → Type 0
-IsWholeCycle m condemned swept n =
-    StepsLead false m true n condemned swept × IsCollected n.trail.current
+-- these steps, a whole cycle, lead from m to n, and condemn and remove these numbers of objects
+abbrev pub IsWholeCycle : Machine → List TakenStep → ℕ → ℕ → Machine → Type 0
+IsWholeCycle m steps condemned swept n =
+    StepsLead false m steps true n condemned swept × IsCollected n.trail.current
 
 -- ---- the answer
 
@@ -161,12 +171,14 @@ IsCycleAnswer (Ok c) text =
     IsTextOrNoMemory (λ text. text ≡ collected_text c.condemned c.swept) text
 IsCycleAnswer (Err e) text = text ≡ refused_text e
 
--- the steps of a cycle led from m to n: all of them, or those up to one that was refused
-abbrev pub RunsCycle : (Refusal → Type 0) → Machine → Result CycleCounts Refusal → Machine → Type 0
-RunsCycle Denies m (Ok c) n = IsWholeCycle m c.condemned c.swept n
-RunsCycle Denies m (Err e) n = StopsAt Denies false m e n
+-- these steps of a cycle led from m to n: all of them, or those up to one that was refused
+abbrev pub RunsCycle : (Refusal → Type 0) → Machine → List TakenStep → Result CycleCounts Refusal
+    → Machine → Type 0
+RunsCycle Denies m steps (Ok c) n = IsWholeCycle m steps c.condemned c.swept n
+RunsCycle Denies m steps (Err e) n = StopsAt Denies false m steps e n
 
 -- the answer of `collect`, which takes steps: those of a whole cycle, or up to one that was refused, whose refusal is the answer
 abbrev pub Collects : (Refusal → Type 0) → Machine → List ℕ → Machine → Type 0
 Collects Denies m text n =
-    (cycle : Result CycleCounts Refusal) × RunsCycle Denies m cycle n × IsCycleAnswer cycle text
+    (steps : List TakenStep) × (cycle : Result CycleCounts Refusal)
+    × RunsCycle Denies m steps cycle n × IsCycleAnswer cycle text

@@ -4,7 +4,7 @@ ghost use Rattle.heap_class.specs.declared.Refusal.TheVariants.{NoMemory};
 ghost use Rattle.heap_mark.specs.MarkSteps.{pending_regions};
 ghost use Rattle.session_text.specs.Replies.{line_answer_text};
 ghost use Rattle.question_text.specs.Appends.{ReturnsText};
-ghost use Rattle.question_text.specs.Collections.{AreSwept, Collects, IsCycleAnswer, IsSwept, IsWholeCycle, MarksLead, MayStop, MovesOn, NoneDenies, StopsAt, collected_text, condemned_of, is_collect, ends_cycle, next_mark, swept_of, waiting_region};
+ghost use Rattle.question_text.specs.Collections.{AreSwept, AreTaken, Collects, IsCycleAnswer, IsSwept, LeadOn, MarksLead, MayStop, MovesOn, NoneDenies, RunsCycle, StopsAt, collected_text, condemned_of, is_collect, ends_cycle, next_mark, swept_of, waiting_region};
 
 use crate::rows::{push_number, push_words};
 use crate::steps::Steps;
@@ -103,9 +103,12 @@ fn sweep_region<S: Steps>(steps: &mut S, by: &mut S::By, region: u64) -> Result<
     requires may { S.may by.old }
     requires waiting { waiting_region (S.seen steps.old).trail.current ≡ Some region }
     ensures still { S.may by.new }
-    ensures swept { IfOk result (λ n. IsSwept (S.seen steps.old) n (S.seen steps.new)) }
+    ensures swept { IfOk result (λ n. AreTaken (S.since steps.old by.old)
+        (λ taken. IsSwept (S.seen steps.old) taken n (S.seen steps.new))
+        (S.since steps.new by.new)) }
     ensures refused { IfErr result (λ e. (b : Bool) → MayStop S.denies b (S.seen steps.old) e) }
-    ensures unchanged { OnErr result (S.seen steps.new ≡ S.seen steps.old) }
+    ensures unchanged { OnErr result ((S.seen steps.new ≡ S.seen steps.old)
+        × LeadOn (S.since steps.old by.old) [] (S.since steps.new by.new)) }
 {
     // Its contract says that the heap is legal.
     steps.machine().world();
@@ -117,9 +120,12 @@ fn sweep_region<S: Steps>(steps: &mut S, by: &mut S::By, region: u64) -> Result<
 fn sweep_all<S: Steps>(steps: &mut S, by: &mut S::By) -> Result<u64, Refusal>
     requires { S.may by.old }
     ensures still { S.may by.new }
-    ensures swept { IfOk result (λ n. AreSwept (S.seen steps.old) n (S.seen steps.new)) }
-    ensures refused { IfErr result
-        (λ e. (b : Bool) → StopsAt S.denies b (S.seen steps.old) e (S.seen steps.new)) }
+    ensures swept { IfOk result (λ n. AreTaken (S.since steps.old by.old)
+        (λ taken. AreSwept (S.seen steps.old) taken n (S.seen steps.new))
+        (S.since steps.new by.new)) }
+    ensures refused { IfErr result (λ e. AreTaken (S.since steps.old by.old)
+        (λ taken. (b : Bool) → StopsAt S.denies b (S.seen steps.old) taken e (S.seen steps.new))
+        (S.since steps.new by.new)) }
 {
     // Its contract says that the heap is legal.
     steps.machine().world();
@@ -136,9 +142,12 @@ fn take_mark<S: Steps>(steps: &mut S, by: &mut S::By) -> Result<Option<u64>, Ref
     requires may { S.may by.old }
     requires swept { pending_regions (S.seen steps.old).trail.current.regions ≡ [] }
     ensures still { S.may by.new }
-    ensures taken { IfOk result (λ end. MovesOn (S.seen steps.old) end (S.seen steps.new)) }
+    ensures taken { IfOk result (λ end. AreTaken (S.since steps.old by.old)
+        (λ taken. MovesOn (S.seen steps.old) taken end (S.seen steps.new))
+        (S.since steps.new by.new)) }
     ensures refused { IfErr result (MayStop S.denies false (S.seen steps.old)) }
-    ensures unchanged { OnErr result (S.seen steps.new ≡ S.seen steps.old) }
+    ensures unchanged { OnErr result ((S.seen steps.new ≡ S.seen steps.old)
+        × LeadOn (S.since steps.old by.old) [] (S.since steps.new by.new)) }
 {
     let event = next_mark_on(steps);
     let is_last = ends_cycle(&event);
@@ -155,9 +164,12 @@ fn mark_cycle<S: Steps>(steps: &mut S, by: &mut S::By) -> Result<u64, Refusal>
     requires may { S.may by.old }
     requires swept { pending_regions (S.seen steps.old).trail.current.regions ≡ [] }
     ensures still { S.may by.new }
-    ensures marked { IfOk result (λ n. MarksLead (S.seen steps.old) n (S.seen steps.new)) }
-    ensures refused { IfErr result
-        (λ e. StopsAt S.denies false (S.seen steps.old) e (S.seen steps.new)) }
+    ensures marked { IfOk result (λ n. AreTaken (S.since steps.old by.old)
+        (λ taken. MarksLead (S.seen steps.old) taken n (S.seen steps.new))
+        (S.since steps.new by.new)) }
+    ensures refused { IfErr result (λ e. AreTaken (S.since steps.old by.old)
+        (λ taken. StopsAt S.denies false (S.seen steps.old) taken e (S.seen steps.new))
+        (S.since steps.new by.new)) }
 {
     loop {
         let condemned = take_mark(steps, by)?;
@@ -173,10 +185,9 @@ fn mark_cycle<S: Steps>(steps: &mut S, by: &mut S::By) -> Result<u64, Refusal>
 pub fn run_cycle<S: Steps>(steps: &mut S, by: &mut S::By) -> Result<CycleCounts, Refusal>
     requires { S.may by.old }
     ensures still { S.may by.new }
-    ensures whole { IfOk result
-        (λ c. IsWholeCycle (S.seen steps.old) c.condemned c.swept (S.seen steps.new)) }
-    ensures refused { IfErr result
-        (λ e. StopsAt S.denies false (S.seen steps.old) e (S.seen steps.new)) }
+    ensures runs { AreTaken (S.since steps.old by.old)
+        (λ taken. RunsCycle S.denies (S.seen steps.old) taken result (S.seen steps.new))
+        (S.since steps.new by.new) }
 {
     let before = sweep_all(steps, by)?;
     let condemned = mark_cycle(steps, by)?;

@@ -8,7 +8,7 @@ ghost use Rattle.std.specs.List.{AllByRecursion};
 ghost use Rattle.session_grammar.specs.Grammar.{Rule, all_rules, command_of_text};
 ghost use Rattle.question_text.specs.declared.question.Question.{Question};
 ghost use Rattle.question_text.specs.declared.asking.Asking.{Asking};
-ghost use Rattle.question_text.specs.Collections.{IsWholeCycle, is_collect};
+ghost use Rattle.question_text.specs.Collections.{IsWholeCycle, TakenStep, is_collect};
 ghost use Rattle.question_text.specs.Comments.{is_comment};
 ghost use Rattle.question_text.specs.Help.{HasForm, help_of};
 ghost use Rattle.question_text.specs.Questions.{QuestionRule, question_of, question_rules};
@@ -92,13 +92,14 @@ pub fn questions_change_nothing()
         → help_of l ≡ Some answer → AskingAnswers l c text d → d ≡ c }
 {}
 
-/// States that the steps of `collect` are one list: from one state two whole cycles condemn and remove as many objects, and end in
-/// one state.
+/// States that the state determines the steps of `collect`: from one state two whole cycles take the same steps with the same
+/// answers, condemn and remove as many objects, and end in one state.
 pub fn collect_is_determined()
-    ensures { (m k n l : Machine) (condemned swept others removed : ℕ)
-        → m.trail.current ≡ k.trail.current
-        → IsWholeCycle m condemned swept n → IsWholeCycle k others removed l
-        → (condemned ≡ others) × (swept ≡ removed) × (n.trail.current ≡ l.trail.current) }
+    ensures { (m k n l : Machine) (steps others : List TakenStep)
+        (condemned swept doomed removed : ℕ) → m.trail.current ≡ k.trail.current
+        → IsWholeCycle m steps condemned swept n → IsWholeCycle k others doomed removed l
+        → (steps ≡ others) × (condemned ≡ doomed) × (swept ≡ removed)
+        × (n.trail.current ≡ l.trail.current) }
 {}
 
 /// States that the lines of a session with questions that the grammar of sessions knows are answered, and leave the machine, as

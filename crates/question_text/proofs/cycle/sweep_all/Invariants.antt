@@ -1,11 +1,12 @@
 use Rattle.std.proofs.Common.{length}
 use Rattle.heap_world.specs.MarkSteps.{pending_regions}
+use Rattle.question_text.specs.Collections.{AreTaken}
 use Rattle.question_text.proofs.CycleSteps.{AreSweeping}
 use Rattle.question_text.proofs.cycle.sweep_all.Given as goal
 
 abbrev pub invariant-loop-region : goal.invariant-loop-region
 invariant-loop-region g l = record {
-  swept : AreSweeping (g.S.Steps.seen l.fn.steps) l.swept (g.S.Steps.seen l.steps);
+  swept : AreTaken (g.S.Steps.since l.fn.steps l.fn.by) (λ taken. AreSweeping (g.S.Steps.seen l.fn.steps) taken l.swept (g.S.Steps.seen l.steps)) (g.S.Steps.since l.steps l.by);
   still : g.S.Steps.may l.by;
 }
 

@@ -22,7 +22,7 @@ CYCLE_LIMIT = 3
 # quickest round. A worker looks for work about once in a millisecond: a reply that waits for that takes longer.
 REPLIES, ROUNDS, PAUSE, MOST_SECONDS = 60, 5, 0.0005, 0.0005
 # The number of acts that a heap with `--roll 1` forgets together, and the most bytes by which the program may grow while it forgets
-# as many. That many definitions take 84,000,000 bytes.
+# as many. That many definitions take 112,000,000 bytes.
 BLOCK, MOST_GROWTH = 500_000, 20_000_000
 # The most bytes of the chronicle for an act, and by how many more the program may grow, whatever clients send.
 ACT_BYTES, MORE_BYTES = 224, 2_000_000

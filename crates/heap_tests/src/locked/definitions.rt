@@ -43,42 +43,85 @@ const TOLD: (Verdict, Verdict) = (Verdict::Holds, Verdict::Fails);
 
 const UNTOLD: (Verdict, Verdict) = (Verdict::Dropped, Verdict::Dropped);
 
-// Returns a class with fields of a kind.
-const fn of(name: &'static [u8], kind: Kind, fields: &'static [&'static [u8]]) -> Shape {
-    Shape { name, kind, fields }
-}
-
 // Definitions that are kept whole, and others: of names with the same letters, of another kind, of a field more; then definitions
 // with a letter and with a field too many.
 const CASES: &[Case] = &[
     Case {
-        class: of(b"Point", Kind::Int, &[b"x", b"y"]),
-        other: of(b"Poin", Kind::Int, &[b"tx", b"y"]),
+        class: Shape {
+            name: b"Point",
+            kind: Kind::Int,
+            fields: &[b"x", b"y"],
+        },
+        other: Shape {
+            name: b"Poin",
+            kind: Kind::Int,
+            fields: &[b"tx", b"y"],
+        },
         said: TOLD,
     },
     Case {
-        class: of(b"Line", Kind::Int, &[b"ab", b"c"]),
-        other: of(b"Line", Kind::Int, &[b"a", b"bc"]),
+        class: Shape {
+            name: b"Line",
+            kind: Kind::Int,
+            fields: &[b"ab", b"c"],
+        },
+        other: Shape {
+            name: b"Line",
+            kind: Kind::Int,
+            fields: &[b"a", b"bc"],
+        },
         said: TOLD,
     },
     Case {
-        class: of(LONG, Kind::Int, SHORT),
-        other: of(LONG, Kind::Long, SHORT),
+        class: Shape {
+            name: LONG,
+            kind: Kind::Int,
+            fields: SHORT,
+        },
+        other: Shape {
+            name: LONG,
+            kind: Kind::Long,
+            fields: SHORT,
+        },
         said: TOLD,
     },
     Case {
-        class: of(b"None", Kind::Int, &[]),
-        other: of(b"None", Kind::Int, &[b"x"]),
+        class: Shape {
+            name: b"None",
+            kind: Kind::Int,
+            fields: &[],
+        },
+        other: Shape {
+            name: b"None",
+            kind: Kind::Int,
+            fields: &[b"x"],
+        },
         said: TOLD,
     },
     Case {
-        class: of(LONG, Kind::Int, LONGER),
-        other: of(LONG, Kind::Int, SHORT),
+        class: Shape {
+            name: LONG,
+            kind: Kind::Int,
+            fields: LONGER,
+        },
+        other: Shape {
+            name: LONG,
+            kind: Kind::Int,
+            fields: SHORT,
+        },
         said: UNTOLD,
     },
     Case {
-        class: of(b"Nine", Kind::Int, NINE),
-        other: of(b"Nine", Kind::Int, &[]),
+        class: Shape {
+            name: b"Nine",
+            kind: Kind::Int,
+            fields: NINE,
+        },
+        other: Shape {
+            name: b"Nine",
+            kind: Kind::Int,
+            fields: &[],
+        },
         said: UNTOLD,
     },
 ];

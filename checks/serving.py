@@ -22,8 +22,15 @@ CYCLE_LIMIT = 3
 # quickest round. A worker looks for work about once in a millisecond: a reply that waits for that takes longer.
 REPLIES, ROUNDS, PAUSE, MOST_SECONDS = 60, 5, 0.0005, 0.0005
 # The number of acts that a heap with `--roll 1` forgets together, and the most bytes by which the program may grow while it forgets
-# as many. That many definitions take 84,000,000 bytes.
+# as many. That many definitions take 112,000,000 bytes.
 BLOCK, MOST_GROWTH = 500_000, 20_000_000
+# The most bytes of the chronicle for an act, and by how many more the program may grow, whatever clients send.
+ACT_BYTES, MORE_BYTES = 224, 2_000_000
+# How many definitions a client sends that aren't kept whole: one of 680 fields, which is refused, and one of 64 fields with long
+# names. Whole, each takes more than 40,000 bytes, or 6,000.
+LONG = 5_000
+REFUSED = b"class A -" + 680 * b" a:int" + b"\n"
+ACCEPTED = b"class " + 64 * b"A" + b" -" + b"".join(b" field%02d%s:int" % (n, 50 * b"x") for n in range(64)) + b"\n"
 # Lines that leave one object, which no register names: a whole cycle condemns and removes it.
 GARBAGE = b"new 0 0 0\nclear 0 0\n"
 
@@ -132,6 +139,28 @@ def forgotten_definitions(program):
     yield "500,000 definitions more, and as many forgotten", found, [b"ok class 0\n", *[True] * 5, b"", (0, ["quit"], b"")]
 
 
+def growth_by(server, client, lines, count):
+    """Sends lines twice. Returns what is answered, each with its number, and by how many bytes the program grows the second time."""
+    client.replies(lines, count)
+    before = bytes_of(server)
+    replies = client.replies(lines, count)
+    return replies, bytes_of(server) - before
+
+
+def long_definitions(program):
+    """Yields whether the program grows by no more than its acts may take while one client sends definitions that are refused, and
+    another one that is accepted, and undoes it each time."""
+    undone = ACCEPTED + b"rewind 1\n"
+    for options in [], ["--roll", "1"]:
+        with Server(program, 2, *options) as server, Client(server) as one, Client(server) as other:
+            refused, growth = growth_by(server, one, LONG * REFUSED, LONG)
+            accepted, more = growth_by(server, other, LONG * undone, 2 * LONG)
+            within = [growth <= LONG * ACT_BYTES + MORE_BYTES or growth, more <= 2 * LONG * ACT_BYTES + MORE_BYTES or more]
+            found = refused, accepted, *within, one.ended(), other.ended(), server.ended()[0]
+        taken = {b"no 5 DuplicateName\n": LONG}, {b"ok class 0\n": LONG, b"ok place 0\n": LONG}
+        yield f"growth by long definitions, {options}", found, (*taken, True, True, b"", b"", 0)
+
+
 def collect_with_spaces(program):
     """Yields what `collect` answers with spaces before and after it."""
     forms = [b"collect", b"collect ", b" collect", b"  collect    "]
@@ -144,7 +173,7 @@ def collect_with_spaces(program):
     yield "`collect` with spaces", found, [b"ok class 0\n", *[b"ok condemned 1 swept 1\n"] * len(forms), b"", (0, ["quit"], b"")]
 
 
-CASES = cycles_by_workers, replies_beside_idle_workers, forgotten_definitions, collect_with_spaces
+CASES = cycles_by_workers, replies_beside_idle_workers, forgotten_definitions, long_definitions, collect_with_spaces
 
 
 def differences(program):

@@ -77,7 +77,7 @@ AreEntries (c ∷ cs) [] = ⊥
 AreEntries (c ∷ cs) (m ∷ ms) =
     ((m ≡ claimed_entry c) × AreEntries cs ms) ⊎ AreEntries (c ∷ cs) ms
 
--- the verdict on claims over the history of the heap, whose oldest entries may have been dropped: its acts are those among all
+-- the verdict on claims over the history of the heap, of which some entries may not be kept: its acts are those among all
 -- calls, which the witness has seen then, and it has of the seat just the share
 abbrev pub IsAudited : HeapSettings → Bool → Chair → List Call → List (Action × Receipt) → Verdict
     → List Call

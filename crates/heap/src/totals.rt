@@ -76,8 +76,8 @@ pub fn total_all<L: Heap, R: Wait>(actors: &[Actor<'_, L, R>]) -> Totals
 }
 
 /// Returns what the actors did, by their claims, if the claims of each stand in the history of the heap, one actor audited after
-/// another as `Actor::audit` does. Fails with Dropped at the first actor whose claims name an entry that was dropped. The witness
-/// has seen all calls up to the last audit. Takes no memory. May wait.
+/// another as `Actor::audit` does. Fails with Dropped at the first actor whose claims name an entry that was dropped or isn't kept
+/// whole. The witness has seen all calls up to the last audit. Takes no memory. May wait.
 pub fn audit_all<L: Heap, R: Wait>(
     actors: &mut [Actor<'_, L, R>],
     witness: &mut Witness<L>,

@@ -23,7 +23,7 @@ pack_tells (Class name sup fields) = tt
 pack_tells (ArrayClass name) = tt
 pack_tells e = refl
 
-told_by : (e : Event) (d : DeedPack) → event_pack e ≡ Some d → action_by d ≡ Step e
+pub told_by : (e : Event) (d : DeedPack) → event_pack e ≡ Some d → action_by d ≡ Step e
 told_by e d is = subst (λ (o : Option DeedPack). IfSome o (λ d. action_by d ≡ Step e)) is (pack_tells e)
 
 same_step : (a b : Event) → Step a ≡ Step b → a ≡ b

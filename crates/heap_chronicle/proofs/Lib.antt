@@ -1,8 +1,13 @@
 pub mod Spare
+pub mod Gets
+pub mod Letters
+pub mod KeptEntries
 pub mod Places
 pub mod Rolls
 pub mod Plain
 pub mod Fields
 pub mod Refusals
 pub mod EventPacks
+pub mod WideDeeds
+pub mod Cases
 pub mod AuditLaws

@@ -1,30 +1,33 @@
 -- A chronicle in two blocks, with an entry more.
-use Rattle.std.proofs.Common.{◌≡◌, ℕ, ◌+◌, ◌-◌, ◌<◌, ◌≤◌, ◌⊎◌, inl, inr, zero, suc, Bool, true, false, List, [], ◌∷◌, ◌++◌, drop, length, length-append, append-nil, refl, sym, ap, ◌∙◌, arith}
-use Rattle.std.specs.Prelude.{slice_get}
+use Rattle.std.proofs.Common.{◌≡◌, ℕ, ◌+◌, ◌-◌, ◌<◌, ◌≤◌, ◌⊎◌, inl, inr, Bool, true, false, List, [], ◌∷◌, ◌++◌, drop, length, length-append, append-nil, refl, sym, ap, ◌∙◌, arith}
+use Rattle.std.specs.Prelude.{Option, slice_get}
 use Rattle.std.proofs.lemmas.List.{append_assoc, drop-append-le, drop-drop, drop_at, length-drop, map-append}
 use Rattle.heap_trail.specs.Limits.{last_place}
 use Rattle.heap_chronicle.specs.declared.entry.Entry.{Entry}
 use Rattle.heap_chronicle.specs.Blocks.{BlockState}
 use Rattle.heap_chronicle.specs.Chronicles.{AreKept, HaveWay, IsChronicle, IsOlderBlock, dropped_of, entries_of}
+use Rattle.heap_chronicle.specs.Kept.{kept_entries, kept_of}
 use Rattle.heap_chronicle.specs.Limits.{block_limit, entry_limit}
+use Rattle.heap_chronicle.proofs.Gets.{get_drop, get_left, get_right}
+use Rattle.heap_chronicle.proofs.KeptEntries.{kept_more, length_kept}
 
 pub limit_within : (rolls : Bool) → entry_limit rolls ≤ last_place
 limit_within true = omega arith
 limit_within false = omega arith
 
 -- how many entries there are
-pub counts : (older newer : List Entry) (dropped : ℕ) (es : List Entry) → AreKept older newer dropped es → length es ≡ dropped + length older + length newer
-counts older newer dropped es k = omega (arith, k.within, ap length k.kept, length-drop dropped es, length-append older newer)
+pub counts : (older newer : List (Option Entry)) (dropped : ℕ) (es : List Entry) → AreKept older newer dropped es → length es ≡ dropped + length older + length newer
+counts older newer dropped es k = omega (arith, k.within, ap length k.kept, length-drop dropped (kept_entries es), length_kept es, length-append older newer)
 
 -- one entry more in the newer block
 pub pushed : (older newer : BlockState) (dropped : ℕ) (rolls : Bool) (es : List Entry) (e : Entry) → HaveWay older newer dropped rolls es → length es < entry_limit rolls
-    → IsChronicle older.entries (newer.entries ++ e ∷ []) dropped rolls (es ++ e ∷ [])
+    → IsChronicle older.entries (newer.entries ++ kept_of e ∷ []) dropped rolls (es ++ e ∷ [])
 pushed older newer dropped rolls es e (k, lt, is) more = (
   record {
     within = omega (arith, k.within, length-append es (e ∷ []));
-    kept = drop-append-le dropped es (e ∷ []) k.within ∙ ap (λ l. l ++ e ∷ []) k.kept ∙ append_assoc older.entries newer.entries (e ∷ []);
+    kept = ap (drop dropped) (kept_more es e) ∙ drop-append-le dropped (kept_entries es) (kept_of e ∷ []) (omega (arith, k.within, length_kept es)) ∙ ap (λ l. l ++ kept_of e ∷ []) k.kept ∙ append_assoc older.entries newer.entries (kept_of e ∷ []);
     older_is = k.older_is;
-    newer_fits = omega (arith, lt, length-append newer.entries (e ∷ []));
+    newer_fits = omega (arith, lt, length-append newer.entries (kept_of e ∷ []));
   },
   is ∙ ap (dropped_of rolls) (sym (length-append es (e ∷ []))),
   omega (arith, more, limit_within rolls, length-append es (e ∷ [])),
@@ -43,7 +46,7 @@ same_block true d o w n count lt (inl none) is = omega (arith, count, lt, none.0
 same_block true d o w n count lt (inr whole) is = omega (arith, count, lt, whole, is)
 same_block false d o w n count lt older is = is
 
-older_count : (older : List Entry) (dropped : ℕ) → IsOlderBlock older dropped → ((length older ≡ 0) × (dropped ≡ 0)) ⊎ (length older ≡ 500000)
+older_count : (older : List (Option Entry)) (dropped : ℕ) → IsOlderBlock older dropped → ((length older ≡ 0) × (dropped ≡ 0)) ⊎ (length older ≡ 500000)
 older_count older dropped (inl none) = inl (ap length none.0, none.1)
 older_count older dropped (inr whole) = inr whole
 
@@ -54,7 +57,7 @@ way_by_roll older newer older' newer' dropped count rolls es full older_is newer
     let total = counts older.entries newer.entries dropped es k in (
       record {
         within = omega (arith, total, count_is);
-        kept = ap (λ n. drop (dropped + n) es) count_is ∙ sym (drop-drop (length older.entries) dropped es) ∙ ap (drop (length older.entries)) k.kept ∙ drop_at older.entries newer.entries (length older.entries) refl ∙ sym (append-nil newer.entries) ∙ (λ i. sym older_is i ++ sym newer_is i);
+        kept = ap (λ n. drop (dropped + n) (kept_entries es)) count_is ∙ sym (drop-drop (length older.entries) dropped (kept_entries es)) ∙ ap (drop (length older.entries)) k.kept ∙ drop_at older.entries newer.entries (length older.entries) refl ∙ sym (append-nil newer.entries) ∙ (λ i. sym older_is i ++ sym newer_is i);
         older_is = inr (ap length older_is ∙ full);
         newer_fits = omega (arith, ap length newer_is);
       },
@@ -69,33 +72,18 @@ way_as_is older newer dropped rolls es lt (k, is, least) =
 
 -- ---- the entry at an index
 
-get_drop : (d n : ℕ) (es : List Entry) → slice_get (drop d es) n ≡ slice_get es (d + n)
-get_drop zero n es = let same : n ≡ 0 + n = omega arith in ap (slice_get es) same
-get_drop (suc d) n [] = refl
-get_drop (suc d) n (e ∷ es) = let same : suc (d + n) ≡ suc d + n = omega arith in get_drop d n es ∙ ap (slice_get (e ∷ es)) same
+in_blocks : (older newer : List (Option Entry)) (dropped : ℕ) (es : List Entry) (n : ℕ) → AreKept older newer dropped es → slice_get (kept_entries es) (dropped + n) ≡ slice_get (older ++ newer) n
+in_blocks older newer dropped es n k = sym (get_drop dropped n (kept_entries es)) ∙ ap (λ l. slice_get l n) k.kept
 
-get_left : (n : ℕ) (xs ys : List Entry) → n < length xs → slice_get (xs ++ ys) n ≡ slice_get xs n
-get_left n [] ys lt = absurd (omega (arith, lt))
-get_left zero (x ∷ xs) ys lt = refl
-get_left (suc n) (x ∷ xs) ys lt = get_left n xs ys (omega (arith, lt))
-
-get_right : (n m : ℕ) (xs ys : List Entry) → m ≡ length xs + n → slice_get (xs ++ ys) m ≡ slice_get ys n
-get_right n m [] ys e = let same : m ≡ n = omega (arith, e) in ap (slice_get ys) same
-get_right n zero (x ∷ xs) ys e = absurd (omega (arith, e))
-get_right n (suc m) (x ∷ xs) ys e = get_right n m xs ys (omega (arith, e))
-
-in_blocks : (older newer : List Entry) (dropped : ℕ) (es : List Entry) (n : ℕ) → AreKept older newer dropped es → slice_get es (dropped + n) ≡ slice_get (older ++ newer) n
-in_blocks older newer dropped es n k = sym (get_drop dropped n es) ∙ ap (λ l. slice_get l n) k.kept
-
-pub in_older : (older newer : List Entry) (dropped : ℕ) (es : List Entry) (at : ℕ) → AreKept older newer dropped es → dropped ≤ at → at - dropped < length older → slice_get es at ≡ slice_get older (at - dropped)
+pub in_older : (older newer : List (Option Entry)) (dropped : ℕ) (es : List Entry) (at : ℕ) → AreKept older newer dropped es → dropped ≤ at → at - dropped < length older → slice_get (kept_entries es) at ≡ slice_get older (at - dropped)
 in_older older newer dropped es at k le lt =
     let same : at ≡ dropped + (at - dropped) = omega (arith, le) in
-    ap (slice_get es) same ∙ in_blocks older newer dropped es (at - dropped) k ∙ get_left (at - dropped) older newer lt
+    ap (slice_get (kept_entries es)) same ∙ in_blocks older newer dropped es (at - dropped) k ∙ get_left (at - dropped) older newer lt
 
-pub in_newer : (older newer : List Entry) (dropped : ℕ) (es : List Entry) (at : ℕ) → AreKept older newer dropped es → dropped ≤ at → length older ≤ at - dropped → slice_get es at ≡ slice_get newer (at - dropped - length older)
+pub in_newer : (older newer : List (Option Entry)) (dropped : ℕ) (es : List Entry) (at : ℕ) → AreKept older newer dropped es → dropped ≤ at → length older ≤ at - dropped → slice_get (kept_entries es) at ≡ slice_get newer (at - dropped - length older)
 in_newer older newer dropped es at k le more =
     let same : at ≡ dropped + (at - dropped) = omega (arith, le) in
-    ap (slice_get es) same ∙ in_blocks older newer dropped es (at - dropped) k ∙ get_right (at - dropped - length older) (at - dropped) older newer (omega (arith, more))
+    ap (slice_get (kept_entries es)) same ∙ in_blocks older newer dropped es (at - dropped) k ∙ get_right (at - dropped - length older) (at - dropped) older newer (omega (arith, more))
 
 -- ---- noting
 

@@ -1,8 +1,9 @@
 -- The chronicle: what was done, and how much of it is kept.
-use Rattle.std.specs.Prelude.{◌≡◌, ℕ, ◌+◌, ◌-◌, ◌*◌, ◌/◌, ◌<◌, ◌≤◌, ◌⊎◌, ◌==◌, Bool, false, true, List, [], ◌++◌, drop, length, map, if◌then◌else◌}
+use Rattle.std.specs.Prelude.{◌≡◌, ℕ, ◌+◌, ◌-◌, ◌*◌, ◌/◌, ◌<◌, ◌≤◌, ◌⊎◌, ◌==◌, Bool, false, true, List, [], ◌++◌, drop, length, map, Option, if◌then◌else◌}
 use Rattle.heap_trail.specs.Limits.{last_place}
 use Rattle.heap_chronicle.specs.declared.entry.Entry.{Entry}
 use Rattle.heap_chronicle.specs.Blocks.{BlockState}
+use Rattle.heap_chronicle.specs.Kept.{kept_entries}
 use Rattle.heap_chronicle.specs.Limits.{block_limit}
 
 -- what was done, in order; whether old entries are dropped in place of refusing new ones; and how many more it has room for
@@ -21,18 +22,18 @@ unfoldable pub entries_of : List (Entry × Unit {0}) → List Entry
 entries_of noted = map (λ n. n.0) noted
 
 -- the older of two blocks is full, or nothing was dropped before it and it is empty
-abbrev pub IsOlderBlock : List Entry → ℕ → Type 0
+abbrev pub IsOlderBlock : List (Option Entry) → ℕ → Type 0
 IsOlderBlock older dropped = ((older ≡ []) × (dropped ≡ 0)) ⊎ (length older ≡ block_limit)
 
--- two blocks keep all entries but the first ones, which were dropped
-pub record AreKept (older newer : List Entry) (dropped : ℕ) (entries : List Entry) : Type 0 where
+-- two blocks have what is kept of all entries but the first ones, which were dropped
+pub record AreKept (older newer : List (Option Entry)) (dropped : ℕ) (entries : List Entry) : Type 0 where
   pub within : dropped ≤ length entries
-  pub kept : drop dropped entries ≡ older ++ newer
+  pub kept : drop dropped (kept_entries entries) ≡ older ++ newer
   pub older_is : IsOlderBlock older dropped
   pub newer_fits : length newer ≤ block_limit
 
 -- the same, and as many were dropped as have to be
-abbrev pub IsChronicle : List Entry → List Entry → ℕ → Bool → List Entry → Type 0
+abbrev pub IsChronicle : List (Option Entry) → List (Option Entry) → ℕ → Bool → List Entry → Type 0
 IsChronicle older newer dropped rolls entries =
     AreKept older newer dropped entries × (dropped ≡ dropped_of rolls (length entries))
     × (length entries ≤ last_place)

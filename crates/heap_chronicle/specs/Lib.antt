@@ -1,5 +1,7 @@
 pub mod Limits
 pub mod History
+pub mod Kept
+pub mod Definitions
 pub mod Packs
 pub mod Blocks
 pub mod Chronicles

@@ -1,5 +1,6 @@
--- Entries in five numbers.
-use Rattle.std.specs.Prelude.{◌≡◌, ℕ, Bool, true, false, List, Option, None, Some, slice_index_or, if◌then◌else◌}
+-- Entries in records of a fixed size.
+use Rattle.std.specs.Prelude.{◌≡◌, ℕ, Bool, true, false, List, Option, None, Some, slice_get, if◌then◌else◌}
+use Rattle.std.specs.Option.{option_map}
 use Rattle.heap_class.specs.declared.Kind.{Kind}
 use Rattle.heap_class.specs.declared.Kind.TheVariants.{Object as NoKind}
 use Rattle.heap_step.specs.declared.Answer.TheVariants as Answers
@@ -14,9 +15,15 @@ use Rattle.heap_chronicle.specs.declared.pack.AnswerPack.{AnswerPack}
 use Rattle.heap_chronicle.specs.declared.pack.Deed.{Deed}
 use Rattle.heap_chronicle.specs.declared.pack.Deed.TheVariants.{New, NewArray, NewPrim, Load, Store, Put, Move, Clear, Snap, Mark, Drain, Finish, Sweep, Rewind}
 use Rattle.heap_chronicle.specs.declared.pack.DeedPack.{DeedPack}
+use Rattle.heap_chronicle.specs.declared.pack.Form.{Form}
+use Rattle.heap_chronicle.specs.declared.pack.Form.TheVariants.{Numbers, Wide, Nothing}
 use Rattle.heap_chronicle.specs.declared.pack.Pack.{Pack}
 use Rattle.heap_chronicle.specs.declared.pack.Told.{Told}
 use Rattle.heap_chronicle.specs.declared.pack.Told.TheVariants.{Class, Object, Null, Value, Done, Pushed, Condemned, Swept, Emptied, Place, Refused, RefusedInFull}
+use Rattle.heap_chronicle.specs.declared.pack.WideDeed.{WideDeed}
+use Rattle.heap_chronicle.specs.declared.pack.WideDeed.TheVariants as WideDeeds
+use Rattle.heap_chronicle.specs.declared.pack.WidePack.{WidePack}
+use Rattle.heap_chronicle.specs.Definitions.{name_of, fields_of}
 use Rattle.heap_chronicle.specs.Details.{refusal_from}
 use Rattle.heap_chronicle.specs.History.{entry}
 
@@ -110,8 +117,24 @@ entry_by p =
 
 -- the pack tells this entry by its numbers
 abbrev pub TellsEntry : Pack → Entry → Type 0
-TellsEntry p e = (p.is_whole ≡ false) × (entry_by p ≡ e)
+TellsEntry p e = (p.form ≡ Numbers) × (entry_by p ≡ e)
 
--- the entry that a pack tells by its numbers, or by its place among whole ones
-unfoldable pub entry_in : List Entry → Pack → Entry
-entry_in whole p = if p.is_whole then slice_index_or whole p.first (entry_by p) else entry_by p
+-- the action of a wide deed
+unfoldable pub wide_action : WideDeed → Action
+wide_action (WideDeeds.Numbers d) = action_by d
+wide_action (WideDeeds.Class sup d) = Step (Events.Class (name_of d) sup (fields_of d))
+wide_action (WideDeeds.ArrayClass d) = Step (Events.ArrayClass (name_of d))
+
+-- the entry that a wide pack tells
+unfoldable pub wide_entry : WidePack → Entry
+wide_entry w = entry w.seat (wide_action w.deed) (outcome_by w.answer)
+
+-- the entry of a pack of this form, if there is one
+abbrev pub entry_as : Form → List WidePack → Pack → Option Entry
+entry_as Numbers wides p = Some (entry_by p)
+entry_as Wide wides p = option_map wide_entry (slice_get wides p.first)
+entry_as Nothing wides p = None
+
+-- the entry that a pack tells by its numbers or by its place among wide ones, if it is kept
+unfoldable pub entry_in : List WidePack → Pack → Option Entry
+entry_in wides p = entry_as p.form wides p

@@ -1,6 +1,6 @@
 //! Receipts against the chronicle.
-ghost use Rattle.std.specs.Prelude.{◌↔◌, ◌<◌, length, IsTrue};
-ghost use Rattle.heap_chronicle.specs.Audits.{AllAreKept, AuditsKept, IsVerdict, NamesEntry};
+ghost use Rattle.std.specs.Prelude.{◌↔◌, ◌<◌, length, IfNone, IfSome, IsTrue};
+ghost use Rattle.heap_chronicle.specs.Audits.{AllAreKept, AuditsKept, IsKnownTurn, IsVerdict, NamesEntry};
 ghost use Rattle.heap_chronicle.specs.Chronicles.{dropped_of};
 
 use crate::chronicle::Chronicle;
@@ -14,21 +14,35 @@ pub enum Verdict {
     Holds,
     /// The turns don't rise, or a receipt names no entry, or another one.
     Fails,
-    /// The turns rise, the receipts whose entries are kept name these, and the entries of others were dropped.
+    /// The turns rise, the receipts whose entries are kept name these, and the entries of others were dropped or aren't kept
+    /// whole.
     Dropped,
 }
 
-// Returns whether the receipt names an entry with this action, or its entry was dropped.
+// Returns whether the receipt names an entry with this action, or None if its entry was dropped or isn't kept.
+fn names_entry(chronicle: &Chronicle, action: &Action, receipt: &Receipt) -> Option<bool>
+    requires { 0 < receipt.now.turn }
+    ensures kept { IfSome result
+        (λ b. IsKnownTurn (dropped_of chronicle.now.rolls (length chronicle.now.entries))
+        chronicle.now.entries receipt.now.turn
+        × (IsTrue b ↔ NamesEntry chronicle.now.entries action.now receipt.now)) }
+    ensures unkept { IfNone result
+        (IsKnownTurn (dropped_of chronicle.now.rolls (length chronicle.now.entries))
+        chronicle.now.entries receipt.now.turn → ⊥) }
+{
+    let at = receipt.turn as usize - 1;
+    chronicle.is_done(at, receipt.seat, action, receipt.answer)
+}
+
+// Returns whether the receipt names an entry with this action, or its entry was dropped or isn't kept.
 fn agrees(chronicle: &Chronicle, action: &Action, receipt: &Receipt) -> bool
     requires { 0 < receipt.now.turn }
     ensures { IsTrue result ↔
-        (dropped_of chronicle.now.rolls (length chronicle.now.entries) < receipt.now.turn
+        (IsKnownTurn (dropped_of chronicle.now.rolls (length chronicle.now.entries))
+        chronicle.now.entries receipt.now.turn
         → NamesEntry chronicle.now.entries action.now receipt.now) }
 {
-    let at = receipt.turn as usize - 1;
-    chronicle
-        .is_done(at, receipt.seat, action, receipt.answer)
-        .unwrap_or(true)
+    names_entry(chronicle, action, receipt).unwrap_or(true)
 }
 
 // Returns whether the turns rise along the list and each receipt whose entry is kept names it, with the action beside it.
@@ -47,12 +61,14 @@ fn all_agree(chronicle: &Chronicle, claims: &[(Action, Receipt)]) -> bool
     true
 }
 
-// Returns whether the entry of each receipt is kept, if this number of entries was dropped.
-fn are_kept(dropped: usize, claims: &[(Action, Receipt)]) -> bool
-    ensures { IsTrue result ↔ AllAreKept dropped claims.now }
+// Returns whether no receipt is that of an entry that was dropped or isn't kept.
+fn are_kept(chronicle: &Chronicle, claims: &[(Action, Receipt)]) -> bool
+    ensures { IsTrue result ↔
+        AllAreKept (dropped_of chronicle.now.rolls (length chronicle.now.entries))
+        chronicle.now.entries claims.now }
 {
     for claim in claims {
-        if claim.1.turn <= dropped as u64 {
+        if !chronicle.is_known((claim.1.turn as usize).saturating_sub(1)) {
             return false;
         }
     }
@@ -61,7 +77,7 @@ fn are_kept(dropped: usize, claims: &[(Action, Receipt)]) -> bool
 
 impl Chronicle {
     /// Returns whether the turns rise along the list and each names an entry with the seat and the answer of its receipt and
-    /// the action beside it; of a receipt whose entry was dropped nothing can be said. Takes no memory.
+    /// the action beside it; of a receipt whose entry was dropped or isn't kept whole nothing can be said. Takes no memory.
     #[tactic(auto, using(crate::proofs::AuditLaws::all_named))]
     pub fn audit(&self, claims: &[(Action, Receipt)]) -> Verdict
         ensures { IsVerdict (dropped_of self.now.rolls (length self.now.entries)) self.now.entries
@@ -70,7 +86,7 @@ impl Chronicle {
         if !all_agree(self, claims) {
             return Verdict::Fails;
         }
-        if are_kept(self.dropped_count(), claims) {
+        if are_kept(self, claims) {
             Verdict::Holds
         } else {
             Verdict::Dropped

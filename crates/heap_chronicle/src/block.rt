@@ -1,25 +1,28 @@
 //! Blocks of entries.
-ghost use Rattle.std.specs.Prelude.{◌≡◌, ◌↔◌, ◌<◌, ◌≤◌, ◌++◌, ◌∷◌, [], true, length, slice_get, Some, IsTrue, OnOk};
+ghost use Rattle.std.specs.Prelude.{◌≡◌, ◌≢◌, ◌↔◌, ◌<◌, ◌≤◌, ◌++◌, ◌∷◌, [], true, false, length, slice_get, Some, None, IfNone, IfSome, IsTrue, MatchBool, OnOk};
+ghost use Rattle.heap_chronicle.specs.declared.pack.Form.TheVariants.{Nothing, Wide};
 ghost use Rattle.heap_chronicle.specs.Blocks.{HasPlace};
 ghost use Rattle.heap_chronicle.specs.History.{entry};
-ghost use Rattle.heap_chronicle.specs.Packs.{entry_by, entry_in, TellsEntry};
+ghost use Rattle.heap_chronicle.specs.Kept.{kept_of};
+ghost use Rattle.heap_chronicle.specs.Packs.{entry_by, entry_in, TellsEntry, wide_entry};
 
 use crate::entry::{Entry, Outcome};
-use crate::pack::{Deed, Pack, Told};
+use crate::pack::{Deed, Form, Pack, Told, WidePack};
 use crate::packing::{fourth_beside, pack_of};
 use crate::same::{is_same_action, is_same_answer};
 use crate::unpacking::{action_in, outcome_in};
+use crate::wide::{is_wide_pack_of, wide_of};
 use heap_class::Kind;
 use heap_trail::Action;
 use std::alloc::{AllocError, Global};
 use std::marker::Model;
 
-// Entries in order. Contracts see them, and how many more it has room for. An entry takes 48 bytes. One that defines a class or
-// an array class takes 120 more and those of its names.
+// Entries in order. Contracts see what is kept of each, and how many more it has room for. An entry takes 48 bytes, and 176 more
+// if it has a wide pack.
 #[derive(Drop)]
 pub(crate) struct EntryBlock {
     packs: Vec<Pack>,
-    whole: Vec<Entry>,
+    wides: Vec<WidePack>,
 }
 
 impl Model for EntryBlock {
@@ -30,16 +33,16 @@ impl Model for EntryBlock {
 
     ghost view = { λ b.
         record {
-          entries = entries_in b.whole.items b.packs.items;
-          room = room_in b.whole b.packs;
+          entries = entries_in b.wides.items b.packs.items;
+          room = room_in b.wides b.packs;
         } };
 
-    ghost invariant = { λ b. AllPlaced (length b.whole.items) b.packs.items };
+    ghost invariant = { λ b. AllPlaced (length b.wides.items) b.packs.items };
 }
 
-// Returns a pack that has the place of a whole entry.
-fn pack_at(place: u64) -> Pack
-    ensures { (result.is_whole ≡ true) × (result.first ≡ place) }
+// Returns a pack of this form that has a place.
+fn pack_at(form: Form, place: u64) -> Pack
+    ensures { (result.form ≡ form) × (result.first ≡ place) }
 {
     Pack {
         first: place,
@@ -48,7 +51,7 @@ fn pack_at(place: u64) -> Pack
         fourth: 0,
         told_first: 0,
         seat: 0,
-        is_whole: true,
+        form,
         deed: Deed::Snap,
         kind: Kind::Object,
         told: Told::Done,
@@ -82,16 +85,35 @@ fn unpack(pack: &Pack) -> Entry
     }
 }
 
-// Returns whether the pack tells the entry of the seat, the action and the answer.
-fn tells(whole: &[Entry], pack: &Pack, seat: u64, action: &Action, answer: Outcome) -> bool
-    requires { HasPlace (length whole.now) pack.now }
-    ensures { IsTrue result ↔ (entry_in whole.now pack.now ≡ entry seat action.now answer) }
+// Returns whether the pack tells the entry of the seat, the action and the answer, or None if it tells none.
+fn tells(
+    wides: &[WidePack],
+    pack: &Pack,
+    seat: u64,
+    action: &Action,
+    answer: Outcome,
+) -> Option<bool>
+    requires { HasPlace (length wides.now) pack.now }
+    ensures kept { IfSome result
+        (λ b. (entry_in wides.now pack.now ≢ None)
+        × (IsTrue b ↔ (entry_in wides.now pack.now ≡ Some (entry seat action.now answer)))) }
+    ensures unkept { IfNone result (entry_in wides.now pack.now ≡ None) }
 {
-    if pack.is_whole {
-        is_of(&whole[pack.first as usize], seat, action, answer)
-    } else {
-        is_of(&unpack(pack), seat, action, answer)
+    match pack.form {
+        Form::Numbers => Some(is_of(&unpack(pack), seat, action, answer)),
+        Form::Wide => {
+            let wide = &wides[pack.first as usize];
+            Some(is_wide_pack_of(wide, seat, action, answer))
+        }
+        Form::Nothing => None,
     }
+}
+
+// Returns whether the pack tells an entry.
+fn tells_some(pack: &Pack) -> bool
+    ensures { MatchBool result (pack.now.form ≢ Nothing) (pack.now.form ≡ Nothing) }
+{
+    !matches!(pack.form, Form::Nothing)
 }
 
 impl EntryBlock {
@@ -102,7 +124,7 @@ impl EntryBlock {
     {
         EntryBlock {
             packs: Vec::new(alloc),
-            whole: Vec::new(alloc),
+            wides: Vec::new(alloc),
         }
     }
 
@@ -120,7 +142,7 @@ impl EntryBlock {
         ensures room { OnOk result (0 < self.new.room) }
     {
         self.packs.reserve(1)?;
-        self.whole.reserve(1)
+        self.wides.reserve(1)
     }
 
     // Removes all entries, and keeps the room.
@@ -130,7 +152,7 @@ impl EntryBlock {
         ensures room { self.old.room ≤ self.new.room }
     {
         self.packs.clear();
-        self.whole.clear();
+        self.wides.clear();
     }
 
     // Appends a pack, which tells this entry by its numbers.
@@ -138,44 +160,85 @@ impl EntryBlock {
     fn push_pack(&mut self, pack: Pack, entry: &Entry)
         requires room { 0 < self.old.room }
         requires tells { TellsEntry pack entry.now }
-        ensures { self.new.entries ≡ self.old.entries ++ entry.now ∷ [] }
+        ensures { self.new.entries ≡ self.old.entries ++ kept_of entry.now ∷ [] }
     {
         let _ = entry;
         self.packs.push_reserved(pack);
     }
 
-    // Appends an entry to the whole ones, and a pack with its place.
-    fn push_whole(&mut self, entry: Entry)
+    // Appends a wide pack, and a pack with its place.
+    fn push_wide(&mut self, wide: WidePack)
         requires { 0 < self.old.room }
-        ensures { self.new.entries ≡ self.old.entries ++ entry ∷ [] }
+        ensures { self.new.entries ≡ self.old.entries ++ Some (wide_entry wide) ∷ [] }
     {
-        let place = self.whole.len() as u64;
-        self.packs.push_reserved(pack_at(place));
-        self.whole.push_reserved(entry);
+        let place = self.wides.len() as u64;
+        self.packs.push_reserved(pack_at(Form::Wide, place));
+        self.wides.push_reserved(wide);
     }
 
-    // Appends an entry, for which there has to be room. Takes no memory.
+    // Appends a pack that tells nothing.
+    fn push_nothing(&mut self)
+        requires { 0 < self.old.room }
+        ensures { self.new.entries ≡ self.old.entries ++ None ∷ [] }
+    {
+        self.packs.push_reserved(pack_at(Form::Nothing, 0));
+    }
+
+    // Appends what is kept of an entry that has no room in a pack. It is never inlined, so that other acts don't pay for it.
+    #[cold]
+    #[inline(never)]
+    fn push_rare(&mut self, entry: &Entry)
+        requires { 0 < self.old.room }
+        ensures { self.new.entries ≡ self.old.entries ++ kept_of entry.now ∷ [] }
+    {
+        match wide_of(entry) {
+            Some(wide) => self.push_wide(wide),
+            None => self.push_nothing(),
+        }
+    }
+
+    // Appends what is kept of an entry, for which there has to be room. Takes no memory.
     #[inline(always)]
     pub(crate) fn push(&mut self, entry: Entry)
         requires { 0 < self.old.room }
-        ensures { self.new.entries ≡ self.old.entries ++ entry ∷ [] }
+        ensures { self.new.entries ≡ self.old.entries ++ kept_of entry ∷ [] }
     {
         match pack_of(&entry) {
             Some(pack) => self.push_pack(pack, &entry),
-            None => self.push_whole(entry),
+            None => self.push_rare(&entry),
         }
     }
 
-    // Returns whether the entry at an index is that of the seat, the action and the answer. Returns false if there is none at
-    // the index. Takes no memory.
-    pub(crate) fn is_done(&self, at: usize, seat: u64, action: &Action, answer: Outcome) -> bool
-        ensures { IsTrue result ↔
-            (slice_get self.now.entries at ≡ Some (entry seat action.now answer)) }
+    // Returns whether the entry at an index is kept. Returns true if there is none at the index.
+    pub(crate) fn is_known(&self, at: usize) -> bool
+        ensures { MatchBool result (slice_get self.now.entries at ≢ Some None)
+            (slice_get self.now.entries at ≡ Some None) }
     {
         if at >= self.packs.len() {
-            return false;
+            return true;
+        }
+        tells_some(&self.packs[at])
+    }
+
+    // Returns whether the entry at an index is that of the seat, the action and the answer, or None if it isn't kept. Returns
+    // false if there is none at the index. Takes no memory.
+    pub(crate) fn is_done(
+        &self,
+        at: usize,
+        seat: u64,
+        action: &Action,
+        answer: Outcome,
+    ) -> Option<bool>
+        ensures kept { IfSome result
+            (λ b. (slice_get self.now.entries at ≢ Some None)
+            × (IsTrue b ↔
+            (slice_get self.now.entries at ≡ Some (Some (entry seat action.now answer))))) }
+        ensures unkept { IfNone result (slice_get self.now.entries at ≡ Some None) }
+    {
+        if at >= self.packs.len() {
+            return Some(false);
         }
         let pack = &self.packs[at];
-        tells(self.whole.as_slice(), pack, seat, action, answer)
+        tells(self.wides.as_slice(), pack, seat, action, answer)
     }
 }

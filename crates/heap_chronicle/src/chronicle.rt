@@ -1,9 +1,10 @@
 //! What was done, in order.
-ghost use Rattle.std.specs.Prelude.{◌≡◌, ◌↔◌, ◌<◌, ◌≤◌, ◌++◌, ◌∷◌, Bool, List, [], length, slice_get, Some, IfNone, IfSome, IsTrue, MatchBool, OnOk};
+ghost use Rattle.std.specs.Prelude.{◌≡◌, ◌↔◌, ◌<◌, ◌≤◌, ◌++◌, ◌∷◌, Bool, false, List, [], length, slice_get, Some, IfNone, IfSome, IsTrue, MatchBool, OnOk};
 ghost use Rattle.heap_trail.specs.Limits.{last_place};
 ghost use Rattle.heap_chronicle.specs.declared.entry.Entry.{Entry};
 ghost use Rattle.heap_chronicle.specs.Chronicles.{HaveWay, IsChronicle, dropped_of, room_of};
 ghost use Rattle.heap_chronicle.specs.History.{entry};
+ghost use Rattle.heap_chronicle.specs.Kept.{is_known_at};
 ghost use Rattle.heap_chronicle.specs.Limits.{block_limit, entry_limit};
 
 use crate::block::EntryBlock;
@@ -25,8 +26,8 @@ const LAST_ENTRY: usize = 0x4000_0000_0000_0000;
 
 /// What was done, in order, an entry for each act. Once 1,000,000 entries are kept it takes no more, or, if it rolls, the next
 /// one has it drop the oldest 500,000. Contracts see all entries, dropped ones included, whether it rolls, and how many entries
-/// more it has room for. An entry takes 48 bytes. One that defines a class or an array class takes 120 more
-/// and those of its names.
+/// more it has room for. An entry takes 48 bytes, and 176 more if it defines a class with at most 8 fields and at most 96 letters
+/// in its name and theirs. A longer definition isn't kept whole: it is counted, and an audit can't tell it from another entry.
 #[derive(Drop)]
 pub struct Chronicle {
     older: EntryBlock,
@@ -89,7 +90,7 @@ fn make_way(older: &mut EntryBlock, newer: &mut EntryBlock, dropped: usize) -> u
 
 impl Chronicle {
     /// Creates a chronicle without entries, which drops old ones or refuses new ones. Takes no memory.
-    #[tactic(auto, unfolding(crate::specs::Chronicles::entries_of))]
+    #[tactic(auto, unfolding(crate::specs::Chronicles::entries_of, crate::specs::Kept::kept_entries))]
     pub fn new(alloc: Global, rolls: bool) -> Chronicle
         ensures entries { result.entries ≡ [] }
         ensures rolls { result.rolls ≡ rolls }
@@ -157,15 +158,34 @@ impl Chronicle {
         self.newer.push(entry);
     }
 
+    /// Returns whether the entry at an index wasn't dropped and is kept whole. Returns true if there is none at the index.
+    pub fn is_known(&self, at: usize) -> bool
+        ensures { result ≡ is_known_at (dropped_of self.now.rolls (length self.now.entries))
+            self.now.entries at }
+    {
+        if at < self.dropped {
+            return false;
+        }
+        let kept = at - self.dropped;
+        let older = self.older.len();
+        if kept < older {
+            self.older.is_known(kept)
+        } else {
+            self.newer.is_known(kept - older)
+        }
+    }
+
     /// Returns whether the entry at an index is that of the seat, the action and the answer, or None if the entry at the index
-    /// was dropped. Returns false if there is none at the index. Takes no memory.
+    /// was dropped or isn't kept whole. Returns false if there is none at the index. Takes no memory.
     pub fn is_done(&self, at: usize, seat: u64, action: &Action, answer: Outcome) -> Option<bool>
         ensures kept { IfSome result
-            (λ b. (dropped_of self.now.rolls (length self.now.entries) ≤ at)
+            (λ b. IsTrue (is_known_at (dropped_of self.now.rolls (length self.now.entries))
+            self.now.entries at)
             × (IsTrue b ↔
             (slice_get self.now.entries at ≡ Some (entry seat action.now answer)))) }
-        ensures dropped { IfNone result
-            (at < dropped_of self.now.rolls (length self.now.entries)) }
+        ensures unkept { IfNone result
+            (is_known_at (dropped_of self.now.rolls (length self.now.entries))
+            self.now.entries at ≡ false) }
     {
         if at < self.dropped {
             return None;
@@ -173,9 +193,9 @@ impl Chronicle {
         let kept = at - self.dropped;
         let older = self.older.len();
         if kept < older {
-            Some(self.older.is_done(kept, seat, action, answer))
+            self.older.is_done(kept, seat, action, answer)
         } else {
-            Some(self.newer.is_done(kept - older, seat, action, answer))
+            self.newer.is_done(kept - older, seat, action, answer)
         }
     }
 }

@@ -1,5 +1,6 @@
-//! Entries in five numbers.
-use heap_class::Kind;
+//! Entries in records of a fixed size.
+use crate::definition::Definition;
+use heap_class::{ClassNo, Kind};
 use std::mem::size_of;
 
 /// The sort of a deed that is told by at most four numbers and a kind.
@@ -84,10 +85,21 @@ pub struct AnswerPack {
     pub second: u64,
 }
 
-/// An entry by its numbers, or by the place of a whole entry.
+/// What a pack tells of its entry.
+#[derive(Clone, Copy)]
+pub enum Form {
+    /// Its numbers.
+    Numbers,
+    /// The place of its wide pack.
+    Wide,
+    /// Nothing: the entry isn't kept.
+    Nothing,
+}
+
+/// An entry by its numbers or by the place of its wide pack, or in place of one that isn't kept.
 #[derive(Clone, Copy)]
 pub struct Pack {
-    /// The deed's first number, or the place of the whole entry.
+    /// The deed's first number, or the place of the wide pack.
     pub first: u64,
     pub second: u64,
     pub third: u64,
@@ -96,7 +108,7 @@ pub struct Pack {
     /// The answer's first number.
     pub told_first: u64,
     pub seat: u16,
-    pub is_whole: bool,
+    pub form: Form,
     pub deed: Deed,
     pub kind: Kind,
     pub told: Told,
@@ -104,5 +116,29 @@ pub struct Pack {
     pub reason: u8,
 }
 
-// The chronicle has one for each act.
+/// A deed by its numbers, or the class that it defines.
+#[derive(Clone, Copy)]
+pub enum WideDeed {
+    /// No definition.
+    Numbers(DeedPack),
+    /// A definition of an instance class.
+    Class {
+        sup: Option<ClassNo>,
+        definition: Definition,
+    },
+    /// A definition of an array class, which has no fields.
+    ArrayClass(Definition),
+}
+
+/// An entry that has no room in a pack.
+#[derive(Clone, Copy)]
+pub struct WidePack {
+    pub seat: u64,
+    pub deed: WideDeed,
+    pub answer: AnswerPack,
+}
+
+// The chronicle has a pack for each act, and a wide one for some.
 const _: () = prove!(size_of::<Pack>() <= 48);
+
+const _: () = prove!(size_of::<WidePack>() <= 176);

@@ -9,7 +9,7 @@ ghost use Rattle.heap_chronicle.specs.History.{entry};
 ghost use Rattle.heap_chronicle.specs.Packs.{action_by, action_with, event_pack, numbered, outcome_by, outcome_with, TellsEntry, fourth_beside, has_second};
 
 use crate::entry::{Entry, Outcome};
-use crate::pack::{AnswerPack, Deed, DeedPack, Pack, Told};
+use crate::pack::{AnswerPack, Deed, DeedPack, Form, Pack, Told};
 use crate::same::details;
 use heap_class::{Kind, Refusal};
 use heap_step::{Answer, Event};
@@ -17,7 +17,7 @@ use heap_trail::Action;
 
 // Returns a deed of these numbers without a kind.
 #[inline(always)]
-fn deed_pack(deed: Deed, first: u64, second: u64, third: u64, fourth: u64) -> DeedPack
+pub(crate) fn deed_pack(deed: Deed, first: u64, second: u64, third: u64, fourth: u64) -> DeedPack
     ensures { result ≡ numbered deed first second third fourth }
 {
     DeedPack {
@@ -158,7 +158,7 @@ fn pack_refusal(refusal: Refusal) -> AnswerPack
 
 // Returns the numbers of an answer.
 #[inline(always)]
-fn pack_outcome(outcome: Outcome) -> AnswerPack
+pub(crate) fn pack_outcome(outcome: Outcome) -> AnswerPack
     ensures { outcome_by result ≡ outcome }
 {
     match outcome {
@@ -200,7 +200,7 @@ fn join_packs(seat: u16, deed: DeedPack, answer: AnswerPack, shared: u64) -> Pac
         fourth: shared,
         told_first: answer.first,
         seat,
-        is_whole: false,
+        form: Form::Numbers,
         deed: deed.deed,
         kind: deed.kind,
         told: answer.told,

@@ -59,7 +59,7 @@ fn is_same_sort(a: Deed, b: Deed) -> bool
 }
 
 // Returns whether two kinds are equal.
-fn is_same_kind(a: Kind, b: Kind) -> bool
+pub(crate) fn is_same_kind(a: Kind, b: Kind) -> bool
     ensures { IsTrue result ↔ (a ≡ b) }
 {
     a == b

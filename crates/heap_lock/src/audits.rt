@@ -8,7 +8,7 @@ use heap_chronicle::{Receipt, Verdict};
 use heap_trail::Action;
 
 /// Returns whether the turns rise along the list and each names an entry with the seat and the answer of its receipt and
-/// the action beside it; of a receipt whose entry was dropped nothing can be said. Takes no memory.
+/// the action beside it; of a receipt whose entry was dropped or isn't kept whole nothing can be said. Takes no memory.
 pub fn audit<L: Heap>(kept: &Kept<L>, claims: &[(Action, Receipt)]) -> Verdict
     ensures { IsVerdict (dropped_of kept.now.rolls (length kept.now.chronicle)) kept.now.chronicle
         claims.now result }

@@ -1,6 +1,7 @@
 //! Worked examples, each over a new heap under its lock.
 ghost use Rattle.heap_lock.specs.Blanks.{IsNamed};
 
+use super::definitions::defining;
 use super::dumps::{Case, dumps_go};
 use super::gates::watched_workers;
 use super::rolls::rolling;
@@ -21,6 +22,7 @@ pub enum Scene {
     Dumps(u64, &'static [Case]),
     WatchedWorkers,
     Rolling,
+    Defining,
     FourThreads,
     Cycles,
     Cuts,
@@ -65,6 +67,7 @@ fn play<L: Heap + Send + Sync, R: Threads + Wait + Sync>(
         Scene::Dumps(points, cases) => dumps_go(stage, user, mutator, points, cases),
         Scene::WatchedWorkers => watched_workers(rt, alloc, shared, user, marker, sweeper),
         Scene::Rolling => rolling(rt, shared, user),
+        Scene::Defining => defining(stage, user),
         Scene::FourThreads => four_threads(rt, shared, actors),
         Scene::Cuts => cuts(stage, user),
         Scene::Cycles => cycles(rt, alloc, shared, user, marker, sweeper),

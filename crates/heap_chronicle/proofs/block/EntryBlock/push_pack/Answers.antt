@@ -1,8 +1,13 @@
-use Rattle.heap_chronicle.proofs.Places.{numbers_placed, numbers_read}
+use Rattle.std.proofs.Common.{sym, ap, ◌∙◌}
+use Rattle.std.specs.Prelude.{Some}
+use Rattle.heap_chronicle.proofs.KeptEntries.{numbers_whole}
+use Rattle.heap_chronicle.proofs.Places.{by_numbers, more_read, numbers_placed}
 use Rattle.heap_chronicle.proofs.block.EntryBlock.push_pack.Goals as goal
 
 pub invariant_of-self : goal.invariant_of-self
-invariant_of-self c = rw c.push_reserved.ensures.items (numbers_placed _ _ c.args.pack c.args.entry.now c.self.invariant c.requires.tells)
+invariant_of-self c = rw c.push_reserved.ensures.items (numbers_placed _ _ c.args.pack c.self.invariant c.requires.tells.0)
 
 pub returns : goal.returns
-returns c = rw (c.push_reserved.ensures.items, ← c.self.view_is) (numbers_read _ _ c.args.pack c.args.entry.now c.requires.tells)
+returns c =
+    let t = c.requires.tells in
+    rw (c.push_reserved.ensures.items, ← c.self.view_is) (more_read _ _ c.args.pack _ (by_numbers _ c.args.pack t.0 ∙ ap Some t.1 ∙ sym (numbers_whole c.args.pack c.args.entry.now t)))

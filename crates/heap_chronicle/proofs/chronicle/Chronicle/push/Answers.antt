@@ -1,4 +1,5 @@
 use Rattle.std.proofs.Common.{◌<◌, List, [], ◌∷◌, ◌++◌, length, sym, ap, ◌∙◌, subst}
+use Rattle.std.specs.Prelude.{Option}
 use Rattle.heap_chronicle.specs.declared.entry.Entry.{Entry}
 use Rattle.heap_chronicle.specs.Chronicles.{ChronicleState, IsChronicle, entries_of}
 use Rattle.heap_chronicle.specs.Limits.{entry_limit}
@@ -14,7 +15,7 @@ invariant_of-self c =
     let noted = ap entries_of c.and-self-inside.ensures ∙ noted_more s.noted.items c.args.entry in
     let done = pushed w.new.older w.new.newer w.result s.rolls es c.args.entry (w.ensures.kept s.rolls es c.self.invariant more) more in
     subst (λ (l : List Entry). IsChronicle w.new.older.entries c.push.new.self.entries w.result s.rolls l) (sym noted)
-    (subst (λ (l : List Entry). IsChronicle w.new.older.entries l w.result s.rolls (es ++ c.args.entry ∷ [])) (sym c.push.ensures) done)
+    (subst (λ (l : List (Option Entry)). IsChronicle w.new.older.entries l w.result s.rolls (es ++ c.args.entry ∷ [])) (sym c.push.ensures) done)
 
 pub returns-clause-entries : goal.returns-clause-entries
 returns-clause-entries c =

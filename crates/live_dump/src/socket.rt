@@ -12,7 +12,7 @@ use std::time::{Clock, Duration, Instant};
 const FIRST_WORD: u64 = 10;
 
 // The milliseconds that a write waits before the stop word is looked at again, and those between two looks at the pin.
-const LOOK: u64 = 100;
+const LOOK: u64 = 50;
 
 // The seconds without a byte after which a dump ends.
 const PATIENCE: u64 = 10;
@@ -72,7 +72,7 @@ impl<'a, L: Heap, R: Clock + Wait> DumpSocket<'a, L, R> {
         }
     }
 
-    // Looks at the pin, unless that was done in the last tenth of a second. Returns whether it is closed or lost.
+    // Looks at the pin, unless that was just done. Returns whether it is closed or lost.
     fn is_lost(&mut self, now: Instant) -> bool {
         if now.duration_since(self.looked) >= Duration::from_millis(LOOK) {
             self.looked = now;

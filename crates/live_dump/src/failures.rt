@@ -20,7 +20,8 @@ pub enum Line {
     Last,
 }
 
-/// The dumps that were refused or lost and of which nothing was told yet: their word, and their number. At most 1,000 lines are told.
+/// The dumps that were refused or lost and of which nothing was told yet: their word, and their number. At most 1,000 lines are
+/// told.
 #[derive(Drop)]
 pub struct Failures {
     pub(crate) word: &'static str,

@@ -17,8 +17,8 @@ const LOOK: u64 = 50;
 // The seconds without a byte after which a dump ends.
 const PATIENCE: u64 = 10;
 
-/// The socket of a client of a dump. A write waits for the client. It fails if the client sent anything before its first byte, once
-/// the stop word is set, once the pin is closed or lost, and if no byte has gone out for ten seconds.
+/// The socket of a client of a dump. A write waits for the client. It fails if the client sent anything before its first byte,
+/// once the stop word is set, once the pin is closed or lost, and if no byte has gone out for ten seconds.
 #[derive(Drop)]
 pub struct DumpSocket<'a, L: Heap, R: Clock + Wait> {
     rt: &'a R,

@@ -25,10 +25,10 @@ struct DumpPort<'a, L: Heap> {
     stop: &'a AtomicBool,
 }
 
-/// Accepts clients, sends each the dump of the state at its accept, with this time in its header, and ends its connection; until the
-/// stop word is set. Three threads do so, or fewer if they can't be started, so that three dumps are sent at once. A dump that runs
-/// at the stop is cut off, and so is one as `DumpSocket` says. Tells on standard error of dumps that are refused or lost. Returns
-/// within a tenth of a second of the stop, beside the time of one piece. May wait.
+/// Accepts clients, sends each the dump of the state at its accept, with this time in its header, and ends its connection;
+/// until the stop word is set. Three threads do so, or fewer if they can't be started. A dump that runs at the stop is cut
+/// off, and so is one whose `DumpSocket` fails. Tells on standard error of dumps that are refused or lost. Returns within a
+/// tenth of a second of the stop, beside the time of one piece. May wait.
 pub fn tend_dumps<L: Heap + Send + Sync, R: Clock + Eprint + Threads + Wait + Sync>(
     rt: &R,
     alloc: Global,

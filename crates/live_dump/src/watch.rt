@@ -39,8 +39,8 @@ impl<'a, L: Heap, R: Wait> PinWatch<'a, L, R> {
         self.pin.set(Some(pin));
     }
 
-    /// Returns the cause with which the pin is lost, Closed if it isn't open any more. Returns None if it is open and not lost, or
-    /// if its number isn't known. Takes the lock, and no memory. May wait.
+    /// Returns the cause with which the pin is lost, Closed if it isn't open any more. Returns None if it is open and not lost,
+    /// or if its number isn't known. Takes the lock, and no memory. May wait.
     pub fn loss(&self) -> Option<LostCause> {
         let pin = self.pin.get()?;
         match self.shared.lock(self.rt).machine().pin_view(pin) {

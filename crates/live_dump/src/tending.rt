@@ -15,6 +15,9 @@ use std::thread;
 use std::thread::{Threads, join};
 use std::time::{Clock, Duration};
 
+// The milliseconds after which a thread looks for a client again: one of the three does about every millisecond.
+const PAUSE: u64 = 3;
+
 // The port for dumps: its heap, its listener, the time in the headers, the dumps that failed, and the stop word.
 #[derive(Drop)]
 struct DumpPort<'a, L: Heap> {
@@ -72,7 +75,7 @@ fn send_dumps<L: Heap + Send + Sync, R: Clock + Eprint + Threads + Wait + Sync>(
         }
         match port.listener.accept() {
             Ok(stream) => dumper = send_dump(rt, alloc, dumper, port, &stream),
-            Err(_) => thread::sleep(rt, Duration::from_millis(1)),
+            Err(_) => thread::sleep(rt, Duration::from_millis(PAUSE)),
         }
         tell_due(rt, port.failures);
     }

@@ -146,7 +146,7 @@ def closed_pin(program):
             told = bool(select.select([server.run.stderr], [], [], SOON)[0])
             seconds = time.monotonic() - begin
             part = client.rest() if kind is SlowReader else all_of(client)
-            found = told, seconds < 0.3, len(part) < len(dump), dump.startswith(part), free_pins(session)
+            found = told, seconds < SOON / 2, len(part) < len(dump), dump.startswith(part), free_pins(session)
             session.end()
             found += (server.ended(),)
         yield "a pin that is closed", found, (True, True, True, True, 4, (0, ["quit"], b"heapdbg: dump Closed\n"))

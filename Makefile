@@ -35,6 +35,7 @@ test:
 	@python3 checks/hunt.py crates/heapdbg/out/heapdbg crates/heapdbg/out/heapdbg.by-rattle
 	@python3 checks/program crates/heapdbg/out/heapdbg crates/heapdbg/out/heapdbg.by-rattle
 	@python3 checks/sockets.py crates/heapdbg/out/heapdbg
+	@python3 checks/dumping.py crates/heapdbg/out/heapdbg
 	@python3 checks/serving.py crates/heapdbg/out/heapdbg
 	@python3 checks/page crates/heapdbg/out/heapdbg
 	@QUIET=1 SECONDS=5 python3 bench/soak.py crates/heapdbg/out/heapdbg

@@ -72,6 +72,8 @@ ROWS = {
     "status": f"(phase (idle|marking)|(place|retained|gray|undrained|unswept|regions|acts) {NUMBER})",
     "path": f"([0-3] [0-7] {ID}|{ID} {NUMBER} {ID})", "history": f"{NUMBER} [a-z]+.*", "pins": f"{NUMBER} {NUMBER} (held {NUMBER}|lost Rewound)",
 }
+# What standard error may tell of dumps.
+TOLD = re.compile(rb"(heapdbg: dump (PinLimit|Rewound)( \(\d+ times\))?\n)*(heapdbg: nothing is told of further dumps\n)?")
 PATTERNS = {word: re.compile(f"({answer})|{REFUSED}") for word, answer in ANSWERS.items()}
 DATA = re.compile("data ([0-9a-f]{2}){1,64}")
 BEFORE = {"dump": DATA, "piece": DATA} | {word: re.compile(f"row {row}") for word, row in ROWS.items()}
@@ -271,7 +273,7 @@ def main(program, seconds):
             child.kill()
     wrong = [text for client in (*clients, *dumpers) for text in client.wrong]
     wanted = "".join(f"session {number} quit\n" for number in range(1, CLIENTS + 1)).encode()
-    if (child.returncode, out) != (0, wanted) or not re.fullmatch(rb"(heapdbg: dump (PinLimit|Rewound)\n)*", error):
+    if (child.returncode, out) != (0, wanted) or not TOLD.fullmatch(error):
         wrong.append(f"the program ended with {child.returncode}, {out!r} and {error!r}")
     for text in wrong[:50]:
         print(text)

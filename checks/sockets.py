@@ -604,33 +604,35 @@ def served_dumps(program):
 
 
 def unread_dump(program):
-    """Yields what others have beside a client that reads nothing of its dump: a session works on, a second client waits, and the
-    server ends with its last session."""
+    """Yields what others have beside a client that reads nothing of its dump: a session works on and has three pins, a second client
+    has its dump, and the server ends with its last session."""
     options = "--regions", "256", "--workers", "1"
     with DumpServer(program, 2, *options) as server, server.client() as client, tempfile.TemporaryDirectory() as folder:
-        last = full_heap(client)
-        with server.dump_client(4096), server.fetching(pathlib.Path(folder) / "dump") as waiting:
-            time.sleep(0.3)
+        last, path = full_heap(client), pathlib.Path(folder, "dump")
+        with server.dump_client(4096), server.fetching(path) as other:
+            told = come(other)
             client.sendall(b"put 0 0 0 7\nopen -\nopen -\nopen -\nopen -\nend\n")
-            answers, beside, waits = all_of(client), exchanged(server, b"clear 0 0\nend\n"), waiting.poll()
-            found = last, answers[:3], answers[-15:], beside, waits, server.ended(), come(waiting)
-    cut = 1, b"cut 0\n", b"heapdbg: cut\n"
-    wanted = b"ok object 0x101fffe0\n", b"ok\n", b"no 25 PinLimit\n", b"ok\n", None, (0, ["quit"] * 2, b""), cut
+            answers, beside = all_of(client), exchanged(server, b"clear 0 0\nend\n")
+            is_whole = told == (0, b"fetched %d\n" % path.stat().st_size, b"")
+            found = last, is_whole, answers[:3], answers[-15:], beside, server.ended()
+    wanted = b"ok object 0x101fffe0\n", True, b"ok\n", b"no 25 PinLimit\n", b"ok\n", (0, ["quit"] * 2, b"")
     yield "a dump that nobody reads", found, wanted
 
 
 def resetting_dumps(program):
-    """Yields how many pins a session can have after each of 302 clients that reset their connection once they have 0, 1, .. 301 bytes
-    of their dump, and what one has that comes while four are open."""
+    """Yields how many pins a session can have after 302 clients, three at a time, that reset their connection once they have 0, 1, .. 301
+    bytes of their dump, and what one has that comes while four are open."""
     with DumpServer(program, 1, "--regions", "256") as server:
         client = server.client()
         full_heap(client)
         with Session(client.makefile("rb"), client.makefile("wb"), client.close) as session:
             counts = []
-            for size in range(302):
-                with server.dump_client(4096) as reader:
-                    reader.recv(size, socket.MSG_WAITALL)
-                    reader.setsockopt(socket.SOL_SOCKET, socket.SO_LINGER, RESET)
+            for first in range(0, 302, 3):
+                with contextlib.ExitStack() as readers:
+                    sizes = range(first, min(first + 3, 302))
+                    for reader, size in [(readers.enter_context(server.dump_client(4096)), size) for size in sizes]:
+                        reader.recv(size, socket.MSG_WAITALL)
+                        reader.setsockopt(socket.SOL_SOCKET, socket.SO_LINGER, RESET)
                 counts.append(free_pins(session))
             pins = [session.open().pin for _ in range(4)]
             refused = server.dump()
@@ -638,9 +640,10 @@ def resetting_dumps(program):
                 session.close(pin)
             whole = server.dump() == session.dump()
         status, words, error = server.ended()
-    # The client that waits for no byte may be served only once the session has all pins, and is then refused, too.
-    found = counts, refused, whole, status, words, error in (PIN_LIMIT, 2 * PIN_LIMIT)
-    yield "dumps that are reset", found, ([4] * 302, b"", True, 0, ["quit"], True)
+    # Clients that wait for no byte may be served only once the session has all pins, and are then refused, too.
+    told = sum(int(line.split()[3][1:]) if b"times" in line else 1 for line in error.splitlines())
+    found = counts, refused, whole, status, words, error.startswith(PIN_LIMIT), told in range(1, 5)
+    yield "dumps that are reset", found, ([4] * 101, b"", True, 0, ["quit"], True, True)
 
 
 def fetched(program, folder, given):

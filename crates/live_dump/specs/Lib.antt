@@ -3,5 +3,6 @@ pub mod Streams
 pub mod StreamTexts
 pub mod Dumps
 pub mod Words
+pub mod FailureLines
 -- What clauses here, and proofs above, cite of the crates below.
 pub use Rattle.dump_pipe.specs.Seats

@@ -3,6 +3,7 @@ use Rattle.std.specs.Prelude.{ℕ, List, Option, Some, None, Result, Ok, Err, co
 use Rattle.heap_lock.specs.LostCause.{LostCause}
 use Rattle.heap_lock.specs.LostCause.TheVariants as cause
 use Rattle.heap_lock.specs.Refusal.{Refusal}
+use Rattle.heap_lock.specs.Refusal.TheVariants as No
 use Rattle.heap_lock.specs.RefusalTable.{refusal_name}
 use Rattle.dump_pump.specs.declared.transfer.Pumped.{Pumped}
 use Rattle.dump_pump.specs.declared.transfer.Pumped.TheVariants.{Done, OutletFailed, Lost, Cancelled}
@@ -20,3 +21,8 @@ word_of_dump (Ok (Done n)) = None
 word_of_dump (Ok (OutletFailed n)) = None
 word_of_dump (Ok (Cancelled n)) = None
 word_of_dump (Err e) = Some (refusal_name e)
+
+-- the cause of the loss of a pin whose view is refused
+abbrev pub cause_of_refusal : Refusal → LostCause
+cause_of_refusal (No.Lost why) = why
+cause_of_refusal e = cause.Closed

@@ -4,6 +4,7 @@ ghost use Rattle.heap_lock.specs.Refusal.TheVariants.{NoMemory};
 ghost use Rattle.live_dump.specs.Dumps.{IsDump, IsDumpRefused, PutsServedPin};
 
 use crate::streams::{LivePin, stream_all};
+use crate::watch::PinWatch;
 use dump_pipe::{Counter, Meter, NewMeter};
 use dump_pump::{Outlet, Pumped};
 use heap_lock::{Dumper, Heap, Refusal};
@@ -11,15 +12,17 @@ use std::alloc::Global;
 use std::sync::Wait;
 use std::thread::Threads;
 
-/// Opens a pin on the current state of a shared heap, puts out its dump as `stream_all` does, and closes the pin, however that
-/// ended. So the dump is of a state with all that the dumper had seen. Returns the dumper, too, which has made these calls and no
-/// others. Fails, and puts out nothing, with PinLimit if 4 pins are open or with NoMemory. Is never cancelled. May wait.
+/// Opens a pin on the current state of a shared heap, tells the watch its number, puts out its dump as `stream_all` does, and
+/// closes the pin, however that ended. So the dump is of a state with all that the dumper had seen. Returns the dumper, too,
+/// which has made these calls and no others. Fails, and puts out nothing, with PinLimit if 4 pins are open or with NoMemory.
+/// Is never cancelled: it ends early only if a put fails or the pin is lost. May wait.
 pub fn dump_current<'a, L: Heap + Send + Sync, O: Outlet, R: Threads + Wait + Sync>(
     rt: &R,
     alloc: Global,
     dumper: Dumper<'a, L, R>,
     time: u64,
     outlet: &mut O,
+    watch: &PinWatch<'_, L, R>,
 ) -> (Result<Pumped, Refusal>, Dumper<'a, L, R>)
     ensures dumped { IfOk result.0
         (IsDump L.config time false dumper.entry result.1 (O.seen outlet.old) (O.seen outlet.new)) }
@@ -31,6 +34,7 @@ pub fn dump_current<'a, L: Heap + Send + Sync, O: Outlet, R: Threads + Wait + Sy
         Ok(pinned) => pinned.pin,
         Err(refusal) => return (Err(refusal), asking),
     };
+    watch.note(pin);
     let live = LivePin {
         dumper: asking,
         pin,

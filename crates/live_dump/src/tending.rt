@@ -1,21 +1,37 @@
-//! The thread that sends dumps.
+//! The threads that send dumps.
 use crate::dump::dump_current;
+use crate::failures::{Failures, tell, tell_due, tell_rest};
 use crate::listener::DumpListener;
-use crate::socket::StoppableSocket;
-use crate::words::word;
+use crate::socket::DumpSocket;
+use crate::watch::PinWatch;
+use crate::words::{cause_word, word};
 use dump_pump::WriteOutlet;
 use heap_lock::{Dumper, Heap, Shared};
 use std::alloc::Global;
 use std::net::TcpStream;
-use std::sync::Wait;
 use std::sync::atomic::{AtomicBool, Ordering};
+use std::sync::{Mutex, Wait};
 use std::thread;
-use std::thread::Threads;
+use std::thread::{Threads, join};
 use std::time::{Clock, Duration};
 
-/// Accepts clients one after another, sends each the dump of the state at its accept, with this time in its header, and ends its
-/// connection; until the stop word is set. A dump that runs then is cut off. Says on standard error if a dump is refused or lost.
-/// Returns within a tenth of a second of the stop, beside the time of one piece. May wait.
+// The milliseconds after which a thread looks for a client again: one of the three does about every millisecond.
+const PAUSE: u64 = 3;
+
+// The port for dumps: its heap, its listener, the time in the headers, the dumps that failed, and the stop word.
+#[derive(Drop)]
+struct DumpPort<'a, L: Heap> {
+    shared: &'a Shared<L>,
+    listener: &'a DumpListener,
+    time: u64,
+    failures: &'a Mutex<Failures>,
+    stop: &'a AtomicBool,
+}
+
+/// Accepts clients, sends each the dump of the state at its accept, with this time in its header, and ends its connection;
+/// until the stop word is set. Three threads do so, or fewer if they can't be started. A dump that runs at the stop is cut
+/// off, and so is one whose `DumpSocket` fails. Tells on standard error of dumps that are refused or lost. Returns within a
+/// tenth of a second of the stop, beside the time of one piece. May wait.
 pub fn tend_dumps<L: Heap + Send + Sync, R: Clock + Eprint + Threads + Wait + Sync>(
     rt: &R,
     alloc: Global,
@@ -24,35 +40,65 @@ pub fn tend_dumps<L: Heap + Send + Sync, R: Clock + Eprint + Threads + Wait + Sy
     time: u64,
     stop: &AtomicBool,
 ) {
-    let mut dumper = Dumper::new(shared, rt, shared.witness(rt));
+    let failures = Mutex::new(Failures::new());
+    let port = &DumpPort {
+        shared,
+        listener: &listener,
+        time,
+        failures: &failures,
+        stop,
+    };
+    join(
+        rt,
+        || send_dumps(rt, alloc, port),
+        || {
+            join(
+                rt,
+                || send_dumps(rt, alloc, port),
+                || send_dumps(rt, alloc, port),
+            );
+        },
+    );
+    tell_rest(rt, &failures);
+}
+
+// Accepts clients one after another, and sends each its dump, until the stop word is set.
+fn send_dumps<L: Heap + Send + Sync, R: Clock + Eprint + Threads + Wait + Sync>(
+    rt: &R,
+    alloc: Global,
+    port: &DumpPort<'_, L>,
+) {
+    let mut dumper = Dumper::new(port.shared, rt, port.shared.witness(rt));
     for _ in rt.forever() {
-        if stop.load(Ordering::SeqCst) {
+        if port.stop.load(Ordering::SeqCst) {
             return;
         }
-        match listener.accept() {
-            Ok(stream) => dumper = send_dump(rt, alloc, dumper, &stream, time, stop),
-            Err(_) => thread::sleep(rt, Duration::from_millis(1)),
+        match port.listener.accept() {
+            Ok(stream) => dumper = send_dump(rt, alloc, dumper, port, &stream),
+            Err(_) => thread::sleep(rt, Duration::from_millis(PAUSE)),
         }
+        tell_due(rt, port.failures);
     }
     unreachable!()
 }
 
-// Sends a client the dump of the current state, and returns the dumper. Sends nothing if the socket has no time limit for writes.
-fn send_dump<'a, L: Heap + Send + Sync, R: Eprint + Threads + Wait + Sync>(
-    rt: &R,
+// Sends a client the dump of the current state, and returns the dumper. Sends nothing if the socket has no time limits.
+fn send_dump<'a, L: Heap + Send + Sync, R: Clock + Eprint + Threads + Wait + Sync>(
+    rt: &'a R,
     alloc: Global,
     dumper: Dumper<'a, L, R>,
+    port: &DumpPort<'_, L>,
     stream: &TcpStream,
-    time: u64,
-    stop: &AtomicBool,
 ) -> Dumper<'a, L, R> {
-    let Ok(socket) = StoppableSocket::new(stream, stop) else {
+    let watch = PinWatch::new(port.shared, rt);
+    let Ok(socket) = DumpSocket::new(rt, stream, port.stop, &watch) else {
         return dumper;
     };
     let mut outlet = WriteOutlet::new(socket);
-    let (ended, dumper) = dump_current(rt, alloc, dumper, time, &mut outlet);
-    if let Some(word) = word(&ended) {
-        let _ = eprintln!(rt; "heapdbg: dump {word}");
+    let (ended, dumper) = dump_current(rt, alloc, dumper, port.time, &mut outlet, &watch);
+    let lost = outlet.into_writer().loss();
+    if let Some(word) = word(&ended).or(lost.map(cause_word)) {
+        tell(rt, port.failures, word);
     }
     dumper
 }

@@ -18,7 +18,7 @@ pub fn word(ended: &Result<Pumped, Refusal>) -> Option<&'static str>
 }
 
 // Returns the word of a cause.
-fn cause_word(cause: LostCause) -> &'static str
+pub(crate) fn cause_word(cause: LostCause) -> &'static str
     ensures { result.now ≡ word_of_cause cause }
 {
     match cause {

@@ -16,21 +16,18 @@ use Rattle.heap_server.specs.declared.sessions.Terms.{Terms}
 use Rattle.heap_server.specs.Http.{ServesClient, asks_http}
 use Rattle.heap_server.specs.Stations.{IsAttended, Station, seat_acts, seat_answers}
 
-pub client_ran : {S : Type 0} (says begins : AnswerRelation S) (bytes : List ℕ) (b i j : Incoming) (c c' : S) (w w' : Outgoing) (ended : Ended) → asks_http bytes ≡ false → i.taken ≡ [] → i.left ≡ prepend_known bytes b.left → Serves says begins i j c w c' w' ended → ServesClient says begins bytes b c w c' w' (Ran ended)
-client_ran {S} says begins bytes b i j c c' w w' ended none fresh left serves = (none, i, j, fresh, left, serves)
-
 -- what a session does that answers questions or doesn't
-abbrev pub ServesSeat : HeapSettings → Bool → ℕ → List ℕ → Incoming → Station → Outgoing → Station → Outgoing → SessionEnd → Type 0
-ServesSeat config questions time bytes b c w c' w' end =
-    ServesClient (AnswersCommand (seat_acts config) (seat_answers config questions) time) (Begins (seat_acts config) (seat_answers config questions) time) bytes b c w c' w' end
+abbrev pub ServesSeat : HeapSettings → Bool → ℕ → List ℕ → Bool → Incoming → Incoming → Station → Outgoing → Station → Outgoing → SessionEnd → Type 0
+ServesSeat config questions time bytes failed b b' c w c' w' end =
+    ServesClient (AnswersCommand (seat_acts config) (seat_answers config questions) time) (Begins (seat_acts config) (seat_answers config questions) time) bytes failed b b' c w c' w' end
 
 -- a session on these terms is one that answers questions, if they say so
-pub attended : (config : HeapSettings) (terms : Terms) (questions failed : Bool) (bytes : List ℕ) (a b : Incoming) (s s' : Chair) (seen : List Call) (c c' : Station) (w w' : Outgoing) (end : SessionEnd) → terms.questions ≡ questions → IsAhead bytes failed a b → IsLegalLedger config seen
-    → c ≡ record { seat = s; seen = seen } → s' ≡ c'.seat → ServesSeat config questions terms.time bytes b c w c' w' end → IsAttended config terms s a w w' s' end
-attended config terms questions failed bytes a b s s' seen c c' w w' end is ahead legal first last serves =
+pub attended : (config : HeapSettings) (terms : Terms) (questions failed : Bool) (bytes : List ℕ) (a b b' : Incoming) (s s' : Chair) (seen : List Call) (c c' : Station) (w w' : Outgoing) (end : SessionEnd) → terms.questions ≡ questions → IsAhead bytes failed a b → IsLegalLedger config seen
+    → c ≡ record { seat = s; seen = seen } → s' ≡ c'.seat → ServesSeat config questions terms.time bytes failed b b' c w c' w' end → IsAttended config terms s a b' w w' s' end
+attended config terms questions failed bytes a b b' s s' seen c c' w w' end is ahead legal first last serves =
     let from : Station = record { seat = s; seen = seen } in
-    let left : ServesSeat config questions terms.time bytes b c w (record { seat = s'; seen = c'.seen }) w' end = subst (λ (x : Chair). ServesSeat config questions terms.time bytes b c w (record { seat = x; seen = c'.seen }) w' end) (sym last) serves in
-    let begun : ServesSeat config questions terms.time bytes b from w (record { seat = s'; seen = c'.seen }) w' end = subst (λ (x : Station). ServesSeat config questions terms.time bytes b x w (record { seat = s'; seen = c'.seen }) w' end) first left in
+    let left : ServesSeat config questions terms.time bytes failed b b' c w (record { seat = s'; seen = c'.seen }) w' end = subst (λ (x : Chair). ServesSeat config questions terms.time bytes failed b b' c w (record { seat = x; seen = c'.seen }) w' end) (sym last) serves in
+    let begun : ServesSeat config questions terms.time bytes failed b b' from w (record { seat = s'; seen = c'.seen }) w' end = subst (λ (x : Station). ServesSeat config questions terms.time bytes failed b b' x w (record { seat = s'; seen = c'.seen }) w' end) first left in
     inl (record {
       bytes = bytes;
       failed = failed;
@@ -39,5 +36,5 @@ attended config terms questions failed bytes a b s s' seen c c' w w' end is ahea
       seen' = c'.seen;
       ahead = ahead;
       legal = legal;
-      serves = subst (λ q. ServesSeat config q terms.time bytes b from w (record { seat = s'; seen = c'.seen }) w' end) (sym is) begun;
+      serves = subst (λ q. ServesSeat config q terms.time bytes failed b b' from w (record { seat = s'; seen = c'.seen }) w' end) (sym is) begun;
     })

@@ -7,5 +7,6 @@ pub mod WorkerRuns
 pub mod HeldSteps
 pub mod FirstLines
 pub mod AheadReads
+pub mod AheadSeen
 pub mod ClientSessions
 pub mod SeatOrder

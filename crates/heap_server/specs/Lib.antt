@@ -2,6 +2,7 @@ pub mod JoinedActs
 pub mod JoinedAnswers
 pub mod Copies
 pub mod ClientEndings
+pub mod SocketTraffic
 pub mod Stations
 pub mod SessionSeats
 pub mod Reports

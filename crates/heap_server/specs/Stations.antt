@@ -16,6 +16,7 @@ use Rattle.heap_server.specs.Ahead.{IsAhead}
 use Rattle.heap_server.specs.Http.{ServesClient}
 use Rattle.heap_server.specs.JoinedActs.{IsJoined}
 use Rattle.heap_server.specs.JoinedAnswers.{AnswersForSeat}
+use Rattle.heap_server.specs.SocketTraffic.{Traffic}
 use Rattle.heap_server.specs.declared.client_session.SessionEnd.{SessionEnd}
 use Rattle.heap_server.specs.declared.client_session.SessionEnd.TheVariants.{Ran}
 use Rattle.heap_server.specs.declared.sessions.SeatEnd.{SeatEnd}
@@ -46,8 +47,9 @@ abbrev pub seat_begins : HeapSettings → Terms → AnswerRelation Station
 seat_begins config terms =
     Begins (seat_acts config) (seat_answers config terms.questions) terms.time
 
--- a client was served from seat `s` over all that an inlet had left, of which `bytes` were read ahead, and left the seat as `s'`
-pub record IsServedFrom (config : HeapSettings) (terms : Terms) (s : Chair) (a : Incoming)
+-- a client was served from seat `s` over what an inlet gave as it went on from `a` to `a'`, of which `bytes` were read ahead, and left
+-- the seat as `s'`
+pub record IsServedFrom (config : HeapSettings) (terms : Terms) (s : Chair) (a a' : Incoming)
     (w w' : Outgoing) (s' : Chair) (end : SessionEnd) : Type 0 where
   pub bytes : List ℕ
   pub failed : Bool
@@ -56,32 +58,36 @@ pub record IsServedFrom (config : HeapSettings) (terms : Terms) (s : Chair) (a :
   pub seen' : List Call
   pub ahead : IsAhead bytes failed a left
   pub legal : IsLegalLedger config seen
-  pub serves : ServesClient (seat_says config terms) (seat_begins config terms) bytes left
+  pub serves : ServesClient (seat_says config terms) (seat_begins config terms) bytes failed left a'
       (record { seat = s; seen = seen }) w (record { seat = s'; seen = seen' }) w' end
 
 -- so it was; or memory for the first line was refused, and nothing was done or put out
-abbrev pub IsAttended : HeapSettings → Terms → Chair → Incoming → Outgoing → Outgoing → Chair
+abbrev pub IsAttended : HeapSettings → Terms → Chair → Incoming → Incoming → Outgoing → Outgoing
+    → Chair
     → SessionEnd → Type 0
-IsAttended config terms s a w w' s' end =
-    IsServedFrom config terms s a w w' s' end
+IsAttended config terms s a a' w w' s' end =
+    IsServedFrom config terms s a a' w w' s' end
     ⊎ ((end ≡ Ran NoMemory) × (s' ≡ s) × (w' ≡ w))
 
--- a client of some socket, which had given and taken nothing before
-abbrev pub IsClientOf : HeapSettings → Terms → Chair → Chair → SessionEnd → Type 0
-IsClientOf config terms s s' end =
-    (a : Incoming) × (w w' : Outgoing) × (a.taken ≡ []) × (w.out ≡ [])
-    × IsAttended config terms s a w w' s' end
+-- the client of a socket was served, from the first byte that the socket gave to the last that it was sent; or memory for the socket was
+-- refused, and nothing was done
+abbrev pub IsClientOf : HeapSettings → Terms → Chair → Chair → SessionEnd → Option Traffic → Type 0
+IsClientOf config terms s s' end (Some traffic) =
+    (a : Incoming) × (w : Outgoing) × (a.taken ≡ []) × (w.out ≡ [])
+    × IsAttended config terms s a traffic.given w traffic.sent s' end
+IsClientOf config terms s s' end None = (end ≡ Ran NoMemory) × (s' ≡ s)
 
 -- a seat of the heap with these tables as its session left it; or there was no thread for the session, which ended by NoMemory
-abbrev pub IsSeatLeft : HeapSettings → List TableId → Terms → Chair → SessionEnd → Option Stub
+abbrev pub IsSeatLeft : HeapSettings → List TableId → Terms → Chair → SessionEnd → Option Traffic
+    → Option Stub
     → Type 0
-IsSeatLeft config tables terms s end (Some stub) =
-    IsChair tables stub.number stub.share × IsClientOf config terms s (chair_of stub) end
-IsSeatLeft config tables terms s end None = end ≡ Ran NoMemory
+IsSeatLeft config tables terms s end traffic (Some stub) =
+    IsChair tables stub.number stub.share × IsClientOf config terms s (chair_of stub) end traffic
+IsSeatLeft config tables terms s end traffic None = end ≡ Ran NoMemory
 
 -- the same of an ending beside its seat
 abbrev pub IsSeatEnd : HeapSettings → List TableId → Terms → Chair → SeatEnd → Type 0
-IsSeatEnd config tables terms s e = IsSeatLeft config tables terms s e.end e.stub
+IsSeatEnd config tables terms s e = IsSeatLeft config tables terms s e.end e.traffic e.stub
 
 -- what the first of the seats led to, each in turn; the others are `rest`
 abbrev pub InTurn : {A : Type 0} → (Chair → A → Type 0) → List Chair → List A → List Chair

@@ -4,7 +4,7 @@ ghost use Rattle.std.specs.Io.KnownBytes.{prepend_known};
 ghost use Rattle.dump_pump.specs.Inlets.{IsTriedRead, count_of};
 ghost use Rattle.dump_pump.specs.Outlets.{log_bytes};
 ghost use Rattle.session_text.specs.Buffers.{IsInletRead};
-ghost use Rattle.heap_server.specs.Ahead.{IsAhead};
+ghost use Rattle.heap_server.specs.Ahead.{BeginsAhead, GoesOn, IsAhead, IsSeenBehind};
 ghost use Rattle.session_grammar.specs.declared.TheConstants.{LINE_LIMIT};
 
 use crate::http::line_end;
@@ -14,6 +14,7 @@ use dump_pump::ledger::note_bytes;
 use session_grammar::LINE_LIMIT;
 use session_text::{Inlet, Take};
 use std::alloc::{AllocError, Global};
+use std::marker::{Brand, Model, PhantomData};
 
 // The most bytes that are read ahead: as many as a session reads at once.
 const ROOM: usize = 65_536;
@@ -86,10 +87,27 @@ pub(crate) fn read_line<I: Inlet>(alloc: Global, inlet: &mut I) -> Result<Ahead,
     })
 }
 
+/// What was read ahead of an inlet, and the inlet then. Each call picks it.
+pub(crate) trait AheadOrigin {
+    ghost use Rattle.heap_server.specs.Ahead.{AheadStart};
+
+    ghost start: { AheadStart };
+}
+
+impl AheadOrigin for Brand {
+    ghost use Rattle.std.specs.Prelude.{[], false, None};
+
+    ghost start = { record {
+      bytes = [];
+      failed = false;
+      first = record { taken = []; left = None; reads = []; failures = 0 };
+    } };
+}
+
 /// An inlet whose first line was read ahead. It gives what came in parts of the same sizes, and then reads on, or fails if the last
-/// read ahead did.
+/// read ahead did. Contracts see the inlet behind what was read ahead, and what was given.
 #[derive(Drop)]
-pub(crate) struct AheadInlet<I: Inlet + Drop> {
+pub(crate) struct AheadInlet<I: Inlet + Drop, B: AheadOrigin> {
     inlet: I,
     ahead: Ahead,
     // How many of the bytes ahead were given, and the number of the next part.
@@ -98,13 +116,39 @@ pub(crate) struct AheadInlet<I: Inlet + Drop> {
     taken: Log<u8, ()>,
     asked: Log<usize, ()>,
     faults: Log<(), ()>,
+    of: PhantomData<B>,
 }
 
-impl<I: Inlet + Drop> AheadInlet<I> {
+impl<I: Inlet + Drop, B: AheadOrigin> Model for AheadInlet<I, B> {
+    ghost use Rattle.std.specs.Prelude.{◌≡◌, drop, length, map};
+    ghost use Rattle.std.specs.Io.KnownBytes.{prepend_known};
+    ghost use Rattle.dump_pump.specs.Outlets.{log_bytes};
+    ghost use Rattle.heap_server.specs.Ahead.{AheadState, IsGivenUpTo};
+
+    ghost Value = { AheadState };
+
+    ghost view = { λ i.
+        record {
+          last = I.seen i.inlet;
+          seen = record {
+            taken = log_bytes i.taken.items;
+            left = prepend_known (drop i.start i.ahead.bytes.items) (I.seen i.inlet).left;
+            reads = map (λ e. e.0) i.asked.items;
+            failures = length i.faults.items;
+          };
+        } };
+
+    ghost invariant = { λ i. (i.ahead.bytes.items ≡ B.start.bytes) × (i.ahead.failed ≡ B.start.failed)
+        × IsGivenUpTo i.start B.start.bytes B.start.failed B.start.first (I.seen i.inlet)
+        (log_bytes i.taken.items) (map (λ e. e.0) i.asked.items) (length i.faults.items) };
+}
+
+impl<I: Inlet + Drop, B: AheadOrigin> AheadInlet<I, B> {
     /// Creates the inlet that begins with what was read ahead.
-    pub(crate) fn new(inlet: I, ahead: Ahead) -> AheadInlet<I>
-        ensures bytes { (result.inlet ≡ inlet) × (result.ahead ≡ ahead) × (result.start ≡ 0) }
-        ensures nothing { log_bytes result.taken.items ≡ [] }
+    pub(crate) fn new(inlet: I, ahead: Ahead) -> AheadInlet<I, B>
+        requires bytes { (ahead.bytes.items ≡ B.start.bytes) × (ahead.failed ≡ B.start.failed) }
+        requires first { I.seen inlet ≡ B.start.first }
+        ensures { BeginsAhead B.start.bytes B.start.first result }
     {
         AheadInlet {
             inlet,
@@ -114,7 +158,16 @@ impl<I: Inlet + Drop> AheadInlet<I> {
             taken: Log::new(),
             asked: Log::new(),
             faults: Log::new(),
+            of: PhantomData,
         }
+    }
+
+    /// Gives the inlet back.
+    pub(crate) fn into_inlet(self) -> I
+        ensures { IsSeenBehind B.start.bytes B.start.failed B.start.first (I.seen result)
+            self.seen }
+    {
+        self.inlet
     }
 }
 
@@ -149,6 +202,8 @@ fn take_on<I: Inlet>(
         (prepend_known (drop start ahead.now.bytes.items) (I.seen inlet.old).left)
         (prepend_known (drop (start + result.1) ahead.now.bytes.items) (I.seen inlet.new).left)
         result.0 room.new }
+    ensures on { GoesOn ahead.now.bytes.items ahead.now.failed start (I.seen inlet.old)
+        (I.seen inlet.new) result room.new }
     ensures fits { start + result.1 < 2 ^ 64 }
 {
     if start < ahead.bytes.len() {
@@ -161,18 +216,8 @@ fn take_on<I: Inlet>(
     (inlet.take(room), 0)
 }
 
-impl<I: Inlet + Drop> Inlet for AheadInlet<I> {
-    ghost use Rattle.std.specs.Prelude.{drop, length, map};
-    ghost use Rattle.std.specs.Io.KnownBytes.{prepend_known};
-    ghost use Rattle.dump_pump.specs.Outlets.{log_bytes};
-
-    ghost seen = { λ i.
-        record {
-          taken = log_bytes i.taken.items;
-          left = prepend_known (drop i.start i.ahead.bytes.items) (I.seen i.inlet).left;
-          reads = map (λ e. e.0) i.asked.items;
-          failures = length i.faults.items;
-        } };
+impl<I: Inlet + Drop, B: AheadOrigin> Inlet for AheadInlet<I, B> {
+    ghost seen = { λ i. i.seen };
 
     fn take(&mut self, room: &mut [u8]) -> Take {
         let (took, given) = take_on(&mut self.inlet, &self.ahead, self.start, self.part, room);

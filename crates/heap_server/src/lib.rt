@@ -14,6 +14,7 @@ pub mod laws;
 pub mod report;
 pub mod sessions;
 pub mod socket;
+pub mod socket_outlet;
 pub mod tended;
 pub mod tending;
 
@@ -30,6 +31,7 @@ pub use report::{tell_sessions, word};
 pub use sessions::{
     Ports, SeatEnd, Served, ServedHeap, ServicePlan, Terms, serve_clients, serve_heap, users,
 };
-pub use socket::{Half, halves};
+pub use socket::{Half, SocketTraffic, halves};
+pub use socket_outlet::SocketOutlet;
 pub use tended::{Staff, Tended, TendedHeap, serve_tended, serve_tended_heap, workers_and_users};
 pub use tending::{Duty, tend};

@@ -11,11 +11,12 @@ use crate::asking::AskingSeat;
 use crate::beside::Beside;
 use crate::client_session::{SessionEnd, serve_client};
 use crate::joined::Joined;
-use dump_pump::{Outlet, WriteOutlet};
+use crate::socket::{SocketTraffic, halves};
+use dump_pump::Outlet;
 use heap_lock::{Blank, Config, Heap, Refusal, Role, Seat, Seats, Shared, Stub};
 use heap_page::PagePort;
 use live_dump::DumpListener;
-use session_text::{Ended, Inlet, ReadInlet};
+use session_text::{Ended, Inlet};
 use std::alloc::{AllocError, Global};
 use std::collections::VecDeque;
 use std::marker::{Brand, Model};
@@ -53,10 +54,12 @@ pub struct ServicePlan {
     pub terms: Terms,
 }
 
-/// How a session ended, and its seat as it left it: None if no thread could be started for it.
+/// How a session ended, what went through its socket, and its seat as it left it. A session without memory for its socket has no
+/// traffic, and one without a thread no seat either.
 #[derive(Drop)]
 pub struct SeatEnd {
     pub end: SessionEnd,
+    pub traffic: Option<SocketTraffic>,
     pub stub: Option<Stub>,
 }
 
@@ -88,24 +91,32 @@ pub fn users(alloc: Global, config: Config, sessions: u64) -> Result<Blank, Refu
     Blank::new(alloc, config, roles.as_slice())
 }
 
-// How a session ended, and its seat as it left it.
+// How a session ended, its inlet, and its seat as it left it.
 #[derive(Drop)]
-struct Attended<L: Heap> {
+struct Attended<L: Heap, I: Inlet + Drop> {
     end: SessionEnd,
+    inlet: I,
     seat: Seat<L>,
 }
 
-// The promise that a client of some socket was served from this seat on these terms.
+// How the session of a socket ended, and what went through the socket.
+#[derive(Drop)]
+struct SocketEnd {
+    end: SessionEnd,
+    traffic: Option<SocketTraffic>,
+}
+
+// The promise that the client of a socket was served from this seat on these terms.
 #[derive(Drop)]
 struct AttendsFrom<L: Heap> {
     seat: Snapshot<Seat<L>>,
     terms: Terms,
 }
 
-impl<L: Heap> Promise<Attended<L>> for AttendsFrom<L> {
+impl<L: Heap> Promise<(SocketEnd, Seat<L>)> for AttendsFrom<L> {
     ghost use Rattle.heap_server.specs.Stations.{IsClientOf};
 
-    ghost kept_by = { λ p r. IsClientOf L.config p.terms p.seat.value r.seat r.end };
+    ghost kept_by = { λ p r. IsClientOf L.config p.terms p.seat.value r.1 r.0.end r.0.traffic };
 }
 
 // Serves one client from a seat, between an inlet and an outlet, unless its first line begins an HTTP request: then it reads nothing
@@ -118,30 +129,31 @@ fn attend<L: Heap, R: Wait, I: Inlet + Drop, O: Outlet>(
     inlet: I,
     outlet: &mut O,
     terms: Terms,
-) -> Attended<L>
+) -> Attended<L, I>
     requires { seat.role ≡ User }
-    ensures { IsAttended L.config terms seat (I.seen inlet) (O.seen outlet.old) (O.seen outlet.new)
-        result.seat result.end }
+    ensures { IsAttended L.config terms seat (I.seen inlet) (I.seen result.inlet)
+        (O.seen outlet.old) (O.seen outlet.new) result.seat result.end }
 {
     let mut inlet = inlet;
     let Ok(ahead) = read_line(alloc, &mut inlet) else {
         let end = SessionEnd::Ran(Ended::NoMemory);
-        return Attended { end, seat };
+        return Attended { end, inlet, seat };
     };
     let mut joined = Joined::new(shared, rt, seat, shared.witness(rt));
     if terms.questions {
         let mut asking = AskingSeat::new(joined);
-        let end = serve_client(alloc, inlet, ahead, outlet, &mut asking, terms.time);
+        let (end, inlet) = serve_client(alloc, inlet, ahead, outlet, &mut asking, terms.time);
         let seat = asking.into_seat();
-        Attended { end, seat }
+        Attended { end, inlet, seat }
     } else {
-        let end = serve_client(alloc, inlet, ahead, outlet, &mut joined, terms.time);
+        let (end, inlet) = serve_client(alloc, inlet, ahead, outlet, &mut joined, terms.time);
         let seat = joined.into_seat();
-        Attended { end, seat }
+        Attended { end, inlet, seat }
     }
 }
 
-// Serves the client of a socket from a seat.
+// Serves the client of a socket from a seat, and gives the seat back. Ends by NoMemory, and does nothing, if memory for the socket is
+// refused.
 fn session<L: Heap, R: Wait>(
     rt: &R,
     alloc: Global,
@@ -149,20 +161,24 @@ fn session<L: Heap, R: Wait>(
     seat: Seat<L>,
     stream: TcpStream,
     terms: Terms,
-) -> Attended<L>
+) -> (SocketEnd, Seat<L>)
     requires { seat.role ≡ User }
-    ensures { IsClientOf L.config terms seat result.seat result.end }
+    ensures { IsClientOf L.config terms seat result.1 result.0.end result.0.traffic }
 {
-    let _ = stream.set_nodelay(true);
-    let reader = ReadInlet::new(&stream);
-    let mut writer = WriteOutlet::new(&stream);
-    attend(rt, alloc, shared, seat, reader, &mut writer, terms)
+    let Ok((inlet, outlet)) = halves(alloc, stream) else {
+        let end = SessionEnd::Ran(Ended::NoMemory);
+        return (SocketEnd { end, traffic: None }, seat);
+    };
+    let mut outlet = outlet;
+    let Attended { end, inlet, seat } = attend(rt, alloc, shared, seat, inlet, &mut outlet, terms);
+    let traffic = Some(SocketTraffic::of(&inlet, &outlet));
+    (SocketEnd { end, traffic }, seat)
 }
 
 // A session in a thread; None if no thread could be started. Contracts see the seat and the terms that it began with.
 #[derive(Drop)]
 struct Running<L: Heap> {
-    thread: Option<PromisedHandle<Attended<L>, AttendsFrom<L>>>,
+    thread: Option<PromisedHandle<(SocketEnd, Seat<L>), AttendsFrom<L>>>,
 }
 
 impl<L: Heap> Model for Running<L> {
@@ -204,13 +220,17 @@ fn await_one<L: Heap, R: Threads>(rt: &R, running: Running<L>) -> SeatEnd
 {
     match running.thread {
         Some(thread) => {
-            let Attended { end, seat } = thread.join(rt);
+            let (SocketEnd { end, traffic }, seat) = thread.join(rt);
             let stub = Some(seat.into_stub());
-            SeatEnd { end, stub }
+            SeatEnd { end, traffic, stub }
         }
         None => {
             let end = SessionEnd::Ran(Ended::NoMemory);
-            SeatEnd { end, stub: None }
+            SeatEnd {
+                end,
+                traffic: None,
+                stub: None,
+            }
         }
     }
 }

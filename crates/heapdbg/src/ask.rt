@@ -4,7 +4,6 @@ ghost use Rattle.heapdbg.specs.ServeOutcomes.{IsServerAsked, asked_outcome};
 
 use crate::failure::Fault;
 use crate::reasons::tell_port;
-use crate::socket_outlet::SocketOutlet;
 use dump_pump::Outlet;
 use heap_server::{Asked, ask, halves};
 use session_text::Inlet;
@@ -38,8 +37,7 @@ where
         return Err(Fault::Memory);
     };
     let mut socket = receiving;
-    let outlet = SocketOutlet::new(sending.into_writer());
-    let client = ask(rt, rt.alloc(), input, outlet, &mut socket, writer);
+    let client = ask(rt, rt.alloc(), input, sending, &mut socket, writer);
     outcome(client.asked)
 }
 

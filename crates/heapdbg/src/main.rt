@@ -15,7 +15,6 @@ mod reasons;
 mod request;
 mod save;
 mod serve;
-mod socket_outlet;
 mod task;
 mod terminals;
 

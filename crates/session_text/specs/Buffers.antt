@@ -17,3 +17,11 @@ IsInletRead buf buf' a b End =
 IsInletRead buf buf' a b Failed =
     (buf' ≡ buf) × (b.taken ≡ a.taken) × (b.reads ≡ a.reads ++ 0 ∷ [])
     × (b.failures ≡ a.failures + 1) × Keeps (whole a) (whole b)
+
+-- the last read gave nothing
+abbrev pub IsLastEmpty : Incoming → Type 0
+IsLastEmpty b = (before : List ℕ) × (b.reads ≡ before ++ 0 ∷ [])
+
+-- the last read gave nothing, and no byte is left, if those are known
+abbrev pub HasEnded : Incoming → Type 0
+HasEnded b = NothingLeft b × IsLastEmpty b

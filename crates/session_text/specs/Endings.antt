@@ -6,7 +6,8 @@ use Rattle.session_text.specs.declared.Ended.TheVariants.{Quit, Eof, CutLine, To
 use Rattle.session_text.specs.declared.TheConstants.{READ_LIMIT}
 use Rattle.session_text.specs.declared.answer.Flow.{Flow}
 use Rattle.session_text.specs.declared.answer.Flow.TheVariants.{Next, Fault}
-use Rattle.dump_pump.specs.Inlets.{Incoming, NothingLeft}
+use Rattle.dump_pump.specs.Inlets.{Incoming}
+use Rattle.session_text.specs.Buffers.{HasEnded}
 use Rattle.session_text.specs.Writes.{IsTextWritten}
 
 -- the next line comes, unless a write failed
@@ -27,8 +28,8 @@ EndsWith line page w w' ended result =
 -- the reader before and after, if no write failed
 abbrev pub ReaderEnds : Incoming → Incoming → Ended → Type 0
 ReaderEnds a b Quit = b.failures ≡ a.failures
-ReaderEnds a b Eof = NothingLeft b × (b.failures ≡ a.failures)
-ReaderEnds a b CutLine = NothingLeft b × (b.failures ≡ a.failures)
+ReaderEnds a b Eof = HasEnded b × (b.failures ≡ a.failures)
+ReaderEnds a b CutLine = HasEnded b × (b.failures ≡ a.failures)
 ReaderEnds a b TooLong = b.failures ≡ a.failures
 ReaderEnds a b ReadFault = b.failures ≡ a.failures + 1
 ReaderEnds a b TooManyReads =

@@ -12,7 +12,8 @@ use Rattle.session_grammar.specs.declared.command.Command.{Command}
 use Rattle.session_grammar.specs.declared.command.Command.TheVariants.{End}
 use Rattle.session_text.specs.Answers.{Reaction, AnswerRelation}
 use Rattle.session_grammar.specs.Grammar.{command_of}
-use Rattle.dump_pump.specs.Inlets.{Incoming, NothingLeft, whole}
+use Rattle.dump_pump.specs.Inlets.{Incoming, whole}
+use Rattle.session_text.specs.Buffers.{HasEnded}
 use Rattle.session_grammar.specs.Lines.{NoLf}
 use Rattle.session_text.specs.Writes.{IsTextWritten, IsTextAdded}
 
@@ -134,9 +135,9 @@ IsFirst says begins bytes c page w rest c' page' w' (Some Fault) =
 abbrev pub EndsCleanly : List ℕ → Incoming → Incoming → Ended → List ℕ → Type 0
 EndsCleanly rest a b Quit tail = IsQuit rest × (tail ≡ []) × (b.failures ≡ a.failures)
 EndsCleanly rest a b Eof tail =
-    (rest ≡ []) × NothingLeft b × (tail ≡ []) × (b.failures ≡ a.failures)
+    (rest ≡ []) × HasEnded b × (tail ≡ []) × (b.failures ≡ a.failures)
 EndsCleanly rest a b CutLine tail =
-    IsLine rest × (0 < length rest) × NothingLeft b × (tail ≡ codes "bad cut\n")
+    IsLine rest × (0 < length rest) × HasEnded b × (tail ≡ codes "bad cut\n")
     × (b.failures ≡ a.failures)
 EndsCleanly rest a b TooLong tail =
     IsLong rest × (tail ≡ codes "bad long\n") × (b.failures ≡ a.failures)

@@ -114,14 +114,14 @@ returns-in-End g c =
     let r = c.in-End.ensures in
     let o = opened g (goal.at.returns-in-End g c).After-read in
     let none = is_empty_of c.as_slice.result.now c.read.new.self c.answer_lines.new.session.buffer c.as_slice.ensures r.0 c.if-is_empty.ensures in
-    ends_plainly (AnswersCommand g.C.Commands.acts g.C.Commands.unknown c.args.context.time) (Begins g.C.Commands.acts g.C.Commands.unknown c.args.context.time) _ _ _ _ _ _ _ _ (g.I.Inlet.seen c.read.new.inlet) Eof o r.2 r.5 (none, r.1, refl, r.4 ∙ o.no_fault)
+    ends_plainly (AnswersCommand g.C.Commands.acts g.C.Commands.unknown c.args.context.time) (Begins g.C.Commands.acts g.C.Commands.unknown c.args.context.time) _ _ _ _ _ _ _ _ (g.I.Inlet.seen c.read.new.inlet) Eof o r.2 r.5 (none, (r.1, (_, r.3)), refl, r.4 ∙ o.no_fault)
 
 pub returns-in-End-2 : goal.returns-in-End-2
 returns-in-End-2 g c =
     let r = c.in-End.ensures in
     let w = c.end_with-in-End-2 in
     let some = is_some_of c.as_slice.result.now c.read.new.self c.answer_lines.new.session.buffer c.as_slice.ensures r.0 c.if-is_empty.ensures in
-    unread g (goal.at.returns-in-End-2 g c).After-read CutLine (codes "bad cut\n") (g.O.Outlet.seen w.new.outlet) w.result r.2 r.3 r.5 (c.in-Next.ensures.2, some, r.1, refl, r.4 ∙ c.loop-session.invariant.1.no_fault) w.ensures
+    unread g (goal.at.returns-in-End-2 g c).After-read CutLine (codes "bad cut\n") (g.O.Outlet.seen w.new.outlet) w.result r.2 r.3 r.5 (c.in-Next.ensures.2, some, (r.1, (_, r.3)), refl, r.4 ∙ c.loop-session.invariant.1.no_fault) w.ensures
 
 pub returns-in-Failed : goal.returns-in-Failed
 returns-in-Failed g c =

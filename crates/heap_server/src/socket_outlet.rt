@@ -1,15 +1,15 @@
-//! An outlet over a socket, for another thread.
+//! Outlets over sockets.
 ghost use Rattle.std.specs.Prelude.{◌≡◌, []};
 
+use crate::socket::Half;
 use dump_pump::ledger::note_bytes;
 use dump_pump::{Log, Outlet, Put, WriteOutlet};
-use heap_server::Half;
 use std::marker::Model;
 
-// An outlet that writes to a half of a socket. Other than `WriteOutlet` it holds no snapshot, which is no value that another thread may
-// be given. Contracts see the bytes that were put out, and the number of puts that failed.
+/// An outlet that writes to a half of a socket. Other than `WriteOutlet` it may be given to another thread. Contracts see the bytes that
+/// were put out, and the number of puts that failed.
 #[derive(Drop)]
-pub(crate) struct SocketOutlet {
+pub struct SocketOutlet {
     half: Half,
     put: Log<u8, ()>,
     failed: Log<(), ()>,
@@ -26,8 +26,8 @@ impl Model for SocketOutlet {
 }
 
 impl SocketOutlet {
-    // Creates an outlet that has put out nothing yet.
-    pub(crate) fn new(half: Half) -> SocketOutlet
+    /// Creates an outlet that has put out nothing yet.
+    pub fn new(half: Half) -> SocketOutlet
         ensures { result ≡ record { out = []; failures = 0 } }
     {
         SocketOutlet {

@@ -1,11 +1,11 @@
 -- What is read ahead, and given again.
-use Rattle.std.proofs.Common.{◌≡◌, ◌∙◌, ◌⊎◌, ◌<◌, ◌≤◌, ℕ, ◌+◌, Bool, true, false, List, [], ◌∷◌, ◌++◌, length, take, drop, Option, Some, None, refl, sym, ap, subst, inl, inr, arith, append_assoc, length-append, take-append-drop}
+use Rattle.std.proofs.Common.{◌≡◌, ◌∙◌, ◌⊎◌, ◌<◌, ◌≤◌, ℕ, ◌+◌, true, false, List, [], ◌++◌, length, take, drop, Option, Some, None, refl, sym, ap, subst, inl, inr, arith, append_assoc, length-append, take-append-drop}
 use Rattle.std.specs.Prelude.{IfSome, MatchOption, is_some, option_map}
 use Rattle.std.proofs.lemmas.List.{append-nil, append_cancel_left, drop-drop, drop_all}
 use Rattle.std.specs.Io.KnownBytes.{Consumes, IsAtEnd, Keeps, prepend_known}
 use Rattle.std.proofs.KnownBytes.{Keeps-refl, prepend_known-nil}
 use Rattle.dump_pump.specs.declared.inlet.Take.{Take}
-use Rattle.dump_pump.specs.Inlets.{Incoming, IsTake, IsTriedRead, NothingLeft, whole}
+use Rattle.dump_pump.specs.Inlets.{Incoming, IsTake, IsTriedRead, whole}
 use Rattle.session_text.specs.Buffers.{IsInletRead}
 use Rattle.session_grammar.specs.Lines.{IsLineAt, NoLf}
 use Rattle.session_grammar.specs.declared.TheConstants.{LINE_LIMIT}

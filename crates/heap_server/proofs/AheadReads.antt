@@ -133,8 +133,3 @@ read_on start bs a b t room le h =
     tried (Take.Got n) h = (h.0, h.1, consumed a.taken b.taken (take n room) a.left b.left h.2 h.5)
     tried Take.End h = (kept a.left b.left (consumed a.taken b.taken [] a.left b.left (h.1 ∙ sym (append-nil a.taken)) h.4), at_end b.left h.0)
     tried Take.Failed h = kept a.left b.left (consumed a.taken b.taken [] a.left b.left (h.0 ∙ sym (append-nil a.taken)) h.3)
-
--- what an inlet has left that begins with what was read ahead
-pub left_of : (start : ℕ) (bs bs' : List ℕ) (l l' : Option (List ℕ)) → start ≡ 0 → bs' ≡ bs → l' ≡ l → prepend_known (drop start bs') l' ≡ prepend_known bs l
-left_of start bs bs' l l' none same left =
-    ap (λ k. prepend_known (drop k bs') l') none ∙ ap (λ b. prepend_known b l') same ∙ ap (λ o. prepend_known bs o) left

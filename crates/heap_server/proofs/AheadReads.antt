@@ -1,11 +1,11 @@
 -- What is read ahead, and given again.
-use Rattle.std.proofs.Common.{◌≡◌, ◌∙◌, ◌⊎◌, ◌<◌, ◌≤◌, ℕ, ◌+◌, Bool, true, false, List, [], ◌∷◌, ◌++◌, length, take, drop, Option, Some, None, refl, sym, ap, subst, inl, inr, arith, append_assoc, length-append, take-append-drop}
+use Rattle.std.proofs.Common.{◌≡◌, ◌∙◌, ◌⊎◌, ◌<◌, ◌≤◌, ℕ, ◌+◌, true, false, List, [], ◌++◌, length, take, drop, Option, Some, None, refl, sym, ap, subst, inl, inr, arith, append_assoc, length-append, take-append-drop}
 use Rattle.std.specs.Prelude.{IfSome, MatchOption, is_some, option_map}
 use Rattle.std.proofs.lemmas.List.{append-nil, append_cancel_left, drop-drop, drop_all}
 use Rattle.std.specs.Io.KnownBytes.{Consumes, IsAtEnd, Keeps, prepend_known}
 use Rattle.std.proofs.KnownBytes.{Keeps-refl, prepend_known-nil}
 use Rattle.dump_pump.specs.declared.inlet.Take.{Take}
-use Rattle.dump_pump.specs.Inlets.{Incoming, IsTake, IsTriedRead, NothingLeft, whole}
+use Rattle.dump_pump.specs.Inlets.{Incoming, IsTake, IsTriedRead, whole}
 use Rattle.session_text.specs.Buffers.{IsInletRead}
 use Rattle.session_grammar.specs.Lines.{IsLineAt, NoLf}
 use Rattle.session_grammar.specs.declared.TheConstants.{LINE_LIMIT}
@@ -133,8 +133,3 @@ read_on start bs a b t room le h =
     tried (Take.Got n) h = (h.0, h.1, consumed a.taken b.taken (take n room) a.left b.left h.2 h.5)
     tried Take.End h = (kept a.left b.left (consumed a.taken b.taken [] a.left b.left (h.1 ∙ sym (append-nil a.taken)) h.4), at_end b.left h.0)
     tried Take.Failed h = kept a.left b.left (consumed a.taken b.taken [] a.left b.left (h.0 ∙ sym (append-nil a.taken)) h.3)
-
--- what an inlet has left that begins with what was read ahead
-pub left_of : (start : ℕ) (bs bs' : List ℕ) (l l' : Option (List ℕ)) → start ≡ 0 → bs' ≡ bs → l' ≡ l → prepend_known (drop start bs') l' ≡ prepend_known bs l
-left_of start bs bs' l l' none same left =
-    ap (λ k. prepend_known (drop k bs') l') none ∙ ap (λ b. prepend_known b l') same ∙ ap (λ o. prepend_known bs o) left

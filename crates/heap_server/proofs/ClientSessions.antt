@@ -1,19 +1,15 @@
 -- A client's session.
-use Rattle.std.proofs.Common.{◌≡◌, ℕ, Bool, false, List, [], inl, subst, sym}
-use Rattle.std.specs.Io.KnownBytes.{prepend_known}
+use Rattle.std.proofs.Common.{◌≡◌, ℕ, Bool, List, inl, subst, sym}
 use Rattle.dump_pump.specs.Inlets.{Incoming}
 use Rattle.dump_pump.specs.Outlets.{Outgoing}
-use Rattle.session_text.specs.declared.Ended.{Ended}
-use Rattle.session_text.specs.Answers.{AnswerRelation, AnswersCommand, Begins}
-use Rattle.session_text.specs.Talks.{Serves}
+use Rattle.session_text.specs.Answers.{AnswersCommand, Begins}
 use Rattle.heap_lock.specs.HeapLimits.{HeapSettings}
 use Rattle.heap_lock.specs.Calls.{Call, IsLegalLedger}
 use Rattle.heap_lock.specs.LockStates.{Chair}
 use Rattle.heap_server.specs.Ahead.{IsAhead}
 use Rattle.heap_server.specs.declared.client_session.SessionEnd.{SessionEnd}
-use Rattle.heap_server.specs.declared.client_session.SessionEnd.TheVariants.{Ran}
 use Rattle.heap_server.specs.declared.sessions.Terms.{Terms}
-use Rattle.heap_server.specs.Http.{ServesClient, asks_http}
+use Rattle.heap_server.specs.Http.{ServesClient}
 use Rattle.heap_server.specs.Stations.{IsAttended, Station, seat_acts, seat_answers}
 
 -- what a session does that answers questions or doesn't

@@ -1,5 +1,5 @@
 -- Sessions from seats, in order.
-use Rattle.std.proofs.Common.{◌≡◌, ℕ, ◌+◌, List, [], ◌∷◌, ◌++◌, length, Option, Some, None, refl, sym, ap, ◌∙◌, subst}
+use Rattle.std.proofs.Common.{◌≡◌, List, [], ◌∷◌, ◌++◌, refl, subst}
 use Rattle.heap_lock.specs.LockStates.{Chair}
 use Rattle.heap_server.specs.Stations.{InTurn}
 

@@ -16,8 +16,8 @@ use session_text::{Inlet, Take};
 use std::alloc::{AllocError, Global};
 use std::marker::{Brand, Model, PhantomData};
 
-// The most bytes that are read ahead: as many as a session reads at once.
-const ROOM: usize = 65_536;
+// The most bytes that are read ahead: more than a line has, and few, since each session that waits for its first line has them.
+const ROOM: usize = 8_192;
 
 // One less than the largest size of a read.
 const LAST_SIZE: usize = ROOM - 1;

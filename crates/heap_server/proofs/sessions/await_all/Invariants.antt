@@ -1,4 +1,4 @@
-use Rattle.std.proofs.Common.{◌≡◌, ◌+◌, ◌≤◌, List, length, vec_len, vec_capacity}
+use Rattle.std.proofs.Common.{◌+◌, ◌≤◌, List, length, vec_len, vec_capacity}
 use Rattle.heap_lock.specs.LockStates.{Chair}
 use Rattle.heap_server.specs.SessionSeats.{IsBegun}
 use Rattle.heap_server.specs.Stations.{IsSeatEnd, InTurn}

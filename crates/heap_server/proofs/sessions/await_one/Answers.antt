@@ -1,4 +1,4 @@
-use Rattle.std.proofs.Common.{◌≡◌, sym, subst, ap}
+use Rattle.std.proofs.Common.{◌≡◌, sym, subst}
 use Rattle.std.specs.Prelude.{IfSome, option_map}
 use Rattle.heap_lock.specs.LockStates.{Chair}
 use Rattle.heap_server.specs.Stations.{IsClientOf}

@@ -2,7 +2,7 @@
 
 // The policy of the page.
 pub(crate) const POLICY: &str =
-    "default-src 'none'; script-src 'sha256-xev6yR41ULQOTKb9PsE+dhavAhqbr/2/VFj4iYN9F+w='; style-src 'sha256-JNduEIuOp1BUXaAsi16QNYS7dZ8XQD10lyxz3RnzetU='; img-src data:; connect-src 'self'; base-uri 'none'; form-action 'none'; frame-ancestors 'none'";
+    "default-src 'none'; script-src 'sha256-EjUzSy0423o6ED2+TwwGWbFS53b7TsQlzvKa9jKSrvk='; style-src 'sha256-mlzMCjJhb2TDG3bgTFc1cxHd5JTnxfMEpAub4Gvszyw='; img-src data:; connect-src 'self'; base-uri 'none'; form-action 'none'; frame-ancestors 'none'";
 
 // The page.
 pub(crate) const PAGE: &[u8] = b"<!doctype html>\n\
@@ -73,7 +73,7 @@ pub(crate) const PAGE: &[u8] = b"<!doctype html>\n\
     .panel + .panel { border-top: 1px solid var(--line); }\n\
     .panel > h2 { display: flex; align-items: center; gap: 8px; margin: 0; padding: 8px 12px 6px; font-size: 12px; font-weight: 600; color: var(--ink2); min-height: 36px; flex: none; }\n\
     .panel > h2 small { font-weight: 400; color: var(--ink3); font-size: 12px; overflow: hidden; text-overflow: ellipsis; white-space: nowrap; min-width: 0; }\n\
-    .scroll { overflow: auto; min-height: 0; flex: 1; scrollbar-width: thin; scrollbar-color: var(--line2) transparent; }\n\
+    .scroll { contain: content; overflow: auto; min-height: 0; flex: 1; scrollbar-width: thin; scrollbar-color: var(--line2) transparent; }\n\
     table { border-collapse: collapse; width: 100%; }\n\
     th { position: sticky; top: 0; background: var(--panel); z-index: 1; text-align: right; font-weight: 500; color: var(--ink3); padding: 3px 6px; border-bottom: 1px solid var(--line); white-space: nowrap; font-size: 11px; }\n\
     th button { all: unset; cursor: pointer; } th button:hover { color: var(--ink); } th button:focus-visible { outline: 2px solid var(--accent); }\n\
@@ -96,11 +96,11 @@ pub(crate) const PAGE: &[u8] = b"<!doctype html>\n\
     .empty { padding: 14px 12px; color: var(--ink3); line-height: 1.6; } .empty b { color: var(--ink2); font-weight: 600; } .empty[hidden] { display: none; }\n\
     \n\
     #mapbox { position: relative; flex: 1; min-height: 0; margin: 2px 12px 10px; overflow: hidden; } #map { display: block; cursor: pointer; touch-action: none; } #map.drag { cursor: grabbing; }\n\
-    #legend { display: flex; gap: 4px 12px; flex-wrap: wrap; padding: 0 12px 8px; color: var(--ink2); font-size: 11.5px; }\n\
+    #legend { min-height: 26px; display: flex; gap: 4px 12px; flex-wrap: wrap; padding: 0 12px 8px; color: var(--ink2); font-size: 11.5px; }\n\
     #legend span { display: inline-flex; align-items: center; gap: 5px; } #legend canvas { width: 14px; height: 10px; }\n\
     #ramp { width: 120px !important; height: 8px !important; border-radius: 2px; }\n\
     \n\
-    .step { display: grid; grid-template-columns: 64px 1fr; gap: 8px; padding: 1.5px 12px; font: 12px/1.5 var(--mono); cursor: pointer; white-space: nowrap; }\n\
+    .step { height: 21px; overflow: hidden; display: grid; grid-template-columns: 64px 1fr; gap: 8px; padding: 1.5px 12px; font: 12px/1.5 var(--mono); cursor: pointer; white-space: nowrap; }\n\
     .step:hover { background: var(--shade); } .step.now { background: var(--accent-bg); } .step .p { color: var(--ink3); text-align: right; } .step.later { opacity: .45; }\n\
     .ev { display: inline-block; min-width: 52px; font-weight: 600; } .ev::before { content: \"\"; display: inline-block; width: 7px; height: 7px; border-radius: 50%; margin-right: 6px; background: var(--c); }\n\
     \n\
@@ -231,6 +231,7 @@ pub(crate) const PAGE: &[u8] = b"<!doctype html>\n\
     \x20\x20\x20\x20sweep: \"#ff725c\",\n\
     \x20\x20\x20\x20reclaim: \"#ff725c\"\n\
     \x20\x20};\n\
+    \x20\x20const COLORS = [...new Set(Object.values(EVENTS))];\n\
     \x20\x20// The most requests at a time, the steps that are read before all are, and the most that are read again while the heap goes on.\n\
     \x20\x20const LANES = 5,\n\
     \x20\x20\x20\x20FEW = 400,\n\
@@ -439,7 +440,7 @@ pub(crate) const PAGE: &[u8] = b"<!doctype html>\n\
     \x20\x20\x20\x20\x20\x20\x20\x20stop = text.indexOf(\" \", gap + 1),\n\
     \x20\x20\x20\x20\x20\x20\x20\x20kind = text.slice(gap + 1, stop < 0 || stop > end ? end : stop),\n\
     \x20\x20\x20\x20\x20\x20\x20\x20w = kind === \"new\" || kind === \"put\" || kind === \"store\" ? wordOf(text.slice(stop + 1, stop + 11)) : -1;\n\
-    \x20\x20\x20\x20\x20\x20if (p <= place) found.push({ p, kind, w, line: text.slice(gap + 1, end) });\n\
+    \x20\x20\x20\x20\x20\x20if (p <= place) found.push({ p, kind, color: COLORS.indexOf(EVENTS[kind]), w, line: text.slice(gap + 1, end) });\n\
     \x20\x20\x20\x20\x20\x20i = end + 1;\n\
     \x20\x20\x20\x20}\n\
     \x20\x20\x20\x20return found.reverse();\n\
@@ -573,6 +574,7 @@ pub(crate) const PAGE: &[u8] = b"<!doctype html>\n\
     \x20\x20\x20\x20requestAnimationFrame(() => setTimeout(() => {\n\
     \x20\x20\x20\x20\x20\x20S.took = { place, ms: performance.now() - asked };\n\
     \x20\x20\x20\x20\x20\x20if (!performance.getEntriesByName(\"shown\").length) performance.mark(\"shown\");\n\
+    \x20\x20\x20\x20\x20\x20if (!S.fast && !S.whole) loadWhole().catch(() => {});\n\
     \x20\x20\x20\x20}));\n\
     \x20\x20}\n\
     \x20\x20async function loadState() {\n\
@@ -608,7 +610,6 @@ pub(crate) const PAGE: &[u8] = b"<!doctype html>\n\
     \x20\x20\x20\x20\x20\x20}\n\
     \x20\x20\x20\x20}\n\
     \x20\x20\x20\x20running = false;\n\
-    \x20\x20\x20\x20if (!S.fast && !S.whole && S.place >= 0) loadWhole().catch(() => {});\n\
     \x20\x20\x20\x20if (again) {\n\
     \x20\x20\x20\x20\x20\x20again = false;\n\
     \x20\x20\x20\x20\x20\x20return refresh(true);\n\
@@ -637,7 +638,8 @@ pub(crate) const PAGE: &[u8] = b"<!doctype html>\n\
     \x20\x20\x20\x20if (S.place < 0) return firstLook();\n\
     \x20\x20\x20\x20if (!full) S.began = performance.now();\n\
     \x20\x20\x20\x20const was = S.status,\n\
-    \x20\x20\x20\x20\x20\x20before = S.place;\n\
+    \x20\x20\x20\x20\x20\x20before = S.place,\n\
+    \x20\x20\x20\x20\x20\x20past = full && S.at !== null ? loadState() : null;\n\
     \x20\x20\x20\x20takeStatus(await ask(\"status\", true));\n\
     \x20\x20\x20\x20const stepped = S.place !== before || S.status.acts !== was.acts,\n\
     \x20\x20\x20\x20\x20\x20moved = stepped || [\"gray\", \"phase\", \"unswept\"].some((x) => S.status[x] !== was[x]);\n\
@@ -645,7 +647,7 @@ pub(crate) const PAGE: &[u8] = b"<!doctype html>\n\
     \x20\x20\x20\x20if (S.at !== null && (S.at > S.place || S.at < S.oldest)) S.at = null;\n\
     \x20\x20\x20\x20if (S.base !== null && (S.base > S.place || S.base < S.oldest)) S.base = null;\n\
     \x20\x20\x20\x20const events = stepped ? loadEvents(S.place) : null,\n\
-    \x20\x20\x20\x20\x20\x20state = full || (moved && S.at === null) ? loadState() : null;\n\
+    \x20\x20\x20\x20\x20\x20state = past || (full || (moved && S.at === null) ? loadState() : null);\n\
     \x20\x20\x20\x20await events;\n\
     \x20\x20\x20\x20await state;\n\
     \x20\x20\x20\x20if (!state && moved) draw();\n\
@@ -693,11 +695,10 @@ pub(crate) const PAGE: &[u8] = b"<!doctype html>\n\
     \x20\x20\x20\x20const to = place >= S.place ? null : place;\n\
     \x20\x20\x20\x20if (to === S.at) return;\n\
     \x20\x20\x20\x20S.at = to;\n\
-    \x20\x20\x20\x20S.more = 0;\n\
+    \x20\x20\x20\x20if (S.more || $(\"steps\").dataset.far) $(\"steps\").scrollTop = S.more = 0;\n\
     \x20\x20\x20\x20S.began = performance.now();\n\
     \x20\x20\x20\x20drawHead();\n\
     \x20\x20\x20\x20drawLine();\n\
-    \x20\x20\x20\x20drawSteps();\n\
     \x20\x20\x20\x20refresh(true);\n\
     \x20\x20}\n\
     \n\
@@ -780,23 +781,29 @@ pub(crate) const PAGE: &[u8] = b"<!doctype html>\n\
     \x20\x20\x20\x20c.clearRect(0, 0, w, h);\n\
     \x20\x20\x20\x20return c;\n\
     \x20\x20}\n\
-    \x20\x20const LINE = { top: 18, bottom: 80, strip: 87, high: 108, w: 0, layer: document.createElement(\"canvas\"), drawn: \"\" };\n\
+    \x20\x20const LINE = { top: 18, bottom: 80, strip: 87, high: 108, w: 0 };\n\
+    \x20\x20// What is drawn of the time line only if something of it is new: the strip of all steps, and all that stays while the handle moves.\n\
+    \x20\x20const layer = () => ({ canvas: document.createElement(\"canvas\"), drawn: \"\" });\n\
+    \x20\x20const STRIP = layer(),\n\
+    \x20\x20\x20\x20LAYER = layer();\n\
     \x20\x20const xOf = (p, w) => 8 + (w - 16) * (S.place === S.oldest ? 1 : (p - S.oldest) / (S.place - S.oldest));\n\
     \n\
-    \x20\x20// Draws what stays while the handle moves, if anything of it is new.\n\
-    \x20\x20function drawLayer(w) {\n\
-    \x20\x20\x20\x20const now = [w, devicePixelRatio, S.place, S.oldest, S.first, S.events.length, S.samples.size, S.epoch, S.klass, S.sel, S.color.size, S.shown, css(\n\
-    \x20\x20\x20\x20\x20\x20\"--ink\")].join();\n\
-    \x20\x20\x20\x20if (now === LINE.drawn) return;\n\
-    \x20\x20\x20\x20LINE.drawn = now;\n\
-    \x20\x20\x20\x20const c = fit(LINE.layer, w, LINE.high);\n\
+    \x20\x20// Draws a layer of the time line, if what it shows is new.\n\
+    \x20\x20function drawLayer(it, w, shows, draw) {\n\
+    \x20\x20\x20\x20const now = [w, devicePixelRatio, S.place, S.oldest, S.first, S.events.length, ...shows].join();\n\
+    \x20\x20\x20\x20if (now === it.drawn) return it.canvas;\n\
+    \x20\x20\x20\x20it.drawn = now;\n\
+    \x20\x20\x20\x20draw(fit(it.canvas, w, LINE.high), w);\n\
+    \x20\x20\x20\x20return it.canvas;\n\
+    \x20\x20}\n\
+    \n\
+    \x20\x20function drawStill(c, w) {\n\
     \x20\x20\x20\x20c.font = \"11px \" + css(\"--mono\");\n\
     \x20\x20\x20\x20c.textBaseline = \"middle\";\n\
     \x20\x20\x20\x20drawCycles(c, w);\n\
     \x20\x20\x20\x20drawBytes(c, w);\n\
     \x20\x20\x20\x20c.fillStyle = css(\"--line\");\n\
     \x20\x20\x20\x20c.fillRect(8, LINE.bottom, w - 16, 1);\n\
-    \x20\x20\x20\x20drawStrip(c, w);\n\
     \x20\x20\x20\x20drawLife(c, w);\n\
     \x20\x20\x20\x20drawPins(c, w);\n\
     \x20\x20}\n\
@@ -848,19 +855,18 @@ pub(crate) const PAGE: &[u8] = b"<!doctype html>\n\
     \x20\x20// A column for each pixel, with what its steps did.\n\
     \x20\x20function drawStrip(c, w) {\n\
     \x20\x20\x20\x20const columns = Math.max(1, Math.floor(w - 16)),\n\
-    \x20\x20\x20\x20\x20\x20per = (S.place - S.oldest) / columns;\n\
+    \x20\x20\x20\x20\x20\x20per = (S.place - S.oldest) / columns,\n\
+    \x20\x20\x20\x20\x20\x20counts = new Int32Array(COLORS.length);\n\
     \x20\x20\x20\x20for (let i = 0; i < columns; i++) {\n\
     \x20\x20\x20\x20\x20\x20const a = Math.floor(S.oldest + per * i) + 1,\n\
-    \x20\x20\x20\x20\x20\x20\x20\x20b = Math.max(a, Math.floor(S.oldest + per * (i + 1))),\n\
-    \x20\x20\x20\x20\x20\x20\x20\x20counts = {};\n\
-    \x20\x20\x20\x20\x20\x20for (let p = a; p <= b; p++) {\n\
-    \x20\x20\x20\x20\x20\x20\x20\x20const e = eventAt(p);\n\
-    \x20\x20\x20\x20\x20\x20\x20\x20if (e) counts[EVENTS[e.kind]] = (counts[EVENTS[e.kind]] || 0) + 1;\n\
-    \x20\x20\x20\x20\x20\x20}\n\
+    \x20\x20\x20\x20\x20\x20\x20\x20b = Math.max(a, Math.floor(S.oldest + per * (i + 1)));\n\
+    \x20\x20\x20\x20\x20\x20counts.fill(0);\n\
+    \x20\x20\x20\x20\x20\x20for (let k = Math.max(0, a - S.first); k <= Math.min(b - S.first, S.events.length - 1); k++) counts[S.events[k].color]++;\n\
     \x20\x20\x20\x20\x20\x20let y = LINE.strip;\n\
-    \x20\x20\x20\x20\x20\x20for (const color of Object.keys(counts).sort()) {\n\
+    \x20\x20\x20\x20\x20\x20for (let color = 0; color < COLORS.length; color++) {\n\
     \x20\x20\x20\x20\x20\x20\x20\x20const tall = 8 * counts[color] / (b - a + 1);\n\
-    \x20\x20\x20\x20\x20\x20\x20\x20c.fillStyle = color;\n\
+    \x20\x20\x20\x20\x20\x20\x20\x20if (!tall) continue;\n\
+    \x20\x20\x20\x20\x20\x20\x20\x20c.fillStyle = COLORS[color];\n\
     \x20\x20\x20\x20\x20\x20\x20\x20c.fillRect(8 + i, y, 1, tall);\n\
     \x20\x20\x20\x20\x20\x20\x20\x20y += tall;\n\
     \x20\x20\x20\x20\x20\x20}\n\
@@ -912,8 +918,10 @@ pub(crate) const PAGE: &[u8] = b"<!doctype html>\n\
     \x20\x20\x20\x20\x20\x20w = LINE.w;\n\
     \x20\x20\x20\x20if (S.place < 0 || w < 100) return;\n\
     \x20\x20\x20\x20const c = fit(canvas, w, LINE.high);\n\
-    \x20\x20\x20\x20drawLayer(w);\n\
-    \x20\x20\x20\x20c.drawImage(LINE.layer, 0, 0, w, LINE.high);\n\
+    \x20\x20\x20\x20const o = S.sel && objectAt(S.sel),\n\
+    \x20\x20\x20\x20\x20\x20life = o ? [S.sel, o.name, bornAt(o, S.shown), S.shown] : [];\n\
+    \x20\x20\x20\x20c.drawImage(drawLayer(STRIP, w, [], drawStrip), 0, 0, w, LINE.high);\n\
+    \x20\x20\x20\x20c.drawImage(drawLayer(LAYER, w, [S.samples.size, S.epoch, S.klass, S.color.size, css(\"--ink\"), ...S.pins, ...life], drawStill), 0, 0, w, LINE.high);\n\
     \x20\x20\x20\x20c.font = \"11px \" + css(\"--mono\");\n\
     \x20\x20\x20\x20c.textBaseline = \"middle\";\n\
     \x20\x20\x20\x20c.textAlign = \"left\";\n\
@@ -1166,6 +1174,7 @@ pub(crate) const PAGE: &[u8] = b"<!doctype html>\n\
     \x20\x20\x20\x20\x20\x20unit = bw / (WORDS / lines),\n\
     \x20\x20\x20\x20\x20\x20lh = bh / lines,\n\
     \x20\x20\x20\x20\x20\x20most = Math.max(1, .7 * Math.min(w / (4 * unit), h / lh));\n\
+    \x20\x20\x20\x20if (columns !== M.columns || lines !== M.lines) M.atlas = null;\n\
     \x20\x20\x20\x20Object.assign(M, { w, h, columns, lines, gap, left, bw, bh, unit, lh, most });\n\
     \x20\x20}\n\
     \n\
@@ -1180,7 +1189,7 @@ pub(crate) const PAGE: &[u8] = b"<!doctype html>\n\
     \x20\x20\x20\x20const middle = M.zoom > 1 && M.w ? cellAt(M.w / 2, M.h / 2) : null;\n\
     \x20\x20\x20\x20M.list = [...S.regions.values()].sort((a, b) => a.number - b.number);\n\
     \x20\x20\x20\x20M.spot = new Map(M.list.map((g, i) => [g.number, i]));\n\
-    \x20\x20\x20\x20M.atlas = null;\n\
+    \x20\x20\x20\x20if (M.fresh) M.atlas = null;\n\
     \x20\x20\x20\x20M.ink = { free: css(\"--free\"), ink: css(\"--ink\"), ink3: css(\"--ink3\"), panel: css(\"--panel\"), red: css(\"--red\"), mono: css(\"--mono\") };\n\
     \x20\x20\x20\x20if (w !== M.w || h !== M.h || M.list.length !== M.placed) arrange(w, h);\n\
     \x20\x20\x20\x20M.placed = M.list.length;\n\
@@ -1318,7 +1327,7 @@ pub(crate) const PAGE: &[u8] = b"<!doctype html>\n\
     \x20\x20\x20\x20\x20\x20\x20\x20for (let word = cell * g.size, end = word + g.size; word < end;) {\n\
     \x20\x20\x20\x20\x20\x20\x20\x20\x20\x20const stop = Math.min(end, (Math.floor(word / per) + 1) * per),\n\
     \x20\x20\x20\x20\x20\x20\x20\x20\x20\x20\x20\x20from = corner + Math.floor(word / per) * canvas.width + word % per;\n\
-    \x20\x20\x20\x20\x20\x20\x20\x20\x20\x20out.fill(value, from, from + stop - word);\n\
+    \x20\x20\x20\x20\x20\x20\x20\x20\x20\x20for (let k = from, last = from + stop - word; k < last; k++) out[k] = value;\n\
     \x20\x20\x20\x20\x20\x20\x20\x20\x20\x20word = stop;\n\
     \x20\x20\x20\x20\x20\x20\x20\x20}\n\
     \x20\x20\x20\x20\x20\x20}\n\
@@ -1666,8 +1675,8 @@ pub(crate) const PAGE: &[u8] = b"<!doctype html>\n\
     \n\
     \x20\x20function drawSteps() {\n\
     \x20\x20\x20\x20const at = atPlace(),\n\
-    \x20\x20\x20\x20\x20\x20from = Math.max(S.first, at - 40 - S.more),\n\
-    \x20\x20\x20\x20\x20\x20to = Math.min(S.place, at + 12),\n\
+    \x20\x20\x20\x20\x20\x20from = Math.max(S.first, at - 30 - S.more),\n\
+    \x20\x20\x20\x20\x20\x20to = Math.min(S.place, at + 4),\n\
     \x20\x20\x20\x20\x20\x20out = [];\n\
     \x20\x20\x20\x20for (let p = to; p >= from; p--) {\n\
     \x20\x20\x20\x20\x20\x20const e = eventAt(p);\n\
@@ -1692,13 +1701,8 @@ pub(crate) const PAGE: &[u8] = b"<!doctype html>\n\
     \x20\x20\x20\x20\x20\x20};\n\
     \x20\x20\x20\x20\x20\x20out.push(more);\n\
     \x20\x20\x20\x20}\n\
-    \x20\x20\x20\x20const box = $(\"steps\"),\n\
-    \x20\x20\x20\x20\x20\x20kept = box.scrollTop;\n\
-    \x20\x20\x20\x20box.replaceChildren(...out);\n\
+    \x20\x20\x20\x20$(\"steps\").replaceChildren(...out);\n\
     \x20\x20\x20\x20$(\"stepnote\").textContent = S.events.length ? \"what each did and what it overwrote, newest first\" : S.place > S.oldest ? \"\xe2\x80\xa6\" : \"no step is retained\";\n\
-    \x20\x20\x20\x20const now = box.querySelector(\".now\");\n\
-    \x20\x20\x20\x20if (S.more) box.scrollTop = kept;\n\
-    \x20\x20\x20\x20else box.scrollTop = now && at < S.place ? now.offsetTop - box.offsetTop - box.clientHeight / 2 + 10 : 0;\n\
     \x20\x20}\n\
     \n\
     \x20\x20// ---- object\n\
@@ -2031,6 +2035,7 @@ pub(crate) const PAGE: &[u8] = b"<!doctype html>\n\
     \x20\x20\x20\x20M.fresh = true;\n\
     \x20\x20\x20\x20drawMap();\n\
     \x20\x20};\n\
+    \x20\x20$(\"steps\").onscroll = () => $(\"steps\").toggleAttribute(\"data-far\", $(\"steps\").scrollTop > 0);\n\
     \x20\x20$(\"golive\").onclick = follow;\n\
     \x20\x20$(\"cycles\").onclick = betweenCycles;\n\
     \x20\x20$(\"setbase\").onclick = () => compare(atPlace());\n\

@@ -193,8 +193,10 @@ def live(shell, document):
 
 
 def paged(shell, readme):
-    """Yields what README's heap with a page does otherwise than it says. Its session ends at once here."""
+    """Yields what README's heap with a page does otherwise than it says. Its session ends at once here. HUNT has the same heap."""
     serve = commands_of(readme)[0][0]
+    if serve not in commands_of(readme.parent / "docs/HUNT.md")[0]:
+        yield "HUNT serves another heap with a page than README"
     ask = re.search(r"^    (\(cat .*)$", readme.read_text(), re.MULTILINE)[1]
     with shell.start(serve) as server:
         server.waits_for(shell.ports["7080"])

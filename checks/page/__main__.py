@@ -15,10 +15,12 @@ sys.path[:0] = [str(TOP / part) for part in ("checks", "checks/page", "checks/mo
 
 import browser  # noqa: E402
 import clicks  # noqa: E402
+import colours  # noqa: E402
 import loads  # noqa: E402
 from dump import pieces_of  # noqa: E402
 from paged import KEEP, Heap, body_of  # noqa: E402
 from machine import Machine  # noqa: E402
+from pictures import take  # noqa: E402
 from questions import Asking  # noqa: E402
 
 LEAK = (TOP / "examples/leak.session").read_bytes()
@@ -92,6 +94,21 @@ def answers(heap):
     page = heap.request("GET", "/").split(b"\r\n\r\n", 1)
     yield "the page's bytes", page[1] == PAGE, True
     yield "no leave for others", b"access-control" in page[0].lower(), False
+
+
+def ports(program):
+    """Yields what is answered at the port that a browser doesn't name, if this port can be had."""
+    try:
+        socket.create_server(("127.0.0.1", 80)).close()
+    except OSError:
+        return
+    with Heap(program, b"", port=80) as heap:
+        for host in ("127.0.0.1", "localhost", "127.0.0.1:80", "localhost:80"):
+            yield f"the host {host} of port 80", heap.status("GET", "/", host=host), 200
+            yield f"a question of http://{host}", heap.status(body=b"pins", X_Heapdbg_Key=heap.key, host=host, Origin=f"http://{host}"), 200
+        for host in ("127.0.0.1:8080", "attacker.example"):
+            yield f"the host {host} of port 80", heap.status("GET", "/", host=host), 403
+            yield f"a question of http://{host} at port 80", heap.status(body=b"pins", X_Heapdbg_Key=heap.key, host="127.0.0.1", Origin=f"http://{host}"), 403
 
 
 def is_open(client):
@@ -176,17 +193,21 @@ def main(program, *pictures):
     """Returns whether all is well."""
     well = True
     with Heap(program, LEAK) as heap:
-        cases = [*statuses(heap), *answers(heap), *crowds(heap)]
+        cases = [*colours.all_of(PAGE.decode()), *statuses(heap), *answers(heap), *crowds(heap)]
         # The client that goes quiet does so while a browser looks on.
         quiet = threading.Thread(target=lambda: cases.extend(left(heap)))
         quiet.start()
         if browser.found():
-            cases += until_late(clicks.all_of(heap, program, *(pictures or [None])))
+            cases += until_late(clicks.all_of(heap, program))
         else:
             print("checks/page: no browser is here, so no browser has looked at the page")
         quiet.join()
+    cases += ports(program)
     if browser.found():
-        for load in (loads.few, loads.full, loads.busy):
+        for folder in pictures:
+            with Heap(program, LEAK) as heap:
+                take(heap, pathlib.Path(folder))
+        for load in (loads.empty, loads.few, loads.full, loads.busy):
             cases += until_late(load(program))
     for name, found, wanted in cases:
         if found != wanted:

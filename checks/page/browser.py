@@ -122,10 +122,11 @@ class Browser:
         """Turns the wheel at a point: away from the user if `by` is negative."""
         self.mouse("mouseWheel", x, y, deltaX=0, deltaY=by)
 
-    def key(self, name, text=""):
-        """Presses a key."""
+    def key(self, name, shift=False):
+        """Presses a key, with Shift or without."""
         codes = {"Enter": 13, "ArrowDown": 40, "ArrowUp": 38, "ArrowLeft": 37, "ArrowRight": 39, "Backspace": 8, "Escape": 27, "Tab": 9}
-        more = {"windowsVirtualKeyCode": codes[name]} if name in codes else {"text": text or name}
+        more = {"windowsVirtualKeyCode": codes[name]} if name in codes else {"text": name}
+        more["modifiers"] = 8 if shift else 0
         if name == "Enter":
             more["text"] = "\r"
         self.call("Input.dispatchKeyEvent", type="keyDown", key=name, **more)

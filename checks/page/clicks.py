@@ -15,6 +15,9 @@ STORY = TOP / "examples/leak.session"
 LEAKED, CLASS = "0x10000040", "server/Session"
 # The ends of the two cycles, and the step that closed the session that leaked.
 FROM, TO, CLOSED = 816, 1637, 1507
+# The steps that HUNT shows after the one that closed it, the newest first, and those after the one that closed the request before.
+AFTER = ((5, "0x10000900"), (4, "0x10000020"), (3, "0x10004e00"), (2, LEAKED))
+WELL = ["@1,490 put 0x10000000.size was 12", "@1,489 store 0x10002000[2] was 0x10000060", "@1,488 reg register 6 of mutator 0 was null"]
 ROWS = "[...document.querySelectorAll('#{} tbody tr')]"
 CELLS = ROWS + ".map((r) => [...r.cells].map((c) => c.textContent))"
 
@@ -95,7 +98,20 @@ def hunt(tab, told):
     yield from inspected(tab, told)
     tab.click_on(f"[...document.querySelectorAll('#insp a')].find((a) => a.textContent === '@{CLOSED:,}')")
     at_place(tab, CLOSED, FROM)
-    yield "the step that closed it", tab.value("document.querySelector('#steps .now').innerText.replace(/\\s+/g, ' ').trim()"), f"@{CLOSED:,} put {LEAKED}.state was 0"
+    yield "the step that closed it", steps(tab, ".now"), [f"@{CLOSED:,} put {LEAKED}.state was 0"]
+    yield "the steps after it", [text.split(" ", 2)[2] for text in steps(tab, ".later")], [f"register {r} of mutator 0 was {was}" for r, was in AFTER]
+    for _ in range(2):
+        tab.key("ArrowLeft", shift=True)
+    at_place(tab, CLOSED - 20, FROM)
+    yield "the steps after a request that ends well", steps(tab, ".later")[-3:], WELL
+    tab.key("ArrowRight", shift=True)
+    tab.key("ArrowRight", shift=True)
+    at_place(tab, CLOSED, FROM)
+
+
+def steps(tab, kind):
+    """Returns the texts of the steps of a kind that the page shows."""
+    return tab.value(f"[...document.querySelectorAll('#steps {kind}')].map((r) => r.innerText.replace(/\\s+/g, ' ').trim())")
 
 
 def instances(told):
@@ -199,7 +215,7 @@ def narrow(tab):
     tab.size(1600, 1000)
 
 
-def all_of(heap, program, pictures):
+def all_of(heap, program):
     """All of these."""
     lines = [f"{line} @{TO}" for line in ("histogram", "garbage", "objects")] + [f"growth @{FROM} @{TO}", f"born {LEAKED}"]
     told = explored(program, lines + [f"{word} @{TO} {LEAKED}" for word in ("show", "path", "referrers")])
@@ -218,9 +234,3 @@ def all_of(heap, program, pictures):
         yield "complaints of the browser", tab.faults(), []
     finally:
         tab.close()
-    if pictures:
-        pictures_of(heap, pathlib.Path(pictures))
-
-
-def pictures_of(heap, folder):
-    """Leaves the pictures of README and HUNT."""

@@ -70,6 +70,28 @@ def zoomed(tab, region, cell, words, picked=True):
     yield "all regions again", tab.value("heapdbg.M.zoom"), 1
 
 
+def empty(program):
+    """A heap without anything, which then has a class and an object, and ends."""
+    with Heap(program, b"") as heap:
+        tab = opened(heap)
+        try:
+            yield "nothing", tab.value("['place', 'objects', 'state'].map((name) => document.getElementById(name).textContent)"), ["@0", "0", "live"]
+            for line in ("class Node - next:object", "new 0 0 0"):
+                heap.say(line)
+            tab.wait("document.getElementById('place').textContent === '@2' && document.querySelector('#classes tbody tr') !== null")
+            yield "the first object", tab.value("[heapdbg.M.list.length, document.querySelector('#classes tbody').innerText.split(/\\s+/).slice(0, 2).join(' ')]"), [1, "Node 1"]
+            tab.key("ArrowLeft")
+            tab.wait("heapdbg.S.shown === 1")
+            yield "no object", tab.value("document.querySelectorAll('#classes tbody tr').length"), 0
+            tab.key("l")
+            yield "complaints of the browser", tab.faults(), []
+            heap.client.close()
+            tab.wait("document.getElementById('state').textContent === 'no connection'")
+            yield "the end", True, True
+        finally:
+            tab.close()
+
+
 def few(program):
     """A heap of five regions, and then the same function that draws them with 4,096."""
     with Heap(program, STORY.read_bytes()) as heap:

@@ -12,8 +12,8 @@ KEEP = 4096
 class Heap:
     """A served heap that a session left, whose client stays, and its page."""
 
-    def __init__(self, program, lines, *options, sessions=1, keep=KEEP):
-        self.port = free_port()
+    def __init__(self, program, lines, *options, sessions=1, keep=KEEP, port=None):
+        self.port = port or free_port()
         self.server = Server(program, sessions, "--page", str(self.port), "--keep", str(keep), *options)
         self.client = self.server.client()
         self.give(lines)

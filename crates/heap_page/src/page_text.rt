@@ -2,7 +2,7 @@
 
 // The policy of the page.
 pub(crate) const POLICY: &str =
-    "default-src 'none'; script-src 'sha256-EjUzSy0423o6ED2+TwwGWbFS53b7TsQlzvKa9jKSrvk='; style-src 'sha256-mlzMCjJhb2TDG3bgTFc1cxHd5JTnxfMEpAub4Gvszyw='; img-src data:; connect-src 'self'; base-uri 'none'; form-action 'none'; frame-ancestors 'none'";
+    "default-src 'none'; script-src 'sha256-I9YWyPrCx2N/y0DPCMA9m3ifT7csgRWeootFq9OMMR8='; style-src 'sha256-awh43kPAcW+mLeysz5kkPxq3qSDmJCHm43wBx+5QexE='; img-src data:; connect-src 'self'; base-uri 'none'; form-action 'none'; frame-ancestors 'none'";
 
 // The page.
 pub(crate) const PAGE: &[u8] = b"<!doctype html>\n\
@@ -66,7 +66,7 @@ pub(crate) const PAGE: &[u8] = b"<!doctype html>\n\
     #tip, #maptip { position: fixed; pointer-events: none; z-index: 5; background: var(--ink); color: var(--bg); padding: 5px 8px; border-radius: 5px; font: 12px/1.4 var(--mono); white-space: pre; box-shadow: 0 3px 12px rgba(0,0,0,.28); }\n\
     #tip[hidden], #maptip[hidden] { display: none; }\n\
     \n\
-    main { display: grid; grid-template-columns: minmax(350px, 27%) minmax(0, 1fr) minmax(350px, 27%); min-height: 0; gap: 1px; background: var(--line); }\n\
+    main { display: grid; grid-template-columns: minmax(390px, 29%) minmax(0, 1fr) minmax(340px, 26%); min-height: 0; gap: 1px; background: var(--line); }\n\
     .col { display: flex; flex-direction: column; min-height: 0; min-width: 0; background: var(--panel); }\n\
     .panel { display: flex; flex-direction: column; min-height: 0; flex: 1 1 0; }\n\
     #mappanel { flex-grow: 2.3; } #classpanel { flex-grow: 1.1; }\n\
@@ -86,6 +86,7 @@ pub(crate) const PAGE: &[u8] = b"<!doctype html>\n\
     tr.on { background: var(--accent-bg) !important; }\n\
     th.left, td.left { text-align: left; }\n\
     td.name { max-width: 170px; overflow: hidden; text-overflow: ellipsis; }\n\
+    table.compared th, table.compared td { padding-left: 4px; padding-right: 4px; } table.compared td.name { max-width: 150px; padding-left: 12px; } table.compared th:first-child { padding-left: 12px; }\n\
     .sw { display: inline-block; width: 9px; height: 9px; border-radius: 2px; margin-right: 7px; vertical-align: -.5px; }\n\
     table.fields th:nth-child(-n+3), table.fields td:nth-child(-n+3) { text-align: left; }\n\
     .path.flat .n > i::after { display: none; }\n\
@@ -125,6 +126,7 @@ pub(crate) const PAGE: &[u8] = b"<!doctype html>\n\
     dialog { max-width: 640px; border: 1px solid var(--line2); border-radius: 8px; background: var(--panel); color: var(--ink); padding: 18px 24px; line-height: 1.6; } dialog::backdrop { background: rgba(10,14,22,.45); }\n\
     dialog h2 { font-size: 14px; margin: 14px 0 4px; } dialog h2:first-child { margin-top: 0; } dialog ol { margin: 0; padding-left: 20px; } dialog dl { display: grid; grid-template-columns: max-content 1fr; gap: 3px 16px; margin: 0 0 14px; } dialog dd { margin: 0; }\n\
     kbd { padding: 0 5px; border: 1px solid var(--line2); border-radius: 4px; background: var(--sunk); font-size: 11px; }\n\
+    @media (max-width: 1500px) { table.compared .lost { display: none; } }\n\
     @media (max-width: 1360px) { .opt { display: none; } }\n\
     @media (max-width: 1240px) { main { grid-template-columns: 330px minmax(0, 1fr) 330px; } }\n\
     @media (max-width: 1020px) {\n\
@@ -210,8 +212,9 @@ pub(crate) const PAGE: &[u8] = b"<!doctype html>\n\
     \x20\x20// The colours and the font of the style, read again when the theme changes.\n\
     \x20\x20let theme = {};\n\
     \x20\x20const css = (name) => theme[name] ?? (theme[name] = getComputedStyle(document.documentElement).getPropertyValue(name).trim());\n\
-    \x20\x20const PALETTE = [\"#4269d0\", \"#efb118\", \"#ff725c\", \"#6cc5b0\", \"#3ca951\", \"#ff8ab7\", \"#a463f2\", \"#97bbf5\", \"#9c6b4e\", \"#b5a642\", \"#2f8f9d\",\n\
-    \x20\x20\x20\x20\"#d4526e\"\n\
+    \x20\x20// Twelve colours that differ for the colour-blind, too.\n\
+    \x20\x20const PALETTE = [\"#4269d0\", \"#efb118\", \"#ff725c\", \"#6cc5b0\", \"#3ca951\", \"#7a311f\", \"#6a13ec\", \"#e6a1f7\", \"#7b428a\", \"#a2cd98\", \"#ae75bd\",\n\
+    \x20\x20\x20\x20\"#326752\"\n\
     \x20\x20];\n\
     \x20\x20const OTHER = \"#9498a0\",\n\
     \x20\x20\x20\x20ANCIENT = \"#2b0a3d\",\n\
@@ -233,7 +236,7 @@ pub(crate) const PAGE: &[u8] = b"<!doctype html>\n\
     \x20\x20};\n\
     \x20\x20const COLORS = [...new Set(Object.values(EVENTS))];\n\
     \x20\x20// The most requests at a time, the steps that are read before all are, and the most that are read again while the heap goes on.\n\
-    \x20\x20const LANES = 5,\n\
+    \x20\x20const LANES = 6,\n\
     \x20\x20\x20\x20FEW = 400,\n\
     \x20\x20\x20\x20MANY = 4000;\n\
     \n\
@@ -606,6 +609,7 @@ pub(crate) const PAGE: &[u8] = b"<!doctype html>\n\
     \x20\x20\x20\x20\x20\x20if (e.message !== \"key\") {\n\
     \x20\x20\x20\x20\x20\x20\x20\x20$(\"state\").className = \"pill lost\";\n\
     \x20\x20\x20\x20\x20\x20\x20\x20$(\"state\").textContent = \"no connection\";\n\
+    \x20\x20\x20\x20\x20\x20\x20\x20$(\"state\").title = \"Nothing answers: heapdbg serve ends when its last session has ended\";\n\
     \x20\x20\x20\x20\x20\x20\x20\x20if (!(e instanceof TypeError && /fetch/.test(e.message))) console.error(e);\n\
     \x20\x20\x20\x20\x20\x20}\n\
     \x20\x20\x20\x20}\n\
@@ -731,8 +735,9 @@ pub(crate) const PAGE: &[u8] = b"<!doctype html>\n\
     \x20\x20function drawHead() {\n\
     \x20\x20\x20\x20const live = S.at === null;\n\
     \x20\x20\x20\x20$(\"state\").className = \"pill \" + (live ? \"live\" : \"past\");\n\
-    \x20\x20\x20\x20$(\"state\").textContent = live ? \"live\" : \"past\";\n\
-    \x20\x20\x20\x20$(\"state\").title = live ? \"This is the heap as it is now, and the page follows it\" : \"This is the heap as it was. L follows it again\";\n\
+    \x20\x20\x20\x20$(\"state\").textContent = live ? S.fast ? \"live, changes fast\" : \"live\" : \"past\";\n\
+    \x20\x20\x20\x20$(\"state\").title = live ? S.fast ? \"The heap changes so fast that each part is of a moment of its own\" :\n\
+    \x20\x20\x20\x20\x20\x20\"This is the heap as it is now, and the page follows it\" : \"This is the heap as it was. L follows it again\";\n\
     \x20\x20\x20\x20$(\"place\").textContent = \"@\" + num(atPlace());\n\
     \x20\x20\x20\x20document.title = \"heapdbg @\" + num(atPlace());\n\
     \x20\x20\x20\x20$(\"span\").title = \"A place is how many steps led to a state; the newest are retained\";\n\
@@ -1031,7 +1036,7 @@ pub(crate) const PAGE: &[u8] = b"<!doctype html>\n\
     \x20\x20\x20\x20const columns = S.base === null ? COLUMNS.slice(0, 4) : COLUMNS,\n\
     \x20\x20\x20\x20\x20\x20head = el(\"tr\");\n\
     \x20\x20\x20\x20for (const [k, t, title] of columns) {\n\
-    \x20\x20\x20\x20\x20\x20const th = el(\"th\"),\n\
+    \x20\x20\x20\x20\x20\x20const th = el(\"th\", k === \"lost\" ? k : \"\"),\n\
     \x20\x20\x20\x20\x20\x20\x20\x20b = el(\"button\", \"\", t);\n\
     \x20\x20\x20\x20\x20\x20th.title = title;\n\
     \x20\x20\x20\x20\x20\x20b.dataset.row = k;\n\
@@ -1043,6 +1048,7 @@ pub(crate) const PAGE: &[u8] = b"<!doctype html>\n\
     \x20\x20\x20\x20\x20\x20th.append(b);\n\
     \x20\x20\x20\x20\x20\x20head.append(th);\n\
     \x20\x20\x20\x20}\n\
+    \x20\x20\x20\x20$(\"classes\").classList.toggle(\"compared\", S.base !== null);\n\
     \x20\x20\x20\x20keepFocus($(\"classes\"), () => {\n\
     \x20\x20\x20\x20\x20\x20$(\"classes\").tHead.replaceChildren(head);\n\
     \x20\x20\x20\x20\x20\x20const rows = classRows(),\n\
@@ -1067,7 +1073,7 @@ pub(crate) const PAGE: &[u8] = b"<!doctype html>\n\
     \x20\x20\x20\x20i.style.width = 44 * r.bytes / most + \"px\";\n\
     \x20\x20\x20\x20i.style.background = colorOf(r.name);\n\
     \x20\x20\x20\x20b.append(i);\n\
-    \x20\x20\x20\x20tr.append(n, el(\"td\", \"\", num(r.objects)), b, el(\"td\", r.lost ? \"\" : \"zero\", r.lost ? num(r.lost) : \"\xc2\xb7\"));\n\
+    \x20\x20\x20\x20tr.append(n, el(\"td\", \"\", num(r.objects)), b, el(\"td\", r.lost ? \"lost\" : \"lost zero\", r.lost ? num(r.lost) : \"\xc2\xb7\"));\n\
     \x20\x20\x20\x20if (S.base !== null)\n\
     \x20\x20\x20\x20\x20\x20for (const k of [\"dobjects\", \"dbytes\"]) tr.append(el(\"td\", r[k] > 0 ? \"up\" : r[k] < 0 ? \"down\" : \"zero\", r[k] ? signed(r[k]) : \"\xc2\xb7\"));\n\
     \x20\x20\x20\x20return tr;\n\
@@ -1095,7 +1101,8 @@ pub(crate) const PAGE: &[u8] = b"<!doctype html>\n\
     \x20\x20\x20\x20all.sort((a, b) => a.before - b.before || (a.p ?? -1) - (b.p ?? -1));\n\
     \x20\x20\x20\x20const some = all.slice(0, 400),\n\
     \x20\x20\x20\x20\x20\x20fresh = since === null ? \"\" : `, ${num(all.filter((x) => !x.before).length)} made since @${num(since)}`;\n\
-    \x20\x20\x20\x20note.textContent = `${num(all.length)}${name ? \" of \" + name : \"\"}${fresh}, oldest first` + (all.length > some.length ?\n\
+    \x20\x20\x20\x20note.title = \"The oldest first; those that were there before a place that is compared with come last\";\n\
+    \x20\x20\x20\x20note.textContent = `${num(all.length)}${name ? \" of \" + name : \"\"}${fresh}` + (all.length > some.length ?\n\
     \x20\x20\x20\x20\x20\x20`, ${num(some.length)} shown` : \"\");\n\
     \x20\x20\x20\x20const head = el(\"tr\");\n\
     \x20\x20\x20\x20for (const t of [\"Object\", name ? \"Slots\" : \"Class\", \"Made at\", \"Steps ago\"]) head.append(el(\"th\", t === \"Class\" ? \"left\" : \"\", t));\n\
@@ -1715,7 +1722,8 @@ pub(crate) const PAGE: &[u8] = b"<!doctype html>\n\
     \x20\x20\x20\x20drawInstances();\n\
     \x20\x20\x20\x20drawMap();\n\
     \x20\x20\x20\x20drawLine();\n\
-    \x20\x20\x20\x20return inspect(id);\n\
+    \x20\x20\x20\x20if (id) return inspect(id);\n\
+    \x20\x20\x20\x20drawRegisters();\n\
     \x20\x20}\n\
     \n\
     \x20\x20function goBack() {\n\

@@ -209,7 +209,8 @@ def narrow(tab):
         tab.wait(f"innerWidth === {width}")
         yield f"nothing is wider than {width} points", tab.value("document.documentElement.scrollWidth"), width
         for name in ("classes", "map", "steps", "insp", "q"):
-            yield f"{name} at {width} points", tab.value(f"(() => {{ const r = document.getElementById('{name}').getBoundingClientRect(); return r.width > 100 && r.height > 10 && r.left >= 0 && r.right <= innerWidth; }})()"), True
+            tab.wait(f"(() => {{ const r = document.getElementById('{name}').getBoundingClientRect(); return r.width > 100 && r.height > 10 && r.left >= 0 && r.right <= innerWidth; }})()")
+            yield f"{name} at {width} points", True, True
         tab.click_on(row("classes", CLASS))
         tab.wait("document.querySelectorAll('#inst tbody tr').length > 11 || heapdbg.S.klass === null")
     tab.size(1600, 1000)

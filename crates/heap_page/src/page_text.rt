@@ -2,7 +2,7 @@
 
 // The policy of the page.
 pub(crate) const POLICY: &str =
-    "default-src 'none'; script-src 'sha256-I9YWyPrCx2N/y0DPCMA9m3ifT7csgRWeootFq9OMMR8='; style-src 'sha256-awh43kPAcW+mLeysz5kkPxq3qSDmJCHm43wBx+5QexE='; img-src data:; connect-src 'self'; base-uri 'none'; form-action 'none'; frame-ancestors 'none'";
+    "default-src 'none'; script-src 'sha256-RpfEu5LHbc7m2L+5k1tKp4Jpyn5DFXr74r63VOScHIc='; style-src 'sha256-ngS9toA+yCkW4/7gyltRDTqroswzjKVKUjLBFbKhyt8='; img-src data:; connect-src 'self'; base-uri 'none'; form-action 'none'; frame-ancestors 'none'";
 
 // The page.
 pub(crate) const PAGE: &[u8] = b"<!doctype html>\n\
@@ -38,7 +38,7 @@ pub(crate) const PAGE: &[u8] = b"<!doctype html>\n\
     .dim { color: var(--ink3); } .mid { color: var(--ink2); }\n\
     :focus-visible { outline: 2px solid var(--accent); outline-offset: -1px; }\n\
     \n\
-    header { display: flex; flex-wrap: wrap; align-items: center; gap: 6px 12px; padding: 9px 14px; background: var(--panel); border-bottom: 1px solid var(--line); }\n\
+    header { display: flex; flex-wrap: wrap; align-items: center; gap: 6px 10px; padding: 9px 14px; background: var(--panel); border-bottom: 1px solid var(--line); }\n\
     header h1 { font: 600 14px/1 var(--mono); margin: 0; letter-spacing: -.02em; display: flex; align-items: center; gap: 8px; }\n\
     header h1 i { width: 14px; height: 14px; border-radius: 3px; display: grid; grid-template: 1fr 1fr / 1fr 1fr; gap: 2px; }\n\
     header h1 i b { border-radius: 1px; background: #4269d0; } header h1 i b:nth-child(2) { background: #efb118; }\n\
@@ -51,7 +51,7 @@ pub(crate) const PAGE: &[u8] = b"<!doctype html>\n\
     .pill[hidden] { display: none; }\n\
     .pill.live::before { background: var(--green); } .pill.past::before { background: var(--accent); } .pill.mark::before { background: var(--amber); }\n\
     .pill.sweep::before { background: var(--red); } .pill.lost { color: var(--red); border-color: var(--red); } .pill.lost::before { background: var(--red); }\n\
-    .btn { padding: 4px 10px; border: 1px solid var(--line2); border-radius: 6px; background: var(--panel); cursor: pointer; font-size: 12px; white-space: nowrap; }\n\
+    .btn { padding: 4px 9px; border: 1px solid var(--line2); border-radius: 6px; background: var(--panel); cursor: pointer; font-size: 12px; white-space: nowrap; }\n\
     .btn:hover { background: var(--shade); border-color: var(--ink3); } .btn:disabled { opacity: .45; cursor: default; }\n\
     .btn.main { background: var(--accent); border-color: var(--accent); color: #fff; } .btn.small { padding: 1px 8px; }\n\
     .btn:focus-visible { outline-offset: 1px; }\n\
@@ -88,7 +88,7 @@ pub(crate) const PAGE: &[u8] = b"<!doctype html>\n\
     td.name { max-width: 170px; overflow: hidden; text-overflow: ellipsis; }\n\
     table.compared th, table.compared td { padding-left: 4px; padding-right: 4px; } table.compared td.name { max-width: 150px; padding-left: 12px; } table.compared th:first-child { padding-left: 12px; }\n\
     .sw { display: inline-block; width: 9px; height: 9px; border-radius: 2px; margin-right: 7px; vertical-align: -.5px; }\n\
-    table.fields th:nth-child(-n+3), table.fields td:nth-child(-n+3) { text-align: left; }\n\
+    table.fields th:nth-child(-n+3), table.fields td:nth-child(-n+3) { text-align: left; } table.fields td:nth-child(3) { width: 100%; max-width: 0; overflow: hidden; text-overflow: ellipsis; }\n\
     .path.flat .n > i::after { display: none; }\n\
     .up { color: var(--red); } .down { color: var(--green); } .zero { color: var(--ink3); }\n\
     .bar { position: relative; } .bar i { position: absolute; right: 4px; bottom: 1px; height: 2px; border-radius: 1px; opacity: .75; }\n\
@@ -521,6 +521,7 @@ pub(crate) const PAGE: &[u8] = b"<!doctype html>\n\
     \x20\x20\x20\x20\x20\x20events = eventsOf((await ask(\"history 65536\", true)).text, place);\n\
     \x20\x20\x20\x20if (S.whole || place !== S.place) return;\n\
     \x20\x20\x20\x20takeEvents(events, true);\n\
+    \x20\x20\x20\x20drawHead();\n\
     \x20\x20\x20\x20drawLine();\n\
     \x20\x20\x20\x20drawInstances();\n\
     \x20\x20\x20\x20drawSteps();\n\
@@ -656,6 +657,7 @@ pub(crate) const PAGE: &[u8] = b"<!doctype html>\n\
     \x20\x20\x20\x20await state;\n\
     \x20\x20\x20\x20if (!state && moved) draw();\n\
     \x20\x20\x20\x20else if (events) {\n\
+    \x20\x20\x20\x20\x20\x20drawHead();\n\
     \x20\x20\x20\x20\x20\x20drawLine();\n\
     \x20\x20\x20\x20\x20\x20drawSteps();\n\
     \x20\x20\x20\x20\x20\x20drawInstances();\n\
@@ -750,13 +752,16 @@ pub(crate) const PAGE: &[u8] = b"<!doctype html>\n\
     \x20\x20\x20\x20p.hidden = !live;\n\
     \x20\x20\x20\x20if (st.phase === \"marking\") {\n\
     \x20\x20\x20\x20\x20\x20p.className = \"pill opt mark\";\n\
-    \x20\x20\x20\x20\x20\x20p.textContent = `a cycle marks: ${num(st.gray)} gray, ${num(st.undrained)} to drain`;\n\
+    \x20\x20\x20\x20\x20\x20p.textContent = `marking: ${num(st.gray)} gray` + (st.undrained ? `, ${num(st.undrained)} to drain` : \"\");\n\
+    \x20\x20\x20\x20\x20\x20p.title = \"A cycle runs: gray objects are still to be looked at, and entries of the log to be drained\";\n\
     \x20\x20\x20\x20} else if (st.unswept) {\n\
     \x20\x20\x20\x20\x20\x20p.className = \"pill opt sweep\";\n\
     \x20\x20\x20\x20\x20\x20p.textContent = `${num(st.unswept)} regions to sweep`;\n\
+    \x20\x20\x20\x20\x20\x20p.title = \"A cycle has found what is dead; these regions still hold it\";\n\
     \x20\x20\x20\x20} else {\n\
     \x20\x20\x20\x20\x20\x20p.className = \"pill opt\";\n\
     \x20\x20\x20\x20\x20\x20p.textContent = \"no cycle\";\n\
+    \x20\x20\x20\x20\x20\x20p.title = \"No cycle marks, and no region waits to be swept\";\n\
     \x20\x20\x20\x20}\n\
     \x20\x20\x20\x20$(\"golive\").disabled = live;\n\
     \x20\x20\x20\x20const box = $(\"basebox\");\n\
@@ -1838,6 +1843,7 @@ pub(crate) const PAGE: &[u8] = b"<!doctype html>\n\
     \x20\x20\x20\x20\x20\x20else if (x.kind === \"object\") {\n\
     \x20\x20\x20\x20\x20\x20\x20\x20const o = objectAt(x.value);\n\
     \x20\x20\x20\x20\x20\x20\x20\x20v.append(idLink(x.value), o ? el(\"span\", \"mid\", \" \" + o.name) : \"\");\n\
+    \x20\x20\x20\x20\x20\x20\x20\x20v.title = o ? o.name : \"\";\n\
     \x20\x20\x20\x20\x20\x20} else v.append(x.value);\n\
     \x20\x20\x20\x20\x20\x20tr.append(el(\"td\", \"\", x.name), el(\"td\", \"dim\", x.kind), v, cell);\n\
     \x20\x20\x20\x20\x20\x20tb.append(tr);\n\

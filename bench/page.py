@@ -58,7 +58,7 @@ def first_sights(tab, heap):
 
 def moves(tab):
     """Returns how long it took until other places were shown."""
-    left, top, width, height = tab.value("(() => { const r = document.getElementById('line').getBoundingClientRect(); return [r.left, r.top, r.width, r.height]; })()")
+    left, top, width, height = tab.box("document.getElementById('line')")
     times = []
     tab.wait("heapdbg.S.whole")
     time.sleep(3)

@@ -63,6 +63,26 @@ def statuses(heap):
     yield "no host", int(heap.sent(b"GET / HTTP/1.1\r\nConnection: close\r\n\r\n").split(b" ")[1]) in (400, 403), True
 
 
+def framed(heap):
+    """Yields what comes of requests whose bodies have other frames, or none that fits."""
+    start = f"POST /ask HTTP/1.1\r\nHost: 127.0.0.1:{heap.port}\r\nX-Heapdbg-Key: {heap.key}\r\n"
+
+    def status(rest, head=start):
+        return int(heap.sent((head + rest).encode()).split(b" ", 2)[1])
+
+    yield "a body in parts", status("Connection: close\r\nTransfer-Encoding: chunked\r\n\r\n2\r\npi\r\n2\r\nns\r\n0\r\n\r\n"), 200
+    yield "two lengths", status("Content-Length: 4\r\nContent-Length: 5\r\n\r\npins"), 400
+    yield "a length and parts", status("Content-Length: 4\r\nTransfer-Encoding: chunked\r\n\r\n0\r\n\r\n"), 400
+    yield "a coding that isn't known", status("Transfer-Encoding: gzip, chunked\r\n\r\n0\r\n\r\n"), 501
+    yield "a body whose end can't be known", status("Transfer-Encoding: gzip\r\n\r\n"), 400
+    yield "seventy fields", status("".join(f"X-{k}: a\r\n" for k in range(70)) + "\r\n"), 431
+    yield "a zero byte in a field", status("X: \0\r\n\r\n"), 400
+    yield "HTTP/1.0", status("Content-Length: 4\r\n\r\npins", start.replace("1.1", "1.0")), 200
+    three = (heap.head(body=b"pins", X_Heapdbg_Key=heap.key).replace(b"close", b"keep-alive") + b"pins") * 2 + heap.head(body=b"status", X_Heapdbg_Key=heap.key) + b"status"
+    came = heap.sent(three)
+    yield "three requests at once", (came.count(b"HTTP/1.1 200"), came.count(b"\r\n\r\nok 0\n"), came.endswith(b"ok 8\n")), (3, 2, True)
+
+
 def modelled():
     """Returns a session of the model over the heap that LEAK leaves."""
     session = Asking(Machine(keep=KEEP))
@@ -193,7 +213,7 @@ def main(program, *pictures):
     """Returns whether all is well."""
     well = True
     with Heap(program, LEAK) as heap:
-        cases = [*colours.all_of(PAGE.decode()), *statuses(heap), *answers(heap), *crowds(heap)]
+        cases = [*colours.all_of(PAGE.decode()), *statuses(heap), *framed(heap), *answers(heap), *crowds(heap)]
         # The client that goes quiet does so while a browser looks on.
         quiet = threading.Thread(target=lambda: cases.extend(left(heap)))
         quiet.start()

@@ -108,6 +108,10 @@ class Browser:
         for kind in ("mousePressed", "mouseReleased"):
             self.mouse(kind, x, y, button="left", clickCount=1)
 
+    def box(self, element):
+        """Returns left, top, width and height of an element, given by a script."""
+        return self.value(f"(() => {{ const r = ({element}).getBoundingClientRect(); return [r.left, r.top, r.width, r.height]; }})()")
+
     def middle(self, element):
         """Returns the middle of an element, given by a script, once it has been scrolled into view."""
         return self.value(f"""(() => {{ const e = {element}; e.scrollIntoView({{ block: "nearest" }}); const r = e.getBoundingClientRect();

@@ -19,6 +19,9 @@ FROM, TO, CLOSED = 816, 1637, 1507
 AFTER = ((5, "0x10000900"), (4, "0x10000020"), (3, "0x10004e00"), (2, LEAKED))
 WELL = ["@1,490 put 0x10000000.size was 12", "@1,489 store 0x10002000[2] was 0x10000060", "@1,488 reg register 6 of mutator 0 was null"]
 ROWS = "[...document.querySelectorAll('#{} tbody tr')]"
+# Whether an element is large enough to be used, and no part of it is beside the window.
+INSIDE = """(() => {{ const r = document.getElementById('{}').getBoundingClientRect();
+    return r.width > 100 && r.height > 10 && r.left >= 0 && r.right <= innerWidth; }})()"""
 CELLS = ROWS + ".map((r) => [...r.cells].map((c) => c.textContent))"
 
 
@@ -53,7 +56,7 @@ def at_place(tab, place, base=None):
 
 def on_line(tab, place):
     """Clicks on the time line at a place."""
-    left, top, width, height = tab.value("(() => { const r = document.getElementById('line').getBoundingClientRect(); return [r.left, r.top, r.width, r.height]; })()")
+    left, top, width, height = tab.box("document.getElementById('line')")
     oldest, newest = tab.value("[heapdbg.S.oldest, heapdbg.S.place]")
     tab.click(left + 8 + (width - 16) * (place - oldest) / (newest - oldest), top + height / 2)
 
@@ -209,7 +212,7 @@ def narrow(tab):
         tab.wait(f"innerWidth === {width}")
         yield f"nothing is wider than {width} points", tab.value("document.documentElement.scrollWidth"), width
         for name in ("classes", "map", "steps", "insp", "q"):
-            tab.wait(f"(() => {{ const r = document.getElementById('{name}').getBoundingClientRect(); return r.width > 100 && r.height > 10 && r.left >= 0 && r.right <= innerWidth; }})()")
+            tab.wait(INSIDE.format(name))
             yield f"{name} at {width} points", True, True
         tab.click_on(row("classes", CLASS))
         tab.wait("document.querySelectorAll('#inst tbody tr').length > 11 || heapdbg.S.klass === null")

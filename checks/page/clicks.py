@@ -15,9 +15,8 @@ STORY = TOP / "examples/leak.session"
 LEAKED, CLASS = "0x10000040", "server/Session"
 # The ends of the two cycles, and the step that closed the session that leaked.
 FROM, TO, CLOSED = 816, 1637, 1507
-# The steps that HUNT shows after the one that closed it, the newest first, and those after the one that closed the request before.
-AFTER = ((5, "0x10000900"), (4, "0x10000020"), (3, "0x10004e00"), (2, LEAKED))
-WELL = ["@1,490 put 0x10000000.size was 12", "@1,489 store 0x10002000[2] was 0x10000060", "@1,488 reg register 6 of mutator 0 was null"]
+# What registers held that the steps after it cleared, the newest step first.
+AFTER = ((4, "0x10000900"), (3, "0x10000020"), (2, "0x10004e00"), (1, LEAKED))
 ROWS = "[...document.querySelectorAll('#{} tbody tr')]"
 # Whether an element is large enough to be used, and no part of it is beside the window.
 INSIDE = """(() => {{ const r = document.getElementById('{}').getBoundingClientRect();
@@ -101,12 +100,13 @@ def hunt(tab, told):
     yield from inspected(tab, told)
     tab.click_on(f"[...document.querySelectorAll('#insp a')].find((a) => a.textContent === '@{CLOSED:,}')")
     at_place(tab, CLOSED, FROM)
-    yield "the step that closed it", steps(tab, ".now"), [f"@{CLOSED:,} put {LEAKED}.state was 0"]
-    yield "the steps after it", [text.split(" ", 2)[2] for text in steps(tab, ".later")], [f"register {r} of mutator 0 was {was}" for r, was in AFTER]
+    tab.wait("document.querySelector('#steps .now').innerText.includes('=')")
+    yield "the step that closed it", steps(tab, ".now"), [f"@{CLOSED:,} put {LEAKED}.state = {told[f'show @{CLOSED} {LEAKED}'][0][1][3]} was 0"]
+    yield "the steps after it", steps(tab, ".later"), [f"@{CLOSED + k:,} reg register {k + 1} of mutator 0 = null was {was}" for k, was in AFTER]
     for _ in range(2):
         tab.key("ArrowLeft", shift=True)
     at_place(tab, CLOSED - 20, FROM)
-    yield "the steps after a request that ends well", steps(tab, ".later")[-3:], WELL
+    yield "the steps after a request that ends well", steps(tab, ".later")[-3:], well(told)
     tab.key("ArrowRight", shift=True)
     tab.key("ArrowRight", shift=True)
     at_place(tab, CLOSED, FROM)
@@ -115,6 +115,13 @@ def hunt(tab, told):
 def steps(tab, kind):
     """Returns the texts of the steps of a kind that the page shows."""
     return tab.value(f"[...document.querySelectorAll('#steps {kind}')].map((r) => r.innerText.replace(/\\s+/g, ' ').trim())")
+
+
+def well(told):
+    """Returns the steps after the one that closed the session of the request before, the newest first: of 20 steps before CLOSED."""
+    size, chain, register = told[f"show @{CLOSED - 17} 0x10000000"], told[f"show @{CLOSED - 18} 0x10002000"], told[f"registers @{CLOSED - 19}"]
+    return [f"@1,490 put 0x10000000.size = {size[0][1][3]} was 12", f"@1,489 store 0x10002000[2] = {chain[0][2][3]} was 0x10000060",
+            f"@1,488 reg register 6 of mutator 0 = {register[0][6][2]} was null"]
 
 
 def instances(told):
@@ -219,10 +226,17 @@ def narrow(tab):
     tab.size(1600, 1000)
 
 
+def questions():
+    """Returns the questions whose answers the page has to show."""
+    yield from (f"{line} @{TO}" for line in ("histogram", "garbage", "objects"))
+    yield from (f"{word} @{TO} {LEAKED}" for word in ("show", "path", "referrers"))
+    yield from (f"show @{CLOSED} {LEAKED}", f"show @{CLOSED - 17} 0x10000000", f"show @{CLOSED - 18} 0x10002000", f"registers @{CLOSED - 19}")
+    yield from (f"growth @{FROM} @{TO}", f"born {LEAKED}")
+
+
 def all_of(heap, program):
     """All of these."""
-    lines = [f"{line} @{TO}" for line in ("histogram", "garbage", "objects")] + [f"growth @{FROM} @{TO}", f"born {LEAKED}"]
-    told = explored(program, lines + [f"{word} @{TO} {LEAKED}" for word in ("show", "path", "referrers")])
+    told = explored(program, list(questions()))
     tab = opened(heap)
     try:
         yield "the first sight", tab.value(CELLS.format("classes") + ".map((r) => r[0] + ' ' + r[1])"), [

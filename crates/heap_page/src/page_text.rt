@@ -2,7 +2,7 @@
 
 // The policy of the page.
 pub(crate) const POLICY: &str =
-    "default-src 'none'; script-src 'sha256-RpfEu5LHbc7m2L+5k1tKp4Jpyn5DFXr74r63VOScHIc='; style-src 'sha256-ngS9toA+yCkW4/7gyltRDTqroswzjKVKUjLBFbKhyt8='; img-src data:; connect-src 'self'; base-uri 'none'; form-action 'none'; frame-ancestors 'none'";
+    "default-src 'none'; script-src 'sha256-8UVmgBJ1y24ODM+bjXgMGT8jIQgzVHyedix9qaz7b2w='; style-src 'sha256-jjcl5Lx/0IHhiIQFHnMWbeir9C+x8iVSbIo6aZHC8CI='; img-src data:; connect-src 'self'; base-uri 'none'; form-action 'none'; frame-ancestors 'none'";
 
 // The page.
 pub(crate) const PAGE: &[u8] = b"<!doctype html>\n\
@@ -69,7 +69,7 @@ pub(crate) const PAGE: &[u8] = b"<!doctype html>\n\
     main { display: grid; grid-template-columns: minmax(390px, 29%) minmax(0, 1fr) minmax(340px, 26%); min-height: 0; gap: 1px; background: var(--line); }\n\
     .col { display: flex; flex-direction: column; min-height: 0; min-width: 0; background: var(--panel); }\n\
     .panel { display: flex; flex-direction: column; min-height: 0; flex: 1 1 0; }\n\
-    #mappanel { flex-grow: 2.3; } #classpanel { flex-grow: 1.1; }\n\
+    #mappanel { flex-grow: 1.8; } #classpanel { flex-grow: 1.1; }\n\
     .panel + .panel { border-top: 1px solid var(--line); }\n\
     .panel > h2 { display: flex; align-items: center; gap: 8px; margin: 0; padding: 8px 12px 6px; font-size: 12px; font-weight: 600; color: var(--ink2); min-height: 36px; flex: none; }\n\
     .panel > h2 small { font-weight: 400; color: var(--ink3); font-size: 12px; overflow: hidden; text-overflow: ellipsis; white-space: nowrap; min-width: 0; }\n\
@@ -277,6 +277,7 @@ pub(crate) const PAGE: &[u8] = b"<!doctype html>\n\
     \x20\x20\x20\x20color: new Map(),\n\
     \x20\x20\x20\x20path: new Set(),\n\
     \x20\x20\x20\x20refs: new Set(),\n\
+    \x20\x20\x20\x20values: new Map(),\n\
     \x20\x20\x20\x20more: 0,\n\
     \x20\x20\x20\x20epoch: 0,\n\
     \x20\x20\x20\x20took: null,\n\
@@ -550,6 +551,7 @@ pub(crate) const PAGE: &[u8] = b"<!doctype html>\n\
     \x20\x20function takeState([o, g, h, cells, k, r, pins, d], place) {\n\
     \x20\x20\x20\x20if (!h.ok || !o.ok || !g.ok) return false;\n\
     \x20\x20\x20\x20S.shown = place;\n\
+    \x20\x20\x20\x20S.values = new Map();\n\
     \x20\x20\x20\x20S.hist = h.rows.map((x) => ({ objects: +x[0], bytes: +x[1], name: x[2] }));\n\
     \x20\x20\x20\x20S.total = { objects: +h.words[1], bytes: +h.words[2] };\n\
     \x20\x20\x20\x20keepSample(place, h);\n\
@@ -1670,11 +1672,55 @@ pub(crate) const PAGE: &[u8] = b"<!doctype html>\n\
     \x20\x20// ---- steps\n\
     \x20\x20const wasOf = (w) => w.startsWith(\"0x\") ? [el(\"span\", \"dim\", \"was \"), idLink(w)] : [el(\"span\", \"dim\", \"was \" + w)];\n\
     \n\
+    \x20\x20// A name for the slot or the register that a step writes.\n\
+    \x20\x20function targetOf(e) {\n\
+    \x20\x20\x20\x20if (e.target === undefined) {\n\
+    \x20\x20\x20\x20\x20\x20const w = wordsOf(e);\n\
+    \x20\x20\x20\x20\x20\x20e.target = e.kind === \"put\" || e.kind === \"store\" ? w[1] + \" \" + w[2] : e.kind === \"reg\" ? w[1] + \":\" + w[2] : e.kind === \"new\" ? w[2] + \":\" + w[3] : \"\";\n\
+    \x20\x20\x20\x20}\n\
+    \x20\x20\x20\x20return e.target;\n\
+    \x20\x20}\n\
+    \n\
+    \x20\x20// Returns what a step wrote: what the next step that writes the same overwrote, else what is there in the shown state. Null if that can't be\n\
+    \x20\x20// known, and undefined if the shown state must be asked.\n\
+    \x20\x20function writtenBy(e) {\n\
+    \x20\x20\x20\x20const last = e.p <= S.shown ? S.shown : Math.min(S.place, e.p + 2000);\n\
+    \x20\x20\x20\x20for (let p = e.p + 1; p <= last; p++) {\n\
+    \x20\x20\x20\x20\x20\x20const next = eventAt(p);\n\
+    \x20\x20\x20\x20\x20\x20if (!next || (next.kind === \"new\" && next.w === e.w)) return null;\n\
+    \x20\x20\x20\x20\x20\x20if (targetOf(next) === targetOf(e)) return wordsOf(next).pop();\n\
+    \x20\x20\x20\x20}\n\
+    \x20\x20\x20\x20if (e.p > S.shown) return null;\n\
+    \x20\x20\x20\x20if (e.kind !== \"reg\") return undefined;\n\
+    \x20\x20\x20\x20const [, m, r] = wordsOf(e),\n\
+    \x20\x20\x20\x20\x20\x20found = S.regs.find((x) => x[0] === m && x[1] === r);\n\
+    \x20\x20\x20\x20return found ? found[2] : \"null\";\n\
+    \x20\x20}\n\
+    \n\
+    \x20\x20// What a step wrote, as soon as it is known.\n\
+    \x20\x20function wrote(e) {\n\
+    \x20\x20\x20\x20const box = el(\"span\"),\n\
+    \x20\x20\x20\x20\x20\x20value = writtenBy(e),\n\
+    \x20\x20\x20\x20\x20\x20fill = (v) => {\n\
+    \x20\x20\x20\x20\x20\x20\x20\x20if (v === null || v === undefined) return;\n\
+    \x20\x20\x20\x20\x20\x20\x20\x20const shown = v.startsWith(\"0x\") ? idLink(v) : v;\n\
+    \x20\x20\x20\x20\x20\x20\x20\x20if (v.startsWith(\"0x\")) shown.tabIndex = -1;\n\
+    \x20\x20\x20\x20\x20\x20\x20\x20box.append(\"= \", shown, \" \");\n\
+    \x20\x20\x20\x20\x20\x20};\n\
+    \x20\x20\x20\x20if (value !== undefined) fill(value);\n\
+    \x20\x20\x20\x20else if (!S.fast && e.p > S.shown - 16) {\n\
+    \x20\x20\x20\x20\x20\x20const [, id, slot] = wordsOf(e);\n\
+    \x20\x20\x20\x20\x20\x20if (!S.values.has(id)) S.values.set(id, ask(`show ${atWord()} ${id}`, true).then((r) => r.ok ? r.rows.map((x) => x[3]) : []));\n\
+    \x20\x20\x20\x20\x20\x20S.values.get(id).then((values) => fill(values[slot])).catch(() => {});\n\
+    \x20\x20\x20\x20}\n\
+    \x20\x20\x20\x20return box;\n\
+    \x20\x20}\n\
+    \n\
     \x20\x20function told(e) {\n\
     \x20\x20\x20\x20const w = wordsOf(e),\n\
     \x20\x20\x20\x20\x20\x20dim = (t) => el(\"span\", \"dim\", t);\n\
-    \x20\x20\x20\x20if (e.kind === \"put\" || e.kind === \"store\") return [idLink(w[1]), el(\"span\", \"\", nameOfSlot(w[1], w[2])), \" \", ...wasOf(w[3])];\n\
-    \x20\x20\x20\x20if (e.kind === \"reg\") return [el(\"span\", \"\", `register ${w[2]} of mutator ${w[1]}`), \" \", ...wasOf(w[3])];\n\
+    \x20\x20\x20\x20if (e.kind === \"put\" || e.kind === \"store\") return [idLink(w[1]), el(\"span\", \"\", nameOfSlot(w[1], w[2])), \" \", wrote(e), ...wasOf(w[3])];\n\
+    \x20\x20\x20\x20if (e.kind === \"reg\") return [el(\"span\", \"\", `register ${w[2]} of mutator ${w[1]}`), \" \", wrote(e), ...wasOf(w[3])];\n\
     \x20\x20\x20\x20if (e.kind === \"new\") {\n\
     \x20\x20\x20\x20\x20\x20const o = objectAt(w[1]);\n\
     \x20\x20\x20\x20\x20\x20return [idLink(w[1]), dim((o && bornAt(o, S.shown) === e.p ? \" \" + o.name : \"\") + ` in register ${w[3]} of mutator ${w[2]}`)];\n\
@@ -1714,7 +1760,7 @@ pub(crate) const PAGE: &[u8] = b"<!doctype html>\n\
     \x20\x20\x20\x20\x20\x20out.push(more);\n\
     \x20\x20\x20\x20}\n\
     \x20\x20\x20\x20$(\"steps\").replaceChildren(...out);\n\
-    \x20\x20\x20\x20$(\"stepnote\").textContent = S.events.length ? \"what each did and what it overwrote, newest first\" : S.place > S.oldest ? \"\xe2\x80\xa6\" : \"no step is retained\";\n\
+    \x20\x20\x20\x20$(\"stepnote\").textContent = S.events.length ? \"what each wrote and what was there, newest first\" : S.place > S.oldest ? \"\xe2\x80\xa6\" : \"no step is retained\";\n\
     \x20\x20}\n\
     \n\
     \x20\x20// ---- object\n\

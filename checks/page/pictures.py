@@ -63,7 +63,7 @@ def take(heap, folder):
         taken(tab, folder / "page.png")
     finally:
         tab.close()
-    tab = opened(heap, width=1400, height=750)
+    tab = opened(heap, width=1400, height=730)
     try:
         tab.wait("heapdbg.S.samples.size > 60")
         tab.click_on("document.getElementById('cycles')")

@@ -2,7 +2,7 @@
 
 // The policy of the page.
 pub(crate) const POLICY: &str =
-    "default-src 'none'; script-src 'sha256-8UVmgBJ1y24ODM+bjXgMGT8jIQgzVHyedix9qaz7b2w='; style-src 'sha256-jjcl5Lx/0IHhiIQFHnMWbeir9C+x8iVSbIo6aZHC8CI='; img-src data:; connect-src 'self'; base-uri 'none'; form-action 'none'; frame-ancestors 'none'";
+    "default-src 'none'; script-src 'sha256-G9iP7sMbdqNjDtb0GG0hKuCBuPszcp+Atl0X8UKQJJc='; style-src 'sha256-jjcl5Lx/0IHhiIQFHnMWbeir9C+x8iVSbIo6aZHC8CI='; img-src data:; connect-src 'self'; base-uri 'none'; form-action 'none'; frame-ancestors 'none'";
 
 // The page.
 pub(crate) const PAGE: &[u8] = b"<!doctype html>\n\
@@ -176,7 +176,7 @@ pub(crate) const PAGE: &[u8] = b"<!doctype html>\n\
     <dialog id=\"help\" aria-label=\"Help\">\n\
     <h2>Find a leak</h2>\n\
     <ol>\n\
-    <li><b>Growth between cycles</b> compares the heap at the ends of the two newest marking cycles, so with little garbage in it. Or drag the handle of the time line to a place, press <b>Compare from here</b>, and drag it to a later one.</li>\n\
+    <li><b>Growth between cycles</b> compares the heap at the ends of the two newest marking cycles, so with little garbage in it. Or drag the handle of the time line to a place, press <b>Compare from here</b> (or click the line with <kbd>Shift</kbd>), and drag it to a later one.</li>\n\
     <li>The classes that grew most stand first. Click one: its objects are listed, the oldest first; those that were there before are faint.</li>\n\
     <li>Click an object. <b>Why it is alive</b> is a shortest path from a register, and <b>Written at</b> the step that wrote each field.</li>\n\
     <li>Click a place, such as @1,507: everything now shows the heap there, and <b>Steps</b> what was done around it.</li>\n\
@@ -664,6 +664,7 @@ pub(crate) const PAGE: &[u8] = b"<!doctype html>\n\
     \x20\x20\x20\x20\x20\x20drawSteps();\n\
     \x20\x20\x20\x20\x20\x20drawInstances();\n\
     \x20\x20\x20\x20}\n\
+    \x20\x20\x20\x20if (!state && !S.whole && !S.fast) loadWhole().catch(() => {});\n\
     \x20\x20}\n\
     \x20\x20const sampleOf = (h) => ({ bytes: +h.words[2], by: new Map(h.rows.map((r) => [r[2], +r[1]])) });\n\
     \n\
@@ -2102,8 +2103,8 @@ pub(crate) const PAGE: &[u8] = b"<!doctype html>\n\
     \x20\x20$(\"back\").onclick = goBack;\n\
     \x20\x20$(\"how\").onclick = () => $(\"help\").showModal();\n\
     \x20\x20$(\"save\").onclick = async () => {\n\
-    \x20\x20\x20\x20const place = atPlace(),\n\
-    \x20\x20\x20\x20\x20\x20{ reply, data } = await post(\"/dump\", S.at === null ? \"-\" : \"@\" + S.at).catch(() => ({ reply: null }));\n\
+    \x20\x20\x20\x20const name = S.fast && S.at === null ? \"heap.hprof\" : `heap-${atPlace()}.hprof`,\n\
+    \x20\x20\x20\x20\x20\x20{ reply, data } = await post(\"/dump\", atWord()).catch(() => ({ reply: null }));\n\
     \x20\x20\x20\x20if (!reply || !reply.ok) {\n\
     \x20\x20\x20\x20\x20\x20$(\"last\").textContent = \"no dump: \" + (reply ? data : \"no connection\");\n\
     \x20\x20\x20\x20\x20\x20return;\n\
@@ -2111,7 +2112,7 @@ pub(crate) const PAGE: &[u8] = b"<!doctype html>\n\
     \x20\x20\x20\x20const url = URL.createObjectURL(data),\n\
     \x20\x20\x20\x20\x20\x20a = el(\"a\");\n\
     \x20\x20\x20\x20a.href = url;\n\
-    \x20\x20\x20\x20a.download = `heap-${place}.hprof`;\n\
+    \x20\x20\x20\x20a.download = name;\n\
     \x20\x20\x20\x20a.click();\n\
     \x20\x20\x20\x20$(\"last\").textContent = `saved ${a.download}, ${num(data.size)} bytes`;\n\
     \x20\x20\x20\x20setTimeout(() => URL.revokeObjectURL(url), 10000);\n\

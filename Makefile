@@ -1,5 +1,5 @@
 # The commands of this repository. README says what each is for.
-.PHONY: run build prove test edits bench bench-lock soak audit install uninstall dist
+.PHONY: run build prove test edits bench bench-lock page-test soak audit install uninstall dist
 
 # How many crates `make prove` checks side by side. Each takes up to 6 GB of memory.
 JOBS ?= 3
@@ -50,6 +50,14 @@ edits:
 
 bench: build
 	bash bench/lines.sh
+	python3 bench/page.py bin/heapdbg
+
+# Looks at the page in Chromium, which it installs where it is missing and apt-get is there. PROGRAM is the program that serves it.
+PROGRAM ?= bin/heapdbg
+page-test:
+	@for each in chromium chromium-browser google-chrome google-chrome-stable; do command -v $$each > /dev/null && exit; done; \
+	    if command -v apt-get > /dev/null; then apt-get update > /dev/null && DEBIAN_FRONTEND=noninteractive apt-get install -y chromium > /dev/null; fi
+	python3 checks/page $(PROGRAM)
 
 # What acts under the lock cost. Builds a program of its own in a temporary folder.
 bench-lock:

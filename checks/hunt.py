@@ -20,9 +20,9 @@ KEEP = 4096
 
 
 def page():
-    """Returns the page's lines to give, each with the lines that it must be answered."""
+    """Returns the page's lines to give, each with the lines that it must be answered: those of its first half, the questions."""
     asked = []
-    for line in (TOP / "docs/HUNT.md").read_text().split("\n"):
+    for line in (TOP / "docs/HUNT.md").read_text().split("\n## ")[0].split("\n"):
         if line.startswith("    > "):
             asked.append((line[6:].encode(), []))
         elif line.startswith("    ") and asked:

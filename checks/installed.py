@@ -3,9 +3,9 @@
 `installed.py PROGRAM`.
 
 Looks whether the manual page and the completions know each option that the program's help names, whether the examples of the
-page, as `man` shows them, and the commands of README, HUNT, VIEWERS and of the client's README do in the installed folder what
-they say, and whether `make uninstall` leaves nothing. Prints a line for each thing that is otherwise, and ends with status 1 if
-there is one; prints nothing where all is well."""
+page, as `man` shows them, and the commands of README, SESSIONS, HUNT, VIEWERS and of the client's README do in the installed
+folder what they say, and whether `make uninstall` leaves nothing. Prints a line for each thing that is otherwise, and ends with
+status 1 if there is one; prints nothing where all is well."""
 import concurrent.futures
 import contextlib
 import http.client
@@ -162,11 +162,11 @@ def asked(shell, readme):
         yield "README's example is another than examples/point.session"
 
 
-def live(shell, readme):
-    """Yields what README's heap that is served, its two sessions and its dumps do otherwise than it says."""
-    text = readme.read_text()
-    indented, quoted = commands_of(readme)
-    _, serve, ask, fetch = indented
+def live(shell, document):
+    """Yields what the heap that SESSIONS serves, its two sessions and its dumps do otherwise than it says."""
+    text = document.read_text()
+    indented, quoted = commands_of(document)
+    serve, ask, fetch = indented
     explore = [each for each in quoted if each.startswith("heapdbg explore --port")]
     wanted = [int(each) for each in re.findall(r"fetched (\d+)", text)]
     nodes = [int(each.replace(",", "")) for each in re.findall(r"([\d,]+) instances", text)]
@@ -177,24 +177,26 @@ def live(shell, readme):
             shell.waits_for_lines("replies", 16 + 2 * nodes[0])
             came = shell.run(fetch)
             if came != (0, b"".join(b"fetched %d\n" % size for size in wanted), b""):
-                yield f"README, {fetch!r}: {came}"
+                yield f"SESSIONS, {fetch!r}: {came}"
             for name, count in zip(("before", "after"), nodes):
                 data = (shell.folder / f"{name}.hprof").read_bytes()
-                yield from (f"README, {name}.hprof: {fault}" for fault in viewers.faults(data))
+                yield from (f"SESSIONS, {name}.hprof: {fault}" for fault in viewers.faults(data))
                 if viewers.Dump(data).count("Node") != count:
-                    yield f"README, {name}.hprof: {viewers.Dump(data).count('Node')} nodes"
+                    yield f"SESSIONS, {name}.hprof: {viewers.Dump(data).count('Node')} nodes"
             status, out, error = shell.run(explore[0], b"histogram -\n")
             if status or error or not re.match(rb"row %d \d+ Node\nok " % nodes[1], out):
-                yield f"README, {explore[0]!r}: status {status}, {out!r}, {error!r}"
+                yield f"SESSIONS, {explore[0]!r}: status {status}, {out!r}, {error!r}"
             if session.ended() != (0, b"", b""):
-                yield f"README, {ask!r}: {session.ended()}"
+                yield f"SESSIONS, {ask!r}: {session.ended()}"
         if server.ended() != (0, b"session 1 quit\nsession 2 quit\n", b""):
-            yield f"README, {serve!r}: {server.ended()}"
+            yield f"SESSIONS, {serve!r}: {server.ended()}"
 
 
 def paged(shell, readme):
-    """Yields what README's heap with a page does otherwise than it says. Its session ends at once here."""
+    """Yields what README's heap with a page does otherwise than it says. Its session ends at once here. HUNT has the same heap."""
     serve = commands_of(readme)[0][0]
+    if serve not in commands_of(readme.parent / "docs/HUNT.md")[0]:
+        yield "HUNT serves another heap with a page than README"
     ask = re.search(r"^    (\(cat .*)$", readme.read_text(), re.MULTILINE)[1]
     with shell.start(serve) as server:
         server.waits_for(shell.ports["7080"])
@@ -243,11 +245,11 @@ def seen(look, name, shell, folder):
 def documents(folder, programs):
     """Yields what the documents do otherwise than they say, typed where they are installed."""
     with Shell(folder, programs) as shell:
-        looks = ((live, "README.md"), (paged, "README.md"), (asked, "README.md"), (hunted, "docs/HUNT.md"), (viewed, "docs/VIEWERS.md"), (client, "clients/python"))
+        looks = ((live, "docs/SESSIONS.md"), (paged, "README.md"), (asked, "README.md"), (hunted, "docs/HUNT.md"), (viewed, "docs/VIEWERS.md"), (client, "clients/python"))
         with concurrent.futures.ThreadPoolExecutor(len(looks)) as pool:
             for found in pool.map(lambda look: seen(*look, shell, folder), looks):
                 yield from found
-    for path in (folder / "README.md", folder / "docs/VIEWERS.md", folder / "docs/HUNT.md"):
+    for path in (folder / "README.md", folder / "docs/SESSIONS.md", folder / "docs/VIEWERS.md", folder / "docs/HUNT.md"):
         for name in re.findall(r"`((?:docs|examples|clients)/[\w./]+)`", path.read_text()):
             if name != "examples/leak.py" and not (folder / name).exists():
                 yield f"{path.name} names {name}, which isn't installed"

@@ -5,81 +5,31 @@ Prints a line for each difference and ends with status 1 if there is one. Where 
 requests alone. With a folder for PICTURES it leaves what the browser showed."""
 import contextlib
 import pathlib
-import re
 import socket
 import sys
+import threading
+import time
 
 TOP = pathlib.Path(__file__).resolve().parent.parent.parent
-sys.path[:0] = [str(TOP / "checks"), str(TOP / "checks/page"), str(TOP / "checks/model")]
+sys.path[:0] = [str(TOP / part) for part in ("checks", "checks/page", "checks/model", "bench")]
 
 import browser  # noqa: E402
+import clicks  # noqa: E402
+import colours  # noqa: E402
+import loads  # noqa: E402
 from dump import pieces_of  # noqa: E402
+from paged import KEEP, Heap, body_of  # noqa: E402
 from machine import Machine  # noqa: E402
+from pictures import take  # noqa: E402
 from questions import Asking  # noqa: E402
-from served import LIMIT, Server, free_port  # noqa: E402
 
 LEAK = (TOP / "examples/leak.session").read_bytes()
 PAGE = (TOP / "crates/heap_page/page/page.html").read_bytes()
-KEEP = 4096
 # What is asked of the heap that LEAK leaves: each question with an answer of several rows, and each refusal.
 ASKED = """histogram -, histogram @816, garbage -, garbage @1637, growth @816 @1637, registers -, registers @816, classes -,
     referrers - 0x10000020, path - 0x10000040, show - 0x10000040, show @1500 0x10000040, born 0x10000040, wrote 0x10000040 1,
     dropped 0x10000040, history 3, history 4096, pins, objects -, objects @816, cells, path - 0x10000001, histogram 7,
     histogram @99999, show - 0x10000600""".replace("\n    ", " ").split(", ")
-
-
-class Heap:
-    """A served heap that the leak session left, whose session goes on, and its page."""
-
-    def __init__(self, program):
-        self.port = free_port()
-        self.server = Server(program, 1, "--page", str(self.port), "--keep", str(KEEP))
-        self.client = self.server.client()
-        self.client.sendall(LEAK)
-        come = b""
-        while come.count(b"\n") < LEAK.count(b"\n"):
-            come += self.client.recv(1 << 16)
-        self.address = self.server.run.stderr.readline().decode().split("page ")[1].strip()
-        self.key = self.address.split("#")[1]
-
-    def say(self, line):
-        """Says a line in the session, and returns the last line of its answer."""
-        self.client.sendall(line.encode() + b"\n")
-        come = b""
-        while not re.search(rb"(?m)^(ok|no|bad)[^\n]*\n\Z", come):
-            come += self.client.recv(1 << 16)
-        return come.decode().splitlines()[-1]
-
-    def sent(self, given):
-        """Sends bytes, and returns what comes until nothing does, or the other side closes."""
-        with socket.create_connection(("127.0.0.1", self.port), LIMIT) as client:
-            client.sendall(given)
-            come = b""
-            with contextlib.suppress(ConnectionError):
-                while part := client.recv(1 << 16):
-                    come += part
-        return come
-
-    def request(self, method="POST", path="/ask", body=b"", host=None, version="1.1", **fields):
-        """Returns the response to a request that asks to close."""
-        head = [f"{method} {path} HTTP/{version}", f"Host: {host or f'127.0.0.1:{self.port}'}", "Connection: close", f"Content-Length: {len(body)}"]
-        head += [f"{name.replace('_', '-')}: {value}" for name, value in fields.items()]
-        return self.sent("\r\n".join(head).encode() + b"\r\n\r\n" + body)
-
-    def status(self, *given, **fields):
-        """Returns the status of the response to a request."""
-        return int(self.request(*given, **fields).split(b" ", 2)[1] or 0)
-
-    def asked(self, line):
-        """Returns the answer of a line."""
-        return self.request(body=line.encode(), X_Heapdbg_Key=self.key).split(b"\r\n\r\n", 1)[1].decode()
-
-    def __enter__(self):
-        return self
-
-    def __exit__(self, *_):
-        self.client.close()
-        self.server.__exit__()
 
 
 def statuses(heap):
@@ -113,9 +63,24 @@ def statuses(heap):
     yield "no host", int(heap.sent(b"GET / HTTP/1.1\r\nConnection: close\r\n\r\n").split(b" ")[1]) in (400, 403), True
 
 
-def body_of(response):
-    """Returns the body of a response."""
-    return response.split(b"\r\n\r\n", 1)[1]
+def framed(heap):
+    """Yields what comes of requests whose bodies have other frames, or none that fits."""
+    start = f"POST /ask HTTP/1.1\r\nHost: 127.0.0.1:{heap.port}\r\nX-Heapdbg-Key: {heap.key}\r\n"
+
+    def status(rest, head=start):
+        return int(heap.sent((head + rest).encode()).split(b" ", 2)[1])
+
+    yield "a body in parts", status("Connection: close\r\nTransfer-Encoding: chunked\r\n\r\n2\r\npi\r\n2\r\nns\r\n0\r\n\r\n"), 200
+    yield "two lengths", status("Content-Length: 4\r\nContent-Length: 5\r\n\r\npins"), 400
+    yield "a length and parts", status("Content-Length: 4\r\nTransfer-Encoding: chunked\r\n\r\n0\r\n\r\n"), 400
+    yield "a coding that isn't known", status("Transfer-Encoding: gzip, chunked\r\n\r\n0\r\n\r\n"), 501
+    yield "a body whose end can't be known", status("Transfer-Encoding: gzip\r\n\r\n"), 400
+    yield "seventy fields", status("".join(f"X-{k}: a\r\n" for k in range(70)) + "\r\n"), 431
+    yield "a zero byte in a field", status("X: \0\r\n\r\n"), 400
+    yield "HTTP/1.0", status("Content-Length: 4\r\n\r\npins", start.replace("1.1", "1.0")), 200
+    three = (heap.head(body=b"pins", X_Heapdbg_Key=heap.key).replace(b"close", b"keep-alive") + b"pins") * 2 + heap.head(body=b"status", X_Heapdbg_Key=heap.key) + b"status"
+    came = heap.sent(three)
+    yield "three requests at once", (came.count(b"HTTP/1.1 200"), came.count(b"\r\n\r\nok 0\n"), came.endswith(b"ok 8\n")), (3, 2, True)
 
 
 def modelled():
@@ -141,8 +106,7 @@ def answers(heap):
     yield "status", status[:2], [f"row place {place}", f"row retained {place}"]
     yield "the end of status", status[-2:], [f"row acts {LEAK.count(bytes([10]))}", "ok 8"]
     for word, at in (("-", place), (f"@{place}", place), ("@816", 816), ("@1637", 1637), ("@0", 0)):
-        text = body_of(heap.request(path="/dump", body=word.encode(), X_Heapdbg_Key=heap.key))
-        yield f"the dump of {word}", text == dumped(model.machine, at), True
+        yield f"the dump of {word}", heap.dump(word) == dumped(model.machine, at), True
     before = heap.asked("history 3")
     for line in ("put 0 0 1 7", "rewind 3", "collect", "open -", "dump -", "class A -", "end", ""):
         yield f"{line} changes nothing", heap.asked(line), "bad command\n"
@@ -150,44 +114,121 @@ def answers(heap):
     page = heap.request("GET", "/").split(b"\r\n\r\n", 1)
     yield "the page's bytes", page[1] == PAGE, True
     yield "no leave for others", b"access-control" in page[0].lower(), False
-    idle = [socket.create_connection(("127.0.0.1", heap.port), LIMIT) for _ in range(40)]
+
+
+def ports(program):
+    """Yields what is answered at the port that a browser doesn't name, if this port can be had."""
+    try:
+        socket.create_server(("127.0.0.1", 80)).close()
+    except OSError:
+        return
+    with Heap(program, b"", port=80) as heap:
+        for host in ("127.0.0.1", "localhost", "127.0.0.1:80", "localhost:80"):
+            yield f"the host {host} of port 80", heap.status("GET", "/", host=host), 200
+            yield f"a question of http://{host}", heap.status(body=b"pins", X_Heapdbg_Key=heap.key, host=host, Origin=f"http://{host}"), 200
+        for host in ("127.0.0.1:8080", "attacker.example"):
+            yield f"the host {host} of port 80", heap.status("GET", "/", host=host), 403
+            yield f"a question of http://{host} at port 80", heap.status(body=b"pins", X_Heapdbg_Key=heap.key, host="127.0.0.1", Origin=f"http://{host}"), 403
+
+
+def is_open(client):
+    """Tells whether the other side of a connection hasn't closed."""
+    client.setblocking(False)
+    try:
+        return client.recv(1, socket.MSG_PEEK) != b""
+    except BlockingIOError:
+        return True
+    except ConnectionError:
+        return False
+
+
+def waits(heap, count):
+    """Returns how long the slowest of some questions took, in seconds."""
+    found = []
+    for _ in range(count):
+        began = time.monotonic()
+        heap.asked("pins")
+        found.append(time.monotonic() - began)
+    return max(found)
+
+
+def crowds(heap):
+    """Yields what many clients do that say nothing, or little: at most 16 are kept, and others are answered meanwhile."""
+    idle = [heap.connect() for _ in range(40)]
     yield "forty silent clients", heap.asked("pins"), "ok 0\n"
     for one in idle:
         one.close()
+    slow = [heap.connect() for _ in range(40)]
+    head = heap.head(body=b"pins", X_Heapdbg_Key=heap.key) + b"pins"
+    longest = 0
+    for at in range(4):
+        for one in slow:
+            with contextlib.suppress(ConnectionError):
+                one.sendall(head[at : at + 1])
+        longest = max(longest, waits(heap, 10))
+        time.sleep(1)
+    yield "answers beside forty clients of a byte a second", longest < 1 or longest, True
+    kept = [one for one in slow if is_open(one)]
+    yield "how many slow clients are kept", 0 < len(kept) <= 16 or len(kept), True
+    kept[-1].setblocking(True)
+    kept[-1].sendall(head[4:])
+    yield "a slow client that is kept is answered", body_of(kept[-1].makefile("rb").read()), b"ok 0\n"
+    for one in slow:
+        one.close()
+    yield "a body that comes late", late(heap, head), b"ok 0\n"
+    unread = heap.connect()
+    unread.sendall((heap.head(body=b"history 4096", X_Heapdbg_Key=heap.key).replace(b"close", b"keep-alive") + b"history 4096") * 200)
+    yield "answers beside a client that reads nothing", waits(heap, 20) < 1, True
+    unread.close()
 
 
-def seen(heap, pictures):
-    """Yields what a browser shows of the heap."""
-    tab = browser.Browser(browser.found())
+def late(heap, head):
+    """Returns the body of the response to a request whose parts come with pauses."""
+    with heap.connect() as client:
+        for part in (head[:30], head[30:-3], head[-3:]):
+            client.sendall(part)
+            time.sleep(0.1)
+        return body_of(client.makefile("rb").read())
+
+
+def left(heap):
+    """Yields whether a client that has been quiet for 20 seconds is let go, and not much before. Takes these seconds."""
+    with heap.connect() as client:
+        client.sendall(b"POST /ask HTTP/1.1\r\n")
+        began = time.monotonic()
+        client.settimeout(40)
+        come = client.recv(1)
+        yield "a client that went quiet is let go", (come, 19 < time.monotonic() - began < 30), (b"", True)
+
+
+def until_late(cases):
+    """Yields cases, and one more if something that was waited for didn't come."""
     try:
-        tab.open(heap.address)
-        tab.wait("document.documentElement.dataset.ready === '1'")
-        yield "classes", tab.value("[...document.querySelectorAll('#classes tbody tr')].map((r) => r.cells[0].textContent + ' ' + r.cells[1].textContent)"), [
-            "byte[] 32", "server/Entry 32", "server/Session 32", "[server/Entry; 1", "server/Cache 1"]
-        tab.value("heapdbg.pick('0x10000040')")
-        tab.wait("document.getElementById('insp').innerText.includes('@1,507')")
-        text = tab.value("document.getElementById('insp').innerText")
-        for word in ("server/Session", "0x10000040", "user", "1075", "register 1 of mutator 0", "@1,507"):
-            yield f"the object shows {word}", word in text, True
-        if pictures:
-            tab.picture(f"{pictures}/page.png")
-        heap.say("put 0 0 1 7")
-        tab.wait("document.getElementById('place').textContent === '@2,026'")
-        yield "the page follows", True, True
-        yield "complaints of the browser", tab.faults(), []
-    finally:
-        tab.close()
+        yield from cases
+    except TimeoutError as fault:
+        yield "what was waited for", str(fault), "there in time"
 
 
 def main(program, *pictures):
     """Returns whether all is well."""
     well = True
-    with Heap(program) as heap:
-        cases = [*statuses(heap), *answers(heap)]
+    with Heap(program, LEAK) as heap:
+        cases = [*colours.all_of(PAGE.decode()), *statuses(heap), *framed(heap), *answers(heap), *crowds(heap)]
+        # The client that goes quiet does so while a browser looks on.
+        quiet = threading.Thread(target=lambda: cases.extend(left(heap)))
+        quiet.start()
         if browser.found():
-            cases += seen(heap, *(pictures or [None]))
+            cases += until_late(clicks.all_of(heap, program))
         else:
             print("checks/page: no browser is here, so no browser has looked at the page")
+        quiet.join()
+    cases += ports(program)
+    if browser.found():
+        for folder in pictures:
+            with Heap(program, LEAK) as heap:
+                take(heap, pathlib.Path(folder))
+        for load in (loads.empty, loads.few, loads.full, loads.busy):
+            cases += until_late(load(program))
     for name, found, wanted in cases:
         if found != wanted:
             print(f"page: {name}: {found!r} in place of {wanted!r}")

@@ -108,6 +108,50 @@ class Browser:
         for kind in ("mousePressed", "mouseReleased"):
             self.mouse(kind, x, y, button="left", clickCount=1)
 
+    def box(self, element):
+        """Returns left, top, width and height of an element, given by a script."""
+        return self.value(f"(() => {{ const r = ({element}).getBoundingClientRect(); return [r.left, r.top, r.width, r.height]; }})()")
+
+    def middle(self, element):
+        """Returns the middle of an element, given by a script, once it has been scrolled into view."""
+        return self.value(f"""(() => {{ const e = {element}; e.scrollIntoView({{ block: "nearest" }}); const r = e.getBoundingClientRect();
+            return [r.left + r.width / 2, r.top + r.height / 2]; }})()""")
+
+    def click_on(self, element):
+        """Clicks on an element, given by a script, once it is there."""
+        self.wait(f"({element}).getBoundingClientRect().width > 0")
+        self.click(*self.middle(element))
+
+    def wheel(self, x, y, by):
+        """Turns the wheel at a point: away from the user if `by` is negative."""
+        self.mouse("mouseWheel", x, y, deltaX=0, deltaY=by)
+
+    def key(self, name, shift=False):
+        """Presses a key, with Shift or without."""
+        codes = {"Enter": 13, "ArrowDown": 40, "ArrowUp": 38, "ArrowLeft": 37, "ArrowRight": 39, "Backspace": 8, "Escape": 27, "Tab": 9}
+        more = {"windowsVirtualKeyCode": codes[name]} if name in codes else {"text": name}
+        more["modifiers"] = 8 if shift else 0
+        if name == "Enter":
+            more["text"] = "\r"
+        self.call("Input.dispatchKeyEvent", type="keyDown", key=name, **more)
+        self.call("Input.dispatchKeyEvent", type="keyUp", key=name)
+
+    def size(self, width, height):
+        """Gives the window another size."""
+        self.call("Emulation.setDeviceMetricsOverride", width=width, height=height, deviceScaleFactor=1, mobile=False)
+
+    def downloaded(self, folder, act, limit=LIMIT):
+        """Does an act that saves a file, and returns the file once it is whole."""
+        self.call("Page.setDownloadBehavior", behavior="allow", downloadPath=str(folder))
+        act()
+        until = time.monotonic() + limit
+        while time.monotonic() < until:
+            self.value("1")
+            if any(e.get("method", "").endswith("downloadProgress") and e["params"]["state"] == "completed" for e in self.events):
+                return next(path for path in folder.iterdir() if path.suffix != ".crdownload")
+            time.sleep(0.05)
+        raise TimeoutError("nothing was saved")
+
     def faults(self):
         """Returns what the page or the browser complained of."""
         self.value("1")

@@ -14,6 +14,7 @@ use crate::failure::{Failure, Fault, outcome};
 use crate::fetch::fetch_port;
 use crate::folder::missing_folder;
 use crate::opening::open_local;
+use crate::page_exploration::explore_with_page;
 use crate::progress::TerminalGauge;
 use crate::reasons::tell_path;
 use crate::request::Request;
@@ -161,7 +162,7 @@ fn line_of_words<'a>(alloc: Global, words: &'a [String]) -> Result<Vec<&'a str>,
 // Returns the path of the task's file, or None if the task has no file or an allocation fails.
 fn path_of_task<'a>(alloc: Global, line: &'a [&'a str], task: Task) -> Option<&'a str> {
     match task {
-        Task::Explore { from: true } => path_option(alloc, line, "from"),
+        Task::Explore { from: true, .. } => path_option(alloc, line, "from"),
         Task::Draw | Task::Save(Target::Out) | Task::Fetch { port: _ } => {
             path_option(alloc, line, "out")
         }
@@ -189,7 +190,11 @@ where
     let is_terminal = screen.is_terminal;
     match settings.task {
         Task::Run => run(rt, request, screen, reader, writer),
-        Task::Explore { from } => explore(rt, request, from, screen, reader, writer),
+        Task::Explore { from, page: None } => explore(rt, request, from, screen, reader, writer),
+        Task::Explore {
+            from,
+            page: Some(page),
+        } => explore_with_page(rt, request, from, page, screen, reader, writer),
         Task::Draw => draw(rt, request, screen, reader, writer),
         Task::Save(target) => save_at(rt, request, target, is_terminal, reader, writer),
         Task::Serve {

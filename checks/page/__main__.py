@@ -1,9 +1,9 @@
 #!/usr/bin/env python3
-"""Asks the page of a served heap, well and ill, and looks at it in a browser: `checks/page PROGRAM [PICTURES]`.
+"""Asks the page of a served heap, well and ill, and that of `explore --page`, and looks at the first in a browser: `checks/page
+PROGRAM [PICTURES]`.
 
 Prints a line for each difference and ends with status 1 if there is one. Where no browser is, says so in one line, and goes by the
 requests alone. With a folder for PICTURES it leaves what the browser showed."""
-import contextlib
 import pathlib
 import re
 import socket
@@ -13,7 +13,8 @@ TOP = pathlib.Path(__file__).resolve().parent.parent.parent
 sys.path[:0] = [str(TOP / "checks"), str(TOP / "checks/page"), str(TOP / "checks/model")]
 
 import browser  # noqa: E402
-from dump import pieces_of  # noqa: E402
+from asking import Page, dumped  # noqa: E402
+from explored import explored  # noqa: E402
 from machine import Machine  # noqa: E402
 from questions import Asking  # noqa: E402
 from served import LIMIT, Server, free_port  # noqa: E402
@@ -28,7 +29,7 @@ ASKED = """histogram -, histogram @816, garbage -, garbage @1637, growth @816 @1
     histogram @99999, show - 0x10000600""".replace("\n    ", " ").split(", ")
 
 
-class Heap:
+class Heap(Page):
     """A served heap that the leak session left, whose session goes on, and its page."""
 
     def __init__(self, program):
@@ -39,8 +40,7 @@ class Heap:
         come = b""
         while come.count(b"\n") < LEAK.count(b"\n"):
             come += self.client.recv(1 << 16)
-        self.address = self.server.run.stderr.readline().decode().split("page ")[1].strip()
-        self.key = self.address.split("#")[1]
+        self.read_address(self.server.run.stderr)
 
     def say(self, line):
         """Says a line in the session, and returns the last line of its answer."""
@@ -49,30 +49,6 @@ class Heap:
         while not re.search(rb"(?m)^(ok|no|bad)[^\n]*\n\Z", come):
             come += self.client.recv(1 << 16)
         return come.decode().splitlines()[-1]
-
-    def sent(self, given):
-        """Sends bytes, and returns what comes until nothing does, or the other side closes."""
-        with socket.create_connection(("127.0.0.1", self.port), LIMIT) as client:
-            client.sendall(given)
-            come = b""
-            with contextlib.suppress(ConnectionError):
-                while part := client.recv(1 << 16):
-                    come += part
-        return come
-
-    def request(self, method="POST", path="/ask", body=b"", host=None, version="1.1", **fields):
-        """Returns the response to a request that asks to close."""
-        head = [f"{method} {path} HTTP/{version}", f"Host: {host or f'127.0.0.1:{self.port}'}", "Connection: close", f"Content-Length: {len(body)}"]
-        head += [f"{name.replace('_', '-')}: {value}" for name, value in fields.items()]
-        return self.sent("\r\n".join(head).encode() + b"\r\n\r\n" + body)
-
-    def status(self, *given, **fields):
-        """Returns the status of the response to a request."""
-        return int(self.request(*given, **fields).split(b" ", 2)[1] or 0)
-
-    def asked(self, line):
-        """Returns the answer of a line."""
-        return self.request(body=line.encode(), X_Heapdbg_Key=self.key).split(b"\r\n\r\n", 1)[1].decode()
 
     def __enter__(self):
         return self
@@ -113,22 +89,12 @@ def statuses(heap):
     yield "no host", int(heap.sent(b"GET / HTTP/1.1\r\nConnection: close\r\n\r\n").split(b" ")[1]) in (400, 403), True
 
 
-def body_of(response):
-    """Returns the body of a response."""
-    return response.split(b"\r\n\r\n", 1)[1]
-
-
 def modelled():
     """Returns a session of the model over the heap that LEAK leaves."""
     session = Asking(Machine(keep=KEEP))
     for line in LEAK.splitlines():
         session.answer(line)
     return session
-
-
-def dumped(machine, place):
-    """Returns the dump of the state at a place, as the model has it."""
-    return b"".join(pieces_of(machine.states[place - machine.place - 1], 0, 8))
 
 
 def answers(heap):
@@ -141,8 +107,7 @@ def answers(heap):
     yield "status", status[:2], [f"row place {place}", f"row retained {place}"]
     yield "the end of status", status[-2:], [f"row acts {LEAK.count(bytes([10]))}", "ok 8"]
     for word, at in (("-", place), (f"@{place}", place), ("@816", 816), ("@1637", 1637), ("@0", 0)):
-        text = body_of(heap.request(path="/dump", body=word.encode(), X_Heapdbg_Key=heap.key))
-        yield f"the dump of {word}", text == dumped(model.machine, at), True
+        yield f"the dump of {word}", heap.dump(word) == dumped(model.machine, at), True
     before = heap.asked("history 3")
     for line in ("put 0 0 1 7", "rewind 3", "collect", "open -", "dump -", "class A -", "end", ""):
         yield f"{line} changes nothing", heap.asked(line), "bad command\n"
@@ -183,7 +148,7 @@ def main(program, *pictures):
     """Returns whether all is well."""
     well = True
     with Heap(program) as heap:
-        cases = [*statuses(heap), *answers(heap)]
+        cases = [*statuses(heap), *answers(heap), *explored(program)]
         if browser.found():
             cases += seen(heap, *(pictures or [None]))
         else:

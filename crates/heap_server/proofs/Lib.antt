@@ -9,3 +9,4 @@ pub mod FirstLines
 pub mod AheadReads
 pub mod ClientSessions
 pub mod SeatOrder
+pub mod LentSessions

@@ -14,8 +14,8 @@ use std::thread;
 use std::thread::Threads;
 use std::time::Clock;
 
-// A session for the closure of a scope. Contracts say nothing of a `&mut` that such a closure holds, so it holds a value of a type
-// parameter, and gives that back.
+// A session for the closure of a scope. Contracts say nothing of a `&mut` that such a closure holds, so it holds a value of a
+// type parameter, and gives that back.
 trait Talk {
     ghost use Rattle.session_text.specs.declared.Ended.{Ended};
 
@@ -67,8 +67,8 @@ impl<'a, I: Inlet, O: Outlet, C: Commands> Talk for Loan<'a, I, O, C> {
     }
 }
 
-// Serves a session while a thread answers the clients of the page. Returns how it ended, or None if the thread can't be started, and
-// what it was to be served with.
+// Serves a session while a thread answers the clients of the page. Returns how it ended, or None if the thread can't be
+// started, and what it was to be served with.
 fn talk_beside<L: Heap + Send + Sync, R: Clock + Eprint + Threads + Wait + Sync, T: Talk + Drop>(
     rt: &R,
     alloc: Global,
@@ -106,9 +106,9 @@ fn give_back<I, O, C>(reader: &mut I, writer: &mut O, commands: &mut C)
     ensures commands { commands.new ≡ commands.old }
 {}
 
-/// Serves a session between a reader and a writer as `serve` does, while a thread answers the clients of the heap's page: from before
-/// the first read until the session has ended. Fails if the thread can't be started, and has read and written nothing then. May
-/// wait.
+/// Serves a session between a reader and a writer as `serve` does, while a thread answers the clients of the heap's page: from
+/// before the first read until the session has ended. Fails if the thread can't be started, and has read and written nothing
+/// then. May wait.
 pub fn serve_beside_page<L, R, I: Inlet, O: Outlet, C: Commands>(
     rt: &R,
     alloc: Global,

@@ -13,9 +13,9 @@ use std::fs;
 use std::fs::Files;
 use std::io::Error;
 
-/// Runs the lines of the file of the path by these commands, if `from` says so. Their answers are not shown, and each line that is
-/// refused is reported on standard error. Fails with Memory, and with From if the file can't be opened or is a folder; why, it
-/// says on standard error, if that is a terminal.
+/// Runs the lines of the file of the path by these commands, if `from` says so. Their answers are not shown, and each line that
+/// is refused is reported on standard error. Fails with Memory, and with From if the file can't be opened or is a folder; why,
+/// it says on standard error, if that is a terminal.
 pub(crate) fn run_first<R: AllocGlobal + Eprint + Files, C: Commands>(
     rt: &R,
     request: Request<'_>,

@@ -27,10 +27,11 @@ use std::sync::Wait;
 use std::thread::Threads;
 use std::time::Clock;
 
-/// Runs one session as `explore` does, from the only seat of a shared heap that drops its oldest entries, while a thread answers the
-/// clients of a page on a port, whose address is said on standard error. The port is listened on before the lines of the file are
-/// run, and its clients are answered from then until the session has ended. Fails as `explore` does, with Listen, before anything is
-/// run, if the port can't be listened on, and with Memory if no thread or no random bytes for the key can be had. May wait.
+/// Runs one session as `explore` does, from the only seat of a shared heap that drops its oldest entries, while a thread
+/// answers the clients of a page on a port, whose address is said on standard error. The port is listened on before the lines
+/// of the file are run, and its clients are answered from then until the session has ended. Fails as `explore` does, with
+/// Listen, before anything is run, if the port can't be listened on, and with Memory if no thread or no random bytes for the
+/// key can be had. May wait.
 pub fn explore_with_page<R, I: Inlet, O: Outlet>(
     rt: &R,
     request: Request<'_>,

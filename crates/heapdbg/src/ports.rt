@@ -52,8 +52,8 @@ fn random_key<R: RandomSource>(rt: &R, alloc: Global) -> Result<String, Fault>
     }
 }
 
-/// Listens on the port of a page under a new key, and says its address, with that key, on standard error. Fails with Listen, and with
-/// Memory if an allocation fails or the system gives no random bytes.
+/// Listens on the port of a page under a new key, and says its address, with that key, on standard error. Fails with Listen,
+/// and with Memory if an allocation fails or the system gives no random bytes.
 pub(crate) fn page_port<R>(
     rt: &R,
     alloc: Global,

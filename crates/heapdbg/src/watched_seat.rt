@@ -10,8 +10,8 @@ use std::alloc::Global;
 use std::marker::Model;
 use std::sync::Wait;
 
-/// A user's seat that acts on the lines of a session and answers questions, as `AskingSeat` does, and tells a watch the place after
-/// each. Contracts see what they see of `AskingSeat`.
+/// A user's seat that acts on the lines of a session and answers questions, as `AskingSeat` does, and tells a watch the place
+/// after each. Contracts see what they see of `AskingSeat`.
 #[derive(Drop)]
 pub(crate) struct WatchedSeat<'a, L: Heap, R: Wait> {
     asking: AskingSeat<'a, L, R>,

@@ -69,8 +69,8 @@ pub(crate) const DRAW: CommandRow = CommandRow {
     ],
 };
 
-// Returns the task of the options of `explore`, or the mistake in them: the session is over a heap of its own, or the questions are
-// about a heap that is served.
+// Returns the task of the options of `explore`, or the mistake in them: the session is over a heap of its own, or the questions
+// are about a heap that is served.
 pub(crate) fn explore_task(options: &ArgMatches<'_>) -> Result<Task, Mistake>
     ensures { IsTaskOrMistake explore_in (rows_of (found_of options.now)) result }
 {

@@ -4,7 +4,7 @@
 Usage: checks/growths.py [-v] PROGRAM
 A session ends by `memory` before it reads, or refuses one line and answers all others as a session without that line, or loses a
 pin and answers all but its pieces as if it hadn't. A line that was refused is answered as ever when it is given once more, and so
-are all after it. Two clients are served at a time: a session that ends by `memory` has answered nothing, and the other one goes on,
+are all after it. So it is beside a page. Two clients are served at a time: a session that ends by `memory` has answered nothing, and the other one goes on,
 also beside workers and dumps, each of which is whole or a beginning. A save is the dump of the session's last state, or a beginning
 of it if the dump is lost by Memory. If it is lost before its first byte, or the session isn't dumped, a file that was there stays
 as it was, and no file is made. No session asks for much more memory at once than its settings need, and no rewind asks for any.
@@ -13,6 +13,7 @@ goes otherwise."""
 import contextlib
 import os
 import pathlib
+import re
 import socket
 import struct
 import subprocess
@@ -20,6 +21,7 @@ import sys
 import tempfile
 import time
 
+ADDRESS = re.compile(rb"heapdbg: page http://\S+\n")
 SOURCE = pathlib.Path(__file__).resolve().parent / "refuse.c"
 LIMIT = 2000
 REFUSED = b"no 1 NoMemory"
@@ -64,10 +66,11 @@ def refusing(folder):
 
 
 def run(command, library, number, given=b""):
-    """Runs a command with the allocation of this number refused. Returns status, standard output and standard error."""
+    """Runs a command with the allocation of this number refused. Returns status, standard output and standard error, without the
+    address of a page."""
     variables = {"LD_PRELOAD": library, "REFUSED": str(number)}
     ran = subprocess.run(command, env=variables, capture_output=True, input=given, timeout=60)
-    return ran.returncode, ran.stdout, ran.stderr
+    return ran.returncode, ran.stdout, ADDRESS.sub(b"", ran.stderr)
 
 
 def replies(out):
@@ -529,11 +532,12 @@ def main(heapdbg, verbose=False):
     with tempfile.TemporaryDirectory() as folder:
         library = refusing(folder)
         program = os.path.abspath(heapdbg)
-        command = [program, "run", "--regions", "2"]
+        command, beside = [program, "run", "--regions", "2"], [program, "explore", "--regions", "2", "--page"]
         good = True
         for name, text in SESSIONS.items():
             lines = words_of(text)
             good = told(name, wrong_sessions(command, library, lines), verbose) and good
+            good = told(f"{name}, beside a page", wrong_sessions([*beside, str(free_ports(1)[0])], library, lines), verbose) and good
             good = told(f"{name}, saved", wrong_saves(program, library, lines), verbose) and good
             good = told(f"{name}, acts", wrong_acts(program, library, lines), verbose) and good
             good = told(f"{name}, served", wrong_servers(program, library, lines, SECOND), verbose) and good

@@ -193,28 +193,25 @@ def live(shell, document):
 
 
 def paged(shell, readme):
-    """Yields what README's heap with a page does otherwise than it says. Its session ends at once here. HUNT has the same heap."""
-    serve = commands_of(readme)[0][0]
-    if serve not in commands_of(readme.parent / "docs/HUNT.md")[0]:
-        yield "HUNT serves another heap with a page than README"
-    ask = re.search(r"^    (\(cat .*)$", readme.read_text(), re.MULTILINE)[1]
-    with shell.start(serve) as server:
-        server.waits_for(shell.ports["7080"])
-        server.waits_for(shell.ports["7010"])
-        said = server.text(server.error).decode()
+    """Yields what README's exploration with a page does otherwise than it says. Nothing is typed, and its session ends after a time
+    here. HUNT has the same exploration."""
+    explore = next(command for command in commands_of(readme)[0] if "--page" in command)
+    if explore not in commands_of(readme.parent / "docs/HUNT.md")[0]:
+        yield "HUNT explores another heap with a page than README"
+    with shell.start(f"sleep 10 | {explore}") as session:
+        session.waits_for(shell.ports["7080"])
+        said = session.text(session.error).decode()
         address = re.fullmatch(r"heapdbg: page http://127\.0\.0\.1:(\d+)/#([0-9a-f]{32})\n", said)
         browser = http.client.HTTPConnection("127.0.0.1", int(address[1]), LIMIT)
         browser.request("GET", "/")
         page = browser.getresponse()
         if page.status != 200 or b"<title>heapdbg</title>" not in page.read():
-            yield f"README, {serve!r}: the page is {page.status}"
-        browser.request("POST", "/ask", "pins", {"X-Heapdbg-Key": address[2]})
-        if (come := browser.getresponse().read()) != b"ok 0\n":
-            yield f"README, {serve!r}: {come!r}"
-        if (came := shell.run(ask)) != (0, b"", b""):
-            yield f"README, {ask!r}: {came}"
-        if (came := server.ended()) != (0, b"session 1 quit\n", said.encode()):
-            yield f"README, {serve!r}: {came}"
+            yield f"README, {explore!r}: the page is {page.status}"
+        browser.request("POST", "/ask", "wrote 0x10000040 1", {"X-Heapdbg-Key": address[2]})
+        if (come := browser.getresponse().read()) != b"ok place 1507\n":
+            yield f"README, {explore!r}: {come!r}"
+        if (came := session.ended()) != (0, b"", said.encode()):
+            yield f"README, {explore!r}: {came}"
 
 
 def client(shell, folder):

@@ -32,7 +32,7 @@ _heapdbg() {
             return
             ;;
         run) options="$heap --questions" ;;
-        explore) options="$heap --from --port" ;;
+        explore) options="$heap --from --port --page" ;;
         draw) options="$heap --out" ;;
         save) options="$heap --out --to --questions" ;;
         serve) options="$heap --port --sessions --workers --dumps --page --questions --roll" ;;

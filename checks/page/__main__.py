@@ -1,5 +1,6 @@
 #!/usr/bin/env python3
-"""Asks the page of a served heap, well and ill, and looks at it in a browser: `checks/page PROGRAM [PICTURES]`.
+"""Asks the page of a served heap, well and ill, and that of `explore --page`, and looks at the first in a browser: `checks/page
+PROGRAM [PICTURES]`.
 
 Prints a line for each difference and ends with status 1 if there is one. Where no browser is, says so in one line, and goes by the
 requests alone. With a folder for PICTURES it leaves what the browser showed."""
@@ -17,8 +18,9 @@ import browser  # noqa: E402
 import clicks  # noqa: E402
 import colours  # noqa: E402
 import loads  # noqa: E402
-from dump import pieces_of  # noqa: E402
-from paged import KEEP, Heap, body_of  # noqa: E402
+from asking import body_of, dumped  # noqa: E402
+from explored import explored  # noqa: E402
+from paged import KEEP, Heap  # noqa: E402
 from machine import Machine  # noqa: E402
 from pictures import take  # noqa: E402
 from questions import Asking  # noqa: E402
@@ -89,11 +91,6 @@ def modelled():
     for line in LEAK.splitlines():
         session.answer(line)
     return session
-
-
-def dumped(machine, place):
-    """Returns the dump of the state at a place, as the model has it."""
-    return b"".join(pieces_of(machine.states[place - machine.place - 1], 0, 8))
 
 
 def answers(heap):
@@ -222,7 +219,7 @@ def main(program, *pictures):
         else:
             print("checks/page: no browser is here, so no browser has looked at the page")
         quiet.join()
-    cases += ports(program)
+    cases += [*ports(program), *explored(program)]
     if browser.found():
         for folder in pictures:
             with Heap(program, LEAK) as heap:

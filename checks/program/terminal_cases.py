@@ -1,6 +1,7 @@
 """Cases of `explore` at a terminal: its prompt, its advice, rows in columns, and the script that runs it."""
 import os
 import pty
+import re
 import select
 import shutil
 import signal
@@ -8,6 +9,7 @@ import subprocess
 import tempfile
 import time
 
+from clients import free_port
 from runs import SECONDS, TOP, read_or_nothing, run
 
 
@@ -157,6 +159,12 @@ heapdbg 2> |no 24 NotRetained
 heapdbg 2> |""" % {b"forms": AT_FORMS}
 
 
+def typed_beside(program, words, given):
+    """Returns what a terminal shows of `explore --page`, with ADDRESS for that of the page, and the status."""
+    shown, status = typed(program, ["explore", "--page", str(free_port()), *words], given)
+    return re.sub(rb"page http://127\.0\.0\.1:\d+/#[0-9a-f]{32}\r?\n", b"ADDRESS\n", shown, count=1), status
+
+
 def by_script(program):
     """Yields what the script does that explores, with the program beside it, in the bin beside its folder, and on PATH, as (name,
     what happened, what must happen)."""
@@ -183,3 +191,5 @@ def at_a_terminal(program):
     yield "states that aren't there", typed(program, ["explore", "--keep", "2"], STATES), (STATES_SHOWN, 0)
     yield from by_script(program)
     yield "an interrupt", typed(program, ["explore"], [b"frobnic\x03"])[1:], (-signal.SIGINT,)
+    yield "explore with a page", typed_beside(program, [], TYPED), (b"heapdbg: ADDRESS\n" + SHOWN, 0)
+    yield "states that aren't there, with a page", typed_beside(program, ["--keep", "2"], STATES), (b"heapdbg: ADDRESS\n" + STATES_SHOWN, 0)

@@ -1,13 +1,12 @@
 -- A file of lines that is read before a session.
-use Rattle.std.specs.Prelude.{ℕ}
 use Rattle.dump_pump.specs.Outlets.{Outgoing}
-use Rattle.question_text.specs.declared.asking.Asking.{Asking}
-use Rattle.question_text.specs.Sessions.{ServesAsking}
+use Rattle.session_text.specs.Answers.{AnswerRelation}
+use Rattle.session_text.specs.Talks.{Serves}
 use Rattle.session_text.specs.declared.Ended.{Ended}
 use Rattle.dump_pump.specs.Inlets.{Incoming}
 
--- the lines that some inlet gave were served, and what was written for them is not shown
-abbrev pub IsLoaded : ℕ → Asking → Asking → Ended → Type 0
-IsLoaded time c d ended =
+-- the lines that some inlet gave were served by who answers so, and what was written for them is not shown
+abbrev pub IsLoaded : {S : Type 0} → AnswerRelation S → AnswerRelation S → S → S → Ended → Type 0
+IsLoaded says begins c d ended =
     (a : Incoming) × (b : Incoming) × (w : Outgoing) × (w' : Outgoing)
-    × ServesAsking time a b c w d w' ended
+    × Serves says begins a b c w d w' ended

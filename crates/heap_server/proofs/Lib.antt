@@ -10,3 +10,4 @@ pub mod AheadReads
 pub mod AheadSeen
 pub mod ClientSessions
 pub mod SeatOrder
+pub mod LentSessions

@@ -10,5 +10,8 @@ pub mod DumpAnswers
 pub mod Tending
 pub mod Http
 pub mod Ahead
+pub mod PageSessions
 -- What clauses here, and proofs above, cite of the crates below.
 pub use Rattle.heap_lock.specs.Blanks
+pub use Rattle.heap_lock.specs.Calls
+pub use Rattle.heap_lock.specs.declared.role.Role

@@ -11,6 +11,7 @@ mod held_heap;
 mod http;
 pub mod joined;
 pub mod laws;
+pub mod page_session;
 pub mod report;
 pub mod sessions;
 pub mod socket;
@@ -22,11 +23,12 @@ pub use asking::AskingSeat;
 pub use client::{Asked, Client, SendsFrom, Sent, ask};
 pub use client_session::SessionEnd;
 pub use copy::{Copied, copy_all};
-pub use heap_lock::{Blank, Refusal};
+pub use heap_lock::{Action, Blank, Heap, Refusal, Reply, Seat, Seats, Shared};
 pub use heap_page::{PagePort, PageTerms};
 pub use joined::Joined;
 pub use laws::served_dumps_are_text;
 pub use live_dump::DumpListener;
+pub use page_session::serve_beside_page;
 pub use report::{tell_sessions, word};
 pub use sessions::{
     Ports, SeatEnd, Served, ServedHeap, ServicePlan, Terms, serve_clients, serve_heap, users,

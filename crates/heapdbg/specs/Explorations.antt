@@ -2,9 +2,10 @@
 use Rattle.std.specs.Prelude.{◌≡◌, ◌⊎◌, Bool, true, false, Result, Err}
 use Rattle.dump_pump.specs.Outlets.{Outgoing}
 use Rattle.heap_console.specs.Loads.{IsLoaded}
+use Rattle.session_text.specs.Answers.{AnswerRelation, AnswersCommand, Begins}
 use Rattle.session_text.specs.Machine.{opening_machine}
 use Rattle.question_text.specs.declared.asking.Asking.{Asking}
-use Rattle.question_text.specs.Sessions.{ServesAsking}
+use Rattle.question_text.specs.Sessions.{AskingActs, AskingAnswers, ServesAsking}
 use Rattle.session_text.specs.declared.Ended.{Ended}
 use Rattle.session_text.specs.Endings.{EndsSession}
 use Rattle.dump_pump.specs.Inlets.{Incoming}
@@ -17,10 +18,17 @@ use Rattle.heapdbg.specs.Endings.{outcome_of}
 abbrev pub IsOpening : Settings → Asking → Type 0
 IsOpening s c = c.local.machine ≡ opening_machine s.ids s.regions s.mutators s.keep
 
+-- the lines of a file were run first, or none were
+abbrev pub IsRunFirst : {S : Type 0} → Bool → AnswerRelation S → AnswerRelation S → S → S → Type 0
+IsRunFirst false says begins b c = c ≡ b
+IsRunFirst true says begins b c = (ended : Ended) × IsLoaded says begins b c ended
+
 -- a session as it begins: over a heap as it begins, or as the lines of a file left it, which were run first
 abbrev pub IsSessionBegun : Bool → Settings → Asking → Type 0
-IsSessionBegun false s c = IsOpening s c
-IsSessionBegun true s c = (b : Asking) × (ended : Ended) × IsOpening s b × IsLoaded s.time b c ended
+IsSessionBegun from s c =
+    (b : Asking) × IsOpening s b
+    × IsRunFirst from (AnswersCommand AskingActs AskingAnswers s.time)
+    (Begins AskingActs AskingAnswers s.time) b c
 
 -- why a session doesn't begin: no memory, or the file of lines can't be opened
 abbrev pub IsHindrance : Bool → Fault → Type 0

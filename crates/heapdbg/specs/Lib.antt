@@ -5,4 +5,5 @@ pub mod Services
 pub mod FetchOutcomes
 pub mod SaveOutcomes
 pub mod Explorations
+pub mod PageExplorations
 pub mod Runs

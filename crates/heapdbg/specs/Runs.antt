@@ -1,5 +1,5 @@
 -- A run of the program between its reader and its writer.
-use Rattle.std.specs.Prelude.{◌≡◌, ℕ, ◌⊎◌, Bool, true, false, List, Result, Some, Ok, Err}
+use Rattle.std.specs.Prelude.{◌≡◌, ℕ, ◌⊎◌, Bool, true, false, List, Result, None, Some, Ok, Err}
 use Rattle.dump_pump.specs.Outlets.{Outgoing}
 use Rattle.session_text.specs.Machine.{Machine, opening_machine}
 use Rattle.session_text.specs.declared.Ended.{Ended}
@@ -24,6 +24,7 @@ use Rattle.heapdbg.specs.FetchOutcomes.{IsDumpFetched}
 use Rattle.heapdbg_options.specs.Refusals.{IsRefusalOf}
 use Rattle.heapdbg.specs.SaveOutcomes.{IsSavedTo}
 use Rattle.heapdbg.specs.ServeOutcomes.{IsServerAsked, IsServed}
+use Rattle.heapdbg.specs.PageExplorations.{IsPageExplored}
 
 -- a session over a heap with these settings as it begins, and how it ended; or the heap couldn't be allocated, and nothing is
 -- read or written
@@ -67,7 +68,8 @@ IsSavedOut s a b w w' result =
 abbrev pub IsTaskDone : Task → Settings → Incoming → Incoming → Outgoing → Outgoing
     → Result (Unit {0}) Fault → Type 0
 IsTaskDone Run s a b w w' result = IsRunWith s.questions s a b w w' result
-IsTaskDone (Explore from) s a b w w' result = IsExplored from s a b w w' result
+IsTaskDone (Explore from None) s a b w w' result = IsExplored from s a b w w' result
+IsTaskDone (Explore from (Some page)) s a b w w' result = IsPageExplored from s a b w w' result
 IsTaskDone Draw s a b w w' result = IsSessionDrawn s a b w w' result
 IsTaskDone (Save Out) s a b w w' result = IsSavedOut s a b w w' result
 IsTaskDone (Save (To port)) s a b w w' result = IsSavedTo fault.Connect s a b w w' result

@@ -8,17 +8,16 @@ ghost use Rattle.heapdbg.specs.Services.{IsOpened};
 ghost use Rattle.heapdbg.specs.ServeOutcomes.{IsReportTold, IsServed, config_of, served_outcome, terms_of};
 
 use crate::failure::Fault;
-use crate::reasons::tell_port;
+use crate::ports::{dump_listener, listener, page_port};
 use dump_pump::Outlet;
 use heap_server::{
-    Blank, DumpListener, PagePort, PageTerms, Ports, Refusal, Served, ServicePlan, Terms,
-    serve_heap, serve_tended_heap, tell_sessions, users, workers_and_users,
+    Blank, Ports, Refusal, Served, ServicePlan, Terms, serve_heap, serve_tended_heap,
+    tell_sessions, users, workers_and_users,
 };
 use heapdbg_options::settings::{Settings, config};
 use session_text::write_all;
 use std::alloc::Global;
-use std::hash::RandomState;
-use std::net::{Ipv4Addr, Net, TcpListener, TcpStream};
+use std::net::{Net, TcpListener, TcpStream};
 use std::random::RandomSource;
 use std::sync::Wait;
 use std::thread::Threads;
@@ -188,76 +187,6 @@ where
         page,
     };
     Ok((ports, report))
-}
-
-// Listens on a port. Fails with Listen.
-fn listener<R>(rt: &R, port: u16, is_terminal: bool) -> Result<TcpListener, Fault>
-where
-    R: Net<Listener = TcpListener, Stream = TcpStream> + AllocGlobal + Eprint,
-    ensures { IfErr result (λ f. f ≡ Listen) }
-{
-    match TcpListener::bind(rt, (Ipv4Addr::LOCALHOST, port)) {
-        Ok(listener) => Ok(listener),
-        Err(error) => {
-            tell_port(rt, is_terminal, port, &error);
-            Err(Fault::Listen)
-        }
-    }
-}
-
-// Listens on a port for clients that nobody waits for. Fails with Listen.
-fn dump_listener<R>(rt: &R, port: u16, is_terminal: bool) -> Result<DumpListener, Fault>
-where
-    R: Net<Listener = TcpListener, Stream = TcpStream> + AllocGlobal + Eprint,
-    ensures { IfErr result (λ f. f ≡ Listen) }
-{
-    match DumpListener::new(listener(rt, port, is_terminal)?) {
-        Ok(listener) => Ok(listener),
-        Err(_) => Err(Fault::Listen),
-    }
-}
-
-// Returns a key of 32 hexadecimal digits, 128 bits of the system's randomness. Fails with Memory.
-fn random_key<R: RandomSource>(rt: &R, alloc: Global) -> Result<String, Fault>
-    ensures { IfErr result (λ f. f ≡ Memory) }
-{
-    let mut bytes = [0u8; 16];
-    if rt.fill_bytes(&mut bytes).is_err() {
-        return Err(Fault::Memory);
-    }
-    let number = u128::from_le_bytes(bytes);
-    match format!(in alloc; "{number:032x}") {
-        Ok(key) => Ok(key),
-        Err(_) => Err(Fault::Memory),
-    }
-}
-
-// Listens on the port of the page under a new key, and says its address on standard error. Fails with Memory or Listen.
-fn page_port<R>(
-    rt: &R,
-    alloc: Global,
-    port: u16,
-    time: u64,
-    is_terminal: bool,
-) -> Result<PagePort, Fault>
-where
-    R: Net<Listener = TcpListener, Stream = TcpStream> + AllocGlobal + Eprint + RandomSource,
-    ensures { IfErr result (λ f. (f ≡ Memory) ⊎ (f ≡ Listen)) }
-{
-    let listener = dump_listener(rt, port, is_terminal)?;
-    let key = random_key(rt, alloc)?;
-    let Ok(keys) = RandomState::new(rt) else {
-        return Err(Fault::Memory);
-    };
-    let Ok(terms) = PageTerms::new(alloc, port, key.as_str(), time) else {
-        return Err(Fault::Memory);
-    };
-    let _ = eprintln!(rt; "heapdbg: page http://127.0.0.1:{port}/#{key}");
-    Ok(PagePort {
-        listener,
-        keys,
-        terms,
-    })
 }
 
 // Puts out how sessions ended, by way of a report that is still empty.

@@ -3,7 +3,7 @@ ghost use Rattle.std.specs.Prelude.{◌≡◌, ◌⊎◌, Some, IfOk, IfErr, map
 ghost use Rattle.std.specs.IoError.{error_kind};
 ghost use Rattle.heapdbg_options.specs.CommandLine.{AreSettingsWithin, IsBadWith, IsHeapWithin, settings_of};
 ghost use Rattle.heapdbg_options.specs.Refusals.{IsRefusalOf};
-ghost use Rattle.heapdbg_options.specs.declared.settings.Task.TheVariants.{Save};
+ghost use Rattle.heapdbg_options.specs.declared.settings.Task.TheVariants.{Explore, Save};
 ghost use Rattle.heapdbg.specs.FetchOutcomes.{IsDumpFetched};
 ghost use Rattle.heapdbg.specs.Runs.{IsTaskDone, IsRun, IsRunWith, IsPerformed};
 
@@ -14,6 +14,7 @@ use crate::failure::{Failure, Fault, outcome};
 use crate::fetch::fetch_port;
 use crate::folder::missing_folder;
 use crate::opening::open_local;
+use crate::page_exploration::explore_with_page;
 use crate::progress::TerminalGauge;
 use crate::reasons::tell_path;
 use crate::request::Request;
@@ -161,7 +162,7 @@ fn line_of_words<'a>(alloc: Global, words: &'a [String]) -> Result<Vec<&'a str>,
 // Returns the path of the task's file, or None if the task has no file or an allocation fails.
 fn path_of_task<'a>(alloc: Global, line: &'a [&'a str], task: Task) -> Option<&'a str> {
     match task {
-        Task::Explore { from: true } => path_option(alloc, line, "from"),
+        Task::Explore { from: true, .. } => path_option(alloc, line, "from"),
         Task::Draw | Task::Save(Target::Out) | Task::Fetch { port: _ } => {
             path_option(alloc, line, "out")
         }
@@ -189,7 +190,9 @@ where
     let is_terminal = screen.is_terminal;
     match settings.task {
         Task::Run => run(rt, request, screen, reader, writer),
-        Task::Explore { from } => explore(rt, request, from, screen, reader, writer),
+        Task::Explore { from, page } => {
+            explore_at(rt, request, from, page, screen, reader, writer)
+        }
         Task::Draw => draw(rt, request, screen, reader, writer),
         Task::Save(target) => save_at(rt, request, target, is_terminal, reader, writer),
         Task::Serve {
@@ -210,6 +213,29 @@ where
         }
         Task::Ask { port } => ask_port(rt, port, input, writer, is_terminal),
         Task::Fetch { port } => fetch_to(rt, port, request.path, writer, is_terminal),
+    }
+}
+
+// Runs a session with questions over a heap of its own, which a page shows if there is a port for it.
+fn explore_at<R, I: Inlet, O: Outlet>(
+    rt: &R,
+    request: Request<'_>,
+    from: bool,
+    page: Option<u16>,
+    screen: Screen<'_>,
+    reader: &mut I,
+    writer: &mut O,
+) -> Result<(), Fault>
+where
+    R: Net<Listener = TcpListener, Stream = TcpStream> + Threads + Wait + RandomSource + Sync,
+    R: AllocGlobal + Clock + Eprint + Files,
+    requires { IsHeapWithin request.settings }
+    ensures { IsTaskDone (Explore from page) request.entry.settings (I.seen reader.old)
+        (I.seen reader.new) (O.seen writer.old) (O.seen writer.new) result }
+{
+    match page {
+        Some(port) => explore_with_page(rt, request, from, port, screen, reader, writer),
+        None => explore(rt, request, from, screen, reader, writer),
     }
 }
 

@@ -15,7 +15,7 @@ use Rattle.heap_class.specs.declared.IdSize.{IdSize}
 use Rattle.heap_class.specs.declared.IdSize.TheVariants.{Eight}
 use Rattle.heap_world.specs.RegionLimits.{region_limit}
 use Rattle.heap_world.specs.Limits.{AreHeapSettings, keep_limit, mutator_limit}
-use Rattle.heapdbg_options.specs.CommandLine.{AreSettingsWithin, HasDefaults, IsTask, ask_in, dumps_in, dumps_of, dumps_with, page_beside, page_in, page_of, page_with, explore_in, explore_with, flag_in, fetch_in, heapdbg_line, id_size_in, id_size_of, is_given, is_task, IsOther, IsThird, keep_default, most_sessions, number_in, number_or, other_port, port_in, port_limit, questions_in, rolls_in, reads_file, save_in, serve_in, serve_with, sessions_in, sessions_of, settings_in, settings_under, settings_with, target_in, task_in, third_port, time_limit, option_value, workers_in, workers_of}
+use Rattle.heapdbg_options.specs.CommandLine.{AreSettingsWithin, HasDefaults, IsTask, ask_in, dumps_in, dumps_of, dumps_with, page_beside, page_in, page_of, page_with, explore_in, explore_with, own_page, flag_in, fetch_in, heapdbg_line, id_size_in, id_size_of, is_given, is_task, IsOther, IsThird, keep_default, most_sessions, number_in, number_or, other_port, port_in, port_limit, questions_in, rolls_in, reads_file, save_in, serve_in, serve_with, sessions_in, sessions_of, settings_in, settings_under, settings_with, target_in, task_in, third_port, time_limit, option_value, workers_in, workers_of}
 use Rattle.heapdbg_options.specs.declared.settings.Settings.{Settings}
 use Rattle.heapdbg_options.specs.declared.settings.Task.{Task}
 use Rattle.heapdbg_options.specs.declared.settings.Task.TheVariants.{Run, Explore, Draw, Save, Serve, Ask, Fetch}
@@ -214,10 +214,21 @@ save_within None (Some text) task e = go (number_in 1 port_limit text) refl e
         let same : Save (To port) ≡ task = cc in
         subst IsTask same (number_within 1 port_limit text port at)
 
-explore_within : (from port : Option Text) (task : Task) → explore_with from port ≡ Some task → IsTask task
-explore_within from None task e = let same : Explore (is_some from) ≡ task = cc in subst IsTask same tt
-explore_within (Some path) (Some text) task e = cc
-explore_within None (Some text) task e = go (number_in 1 port_limit text) refl e
+own_within : (from : Bool) (page : Option Text) (task : Task) → option_map (λ p. Explore from p) (own_page page) ≡ Some task → IsTask task
+own_within from None task e = let same : Explore from None ≡ task = cc in subst IsTask same tt
+own_within from (Some text) task e = go (number_in 1 port_limit text) refl e
+  where
+    go : (n : Option ℕ) → number_in 1 port_limit text ≡ n → option_map (λ p. Explore from p) (option_map (λ page. Some page) n) ≡ Some task → IsTask task
+    go None at h = cc
+    go (Some page) at h =
+        let same : Explore from (Some page) ≡ task = cc in
+        subst IsTask same (number_within 1 port_limit text page at)
+
+explore_within : (from page port : Option Text) (task : Task) → explore_with from page port ≡ Some task → IsTask task
+explore_within from page None task e = own_within (is_some from) page task e
+explore_within (Some path) page (Some text) task e = cc
+explore_within None (Some shown) (Some text) task e = cc
+explore_within None None (Some text) task e = go (number_in 1 port_limit text) refl e
   where
     go : (n : Option ℕ) → number_in 1 port_limit text ≡ n → option_map (λ port. Ask port) n ≡ Some task → IsTask task
     go None at h = cc
@@ -227,7 +238,7 @@ explore_within None (Some text) task e = go (number_in 1 port_limit text) refl e
 
 task_within : (runs explores draws saves serves asks fetches : Bool) (rows : List Row) (task : Task) → task_by runs explores draws saves serves asks fetches rows ≡ Some task → IsTask task
 task_within true explores draws saves serves asks fetches rows task e = let same : Run ≡ task = cc in subst IsTask same tt
-task_within false true draws saves serves asks fetches rows task e = explore_within (first_of (codes "from") rows) (first_of (codes "port") rows) task e
+task_within false true draws saves serves asks fetches rows task e = explore_within (first_of (codes "from") rows) (first_of (codes "page") rows) (first_of (codes "port") rows) task e
 task_within false false true saves serves asks fetches rows task e = let same : Draw ≡ task = cc in subst IsTask same tt
 task_within false false false true serves asks fetches rows task e = save_within (first_of (codes "out") rows) (first_of (codes "to") rows) task e
 task_within false false false false true asks fetches rows task e = serve_within rows (port_in rows) (sessions_in rows) (workers_in rows) (dumps_in rows) (page_in rows) task refl refl refl refl refl e
@@ -290,20 +301,26 @@ default_of name default least most words f n all is named read other =
     cc
 
 -- what sessions with questions have, of a private heap and of a served one, is what the task of `explore` has
-explore_has : (P : Task → Type 0) (from port : Option Text) (task : Task) → P (Explore (is_some from)) → ((n : ℕ) → P (Ask n)) → explore_with from port ≡ Some task → P task
-explore_has P from None task one other e = let same : Explore (is_some from) ≡ task = cc in subst P same one
-explore_has P (Some path) (Some text) task one other e = cc
-explore_has P None (Some text) task one other e = go (number_in 1 port_limit text) e
+explore_has : (P : Task → Type 0) (from page port : Option Text) (task : Task) → ((p : Option ℕ) → own_page page ≡ Some p → P (Explore (is_some from) p)) → ((n : ℕ) → P (Ask n)) → explore_with from page port ≡ Some task → P task
+explore_has P from page None task one other e = go (own_page page) refl e
+  where
+    go : (o : Option (Option ℕ)) → own_page page ≡ o → option_map (λ p. Explore (is_some from) p) o ≡ Some task → P task
+    go None at h = cc
+    go (Some p) at h = let same : Explore (is_some from) p ≡ task = cc in subst P same (one p at)
+explore_has P (Some path) page (Some text) task one other e = cc
+explore_has P None (Some shown) (Some text) task one other e = cc
+explore_has P None None (Some text) task one other e = go (number_in 1 port_limit text) e
   where
     go : (n : Option ℕ) → option_map (λ port. Ask port) n ≡ Some task → P task
     go None h = cc
     go (Some n) h = let same : Ask n ≡ task = cc in subst P same (other n)
 
 -- what a task of no served heap has, and what a served heap has, is what each task has
-by_task : (P : Task → Type 0) (runs explores draws saves serves asks fetches : Bool) (rows : List Row) (task : Task) → P Run → P (Explore (is_some (first_of (codes "from") rows))) → P Draw → ((target : Target) → P (Save target))
+by_task : (P : Task → Type 0) (runs explores draws saves serves asks fetches : Bool) (rows : List Row) (task : Task) → P Run
+    → ((p : Option ℕ) → own_page (first_of (codes "page") rows) ≡ Some p → P (Explore (is_some (first_of (codes "from") rows)) p)) → P Draw → ((target : Target) → P (Save target))
     → ((port : ℕ) → P (Ask port)) → ((port : ℕ) → P (Fetch port)) → (serve_in rows ≡ Some task → P task) → task_by runs explores draws saves serves asks fetches rows ≡ Some task → P task
 by_task P true explores draws saves serves asks fetches rows task run explore draw save ask fetch serve e = let same : Run ≡ task = cc in subst P same run
-by_task P false true draws saves serves asks fetches rows task run explore draw save ask fetch serve e = explore_has P (first_of (codes "from") rows) (first_of (codes "port") rows) task explore ask e
+by_task P false true draws saves serves asks fetches rows task run explore draw save ask fetch serve e = explore_has P (first_of (codes "from") rows) (first_of (codes "page") rows) (first_of (codes "port") rows) task explore ask e
 by_task P false false true saves serves asks fetches rows task run explore draw save ask fetch serve e = let same : Draw ≡ task = cc in subst P same draw
 by_task P false false false true serves asks fetches rows task run explore draw save ask fetch serve e = go (target_in (first_of (codes "out") rows) (first_of (codes "to") rows)) e
   where
@@ -366,6 +383,11 @@ default_page words f task is named other e =
     let same : Some (page_of task) ≡ Some None = sym served.page ∙ none in
     cc
 
+-- a page of a session's own heap that no word tells is none
+default_own : (given : Option Text) (p : Option ℕ) → given ≡ None → own_page given ≡ Some p → p ≡ None
+default_own None p none e = cc
+default_own (Some text) p none e = cc
+
 -- a file of lines that no word tells is none
 unread : (given : Option Text) → given ≡ None → is_some given ≡ false
 unread None none = refl
@@ -419,18 +441,18 @@ defaults_of words s e =
       questions = default_flag (codes "questions") words asked.found s.questions refl asked.is asked.named asked.read.questions;
       rolls = default_flag (codes "roll") words asked.found s.rolls refl asked.is asked.named asked.read.rolls;
       sessions = λ other. by_task (λ t. sessions_of t ≡ 1) (bytes_eq name (codes "run")) (bytes_eq name (codes "explore")) (bytes_eq name (codes "draw")) (bytes_eq name (codes "save")) (bytes_eq name (codes "serve")) (bytes_eq name (codes "ask")) (bytes_eq name (codes "fetch")) rows s.task
-          refl refl refl (λ target. refl) (λ port. refl) (λ port. refl)
+          refl (λ p at. refl) refl (λ target. refl) (λ port. refl) (λ port. refl)
           (λ is. default_of (codes "sessions") 1 1 most_sessions words asked.found (sessions_of s.task) refl asked.is asked.named (served is).sessions other) asked.task;
       workers = λ other. by_task (λ t. workers_of t ≡ 0) (bytes_eq name (codes "run")) (bytes_eq name (codes "explore")) (bytes_eq name (codes "draw")) (bytes_eq name (codes "save")) (bytes_eq name (codes "serve")) (bytes_eq name (codes "ask")) (bytes_eq name (codes "fetch")) rows s.task
-          refl refl refl (λ target. refl) (λ port. refl) (λ port. refl)
+          refl (λ p at. refl) refl (λ target. refl) (λ port. refl) (λ port. refl)
           (λ is. default_of (codes "workers") 0 0 1 words asked.found (workers_of s.task) refl asked.is asked.named (served is).workers other) asked.task;
       dumps = λ other. by_task (λ t. dumps_of t ≡ None) (bytes_eq name (codes "run")) (bytes_eq name (codes "explore")) (bytes_eq name (codes "draw")) (bytes_eq name (codes "save")) (bytes_eq name (codes "serve")) (bytes_eq name (codes "ask")) (bytes_eq name (codes "fetch")) rows s.task
-          refl refl refl (λ target. refl) (λ port. refl) (λ port. refl)
+          refl (λ p at. refl) refl (λ target. refl) (λ port. refl) (λ port. refl)
           (λ is. default_dumps words asked.found s.task asked.is asked.named other is) asked.task;
       page = λ other. by_task (λ t. page_of t ≡ None) (bytes_eq name (codes "run")) (bytes_eq name (codes "explore")) (bytes_eq name (codes "draw")) (bytes_eq name (codes "save")) (bytes_eq name (codes "serve")) (bytes_eq name (codes "ask")) (bytes_eq name (codes "fetch")) rows s.task
-          refl refl refl (λ target. refl) (λ port. refl) (λ port. refl)
+          refl (λ p at. default_own (first_of (codes "page") rows) p (none_of (codes "page") words asked.found refl asked.is asked.named other) at) refl (λ target. refl) (λ port. refl) (λ port. refl)
           (λ is. default_page words asked.found s.task asked.is asked.named other is) asked.task;
       from = λ other. by_task (λ t. reads_file t ≡ false) (bytes_eq name (codes "run")) (bytes_eq name (codes "explore")) (bytes_eq name (codes "draw")) (bytes_eq name (codes "save")) (bytes_eq name (codes "serve")) (bytes_eq name (codes "ask")) (bytes_eq name (codes "fetch")) rows s.task
-          refl (unread (first_of (codes "from") rows) (none_of (codes "from") words asked.found refl asked.is asked.named other)) refl (λ target. refl) (λ port. refl) (λ port. refl)
+          refl (λ p at. unread (first_of (codes "from") rows) (none_of (codes "from") words asked.found refl asked.is asked.named other)) refl (λ target. refl) (λ port. refl) (λ port. refl)
           (λ is. served_unread (port_in rows) (sessions_in rows) (workers_in rows) (dumps_in rows) (page_in rows) s.task is) asked.task;
     }

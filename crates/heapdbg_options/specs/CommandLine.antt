@@ -55,8 +55,10 @@ run_line = with_rule (session_line (codes "run")) (value_option (codes "question
 -- the command `explore`
 abbrev pub explore_line : App
 explore_line =
-    with_rule (with_rule (session_line (codes "explore")) (value_option (codes "from")))
-    (value_option (codes "port"))
+    with_rule
+    (with_rule (with_rule (session_line (codes "explore")) (value_option (codes "from")))
+    (value_option (codes "port")))
+    (value_option (codes "page"))
 
 -- the command `save`
 abbrev pub save_line : App
@@ -204,15 +206,23 @@ sessions_in rows = option_value (codes "sessions") 1 1 most_sessions rows
 abbrev pub workers_in : List Row → Option ℕ
 workers_in rows = option_value (codes "workers") 0 0 1 rows
 
--- the task of `explore`, to which this file of lines or this port is given, or neither
-abbrev pub explore_with : Option Text → Option Text → Option Task
-explore_with from None = Some (Explore (is_some from))
-explore_with None (Some text) = option_map (λ port. Ask port) (number_in 1 port_limit text)
-explore_with (Some path) (Some text) = None
+-- the port of the page of a session's own heap: none, if the option is not given
+abbrev pub own_page : Option Text → Option (Option ℕ)
+own_page None = Some None
+own_page (Some text) = option_map (λ page. Some page) (number_in 1 port_limit text)
+
+-- the task of `explore`, to which this file of lines and this page are given, or this port, or none of them
+abbrev pub explore_with : Option Text → Option Text → Option Text → Option Task
+explore_with from page None = option_map (λ p. Explore (is_some from) p) (own_page page)
+explore_with None None (Some text) = option_map (λ port. Ask port) (number_in 1 port_limit text)
+explore_with (Some path) page (Some text) = None
+explore_with None (Some page) (Some text) = None
 
 -- the task of the options of `explore`
 abbrev pub explore_in : List Row → Option Task
-explore_in rows = explore_with (first_of (codes "from") rows) (first_of (codes "port") rows)
+explore_in rows =
+    explore_with (first_of (codes "from") rows) (first_of (codes "page") rows)
+    (first_of (codes "port") rows)
 
 -- the target of a dump: one of the two options is given, and a port has to be one
 abbrev pub target_in : Option Text → Option Text → Option Target
@@ -340,7 +350,8 @@ IsThird port dumps (Some page) =
 -- the ports and the numbers of sessions and workers are within their limits
 abbrev pub IsTask : Task → Type 0
 IsTask Run = ⊤
-IsTask (Explore from) = ⊤
+IsTask (Explore from None) = ⊤
+IsTask (Explore from (Some page)) = (1 ≤ page) × (page ≤ port_limit)
 IsTask Draw = ⊤
 IsTask (Save Out) = ⊤
 IsTask (Save (To port)) = (1 ≤ port) × (port ≤ port_limit)
@@ -376,12 +387,13 @@ dumps_of _ = None
 -- the port of the page
 abbrev pub page_of : Task → Option ℕ
 page_of (Serve port sessions workers dumps page) = page
+page_of (Explore from page) = page
 page_of _ = None
 
 -- the lines of a file are read first
 abbrev pub reads_file : Task → Bool
 reads_file Run = false
-reads_file (Explore from) = from
+reads_file (Explore from page) = from
 reads_file Draw = false
 reads_file (Save target) = false
 reads_file (Serve port sessions workers dumps page) = false

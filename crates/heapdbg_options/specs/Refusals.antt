@@ -1,5 +1,5 @@
 -- The texts for command lines that the program refuses.
-use Rattle.std.specs.Prelude.{◌≡◌, ◌≢◌, ◌⊎◌, ◌++◌, ℕ, Bool, List, Option, Some, None, [], ◌∷◌, ⊤, false, true, codes, is_some, string_bytes, IfErr, IfOk, Result}
+use Rattle.std.specs.Prelude.{◌≡◌, ◌≢◌, ◌⊎◌, ◌++◌, ◌||◌, ℕ, Bool, List, Option, Some, None, [], ◌∷◌, ⊤, false, true, codes, is_some, string_bytes, IfErr, IfOk, Result}
 use Rattle.std.specs.Option.{option_map_or}
 use Rattle.std.specs.Str.{bytes_eq}
 use Rattle.clap.specs.Words.{IsAmong, Row, Text, fault_of, first_of, subcommand_of}
@@ -7,9 +7,9 @@ use Rattle.clap.specs.declared.error.kind.ErrorKind.{ErrorKind}
 use Rattle.clap.specs.declared.error.kind.ErrorKind.TheVariants.{DisplayHelp, DisplayVersion, OutOfMemory}
 use Rattle.heap_world.specs.RegionLimits.{region_limit}
 use Rattle.heap_world.specs.Limits.{keep_limit, mutator_limit}
-use Rattle.heapdbg_options.specs.CommandLine.{dumps_with, heapdbg_line, id_size_in, is_task, keep_default, number_in, page_with, port_in, port_limit, questions_in, rolls_in, sessions_in, settings_of, option_value, time_limit, workers_in}
+use Rattle.heapdbg_options.specs.CommandLine.{dumps_with, explore_with, heapdbg_line, id_size_in, is_task, keep_default, number_in, page_with, port_in, port_limit, questions_in, rolls_in, sessions_in, settings_of, option_value, time_limit, workers_in}
 use Rattle.heapdbg_options.specs.declared.refusal.Mistake.{Mistake}
-use Rattle.heapdbg_options.specs.declared.refusal.Mistake.TheVariants.{Command, Regions, Mutators, Keep, Time, Ids, Port, Sessions, Workers, Questions, Roll, Dumps, Page, To, Place, Source}
+use Rattle.heapdbg_options.specs.declared.refusal.Mistake.TheVariants.{Command, Regions, Mutators, Keep, Time, Ids, Port, Sessions, Workers, Questions, Roll, Dumps, Page, To, Place, Source, OwnPage}
 use Rattle.heapdbg_options.specs.declared.settings.LineFault.{LineFault}
 use Rattle.heapdbg_options.specs.declared.settings.LineFault.TheVariants.{Bad, CommandText, Memory, OptionText}
 use Rattle.heapdbg_options.specs.declared.settings.Task.{Task}
@@ -24,11 +24,11 @@ abbrev pub IsTargetMistake : Mistake → Option Text → Option Text → Type 0
 IsTargetMistake m path port =
     ((m ≡ Place) × (is_some path ≡ is_some port)) ⊎ ((m ≡ To) × IsOutside 1 port_limit port)
 
--- a file of lines and a port have this mistake, of which at most one may be given
-abbrev pub IsExploreMistake : Mistake → Option Text → Option Text → Type 0
-IsExploreMistake m from port =
-    ((m ≡ Source) × (is_some from ≡ true) × (is_some port ≡ true))
-    ⊎ ((m ≡ Port) × IsOutside 1 port_limit port)
+-- a file of lines, a page and a port have this mistake, of which the port may only be given alone
+abbrev pub IsExploreMistake : Mistake → Option Text → Option Text → Option Text → Type 0
+IsExploreMistake m from page port =
+    ((m ≡ Source) × (is_some from || is_some page ≡ true) × (is_some port ≡ true))
+    ⊎ (((m ≡ Port) × IsOutside 1 port_limit port) ⊎ ((m ≡ OwnPage) × IsOutside 1 port_limit page))
 
 -- the options of a command have this mistake
 abbrev pub IsMistakeIn : Mistake → List Row → Type 0
@@ -51,7 +51,9 @@ IsMistakeIn Page rows =
     × (dumps_with port (first_of (codes "dumps") rows) ≡ Some dumps)
     × (page_with port dumps (first_of (codes "page") rows) ≡ None)
 IsMistakeIn Source rows =
-    IsExploreMistake Source (first_of (codes "from") rows) (first_of (codes "port") rows)
+    IsExploreMistake Source (first_of (codes "from") rows) (first_of (codes "page") rows)
+    (first_of (codes "port") rows)
+IsMistakeIn OwnPage rows = IsOutside 1 port_limit (first_of (codes "page") rows)
 IsMistakeIn To rows = IsTargetMistake To (first_of (codes "out") rows) (first_of (codes "to") rows)
 IsMistakeIn Place rows =
     IsTargetMistake Place (first_of (codes "out") rows) (first_of (codes "to") rows)
@@ -72,6 +74,12 @@ abbrev pub IsChoiceOrMistake : {A : Type 0} → (Option Text → Option Text →
     → Result A Mistake → Type 0
 IsChoiceOrMistake choose IsMade one other result =
     IsValueOrMistake (choose one other) (λ m. IsMade m one other) result
+
+-- the task of `explore` to which these are given, or the mistake in them
+abbrev pub IsExploreOrMistake : Option Text → Option Text → Option Text → Result Task Mistake
+    → Type 0
+IsExploreOrMistake from page port result =
+    IsValueOrMistake (explore_with from page port) (λ m. IsExploreMistake m from page port) result
 
 -- no command of the program is there
 abbrev pub IsNoTask : Option (Text × List Row) → Type 0
@@ -100,7 +108,8 @@ mistake_of Dumps = codes "--dumps takes 1 to 65535, and not the number of --port
 mistake_of Page = codes "--page takes 1 to 65535, and not the number of --port or --dumps"
 mistake_of To = codes "--to takes 1 to 65535"
 mistake_of Place = codes "save takes one of --out and --to"
-mistake_of Source = codes "explore takes one of --from and --port, or neither"
+mistake_of Source = codes "explore takes --port without --from and --page"
+mistake_of OwnPage = codes "--page takes 1 to 65535"
 
 -- the whole text of a mistake
 abbrev pub text_of_mistake : Mistake → Text

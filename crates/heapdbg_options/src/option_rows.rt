@@ -73,6 +73,14 @@ pub(crate) const QUESTIONS: OptionRow = OptionRow {
     is_required: false,
 };
 
+// The option `--page N`.
+pub(crate) const PAGE: OptionRow = OptionRow {
+    name: "page",
+    value: "N",
+    help: "Port on 127.0.0.1 of a page that shows the heap to a browser, 1 to 65535 [default: none]",
+    is_required: false,
+};
+
 // Returns the parser with the commands of these rows added in turn.
 pub(crate) fn with_commands<'a>(
     alloc: Global,

@@ -45,8 +45,10 @@ pub enum Mistake {
     To,
     /// Both of `--out` and `--to` are given, or neither.
     Place,
-    /// Both of `--from` and `--port` are given.
+    /// `--port` of `explore` is given with `--from` or `--page`.
     Source,
+    /// `--page` of `explore` is out of its range.
+    OwnPage,
 }
 
 impl Mistake {
@@ -71,7 +73,8 @@ impl Mistake {
             Mistake::Page => "--page takes 1 to 65535, and not the number of --port or --dumps",
             Mistake::To => "--to takes 1 to 65535",
             Mistake::Place => "save takes one of --out and --to",
-            Mistake::Source => "explore takes one of --from and --port, or neither",
+            Mistake::Source => "explore takes --port without --from and --page",
+            Mistake::OwnPage => "--page takes 1 to 65535",
         }
     }
 

@@ -1,10 +1,14 @@
 //! The command lines of the tasks between standard input and standard output.
-ghost use Rattle.std.specs.Prelude.{option_map};
+ghost use Rattle.std.specs.Prelude.{◌≡◌, option_map};
 ghost use Rattle.clap.specs.Words.{found_of, rows_of};
-ghost use Rattle.heapdbg_options.specs.CommandLine.{explore_in, explore_with};
-ghost use Rattle.heapdbg_options.specs.Refusals.{IsChoiceOrMistake, IsExploreMistake, IsTaskOrMistake};
+ghost use Rattle.heapdbg_options.specs.CommandLine.{explore_in, own_page, port_limit};
+ghost use Rattle.heapdbg_options.specs.Refusals.{IsExploreOrMistake, IsOutside, IsTaskOrMistake, IsValueOrMistake};
+ghost use Rattle.heapdbg_options.specs.declared.refusal.Mistake.TheVariants.{OwnPage};
+ghost use Rattle.heapdbg_options.specs.declared.settings.Task.TheVariants.{Explore};
 
-use crate::option_rows::{CommandRow, IDS, KEEP, MUTATORS, OptionRow, QUESTIONS, REGIONS, TIME};
+use crate::option_rows::{
+    CommandRow, IDS, KEEP, MUTATORS, OptionRow, PAGE, QUESTIONS, REGIONS, TIME,
+};
 use crate::refusal::Mistake;
 use crate::settings::Task;
 use crate::socket_options::port_of;
@@ -38,9 +42,10 @@ pub(crate) const EXPLORE: CommandRow = CommandRow {
         OptionRow {
             name: "port",
             value: "N",
-            help: "Port on 127.0.0.1 of a heap that is served, to ask about that, 1 to 65535; not with --from",
+            help: "Port on 127.0.0.1 of a heap that is served, to ask about that, 1 to 65535; not with --from or --page",
             is_required: false,
         },
+        PAGE,
     ],
 };
 
@@ -64,33 +69,51 @@ pub(crate) const DRAW: CommandRow = CommandRow {
     ],
 };
 
-// Returns the task of the options of `explore`, or the mistake in them: a file of lines is run first, or the questions are about
-// a heap that is served.
+// Returns the task of the options of `explore`, or the mistake in them: the session is over a heap of its own, or the questions
+// are about a heap that is served.
 pub(crate) fn explore_task(options: &ArgMatches<'_>) -> Result<Task, Mistake>
     ensures { IsTaskOrMistake explore_in (rows_of (found_of options.now)) result }
 {
     let from = options.get_str("from");
+    let page = options.get_str("page");
     let port = options.get_str("port");
-    match choose_task(from, port) {
+    match choose_task(from, page, port) {
         Ok(task) => Ok(task),
         Err(mistake) => Err(mistake),
     }
 }
 
-// Returns the task of `explore` to which this file or this port is given.
-fn choose_task(from: Option<&str>, port: Option<&str>) -> Result<Task, Mistake>
-    ensures { IsChoiceOrMistake explore_with IsExploreMistake (option_map (λ s. s.now) from.entry)
-        (option_map (λ s. s.now) port.entry) result }
+// Returns the task of `explore` to which this file, this page or this port is given.
+fn choose_task(from: Option<&str>, page: Option<&str>, port: Option<&str>) -> Result<Task, Mistake>
+    ensures { IsExploreOrMistake (option_map (λ s. s.now) from.entry)
+        (option_map (λ s. s.now) page.entry) (option_map (λ s. s.now) port.entry) result }
 {
     let Some(text) = port else {
-        let from = from.is_some();
-        return Ok(Task::Explore { from });
+        return own_task(from.is_some(), page);
     };
-    if from.is_some() {
+    if from.is_some() || page.is_some() {
         return Err(Mistake::Source);
     }
     match port_of(text) {
         Some(port) => Ok(Task::Ask { port }),
         None => Err(Mistake::Port),
+    }
+}
+
+// Returns the task of `explore` over a heap of its own, to which this page is given.
+fn own_task(from: bool, page: Option<&str>) -> Result<Task, Mistake>
+    ensures { IsValueOrMistake
+        (option_map (λ p. Explore from p) (own_page (option_map (λ s. s.now) page.entry)))
+        (λ m. (m ≡ OwnPage) × IsOutside 1 port_limit (option_map (λ s. s.now) page.entry)) result }
+{
+    let Some(text) = page else {
+        return Ok(Task::Explore { from, page: None });
+    };
+    match port_of(text) {
+        Some(port) => {
+            let page = Some(port);
+            Ok(Task::Explore { from, page })
+        }
+        None => Err(Mistake::OwnPage),
     }
 }

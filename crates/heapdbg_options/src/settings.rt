@@ -25,6 +25,8 @@ pub enum Task {
     Explore {
         /// Whether the lines of a file that the command line names are read first.
         from: bool,
+        /// The port of the page, 1 to 65,535, or None if there is none.
+        page: Option<u16>,
     },
     /// Runs one session as `Run` does, and draws the state that it leaves.
     Draw,

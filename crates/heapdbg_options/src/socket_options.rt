@@ -5,7 +5,9 @@ ghost use Rattle.heapdbg_options.specs.CommandLine.{ask_in, dumps_with, fetch_in
 ghost use Rattle.heapdbg_options.specs.Refusals.{IsTaskOrMistake};
 
 use crate::command_line::{number, option_value};
-use crate::option_rows::{CommandRow, IDS, KEEP, MUTATORS, OptionRow, QUESTIONS, REGIONS, TIME};
+use crate::option_rows::{
+    CommandRow, IDS, KEEP, MUTATORS, OptionRow, PAGE, QUESTIONS, REGIONS, TIME,
+};
 use crate::refusal::Mistake;
 use crate::settings::Task;
 use clap::ArgMatches;
@@ -57,12 +59,7 @@ pub(crate) const SERVE: CommandRow = CommandRow {
             help: "Port on 127.0.0.1 that sends a dump to each client, 1 to 65535 [default: none]",
             is_required: false,
         },
-        OptionRow {
-            name: "page",
-            value: "N",
-            help: "Port on 127.0.0.1 of a page that shows the heap to a browser, 1 to 65535 [default: none]",
-            is_required: false,
-        },
+        PAGE,
         QUESTIONS,
         OptionRow {
             name: "roll",

@@ -51,16 +51,16 @@ impl Watch {
         );
     }
 
-    // Notes the places of a machine after an action, and its refusal, if there is one.
-    pub(crate) fn note_reply(&self, machine: &Machine, reply: &Reply) {
+    /// Notes the places of a machine after an action, and its refusal, if there is one.
+    pub fn note_reply(&self, machine: &Machine, reply: &Reply) {
         self.note_places(machine);
         if let Reply::Refused(refusal) = reply {
             self.refusal.store(refusal.number(), Ordering::SeqCst);
         }
     }
 
-    // Notes the places of a machine after a line that the grammar of sessions doesn't know, and its refusal, if there is one.
-    pub(crate) fn note_answer(&self, machine: &Machine, answer: &LineAnswer) {
+    /// Notes the places of a machine after a line that the grammar of sessions doesn't know, and its refusal, if there is one.
+    pub fn note_answer(&self, machine: &Machine, answer: &LineAnswer) {
         match answer {
             LineAnswer::Known(reply) => self.note_reply(machine, reply),
             LineAnswer::BadCommand => self.refusal.store(BAD_COMMAND, Ordering::SeqCst),

@@ -5,9 +5,9 @@ pub returns : goal.returns
 returns g c =
     inl (
       c.serve_asking-ended.result,
-      c.begin.new.asking,
+      c.run_first.new.commands,
       c.serve_asking-ended.new.asking,
-      c.in_ok-begin.ensures.begun,
+      (c.args.asking.now, c.args.requires, c.in_ok-run_first.ensures.run),
       c.serve_asking-ended.ensures.session,
       c.serve_asking-ended.ensures.ends,
       c.outcome.ensures,

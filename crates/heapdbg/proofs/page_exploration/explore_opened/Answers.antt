@@ -1,0 +1,13 @@
+use Rattle.std.proofs.Common.{inl}
+use Rattle.heapdbg.proofs.page_exploration.explore_opened.Goals as goal
+
+pub returns-in-Ok : goal.returns-in-Ok
+returns-in-Ok g c =
+    inl (
+      c.in-Ok.ended,
+      c.run_first.new.commands,
+      c.serve_beside_page.new.commands,
+      (c.new-seat.result, ?, c.in_ok-run_first.ensures.run),
+      c.in-Ok.ensures.served,
+      c.outcome.ensures,
+    )

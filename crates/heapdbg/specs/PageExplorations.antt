@@ -1,0 +1,57 @@
+-- A session with questions over a heap that a page shows.
+use Rattle.std.specs.Prelude.{◌≡◌, ◌⊎◌, ◌∷◌, ℕ, Bool, true, [], length, Result, Err}
+use Rattle.dump_pump.specs.Inlets.{Incoming}
+use Rattle.dump_pump.specs.Outlets.{Outgoing}
+use Rattle.session_text.specs.declared.Ended.{Ended}
+use Rattle.heap_server.specs.Blanks.{Maker}
+use Rattle.heap_server.specs.Calls.{IsLegalLedger}
+use Rattle.heap_server.specs.PageSessions.{IsServedBeside}
+use Rattle.heap_server.specs.SessionSeats.{AreUsers}
+use Rattle.heap_server.specs.Stations.{Station, seat_acts, seat_answers, seat_begins, seat_says}
+use Rattle.heapdbg_options.specs.HeapLimits.{HeapSettings}
+use Rattle.heapdbg_options.specs.declared.settings.Settings.{Settings}
+use Rattle.heapdbg.specs.declared.failure.Fault.{Fault}
+use Rattle.heapdbg.specs.declared.failure.Fault.TheVariants.{Listen}
+use Rattle.heapdbg.specs.Endings.{outcome_of}
+use Rattle.heapdbg.specs.Explorations.{IsHindrance, IsRunFirst}
+use Rattle.heapdbg.specs.ServeOutcomes.{config_of}
+
+-- a heap of these settings, which drops old entries, with one user's seat
+pub record IsMadeFor (config : HeapSettings) (made : Maker) : Type 0 where
+  pub config : made.config ≡ config
+  pub rolls : made.rolls ≡ true
+  pub users : AreUsers made.seats
+  pub one : length made.seats ≡ 1
+
+-- the only seat of such a heap, and calls that may have been made there
+pub record IsSeated (config : HeapSettings) (c : Station) : Type 0 where
+  pub made : Maker
+  pub is : IsMadeFor config made
+  pub only : made.seats ≡ c.seat ∷ []
+  pub legal : IsLegalLedger config c.seen
+
+-- a session as it begins: at such a seat, or as the lines of a file left it, which were run first
+abbrev pub IsSeatBegun : HeapSettings → Bool → ℕ → Station → Type 0
+IsSeatBegun config from time c =
+    (b : Station) × IsSeated config b
+    × IsRunFirst from (seat_says config (record { time = time; questions = true }))
+    (seat_begins config (record { time = time; questions = true })) b c
+
+-- why a session doesn't begin: as without a page, or its port can't be listened on
+abbrev pub IsPageHindrance : Bool → Fault → Type 0
+IsPageHindrance from f = IsHindrance from f ⊎ (f ≡ Listen)
+
+-- a session with questions from the only seat of a heap of these settings, and how it ended; or it didn't begin, and then nothing
+-- is read or written
+abbrev pub IsPageExploredOver : HeapSettings → Bool → ℕ → Incoming → Incoming → Outgoing → Outgoing
+    → Result (Unit {0}) Fault → Type 0
+IsPageExploredOver config from time a b w w' result =
+    ((ended : Ended) × (c : Station) × (left : Station) × IsSeatBegun config from time c
+    × IsServedBeside (seat_acts config) (seat_answers config true) time a b c w left w' ended
+    × (result ≡ outcome_of ended))
+    ⊎ ((f : Fault) × IsPageHindrance from f × (result ≡ Err f) × (b ≡ a) × (w' ≡ w))
+
+-- the same of a heap with the settings of a command line
+abbrev pub IsPageExplored : Bool → Settings → Incoming → Incoming → Outgoing → Outgoing
+    → Result (Unit {0}) Fault → Type 0
+IsPageExplored from s a b w w' result = IsPageExploredOver (config_of s) from s.time a b w w' result

@@ -1,0 +1,74 @@
+//! A seat of a shared heap, of which a prompt shows the place.
+ghost use Rattle.std.specs.Prelude.{◌≡◌};
+ghost use Rattle.heap_server.specs.Calls.{IsLegalLedger};
+ghost use Rattle.heap_server.specs.Role.TheVariants.{User};
+
+use heap_server::{Action, AskingSeat, Heap, Joined, Reply, Seat, Shared};
+use question_text::Watch;
+use session_text::{Commands, LineAnswer};
+use std::alloc::Global;
+use std::marker::Model;
+use std::sync::Wait;
+
+/// A user's seat that acts on the lines of a session and answers questions, as `AskingSeat` does, and tells a watch the place
+/// after each. Contracts see what they see of `AskingSeat`.
+#[derive(Drop)]
+pub(crate) struct WatchedSeat<'a, L: Heap, R: Wait> {
+    asking: AskingSeat<'a, L, R>,
+    shared: &'a Shared<L>,
+    rt: &'a R,
+    watch: &'a Watch,
+}
+
+impl<'a, L: Heap, R: Wait> Model for WatchedSeat<'a, L, R> {
+    ghost use Rattle.heap_server.specs.Stations.{Station};
+
+    ghost Value = { Station };
+
+    ghost view = { λ s. s.asking };
+}
+
+impl<'a, L: Heap, R: Wait> WatchedSeat<'a, L, R> {
+    /// Creates the commands of a seat.
+    pub(crate) fn new(
+        rt: &'a R,
+        shared: &'a Shared<L>,
+        seat: Seat<L>,
+        watch: &'a Watch,
+    ) -> WatchedSeat<'a, L, R>
+        requires { seat.role ≡ User }
+        ensures seat { result.seat ≡ seat }
+        ensures legal { IsLegalLedger L.config result.seen }
+    {
+        let joined = Joined::new(shared, rt, seat, shared.witness(rt));
+        WatchedSeat {
+            asking: AskingSeat::new(joined),
+            shared,
+            rt,
+            watch,
+        }
+    }
+}
+
+impl<'a, L: Heap, R: Wait> Commands for WatchedSeat<'a, L, R> {
+    ghost use Rattle.std.specs.Prelude.{true};
+    ghost use Rattle.heap_server.specs.Stations.{seat_acts, seat_answers};
+
+    ghost acts = { seat_acts L.config };
+
+    ghost unknown = { seat_answers L.config true };
+
+    fn act(&mut self, action: Action) -> Reply {
+        let reply = self.asking.act(action);
+        let kept = self.shared.lock(self.rt);
+        self.watch.note_reply(kept.machine(), &reply);
+        reply
+    }
+
+    fn answer_unknown(&mut self, alloc: Global, line: &[u8]) -> LineAnswer {
+        let answer = self.asking.answer_unknown(alloc, line);
+        let kept = self.shared.lock(self.rt);
+        self.watch.note_answer(kept.machine(), &answer);
+        answer
+    }
+}

@@ -1,17 +1,17 @@
 -- What an act under the lock is as a step of the machine.
-use Rattle.std.proofs.Common.{◌≡◌, ◌∙◌, ℕ, Bool, true, false, refl, sym, ap, subst, inl, inr, List, [], ◌∷◌, ◌++◌}
+use Rattle.std.proofs.Common.{◌≡◌, ◌∙◌, ℕ, ◌+◌, Bool, true, false, None, Option, refl, sym, ap, ap₂, subst, inl, inr, List, [], ◌∷◌, ◌++◌, length, map, arith}
 use Rattle.std.specs.Prelude.{Result, Ok, Err, nat_le}
-use Rattle.std.proofs.lemmas.List.{append_assoc, append-nil}
+use Rattle.std.specs.List.{enumerate_from}
+use Rattle.std.proofs.lemmas.List.{append_assoc, append-nil, length-append, length_push, map-append}
 use Rattle.heap_lock.specs.Refusal.{Refusal}
-use Rattle.heap_lock.specs.Refusal.TheVariants.{NoMemory}
+use Rattle.heap_lock.specs.Refusal.TheVariants.{NoMemory, ChronicleFull}
 use mathlib.Core.List.{IsPrefix}
 use Rattle.heap_lock.specs.HeapLimits.{HeapSettings}
-use Rattle.heap_lock.specs.Calls.{Call}
+use Rattle.heap_lock.specs.Calls.{Call, IsHeapLedger, call_of}
 use Rattle.heap_lock.specs.State.{HeapState}
-use Rattle.heap_lock.specs.Apply.{applied}
+use Rattle.heap_lock.specs.Apply.{applied, refusal_of}
 use Rattle.heap_lock.specs.Answer.{Answer}
 use Rattle.heap_lock.specs.Event.{Event}
-use Rattle.heap_lock.specs.Action.{Action}
 use Rattle.heap_lock.specs.Action.TheVariants.{Step}
 use Rattle.heap_lock.specs.Reply.{Reply}
 use Rattle.heap_lock.specs.Reply.TheVariants.{Answered, Refused, Place}
@@ -20,12 +20,14 @@ use Rattle.heap_lock.specs.Machine.{Machine, Allocation, Granted, Denied, LosesP
 use Rattle.heap_lock.specs.Outcome.{Outcome}
 use Rattle.heap_lock.specs.Entry.{Entry}
 use Rattle.heap_lock.specs.Outcome.TheVariants as outcome
-use Rattle.heap_lock.specs.History.{entry, reply_of}
-use Rattle.heap_lock.specs.LockStates.{Chair, AreAllCalls, IsNoEntry, IsRefused, LockState, with_entry}
+use Rattle.heap_lock.specs.Receipt.{Receipt}
+use Rattle.heap_lock.specs.History.{MayEnter, entry, reply_of, tally}
+use Rattle.heap_lock.specs.LockStates.{Chair, IsAct, IsNoEntry, IsRefused, LockState}
 use Rattle.heap_lock.proofs.StepReplies.{no_place}
 use Rattle.question_text.specs.declared.cycle.CycleCounts.{CycleCounts}
-use Rattle.question_text.specs.Collections.{RunsCycle}
-use Rattle.heap_server.specs.JoinedAnswers.{IsSeatAfter, IsSeatSince, RunsCycleOfHeap}
+use Rattle.question_text.specs.Collections.{IsShortage, RunsCycle, TakenStep}
+use Rattle.question_text.proofs.CycleSteps.{short}
+use Rattle.heap_server.specs.JoinedAnswers.{Gains, IsHeapOfSeat, RunsCycleOfHeap, entries_of_steps}
 
 -- a step that is refused leaves the machine
 step_refused : (m n : Machine) (e : Event) (r : Refusal) → acted m (Step e) ≡ (n, Refused r) → n ≡ m
@@ -80,37 +82,81 @@ pub no_entry : (k : LockState) (e : Refusal) → IsRefused k e → IsNoEntry e
 no_entry k e (inl h) = inl h.0
 no_entry k e (inr h) = inr h.0
 
--- ---- the seat
+-- an act that the state allows is never refused with an entry
+pub never_refused : (m n : Machine) (e : Event) (o : Outcome) (r : Refusal) → refusal_of e m.trail.current ≡ None → MayReply m (Step e) n (reply_of o) → MayEnter (reply_of o) → o ≡ outcome.Refused r → ⊥
+never_refused m n e o r free h enters is = go (short m e r free (refused_as m n e o r h is).1)
+  where
+    told : (x : Refusal) → r ≡ x → reply_of o ≡ Refused x
+    told x same = ap (λ (y : Outcome). reply_of y) is ∙ ap (λ (y : Refusal). Refused y) same
 
-pub after_self : (s : Chair) → IsSeatAfter s s
-after_self s = (refl, refl, ([], sym (append-nil s.share)))
+    go : IsShortage r → ⊥
+    go (inl same) = enters.0 (told NoMemory same)
+    go (inr same) = enters.1 (told ChronicleFull same)
 
-after_on : (first s : Chair) (turn : ℕ) (a : Action) (o : Outcome) → IsSeatAfter first s → IsSeatAfter first (with_entry turn a o s)
-after_on first s turn a o (number, role, (more, share)) = (
-  number,
-  role,
-  (
-    more ++ (turn, entry s.number a o) ∷ [],
-    ap (λ (l : List (ℕ × Entry)). l ++ (turn, entry s.number a o) ∷ []) share ∙ append_assoc first.share more ((turn, entry s.number a o) ∷ []),
-  ),
-)
+-- ---- what chronicle, calls and share gain
 
-pub since_on : (was : Chair → Type 0) (s s' : Chair) (turn : ℕ) (a : Action) (o : Outcome) → IsSeatSince was s → s' ≡ with_entry turn a o s → IsSeatSince was s'
-since_on was s s' turn a o (role, (first, before, h)) is =
-    subst (λ (x : Chair). IsSeatSince was x) (sym is) (role, (first, before, after_on first s turn a o h))
+enumerate_push : (n : ℕ) (es : List Entry) (e : Entry) → enumerate_from n (es ++ e ∷ []) ≡ enumerate_from n es ++ (n + length es, e) ∷ []
+enumerate_push n [] e = ap (λ (k : ℕ). (k, e) ∷ []) (omega arith)
+enumerate_push n (x ∷ es) e = ap (λ l. (n, x) ∷ l) (enumerate_push (n + 1) es e ∙ ap (λ k. enumerate_from (n + 1) es ++ (k, e) ∷ []) (omega arith))
+
+pub gains_none : (k : LockState) (s : Chair) → Gains k s [] k s
+gains_none k s = record {
+  chronicle = sym (append-nil k.chronicle);
+  calls = sym (append-nil k.ledger);
+  seat = sym (ap (λ (l : List (ℕ × Entry)). let c : Chair = record s { share = l } in c) (append-nil s.share));
+  rolls = refl;
+}
+
+gains_more : (k : LockState) (s : Chair) (es : List Entry) (e : Entry) (turn : ℕ) (l : LockState) (t : Chair) (l' : LockState) (t' : Chair) → Gains k s es l t → l'.chronicle ≡ l.chronicle ++ e ∷ [] → l'.ledger ≡ l.ledger ++ call_of e ∷ [] → turn ≡ length l'.chronicle → t' ≡ record t { share = t.share ++ (turn, e) ∷ [] } → l'.rolls ≡ l.rolls
+    → Gains k s (es ++ e ∷ []) l' t'
+gains_more k s es e turn l t l' t' g chronicle ledger is share rolls =
+    let first = length k.chronicle + 1 in
+    let place : turn ≡ first + length es = omega (arith, is, ap length chronicle, length_push l.chronicle e, ap length g.chronicle, length-append k.chronicle es) in
+    let turns : enumerate_from first es ++ (turn, e) ∷ [] ≡ enumerate_from first (es ++ e ∷ []) = ap (λ (n : ℕ). enumerate_from first es ++ (n, e) ∷ []) place ∙ sym (enumerate_push first es e) in
+    record {
+      chronicle = chronicle ∙ ap (λ (x : List Entry). x ++ e ∷ []) g.chronicle ∙ append_assoc k.chronicle es (e ∷ []);
+      calls = ledger ∙ ap (λ (x : List Call). x ++ call_of e ∷ []) g.calls ∙ append_assoc k.ledger (map call_of es) (call_of e ∷ []) ∙ ap (λ (x : List Call). k.ledger ++ x) (sym (map-append call_of es (e ∷ [])));
+      seat =
+          share ∙ ap (λ (x : Chair). let c : Chair = record x { share = x.share ++ (turn, e) ∷ [] } in c) g.seat
+          ∙ ap (λ (x : List (ℕ × Entry)). let c : Chair = record s { share = x } in c) (append_assoc s.share (enumerate_from first es) ((turn, e) ∷ []) ∙ ap (λ (x : List (ℕ × Entry)). s.share ++ x) turns);
+      rolls = rolls ∙ g.rolls;
+    }
+
+-- an act that is answered is a step more
+pub step_gained : (k : LockState) (s : Chair) (steps : List TakenStep) (l : LockState) (t : Chair) (event : Event) (a : Answer) (r : Receipt) (l' : LockState) (t' : Chair) → IsAct (Step event) l t r l' t' → r.answer ≡ outcome.Answered a → Gains k s (entries_of_steps s.number steps) l t → Gains k s (entries_of_steps s.number (steps ++ (event, a) ∷ [])) l' t'
+step_gained k s steps l t event a r l' t' act told g =
+    let e = entry t.number (Step event) r.answer in
+    let more = gains_more k s (entries_of_steps s.number steps) e r.turn l t l' t' g act.0 act.1 act.4 act.5 act.6 in
+    let number : t.number ≡ s.number = ap (λ (c : Chair). c.number) g.seat in
+    let same : e ≡ entry s.number (Step event) (outcome.Answered a) = ap₂ (λ (n : ℕ) (o : Outcome). entry n (Step event) o) number told in
+    let all = map-append (λ (step : TakenStep). entry s.number (Step step.0) (outcome.Answered step.1)) steps ((event, a) ∷ []) in
+    subst (λ (es : List Entry). Gains k s es l' t') (ap (λ (x : Entry). entries_of_steps s.number steps ++ x ∷ []) same ∙ sym all) more
+
+-- an act without an entry is none
+pub none_gained : (k : LockState) (s : Chair) (steps : List TakenStep) (l : LockState) (t : Chair) (l' : LockState) (t' : Chair) → l' ≡ l → t' ≡ t → Gains k s (entries_of_steps s.number steps) l t → Gains k s (entries_of_steps s.number (steps ++ [])) l' t'
+none_gained k s steps l t l' t' lock seat g =
+    subst (λ (xs : List TakenStep). Gains k s (entries_of_steps s.number xs) l' t') (sym (append-nil steps))
+    (subst (λ (x : LockState). Gains k s (entries_of_steps s.number steps) x t') (sym lock) (subst (λ (x : Chair). Gains k s (entries_of_steps s.number steps) l x) (sym seat) g))
 
 -- ---- a cycle
 
--- a cycle between two moments under the lock
-pub heap_cycle : (config : HeapSettings) (s s' : Chair) (seen seen' : List Call) (k k1 l : LockState) (cycle : Result CycleCounts Refusal) → IsPrefix seen k.ledger → AreAllCalls config k.machine s k.ledger → k1 ≡ k → (middle : List Call) → middle ≡ k.ledger → IsPrefix middle l.ledger → AreAllCalls config l.machine s' l.ledger → seen' ≡ l.ledger → RunsCycle IsNoEntry k1.machine cycle l.machine
-    → RunsCycleOfHeap config s seen cycle s' seen'
-heap_cycle config s s' seen seen' k k1 l cycle begins from same middle is on to last runs = record {
-  before = k.ledger;
-  first = k.machine;
-  last = l.machine;
-  begins = begins;
-  from = from;
-  goes_on = subst (λ (x : List Call × List Call). IsPrefix x.0 x.1) (λ i. (is i, sym last i)) on;
-  to = subst (AreAllCalls config l.machine s') (sym last) to;
-  runs = subst (λ (x : LockState). RunsCycle IsNoEntry x.machine cycle l.machine) same runs;
-}
+abbrev IsHeap : HeapSettings → LockState → Type 0
+IsHeap config k = IsHeapLedger config k.machine k.chronicle k.ledger
+
+-- a cycle between two moments under one lock, at each of which chronicle and seat were compared and the witness saw all calls
+pub heap_cycle : (config : HeapSettings) (seen seen' : List Call) (cycle : Result CycleCounts Refusal) (steps : List TakenStep) (k k1 k2 l l1 : LockState) (s s1 t t1 : Chair) → tally s.number k.chronicle ≡ s.share → k1 ≡ k → s1 ≡ s → IsHeap config k1 → IsPrefix seen k1.ledger → k2 ≡ k1
+    → RunsCycle IsNoEntry k2.machine steps cycle l.machine → Gains k2 s1 (entries_of_steps s1.number steps) l t → tally t.number l.chronicle ≡ t.share → l1 ≡ l → t1 ≡ t → IsHeap config l1 → seen' ≡ l1.ledger → RunsCycleOfHeap config s seen cycle t1 seen'
+heap_cycle config seen seen' cycle steps k k1 k2 l l1 s s1 t t1 share same seat heap begins shown runs gains share' same' seat' heap' sees =
+    let es = entries_of_steps s.number steps in
+    let to : IsHeapOfSeat config l.machine l.chronicle l.ledger t = (subst (IsHeap config) same' heap', share') in
+    record {
+      first = k;
+      steps = steps;
+      last = l;
+      begins = subst (λ (x : LockState). IsPrefix seen x.ledger) same begins;
+      from = (subst (IsHeap config) same heap, share);
+      runs = subst (λ (x : LockState). RunsCycle IsNoEntry x.machine steps cycle l.machine) (shown ∙ same) runs;
+      gains = subst (λ (x : Chair). Gains k s es l x) (sym seat') (subst (λ (x : LockState). Gains x s es l t) (shown ∙ same) (subst (λ (x : Chair). Gains k2 x (entries_of_steps x.number steps) l t) seat gains));
+      to = subst (λ (x : Chair). IsHeapOfSeat config l.machine l.chronicle l.ledger x) (sym seat') to;
+      sees = sees ∙ ap (λ (x : LockState). x.ledger) same';
+    }

@@ -1,39 +1,62 @@
 -- What a seat at a shared heap answers a question, and `collect`.
-use Rattle.std.specs.Prelude.{◌≡◌, ℕ, ◌++◌, Bool, true, false, List, length, Result, Some}
+use Rattle.std.specs.Prelude.{◌≡◌, ℕ, ◌+◌, ◌++◌, Bool, true, false, List, length, map, Result, Some}
+use Rattle.std.specs.List.{enumerate_from}
 use mathlib.Core.List.{IsPrefix}
 use Rattle.heap_lock.specs.Refusal.{Refusal}
 use Rattle.heap_lock.specs.HeapLimits.{HeapSettings}
-use Rattle.heap_lock.specs.Calls.{Call, IsHeapLedger}
+use Rattle.heap_lock.specs.Calls.{Call, IsHeapLedger, call_of}
 use Rattle.heap_lock.specs.Machine.{Machine}
+use Rattle.heap_lock.specs.Action.TheVariants.{Step}
 use Rattle.heap_lock.specs.Entry.{Entry}
-use Rattle.heap_lock.specs.History.{tally}
-use Rattle.heap_lock.specs.declared.role.Role.TheVariants.{User}
-use Rattle.heap_lock.specs.LockStates.{AreAllCalls, Chair, IsNoEntry}
+use Rattle.heap_lock.specs.Outcome.TheVariants.{Answered}
+use Rattle.heap_lock.specs.History.{entry, tally}
+use Rattle.heap_lock.specs.LockStates.{Chair, IsNoEntry, LockState}
 use Rattle.question_text.specs.Answers.{IsAnswerOfLine}
 use Rattle.question_text.specs.declared.cycle.CycleCounts.{CycleCounts}
-use Rattle.question_text.specs.Collections.{IsCycleAnswer, RunsCycle}
+use Rattle.question_text.specs.Collections.{IsCycleAnswer, RunsCycle, TakenStep}
+
+-- the calls lead to this machine and are those of this chronicle, which has of the seat just its share
+abbrev pub IsHeapOfSeat : HeapSettings → Machine → List Entry → List Call → Chair → Type 0
+IsHeapOfSeat config m chronicle calls s =
+    IsHeapLedger config m chronicle calls × (tally s.number chronicle ≡ s.share)
 
 -- the answer of a question about the heap's machine, and about the length of its chronicle, when all calls were those that the
--- witness has seen then, and the chronicle has of the seat just its share
+-- witness has seen then
 abbrev pub IsAnswerOfHeap : HeapSettings → Chair → List Call → List ℕ → List ℕ → List Call → Type 0
 IsAnswerOfHeap config s seen l text seen' =
-    (m : Machine) × (chronicle : List Entry) × IsHeapLedger config m chronicle seen'
-    × (tally s.number chronicle ≡ s.share) × IsPrefix seen seen'
-    × IsAnswerOfLine l m (Some (length chronicle)) text
+    (m : Machine) × (chronicle : List Entry) × IsHeapOfSeat config m chronicle seen' s
+    × IsPrefix seen seen' × IsAnswerOfLine l m (Some (length chronicle)) text
 
--- a cycle that ended so led the heap's machine from where it was after the calls `before` to where it is after those that the
--- witness has seen then, each time with a history that has of the seat just its share; or its steps up to one that was refused,
--- perhaps without an entry
+-- the entries of these steps, taken from the seat of this number
+abbrev pub entries_of_steps : ℕ → List TakenStep → List Entry
+entries_of_steps seat steps =
+    map (λ (step : TakenStep). entry seat (Step step.0) (Answered step.1)) steps
+
+-- the seat whose share gained entries, one turn after another from this one on
+abbrev pub with_entries : ℕ → List Entry → Chair → Chair
+with_entries turn entries s = record s { share = s.share ++ enumerate_from turn entries }
+
+-- chronicle, calls and share each gained these entries, in this order, and nothing else
+pub record Gains (k : LockState) (s : Chair) (entries : List Entry) (k' : LockState) (s' : Chair)
+    : Type 0 where
+  pub chronicle : k'.chronicle ≡ k.chronicle ++ entries
+  pub calls : k'.ledger ≡ k.ledger ++ map call_of entries
+  pub seat : s' ≡ with_entries (length k.chronicle + 1) entries s
+  pub rolls : k'.rolls ≡ k.rolls
+
+-- a cycle that ended so took these steps from the seat under one lock, from when the witness had seen all calls so far, to when it
+-- has seen all again; each is an entry, and there are no others
 pub record RunsCycleOfHeap (config : HeapSettings) (s : Chair) (seen : List Call)
     (cycle : Result CycleCounts Refusal) (s' : Chair) (seen' : List Call) : Type 0 where
-  pub before : List Call
-  pub first : Machine
-  pub last : Machine
-  pub begins : IsPrefix seen before
-  pub from : AreAllCalls config first s before
-  pub goes_on : IsPrefix before seen'
-  pub to : AreAllCalls config last s' seen'
-  pub runs : RunsCycle IsNoEntry first cycle last
+  pub first : LockState
+  pub steps : List TakenStep
+  pub last : LockState
+  pub begins : IsPrefix seen first.ledger
+  pub from : IsHeapOfSeat config first.machine first.chronicle first.ledger s
+  pub runs : RunsCycle IsNoEntry first.machine steps cycle last.machine
+  pub gains : Gains first s (entries_of_steps s.number steps) last s'
+  pub to : IsHeapOfSeat config last.machine last.chronicle last.ledger s'
+  pub sees : seen' ≡ last.ledger
 
 -- the answer of `collect`, about such a cycle
 abbrev pub IsCollectionOfHeap : HeapSettings → Chair → List Call → List ℕ → Chair → List Call
@@ -42,21 +65,10 @@ IsCollectionOfHeap config s seen text s' seen' =
     (cycle : Result CycleCounts Refusal) × RunsCycleOfHeap config s seen cycle s' seen'
     × IsCycleAnswer cycle text
 
--- the same seat, whose share begins as before
-abbrev pub IsSeatAfter : Chair → Chair → Type 0
-IsSeatAfter s s' =
-    (s'.number ≡ s.number) × (s'.role ≡ s.role)
-    × ((more : List (ℕ × Entry)) × (s'.share ≡ s.share ++ more))
-
--- a user's seat that was one with this property
-abbrev pub IsSeatSince : (Chair → Type 0) → Chair → Type 0
-IsSeatSince was s = (s.role ≡ User) × ((first : Chair) × was first × IsSeatAfter first s)
-
 -- the answer of a line that the grammar of sessions doesn't know: `collect` acts, and no other
 abbrev pub AnswersForSeat : HeapSettings → Bool → List ℕ → Chair → List Call → List ℕ → Chair
     → List Call
     → Type 0
-AnswersForSeat config true l s seen text s' seen' =
-    IsCollectionOfHeap config s seen text s' seen' × IsSeatAfter s s'
+AnswersForSeat config true l s seen text s' seen' = IsCollectionOfHeap config s seen text s' seen'
 AnswersForSeat config false l s seen text s' seen' =
     IsAnswerOfHeap config s seen l text seen' × (s' ≡ s)

@@ -2,39 +2,33 @@
 ghost use Rattle.std.specs.Prelude.{◌≡◌};
 ghost use Rattle.session_text.specs.Replies.{line_answer_text};
 ghost use Rattle.heap_lock.specs.declared.role.Role.TheVariants.{User};
-ghost use Rattle.heap_server.specs.JoinedAnswers.{IsCollectionOfHeap, IsSeatAfter, IsSeatSince, RunsCycleOfHeap};
+ghost use Rattle.heap_server.specs.JoinedAnswers.{IsCollectionOfHeap, RunsCycleOfHeap};
 
 use heap_lock::{Answer, Event, Heap, Kept, Machine, Outcome, Refusal, Seat, Witness};
 use question_text::{CycleCounts, Steps, collect_answer, run_cycle};
 use session_text::LineAnswer;
 use std::alloc::Global;
-use std::marker::{Brand, PhantomData};
-
-// A fact about a seat before its first step. Each call picks it.
-trait SeatOrigin<P> {
-    ghost was: { P → Type 0 };
-}
-
-impl<P> SeatOrigin<P> for Brand {
-    ghost was = { λ seat. Unit {0} };
-}
 
 // The heap under its lock.
 #[derive(Drop)]
-struct HeldHeap<'a, L: Heap, B: SeatOrigin<Seat<L>>> {
+struct HeldHeap<'a, L: Heap> {
     kept: &'a mut Kept<L>,
-    of: PhantomData<B>,
 }
 
-impl<'a, L: Heap, B: SeatOrigin<Seat<L>>> Steps for HeldHeap<'a, L, B> {
+impl<'a, L: Heap> Steps for HeldHeap<'a, L> {
+    ghost use Rattle.std.specs.Prelude.{◌≡◌};
+    ghost use Rattle.heap_lock.specs.declared.role.Role.TheVariants.{User};
     ghost use Rattle.heap_lock.specs.LockStates.{IsNoEntry};
-    ghost use Rattle.heap_server.specs.JoinedAnswers.{IsSeatSince};
+    ghost use Rattle.heap_server.specs.JoinedAnswers.{Gains, entries_of_steps};
 
     type By = Seat<L>;
 
     ghost seen = { λ h. h.kept.now.machine };
 
-    ghost may = { λ seat. IsSeatSince B.was seat };
+    ghost may = { λ seat. seat.role ≡ User };
+
+    ghost since = { λ h seat first first_seat steps. Gains first.kept.now first_seat
+        (entries_of_steps first_seat.number steps) h.kept.now seat };
 
     ghost denies = { IsNoEntry };
 
@@ -46,7 +40,7 @@ impl<'a, L: Heap, B: SeatOrigin<Seat<L>>> Steps for HeldHeap<'a, L, B> {
         match self.kept.act_held(by, event) {
             Ok(receipt) => match receipt.answer {
                 Outcome::Answered(answer) => Ok(answer),
-                Outcome::Refused(refusal) => Err(refusal),
+                Outcome::Refused(_) => unreachable!(),
                 Outcome::Place(_) => unreachable!(),
             },
             Err(refusal) => Err(refusal),
@@ -55,23 +49,21 @@ impl<'a, L: Heap, B: SeatOrigin<Seat<L>>> Steps for HeldHeap<'a, L, B> {
 }
 
 // Runs a cycle for one who holds the lock. The witness sees the calls before it, and then those of its steps.
-fn cycle_from<L: Heap, B: SeatOrigin<Seat<L>>>(
+fn cycle_from<L: Heap>(
     kept: &mut Kept<L>,
     seat: &mut Seat<L>,
     witness: &mut Witness<L>,
 ) -> Result<CycleCounts, Refusal>
-    requires user { seat.old.role ≡ User }
-    requires was { B.was seat.old }
+    requires { seat.old.role ≡ User }
     ensures runs { RunsCycleOfHeap L.config seat.old witness.old result seat.new witness.new }
-    ensures since { IsSeatSince B.was seat.new }
+    ensures role { seat.new.role ≡ User }
 {
-    kept.meet(seat, witness);
-    let mut held: HeldHeap<'_, L, B> = HeldHeap {
-        kept,
-        of: PhantomData,
-    };
+    kept.agree(seat);
+    kept.show(witness);
+    let mut held: HeldHeap<'_, L> = HeldHeap { kept };
     let cycle = run_cycle(&mut held, seat);
-    held.kept.meet(seat, witness);
+    held.kept.agree(seat);
+    held.kept.show(witness);
     cycle
 }
 
@@ -85,8 +77,8 @@ pub(crate) fn collect_held<L: Heap>(
     requires { seat.old.role ≡ User }
     ensures collects { IsCollectionOfHeap L.config seat.old witness.old (line_answer_text result)
         seat.new witness.new }
-    ensures seat { IsSeatAfter seat.old seat.new }
+    ensures role { seat.new.role ≡ User }
 {
-    let cycle = cycle_from::<L, Brand>(kept, seat, witness);
+    let cycle = cycle_from(kept, seat, witness);
     collect_answer(alloc, cycle)
 }

@@ -7,7 +7,7 @@ ghost use Rattle.heap_lock.specs.Calls.{Witnesses};
 ghost use Rattle.heap_lock.specs.History.{reply_of};
 ghost use Rattle.session_text.specs.Replies.{line_answer_text};
 ghost use Rattle.heap_server.specs.JoinedActs.{IsReply, IsLegalPart, OpensMet};
-ghost use Rattle.heap_server.specs.JoinedAnswers.{IsAnswerOfHeap, IsCollectionOfHeap, IsSeatAfter};
+ghost use Rattle.heap_server.specs.JoinedAnswers.{IsAnswerOfHeap, IsCollectionOfHeap};
 
 use crate::held_heap::collect_held;
 use heap_lock::{Action, Heap, Outcome, Receipt, Refusal, Reply, Seat, Shared, Witness};
@@ -150,7 +150,6 @@ impl<'a, L: Heap, R: Wait> Joined<'a, L, R> {
     pub(crate) fn collect(&mut self, alloc: Global) -> LineAnswer
         ensures collects { IsCollectionOfHeap L.config self.old.seat self.old.seen
             (line_answer_text result) self.new.seat self.new.seen }
-        ensures seat { IsSeatAfter self.old.seat self.new.seat }
     {
         let mut kept = self.shared.lock(self.rt);
         collect_held(alloc, &mut *kept, &mut self.seat, &mut self.witness)

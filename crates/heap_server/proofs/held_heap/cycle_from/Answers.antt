@@ -1,21 +1,24 @@
-use Rattle.std.proofs.Common.{sym, subst}
-use Rattle.heap_lock.specs.LockStates.{Chair, AreAllCalls, IsNoEntry}
-use Rattle.heap_server.specs.JoinedAnswers.{IsSeatSince}
-use Rattle.question_text.proofs.CycleSteps.{runs_cycle}
-use Rattle.heap_server.proofs.HeldSteps.{after_self, heap_cycle}
+use Rattle.std.proofs.Common.{◌∙◌, [], ap}
+use Rattle.heap_lock.specs.LockStates.{Chair}
+use Rattle.heap_server.proofs.HeldSteps.{gains_none, heap_cycle}
 use Rattle.heap_server.proofs.held_heap.cycle_from.Goals as goal
 
 pub run_cycle-cycle-requires : goal.run_cycle-cycle-requires
-run_cycle-cycle-requires g c = subst (λ (s : Chair). IsSeatSince g.B.SeatOrigin.was s) (sym c.meet.ensures.same.1) (c.requires.user, (c.args.seat.now, c.requires.was, after_self c.args.seat.now))
+run_cycle-cycle-requires g c = ap (λ (s : Chair). s.role) c.agree.ensures.seat ∙ c.requires
 
 pub returns-clause-runs : goal.returns-clause-runs
 returns-clause-runs g c =
     let k = c.args.kept.now in
-    let k1 = c.meet.new.self in
-    let l = c.run_cycle-cycle.new.steps.kept.now in
-    heap_cycle g.L.Heap.config c.args.seat.now c.meet-2.new.seat c.args.witness.now c.meet-2.new.witness k k1 l c.run_cycle-cycle.result c.meet.ensures.begins c.meet.ensures.known
-    c.meet.ensures.same.0 c.meet.new.witness c.meet.ensures.witness c.meet-2.ensures.begins (subst (λ (s : Chair). AreAllCalls g.L.Heap.config l.machine s l.ledger) (sym c.meet-2.ensures.same.1) c.meet-2.ensures.known)
-    c.meet-2.ensures.witness (runs_cycle IsNoEntry k1.machine l.machine c.run_cycle-cycle.result c.run_cycle-cycle.ensures.whole c.run_cycle-cycle.ensures.refused)
+    let k1 = c.agree.new.self in
+    let k2 = c.show.new.self in
+    let h = c.run_cycle-cycle.new.steps in
+    let l = h.kept.now in
+    let s1 = c.agree.new.seat in
+    let t = c.run_cycle-cycle.new.by in
+    let runs = c.run_cycle-cycle.ensures.runs in
+    heap_cycle g.L.Heap.config c.args.witness.now c.show-2.new.witness c.run_cycle-cycle.result runs.0 k k1 k2 l c.agree-2.new.self c.args.seat.now s1 t c.agree-2.new.seat
+    c.agree.ensures.share c.agree.ensures.same c.agree.ensures.seat c.show.ensures.heap c.show.ensures.begins c.show.ensures.same runs.1 (runs.2 (record h { kept = record h.kept { now = k2 } }) s1 [] (gains_none k2 s1))
+    c.agree-2.ensures.share c.agree-2.ensures.same c.agree-2.ensures.seat c.show-2.ensures.heap c.show-2.ensures.witness
 
-pub returns-clause-since : goal.returns-clause-since
-returns-clause-since g c = subst (λ (s : Chair). IsSeatSince g.B.SeatOrigin.was s) (sym c.meet-2.ensures.same.1) c.run_cycle-cycle.ensures.still
+pub returns-clause-role : goal.returns-clause-role
+returns-clause-role g c = ap (λ (s : Chair). s.role) c.agree-2.ensures.seat ∙ c.run_cycle-cycle.ensures.still

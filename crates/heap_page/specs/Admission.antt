@@ -1,5 +1,5 @@
 -- What a request asks of the page's server.
-use Rattle.std.specs.Prelude.{◌++◌, ◌&&◌, ◌||◌, ℕ, Bool, true, false, not, List, [], ◌∷◌, codes, decimal, is_some, if◌then◌else◌}
+use Rattle.std.specs.Prelude.{◌++◌, ◌&&◌, ◌||◌, ◌==◌, ℕ, Bool, true, false, not, List, [], ◌∷◌, codes, decimal, is_some, if◌then◌else◌}
 use Rattle.std.specs.Str.{bytes_eq}
 use Rattle.http_header.specs.FieldValue.{FieldValue}
 use Rattle.http_header.specs.HeaderMap.{get_all}
@@ -28,14 +28,29 @@ host_by_name port = codes "localhost:" ++ decimal port
 abbrev pub origin_of : List ℕ → List ℕ
 origin_of host = codes "http://" ++ host
 
+-- the text names this computer alone, and the port is the one that HTTP then means
+abbrev pub is_bare_host : ℕ → List ℕ → Bool
+is_bare_host port text =
+    (port == 80)
+    && (bytes_eq text (codes "127.0.0.1") || bytes_eq text (codes "localhost"))
+
 -- the text names this server
 abbrev pub is_own_host : ℕ → List ℕ → Bool
-is_own_host port text = bytes_eq text (host_by_number port) || bytes_eq text (host_by_name port)
+is_own_host port text =
+    bytes_eq text (host_by_number port)
+    || (bytes_eq text (host_by_name port) || is_bare_host port text)
+
+-- the text is the origin of a page of this computer without a port, and the port is the one that HTTP then means
+abbrev pub is_bare_origin : ℕ → List ℕ → Bool
+is_bare_origin port text =
+    (port == 80)
+    && (bytes_eq text (codes "http://127.0.0.1") || bytes_eq text (codes "http://localhost"))
 
 -- the text is the origin of a page of this server
 abbrev pub is_own_origin : ℕ → List ℕ → Bool
 is_own_origin port text =
-    bytes_eq text (origin_of (host_by_number port)) || bytes_eq text (origin_of (host_by_name port))
+    bytes_eq text (origin_of (host_by_number port))
+    || (bytes_eq text (origin_of (host_by_name port)) || is_bare_origin port text)
 
 -- ---- who may ask
 

@@ -1,10 +1,28 @@
 //! What a page is asked under.
 ghost use Rattle.std.specs.Prelude.{◌≡◌, IfOk, string_bytes};
 ghost use Rattle.std.specs.Str.{bytes_eq};
-ghost use Rattle.heap_page.specs.Admission.{is_own_host, is_own_origin};
+ghost use Rattle.heap_page.specs.Admission.{is_bare_host, is_bare_origin, is_own_host, is_own_origin};
 
 use std::alloc::{AllocError, Global};
 use std::marker::Model;
+
+// The port that HTTP means if none is given.
+const HTTP_PORT: u16 = 80;
+
+// Tells whether a text names this computer alone, and this port is the one that HTTP then means.
+fn is_bare_host(port: u16, text: &[u8]) -> bool
+    ensures { result ≡ is_bare_host port text.now }
+{
+    port == HTTP_PORT && (text == "127.0.0.1".as_bytes() || text == "localhost".as_bytes())
+}
+
+// Tells whether a text is the origin of a page of this computer without a port, and this port is the one that HTTP then means.
+fn is_bare_origin(port: u16, text: &[u8]) -> bool
+    ensures { result ≡ is_bare_origin port text.now }
+{
+    port == HTTP_PORT
+        && (text == "http://127.0.0.1".as_bytes() || text == "http://localhost".as_bytes())
+}
 
 /// What the page of a heap needs to know. Contracts see its port, the key that its questions must have, and the time in the headers
 /// of dumps.
@@ -64,17 +82,19 @@ impl PageTerms {
         text == self.key.as_bytes()
     }
 
-    /// Tells whether a text names this server: its computer and its port.
+    /// Tells whether a text names this server: its computer and its port, which may be missing if it is that of HTTP.
     pub fn is_own_host(&self, text: &[u8]) -> bool
         ensures { result ≡ is_own_host self.now.port text.now }
     {
-        text == self.host.as_bytes() || text == self.named_host.as_bytes()
+        text == self.host.as_bytes()
+            || (text == self.named_host.as_bytes() || is_bare_host(self.port, text))
     }
 
     /// Tells whether a text is the origin of a page of this server.
     pub fn is_own_origin(&self, text: &[u8]) -> bool
         ensures { result ≡ is_own_origin self.now.port text.now }
     {
-        text == self.origin.as_bytes() || text == self.named_origin.as_bytes()
+        text == self.origin.as_bytes()
+            || (text == self.named_origin.as_bytes() || is_bare_origin(self.port, text))
     }
 }

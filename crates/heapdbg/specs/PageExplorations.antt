@@ -17,8 +17,8 @@ use Rattle.heapdbg.specs.Explorations.{IsHindrance, IsRunFirst}
 use Rattle.heapdbg.specs.ServeOutcomes.{config_of}
 
 -- a heap of these settings, which drops old entries, with one user's seat
-pub record IsMadeFor (config : HeapSettings) (made : Maker) : Type 0 where
-  pub config : made.config ≡ config
+pub record IsMadeFor (of : HeapSettings) (made : Maker) : Type 0 where
+  pub config : made.config ≡ of
   pub rolls : made.rolls ≡ true
   pub users : AreUsers made.seats
   pub one : length made.seats ≡ 1

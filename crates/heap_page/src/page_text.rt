@@ -2,7 +2,7 @@
 
 // The policy of the page.
 pub(crate) const POLICY: &str =
-    "default-src 'none'; script-src 'sha256-G9iP7sMbdqNjDtb0GG0hKuCBuPszcp+Atl0X8UKQJJc='; style-src 'sha256-jjcl5Lx/0IHhiIQFHnMWbeir9C+x8iVSbIo6aZHC8CI='; img-src data:; connect-src 'self'; base-uri 'none'; form-action 'none'; frame-ancestors 'none'";
+    "default-src 'none'; script-src 'sha256-UxsP/27bm9cHhygJMV/O3wkUEHyNqspgOduIJZHSDks='; style-src 'sha256-jjcl5Lx/0IHhiIQFHnMWbeir9C+x8iVSbIo6aZHC8CI='; img-src data:; connect-src 'self'; base-uri 'none'; form-action 'none'; frame-ancestors 'none'";
 
 // The page.
 pub(crate) const PAGE: &[u8] = b"<!doctype html>\n\
@@ -1710,9 +1710,14 @@ pub(crate) const PAGE: &[u8] = b"<!doctype html>\n\
     \x20\x20\x20\x20\x20\x20};\n\
     \x20\x20\x20\x20if (value !== undefined) fill(value);\n\
     \x20\x20\x20\x20else if (!S.fast && e.p > S.shown - 16) {\n\
-    \x20\x20\x20\x20\x20\x20const [, id, slot] = wordsOf(e);\n\
-    \x20\x20\x20\x20\x20\x20if (!S.values.has(id)) S.values.set(id, ask(`show ${atWord()} ${id}`, true).then((r) => r.ok ? r.rows.map((x) => x[3]) : []));\n\
-    \x20\x20\x20\x20\x20\x20S.values.get(id).then((values) => fill(values[slot])).catch(() => {});\n\
+    \x20\x20\x20\x20\x20\x20const [, id, slot] = wordsOf(e),\n\
+    \x20\x20\x20\x20\x20\x20\x20\x20known = S.values;\n\
+    \x20\x20\x20\x20\x20\x20// The first sight doesn't wait for it.\n\
+    \x20\x20\x20\x20\x20\x20setTimeout(() => {\n\
+    \x20\x20\x20\x20\x20\x20\x20\x20if (known !== S.values || !box.isConnected) return;\n\
+    \x20\x20\x20\x20\x20\x20\x20\x20if (!known.has(id)) known.set(id, ask(`show ${atWord()} ${id}`, true).then((r) => r.ok ? r.rows.map((x) => x[3]) : []));\n\
+    \x20\x20\x20\x20\x20\x20\x20\x20known.get(id).then((values) => fill(values[slot])).catch(() => {});\n\
+    \x20\x20\x20\x20\x20\x20}, 100);\n\
     \x20\x20\x20\x20}\n\
     \x20\x20\x20\x20return box;\n\
     \x20\x20}\n\

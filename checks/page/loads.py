@@ -142,7 +142,7 @@ def full(program):
         try:
             yield "the objects of a full heap", tab.value("[heapdbg.M.list.length, document.getElementById('objects').textContent]"), [256, "65,536"]
             yield from zoomed(tab, 200, 77, ["region 200", "cell 77", "0x%x" % (0x10000000 + 200 * 8192 + 77 * 32), "Node", "2 slots"])
-            yield "a click", quick(tab, row("classes", "Node"), "document.querySelectorAll('#inst tbody tr').length === 400"), True
+            yield "a click", quick(tab, row("classes", "Node"), "document.querySelectorAll('#inst tbody tr').length === 200"), True
             yield "an object", quick(tab, "document.querySelector('#inst tbody tr')", "document.querySelector('#insp .path') !== null", 5), True
             heap.say("put 0 1 1 7")
             tab.wait("heapdbg.S.shown === %s" % heap.rows("status")[0][1])

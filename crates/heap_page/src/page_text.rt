@@ -2,7 +2,7 @@
 
 // The policy of the page.
 pub(crate) const POLICY: &str =
-    "default-src 'none'; script-src 'sha256-G9iP7sMbdqNjDtb0GG0hKuCBuPszcp+Atl0X8UKQJJc='; style-src 'sha256-jjcl5Lx/0IHhiIQFHnMWbeir9C+x8iVSbIo6aZHC8CI='; img-src data:; connect-src 'self'; base-uri 'none'; form-action 'none'; frame-ancestors 'none'";
+    "default-src 'none'; script-src 'sha256-uYA3V37nlJ7H8c24CTuxbIxJ4qiniAx2x7FpWOEgSb0='; style-src 'sha256-jjcl5Lx/0IHhiIQFHnMWbeir9C+x8iVSbIo6aZHC8CI='; img-src data:; connect-src 'self'; base-uri 'none'; form-action 'none'; frame-ancestors 'none'";
 
 // The page.
 pub(crate) const PAGE: &[u8] = b"<!doctype html>\n\
@@ -235,8 +235,9 @@ pub(crate) const PAGE: &[u8] = b"<!doctype html>\n\
     \x20\x20\x20\x20reclaim: \"#ff725c\"\n\
     \x20\x20};\n\
     \x20\x20const COLORS = [...new Set(Object.values(EVENTS))];\n\
-    \x20\x20// The most requests at a time, the steps that are read before all are, and the most that are read again while the heap goes on.\n\
-    \x20\x20const LANES = 6,\n\
+    \x20\x20// The most objects that are listed, the most requests at a time, the steps that are read before all are, and the most that are read again while the heap goes on.\n\
+    \x20\x20const LISTED = 200,\n\
+    \x20\x20\x20\x20LANES = 6,\n\
     \x20\x20\x20\x20FEW = 400,\n\
     \x20\x20\x20\x20MANY = 4000;\n\
     \n\
@@ -1098,17 +1099,23 @@ pub(crate) const PAGE: &[u8] = b"<!doctype html>\n\
     \x20\x20\x20\x20$(\"inst\").hidden = !any;\n\
     \x20\x20\x20\x20note.textContent = \"\";\n\
     \x20\x20\x20\x20if (!any) return;\n\
-    \x20\x20\x20\x20const all = [];\n\
+    \x20\x20\x20\x20const all = [],\n\
+    \x20\x20\x20\x20\x20\x20keys = [];\n\
+    \x20\x20\x20\x20let before = 0;\n\
+    \x20\x20\x20\x20// Those made since come first: they are what has grown.\n\
     \x20\x20\x20\x20for (const o of objects()) {\n\
     \x20\x20\x20\x20\x20\x20if (name !== null && o.name !== name) continue;\n\
     \x20\x20\x20\x20\x20\x20const p = bornAt(o, at),\n\
-    \x20\x20\x20\x20\x20\x20\x20\x20before = since !== null && (p === null || p <= since);\n\
-    \x20\x20\x20\x20\x20\x20if (name !== null || !before) all.push({ o, p, before });\n\
+    \x20\x20\x20\x20\x20\x20\x20\x20old = since !== null && (p === null || p <= since);\n\
+    \x20\x20\x20\x20\x20\x20if (name === null && old) continue;\n\
+    \x20\x20\x20\x20\x20\x20before += old;\n\
+    \x20\x20\x20\x20\x20\x20all.push(o);\n\
+    \x20\x20\x20\x20\x20\x20keys.push((old ? 2 ** 52 : 0) + (p ?? -1));\n\
     \x20\x20\x20\x20}\n\
-    \x20\x20\x20\x20// Those made since come first: they are what has grown.\n\
-    \x20\x20\x20\x20all.sort((a, b) => a.before - b.before || (a.p ?? -1) - (b.p ?? -1));\n\
-    \x20\x20\x20\x20const some = all.slice(0, 400),\n\
-    \x20\x20\x20\x20\x20\x20fresh = since === null ? \"\" : `, ${num(all.filter((x) => !x.before).length)} made since @${num(since)}`;\n\
+    \x20\x20\x20\x20const last = Float64Array.from(keys).sort()[Math.min(keys.length, LISTED) - 1],\n\
+    \x20\x20\x20\x20\x20\x20some = all.map((o, i) => keys[i] <= last ? { o, key: keys[i], p: bornAt(o, at), before: keys[i] >= 2 ** 52 - 1 } : null).filter((x) => x).sort((a,\n\
+    \x20\x20\x20\x20\x20\x20\x20\x20b) => a.key - b.key).slice(0, LISTED),\n\
+    \x20\x20\x20\x20\x20\x20fresh = since === null ? \"\" : `, ${num(all.length - before)} made since @${num(since)}`;\n\
     \x20\x20\x20\x20note.title = \"The oldest first; those that were there before a place that is compared with come last\";\n\
     \x20\x20\x20\x20note.textContent = `${num(all.length)}${name ? \" of \" + name : \"\"}${fresh}` + (all.length > some.length ?\n\
     \x20\x20\x20\x20\x20\x20`, ${num(some.length)} shown` : \"\");\n\
@@ -1710,9 +1717,14 @@ pub(crate) const PAGE: &[u8] = b"<!doctype html>\n\
     \x20\x20\x20\x20\x20\x20};\n\
     \x20\x20\x20\x20if (value !== undefined) fill(value);\n\
     \x20\x20\x20\x20else if (!S.fast && e.p > S.shown - 16) {\n\
-    \x20\x20\x20\x20\x20\x20const [, id, slot] = wordsOf(e);\n\
-    \x20\x20\x20\x20\x20\x20if (!S.values.has(id)) S.values.set(id, ask(`show ${atWord()} ${id}`, true).then((r) => r.ok ? r.rows.map((x) => x[3]) : []));\n\
-    \x20\x20\x20\x20\x20\x20S.values.get(id).then((values) => fill(values[slot])).catch(() => {});\n\
+    \x20\x20\x20\x20\x20\x20const [, id, slot] = wordsOf(e),\n\
+    \x20\x20\x20\x20\x20\x20\x20\x20known = S.values;\n\
+    \x20\x20\x20\x20\x20\x20// The first sight doesn't wait for it.\n\
+    \x20\x20\x20\x20\x20\x20setTimeout(() => {\n\
+    \x20\x20\x20\x20\x20\x20\x20\x20if (known !== S.values || !box.isConnected) return;\n\
+    \x20\x20\x20\x20\x20\x20\x20\x20if (!known.has(id)) known.set(id, ask(`show ${atWord()} ${id}`, true).then((r) => r.ok ? r.rows.map((x) => x[3]) : []));\n\
+    \x20\x20\x20\x20\x20\x20\x20\x20known.get(id).then((values) => fill(values[slot])).catch(() => {});\n\
+    \x20\x20\x20\x20\x20\x20}, 100);\n\
     \x20\x20\x20\x20}\n\
     \x20\x20\x20\x20return box;\n\
     \x20\x20}\n\

@@ -4,8 +4,8 @@
 Usage: checks/growths.py [-v] PROGRAM
 A session ends by `memory` before it reads, or refuses one line and answers all others as a session without that line, or loses a
 pin and answers all but its pieces as if it hadn't. A line that was refused is answered as ever when it is given once more, and so
-are all after it. So it is beside a page. Two clients are served at a time: a session that ends by `memory` has answered nothing, and the other one goes on,
-also beside workers and dumps, each of which is whole or a beginning. A save is the dump of the session's last state, or a beginning
+are all after it. So it is beside a page. Two clients are served at a time: a session that ends by `memory` has answered nothing, and
+the other one goes on, also beside workers and dumps, each of which is whole or a beginning. A save is the dump of the session's last state, or a beginning
 of it if the dump is lost by Memory. If it is lost before its first byte, or the session isn't dumped, a file that was there stays
 as it was, and no file is made. No session asks for much more memory at once than its settings need, and no rewind asks for any.
 Prints a line for each session that goes otherwise, and with -v for each how many allocations were refused; ends with status 1 if one
@@ -151,14 +151,28 @@ def goes_on(command, library, lines, found, given, tries=3):
     return good and is_answered_again(lines[at], found[at], told[at + 1], sound[at])
 
 
-def wrong_sessions(command, library, lines):
+def in_tries(tries, attempt):
+    """Returns what an attempt comes to, None or whether all went well, and makes it again if something went wrong. Beside other threads
+    a number may name another allocation in each run, so that it takes several tries to call one wrong."""
+    return next((went for _ in range(tries) if (went := attempt()) is not False), False)
+
+
+def went_well(command, library, lines, number):
+    """Tells whether a session went as it may after the allocation of this number was refused; None if there was none."""
+    status, found, error = session(command, library, lines, number)
+    if not error:
+        return None
+    good = is_right(command, library, lines, status, found, error)
+    return good and goes_on(command, library, lines, found, lambda given: session(command, library, given, number)[1])
+
+
+def wrong_sessions(command, library, lines, tries=1):
     """Yields the numbers of the allocations after whose refusal a session goes otherwise than it may, and then how many it makes."""
     for number in range(1, LIMIT):
-        status, found, error = session(command, library, lines, number)
-        if not error:
+        went = in_tries(tries, lambda number=number: went_well(command, library, lines, number))
+        if went is None:
             return number - 1
-        good = is_right(command, library, lines, status, found, error)
-        if not (good and goes_on(command, library, lines, found, lambda given: session(command, library, given, number)[1])):
+        if not went:
             yield number
     return LIMIT
 
@@ -241,26 +255,33 @@ def are_dumps(program, library, lines, regions, found, fetched, error):
     return said in NO_DUMPS and (first == whole or said != b"" and whole.startswith(first)) and second[:31] in (b"", opening)
 
 
+def tended_well(program, library, both, regions, number):
+    """Tells whether two sessions beside workers and dumps went as they may after the allocation of this number was refused; None if there
+    was none."""
+    command = [program, "run", "--regions", str(regions)]
+    clients = [text_of(lines) for lines in both]
+    status, words, answers, fetched, error = tended(program, library, number, clients, regions)
+    if b"refused" not in error:
+        return None
+    if words == []:
+        # It may listen already when a thread is refused, but it accepts nobody.
+        return (status, error) == (1, b"refused\nheapdbg: memory\n") and not any(answers) and not any(fetched)
+    if b"memory" in words:
+        at = words.index(b"memory")
+        return (status, answers[at], words[1 - at]) == (0, [], b"eof")
+    good = words == [b"eof", b"eof"]
+    good = good and is_right(command, library, [*both[0], *both[1]], status, joined(answers), b"refused\n")
+    return good and are_dumps(program, library, both[0], regions, answers[0], fetched, error)
+
+
 def wrong_tended(program, library, both, regions):
     """Yields the numbers of the allocations after whose refusal two sessions beside workers and dumps go otherwise than they may, and
     then how many there are. How many each run makes depends on how its threads meet."""
-    command = [program, "run", "--regions", str(regions)]
-    clients = [text_of(lines) for lines in both]
     for number in range(1, LIMIT):
-        status, words, answers, fetched, error = tended(program, library, number, clients, regions)
-        if b"refused" not in error:
+        went = in_tries(3, lambda number=number: tended_well(program, library, both, regions, number))
+        if went is None:
             return number - 1
-        if words == []:
-            # It may listen already when a thread is refused, but it accepts nobody.
-            good = (status, error) == (1, b"refused\nheapdbg: memory\n") and not any(answers) and not any(fetched)
-        elif b"memory" in words:
-            at = words.index(b"memory")
-            good = (status, answers[at], words[1 - at]) == (0, [], b"eof")
-        else:
-            good = words == [b"eof", b"eof"]
-            good = good and is_right(command, library, [*both[0], *both[1]], status, joined(answers), b"refused\n")
-            good = good and are_dumps(program, library, both[0], regions, answers[0], fetched, error)
-        if not good:
+        if not went:
             yield number
     return LIMIT
 
@@ -537,7 +558,7 @@ def main(heapdbg, verbose=False):
         for name, text in SESSIONS.items():
             lines = words_of(text)
             good = told(name, wrong_sessions(command, library, lines), verbose) and good
-            good = told(f"{name}, beside a page", wrong_sessions([*beside, str(free_ports(1)[0])], library, lines), verbose) and good
+            good = told(f"{name}, beside a page", wrong_sessions([*beside, str(free_ports(1)[0])], library, lines, 6), verbose) and good
             good = told(f"{name}, saved", wrong_saves(program, library, lines), verbose) and good
             good = told(f"{name}, acts", wrong_acts(program, library, lines), verbose) and good
             good = told(f"{name}, served", wrong_servers(program, library, lines, SECOND), verbose) and good

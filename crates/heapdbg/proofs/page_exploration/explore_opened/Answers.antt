@@ -1,4 +1,4 @@
-use Rattle.std.proofs.Common.{inl, rules}
+use Rattle.std.proofs.Common.{inl, inr, refl, rules}
 use Rattle.heapdbg.proofs.page_exploration.explore_opened.Goals as goal
 
 pub returns-in-Ok : goal.returns-in-Ok
@@ -15,3 +15,6 @@ returns-in-Ok g c =
       c.in-Ok.ensures.served,
       c.outcome.ensures,
     )
+
+pub returns-in_err-run_first : goal.returns-in_err-run_first
+returns-in_err-run_first g c = inr (_, inl c.in_err-run_first.ensures.hindrance, search rules, refl, refl)

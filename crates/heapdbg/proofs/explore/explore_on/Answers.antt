@@ -7,7 +7,7 @@ returns g c =
       c.serve_asking-ended.result,
       c.run_first.new.commands,
       c.serve_asking-ended.new.asking,
-      (c.args.asking.now, c.args.requires, c.in_ok-run_first.ensures.run),
+      (c.args.asking.now, c.requires, c.in_ok-run_first.ensures.run),
       c.serve_asking-ended.ensures.session,
       c.serve_asking-ended.ensures.ends,
       c.outcome.ensures,

@@ -15,13 +15,17 @@ use Rattle.question_text.specs.Answers.{IsAnswerOfLine}
 use Rattle.question_text.specs.declared.cycle.CycleCounts.{CycleCounts}
 use Rattle.question_text.specs.Collections.{IsCycleAnswer, RunsCycle, TakenStep}
 
+-- the calls lead to this machine and are those of this chronicle, which has of the seat just its share
+abbrev pub IsHeapOfSeat : HeapSettings → Machine → List Entry → List Call → Chair → Type 0
+IsHeapOfSeat config m chronicle calls s =
+    IsHeapLedger config m chronicle calls × (tally s.number chronicle ≡ s.share)
+
 -- the answer of a question about the heap's machine, and about the length of its chronicle, when all calls were those that the
--- witness has seen then, and the chronicle has of the seat just its share
+-- witness has seen then
 abbrev pub IsAnswerOfHeap : HeapSettings → Chair → List Call → List ℕ → List ℕ → List Call → Type 0
 IsAnswerOfHeap config s seen l text seen' =
-    (m : Machine) × (chronicle : List Entry) × IsHeapLedger config m chronicle seen'
-    × (tally s.number chronicle ≡ s.share) × IsPrefix seen seen'
-    × IsAnswerOfLine l m (Some (length chronicle)) text
+    (m : Machine) × (chronicle : List Entry) × IsHeapOfSeat config m chronicle seen' s
+    × IsPrefix seen seen' × IsAnswerOfLine l m (Some (length chronicle)) text
 
 -- the entries of these steps, taken from the seat of this number
 abbrev pub entries_of_steps : ℕ → List TakenStep → List Entry
@@ -39,11 +43,6 @@ pub record Gains (k : LockState) (s : Chair) (entries : List Entry) (k' : LockSt
   pub calls : k'.ledger ≡ k.ledger ++ map call_of entries
   pub seat : s' ≡ with_entries (length k.chronicle + 1) entries s
   pub rolls : k'.rolls ≡ k.rolls
-
--- the calls lead to this machine and are those of this chronicle, which has of the seat just its share
-abbrev pub IsHeapOfSeat : HeapSettings → Machine → List Entry → List Call → Chair → Type 0
-IsHeapOfSeat config m chronicle calls s =
-    IsHeapLedger config m chronicle calls × (tally s.number chronicle ≡ s.share)
 
 -- a cycle that ended so took these steps from the seat under one lock, from when the witness had seen all calls so far, to when it
 -- has seen all again; each is an entry, and there are no others

@@ -186,15 +186,14 @@ def unread_errors(program):
 
 
 def answer_to(server, given):
-    """Sends bytes to the port for dumps, and returns all that comes, also if the connection is reset then."""
-    with server.dump_client() as client:
+    """Sends bytes to the port for dumps, and returns all that comes, also if the connection is reset meanwhile."""
+    found = b""
+    with server.dump_client() as client, contextlib.suppress(OSError):
         client.sendall(given)
         client.shutdown(socket.SHUT_WR)
-        found = b""
-        with contextlib.suppress(ConnectionResetError):
-            while part := client.recv(65536):
-                found += part
-        return found
+        while part := client.recv(65536):
+            found += part
+    return found
 
 
 def speaks_first(program):

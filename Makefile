@@ -37,9 +37,15 @@ test:
 	@python3 checks/sockets.py crates/heapdbg/out/heapdbg
 	@python3 checks/dumping.py crates/heapdbg/out/heapdbg
 	@python3 checks/serving.py crates/heapdbg/out/heapdbg
+	@python3 checks/strangers.py crates/heapdbg/out/heapdbg
+	@python3 checks/staying.py crates/heapdbg/out/heapdbg
 	@python3 checks/page crates/heapdbg/out/heapdbg
 	@QUIET=1 SECONDS=5 python3 bench/soak.py crates/heapdbg/out/heapdbg
+	@QUIET=1 SECONDS=5 python3 bench/hostile.py crates/heapdbg/out/heapdbg
 	@python3 clients/python/test_heapdbg.py crates/heapdbg/out/heapdbg
+	@python3 clients/python/test_recorder.py crates/heapdbg/out/heapdbg
+	@python3 checks/recording.py crates/heapdbg/out/heapdbg
+	@python3 checks/c_client.py crates/heapdbg/out/heapdbg
 	@python3 checks/installed.py crates/heapdbg/out/heapdbg
 	@python3 checks/package.py crates/heapdbg/out/heapdbg
 	@bash bench/dist.sh passed crates/heapdbg/out/heapdbg
@@ -51,6 +57,7 @@ edits:
 bench: build
 	bash bench/lines.sh
 	python3 bench/page.py bin/heapdbg
+	python3 bench/large.py bin/heapdbg
 
 # Looks at the page in Chromium, which it installs where it is missing and apt-get is there. PROGRAM is the program that serves it.
 PROGRAM ?= bin/heapdbg
@@ -63,32 +70,33 @@ page-test:
 bench-lock:
 	python3 bench/lock.py
 
-# How many clients `make soak` has, and how many seconds it takes.
+# How many clients `make soak` has, and how many seconds each of its parts takes.
 CLIENTS ?= 8
 SECONDS ?= 600
 
-# Has clients work on one served heap. It needs bin/heapdbg.
+# Has clients work on one served heap, and then honest clients beside hostile ones. It needs bin/heapdbg.
 soak:
 	CLIENTS=$(CLIENTS) SECONDS=$(SECONDS) python3 bench/soak.py bin/heapdbg
+	SECONDS=$(SECONDS) python3 bench/hostile.py bin/heapdbg
 
 # Has 16 threads, a marker and a sweeper act on a heap under its lock, and their receipts audited. Builds a program of its own in a temporary folder.
 audit:
 	SECONDS=$(SECONDS) python3 bench/audit.py
 
-# Where `make install` puts things: below DESTDIR if that is given. Documents, examples and the client in Python lie in DOCDIR as they
+# Where `make install` puts things: below DESTDIR if that is given. Documents, examples and the clients lie in DOCDIR as they
 # do here, so that the documents' commands work there; `bin/heapdbg` is then `heapdbg`. examples/leak.py needs the checks.
 PREFIX ?= /usr/local
 VERSION := $(shell sed -n 's/.*VERSION: &str = "\(.*\)";/\1/p' crates/heapdbg_options/src/refusal.rt)
-PAGES := README.md CHANGES.md $(wildcard docs/*.md) clients/python/README.md
+PAGES := README.md CHANGES.md $(wildcard docs/*.md) clients/python/README.md clients/c/README.md
 EXAMPLES := $(filter-out examples/leak.py,$(wildcard examples/*.*))
-CLIENT := $(wildcard clients/python/*.py clients/python/*.toml)
+CLIENT := $(wildcard clients/python/*.py clients/python/*.toml clients/python/heapdbg/*.py) clients/python/heapdbg/py.typed $(wildcard clients/c/*.h clients/c/*.c)
 BINDIR = $(DESTDIR)$(PREFIX)/bin
 MANDIR = $(DESTDIR)$(PREFIX)/share/man/man1
 BASHDIR = $(DESTDIR)$(PREFIX)/share/bash-completion/completions
 DOCDIR = $(DESTDIR)$(PREFIX)/share/doc/heapdbg
 
 # Installs what `make build` or `make test` left: the program, the script beside it, its manual page, completions for bash, the
-# documents, the examples and the client in Python.
+# documents, the examples and the clients in Python and C.
 install:
 	install -D bin/heapdbg $(BINDIR)/heapdbg
 	install scripts/heapdbg-explore $(BINDIR)/heapdbg-explore

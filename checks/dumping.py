@@ -30,9 +30,9 @@ LINE = re.compile(rb"heapdbg: dump PinLimit(?: \((\d+) times\))?\n")
 
 
 @contextlib.contextmanager
-def full_server(program, *options):
-    """Serves one session on a heap whose dump no connection holds, and which has that session, filled."""
-    with DumpServer(program, 1, "--regions", "256", "--questions", "1", *options) as server:
+def full_server(program, sessions=1, *options):
+    """Serves sessions on a heap whose dump no connection holds, and which the first of them, that it yields, has filled."""
+    with DumpServer(program, sessions, "--regions", "256", "--questions", "1", *options) as server:
         client = server.client()
         full_heap(client)
         with Session(client.makefile("rb"), client.makefile("wb"), client.close) as session:

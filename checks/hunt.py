@@ -6,6 +6,7 @@ In the page's blocks a line behind `> ` is given to `heapdbg explore`; the lines
 `..` stands for any lines. Prints a line for each difference and ends with status 1 if there is one."""
 import os
 import pathlib
+import re
 import subprocess
 import sys
 
@@ -19,24 +20,29 @@ SECONDS = 20
 KEEP = 4096
 
 
+def asked_of(text):
+    """Returns the lines that a text gives, each with the lines that it must be answered. A line that isn't indented ends them."""
+    asked, rows = [], None
+    for line in text.split("\n"):
+        if line.startswith("    > "):
+            rows = []
+            asked.append((line[6:].encode(), rows))
+        elif not line.startswith("    "):
+            rows = None
+        elif rows is not None:
+            rows.append(line[4:].encode())
+    return asked
+
+
 def page():
     """Returns the page's lines to give, each with the lines that it must be answered: those of its first half, the questions."""
-    asked = []
-    for line in (TOP / "docs/HUNT.md").read_text().split("\n## ")[0].split("\n"):
-        if line.startswith("    > "):
-            asked.append((line[6:].encode(), []))
-        elif line.startswith("    ") and asked:
-            asked[-1][1].append(line[4:].encode())
-    return asked
+    return asked_of((TOP / "docs/HUNT.md").read_text().split("\n## ")[0])
 
 
 def fits(came, wanted):
     """Returns whether lines are those of the page."""
-    if b".." not in wanted:
-        return came == wanted
-    at = wanted.index(b"..")
-    rest = wanted[at + 1 :]
-    return came[:at] == wanted[:at] and came[len(came) - len(rest) :] == rest and len(came) >= len(wanted) - 1
+    parts = b"\n".join(wanted).split(b"\n..\n")
+    return re.fullmatch(b"\n(?:.*\n)*?".join(map(re.escape, parts)), b"\n".join(came)) is not None
 
 
 def of_model(lines):

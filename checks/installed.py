@@ -3,8 +3,8 @@
 `installed.py PROGRAM`.
 
 Looks whether the manual page and the completions know each option that the program's help names, whether the examples of the
-page, as `man` shows them, and the commands of README, SESSIONS, HUNT, VIEWERS and of the client's README do in the installed
-folder what they say, and whether `make uninstall` leaves nothing. Prints a line for each thing that is otherwise, and ends with
+page, as `man` shows them, and the commands of README, SESSIONS, HUNT, RECORD, VIEWERS and of the clients' READMEs do in the
+installed folder what they say, and whether `make uninstall` leaves nothing. Prints a line for each thing that is otherwise, and ends with
 status 1 if there is one; prints nothing where all is well."""
 import concurrent.futures
 import contextlib
@@ -14,12 +14,13 @@ import pathlib
 import re
 import shlex
 import shutil
+import signal
 import subprocess
 import sys
 import tempfile
 
 import viewers
-from hunt import fits, page
+from hunt import asked_of, fits, page
 from typed import LIMIT, Shell, command_word, commands_of, complaints, manual_examples
 
 TOP = pathlib.Path(__file__).resolve().parent.parent
@@ -91,7 +92,8 @@ def manual(man, shell):
         if word in MADE:
             file.unlink(missing_ok=True)
         status, out, error = shell.run(example)
-        last = out.rstrip(b"\n").split(b"\n")[-1]
+        # The lines of a server that stays come when its sessions end.
+        last = re.sub(rb"^session \d+ \w+\n", b"", out, flags=re.MULTILINE).rstrip(b"\n").split(b"\n")[-1]
         refused = re.search(rb"^(no|bad) .*", out, re.MULTILINE)
         if status or error or refused or not re.match(LAST[word], last) or not file.exists():
             yield f"the manual page's example {example!r}: status {status}, {(refused or [last])[0]!r}, {error!r:.100}"
@@ -115,15 +117,43 @@ def block(text, first):
     return [row[0] for row in rows if row[0]], [row[1].encode() for row in rows if len(row) > 1]
 
 
-def hunted(shell, hunt):
-    """Yields what the lines that HUNT types are answered otherwise than it says, by the command that it types."""
-    indented, _ = commands_of(hunt)
-    asked = page()
-    status, out, error = shell.run(indented[0], b"".join(line + b"\n" for line, _ in asked))
+def answered_as(shell, command, asked):
+    """Yields what the lines that a page types are answered otherwise than it says, by the command that it types."""
+    status, out, error = shell.run(command, b"".join(line + b"\n" for line, _ in asked))
     came = groups(out)
     wrong = [line for (line, wanted), got in zip(asked, came) if not fits(got, wanted)]
     if status or error or wrong or len(came) != len(asked):
-        yield f"HUNT, {indented[0]!r}: status {status}, {len(came)} answers, others than the page has to {wrong[:2]}, {error!r:.100}"
+        yield f"{command!r}: status {status}, {len(came)} answers, others than the page has to {wrong[:2]}, {error!r:.100}"
+
+
+def hunted(shell, hunt):
+    """Yields what HUNT's questions are answered otherwise than it says."""
+    indented, _ = commands_of(hunt)
+    yield from (f"HUNT, {fault}" for fault in answered_as(shell, indented[0], page()))
+
+
+def recorded(shell, document):
+    """Yields what the example of RECORD and its Lisp do otherwise than it says, recorded to a file and to a heap that is served."""
+    text = document.read_text()
+    lisp, explore, serve, served_lisp, ask = (each for each in commands_of(document)[0] if not each.startswith("for "))
+    (shell.folder / "recorded.py").write_text(re.search(r"```python\n(.*?)```", text, re.DOTALL)[1])
+    wanted = re.sub("^    ", "", re.search(r"^It prints\n\n(.*?\n)\n", text, re.MULTILINE | re.DOTALL)[1], flags=re.MULTILINE)
+    came = shell.run(f"PYTHONDONTWRITEBYTECODE=1 PYTHONPATH={shlex.quote(str(shell.folder / 'clients/python'))} python3 recorded.py")
+    if came != (0, wanted.encode(), b""):
+        yield f"RECORD's example: {came}, and must print {wanted!r}"
+    asked = asked_of(text)
+    status, out, error = shell.run(f"PYTHONDONTWRITEBYTECODE=1 {lisp}")
+    if status or error or f"    {explore}\n".encode() not in out or asked[0][0] not in out:
+        yield f"RECORD, {lisp!r}: status {status}, {out!r}, {error!r:.100}"
+    yield from (f"RECORD, {fault}" for fault in answered_as(shell, explore, asked))
+    with shell.start(serve) as server:
+        server.waits_for(shell.ports["7020"])
+        status, out, error = shell.run(f"PYTHONDONTWRITEBYTECODE=1 {served_lisp}")
+        if status or error or ask.split("--port")[0].encode() not in out:
+            yield f"RECORD, {served_lisp!r}: status {status}, {out!r}, {error!r:.100}"
+        yield from (f"RECORD, {fault}" for fault in answered_as(shell, ask, asked[:1]))
+        if server.ended() != (0, b"session 1 quit\nsession 2 quit\n", b""):
+            yield f"RECORD, {serve!r}: {server.ended()}"
 
 
 def viewed(shell, pages):
@@ -188,8 +218,30 @@ def live(shell, document):
                 yield f"SESSIONS, {explore[0]!r}: status {status}, {out!r}, {error!r}"
             if session.ended() != (0, b"", b""):
                 yield f"SESSIONS, {ask!r}: {session.ended()}"
-        if server.ended() != (0, b"session 1 quit\nsession 2 quit\n", b""):
-            yield f"SESSIONS, {serve!r}: {server.ended()}"
+        server.waits_for_lines(2)
+        # Either session may end first.
+        status, out, error = server.stopped()
+        if (status, sorted(out.splitlines()), error) != (-signal.SIGTERM, [b"session 1 quit", b"session 2 quit"], b""):
+            yield f"SESSIONS, {serve!r}: {status}, {out!r}, {error!r}"
+    yield from guarded(shell, text)
+
+
+def guarded(shell, text):
+    """Yields what SESSIONS' file of a secret, and a heap that asks for it, do otherwise than SESSIONS says."""
+    make = re.search(r"^    (\(umask .*\))$", text, re.MULTILINE)[1]
+    came, file = shell.run(make), shell.folder / "secret"
+    if came != (0, b"", b"") or file.stat().st_mode & 0o777 != 0o600 or not re.fullmatch(rb"[0-9A-Za-z]{16,64}\n", file.read_bytes()):
+        yield f"SESSIONS, {make!r}: {came}, {file.stat().st_mode:o}, {file.read_bytes()!r}"
+    with shell.start("heapdbg serve --port 7000 --stay 1 --questions 1 --secret secret") as server:
+        server.waits_for(shell.ports["7000"])
+        for client, answer in (("ask", b"ok 0 0\n"), ("explore", b"ok 0 0\n"), ("ask", b"")):
+            words = f"heapdbg {client} --port 7000" + (" --secret secret" if answer else "")
+            out = shell.run(words, b"histogram -\n")[1]
+            if out != answer:
+                yield f"SESSIONS, {words!r} of a heap with a secret: {out!r}"
+        server.waits_for_lines(3)
+        if (came := server.stopped()) != (-signal.SIGTERM, b"session 1 quit\nsession 2 quit\nsession 3 secret\n", b""):
+            yield f"SESSIONS, a heap with a secret: {came}"
 
 
 def paged(shell, readme):
@@ -217,11 +269,12 @@ def paged(shell, readme):
 def client(shell, folder):
     """Yields what the example of the client's README does otherwise than its comments say. It has fewer lines here."""
     text = (folder / "README.md").read_text()
-    code = re.search(r"```python\n(.*?)```", text, re.DOTALL)[1].replace("1_000_000", "1_000").replace("999502", "502")
+    code = re.search(r"```python\n(.*?)```", text, re.DOTALL)[1].replace("1_000_000", "2_000")
+    code = code.replace("999502", "1502").replace("999_000", "1_000")
     (shell.folder / "example.py").write_text(code)
     status, out, error = shell.run(f"PYTHONDONTWRITEBYTECODE=1 PYTHONPATH={shlex.quote(str(folder))} python3 example.py")
-    wanted = re.findall(r"print\(.*?\) +# ([^,\n]+, [^,\n]+, '\w+'\)\]|\d+ \w+|\d+)", code)
-    if status or error or out.decode().split("\n")[:-1] != wanted or len(wanted) != 3:
+    wanted = re.findall(r"print\(.*\) +# (.*)$", code, re.MULTILINE)
+    if status or error or out.decode().split("\n")[:-1] != wanted or len(wanted) != 4:
         yield f"the client's example: status {status}, {out!r}, and must be {wanted}, {error.decode()[-200:]!r}"
     version = re.search(r'^version = "(.*)"', (folder / "pyproject.toml").read_text(), re.MULTILINE)[1]
     status, out, error = shell.run("heapdbg --version")
@@ -242,11 +295,12 @@ def seen(look, name, shell, folder):
 def documents(folder, programs):
     """Yields what the documents do otherwise than they say, typed where they are installed."""
     with Shell(folder, programs) as shell:
-        looks = ((live, "docs/SESSIONS.md"), (paged, "README.md"), (asked, "README.md"), (hunted, "docs/HUNT.md"), (viewed, "docs/VIEWERS.md"), (client, "clients/python"))
+        looks = ((live, "docs/SESSIONS.md"), (paged, "README.md"), (asked, "README.md"), (hunted, "docs/HUNT.md"), (viewed, "docs/VIEWERS.md"), (client, "clients/python"),
+                 (recorded, "docs/RECORD.md"))
         with concurrent.futures.ThreadPoolExecutor(len(looks)) as pool:
             for found in pool.map(lambda look: seen(*look, shell, folder), looks):
                 yield from found
-    for path in (folder / "README.md", folder / "docs/SESSIONS.md", folder / "docs/VIEWERS.md", folder / "docs/HUNT.md"):
+    for path in (folder / "README.md", *(folder / f"docs/{name}.md" for name in ("SESSIONS", "VIEWERS", "HUNT", "RECORD"))):
         for name in re.findall(r"`((?:docs|examples|clients)/[\w./]+)`", path.read_text()):
             if name != "examples/leak.py" and not (folder / name).exists():
                 yield f"{path.name} names {name}, which isn't installed"

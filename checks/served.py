@@ -4,6 +4,7 @@ import pathlib
 import socket
 import subprocess
 import sys
+import time
 
 TOP = pathlib.Path(__file__).resolve().parent.parent
 sys.path.append(str(TOP / "clients/python"))
@@ -36,6 +37,16 @@ class Server:
             with contextlib.suppress(subprocess.TimeoutExpired):
                 self.run.wait(0.01)
                 break
+        raise TimeoutError("the server doesn't listen")
+
+    def waits(self):
+        """Returns once the server listens, as the kernel's table says, so that no session is used up."""
+        wanted = f"0100007F:{self.port:04X}"
+        for _ in range(LIMIT * 100):
+            rows = [line.split() for line in pathlib.Path("/proc/net/tcp").read_text().splitlines()[1:]]
+            if any(row[1] == wanted and row[3] == "0A" for row in rows):
+                return
+            time.sleep(0.01)
         raise TimeoutError("the server doesn't listen")
 
     def session(self):

@@ -230,14 +230,15 @@ def blocking_saves(program):
 
 
 def blocking_sockets(program):
-    """Yields a served session and a client of one, of which one read or write of the socket would block."""
-    read, write = (0, b"session 1 read\n", b""), (0, b"session 1 write\n", b"")
+    """Yields a served session and a client of one, of which one read or write of the socket would block. A write of a session is tried
+    again, since its socket has a time limit."""
+    read, goes_on = (0, b"session 1 read\n", b""), (0, b"session 1 eof\n", b"", POINT_MADE)
     for count in (0, 1, 10, 35, len(POINT)):
         happened = served(program.program, ended_by(POINT[:count]), env=program.rules(RECEIVED_AGAIN=count))
         yield f"a client that would block after {count} bytes", happened, (*read, replies(POINT[:count]) + b"bad read\n")
     for count in (0, 1, 10, len(POINT_MADE) - 1):
         happened = served(program.program, ended_by(POINT), env=program.rules(SENT_AGAIN=count))
-        yield f"a client that would block after {count} bytes of answers", happened, (*write, POINT_MADE[:count])
+        yield f"a client that would block after {count} bytes of answers", happened, goes_on
         rules = program.rules(RECEIVED_AGAIN=count)
         happened = served(program.program, lambda port: asked(program.program, port, EXAMPLE, env=rules))
         yield f"a server that would block after {count} bytes", happened[3:], (1, EXAMPLE_REPLIES[:count], b"heapdbg: read\n")

@@ -12,7 +12,7 @@ import time
 # The seconds that a command may take.
 LIMIT = 60
 # Ports that the pages name.
-PORTS = ("7000", "7001", "7010", "7080")
+PORTS = ("7000", "7001", "7010", "7020", "7080")
 # How much shorter `sleep` is here than the pages have it.
 FASTER = 5
 SLEEP = f"#!/bin/sh\nexec /bin/sleep \"$(echo \"$1\" | awk '{{ print $1 / {FASTER} }}')\"\n"
@@ -48,7 +48,7 @@ class Shell:
         """Begins a command, to whose standard input lines are given."""
         for port, other in self.ports.items():
             command = re.sub(rf"\b{port}\b", other, command)
-        return Typed(command, self.folder, self.path, lines)
+        return Typed(command, self.folder, self.path, lines, self.ports.values())
 
     def waits_for_lines(self, name, count):
         """Returns once a file of the folder has so many lines."""
@@ -65,10 +65,18 @@ class Shell:
             return typed.ended()
 
 
-class Typed:
-    """A command that was begun. What it leaves in the background ends with it."""
+def listened():
+    """Returns the ports of 127.0.0.1 that are listened on, as the kernel's table says, so that no session is used up."""
+    rows = [row.split() for row in pathlib.Path("/proc/net/tcp").read_text().split("\n")[1:] if row]
+    return {str(int(row[1][9:], 16)) for row in rows if row[1].startswith("0100007F:") and row[3] == "0A"}
 
-    def __init__(self, command, folder, path, lines):
+
+class Typed:
+    """A command that was begun. What it leaves in the background ends with it, and then no longer listens on a port that the command
+    names."""
+
+    def __init__(self, command, folder, path, lines, ports=()):
+        self.begun = {port for port in ports if port in command} - listened()
         self.out, self.error, given = (tempfile.TemporaryFile() for _ in range(3))
         given.write(lines)
         given.seek(0)
@@ -85,8 +93,18 @@ class Typed:
         with contextlib.suppress(ProcessLookupError):
             os.killpg(self.shell.pid, signal.SIGKILL)
         self.shell.wait()
+        self.waits_until(lambda: not self.begun & listened(), "a port is still listened on")
         self.out.close()
         self.error.close()
+
+    @staticmethod
+    def waits_until(holds, otherwise):
+        """Returns once something holds."""
+        for _ in range(LIMIT * 20):
+            if holds():
+                return
+            time.sleep(0.05)
+        raise TimeoutError(otherwise)
 
     def text(self, file):
         """Returns what a stream has by now."""
@@ -94,14 +112,17 @@ class Typed:
         return file.read()
 
     def waits_for(self, port):
-        """Returns once a port of 127.0.0.1 is listened on, as the kernel's table says, so that no session is used up."""
-        wanted = f"0100007F:{int(port):04X}"
-        for _ in range(LIMIT * 20):
-            rows = pathlib.Path("/proc/net/tcp").read_text().split("\n")[1:]
-            if any(row.split()[1] == wanted and row.split()[3] == "0A" for row in rows if row):
-                return
-            time.sleep(0.05)
-        raise TimeoutError(f"nothing listens on {port}")
+        """Returns once a port of 127.0.0.1 is listened on."""
+        self.waits_until(lambda: port in listened(), f"nothing listens on {port}")
+
+    def waits_for_lines(self, count):
+        """Returns once the command has written so many lines to standard output."""
+        self.waits_until(lambda: self.text(self.out).count(b"\n") >= count, f"fewer lines than {count}")
+
+    def stopped(self):
+        """Ends the command from outside, as `kill` does. Returns the same as `ended`."""
+        os.killpg(self.shell.pid, signal.SIGTERM)
+        return self.ended()
 
     def ended(self):
         """Returns status, standard output and standard error of the command, once its shell has ended."""

@@ -2,23 +2,23 @@
 
 _heapdbg() {
     local word=${COMP_WORDS[COMP_CWORD]} before=${COMP_WORDS[COMP_CWORD - 1]}
-    local heap="--regions --mutators --keep --time --ids" commands="run explore draw save serve ask fetch" options
+    local heap="--regions --mutators --keep --wide --time --ids" commands="run explore draw save serve ask fetch" options
     COMPREPLY=()
     case $before in
         --ids)
             mapfile -t COMPREPLY < <(compgen -W "4 8" -- "$word")
             return
             ;;
-        --out | --from)
+        --out | --from | --secret)
             compopt -o filenames
             mapfile -t COMPREPLY < <(compgen -f -- "$word")
             return
             ;;
-        --questions | --roll)
+        --questions | --roll | --stay | --wide)
             mapfile -t COMPREPLY < <(compgen -W "0 1" -- "$word")
             return
             ;;
-        --regions | --mutators | --keep | --time | --port | --to | --sessions | --workers | --dumps | --page)
+        --regions | --mutators | --keep | --time | --port | --to | --sessions | --workers | --dumps | --page | --idle)
             return
             ;;
     esac
@@ -32,12 +32,12 @@ _heapdbg() {
             return
             ;;
         run) options="$heap --questions" ;;
-        explore) options="$heap --from --port --page" ;;
+        explore) options="$heap --from --port --page --secret" ;;
         draw) options="$heap --out" ;;
         save) options="$heap --out --to --questions" ;;
-        serve) options="$heap --port --sessions --workers --dumps --page --questions --roll" ;;
-        ask) options="--port" ;;
-        fetch) options="--port --out" ;;
+        serve) options="$heap --port --sessions --workers --dumps --page --questions --roll --stay --idle --secret" ;;
+        ask) options="--port --secret" ;;
+        fetch) options="--port --out --secret" ;;
         *) return ;;
     esac
     mapfile -t COMPREPLY < <(compgen -W "$options --help" -- "$word")

@@ -35,10 +35,13 @@ SESSIONS = {
     "limits": (Draw.reach_limits, (), 1, {"regions": 256, "mutators": 16, "keep": 65536}),
     "asked": (AskingDraw.play, (1500,), 8, {"regions": 5, "keep": 40}),
     "asked-short": (AskingDraw.play, (1000,), 4, {"regions": 4, "keep": 300, "ids": 4}),
+    "wide": (Draw.play, (1500,), 2, {"regions": 4, "keep": 12, "wide": 1}),
+    "wide-limits": (Draw.reach_limits, (), 1, {"regions": 300, "mutators": 16, "keep": 70000, "wide": 1}),
+    "asked-wide": (AskingDraw.play, (1000,), 2, {"regions": 4, "keep": 300, "wide": 1}),
 }
 NAMES = [f"{name}-{number}" for name, (_, _, count, _) in SESSIONS.items() for number in range(1, count + 1)]
 # The sessions with questions, which go to `explore`.
-ASKED = ("asked", "asked-short")
+ASKED = ("asked", "asked-short", "asked-wide")
 # How sessions end: what stands behind the last line, what it is answered, and the status and standard error of the program.
 ENDS = (
     (b"", b"", 0, b""),

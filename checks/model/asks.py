@@ -10,6 +10,7 @@ WANTED = {
     "garbage": ABOUT_A_MOMENT,
     "growth": ABOUT_A_MOMENT,
     "path": (*ABOUT_A_MOMENT, "no 27", "no 28"),
+    "retained": ("ok nothing", "ok itself", "ok more", "ok without AT", "no 22", "no 23", "no 24", "no 28"),
     "referrers": (*ABOUT_A_MOMENT, "no 28"),
     "registers": ABOUT_A_MOMENT,
     "classes": ABOUT_A_MOMENT,
@@ -27,6 +28,16 @@ WANTED = {
     "comment": ("nothing",),
 }
 LEAST = 3
+
+
+def sorts(word, forms, last):
+    """Yields of what sorts an answer is, by its question and the words of its last line."""
+    if word == b"retained" and last[0] == "ok":
+        yield "ok " + {"0": "nothing", "1": "itself"}.get(last[1], "more")
+        if forms == "i":
+            yield "ok without AT"
+    else:
+        yield " ".join(last[:2]) if last[0] == "no" or last[1:2] in (["place"], ["older"], ["reached"]) else last[0]
 
 
 class AskingDraw(Draw):
@@ -69,11 +80,14 @@ class AskingDraw(Draw):
         """Asks a question, or for help."""
         word = self.lots.pick([*QUESTIONS, b"help"])
         draws = {"a": self.moment, "i": self.identifier, "n": lambda: self.lots.near(self.lots.below(8), 70)}
-        words = self.help_words() if word == b"help" else [draws[form]() for form in QUESTIONS[word]]
+        forms = "" if word == b"help" else QUESTIONS[word]
+        if forms.startswith("?"):
+            forms = self.lots.pick([forms[1:], forms[2:]])
+        words = self.help_words() if word == b"help" else [draws[form]() for form in forms]
         accepted = self.say(word.decode(), *words)
         last = self.lines[-1][1].split(b"\n")[-2].decode().split()
-        sort = " ".join(last[:2]) if last[0] == "no" or last[1:2] in (["place"], ["older"], ["reached"]) else last[0]
-        self.machine.sights.met[f"{word.decode()}: {sort}"] += 1
+        for sort in sorts(word, forms, last):
+            self.machine.sights.met[f"{word.decode()}: {sort}"] += 1
         return accepted
 
     def comment(self):

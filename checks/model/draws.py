@@ -266,7 +266,7 @@ class Draw:
     def look(self):
         """Opens a pin, reads it on, or closes it."""
         lots, pins = self.lots, self.machine.pins
-        if len(pins) >= 4 and lots.once_in(3):
+        if len(pins) >= self.machine.limits.pins and lots.once_in(3):
             done = [number for number, pin in pins.items() if pin.lost or pin.pieces and pin.given == len(pin.pieces)]
             if done:
                 number = lots.pick(done)
@@ -379,14 +379,14 @@ class Draw:
             self.lots.pick([self.say_bad, self.say_bad, self.turn])()
 
     def reach_limits(self):
-        """Defines as many classes as there may be, and classes of as many slots, and fills all regions."""
+        """Defines as many classes as there may be, and classes of as many slots, fills all regions, and opens all pins."""
         names = [f"f{number}:{kind}" for number, kind in enumerate(list(KINDS) * 8)]
         for count in (63, 64, 65, 72):
             self.say("class", f"wide{count}", "-", *names[:count])
         self.say("class", "one", "-", "x:int")
         for more in (62, 63, 64):
             self.say("class", f"below{more}", 2, *names[:more])
-        for name in ("y" * 64, "y" * 65):
+        for name in ("y" * 64, "y" * 65, "z" * 255, "z" * 256, "<a>", "b|c", '"-"', "~!", "-"):
             self.say("class", name, "-", f"{name}:int")
             self.say("array", name)
         self.say("new", 0, 0, 1)
@@ -404,6 +404,10 @@ class Draw:
                 self.say("newprim", 0, r, self.lots.pick(["byte", "long"]), length)
         while self.say("newprim", 0, 1, "char", 300):
             pass
-        self.say("open", "-")
+        pins = 1
+        while self.say("open", "-"):
+            pins += 1
+        self.say("dump", 1)
+        for pin in range(1, pins + 1):
+            self.say("close", pin)
         self.say("dump", "-")
-        self.say("close", 1)

@@ -18,11 +18,10 @@ KINDS = {
 CELL_SIZES = (4, 16, 64, 256, 1024)
 REGION_WORDS = 1024
 REGISTERS = 8
-MOST_CLASSES = 256
 MOST_SLOTS = 64
 MOST_ELEMENTS = 1024
-LONGEST_NAME = 64
 NAME_BYTES = b"ABCDEFGHIJKLMNOPQRSTUVWXYZabcdefghijklmnopqrstuvwxyz0123456789_$/[;."
+SIGNS = bytes(byte for byte in range(0x21, 0x7F) if byte != ord(":"))
 FIRST_OBJECT = 0x10000000
 REFUSALS = {
     2: "NoClass",
@@ -50,6 +49,19 @@ REFUSALS = {
     24: "NotRetained",
     25: "PinLimit",
 }
+
+
+class Limits(NamedTuple):
+    """What a heap allows: how many classes, how many bytes of a name and which, and how many pins."""
+
+    classes: int
+    longest_name: int
+    name_bytes: bytes
+    pins: int
+
+
+NARROW = Limits(256, 64, NAME_BYTES, 4)
+WIDE = Limits(4096, 255, SIGNS, 64)
 
 
 class Refused(Exception):
@@ -97,7 +109,8 @@ class Region(NamedTuple):
 class State:
     """The whole heap. Empty regions are None, and their numbers stand in the pool, its head first."""
 
-    def __init__(self, regions, mutators):
+    def __init__(self, regions, mutators, limits=NARROW):
+        self.limits = limits
         self.classes = ()
         self.regions = [None] * regions
         self.pool = tuple(range(regions))
@@ -210,9 +223,9 @@ def slots_of(classes, number):
     return kinds
 
 
-def is_name(name):
+def is_name(limits, name):
     """Returns whether a class or a field may have this name."""
-    return 1 <= len(name) <= LONGEST_NAME and all(byte in NAME_BYTES for byte in name)
+    return 1 <= len(name) <= limits.longest_name and all(byte in limits.name_bytes for byte in name)
 
 
 # ---- events: each changes a copy of the state, which is dropped if the event is refused, and returns its answer
@@ -222,9 +235,9 @@ def define(state, name, sup, fields, is_array):
     """Adds a class."""
     if sup is not None:
         refuse_if(sup >= len(state.classes) or state.classes[sup].is_array, 2)
-    refuse_if(len(state.classes) >= MOST_CLASSES, 3)
+    refuse_if(len(state.classes) >= state.limits.classes, 3)
     names = [field for field, _ in fields]
-    refuse_if(not all(map(is_name, [name, *names])), 4)
+    refuse_if(not all(is_name(state.limits, each) for each in [name, *names]), 4)
     refuse_if(any(other.name == name for other in state.classes) or len(set(names)) < len(names), 5)
     added = (*state.classes, Class(name, sup, tuple(fields), is_array))
     refuse_if(len(slots_of(added, len(added) - 1)) > MOST_SLOTS, 6)

@@ -1,8 +1,6 @@
 """The machine: a history of whole states, which a rewind cuts off, and pins on states of the past."""
 from dump import pieces_of
-from heap import State, applied, refuse_if
-
-MOST_PINS = 4
+from heap import NARROW, WIDE, State, applied, refuse_if
 
 
 class Pin:
@@ -19,12 +17,13 @@ class Pin:
 class Machine:
     """The retained states, the current one last, and the open pins by their numbers."""
 
-    def __init__(self, regions=16, mutators=2, keep=1024, time=0, ids=8):
+    def __init__(self, regions=16, mutators=2, keep=1024, time=0, ids=8, wide=0):
         self.keep = keep
         self.time = time
         self.ids = ids
         self.place = 0
-        self.states = [State(regions, mutators)]
+        self.limits = WIDE if wide else NARROW
+        self.states = [State(regions, mutators, self.limits)]
         # The events that led to all states but the oldest.
         self.events = []
         self.pins = {}
@@ -64,7 +63,7 @@ class Machine:
         at = self.place if at is None else at
         ago = self.place - at
         refuse_if(not 0 <= ago <= self.retained, 24)
-        refuse_if(len(self.pins) >= MOST_PINS, 25)
+        refuse_if(len(self.pins) >= self.limits.pins, 25)
         number = self.next_pin
         self.next_pin += 1
         self.pins[number] = Pin(at, self.states[len(self.states) - 1 - ago])

@@ -29,9 +29,9 @@ LEAK = (TOP / "examples/leak.session").read_bytes()
 PAGE = (TOP / "crates/heap_page/page/page.html").read_bytes()
 # What is asked of the heap that LEAK leaves: each question with an answer of several rows, and each refusal.
 ASKED = """histogram -, histogram @816, garbage -, garbage @1637, growth @816 @1637, registers -, registers @816, classes -,
-    referrers - 0x10000020, path - 0x10000040, show - 0x10000040, show @1500 0x10000040, born 0x10000040, wrote 0x10000040 1,
-    dropped 0x10000040, history 3, history 4096, pins, objects -, objects @816, cells, path - 0x10000001, histogram 7,
-    histogram @99999, show - 0x10000600""".replace("\n    ", " ").split(", ")
+    referrers - 0x10000020, path - 0x10000040, retained 0x10002000, retained @816 0x10002000, show - 0x10000040,
+    show @1500 0x10000040, born 0x10000040, wrote 0x10000040 1, dropped 0x10000040, history 3, history 4096, pins, objects -,
+    objects @816, cells, path - 0x10000001, histogram 7, histogram @99999, show - 0x10000600""".replace("\n    ", " ").split(", ")
 
 
 def statuses(heap):

@@ -11,6 +11,7 @@ from picture_cases import pictures
 from reason_cases import reasons
 from run_cases import faults, lines_at_the_limits, sessions, would_block
 from save_cases import saved_faults, saved_files, saved_on_terminals, saved_to_listeners, saved_to_long_names
+from secret_cases import guarded, refused_files
 from serve_cases import (
     asking,
     pins_of_ended_sessions,
@@ -23,6 +24,7 @@ from serve_cases import (
 )
 from settings_cases import settings_shown
 from terminal_cases import at_a_terminal
+from wide_cases import wide_heaps
 
 
 def differences(program):
@@ -30,7 +32,8 @@ def differences(program):
     parts = ("status", "standard output", "standard error", "first of the clients or the dump", "second", "third", "fourth")
     saves = (saved_files, saved_to_long_names, saved_faults, saved_to_listeners, saved_on_terminals)
     serves = (served_sessions, served_on_terminals, pins_of_ended_sessions, worked, tended, served_questions, asking, served_faults)
-    explores = (questions, at_a_terminal, pictures)
+    serves += (refused_files, guarded)
+    explores = (questions, at_a_terminal, pictures, wide_heaps)
     for cases in (sessions, *explores, settings_shown, lines_at_the_limits, faults, would_block, bad_lines, reasons, *saves, *serves):
         for name, happened, wanted in cases(program):
             if not len(happened) == len(wanted) <= len(parts):

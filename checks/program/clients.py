@@ -95,11 +95,11 @@ def rest_of(client, lines):
     return answered(client, lines, 1 << 30)
 
 
-def asked(program, port, given, task="ask", **how):
+def asked(program, port, given, task="ask", words=(), **how):
     """Runs `ask`, or another task that takes a port, again while nobody listens on it yet."""
     end = time.monotonic() + SECONDS
     while True:
-        ran = run(program, [task, "--port", str(port)], given, **how)
+        ran = run(program, [task, "--port", str(port), *words], given, **how)
         if ran[2] != b"heapdbg: connect\n" or time.monotonic() > end:
             return ran
         time.sleep(0.01)

@@ -36,8 +36,13 @@ STROKES = {
     ("#e00000", "2"): 1 + 1,
 }
 TEXTS = ["place 16: 3 live objects, 36 bytes", "Node: 3 objects, 36 bytes"]
-# The most bytes of a picture of 256 full regions.
+# The most bytes of a picture.
 LIMIT = 2_000_000
+# 1,025 arrays that each fill a region, and a node. In a heap of 1,030 regions the 1,024 with the most bytes have a row of one cell,
+# the last array's region has a bar of 14 points, the node's one of 1, and of the 4 empty regions nothing is seen.
+LARGE = b"class Node - next:object\n" + b"newprim 0 0 long 1024\n" * 1_025 + b"new 0 0 0\n"
+LARGE_STROKES = {("#4269d0", "9"): 1_024 + 1, ("#efb118", "9"): 1, ("#9498a0", "9"): 2 + 1, ("#eeeeee", "9"): 1, ("url(#dead)", "9"): 1}
+LARGE_BARS = [(1_025, 0, 14), (1_025, 16, 17)]
 # Where a stroke for each cell of four words of 256 regions runs: in which row, from which pixel to which.
 ROWS = [(region, 4 * cell, 4 * cell + 3) for region in range(256) for cell in range(256)]
 # Lines with a comment, a question and `collect`, of which three are reported, what they are answered, and what is said of them.
@@ -117,12 +122,43 @@ def strokes_in(path):
         x += int(length)
 
 
+def bars_of(root):
+    """Returns where the bars of regions without a row run, in which line below the first row, from the left. Before them only the
+    cells of classes without a colour of their own have their colour, and after them the legend."""
+    _, bars, _ = (path.get("d") for path in root.iter(PATH) if path.get("stroke") == "#9498a0")
+    return [((height - 40) // 12, x - 40, end - 40) for height, x, end in strokes_in(bars)]
+
+
+def large_pictures(program):
+    """Yields pictures of heaps with more regions than have a row, in the same form."""
+    status, root, picture, _, error = drawn(program, LARGE, "--wide", "1", "--regions", "1030")
+    strokes = {key: count for key, count in strokes_of(root).items() if key[1] == "9"}
+    yield "a large heap", (status, error, strokes, bars_of(root)), (0, b"", LARGE_STROKES, LARGE_BARS)
+    texts = [text.text for text in root.iter("{http://www.w3.org/2000/svg}text")]
+    others = "6 other regions, with fewer bytes: each bar shows how full a region is"
+    yield "its texts", (others in texts, texts.count("1024"), "1025" in texts), (True, 1, False)
+    full = b"class Node - next:object\n" + b"new 0 0 0\n" * (1_100 * 256) + b"snap\n"
+    status, root, picture, _, _ = drawn(program, full, "--wide", "1", "--regions", "1100")
+    rows = strokes_of(root)[("#4269d0", "9")] // 256
+    seen = (status, len(picture) < LIMIT, 256 < rows < 1_024, rows + len(bars_of(root)))
+    yield "a large full heap", seen, (0, True, True, 1_100)
+
+
 def pictures(program):
     """Yields pictures as (name, what happened, what must happen)."""
+    yield from small_pictures(program)
+    yield from large_pictures(program)
+
+
+def small_pictures(program):
+    """Yields pictures of heaps that are shown whole, in the same form."""
     status, root, _, _, error = drawn(program, CYCLES)
     texts = [text.text for text in root.iter("{http://www.w3.org/2000/svg}text")]
     yield "a picture", (status, error, strokes_of(root)), (0, b"", STROKES)
     yield "the texts of a picture", tuple(text in texts for text in TEXTS), (True, True)
+    status, root, _, _, error = drawn(program, b'class map<"a&b"> - x:int\nnew 0 0 0\n', "--wide", "1")
+    texts = [text.text for text in root.iter("{http://www.w3.org/2000/svg}text")]
+    yield "signs of SVG in a name", (status, error, 'map<"a&b">: 1 objects, 4 bytes' in texts), (0, b"", True)
     full = b"class Node - next:object\n" + b"new 0 0 0\n" * 65_536 + b"snap\n"
     status, root, picture, _, _ = drawn(program, full, "--regions", "256")
     yield "a full heap", (status, len(picture) < LIMIT, strokes_of(root)[("#4269d0", "9")]), (0, True, 65_536 + 1)

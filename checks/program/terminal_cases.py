@@ -94,7 +94,7 @@ heapdbg 7> |
 
 # The forms of all lines, in the order of `help`, and the keywords of those that change nothing.
 FORMS = [row[4:] for row in (TOP / "examples/questions/help.expected").read_bytes().split(b"ok\n")[0].splitlines()]
-HARMLESS = b"histogram garbage growth registers classes objects referrers path show born wrote dropped history pins cells status help".split()
+HARMLESS = b"histogram garbage growth registers classes objects referrers path retained show born wrote dropped history pins cells status help".split()
 # Words that people type at other prompts, and words that are as near to two keywords.
 WORDS = b"undo find back exitt list info hist goto step print HISTOGRAM rewing reiwnd classs pars endd edn hlep".split()
 
@@ -137,8 +137,8 @@ def advised(program):
 
 # What is said of states that aren't there.
 AT_FORMS = b"AT is - for the current state, the number of an open pin, or @P for the state at place P\n"
-STATES = [line + b"\n" for line in [b"clear 0 0"] * 3 + [b"histogram 1", b"growth - @0", b"classes x", b"open 0", b"close 1"]]
-STATES += [b"rewind 1\n", b"show @0 0x10000000\n", b"q\n"]
+STATES = [line + b"\n" for line in [b"clear 0 0"] * 3 + [b"histogram 1", b"growth - @0", b"classes x", b"retained x"]]
+STATES += [b"open 0\n", b"close 1\n", b"rewind 1\n", b"show @0 0x10000000\n", b"q\n"]
 STATES_SHOWN = b"""heapdbg 0> |ok
 heapdbg 1> |ok
 heapdbg 2> |ok
@@ -148,6 +148,8 @@ heapdbg 3> |no 24 NotRetained
 %(forms)sthe oldest retained place is @1
 heapdbg 3> |bad command
 the form of this line is: classes AT
+%(forms)sheapdbg 3> |bad command
+the form of this line is: retained [AT] ID
 %(forms)sheapdbg 3> |no 24 NotRetained
 AT is - for the current state, or P or @P for the state at place P
 the oldest retained place is @1

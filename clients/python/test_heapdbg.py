@@ -2,19 +2,26 @@
 """Tests of the client: `test_heapdbg.py PROGRAM`, over the built program, and over streams that a test wrote.
 
 Prints what fails, and ends with status 1 then. Prints nothing where all is well."""
+import contextlib
 import io
 import os
+import pathlib
+import re
+import shutil
 import socket
 import subprocess
 import sys
+import tempfile
+import threading
 import time
 import unittest
 
 import heapdbg
-from heapdbg import BadCommand, Cells, Collected, Ended, ObjectId, Piece, PinAt, Refused, Session, Swept
+from heapdbg import BadCommand, Cells, Collected, Ended, Field, Now, ObjectId, Piece, Pin, PinAt, Place, Refused, Session, Swept, fetch
 
 PROGRAM = os.path.abspath(sys.argv[1]) if len(sys.argv) > 1 else "heapdbg"
 NODE = [("next", "object"), ("v", "long")]
+HERE = pathlib.Path(__file__).resolve().parent
 
 
 def session(*options):
@@ -25,6 +32,43 @@ def session(*options):
 def canned(*lines):
     """Returns a session whose replies are these lines."""
     return Session(io.BytesIO("".join(line + "\n" for line in lines).encode()), io.BytesIO())
+
+
+@contextlib.contextmanager
+def file_of(text):
+    """A file with this text, which its owner alone can read."""
+    with tempfile.NamedTemporaryFile() as file:
+        file.write(text)
+        file.flush()
+        yield file.name
+
+
+def free_port():
+    """Returns a port that was free."""
+    with socket.socket() as free:
+        free.bind(("127.0.0.1", 0))
+        return free.getsockname()[1]
+
+
+def connected(port, **words):
+    """Returns a session with a server that may not listen yet."""
+    for _ in range(200):
+        with contextlib.suppress(ConnectionRefusedError):
+            return Session.connect(port, timeout=10, **words)
+        time.sleep(0.05)
+    raise TimeoutError(f"nothing listens on {port}")
+
+
+@contextlib.contextmanager
+def staying(*options):
+    """A server that stays, and its port. It is ended from outside."""
+    port = free_port()
+    words = [PROGRAM, "serve", "--port", str(port), "--stay", "1", *options]
+    with subprocess.Popen(words, stdout=subprocess.DEVNULL) as server:
+        try:
+            yield port
+        finally:
+            server.terminate()
 
 
 class Replies(unittest.TestCase):
@@ -131,6 +175,267 @@ class Replies(unittest.TestCase):
             self.assertEqual(heap.heap_status(), status)
 
 
+class Columns(unittest.TestCase):
+    """Rows, moments and facts by their names."""
+
+    def asked(self, call, *lines):
+        """Returns what a call gives of a session whose reply is this one."""
+        return call(canned(*lines))
+
+    def test_counts(self):
+        (row,) = self.asked(lambda heap: heap.histogram(), "row 3 48 Node", "ok 3 48")
+        self.assertEqual((row.objects, row.bytes, row.class_name), (3, 48, "Node"))
+        (row,) = self.asked(lambda heap: heap.garbage(), "row 3 48 Node", "ok 3 48")
+        self.assertEqual((row.objects, row.bytes, row.class_name), (3, 48, "Node"))
+        (row,) = self.asked(lambda heap: heap.retained(None, 16), "row 3 48 Node", "ok 3 48")
+        self.assertEqual((row.objects, row.bytes, row.class_name), (3, 48, "Node"))
+        (row,) = self.asked(lambda heap: heap.growth(Place(1)), "row Node 1 16 2 32", "ok 1")
+        self.assertEqual((row.class_name, row.old_objects, row.old_bytes, row.new_objects, row.new_bytes), ("Node", 1, 16, 2, 32))
+
+    def test_ways(self):
+        first, step = self.asked(lambda heap: heap.path(None, 16), "row 1 2 0x00000008", "row 0x00000008 3 0x00000010", "ok 1")
+        self.assertEqual((first.mutator, first.register, first.id), (1, 2, 8))
+        self.assertEqual((step.holder, step.slot, step.id), (8, 3, 16))
+        first, slot = self.asked(lambda heap: heap.referrers(None, 16), "row 1 2", "row 0x00000008 3", "ok 2")
+        self.assertEqual((first.mutator, first.register, slot.holder, slot.slot), (1, 2, 8, 3))
+        null, named = self.asked(lambda heap: heap.registers(), "row 0 0 null", "row 0 1 0x00000008 Node", "ok 2")
+        self.assertEqual((null.register, null.id, null.class_name), (0, None, None))
+        self.assertEqual((named.mutator, named.register, named.id, named.class_name), (0, 1, 8, "Node"))
+
+    def test_classes_and_objects(self):
+        node, array = self.asked(lambda heap: heap.classes(), "row 0 Node - next:object v:long", "row 1 Nodes array", "ok 2")
+        self.assertEqual((node.number, node.name, node.sup), (0, "Node", "-"))
+        self.assertEqual(node.fields, [("next", "object"), ("v", "long")])
+        self.assertEqual(node.fields[1], Field(name="v", kind="long"))
+        self.assertEqual((array.name, array.sup, array.fields), ("Nodes", "array", []))
+        (row,) = self.asked(lambda heap: heap.objects(), "row 0x00000008 Node 2 unreached", "ok 1")
+        self.assertEqual((row.id, row.class_name, row.slots, row.unreached), (8, "Node", 2, True))
+        (row,) = self.asked(lambda heap: heap.show(None, 8), "row 1 v long 7", "ok object Node 2")
+        self.assertEqual((row.slot, row.name, row.kind, row.value), (1, "v", "long", 7))
+
+    def test_the_past(self):
+        (row,) = self.asked(lambda heap: heap.history(1), "row 9 put 0x00000008 1 7", "ok 1")
+        self.assertEqual((row.place, row.record, row.facts), (9, "put", (8, 1, 7)))
+        found, older, reached = (self.asked(lambda heap: heap.dropped(8), f"ok {text}") for text in ("place 3", "older 4", "reached"))
+        self.assertEqual([(each.word, each.place) for each in (found, older, reached)], [("place", 3), ("older", 4), ("reached", None)])
+        held, lost = self.asked(lambda heap: heap.pins(), "row 1 3 held 2", "row 4 9 lost Rewound", "ok 2")
+        self.assertEqual((held.pin, held.place, held.state, held.pieces), (1, 3, "held", 2))
+        self.assertEqual((lost.pin, lost.place, lost.state, lost.cause), (4, 9, "lost", "Rewound"))
+
+    def test_moments(self):
+        moments = (Now(), Place(816), Pin(1), PinAt(2, 7), None, 3, "@4")
+        self.assertNotEqual(Place(3), Pin(3))
+        heap = canned(*["ok 0 0"] * 7, *["ok 0"] * 2, "ok pin 1 at 5", "ok pin 2 at 5", "ok dump 0", "ok dump 0", "ok last 0", "ok")
+        for moment in moments:
+            heap.histogram(moment)
+        heap.growth(Place(1), Now())
+        heap.growth(Pin(1))
+        self.assertEqual((heap.open(Place(5)), heap.open(Now())), ((1, 5), (2, 5)))
+        heap.dump(Pin(1))
+        heap.dump(Now())
+        heap.piece(PinAt(2, 5))
+        heap.close(Pin(2))
+        words = [line.split(" ", 1)[1] for line in heap.writer.getvalue().decode().splitlines()]
+        self.assertEqual(words, ["-", "@816", "1", "2", "-", "3", "@4", "@1 -", "1 -", "@5", "-", "1", "-", "2", "2"])
+
+    def test_facts(self):
+        texts = "no 18 NotDone 2 1", "no 19 SweepPending 3", "no 20 NothingToSweep 9", "no 21 TooFar 5 4", "no 23 Lost Rewound", "no 2 NoClass"
+        facts = []
+        for text in texts:
+            with self.assertRaises(Refused) as caught:
+                canned(text).snap()
+            facts.append(caught.exception.facts)
+        self.assertEqual((facts[0].gray, facts[0].undrained, facts[1].region, facts[2].region), (2, 1, 3, 9))
+        self.assertEqual((facts[3].asked, facts[3].retained, facts[4].cause, facts[5]), (5, 4, "Rewound", ()))
+        with self.assertRaises(Refused) as caught:
+            canned("no 18 NotDone 2 1 7").snap()
+        self.assertEqual(caught.exception.facts, (2, 1, 7))
+
+
+class Explored(unittest.TestCase):
+    """`Session.explore`: its options are those of the program."""
+
+    def test_options(self):
+        with tempfile.TemporaryDirectory() as folder:
+            path = pathlib.Path(folder, "first.session")
+            path.write_text("class Node - next:object v:long\nnew 0 0 0\nnew 15 0 0\nnew 9 9 9\n")
+            with Session.explore(PROGRAM, regions=3, mutators=16, keep=2, time=5, ids=4, load=path) as heap:
+                status = heap.heap_status()
+                self.assertEqual((status["regions"], status["retained"], status["place"]), (3, 2, 3))
+                self.assertEqual(len(heap.registers()), 128)
+                dump = heap.dump()
+                self.assertEqual((dump[19:23], dump[23:31]), (b"\0\0\0\4", b"\0" * 7 + b"\5"))
+            self.assertEqual((heap.status, heap.text), (0, f"heapdbg: {path}:4: no 7 BadRegister: new 9 9 9"))
+
+    def test_a_wide_heap(self):
+        for wide in (False, True):
+            with Session.explore(PROGRAM, wide=wide) as heap:
+                for number in range(256):
+                    heap.define_array(f"A{number}")
+                if wide:
+                    self.assertEqual(heap.define_array("A256"), 256)
+                else:
+                    with self.assertRaises(Refused) as caught:
+                        heap.define_array("A256")
+                    self.assertEqual(caught.exception.number, 3)
+
+    def test_a_page(self):
+        port = free_port()
+        with Session.explore(PROGRAM, page=port) as heap:
+            self.assertEqual(heap.heap_status()["place"], 0)
+            self.assertRegex(heap.text, rf"^heapdbg: page http://127.0.0.1:{port}/#[0-9a-f]{{32}}$")
+            said = heap.text
+        self.assertEqual((heap.text, heap.status), (said, 0))
+
+    def test_mistakes(self):
+        heap = Session.explore(PROGRAM, keep=0)
+        with self.assertRaises(Ended) as caught:
+            heap.snap()
+        self.assertEqual(caught.exception.status, 2)
+        self.assertIn("--keep", caught.exception.text)
+        heap.end()
+
+
+class Counted(io.BytesIO):
+    """A stream that counts what is written to it."""
+
+    count = 0
+
+    def write(self, text):
+        self.count += 1
+        return super().write(text)
+
+
+class Batched(unittest.TestCase):
+    """Sessions that don't wait for replies that say only `ok`."""
+
+    def test_few_writes(self):
+        heap = Session(io.BytesIO(b"ok\n" * 10_000), Counted(), batched=True)
+        for number in range(10_000):
+            self.assertIsNone(heap.put(0, 0, 1, number))
+        heap.flush()
+        self.assertEqual(heap.writer.getvalue(), b"".join(b"put 0 0 1 %d\n" % number for number in range(10_000)))
+        self.assertLess(heap.writer.count, 20)
+
+    def test_order(self):
+        with Session.explore(PROGRAM) as heap:
+            heap.define_class("Node", NODE)
+            node = heap.new(0, 0, 0)
+            for number in range(5_000):
+                heap.put(0, 0, 1, number)
+            self.assertEqual(heap.load(0, 1, 0, 1), 4_999)
+            heap.move(0, 1, 0, 0)
+            heap.store(0, 1, 0, 0)
+            heap.clear(0, 0)
+            pin = heap.open()
+            heap.close(pin)
+            self.assertEqual(heap.path(None, node), [(0, 1, node)])
+            self.assertEqual([row.value for row in heap.show(None, node)], [node, 4_999])
+            self.assertEqual(heap.pins(), [])
+            heap.put(0, 1, 1, 6)
+            with heap.batch() as batch:
+                value = batch.load(0, 2, 1, 1)
+                batch.put(0, 1, 1, 8)
+            self.assertEqual((value.value, heap.load(0, 2, 1, 1)), (6, 8))
+
+    def test_refusals_come_with_the_next_call_that_waits(self):
+        with Session.explore(PROGRAM) as heap:
+            heap.define_class("Node", NODE)
+            heap.new(0, 0, 0)
+            heap.put(0, 0, 5, 1)
+            heap.put(0, 0, 1, 7)
+            heap.clear(9, 0)
+            heap.put(0, 0, 1, "8\n")
+            place = 3
+            with self.assertRaises(Refused) as caught:
+                heap.new(0, 1, 0)
+            fault = caught.exception
+            self.assertEqual((fault.line, fault.number, fault.name), ("put 0 0 5 1", 9, "BadSlot"))
+            told = [fault.line for fault in sorted(fault.others, key=lambda fault: fault.line)]
+            self.assertEqual(told, ["clear 9 0", "put 0 0 1 8\n"])
+            self.assertEqual(heap.heap_status()["place"], place)
+            self.assertEqual(heap.load(0, 2, 0, 1), 7)
+
+    def test_refusals_come_with_flush_and_with_the_end(self):
+        heap = Session.explore(PROGRAM)
+        heap.clear(9, 1)
+        with self.assertRaisesRegex(Refused, "clear 9 1: 7 BadRegister"):
+            heap.flush()
+        heap.flush()
+        heap.clear(9, 2)
+        with self.assertRaisesRegex(Refused, "clear 9 2"):
+            heap.end()
+        self.assertEqual(heap.status, 0)
+        with self.assertRaisesRegex(Refused, "clear 9 3"):
+            with Session.explore(PROGRAM) as heap:
+                heap.clear(9, 3)
+        self.assertEqual(heap.status, 0)
+        with self.assertRaises(KeyError):
+            with Session.explore(PROGRAM) as heap:
+                heap.clear(9, 3)
+                raise KeyError
+        self.assertEqual(heap.status, 0)
+
+    def test_many_refusals(self):
+        with Session.explore(PROGRAM) as heap:
+            for number in range(3_000):
+                heap.clear(9, number)
+            with self.assertRaisesRegex(Refused, "clear 9 0") as caught:
+                heap.flush()
+            self.assertEqual([fault.line for fault in caught.exception.others], [f"clear 9 {number}" for number in range(1, 100)])
+            self.assertEqual(heap.heap_status()["place"], 0)
+
+    def test_tell(self):
+        with session() as heap:
+            for line in ("class Node - v:long", "new 0 0 0", "what", "load 0 1 0 0", "dump -", "snap"):
+                self.assertIsNone(heap.tell(line))
+            for line in ("end", "# a", "", "a\nb"):
+                with self.assertRaises(BadCommand):
+                    heap.tell(line)
+            with self.assertRaises(BadCommand) as caught:
+                heap.mark()
+            self.assertEqual((caught.exception.line, caught.exception.others), ("what", ()))
+            self.assertEqual(heap.mark(), 0)
+
+    def test_a_session_that_ended(self):
+        heap = Session.explore(PROGRAM, batched=True)
+        heap.tell("clear 0 0" + " " * 4096)
+        with self.assertRaises(Ended):
+            for _ in range(100_000):
+                heap.clear(0, 0)
+        self.assertEqual((heap.status, heap.text), (1, "heapdbg: long"))
+        with self.assertRaises(Ended):
+            heap.snap()
+        self.assertEqual(heap.end(), 1)
+
+    def test_others_wait(self):
+        with session() as heap:
+            heap.define_class("Node", NODE)
+            heap.new(0, 0, 0)
+            with self.assertRaisesRegex(Refused, "put 0 0 5 1"):
+                heap.put(0, 0, 5, 1)
+
+
+class Installs(unittest.TestCase):
+    """`pip install` of this folder."""
+
+    def test_pip(self):
+        with tempfile.TemporaryDirectory() as folder:
+            shutil.copytree(HERE, pathlib.Path(folder, "python"), ignore=shutil.ignore_patterns("__pycache__"))
+            there = pathlib.Path(folder, "there")
+            words = [sys.executable, "-m", "pip", "install", "--quiet", "--no-index", "--target", there, pathlib.Path(folder, "python")]
+            if subprocess.run([sys.executable, "-m", "pip", "--version"], capture_output=True).returncode:
+                return
+            ran = subprocess.run(words, capture_output=True, text=True)
+            self.assertEqual(ran.returncode, 0, ran.stderr)
+            code = "import heapdbg; print(heapdbg.__file__); heapdbg.Session, heapdbg.Recorder"
+            ran = subprocess.run([sys.executable, "-c", code], cwd=folder, env={**os.environ, "PYTHONPATH": str(there)}, capture_output=True, text=True)
+            self.assertEqual(ran.stdout.strip(), str(there / "heapdbg/__init__.py"), ran.stderr)
+            self.assertTrue((there / "heapdbg/py.typed").exists())
+            version = re.search(r'^version = "(.*)"', (HERE / "pyproject.toml").read_text(), re.MULTILINE)[1]
+            self.assertTrue((there / f"heapdbg-{version}.dist-info").is_dir())
+
+
 class Names(unittest.TestCase):
     """Names that look like numbers, ids or null."""
 
@@ -154,6 +459,7 @@ class Names(unittest.TestCase):
             self.assertEqual(heap.growth("@8", None), grown)
             heap.clear(0, 2)
             self.assertEqual(heap.garbage(), [(1, 12, "0xyz")])
+            self.assertEqual((heap.retained(None, ids[2]), heap.retained("@16", ids[2])), ([], [(1, 12, "0xyz")]))
             self.assertEqual(heap.history(1), [(17, "reg", 0, 2, ids[2])])
             self.assertEqual(heap.path(None, ids[3]), [(0, 3, ids[3])])
             self.assertEqual(heap.referrers(None, ids[3]), [(0, 3)])
@@ -174,12 +480,16 @@ class Names(unittest.TestCase):
             self.assertEqual(heap.path("@6", node), [(0, 1, node)])
             self.assertEqual(heap.referrers(heap.open(), node), [(0, 1), (array, 1)])
             self.assertEqual((heap.born(node), heap.wrote(array, 1)), (("place", 5), ("place", 6)))
+            self.assertEqual((heap.retained(None, array), heap.retained(None, node)), ([(1, 16, "[null;")], [(1, 8, "2024")]))
             heap.clear(0, 1)
             self.assertEqual(heap.path(None, node), [(0, 0, array), (array, 1, node)])
+            self.assertEqual(heap.retained(None, array), [(1, 16, "[null;"), (1, 8, "2024")])
+            self.assertEqual(heap.retained("@6", array), [(1, 16, "[null;")])
 
     def test_all_is_public(self):
         self.assertEqual([name for name in ("Collected", *heapdbg.__all__) if name not in dir(heapdbg)], [])
         self.assertIn("Collected", heapdbg.__all__)
+        self.assertEqual(len(set(heapdbg.__all__)), len(heapdbg.__all__))
 
 
 class Texts(unittest.TestCase):
@@ -414,7 +724,8 @@ class Batches(unittest.TestCase):
                 dump = batch.dump()
                 with self.assertRaises(RuntimeError):
                     number.value
-            self.assertEqual(number.value, 0)
+                self.assertFalse(number.done)
+            self.assertEqual((number.done, number.value), (True, 0))
             self.assertEqual([node.value for node in nodes], [0x10000000, 0x10000020, 0x10000040])
             self.assertEqual(len(dump.value), len(heap.dump()))
             with self.assertRaises(Refused):
@@ -461,16 +772,9 @@ class Sockets(unittest.TestCase):
     """A session over a socket."""
 
     def test_two_clients(self):
-        with socket.socket() as free:
-            free.bind(("127.0.0.1", 0))
-            port = free.getsockname()[1]
+        port = free_port()
         with subprocess.Popen([PROGRAM, "serve", "--port", str(port), "--sessions", "2"], stdout=subprocess.PIPE) as server:
-            for _ in range(200):
-                try:
-                    first = Session.connect(port, timeout=10)
-                    break
-                except ConnectionRefusedError:
-                    time.sleep(0.05)
+            first = connected(port)
             with Session.connect(port, timeout=10) as second:
                 self.assertEqual(first.define_class("Node", NODE), 0)
                 self.assertEqual(second.new(0, 0, 0), 0x10000000)
@@ -479,6 +783,103 @@ class Sockets(unittest.TestCase):
             out, _ = server.communicate(timeout=20)
         self.assertEqual(out, b"session 1 quit\nsession 2 quit\n")
         self.assertEqual(server.returncode, 0)
+
+    def test_a_heap_that_stays(self):
+        with staying("--sessions", "1") as port:
+            with connected(port) as heap:
+                kept, other = heap.open(), heap.open()
+                self.assertIsNone(heap.keep(kept.pin))
+                with self.assertRaises(Refused) as caught:
+                    heap.keep(3)
+                self.assertEqual((caught.exception.number, caught.exception.name), (22, "NoPin"))
+                self.assertEqual(heap.pins(), [(1, 0, "held", 0), (2, 0, "held", 0)])
+            with Session.connect(port, timeout=10) as heap:
+                self.assertEqual(heap.pins(), [(kept.pin, kept.place, "held", 0)])
+                with self.assertRaises(Refused):
+                    heap.close(other.pin)
+                self.assertIsNone(heap.close(kept.pin))
+
+
+class Secrets(unittest.TestCase):
+    """The word that a client sends first, and dumps that are fetched."""
+
+    WORD = b"0123456789abcdefXYZ"
+
+    def test_the_first_line(self):
+        for end in (b"", b"\n", b"\r\n"):
+            with socket.create_server(("127.0.0.1", 0)) as listener, file_of(self.WORD + end) as path:
+                heap = Session.connect(listener.getsockname()[1], timeout=10, secret=path)
+                server, _ = listener.accept()
+                with server, server.makefile("rb") as lines:
+                    server.sendall(b"ok\n")
+                    self.assertIsNone(heap.clear(0, 0))
+                    self.assertEqual([lines.readline(), lines.readline()], [self.WORD + b"\n", b"clear 0 0\n"])
+                heap.end()
+
+    def test_a_word_that_is_refused(self):
+        for size in (1, len(self.WORD) + 1, 100):
+            with socket.create_server(("127.0.0.1", 0)) as listener, file_of(self.WORD) as path:
+                heap = Session.connect(listener.getsockname()[1], timeout=10, secret=path)
+                server, _ = listener.accept()
+                with server:
+                    server.recv(size)
+                with self.assertRaises(Ended):
+                    heap.clear(0, 0)
+                self.assertIsNone(heap.end())
+
+    def test_a_reset_at_the_end(self):
+        with socket.create_server(("127.0.0.1", 0)) as listener:
+            heap = Session.connect(listener.getsockname()[1], timeout=10)
+            server, _ = listener.accept()
+            # It closes once the client waits for the end, and the line `end` is unread.
+            timer = threading.Timer(0.2, server.close)
+            timer.start()
+            self.assertIsNone(heap.end())
+            timer.join()
+
+    def test_files_without_a_word(self):
+        for text in (b"", b"a" * 15, b"a" * 65, b"a" * 16 + b" ", b"a" * 16 + b"\n\n", b"a" * 16 + b"\r", b"\n" + b"a" * 16, b"\xe4" * 16):
+            for call in (Session.connect, fetch):
+                with self.subTest(text=text, call=call), file_of(text) as path, self.assertRaises(ValueError):
+                    call(free_port(), secret=path)
+
+    def test_fetched_bytes(self):
+        dump = session().dump()
+        for sent, whole in ((dump, True), (dump[:-1], False), (dump + b"\0", False), (dump[:31], False), (b"", False), (b"X" + dump[1:], False)):
+            with self.subTest(size=len(sent)), socket.create_server(("127.0.0.1", 0)) as listener, file_of(self.WORD) as path:
+                seen = []
+                server = threading.Thread(target=lambda: self.send(listener, sent, seen))
+                server.start()
+                port = listener.getsockname()[1]
+                if whole:
+                    self.assertEqual(fetch(port, timeout=10, secret=path), dump)
+                else:
+                    with self.assertRaises(Ended) as caught:
+                        fetch(port, timeout=10, secret=path)
+                    self.assertEqual(caught.exception.word, "cut")
+                server.join()
+                self.assertEqual(seen, [self.WORD + b"\n"])
+
+    def send(self, listener, data, seen):
+        """Accepts a client, notes its first line, and sends bytes."""
+        client, _ = listener.accept()
+        with client:
+            seen.append(client.recv(100))
+            client.sendall(data)
+
+    def test_a_heap_with_a_secret(self):
+        dumps = free_port()
+        with file_of(self.WORD + b"\n") as path, staying("--sessions", "2", "--dumps", str(dumps), "--secret", path) as port:
+            with connected(port, secret=path) as heap:
+                self.assertEqual(heap.define_class("Node", NODE), 0)
+                self.assertEqual(fetch(dumps, timeout=10, secret=path), heap.dump())
+                for other in (None, b"0" * 19):
+                    with contextlib.nullcontext() if other is None else file_of(other) as wrong:
+                        with Session.connect(port, timeout=10, secret=wrong) as stranger, self.assertRaises(Ended):
+                            stranger.clear(0, 0)
+                        with self.assertRaises(Ended):
+                            fetch(dumps, timeout=10, secret=wrong)
+                self.assertEqual(heap.rewind(1), 0)
 
 
 def main():

@@ -4,7 +4,9 @@
 pub mod intake;
 pub mod line;
 pub mod watcher;
+pub mod word;
 
 pub use intake::{Fetched, Finish, fetch};
 pub use line::write_last;
 pub use watcher::Watcher;
+pub use word::say_word;

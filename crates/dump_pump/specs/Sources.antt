@@ -8,11 +8,11 @@ use Rattle.dump_pump.specs.declared.source.Next.TheVariants.{Part, Lost, Cancell
 
 -- the largest number of parts that a source has left
 abbrev pub part_limit : ℕ
-part_limit = 66178
+part_limit = 16785538
 
 -- the largest size of a part in bytes
 abbrev pub part_size_limit : ℕ
-part_size_limit = 2 ^ 24
+part_size_limit = 2 ^ 27
 
 -- the parts that a source gave since it was made, if it tells them, how it ended, and how many parts are left at most
 pub record Supply : Type 0 where

@@ -3,12 +3,12 @@ use heap_class::LostCause;
 use hprof_text::Piece;
 
 /// The largest number of parts that a source has left.
-pub const PART_LIMIT: u64 = 66_178;
+pub const PART_LIMIT: u64 = 16_785_538;
 
 /// The answer of a source that is asked for its next part.
 #[derive(Drop)]
 pub enum Next {
-    /// A part of the dump, of at most 2^24 bytes.
+    /// A part of the dump, of at most 2^27 bytes.
     Part(Piece),
     /// Nothing more: the dump is lost.
     Lost(LostCause),

@@ -27,7 +27,7 @@ entry seat action answer = record { seat = seat; action = action; answer = answe
 
 -- the trail with which a heap of these settings begins
 abbrev pub opening : HeapSettings → Trail
-opening s = opening_trail (opening_state s.regions s.mutators)
+opening s = opening_trail (opening_state s.limits s.regions s.mutators)
 
 -- a machine without pins at this trail; the size of ids plays no part in events and rewinds
 abbrev pub machine_at : ℕ → Trail → Machine

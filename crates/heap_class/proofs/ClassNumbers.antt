@@ -14,6 +14,7 @@ use Rattle.indexmap.specs.IndexMap.{IndexMap, keys, get, insert_entry, insert_in
 use Rattle.indexmap.specs.IndexSet.{insert_key}
 use Rattle.indexmap.proofs.CallerLemmas.{insert_entry-new}
 use Rattle.heap_class.specs.declared.class_table.ClassEntry.{ClassEntry}
+use Rattle.heap_class.specs.Limits.{widest_classes}
 use Rattle.heap_class.specs.Classes.{Class, class_refusal, IsClassTable}
 use Rattle.heap_class.specs.Entries.{class_of_entry, class_named_at, HasMoreNames, IsEntryTable, IsNumberedTable}
 use Rattle.heap_class.proofs.Refusals.{none_holds}
@@ -159,9 +160,9 @@ none_above : (n i : ℕ) (es : List ClassEntry) → AreBelow n es → n ≤ i �
 none_above n i es below le =
     list_any_none (λ (d : ClassEntry). d.name == i) es (λ k d l. ne_eqb (get_or es k d).name i (λ e. omega (arith, e, below k d l, le)))
 
-last_accepted : (before cs : List Class) (c : Class) → IsClassTable before (cs ++ c ∷ []) → class_refusal (before ++ cs) c ≡ None
-last_accepted before [] c t = subst (λ l. class_refusal l c ≡ None) (sym (append-nil before)) t.0
-last_accepted before (d ∷ cs) c t = subst (λ l. class_refusal l c ≡ None) (append_assoc before (d ∷ []) cs) (last_accepted (before ++ d ∷ []) cs c t.2)
+last_accepted : (before cs : List Class) (c : Class) → IsClassTable before (cs ++ c ∷ []) → class_refusal widest_classes (before ++ cs) c ≡ None
+last_accepted before [] c t = subst (λ l. class_refusal widest_classes l c ≡ None) (sym (append-nil before)) t.0
+last_accepted before (d ∷ cs) c t = subst (λ l. class_refusal widest_classes l c ≡ None) (append_assoc before (d ∷ []) cs) (last_accepted (before ++ d ∷ []) cs c t.2)
 
 module _ (names : List (List ℕ)) (es : List ClassEntry) (e : ClassEntry) (t : IsEntryTable names (es ++ e ∷ [])) where
   last_within : e.name < length names

@@ -4,6 +4,7 @@ use Rattle.std.proofs.lemmas.List.{append-nil}
 use Rattle.std.specs.Prelude.{slice_get, unwrap_or}
 use Rattle.std.specs.Option.{option_map_or}
 use Rattle.heap_class.specs.declared.Kind.{Kind}
+use Rattle.heap_class.specs.Limits.{widest_classes}
 use Rattle.heap_class.specs.Classes.{Class, slots_under, slot_table_after, slots_of, is_instance_class, is_array_class, class_refusal, IsClassTable}
 
 pub get_append : {A : Type 0} (xs ys : List A) (i : ℕ) → i < length xs → slice_get (xs ++ ys) i ≡ slice_get xs i
@@ -46,6 +47,6 @@ unfolding is_array_class
 array_more cs c k h = ap (λ (p : Option Class). option_map_or (λ (c : Class). c.is_array) p false) (get_append cs (c ∷ []) k (found_within cs k (λ c. c.is_array) h)) ∙ h
 
 -- a class that isn't refused goes on with the table
-pub classes_more : (before cs : List Class) (c : Class) → IsClassTable before cs → class_refusal (before ++ cs) c ≡ None → (c.is_array ≡ true → (c.sup ≡ None) × (c.fields ≡ [])) → IsClassTable before (cs ++ c ∷ [])
-classes_more before [] c t r a = (subst (λ l. class_refusal l c ≡ None) (append-nil before) r, a, tt)
-classes_more before (d ∷ cs) c t r a = (t.0, t.1, classes_more (before ++ d ∷ []) cs c t.2 (subst (λ l. class_refusal l c ≡ None) (sym (append_assoc before (d ∷ []) cs)) r) a)
+pub classes_more : (before cs : List Class) (c : Class) → IsClassTable before cs → class_refusal widest_classes (before ++ cs) c ≡ None → (c.is_array ≡ true → (c.sup ≡ None) × (c.fields ≡ [])) → IsClassTable before (cs ++ c ∷ [])
+classes_more before [] c t r a = (subst (λ l. class_refusal widest_classes l c ≡ None) (append-nil before) r, a, tt)
+classes_more before (d ∷ cs) c t r a = (t.0, t.1, classes_more (before ++ d ∷ []) cs c t.2 (subst (λ l. class_refusal widest_classes l c ≡ None) (sym (append_assoc before (d ∷ []) cs)) r) a)

@@ -8,7 +8,7 @@ use Rattle.std.proofs.lemmas.Bool.{and_parts, not-false, leb-true, leb-false, lt
 use Rattle.std.proofs.lemmas.List.{take_at, get_or-take, length-take, length-map, map-append, reverse-append, reverse-reverse, length-reverse, get_or-reverse}
 use Rattle.std.proofs.lemmas.List.Elements.{All-nil, All-cons, All-head, All-tail, All-push, All-take, All-weaker}
 use Rattle.indexmap.specs.IndexSet.{insert_all}
-use Rattle.heap_class.specs.Limits.{class_limit, slot_limit, name_limit}
+use Rattle.heap_class.specs.Limits.{class_limit, slot_limit, name_limit, widest_classes}
 use Rattle.heap_class.specs.declared.Kind.{Kind}
 use Rattle.heap_class.specs.declared.Field.{Field}
 use Rattle.heap_class.specs.declared.class_table.OwnField.{OwnField}
@@ -36,11 +36,11 @@ front_of : {X : Type 0} (xs : List X) (x : X) (ys : List X) → ys ≡ xs ++ x �
 front_of xs x ys e =
     ap (take (length ys - 1)) e ∙ take_at xs (x ∷ []) (length ys - 1) (omega (arith, ap length e, length-append xs (x ∷ [])))
 
-all_named : (ns : List (List ℕ)) → list_all is_name ns ≡ true → All (λ (n : List ℕ). length n ≤ name_limit) ns
+all_named : (ns : List (List ℕ)) → list_all (is_name widest_classes) ns ≡ true → All (λ (n : List ℕ). length n ≤ name_limit) ns
 unfolding is_name
 all_named [] h = All-nil (λ (n : List ℕ). length n ≤ name_limit)
 all_named (n ∷ ns) h =
-    let p = and_parts (is_name n) (list_all is_name ns) h in
+    let p = and_parts (is_name widest_classes n) (list_all (is_name widest_classes) ns) h in
     let q = and_parts (nat_le 1 (length n) && nat_le (length n) name_limit) _ p.0 in
     let r = and_parts (nat_le 1 (length n)) (nat_le (length n) name_limit) q.0 in
     All-cons (λ (n : List ℕ). length n ≤ name_limit) n ns (leb-true (length n) name_limit r.1) (all_named ns p.1)
@@ -172,7 +172,7 @@ module _ (names : List (List ℕ)) (es : List ClassEntry) (e : ClassEntry) (t : 
 -- ---- a class more
 
 module _ (names : List (List ℕ)) (es : List ClassEntry) (t : IsEntryTable names es) (c : Class) (e : ClassEntry)
-    (accepted : class_refusal (map (class_of_entry names) es) c ≡ None)
+    (accepted : class_refusal widest_classes (map (class_of_entry names) es) c ≡ None)
     (bare : c.is_array ≡ true → (c.sup ≡ None) × (c.fields ≡ []))
     (is : class_of_entry (insert_all bytes_eq names (names_in c)) e ≡ c)
     (within : IsEntryWithin (length (insert_all bytes_eq names (names_in c))) e)
@@ -182,7 +182,7 @@ module _ (names : List (List ℕ)) (es : List ClassEntry) (t : IsEntryTable name
   tests : NoneHolds
       ((not (option_map_or (is_instance_class (map (class_of_entry names) es)) c.sup true), NoClass)
       ∷ (nat_le class_limit (length (map (class_of_entry names) es)), ClassLimit)
-      ∷ (not (list_all is_name (names_in c)), BadName)
+      ∷ (not (list_all (is_name widest_classes) (names_in c)), BadName)
       ∷ (list_any (λ d. bytes_eq d.name c.name) (map (class_of_entry names) es) || not (all_distinct (map (λ f. f.name) c.fields)), DuplicateName)
       ∷ (nat_lt slot_limit (length (slots_under (slot_table_after [] (map (class_of_entry names) es)) c)), FieldLimit)
       ∷ [])
@@ -232,7 +232,7 @@ module _ (names : List (List ℕ)) (es : List ClassEntry) (t : IsEntryTable name
         ∙ ap (slot_table_after []) (sym pushed_classes);
     roomy = All-push IsRoomy es e t.roomy roomy_entry;
     sized = All-push (λ (d : ClassEntry). AreSizes d.slots.items d.sizes) es e t.sized sized;
-    short = inserted_all (λ (n : List ℕ). length n ≤ name_limit) names (names_in c) t.short (all_named (names_in c) (not-false (list_all is_name (names_in c)) tests.1.1.0));
+    short = inserted_all (λ (n : List ℕ). length n ≤ name_limit) names (names_in c) t.short (all_named (names_in c) (not-false (list_all (is_name widest_classes) (names_in c)) tests.1.1.0));
     few = omega (arith, leb-false class_limit (length (map (class_of_entry names) es)) tests.1.0, length-map es (class_of_entry names), length-append es (e ∷ []));
   }
 

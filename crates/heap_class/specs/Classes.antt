@@ -3,7 +3,8 @@ use Rattle.std.specs.Prelude.{◌≡◌, ℕ, ◌+◌, Bool, true, false, not, �
 use Rattle.std.specs.Option.{option_map_or}
 use Rattle.std.specs.List.{list_any, list_all, position_or_len}
 use Rattle.std.specs.Str.{bytes_eq}
-use Rattle.std.specs.Char.{is_ascii_alphanumeric}
+use Rattle.std.specs.Char.{is_ascii_alphanumeric, is_ascii_graphic}
+use Rattle.heap_class.specs.declared.ClassLimits.{ClassLimits}
 use Rattle.heap_class.specs.declared.IdSize.{IdSize}
 use Rattle.heap_class.specs.declared.Kind.{Kind}
 use Rattle.heap_class.specs.declared.ObjKind.{ObjKind}
@@ -12,7 +13,7 @@ use Rattle.heap_class.specs.declared.Field.{Field}
 use Rattle.heap_class.specs.declared.Refusal.{Refusal}
 use Rattle.heap_class.specs.declared.Refusal.TheVariants.{NoClass, ClassLimit, BadName, DuplicateName, FieldLimit}
 use Rattle.heap_class.specs.Kinds.{width_of}
-use Rattle.heap_class.specs.Limits.{class_limit, slot_limit, name_limit}
+use Rattle.heap_class.specs.Limits.{slot_limit, widest_classes}
 use Rattle.heap_class.specs.Refusals.{first_refusal, IsAnswered}
 
 -- a class: its name, its super's number, its own fields in order, and whether it is an array class
@@ -64,13 +65,19 @@ unfoldable pub all_distinct : List (List ℕ) → Bool
 all_distinct [] = true
 all_distinct (x ∷ xs) = not (list_any (bytes_eq x) xs) && all_distinct xs
 
--- whether a byte is a letter, a digit or one of _ $ / [ ; .
-unfoldable pub is_name_byte : ℕ → Bool
-is_name_byte b = is_ascii_alphanumeric b || list_any (λ c. b == c) (codes "_$/[;.")
+-- whether a byte may stand in a name: a letter, a digit or one of _ $ / [ ; ., and with `any_sign` each byte that prints a sign,
+-- except the colon
+unfoldable pub is_name_byte : Bool → ℕ → Bool
+is_name_byte any_sign b =
+    (any_sign && (is_ascii_graphic b && not (list_any (λ c. b == c) (codes ":"))))
+    || (is_ascii_alphanumeric b || list_any (λ c. b == c) (codes "_$/[;."))
 
--- whether this is a name: 1 to `name_limit` bytes, each of them allowed
-unfoldable pub is_name : List ℕ → Bool
-is_name n = nat_le 1 (length n) && nat_le (length n) name_limit && list_all is_name_byte n
+-- whether this is a name in a heap with these limits: 1 to `name_bytes` bytes, each of them allowed
+unfoldable pub is_name : ClassLimits → List ℕ → Bool
+is_name limits n =
+    nat_le 1 (length n)
+    && nat_le (length n) limits.name_bytes
+    && list_all (is_name_byte limits.any_sign) n
 
 -- whether k is the number of an instance class
 unfoldable pub is_instance_class : List Class → ℕ → Bool
@@ -89,12 +96,12 @@ instance_class name sup fields =
 abbrev pub array_class : List ℕ → Class
 array_class name = record { name = name; sup = None; fields = []; is_array = true }
 
--- the first refusal of a new class, be it an instance class or an array class
-unfoldable pub class_refusal : List Class → Class → Option Refusal
-class_refusal classes c = first_refusal
+-- the first refusal of a new class, be it an instance class or an array class, in a heap with these limits
+unfoldable pub class_refusal : ClassLimits → List Class → Class → Option Refusal
+class_refusal limits classes c = first_refusal
     ((not (option_map_or (is_instance_class classes) c.sup true), NoClass)
-    ∷ (nat_le class_limit (length classes), ClassLimit)
-    ∷ (not (list_all is_name (names_in c)), BadName)
+    ∷ (nat_le limits.classes (length classes), ClassLimit)
+    ∷ (not (list_all (is_name limits) (names_in c)), BadName)
     ∷ (
       list_any (λ d. bytes_eq d.name c.name) classes
           || not (all_distinct (map (λ f. f.name) c.fields)),
@@ -103,10 +110,10 @@ class_refusal classes c = first_refusal
     ∷ (nat_lt slot_limit (length (slots_under (slot_table_after [] classes) c)), FieldLimit)
     ∷ [])
 
--- a call that defines this class after those of `before`, unless it is refused, had this result
-pub record IsDefined (c : Class) (before after : List Class) (result : Result ℕ Refusal)
-    : Type 0 where
-  pub answered : IsAnswered (class_refusal before c) true result
+-- a call that defines this class after those of `before`, in a heap with these limits, unless it is refused, had this result
+pub record IsDefined (limits : ClassLimits) (c : Class) (before after : List Class)
+    (result : Result ℕ Refusal) : Type 0 where
+  pub answered : IsAnswered (class_refusal limits before c) true result
   pub defined : OnOk result (after ≡ before ++ c ∷ [])
   pub number : IfOk result (λ k. k ≡ length before)
   pub unchanged : OnErr result (after ≡ before)
@@ -116,7 +123,8 @@ pub record IsDefined (c : Class) (before after : List Class) (result : Result �
 abbrev pub IsClassTable : List Class → List Class → Type 0
 IsClassTable before [] = Unit {0}
 IsClassTable before (c ∷ cs) =
-    (class_refusal before c ≡ None) × (c.is_array ≡ true → (c.sup ≡ None) × (c.fields ≡ []))
+    (class_refusal widest_classes before c ≡ None)
+    × (c.is_array ≡ true → (c.sup ≡ None) × (c.fields ≡ []))
     × IsClassTable (before ++ c ∷ []) cs
 
 -- the name of class k, which must be there

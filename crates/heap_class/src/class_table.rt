@@ -6,14 +6,14 @@ ghost use Rattle.std.specs.List.{list_any};
 ghost use Rattle.std.specs.Str.{bytes_eq};
 ghost use Rattle.heap_class.specs.Refusals.{IsAnswered};
 ghost use Rattle.heap_class.specs.Entries.{AreSizes};
-ghost use Rattle.heap_class.specs.Limits.{class_limit, name_limit, slot_limit, name_count_limit};
+ghost use Rattle.heap_class.specs.Limits.{AreClassLimits, class_limit, name_limit, slot_limit, name_count_limit};
 ghost use Rattle.heap_class.specs.declared.Refusal.TheVariants.{NoMemory};
 ghost use Rattle.heap_class.specs.Classes.{IsClassTable, IsDefined, all_distinct, class_refusal, instance_class, array_class, is_instance_class, is_array_class, slots_of, instance_size, name_of, fields_of, sup_of, name_id, name_table};
 
 use crate::names::{
     Names, are_distinct, are_valid_names, name_in, place_names, slots_over, total_width,
 };
-use crate::{CLASS_LIMIT, ClassNo, Field, Fields, IdSize, Kind, Name, Refusal, SLOT_LIMIT};
+use crate::{ClassLimits, ClassNo, Field, Fields, IdSize, Kind, Name, Refusal, SLOT_LIMIT};
 use std::alloc::Global;
 use std::marker::Model;
 
@@ -104,7 +104,7 @@ impl Classes {
         }
     }
 
-    /// Returns the number of classes: at most 256.
+    /// Returns the number of classes: at most 256, in a wide heap at most 4,096.
     pub fn len(&self) -> u64
         ensures value { result ≡ length self.now }
         ensures table { IsClassTable [] self.now }
@@ -155,19 +155,25 @@ impl Classes {
     }
 
     // Returns the first refusal of a new class, or None if it is accepted.
-    fn refusal(&self, name: &Name, sup: Option<ClassNo>, fields: &[Field]) -> Option<Refusal>
+    fn refusal(
+        &self,
+        limits: ClassLimits,
+        name: &Name,
+        sup: Option<ClassNo>,
+        fields: &[Field],
+    ) -> Option<Refusal>
         ensures { (is_array : Bool)
             → result
-            ≡ class_refusal self.now
+            ≡ class_refusal limits self.now
             (record { name = name.now; sup = sup; fields = fields.now; is_array = is_array }) }
     {
         if !self.has_super(sup) {
             return Some(Refusal::NoClass);
         }
-        if self.entries.len() >= CLASS_LIMIT {
+        if self.entries.len() as u64 >= limits.classes {
             return Some(Refusal::ClassLimit);
         }
-        if !are_valid_names(name, fields) {
+        if !are_valid_names(limits, name, fields) {
             return Some(Refusal::BadName);
         }
         if self.has_duplicate(name, fields) {
@@ -182,17 +188,19 @@ impl Classes {
     // Adds a class, unless it is refused. Makes each growth before anything changes.
     fn add(
         &mut self,
+        limits: ClassLimits,
         name: &Name,
         sup: Option<ClassNo>,
         fields: &[Field],
         is_array: bool,
     ) -> Result<ClassNo, Refusal>
-        requires { IsTrue is_array → (sup ≡ None) × (fields.now ≡ []) }
-        ensures { IsDefined
+        requires limits { AreClassLimits limits }
+        requires bare { IsTrue is_array → (sup ≡ None) × (fields.now ≡ []) }
+        ensures { IsDefined limits
             (record { name = name.now; sup = sup; fields = fields.now; is_array = is_array })
             self.old self.new result }
     {
-        if let Some(refusal) = self.refusal(name, sup, fields) {
+        if let Some(refusal) = self.refusal(limits, name, sup, fields) {
             return Err(refusal);
         }
         let slots = slots_over(self.alloc, fields, self.slots_above(sup))?;
@@ -214,22 +222,30 @@ impl Classes {
         Ok(number)
     }
 
-    /// Defines an instance class, and returns its number. Fails with NoClass, ClassLimit, BadName, DuplicateName or FieldLimit,
-    /// in this order, and then with NoMemory if an allocation fails.
-    pub fn define(&mut self, class: NewClass<'_>) -> Result<ClassNo, Refusal>
-        ensures { IsDefined
+    /// Defines an instance class in a heap with these limits, and returns its number. Fails with NoClass, ClassLimit,
+    /// BadName, DuplicateName or FieldLimit, in this order, and then with NoMemory if an allocation fails.
+    pub fn define(&mut self, limits: ClassLimits, class: NewClass<'_>) -> Result<ClassNo, Refusal>
+        requires { AreClassLimits limits }
+        ensures { IsDefined limits
             (instance_class class.entry.name.now class.entry.sup class.entry.fields.now) self.old
             self.new result }
     {
-        self.add(class.name, class.sup, class.fields.as_slice(), false)
+        self.add(
+            limits,
+            class.name,
+            class.sup,
+            class.fields.as_slice(),
+            false,
+        )
     }
 
-    /// Defines an array class, and returns its number. Fails with ClassLimit, BadName or DuplicateName, in this order, and then
-    /// with NoMemory if an allocation fails.
-    pub fn define_array(&mut self, name: &Name) -> Result<ClassNo, Refusal>
-        ensures { IsDefined (array_class name.now) self.old self.new result }
+    /// Defines an array class in a heap with these limits, and returns its number. Fails with ClassLimit, BadName or
+    /// DuplicateName, in this order, and then with NoMemory if an allocation fails.
+    pub fn define_array(&mut self, limits: ClassLimits, name: &Name) -> Result<ClassNo, Refusal>
+        requires { AreClassLimits limits }
+        ensures { IsDefined limits (array_class name.now) self.old self.new result }
     {
-        self.add(name, None, &[], true)
+        self.add(limits, name, None, &[], true)
     }
 
     /// Undoes the last definition, which must be there. Takes no memory.
@@ -286,7 +302,7 @@ impl Classes {
         }
     }
 
-    /// Returns the name of a class, of 1 to 64 bytes. The class must be below `len`.
+    /// Returns the name of a class, of 1 to 64 bytes, in a wide heap of 1 to 255. The class must be below `len`.
     pub fn name(&self, class: ClassNo) -> &[u8]
         requires { class < length self.now }
         ensures value { result.now ≡ name_of self.now class }

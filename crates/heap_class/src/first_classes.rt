@@ -48,7 +48,7 @@ impl Classes {
 }
 
 impl<'a> FirstClasses<'a> {
-    /// Returns the number of classes: at most 256.
+    /// Returns the number of classes: at most 256, in a wide heap at most 4,096.
     pub fn len(&self) -> u64
         ensures value { result ≡ length self.now }
         ensures table { IsClassTable [] self.now }
@@ -75,7 +75,7 @@ impl<'a> FirstClasses<'a> {
         self.classes.instance_size(ids, class)
     }
 
-    /// Returns the name of a class, of 1 to 64 bytes. The class must be below `len`.
+    /// Returns the name of a class, of 1 to 64 bytes, in a wide heap of 1 to 255. The class must be below `len`.
     pub fn name(&self, class: ClassNo) -> &[u8]
         requires { class < length self.now }
         ensures value { result.now ≡ name_of self.now class }

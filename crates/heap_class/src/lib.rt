@@ -19,14 +19,27 @@ use std::alloc::{AllocError, AllocFailed, Global};
 use std::hash::{Hash, Hasher};
 use std::marker::Model;
 
-/// The largest number of classes.
-pub const CLASS_LIMIT: usize = 256;
-
 /// The largest number of slots of a class, inherited ones included.
 pub const SLOT_LIMIT: usize = 64;
 
-/// The largest number of bytes of a name.
-pub const NAME_LIMIT: usize = 64;
+/// What a heap allows of its classes and their names.
+#[derive(Clone, Copy)]
+pub struct ClassLimits {
+    /// The largest number of classes: at most 4,096.
+    pub classes: u64,
+    /// The largest number of bytes of a name: at most 255.
+    pub name_bytes: u64,
+    /// Whether a name may have each byte that prints a sign, except the colon. Without it a name has letters, digits and
+    /// `_$/[;.`.
+    pub any_sign: bool,
+}
+
+/// What a heap allows at most of its classes and their names.
+pub const WIDEST_CLASSES: ClassLimits = ClassLimits {
+    classes: 4096,
+    name_bytes: 255,
+    any_sign: true,
+};
 
 /// The kind of a slot.
 #[derive(Clone, Copy, PartialEq, Eq, Debug)]
@@ -114,9 +127,9 @@ pub enum Refusal {
     NoMemory,
     /// There is no such class, or the super is an array class.
     NoClass,
-    /// The heap has 256 classes.
+    /// The heap has as many classes as it may have: 256, or 4,096 if it is wide.
     ClassLimit,
-    /// A name is empty, has more than 64 bytes, or has a byte that no name may have.
+    /// A name is empty, has more bytes than it may have (64, or 255 in a wide heap), or has a byte that no name may have.
     BadName,
     /// A class has this name, or two of the fields have one name.
     DuplicateName,
@@ -158,7 +171,7 @@ pub enum Refusal {
     Lost { cause: LostCause },
     /// The place isn't retained.
     NotRetained,
-    /// Four pins are open, or all numbers of pins are used.
+    /// As many pins are open as may be (4, or 64 in a wide heap), or all numbers of pins are used.
     PinLimit,
     /// The chronicle has 1,000,000 entries.
     ChronicleFull,

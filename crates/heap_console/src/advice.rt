@@ -87,7 +87,10 @@ pub(crate) fn advise(alloc: Global, line: &[u8]) -> Advice {
 
 // Returns how a line of this form names a state, or None if it names none.
 pub(crate) fn state_names(form: &str) -> Option<&'static str> {
-    if !form.split_ascii_whitespace().any(|word| word == "AT") {
+    if !form
+        .split_ascii_whitespace()
+        .any(|word| word == "AT" || word == "[AT]")
+    {
         return None;
     }
     if form.starts_with("open ") {

@@ -1,14 +1,18 @@
 //! A picture of the current state of a machine.
+mod bars;
 mod cells;
 mod colors;
 mod legend;
+mod rows;
 mod text;
 
+use crate::picture::bars::{add_bars, bar_lines};
 use crate::picture::cells::{
     CellSort, LEFT, add_all_cells, add_gray, add_path_begin, add_path_end, middle_of,
 };
 use crate::picture::colors::{COLORS, OTHER, Palette};
 use crate::picture::legend::{ColoredRow, LEGEND_STEP, OTHER_LINES, add_row, add_strokes};
+use crate::picture::rows::Rows;
 use crate::picture::text::{add, add_number, add_text_at};
 use heap_class::{FirstClasses, Refusal};
 use heap_questions::{CLASS_ROWS, Row, count_by_class, ranking};
@@ -57,12 +61,14 @@ fn add_title(text: &mut Vec<u8>, place: u64, rows: &[Row]) -> Result<(), AllocEr
     add(text, b" bytes</text>\n")
 }
 
-// Appends the number of each region beside its row.
-fn add_labels(text: &mut Vec<u8>, regions: &Regions) -> Result<(), AllocError> {
+// Appends the number of each region that has a row beside it.
+fn add_labels(text: &mut Vec<u8>, regions: &Regions, rows: &Rows) -> Result<(), AllocError> {
     for region in 0..regions.count() {
-        add_text_at(text, 8, middle_of(region).saturating_add(4))?;
-        add_number(text, region)?;
-        add(text, b"</text>\n")?;
+        if let Some(row) = rows.row(region) {
+            add_text_at(text, 8, middle_of(row).saturating_add(4))?;
+            add_number(text, region)?;
+            add(text, b"</text>\n")?;
+        }
     }
     Ok(())
 }
@@ -71,39 +77,66 @@ fn add_labels(text: &mut Vec<u8>, regions: &Regions) -> Result<(), AllocError> {
 fn add_sort(
     text: &mut Vec<u8>,
     regions: &Regions,
+    rows: &Rows,
     palette: &Palette,
     sort: CellSort,
     color: &[u8],
     width: &[u8],
 ) -> Result<(), AllocError> {
     add_path_begin(text, color, width)?;
-    add_all_cells(text, regions, palette, sort)?;
+    add_all_cells(text, regions, rows, palette, sort)?;
     add_path_end(text)
 }
 
-// Appends the cells of all regions.
+// Appends the cells of the regions that have a row.
 fn add_regions(
     text: &mut Vec<u8>,
     regions: &Regions,
+    rows: &Rows,
     gray: &[u64],
     palette: &Palette,
 ) -> Result<(), AllocError> {
-    add_labels(text, regions)?;
-    add_sort(text, regions, palette, CellSort::Free, b"#eeeeee", b"9")?;
+    add_labels(text, regions, rows)?;
+    add_sort(
+        text,
+        regions,
+        rows,
+        palette,
+        CellSort::Free,
+        b"#eeeeee",
+        b"9",
+    )?;
     for color in 0..COLORS.len() {
         add_sort(
             text,
             regions,
+            rows,
             palette,
             CellSort::Colored(color),
             COLORS[color],
             b"9",
         )?;
     }
-    add_sort(text, regions, palette, CellSort::Dead, b"url(#dead)", b"9")?;
-    add_sort(text, regions, palette, CellSort::Marked, b"#000000", b"2")?;
+    add_sort(
+        text,
+        regions,
+        rows,
+        palette,
+        CellSort::Dead,
+        b"url(#dead)",
+        b"9",
+    )?;
+    add_sort(
+        text,
+        regions,
+        rows,
+        palette,
+        CellSort::Marked,
+        b"#000000",
+        b"2",
+    )?;
     add_path_begin(text, b"#e00000", b"2")?;
-    add_gray(text, regions, gray)?;
+    add_gray(text, regions, rows, gray)?;
     add_path_end(text)
 }
 
@@ -164,12 +197,15 @@ fn add_picture(
     } = drawing;
     let world = machine.world();
     let regions = world.regions();
-    let legend = middle_of(regions.count()).saturating_add(LEGEND_STEP);
+    let shown = Rows::new(alloc, regions, world.gray())?;
+    let lines = shown.count().saturating_add(bar_lines(shown.others()));
+    let legend = middle_of(lines).saturating_add(LEGEND_STEP);
     let behind = legend.saturating_add(LEGEND_STEP.saturating_mul(class_lines(ranked)));
     let height = behind.saturating_add(LEGEND_STEP.saturating_mul(OTHER_LINES));
     add_head(text, height)?;
     add_title(text, machine.place(), rows)?;
-    add_regions(text, regions, world.gray(), palette)?;
+    add_regions(text, regions, &shown, world.gray(), palette)?;
+    add_bars(text, regions, &shown)?;
     add_rows(alloc, text, legend, classes, rows, ranked)?;
     add_strokes(text, behind)?;
     add(text, b"</svg>\n")
@@ -177,7 +213,9 @@ fn add_picture(
 
 /// Returns a picture of the current state of a machine, as SVG: a row for each region and a pixel for each word, the cells in the
 /// colours of the twelve classes with the most bytes, with dead, marked and gray objects shown, and a legend with the numbers of
-/// the histogram. Fails with NoMemory if an allocation fails. Looks at each cell some twenty times.
+/// the histogram. Of a heap with more than 256 regions it gives rows to at most 1,024, those with the most bytes, and shows only
+/// how full each other region is. It has less than 2 MB. Fails with NoMemory if an allocation fails. Looks at each cell that it
+/// shows some twenty times.
 pub fn picture_of(alloc: Global, machine: &Machine) -> Result<Vec<u8>, Refusal> {
     let pin = machine.pin_ago(0)?;
     let view = machine.view(&pin);

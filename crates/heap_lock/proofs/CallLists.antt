@@ -25,7 +25,7 @@ calls_push (x ∷ es) e = ap (λ l. call_of x ∷ l) (calls_push es e)
 
 leads_more : (config : HeapSettings) (cs : List Call) (m m' : Machine) (c : Call) → LeadsTo config cs m → MayReply m c.0 m' c.1 → LeadsTo config (cs ++ c ∷ []) m'
 leads_more config cs m m' c leads may =
-    let start = opening_machine config.ids config.regions config.mutators config.keep in
+    let start = opening_machine config.limits config.ids config.regions config.mutators config.keep in
     subst (λ (x : List Action × List Reply). MayDrive start x.0 x.1 m') (λ i. (sym (actions_push cs c) i, sym (replies_push cs c) i))
     (driven_more start (map (λ (x : Call). x.0) cs) (map (λ (x : Call). x.1) cs) m m' c.0 c.1 leads may)
 
@@ -51,7 +51,7 @@ dumped_more config m m' es cs c l dump may = record {
 }
 
 -- no call leads to the opening machine
-pub none_yet : (config : HeapSettings) → IsLedger config (opening_machine config.ids config.regions config.mutators config.keep) [] []
+pub none_yet : (config : HeapSettings) → IsLedger config (opening_machine config.limits config.ids config.regions config.mutators config.keep) [] []
 unfolding acts_in
 none_yet config = record { leads = driven_none _; acts = refl }
 

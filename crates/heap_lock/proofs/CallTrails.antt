@@ -93,7 +93,7 @@ pub trail_is : (config : HeapSettings) (k m : Machine) (es : List Entry) (before
 unfolding opening_machine
 trail_is config k m es before after leads ledger legal =
     let enter = acts_enter (before ++ after) (subst (All Enters) (sym ledger.acts) (entries_enter config.keep (opening config) es legal)) in
-    let by = leads_by (opening_machine config.ids config.regions config.mutators config.keep) k before leads (enter_front before after enter) in
+    let by = leads_by (opening_machine config.limits config.ids config.regions config.mutators config.keep) k before leads (enter_front before after enter) in
     (by.0, by.2)
 
 -- the trail of a heap's machine is that of all its calls
@@ -101,4 +101,4 @@ pub ledger_trail : (config : HeapSettings) (m : Machine) (es : List Entry) (call
 unfolding opening_machine
 ledger_trail config m es calls ledger legal =
     let enter = acts_enter calls (subst (All Enters) (sym ledger.acts) (entries_enter config.keep (opening config) es legal)) in
-    (leads_by (opening_machine config.ids config.regions config.mutators config.keep) m calls ledger.leads enter).0
+    (leads_by (opening_machine config.limits config.ids config.regions config.mutators config.keep) m calls ledger.leads enter).0

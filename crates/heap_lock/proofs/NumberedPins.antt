@@ -10,6 +10,7 @@ use Rattle.hprof_text.specs.Image.{Image}
 use Rattle.hprof_text.specs.Segments.{pieces_of}
 use Rattle.heap_trail.specs.declared.Action.{Action}
 use Rattle.heap_trail.specs.declared.Action.TheVariants.{Step, Rewind, OpenPin, NextPiece, ClosePin}
+use Rattle.heap_world.specs.declared.Limits.{Limits}
 use Rattle.heap_trail.specs.Limits.{last_place}
 use Rattle.heap_trail.specs.Trail.{rewind_refusal, rewound}
 use Rattle.heap_trail.specs.Pins.{Pins, PinState, Kept, Gone, AreNumbered, pin_at, open_refusal, with_pin, without_pin, if_kept, each_kept, with_piece_given, after_rewind, with_lost}
@@ -96,6 +97,6 @@ unfolding machine_after
 numbered_after m [] h = h
 numbered_after m ((a, k) ∷ marked) h = numbered_after (acted_under m (a, k)).0 marked (marked_numbered m a k h)
 
-pub opening_numbered : (ids : IdSize) (regions mutators keep : ℕ) → AreNumbered (opening_machine ids regions mutators keep).pins
+pub opening_numbered : (limits : Limits) (ids : IdSize) (regions mutators keep : ℕ) → AreNumbered (opening_machine limits ids regions mutators keep).pins
 unfolding opening_machine
-opening_numbered ids regions mutators keep = All-nil (Below 1)
+opening_numbered limits ids regions mutators keep = All-nil (Below 1)

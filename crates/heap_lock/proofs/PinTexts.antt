@@ -123,12 +123,12 @@ TextOf config ids t pin place time after =
 
 pub give_text : (config : HeapSettings) (before after : List Call) (at : Option ℕ) (pin place time : ℕ) → GiveText config before at pin place after time
 give_text config before after at pin place time legal asks =
-    let start = opening_machine config.ids config.regions config.mutators config.keep in
+    let start = opening_machine config.limits config.ids config.regions config.mutators config.keep in
     let opening_call : Call = (OpenPin at, Pinned pin place) in
     let s = leads_split start legal.0 before (opening_call ∷ after) legal.2.leads in
     let h = leads_head s.0 legal.0 opening_call after s.2 in
     let by = trail_is config s.0 legal.0 legal.1 before (opening_call ∷ after) s.1 legal.2 legal.3 in
-    let numbered = numbered_there start s.0 before (opening_numbered config.ids config.regions config.mutators config.keep) s.1 in
+    let numbered = numbered_there start s.0 before (opening_numbered config.limits config.ids config.regions config.mutators config.keep) s.1 in
     let opens = opens_pin s.0 numbered at h.0 pin place (granted s.0 h.0 at pin place h.1) in
     let ids = (dumps_leave s.0 h.0 (OpenPin at) h.1.0 (Pinned pin place) refl h.1.2).2 ∙ by.1 in
     let told = gives_text h.0 h.2.0 pin time place (image_of (state_ago (s.0.trail.place - place) s.0.trail)) opens.2 opens.1 (asks_all pin time h.2.0 after h.2.1 asks) in

@@ -81,7 +81,7 @@ made ds d ss s h number same is =
     (stubs_push _ ss s (grow (tables_of ds) (d.table.shared.table_id ∷ []) ss h)
     (omega (arith, number, length_tables ds, length-append (tables_of ds) (d.table.shared.table_id ∷ [])), same ∙ sym (at_back (tables_of ds) d.table.shared.table_id) ∙ ap (table_at (tables_of ds ++ d.table.shared.table_id ∷ [])) (length_tables ds ∙ sym number), is))
 
-opens_here : (config : HeapSettings) (m : Machine) (ds : List Desk) → m ≡ opening_machine config.ids config.regions config.mutators config.keep → AllFresh ds → IsUnderLock config (tables_of ds) m [] ds
+opens_here : (config : HeapSettings) (m : Machine) (ds : List Desk) → m ≡ opening_machine config.limits config.ids config.regions config.mutators config.keep → AllFresh ds → IsUnderLock config (tables_of ds) m [] ds
 unfolding opening_machine history_trail tally
 opens_here config m ds opened fresh = record {
   legal = tt;
@@ -94,7 +94,7 @@ opens_here config m ds opened fresh = record {
 }
 
 -- its ledger has no call
-pub opens_ledger : (config config' : HeapSettings) (table : TableId) (m : Machine) (l : Ledger) → config ≡ config' → table_of l ≡ table → m ≡ opening_machine config.ids config.regions config.mutators config.keep → HasCalls (table_of l) [] l → HasLedger config' table m [] l
+pub opens_ledger : (config config' : HeapSettings) (table : TableId) (m : Machine) (l : Ledger) → config ≡ config' → table_of l ≡ table → m ≡ opening_machine config.limits config.ids config.regions config.mutators config.keep → HasCalls (table_of l) [] l → HasLedger config' table m [] l
 opens_ledger config config' table m l same is opened has =
     let calls : HasCalls (table_of l) [] l = has in
     gained config' table m [] l l [] (subst (λ t. HasCalls t (all_in l) l) is (calls.0, calls.1, (calls.2.0, calls.2.1 ∙ ap (λ cs. (Full cs, [])) (sym (ap (λ x. calls_of x.0) calls.2.1)))))
@@ -102,6 +102,6 @@ opens_ledger config config' table m l same is opened has =
     (refl, (refl, calls.2.1))
 
 -- a blank heap may be kept, with nothing done yet
-pub opens : (config config' : HeapSettings) (tables : List TableId) (m : Machine) (ds : List Desk) → config ≡ config' → tables_of ds ≡ tables → m ≡ opening_machine config.ids config.regions config.mutators config.keep → AllFresh ds → IsUnderLock config' tables m [] ds
+pub opens : (config config' : HeapSettings) (tables : List TableId) (m : Machine) (ds : List Desk) → config ≡ config' → tables_of ds ≡ tables → m ≡ opening_machine config.limits config.ids config.regions config.mutators config.keep → AllFresh ds → IsUnderLock config' tables m [] ds
 opens config config' tables m ds same is opened fresh =
     subst (λ (s : HeapSettings). IsUnderLock s tables m [] ds) same (subst (λ (l : List TableId). IsUnderLock config l m [] ds) is (opens_here config m ds opened fresh))

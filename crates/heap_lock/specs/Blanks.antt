@@ -63,7 +63,7 @@ AllFresh desks =
 -- a lock that nobody has used: an opening machine, empty books, no call seen
 pub record IsBlank (config : HeapSettings) (machine : Machine) (desks : List Desk)
     (stubs : List Stub) (ledger : Ledger) : Type 0 where
-  pub machine_is : machine ≡ opening_machine config.ids config.regions config.mutators config.keep
+  pub machine_is : machine ≡ opening_machine config.limits config.ids config.regions config.mutators config.keep
   pub desks_are : AllFresh desks
   pub stubs_are : AllStubs (tables_of desks) stubs
   pub ledger_is : HasCalls (table_of ledger) [] ledger

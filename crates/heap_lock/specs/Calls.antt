@@ -29,7 +29,7 @@ acts_in calls = filter (λ c. not (is_dump_action c.0)) calls
 -- a machine of these settings may reply so to these actions, one after another, and then be this one
 abbrev pub LeadsTo : HeapSettings → List Call → Machine → Type 0
 LeadsTo config calls m =
-    MayDrive (opening_machine config.ids config.regions config.mutators config.keep)
+    MayDrive (opening_machine config.limits config.ids config.regions config.mutators config.keep)
     (map (λ c. c.0) calls) (map (λ c. c.1) calls) m
 
 -- these are all calls of a heap with this machine and this chronicle

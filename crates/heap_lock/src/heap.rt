@@ -44,9 +44,10 @@ pub trait Heap {
 impl Heap for Brand {
     ghost use Rattle.std.specs.Prelude.{false, []};
     ghost use Rattle.heap_class.specs.declared.IdSize.TheVariants.{Eight};
+    ghost use Rattle.heap_world.specs.Limits.{narrow_limits};
     ghost use Rattle.heap_lock.specs.LockStates.{no_table};
 
-    ghost config = { record { regions = 1; mutators = 1; keep = 1; ids = Eight } };
+    ghost config = { record { regions = 1; mutators = 1; keep = 1; ids = Eight; limits = narrow_limits } };
 
     ghost rolls = { false };
 

@@ -20,7 +20,7 @@ pub struct LockedSource<'a, L: Heap, R: Wait> {
     pub pin: u64,
     /// The time in the header of the dump, in milliseconds.
     pub time: u64,
-    /// The number of pieces given, at most 66,178.
+    /// The number of pieces given, at most `PART_LIMIT`.
     pub count: u64,
     /// How the source ended, if it has.
     pub ending: Option<Ending>,
@@ -57,7 +57,7 @@ impl<'a, L: Heap, R: Wait> LockedSource<'a, L, R> {
 
     /// Gives the next piece, which is one of the dump of a legal state, or says why there is none: Lost with the cause with
     /// which the pin is lost, Lost(Memory) if the piece was refused NoMemory, Lost(Closed) if the pin isn't open or the piece
-    /// would be the 66,178th and isn't the last. Never says Cancelled. May wait.
+    /// would be that with the number `PART_LIMIT` and isn't the last. Never says Cancelled. May wait.
     pub fn next_part(&mut self) -> Next
         requires { self.old.count < part_limit }
         ensures supplies { Supplies L.config self.old.pin self.old.time self.old.count

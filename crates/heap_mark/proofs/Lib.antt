@@ -12,5 +12,4 @@ pub mod Calls
 pub mod Firsts
 pub mod ObjectWalks
 pub mod UnmarkedCounts
-pub mod FirstPending
 pub mod Finishes

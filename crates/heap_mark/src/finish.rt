@@ -8,16 +8,12 @@ ghost use Rattle.heap_mark.specs.Finish.{finished_object, unfinished_object, is_
 use heap_class::ObjRef;
 use heap_region::Regions;
 
-/// Returns the lowest region that waits to be swept.
+/// Returns the lowest region that waits to be swept, or None if none does. Takes constant time.
+#[tactic(auto, unfolding(crate::specs::MarkSteps::pending_regions))]
 pub fn first_pending(regions: &Regions) -> Option<u64>
     ensures { result ≡ slice_get (pending_regions regions.now.regions) 0 }
 {
-    for region in 0..regions.count() {
-        if regions.pending(region).unwrap_or(false) {
-            return Some(region);
-        }
-    }
-    None
+    regions.first_pending()
 }
 
 /// Ends the cycle for every object. Returns the number of objects that aren't live then.

@@ -2,7 +2,7 @@
 
 // The policy of the page.
 pub(crate) const POLICY: &str =
-    "default-src 'none'; script-src 'sha256-uYA3V37nlJ7H8c24CTuxbIxJ4qiniAx2x7FpWOEgSb0='; style-src 'sha256-jjcl5Lx/0IHhiIQFHnMWbeir9C+x8iVSbIo6aZHC8CI='; img-src data:; connect-src 'self'; base-uri 'none'; form-action 'none'; frame-ancestors 'none'";
+    "default-src 'none'; script-src 'sha256-bvEmn1n5OdYCCQUlOdCH7tPdWZ/KcU4fw6kB2wnBVTQ='; style-src 'sha256-jjcl5Lx/0IHhiIQFHnMWbeir9C+x8iVSbIo6aZHC8CI='; img-src data:; connect-src 'self'; base-uri 'none'; form-action 'none'; frame-ancestors 'none'";
 
 // The page.
 pub(crate) const PAGE: &[u8] = b"<!doctype html>\n\
@@ -207,8 +207,8 @@ pub(crate) const PAGE: &[u8] = b"<!doctype html>\n\
     \x20\x20\x20\x20if (text !== undefined) e.textContent = text;\n\
     \x20\x20\x20\x20return e;\n\
     \x20\x20};\n\
-    \x20\x20const FORM = new Intl.NumberFormat(\"en-US\");\n\
-    \x20\x20const num = (n) => FORM.format(n);\n\
+    \x20\x20// Writes a whole number with commas. A formatter of the browser takes 20 ms to be made.\n\
+    \x20\x20const num = (n) => String(n).replace(/\\B(?=(\\d{3})+$)/g, \",\");\n\
     \x20\x20// The colours and the font of the style, read again when the theme changes.\n\
     \x20\x20let theme = {};\n\
     \x20\x20const css = (name) => theme[name] ?? (theme[name] = getComputedStyle(document.documentElement).getPropertyValue(name).trim());\n\
@@ -272,6 +272,7 @@ pub(crate) const PAGE: &[u8] = b"<!doctype html>\n\
     \x20\x20\x20\x20born: new Map(),\n\
     \x20\x20\x20\x20cycles: [],\n\
     \x20\x20\x20\x20samples: new Map(),\n\
+    \x20\x20\x20\x20rest: \"\",\n\
     \x20\x20\x20\x20pins: [],\n\
     \x20\x20\x20\x20classes: new Map(),\n\
     \x20\x20\x20\x20classOf: new Map(),\n\
@@ -338,6 +339,12 @@ pub(crate) const PAGE: &[u8] = b"<!doctype html>\n\
     \x20\x20\x20\x20};\n\
     \x20\x20}\n\
     \n\
+    \x20\x20// Returns the regions of a state, and whether it is retained.\n\
+    \x20\x20async function askObjects(at) {\n\
+    \x20\x20\x20\x20const { ok, text } = await ask(\"objects \" + at, true);\n\
+    \x20\x20\x20\x20return { ok, regions: ok ? regionsOf(text) : null };\n\
+    \x20\x20}\n\
+    \n\
     \x20\x20function lock(head, text) {\n\
     \x20\x20\x20\x20$(\"lock\").hidden = false;\n\
     \x20\x20\x20\x20$(\"lockhead\").textContent = head;\n\
@@ -371,52 +378,78 @@ pub(crate) const PAGE: &[u8] = b"<!doctype html>\n\
     \x20\x20// ---- objects\n\
     \x20\x20const idOf = (word) => \"0x\" + (BASE + word * 8).toString(16).padStart(8, \"0\");\n\
     \x20\x20const wordOf = (id) => (parseInt(id, 16) - BASE) / 8;\n\
-    \x20\x20const regionOf = (size, number) => ({\n\
+    \x20\x20// Of each cell its object, as a number: that of its class's name among `names`, then its slots and whether no register reaches it. 0 if\n\
+    \x20\x20// there is none.\n\
+    \x20\x20const regionOf = (size, number, names) => ({\n\
     \x20\x20\x20\x20number,\n\
     \x20\x20\x20\x20size,\n\
+    \x20\x20\x20\x20shift: Math.log2(size),\n\
     \x20\x20\x20\x20sweep: false,\n\
     \x20\x20\x20\x20letters: \"\",\n\
-    \x20\x20\x20\x20cells: new Array(WORDS / size)\n\
+    \x20\x20\x20\x20names,\n\
+    \x20\x20\x20\x20cells: new Uint32Array(WORDS / size)\n\
     \x20\x20});\n\
+    \x20\x20const NAME = 4096;\n\
     \n\
-    \x20\x20// Returns the regions that the rows of `objects` fill, by number. There may be very many rows, so none is cut out of the text.\n\
+    \x20\x20// Returns the object in a cell, if there is one.\n\
+    \x20\x20function objectIn(g, cell) {\n\
+    \x20\x20\x20\x20const of = g.cells[cell];\n\
+    \x20\x20\x20\x20return of ? { w: g.number * WORDS + cell * g.size, name: g.names[Math.floor(of / NAME)], slots: of % NAME >> 1, lost: of % 2 === 1 } : undefined;\n\
+    \x20\x20}\n\
+    \x20\x20const ROW = \"row 0x\",\n\
+    \x20\x20\x20\x20DIGITS = new Uint8Array(128);\n\
+    \x20\x20for (let digit = 0; digit < 16; digit++) DIGITS[digit.toString(16).charCodeAt(0)] = digit;\n\
+    \n\
+    \x20\x20// Returns what gives the end of a row of `objects`, such as \" Node 2 unreached\\n\", as the number of an object there.\n\
+    \x20\x20function numbering(names) {\n\
+    \x20\x20\x20\x20const known = new Map();\n\
+    \x20\x20\x20\x20return (end) => {\n\
+    \x20\x20\x20\x20\x20\x20let of = known.get(end);\n\
+    \x20\x20\x20\x20\x20\x20if (of !== undefined) return of;\n\
+    \x20\x20\x20\x20\x20\x20const [, name, slots, lost] = end.trimEnd().split(\" \");\n\
+    \x20\x20\x20\x20\x20\x20if (!names.includes(name)) names.push(name);\n\
+    \x20\x20\x20\x20\x20\x20known.set(end, of = names.indexOf(name) * NAME + slots * 2 + (lost ? 1 : 0));\n\
+    \x20\x20\x20\x20\x20\x20return of;\n\
+    \x20\x20\x20\x20};\n\
+    \x20\x20}\n\
+    \n\
+    \x20\x20// Returns the regions that the rows of `objects` fill, by number. There may be very many rows, and most of them are as the one before:\n\
+    \x20\x20// from their beginning to all but three digits of the id, and from there to their end.\n\
     \x20\x20function regionsOf(text) {\n\
-    \x20\x20\x20\x20const regions = new Map();\n\
-    \x20\x20\x20\x20let name = \"\",\n\
-    \x20\x20\x20\x20\x20\x20head = \"\\n\",\n\
+    \x20\x20\x20\x20const regions = new Map(),\n\
+    \x20\x20\x20\x20\x20\x20names = [\"\"],\n\
+    \x20\x20\x20\x20\x20\x20objectOf = numbering(names);\n\
+    \x20\x20\x20\x20let head = \"\\n\",\n\
+    \x20\x20\x20\x20\x20\x20end = \"\\n\",\n\
+    \x20\x20\x20\x20\x20\x20of = 0,\n\
+    \x20\x20\x20\x20\x20\x20first = 0,\n\
     \x20\x20\x20\x20\x20\x20g = null;\n\
-    \x20\x20\x20\x20for (let i = 0; text.startsWith(\"row\", i);) {\n\
-    \x20\x20\x20\x20\x20\x20let id = 0,\n\
-    \x20\x20\x20\x20\x20\x20\x20\x20at = i + 6;\n\
-    \x20\x20\x20\x20\x20\x20for (; at < i + 14; at++) {\n\
-    \x20\x20\x20\x20\x20\x20\x20\x20const digit = text.charCodeAt(at);\n\
-    \x20\x20\x20\x20\x20\x20\x20\x20id = id * 16 + (digit < 58 ? digit - 48 : digit - 87);\n\
+    \x20\x20\x20\x20for (let i = 0;; i += ROW.length + 8 + end.length) {\n\
+    \x20\x20\x20\x20\x20\x20const isOn = text.startsWith(head, i);\n\
+    \x20\x20\x20\x20\x20\x20if (!isOn && !text.startsWith(ROW, i)) return regions;\n\
+    \x20\x20\x20\x20\x20\x20if (!text.startsWith(end, i + ROW.length + 8)) {\n\
+    \x20\x20\x20\x20\x20\x20\x20\x20end = text.slice(i + ROW.length + 8, text.indexOf(\"\\n\", i) + 1);\n\
+    \x20\x20\x20\x20\x20\x20\x20\x20of = objectOf(end);\n\
     \x20\x20\x20\x20\x20\x20}\n\
-    \x20\x20\x20\x20\x20\x20if (!text.startsWith(head, ++at)) {\n\
-    \x20\x20\x20\x20\x20\x20\x20\x20head = text.slice(at, text.indexOf(\" \", at) + 1);\n\
-    \x20\x20\x20\x20\x20\x20\x20\x20name = head.slice(0, -1);\n\
-    \x20\x20\x20\x20\x20\x20}\n\
-    \x20\x20\x20\x20\x20\x20at += head.length;\n\
-    \x20\x20\x20\x20\x20\x20let slots = 0;\n\
-    \x20\x20\x20\x20\x20\x20for (let digit; (digit = text.charCodeAt(at) - 48) >= 0 && digit < 10; at++) slots = slots * 10 + digit;\n\
-    \x20\x20\x20\x20\x20\x20const w = (id - BASE) / 8,\n\
-    \x20\x20\x20\x20\x20\x20\x20\x20number = Math.floor(w / WORDS),\n\
-    \x20\x20\x20\x20\x20\x20\x20\x20lost = text.charCodeAt(at) === 32;\n\
-    \x20\x20\x20\x20\x20\x20if (!g || g.number !== number) {\n\
+    \x20\x20\x20\x20\x20\x20if (!isOn) {\n\
+    \x20\x20\x20\x20\x20\x20\x20\x20head = text.slice(i, i + ROW.length + 5);\n\
+    \x20\x20\x20\x20\x20\x20\x20\x20const word = wordOf(head.slice(ROW.length - 2) + \"000\"),\n\
+    \x20\x20\x20\x20\x20\x20\x20\x20\x20\x20number = Math.floor(word / WORDS);\n\
+    \x20\x20\x20\x20\x20\x20\x20\x20first = word % WORDS;\n\
     \x20\x20\x20\x20\x20\x20\x20\x20g = regions.get(number);\n\
-    \x20\x20\x20\x20\x20\x20\x20\x20if (!g) regions.set(number, g = regionOf(SIZES.find((s) => s >= slots), number));\n\
+    \x20\x20\x20\x20\x20\x20\x20\x20if (!g) regions.set(number, g = regionOf(SIZES.find((s) => s >= of % NAME >> 1), number, names));\n\
     \x20\x20\x20\x20\x20\x20}\n\
-    \x20\x20\x20\x20\x20\x20g.cells[(w % WORDS) / g.size] = { w, name, slots, lost };\n\
-    \x20\x20\x20\x20\x20\x20i = lost ? text.indexOf(\"\\n\", at) + 1 : at + 1;\n\
+    \x20\x20\x20\x20\x20\x20const at = i + ROW.length + 5,\n\
+    \x20\x20\x20\x20\x20\x20\x20\x20low = DIGITS[text.charCodeAt(at)] << 8 | DIGITS[text.charCodeAt(at + 1)] << 4 | DIGITS[text.charCodeAt(at + 2)];\n\
+    \x20\x20\x20\x20\x20\x20g.cells[first + (low >> 3) >> g.shift] = of;\n\
     \x20\x20\x20\x20}\n\
-    \x20\x20\x20\x20return regions;\n\
     \x20\x20}\n\
     \n\
     \x20\x20// Adds what `cells` says. A region that has another size there was taken anew since.\n\
     \x20\x20function addCells(regions, rows) {\n\
     \x20\x20\x20\x20for (const [number, size, sweep, letters] of rows) {\n\
     \x20\x20\x20\x20\x20\x20let g = regions.get(+number);\n\
-    \x20\x20\x20\x20\x20\x20if (!g) regions.set(+number, g = regionOf(+size, +number));\n\
+    \x20\x20\x20\x20\x20\x20if (!g) regions.set(+number, g = regionOf(+size, +number, []));\n\
     \x20\x20\x20\x20\x20\x20g.sweep = sweep === \"sweep\";\n\
     \x20\x20\x20\x20\x20\x20if (g.size === +size) g.letters = letters;\n\
     \x20\x20\x20\x20}\n\
@@ -425,13 +458,16 @@ pub(crate) const PAGE: &[u8] = b"<!doctype html>\n\
     \x20\x20function objectAt(id) {\n\
     \x20\x20\x20\x20const w = wordOf(id),\n\
     \x20\x20\x20\x20\x20\x20g = S.regions.get(Math.floor(w / WORDS));\n\
-    \x20\x20\x20\x20return g && g.cells[(w % WORDS) / g.size];\n\
+    \x20\x20\x20\x20return g && objectIn(g, (w % WORDS) / g.size);\n\
     \x20\x20}\n\
     \n\
-    \x20\x20function* objects() {\n\
-    \x20\x20\x20\x20for (const [, g] of S.regions)\n\
-    \x20\x20\x20\x20\x20\x20for (const o of g.cells)\n\
-    \x20\x20\x20\x20\x20\x20\x20\x20if (o) yield o;\n\
+    \x20\x20// The objects of a class, or all of them.\n\
+    \x20\x20function* objects(name) {\n\
+    \x20\x20\x20\x20for (const [, g] of S.regions) {\n\
+    \x20\x20\x20\x20\x20\x20const only = name === null ? 0 : g.names.indexOf(name);\n\
+    \x20\x20\x20\x20\x20\x20for (let cell = 0; cell < g.cells.length; cell++)\n\
+    \x20\x20\x20\x20\x20\x20\x20\x20if (g.cells[cell] && (!only || Math.floor(g.cells[cell] / NAME) === only)) yield objectIn(g, cell);\n\
+    \x20\x20\x20\x20}\n\
     \x20\x20}\n\
     \n\
     \x20\x20// ---- what the heap did\n\
@@ -544,12 +580,28 @@ pub(crate) const PAGE: &[u8] = b"<!doctype html>\n\
     \n\
     \x20\x20// ---- the shown state\n\
     \x20\x20// Asks all that makes up a state, the longest answer first.\n\
-    \x20\x20const askState = (at, live) => Promise.all([`objects ${at}`, `garbage ${at}`, `histogram ${at}`, live ? \"cells\" : null, `classes ${at}`,\n\
-    \x20\x20\x20\x20`registers ${at}`, \"pins\", S.base === null ? null : `growth @${S.base} ${at}`\n\
-    \x20\x20].map((line) => line && ask(line, true)));\n\
+    \x20\x20const askState = (at, live) => Promise.all([askObjects(at), ...[`garbage ${at}`, `histogram ${at}`, live ? \"cells\" : null, `registers ${at}`,\n\
+    \x20\x20\x20\x20S.base === null ? null : `growth @${S.base} ${at}`\n\
+    \x20\x20].map((line) => line && ask(line, true))]);\n\
+    \n\
+    \x20\x20// Asks what is the same at all places: those of the newest state are the classes of each, and the pins.\n\
+    \x20\x20const askRest = () => Promise.all([ask(\"classes -\", true), ask(\"pins\", true)]);\n\
+    \n\
+    \x20\x20// Takes what was answered of it. Returns whether anything is new.\n\
+    \x20\x20function takeRest([k, pins]) {\n\
+    \x20\x20\x20\x20const now = k.text + pins.text;\n\
+    \x20\x20\x20\x20if (now === S.rest) return false;\n\
+    \x20\x20\x20\x20S.rest = now;\n\
+    \x20\x20\x20\x20S.pins = pins.rows;\n\
+    \x20\x20\x20\x20if (k.ok) {\n\
+    \x20\x20\x20\x20\x20\x20S.classes = new Map(k.rows.map((x) => [+x[0], { name: x[1], up: x[2], fields: x.slice(3).map((f) => f.split(\":\")[0]) }]));\n\
+    \x20\x20\x20\x20\x20\x20S.classOf = new Map([...S.classes].map(([, c]) => [c.name, c]));\n\
+    \x20\x20\x20\x20}\n\
+    \x20\x20\x20\x20return true;\n\
+    \x20\x20}\n\
     \n\
     \x20\x20// Takes what was answered of the state at a place, and draws it. Returns false if that state is no longer retained.\n\
-    \x20\x20function takeState([o, g, h, cells, k, r, pins, d], place) {\n\
+    \x20\x20function takeState([o, g, h, cells, r, d], place) {\n\
     \x20\x20\x20\x20if (!h.ok || !o.ok || !g.ok) return false;\n\
     \x20\x20\x20\x20S.shown = place;\n\
     \x20\x20\x20\x20S.values = new Map();\n\
@@ -557,7 +609,7 @@ pub(crate) const PAGE: &[u8] = b"<!doctype html>\n\
     \x20\x20\x20\x20S.total = { objects: +h.words[1], bytes: +h.words[2] };\n\
     \x20\x20\x20\x20keepSample(place, h);\n\
     \x20\x20\x20\x20giveColors();\n\
-    \x20\x20\x20\x20S.regions = regionsOf(o.text);\n\
+    \x20\x20\x20\x20S.regions = o.regions;\n\
     \x20\x20\x20\x20if (cells) addCells(S.regions, cells.rows);\n\
     \x20\x20\x20\x20S.garbage = new Map(g.rows.map((x) => [x[2], { objects: +x[0], bytes: +x[1] }]));\n\
     \x20\x20\x20\x20S.lost = +g.words[2];\n\
@@ -565,11 +617,6 @@ pub(crate) const PAGE: &[u8] = b"<!doctype html>\n\
     \x20\x20\x20\x20if (d && d.ok)\n\
     \x20\x20\x20\x20\x20\x20for (const x of d.rows) S.growth.set(x[0], { objects: x[3] - x[1], bytes: x[4] - x[2] });\n\
     \x20\x20\x20\x20else if (d) S.base = null;\n\
-    \x20\x20\x20\x20S.pins = pins.rows;\n\
-    \x20\x20\x20\x20if (k.ok) {\n\
-    \x20\x20\x20\x20\x20\x20S.classes = new Map(k.rows.map((x) => [+x[0], { name: x[1], up: x[2], fields: x.slice(3).map((f) => f.split(\":\")[0]) }]));\n\
-    \x20\x20\x20\x20\x20\x20S.classOf = new Map([...S.classes].map(([, c]) => [c.name, c]));\n\
-    \x20\x20\x20\x20}\n\
     \x20\x20\x20\x20if (r.ok) S.regs = r.rows.filter((x) => x[2] !== \"null\");\n\
     \x20\x20\x20\x20M.fresh = true;\n\
     \x20\x20\x20\x20draw();\n\
@@ -584,6 +631,13 @@ pub(crate) const PAGE: &[u8] = b"<!doctype html>\n\
     \x20\x20\x20\x20\x20\x20if (!S.fast && !S.whole) loadWhole().catch(() => {});\n\
     \x20\x20\x20\x20}));\n\
     \x20\x20}\n\
+    \n\
+    \x20\x20// Reads what is the same at all places once the state has been drawn.\n\
+    \x20\x20async function loadRest() {\n\
+    \x20\x20\x20\x20if (!takeRest(await askRest())) return;\n\
+    \x20\x20\x20\x20drawLine();\n\
+    \x20\x20\x20\x20drawSteps();\n\
+    \x20\x20}\n\
     \x20\x20async function loadState() {\n\
     \x20\x20\x20\x20const live = S.at === null,\n\
     \x20\x20\x20\x20\x20\x20place = atPlace(),\n\
@@ -596,6 +650,7 @@ pub(crate) const PAGE: &[u8] = b"<!doctype html>\n\
     \x20\x20\x20\x20\x20\x20return;\n\
     \x20\x20\x20\x20}\n\
     \x20\x20\x20\x20onScreen(place, asked);\n\
+    \x20\x20\x20\x20loadRest().catch(() => {});\n\
     \x20\x20\x20\x20if (S.sel) await inspect(S.sel, true);\n\
     \x20\x20\x20\x20else drawRegisters();\n\
     \x20\x20}\n\
@@ -633,10 +688,12 @@ pub(crate) const PAGE: &[u8] = b"<!doctype html>\n\
     \n\
     \x20\x20// The first look asks all at once. If the heap has gone on meanwhile, another look follows.\n\
     \x20\x20async function firstLook() {\n\
-    \x20\x20\x20\x20const status = ask(\"status\", true),\n\
-    \x20\x20\x20\x20\x20\x20state = askState(\"-\", true),\n\
+    \x20\x20\x20\x20const state = askState(\"-\", true),\n\
+    \x20\x20\x20\x20\x20\x20status = ask(\"status\", true),\n\
+    \x20\x20\x20\x20\x20\x20rest = askRest(),\n\
     \x20\x20\x20\x20\x20\x20steps = ask(\"history \" + FEW, true);\n\
     \x20\x20\x20\x20takeStatus(await status);\n\
+    \x20\x20\x20\x20takeRest(await rest);\n\
     \x20\x20\x20\x20takeEvents(eventsOf((await steps).text, S.place), S.status.retained <= FEW);\n\
     \x20\x20\x20\x20again = !takeState(await state, S.place) || (S.events.length > 0 && !(await steps).text.startsWith(`row ${S.place} `));\n\
     \x20\x20\x20\x20onScreen(S.place, 0);\n\
@@ -707,9 +764,9 @@ pub(crate) const PAGE: &[u8] = b"<!doctype html>\n\
     \x20\x20\x20\x20S.at = to;\n\
     \x20\x20\x20\x20if (S.more || $(\"steps\").dataset.far) $(\"steps\").scrollTop = S.more = 0;\n\
     \x20\x20\x20\x20S.began = performance.now();\n\
+    \x20\x20\x20\x20refresh(true);\n\
     \x20\x20\x20\x20drawHead();\n\
     \x20\x20\x20\x20drawLine();\n\
-    \x20\x20\x20\x20refresh(true);\n\
     \x20\x20}\n\
     \n\
     \x20\x20function follow() {\n\
@@ -874,6 +931,7 @@ pub(crate) const PAGE: &[u8] = b"<!doctype html>\n\
     \x20\x20\x20\x20for (let i = 0; i < columns; i++) {\n\
     \x20\x20\x20\x20\x20\x20const a = Math.floor(S.oldest + per * i) + 1,\n\
     \x20\x20\x20\x20\x20\x20\x20\x20b = Math.max(a, Math.floor(S.oldest + per * (i + 1)));\n\
+    \x20\x20\x20\x20\x20\x20if (b < S.first) continue;\n\
     \x20\x20\x20\x20\x20\x20counts.fill(0);\n\
     \x20\x20\x20\x20\x20\x20for (let k = Math.max(0, a - S.first); k <= Math.min(b - S.first, S.events.length - 1); k++) counts[S.events[k].color]++;\n\
     \x20\x20\x20\x20\x20\x20let y = LINE.strip;\n\
@@ -1103,8 +1161,7 @@ pub(crate) const PAGE: &[u8] = b"<!doctype html>\n\
     \x20\x20\x20\x20\x20\x20keys = [];\n\
     \x20\x20\x20\x20let before = 0;\n\
     \x20\x20\x20\x20// Those made since come first: they are what has grown.\n\
-    \x20\x20\x20\x20for (const o of objects()) {\n\
-    \x20\x20\x20\x20\x20\x20if (name !== null && o.name !== name) continue;\n\
+    \x20\x20\x20\x20for (const o of objects(name)) {\n\
     \x20\x20\x20\x20\x20\x20const p = bornAt(o, at),\n\
     \x20\x20\x20\x20\x20\x20\x20\x20old = since !== null && (p === null || p <= since);\n\
     \x20\x20\x20\x20\x20\x20if (name === null && old) continue;\n\
@@ -1254,7 +1311,7 @@ pub(crate) const PAGE: &[u8] = b"<!doctype html>\n\
     \n\
     \x20\x20// A cell's state: its object, if any, and its letter.\n\
     \x20\x20function cellOf(g, cell) {\n\
-    \x20\x20\x20\x20const o = g.cells[cell],\n\
+    \x20\x20\x20\x20const o = objectIn(g, cell),\n\
     \x20\x20\x20\x20\x20\x20letter = g.letters ? g.letters[cell] : \"\";\n\
     \x20\x20\x20\x20// If there is no object, a letter of a live one is of one that was made since.\n\
     \x20\x20\x20\x20return { o, dead: !o && letter === \"x\", marked: !!o && letter === \"m\", gray: !!o && letter === \"g\" };\n\
@@ -1306,6 +1363,7 @@ pub(crate) const PAGE: &[u8] = b"<!doctype html>\n\
     \x20\x20function pixels() {\n\
     \x20\x20\x20\x20const at = S.shown,\n\
     \x20\x20\x20\x20\x20\x20span = Math.max(1, at - S.oldest),\n\
+    \x20\x20\x20\x20\x20\x20byAge = S.by === \"age\",\n\
     \x20\x20\x20\x20\x20\x20{ free, panel, ink, ink3, red } = M.ink,\n\
     \x20\x20\x20\x20\x20\x20pixel = (color) => {\n\
     \x20\x20\x20\x20\x20\x20\x20\x20const [r, g, b] = rgb(color);\n\
@@ -1314,27 +1372,33 @@ pub(crate) const PAGE: &[u8] = b"<!doctype html>\n\
     \x20\x20\x20\x20\x20\x20none = pixel(free),\n\
     \x20\x20\x20\x20\x20\x20dead = pixel(mixed(ink3, free, .5)),\n\
     \x20\x20\x20\x20\x20\x20known = new Map(),\n\
-    \x20\x20\x20\x20\x20\x20colorFor = (o, state) => {\n\
-    \x20\x20\x20\x20\x20\x20\x20\x20const own = S.by === \"class\" ? colorOf(o.name) : shadeOf(o, at, span),\n\
-    \x20\x20\x20\x20\x20\x20\x20\x20\x20\x20color = state === \"g\" ? red : state === \"m\" ? mixed(own, ink, .6) : state === \"x\" ? mixed(own, panel, .45) : own;\n\
+    \x20\x20\x20\x20\x20\x20colorFor = (o, letter) => {\n\
+    \x20\x20\x20\x20\x20\x20\x20\x20const own = shadeOf(o, at, span),\n\
+    \x20\x20\x20\x20\x20\x20\x20\x20\x20\x20color = letter === \"g\" ? red : letter === \"m\" ? mixed(own, ink, .6) : o.lost && !byAge ? mixed(own, panel, .45) : own;\n\
     \x20\x20\x20\x20\x20\x20\x20\x20return pixel(S.klass && o.name !== S.klass ? mixed(color, panel, .16) : color);\n\
     \x20\x20\x20\x20\x20\x20};\n\
+    \x20\x20\x20\x20// Most cells are as the one before.\n\
+    \x20\x20\x20\x20let was = -1,\n\
+    \x20\x20\x20\x20\x20\x20before = \"\",\n\
+    \x20\x20\x20\x20\x20\x20value = 0;\n\
     \x20\x20\x20\x20return (g, cell) => {\n\
-    \x20\x20\x20\x20\x20\x20const o = g.cells[cell],\n\
+    \x20\x20\x20\x20\x20\x20const of = g.cells[cell],\n\
     \x20\x20\x20\x20\x20\x20\x20\x20letter = g.letters ? g.letters[cell] : \"o\";\n\
-    \x20\x20\x20\x20\x20\x20if (!o) return letter === \"x\" ? dead : none;\n\
-    \x20\x20\x20\x20\x20\x20const state = letter === \"g\" || letter === \"m\" ? letter : o.lost && S.by === \"class\" ? \"x\" : \"o\";\n\
-    \x20\x20\x20\x20\x20\x20if (S.by === \"age\") return colorFor(o, state);\n\
-    \x20\x20\x20\x20\x20\x20let of = known.get(o.name);\n\
-    \x20\x20\x20\x20\x20\x20if (!of) known.set(o.name, of = {});\n\
-    \x20\x20\x20\x20\x20\x20return of[state] ?? (of[state] = colorFor(o, state));\n\
+    \x20\x20\x20\x20\x20\x20if (of === was && letter === before && !byAge) return value;\n\
+    \x20\x20\x20\x20\x20\x20was = of;\n\
+    \x20\x20\x20\x20\x20\x20before = letter;\n\
+    \x20\x20\x20\x20\x20\x20if (!of) return value = letter === \"x\" ? dead : none;\n\
+    \x20\x20\x20\x20\x20\x20if (byAge) return colorFor(objectIn(g, cell), letter);\n\
+    \x20\x20\x20\x20\x20\x20const alike = letter + (Math.floor(of / NAME) * 2 + of % 2);\n\
+    \x20\x20\x20\x20\x20\x20if (!known.has(alike)) known.set(alike, colorFor(objectIn(g, cell), letter));\n\
+    \x20\x20\x20\x20\x20\x20return value = known.get(alike);\n\
     \x20\x20\x20\x20};\n\
     \x20\x20}\n\
     \n\
-    \x20\x20// A picture with a pixel for each word, of which cells that are too small to be drawn are cut.\n\
+    \x20\x20// A picture of which cells that are too small to be drawn are cut, with a pixel for as many words as the smallest cell has.\n\
     \x20\x20function atlas() {\n\
     \x20\x20\x20\x20if (M.atlas) return M.atlas;\n\
-    \x20\x20\x20\x20const per = WORDS / M.lines,\n\
+    \x20\x20\x20\x20const per = WORDS / M.lines / SIZES[0],\n\
     \x20\x20\x20\x20\x20\x20canvas = document.createElement(\"canvas\"),\n\
     \x20\x20\x20\x20\x20\x20c = canvas.getContext(\"2d\");\n\
     \x20\x20\x20\x20canvas.width = per * M.columns;\n\
@@ -1343,16 +1407,20 @@ pub(crate) const PAGE: &[u8] = b"<!doctype html>\n\
     \x20\x20\x20\x20\x20\x20out = new Uint32Array(image.data.buffer),\n\
     \x20\x20\x20\x20\x20\x20pixel = pixels();\n\
     \x20\x20\x20\x20M.list.forEach((g, i) => {\n\
-    \x20\x20\x20\x20\x20\x20const corner = Math.floor(i / M.columns) * M.lines * canvas.width + (i % M.columns) * per;\n\
-    \x20\x20\x20\x20\x20\x20for (let cell = 0; cell < g.cells.length; cell++) {\n\
-    \x20\x20\x20\x20\x20\x20\x20\x20const value = pixel(g, cell);\n\
-    \x20\x20\x20\x20\x20\x20\x20\x20for (let word = cell * g.size, end = word + g.size; word < end;) {\n\
-    \x20\x20\x20\x20\x20\x20\x20\x20\x20\x20const stop = Math.min(end, (Math.floor(word / per) + 1) * per),\n\
-    \x20\x20\x20\x20\x20\x20\x20\x20\x20\x20\x20\x20from = corner + Math.floor(word / per) * canvas.width + word % per;\n\
-    \x20\x20\x20\x20\x20\x20\x20\x20\x20\x20for (let k = from, last = from + stop - word; k < last; k++) out[k] = value;\n\
-    \x20\x20\x20\x20\x20\x20\x20\x20\x20\x20word = stop;\n\
+    \x20\x20\x20\x20\x20\x20const corner = Math.floor(i / M.columns) * M.lines * canvas.width + (i % M.columns) * per,\n\
+    \x20\x20\x20\x20\x20\x20\x20\x20wide = g.size / SIZES[0];\n\
+    \x20\x20\x20\x20\x20\x20let left = 0,\n\
+    \x20\x20\x20\x20\x20\x20\x20\x20cell = 0,\n\
+    \x20\x20\x20\x20\x20\x20\x20\x20value = 0;\n\
+    \x20\x20\x20\x20\x20\x20for (let line = 0; line < M.lines; line++)\n\
+    \x20\x20\x20\x20\x20\x20\x20\x20for (let to = corner + line * canvas.width, end = to + per; to < end; to++) {\n\
+    \x20\x20\x20\x20\x20\x20\x20\x20\x20\x20if (left === 0) {\n\
+    \x20\x20\x20\x20\x20\x20\x20\x20\x20\x20\x20\x20value = pixel(g, cell++);\n\
+    \x20\x20\x20\x20\x20\x20\x20\x20\x20\x20\x20\x20left = wide;\n\
+    \x20\x20\x20\x20\x20\x20\x20\x20\x20\x20}\n\
+    \x20\x20\x20\x20\x20\x20\x20\x20\x20\x20left--;\n\
+    \x20\x20\x20\x20\x20\x20\x20\x20\x20\x20out[to] = value;\n\
     \x20\x20\x20\x20\x20\x20\x20\x20}\n\
-    \x20\x20\x20\x20\x20\x20}\n\
     \x20\x20\x20\x20});\n\
     \x20\x20\x20\x20c.putImageData(image, 0, 0);\n\
     \x20\x20\x20\x20return M.atlas = canvas;\n\
@@ -1394,9 +1462,10 @@ pub(crate) const PAGE: &[u8] = b"<!doctype html>\n\
     \x20\x20\x20\x20\x20\x20left = Math.max(0, Math.floor((M.x - M.left) / (M.bw + M.gap))),\n\
     \x20\x20\x20\x20\x20\x20right = Math.min(M.columns - 1, Math.floor((M.x - M.left + w / z) / (M.bw + M.gap))),\n\
     \x20\x20\x20\x20\x20\x20small = 4 * M.unit * z < 2.6 || M.lh * z < 2.6,\n\
-    \x20\x20\x20\x20\x20\x20per = WORDS / M.lines;\n\
+    \x20\x20\x20\x20\x20\x20per = WORDS / M.lines / SIZES[0];\n\
     \x20\x20\x20\x20M.drawn = Math.max(0, bottom - top + 1) * Math.max(0, right - left + 1);\n\
     \x20\x20\x20\x20c.imageSmoothingQuality = \"medium\";\n\
+    \x20\x20\x20\x20c.imageSmoothingEnabled = SIZES[0] * M.unit * z < 1 || M.lh * z < 1;\n\
     \x20\x20\x20\x20if (small && M.gap < 2 && M.list.length) drawSheet(c, top, bottom, left, right);\n\
     \x20\x20\x20\x20else for (let row = top; row <= bottom; row++)\n\
     \x20\x20\x20\x20\x20\x20for (let column = left; column <= right; column++) {\n\
@@ -1415,7 +1484,7 @@ pub(crate) const PAGE: &[u8] = b"<!doctype html>\n\
     \n\
     \x20\x20// Draws thousands of small regions as one picture, with lines between them.\n\
     \x20\x20function drawSheet(c, top, bottom, left, right) {\n\
-    \x20\x20\x20\x20const per = WORDS / M.lines,\n\
+    \x20\x20\x20\x20const per = WORDS / M.lines / SIZES[0],\n\
     \x20\x20\x20\x20\x20\x20columns = right - left + 1,\n\
     \x20\x20\x20\x20\x20\x20rows = bottom - top + 1,\n\
     \x20\x20\x20\x20\x20\x20wide = (M.bw + M.gap) * M.zoom,\n\
@@ -2069,7 +2138,7 @@ pub(crate) const PAGE: &[u8] = b"<!doctype html>\n\
     \x20\x20\x20\x20$(\"map\").classList.remove(\"drag\");\n\
     \x20\x20\x20\x20if (!d || d.far || !hit) return;\n\
     \x20\x20\x20\x20M.cursor = { number: hit.g.number, cell: hit.cell };\n\
-    \x20\x20\x20\x20if (hit.g.cells[hit.cell]) pick(idOf(hit.g.cells[hit.cell].w));\n\
+    \x20\x20\x20\x20if (hit.g.cells[hit.cell]) pick(idOf(objectIn(hit.g, hit.cell).w));\n\
     \x20\x20};\n\
     \x20\x20$(\"map\").onpointercancel = () => {\n\
     \x20\x20\x20\x20M.drag = null;\n\
@@ -2202,7 +2271,7 @@ pub(crate) const PAGE: &[u8] = b"<!doctype html>\n\
     \x20\x20\x20\x20ArrowDown: () => moveCursor(0, 1),\n\
     \x20\x20\x20\x20Enter: () => {\n\
     \x20\x20\x20\x20\x20\x20const g = M.cursor && S.regions.get(M.cursor.number),\n\
-    \x20\x20\x20\x20\x20\x20\x20\x20o = g && g.cells[M.cursor.cell];\n\
+    \x20\x20\x20\x20\x20\x20\x20\x20o = g && objectIn(g, M.cursor.cell);\n\
     \x20\x20\x20\x20\x20\x20if (o) pick(idOf(o.w));\n\
     \x20\x20\x20\x20}\n\
     \x20\x20};\n\
@@ -2249,13 +2318,25 @@ pub(crate) const PAGE: &[u8] = b"<!doctype html>\n\
     \x20\x20seen.observe($(\"mapbox\"));\n\
     \x20\x20seen.observe($(\"time\"));\n\
     \x20\x20matchMedia(\"(prefers-color-scheme: dark)\").onchange = drawAnew;\n\
+    \x20\x20// Does what takes long the first time while the first answers are on their way: reads the style, and loads the font.\n\
+    \x20\x20function prepare() {\n\
+    \x20\x20\x20\x20for (const name of [\"line\", \"ink\", \"ink2\", \"ink3\", \"panel\", \"free\", \"red\", \"amber\", \"green\", \"accent\", \"mono\"]) css(\"--\" + name);\n\
+    \x20\x20\x20\x20for (const canvas of [$(\"line\"), $(\"map\"), STRIP.canvas, LAYER.canvas]) {\n\
+    \x20\x20\x20\x20\x20\x20const c = canvas.getContext(\"2d\");\n\
+    \x20\x20\x20\x20\x20\x20c.font = \"11px \" + css(\"--mono\");\n\
+    \x20\x20\x20\x20\x20\x20c.measureText(\"0\");\n\
+    \x20\x20\x20\x20}\n\
+    \x20\x20}\n\
     \x20\x20async function start() {\n\
     \x20\x20\x20\x20if (!key) {\n\
     \x20\x20\x20\x20\x20\x20lock(\"This page needs its key\",\n\
     \x20\x20\x20\x20\x20\x20\x20\x20\"heapdbg prints the address of the page with its key when it starts: a line \xe2\x80\x9cheapdbg: page http://127.0.0.1:\xe2\x80\xa6/#\xe2\x80\xa6\xe2\x80\x9d. Open that address.\");\n\
     \x20\x20\x20\x20\x20\x20return;\n\
     \x20\x20\x20\x20}\n\
-    \x20\x20\x20\x20await refresh(true);\n\
+    \x20\x20\x20\x20const first = refresh(true);\n\
+    \x20\x20\x20\x20prepare();\n\
+    \x20\x20\x20\x20await first;\n\
+    \x20\x20\x20\x20await new Promise((go) => requestAnimationFrame(() => setTimeout(go)));\n\
     \x20\x20\x20\x20const help = await ask(\"help\", true).catch(() => null);\n\
     \x20\x20\x20\x20if (help)\n\
     \x20\x20\x20\x20\x20\x20for (const r of help.rows) {\n\

@@ -8,6 +8,7 @@ use Rattle.heap_class.specs.declared.ObjKind.{ObjKind}
 use Rattle.heap_class.specs.declared.ObjKind.TheVariants.{Instance, Array, Prim}
 use Rattle.heap_class.specs.declared.Refusal.{Refusal}
 use Rattle.heap_class.specs.Refusals.{first_refusal}
+use Rattle.heap_class.specs.Limits.{class_limit, widest_classes}
 use Rattle.heap_class.specs.Classes.{Class, IsClassTable, class_refusal, is_instance_class, is_array_class}
 use Rattle.heap_region.specs.Regions.{Object, Region, object_at, id_of, live_objects, live_places}
 use Rattle.heap_world.specs.State.{HeapState}
@@ -24,17 +25,17 @@ second_false true b r s rest h = cc
 second_false false true r s rest h = cc
 second_false false false r s rest h = refl
 
-room_for_class : (classes : List Class) (c : Class) → class_refusal classes c ≡ None → nat_le 256 (length classes) ≡ false
+room_for_class : (classes : List Class) (c : Class) → class_refusal widest_classes classes c ≡ None → nat_le class_limit (length classes) ≡ false
 unfolding class_refusal first_refusal
 room_for_class classes c h = second_false _ _ _ _ _ h
 
-few_classes_after : (before cs : List Class) → IsClassTable before cs → length before ≤ 256 → length before + length cs ≤ 256
+few_classes_after : (before cs : List Class) → IsClassTable before cs → length before ≤ class_limit → length before + length cs ≤ class_limit
 few_classes_after before [] t few = omega arith
 few_classes_after before (c ∷ cs) t few =
-    let room : nat_le 256 (length before) ≡ false = room_for_class before c t.0 in
-    let under : length before < 256 = grind (arith, room) in
+    let room : nat_le class_limit (length before) ≡ false = room_for_class before c t.0 in
+    let under : length before < class_limit = grind (arith, room) in
     let e : length (before ++ c ∷ []) ≡ length before + 1 = length-append before (c ∷ []) in
-    let more : length (before ++ c ∷ []) + length cs ≤ 256 = few_classes_after (before ++ c ∷ []) cs t.2 (omega (arith, under, e)) in
+    let more : length (before ++ c ∷ []) + length cs ≤ class_limit = few_classes_after (before ++ c ∷ []) cs t.2 (omega (arith, under, e)) in
     omega (arith, more, e)
 
 known : (classes : List Class) (kind : ObjKind) (n : ℕ) → HasKind classes kind n → IsKnown classes kind n

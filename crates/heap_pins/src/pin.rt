@@ -229,7 +229,7 @@ impl Pin {
         }
     }
 
-    /// Returns the place of the first object. The pin must have at most 65,536 cells.
+    /// Returns the place of the first object. The pin must have at most 2^24 cells.
     pub fn first(&self) -> Option<ObjRef>
         requires { length self.now.live ≤ object_limit }
         ensures { result ≡ slice_get (places_from 0 self.now.live) 0 }
@@ -237,7 +237,7 @@ impl Pin {
         self.from(0)
     }
 
-    /// Returns the place of the object after the one at this place. The pin must have at most 65,536 cells.
+    /// Returns the place of the object after the one at this place. The pin must have at most 2^24 cells.
     pub fn next(&self, at: ObjRef) -> Option<ObjRef>
         requires { length self.now.live ≤ object_limit }
         ensures { IsPlaceAfter self.now.live at result }

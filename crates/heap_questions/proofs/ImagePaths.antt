@@ -24,10 +24,10 @@ use Rattle.heap_world.proofs.Shelter.{reach_induction, end_more}
 use Rattle.heap_trail.specs.Image.{DumpedObject}
 use Rattle.heap_pins.specs.Images.{dumped_objects, image_of}
 use Rattle.heap_pins.proofs.LiveCounts.{Stands, live_stand}
-use Rattle.heap_questions.specs.Graph.{HasId, followed, slot_refers, named, object_with, slot_names}
+use Rattle.heap_questions.specs.Graph.{HasId, HasPath, followed, slot_refers, named, object_with, slot_names}
 use Rattle.heap_questions.proofs.Reaching.{leads_more}
 use Rattle.heap_questions.proofs.TracedPaths.{first_object}
-use Rattle.heap_questions.specs.Losses.{HasPath, PathIsReach}
+use Rattle.heap_questions.specs.Losses.{PathIsReach}
 use Rattle.heap_questions.proofs.Sizes.{table_of, used_of}
 use Rattle.heap_region.proofs.Laws.{cell_there}
 use Rattle.heap_region.proofs.Lookups.{used_is}

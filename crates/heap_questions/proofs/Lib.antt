@@ -7,6 +7,8 @@ pub mod Passing
 pub mod Looking
 pub mod Halving
 pub mod Reaching
+pub mod CutPaths
+pub mod Retained
 pub mod NamedObjects
 pub mod RankedRows
 pub mod SearchOrder

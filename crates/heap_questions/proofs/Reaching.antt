@@ -67,12 +67,12 @@ path_to_found image queue k f s h =
 
 -- ---- marks
 
-reached_if_found : (nodes : List Node) (seen : List Bool) (queue : List Found) (x d : ℕ) → AreSeen nodes seen queue → IsFound queue x d → is_reached nodes seen x ≡ true
+pub reached_if_found : (nodes : List Node) (seen : List Bool) (queue : List Found) (x d : ℕ) → AreSeen nodes seen queue → IsFound queue x d → is_reached nodes seen x ≡ true
 reached_if_found nodes seen queue x d a h =
     let e : node_with nodes x ≡ Some h.1.node = ap (node_with nodes) (sym h.3) ∙ a.placed h.0 h.1 h.2 in
     ap (λ (o : Option ℕ). option_map_or (λ j. slice_index_or seen j false) o false) e ∙ a.found h.0 h.1 h.2
 
-found_if_reached : (nodes : List Node) (seen : List Bool) (queue : List Found) (x : ℕ) → AreSeen nodes seen queue → is_reached nodes seen x ≡ true → (k : ℕ) × (f : Found) × (slice_get queue k ≡ Some f) × (f.id ≡ x)
+pub found_if_reached : (nodes : List Node) (seen : List Bool) (queue : List Found) (x : ℕ) → AreSeen nodes seen queue → is_reached nodes seen x ≡ true → (k : ℕ) × (f : Found) × (slice_get queue k ≡ Some f) × (f.id ≡ x)
 found_if_reached nodes seen queue x a h = go (node_with nodes x) refl h
   where
     go : (o : Option ℕ) → node_with nodes x ≡ o → option_map_or (λ j. slice_index_or seen j false) o false ≡ true → (k : ℕ) × (f : Found) × (slice_get queue k ≡ Some f) × (f.id ≡ x)
@@ -95,7 +95,7 @@ unreached_is image nodes seen queue x s a = (
         absurd (u p.0 p.1 (subst (IsPathTo image p.0 p.1) f.3 p.2))
     go false e u = refl
 
-of_ids : (f : ℕ → Bool) (nodes : List Node) → map (λ n. f n.id) nodes ≡ map f (map (λ n. n.id) nodes)
+pub of_ids : (f : ℕ → Bool) (nodes : List Node) → map (λ n. f n.id) nodes ≡ map f (map (λ n. n.id) nodes)
 of_ids f [] = refl
 of_ids f (n ∷ ns) = ap (λ (bs : List Bool). f n.id ∷ bs) (of_ids f ns)
 

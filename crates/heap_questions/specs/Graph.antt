@@ -58,6 +58,10 @@ IsFirstPath image r slots x =
     (q : ℕ) (others : List ℕ) → IsPathTo image q others x → length others ≡ length slots
     → AreAtMost (r ∷ slots) (q ∷ others)
 
+-- a register and some slots lead to x
+abbrev pub HasPath : Image → ℕ → Type 0
+HasPath image x = (r : ℕ) × (slots : List ℕ) × IsPathTo image r slots x
+
 -- no register reaches x
 abbrev pub IsUnreached : Image → ℕ → Type 0
 IsUnreached image x = (r : ℕ) (slots : List ℕ) → ¬ IsPathTo image r slots x

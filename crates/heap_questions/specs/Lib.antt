@@ -4,6 +4,7 @@ pub mod Graph
 pub mod Referrers
 pub mod Search
 pub mod Garbage
+pub mod Dominators
 pub mod ObjectLists
 pub mod Registers
 pub mod Ranking

@@ -1,6 +1,5 @@
 -- What registers reached, from state to state.
-use Rattle.std.specs.Prelude.{◌≡◌, ◌↔◌, ℕ, ◌+◌, ◌-◌, ◌<◌, ◌≤◌, List, Option, Some, None, IsSome}
-use Rattle.heap_trail.specs.Image.{Image}
+use Rattle.std.specs.Prelude.{◌≡◌, ◌↔◌, ℕ, ◌+◌, ◌-◌, ◌<◌, ◌≤◌, Option, Some, None, IsSome}
 use Rattle.heap_class.specs.declared.ObjRef.{ObjRef}
 use Rattle.heap_region.specs.Regions.{id_of, object_at}
 use Rattle.heap_world.specs.Legal.{IsLegal}
@@ -9,16 +8,12 @@ use Rattle.heap_world.specs.State.{HeapState}
 use Rattle.heap_step.specs.declared.Event.{Event}
 use Rattle.heap_step.specs.Apply.{refusal_of, state_after}
 use Rattle.heap_pins.specs.Images.{image_of}
-use Rattle.heap_questions.specs.Graph.{IsPathTo}
+use Rattle.heap_questions.specs.Graph.{HasPath}
 use Rattle.heap_trail.specs.Trail.{Trail, retained, state_ago}
 use Rattle.heap_questions.specs.declared.past.losses.Loss.{Loss}
 use Rattle.heap_questions.specs.declared.past.losses.Loss.TheVariants.{Reached, At, Older}
 
 -- ---- laws
-
--- a register and some slots lead to x
-abbrev pub HasPath : Image → ℕ → Type 0
-HasPath image x = (r : ℕ) × (slots : List ℕ) × IsPathTo image r slots x
 
 -- the image of a legal state has a path to x exactly if a register reaches x
 abbrev pub PathIsReach : HeapState → ℕ → Type 0

@@ -13,8 +13,8 @@ use std::marker::Model;
 // The ids of two objects of a heap differ by a multiple of 8.
 const ID_STEP: u64 = 8;
 
-// The number of words of a heap: 1,024 for each of 256 regions.
-const HEAP_WORDS: u64 = 262_144;
+// The number of words of a heap: 1,024 for each of 65,536 regions.
+const HEAP_WORDS: u64 = 67_108_864;
 
 // An object of a view: its place and its id.
 #[derive(Clone, Copy)]

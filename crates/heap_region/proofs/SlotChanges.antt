@@ -42,7 +42,7 @@ pub ruleset used_slots = (slot_used, place_read, length_of_classes)
 pub ruleset object_slots = (slot_of_object, place_read, length_of_classes)
 
 -- the slot of a region that has come into view by a call, of a region in use
-changed_slot : (slots : List (Option UsedRegion)) (r : ℕ) (f : UsedRegion → UsedRegion) (found new : Option UsedRegion) → r < length slots → found ≡ get_or slots r found → new ≡ option_map f found → new ≡ option_map f (get_or slots r None)
+pub changed_slot : (slots : List (Option UsedRegion)) (r : ℕ) (f : UsedRegion → UsedRegion) (found new : Option UsedRegion) → r < length slots → found ≡ get_or slots r found → new ≡ option_map f found → new ≡ option_map f (get_or slots r None)
 changed_slot slots r f found new lt read is = is ∙ ap (option_map f) (read ∙ place_read slots r found lt)
 
 module _ (slots : List (Option UsedRegion)) (free_classes pool : List ℕ) (capacity : ℕ) (table : IsRegionTable slots free_classes pool capacity) (s : RegionPool) (view : seen slots pool ≡ s) where

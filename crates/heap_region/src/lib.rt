@@ -10,30 +10,30 @@ ghost use Rattle.heap_class.specs.declared.Refusal.TheVariants.{NoMemory};
 ghost use Rattle.heap_region.specs.Limits.{region_limit, region_words, cell_limit};
 ghost use Rattle.heap_region.specs.RegionCopies.{region_frozen};
 ghost use Rattle.heap_region.specs.Regions.{FitsWords, Object, UsedRegion, object_at, object_of, used_at, id_of, ref_of, with_object, with_word};
-ghost use Rattle.heap_region.specs.Pool.{RegionPool, opening_pool, alloc_refusal, is_fresh, free_place, new_place, taken, freed, released, restored, allocated, unallocated, blank_object};
+ghost use Rattle.heap_region.specs.Pool.{RegionPool, opening_pool, alloc_refusal, is_fresh, free_place, pending_place, new_place, taken, freed, released, restored, allocated, unallocated, blank_object};
 ghost use Rattle.heap_region.specs.Legal.{IsCellTable, IsRegionPool};
 ghost use Rattle.heap_region.specs.Layout.{IsCellSize, bit_set};
 ghost use Rattle.heap_region.specs.Changes.{WritesLive, WritesMark, WritesPending};
 ghost use Rattle.heap_region.specs.Live.{cells_of};
 
 mod cell;
-mod free_classes;
 mod frozen_region;
 mod lists;
 mod live_walk;
+mod region_classes;
 mod sizes;
 mod slots;
 mod storage;
 
 use cell::Bit;
-use free_classes::FreeClasses;
 pub use frozen_region::FrozenRegion;
 use heap_class::{ObjKind, ObjRef, Refusal};
 pub use lists::{FreeCells, PoolRegions};
+use region_classes::RegionClasses;
 pub use sizes::{OBJECT_BASE, REGION_WORDS, cell_size_for};
 use slots::{
-    first_free_in, free_class, free_in, pool_head, set_bit_in, set_pending_in, set_word_in,
-    size_class, slot_at, take_in, unfree_in,
+    WAITING, first_free_in, free_class, free_in, pool_head, set_bit_in, set_pending_in,
+    set_word_in, size_class, slot_at, take_in, unfree_in, wait_class,
 };
 use std::alloc::{AllocError, Global};
 use std::marker::Model;
@@ -45,7 +45,9 @@ pub struct Regions {
     alloc: Global,
     slots: Vec<Option<Storage>>,
     // For each region the number of its cell size if one of its cells is free, else 0.
-    free_classes: FreeClasses,
+    free_classes: RegionClasses,
+    // For each region 1 if it waits to be swept, else 0.
+    waits: RegionClasses,
     // The empty regions, the head last. It has room for all regions.
     pool: Vec<usize>,
 }
@@ -56,18 +58,19 @@ impl Model for Regions {
     ghost Value = { RegionPool };
 
     ghost use Rattle.std.specs.Prelude.{map, reverse, vec_capacity};
-    ghost use Rattle.heap_region.specs.Table.{IsRegionTable, shown_region};
+    ghost use Rattle.heap_region.specs.Table.{AreWaiting, IsRegionTable, shown_region};
 
     ghost view = { λ h.
         record { regions = map shown_region h.slots.items; pool = reverse h.pool.items } };
 
     ghost invariant = { λ h. IsRegionTable h.slots.items h.free_classes (reverse h.pool.items)
-        (vec_capacity h.pool) };
+        (vec_capacity h.pool)
+        × AreWaiting h.slots.items h.waits };
 }
 
 impl Regions {
-    /// Creates `count` empty regions, 1 to 256. Fails with NoMemory if one of its three allocations fails. One of these is the
-    /// pool, which has room for all regions.
+    /// Creates `count` empty regions: 1 to 256, in a wide heap 1 to 65,536. Fails with NoMemory if one of its four allocations
+    /// fails. One of these is the pool, which has room for all regions.
     pub fn new(alloc: Global, count: u64) -> Result<Regions, Refusal>
         requires { (1 ≤ count) × (count ≤ region_limit) }
         ensures opened { IfOk result (λ s. s ≡ opening_pool count) }
@@ -274,6 +277,17 @@ impl Regions {
         }
     }
 
+    /// Returns the lowest region that waits to be swept, or None if none does. Takes constant time.
+    pub fn first_pending(&self) -> Option<u64>
+        ensures { result
+            ≡ slice_get (filter_map pending_place (enumerate_from 0 self.now.regions)) 0 }
+    {
+        match self.waits.find(WAITING) {
+            Some(region) => Some(region as u64),
+            None => None,
+        }
+    }
+
     /// Returns the id of a cell: the address of its first word.
     #[inline(always)]
     pub fn id(&self, at: ObjRef) -> u64
@@ -313,7 +327,7 @@ impl Regions {
         requires { IsSome (object_of self.now.regions id) }
         ensures { ref_of self.now.regions id ≡ Some result }
     {
-        // There are at most 256 regions.
+        // There are at most 256 regions, in a wide heap 65,536.
         let _count = self.count();
         let word = (id - OBJECT_BASE) / 8;
         let region = (word / REGION_WORDS) as u16;
@@ -346,7 +360,9 @@ impl Regions {
         requires { IsSome (used_at self.old.regions region) }
         ensures { WritesPending region pending self.old self.new }
     {
-        set_pending_in(&mut self.slots[region as usize], pending);
+        let region = region as usize;
+        set_pending_in(&mut self.slots[region], pending);
+        self.waits.set(region, wait_class(&self.slots[region]));
     }
 
     /// Returns a copy of the object in the cell, which must have one. Fails with NoMemory if its words can't be allocated.
@@ -412,6 +428,7 @@ impl Regions {
         let region = region as usize;
         let slot = self.slots[region].take();
         self.free_classes.set(region, 0);
+        self.waits.set(region, 0);
         self.pool.push_reserved(region);
         match slot {
             Some(storage) => storage,
@@ -434,6 +451,7 @@ impl Regions {
         self.slots[region] = Some(storage);
         self.free_classes
             .set(region, free_class(&self.slots[region]));
+        self.waits.set(region, wait_class(&self.slots[region]));
     }
 
     /// Returns a copy of a region in use. Fails with NoMemory if the allocation fails.
@@ -470,7 +488,8 @@ impl Regions {
         requires { (1 ≤ count) × (count ≤ region_limit) }
         ensures { IfOk result (λ s. s ≡ opening_pool count) }
     {
-        let free_classes = FreeClasses::new(alloc, count)?;
+        let free_classes = RegionClasses::new(alloc, count)?;
+        let waits = RegionClasses::new(alloc, count)?;
         let mut slots = Vec::with_capacity(alloc, count)?;
         let mut pool = Vec::with_capacity(alloc, count)?;
         for i in 0..count {
@@ -481,6 +500,7 @@ impl Regions {
             alloc,
             slots,
             free_classes,
+            waits,
             pool,
         })
     }

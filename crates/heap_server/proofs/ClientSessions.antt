@@ -1,29 +1,34 @@
 -- A client's session.
-use Rattle.std.proofs.Common.{◌≡◌, ℕ, Bool, List, inl, subst, sym}
+use Rattle.std.proofs.Common.{◌≡◌, ◌∙◌, ◌⊎◌, ℕ, Bool, true, false, List, [], Option, Some, None, Result, Ok, Err, refl, inl, inr, subst, sym}
+use Rattle.std.specs.Prelude.{MatchResult}
 use Rattle.dump_pump.specs.Inlets.{Incoming}
 use Rattle.dump_pump.specs.Outlets.{Outgoing}
-use Rattle.session_text.specs.Answers.{AnswersCommand, Begins}
+use Rattle.session_text.specs.Answers.{AnswerRelation, AnswersCommand, Begins}
+use Rattle.session_text.specs.declared.Ended.{Ended}
+use Rattle.session_text.specs.declared.Ended.TheVariants.{ReadFault}
 use Rattle.heap_lock.specs.HeapLimits.{HeapSettings}
 use Rattle.heap_lock.specs.Calls.{Call, IsLegalLedger}
 use Rattle.heap_lock.specs.LockStates.{Chair}
 use Rattle.heap_server.specs.Ahead.{IsAhead}
 use Rattle.heap_server.specs.declared.client_session.SessionEnd.{SessionEnd}
+use Rattle.heap_server.specs.declared.client_session.SessionEnd.TheVariants.{Ran, Http, Stranger, Idle}
 use Rattle.heap_server.specs.declared.sessions.Terms.{Terms}
-use Rattle.heap_server.specs.Http.{ServesClient}
-use Rattle.heap_server.specs.Stations.{IsAttended, Station, seat_acts, seat_answers}
+use Rattle.heap_server.specs.Clients.{IsToldAs, ServesClient, TurnsAway, plain_end}
+use Rattle.heap_server.specs.Stations.{IsAttended, IsAttendedOn, IsAttendedStaying, IsLimited, Station, seat_acts, seat_answers, staying_begins, staying_says}
+use Rattle.heap_server.specs.StayingSeats.{ClosesEach, StayingStation}
 
 -- what a session does that answers questions or doesn't
-abbrev pub ServesSeat : HeapSettings → Bool → ℕ → List ℕ → Bool → Incoming → Incoming → Station → Outgoing → Station → Outgoing → SessionEnd → Type 0
-ServesSeat config questions time bytes failed b b' c w c' w' end =
-    ServesClient (AnswersCommand (seat_acts config) (seat_answers config questions) time) (Begins (seat_acts config) (seat_answers config questions) time) bytes failed b b' c w c' w' end
+abbrev pub ServesSeat : HeapSettings → Bool → ℕ → Option (List ℕ) → List ℕ → Bool → Incoming → Incoming → Station → Outgoing → Station → Outgoing → SessionEnd → Type 0
+ServesSeat config questions time secret bytes failed b b' c w c' w' end =
+    ServesClient (AnswersCommand (seat_acts config) (seat_answers config questions) time) (Begins (seat_acts config) (seat_answers config questions) time) secret bytes failed b b' c w c' w' end
 
 -- a session on these terms is one that answers questions, if they say so
 pub attended : (config : HeapSettings) (terms : Terms) (questions failed : Bool) (bytes : List ℕ) (a b b' : Incoming) (s s' : Chair) (seen : List Call) (c c' : Station) (w w' : Outgoing) (end : SessionEnd) → terms.questions ≡ questions → IsAhead bytes failed a b → IsLegalLedger config seen
-    → c ≡ record { seat = s; seen = seen } → s' ≡ c'.seat → ServesSeat config questions terms.time bytes failed b b' c w c' w' end → IsAttended config terms s a b' w w' s' end
+    → c ≡ record { seat = s; seen = seen } → s' ≡ c'.seat → ServesSeat config questions terms.time terms.secret bytes failed b b' c w c' w' end → IsAttended config terms s a b' w w' s' end
 attended config terms questions failed bytes a b b' s s' seen c c' w w' end is ahead legal first last serves =
     let from : Station = record { seat = s; seen = seen } in
-    let left : ServesSeat config questions terms.time bytes failed b b' c w (record { seat = s'; seen = c'.seen }) w' end = subst (λ (x : Chair). ServesSeat config questions terms.time bytes failed b b' c w (record { seat = x; seen = c'.seen }) w' end) (sym last) serves in
-    let begun : ServesSeat config questions terms.time bytes failed b b' from w (record { seat = s'; seen = c'.seen }) w' end = subst (λ (x : Station). ServesSeat config questions terms.time bytes failed b b' x w (record { seat = s'; seen = c'.seen }) w' end) first left in
+    let left : ServesSeat config questions terms.time terms.secret bytes failed b b' c w (record { seat = s'; seen = c'.seen }) w' end = subst (λ (x : Chair). ServesSeat config questions terms.time terms.secret bytes failed b b' c w (record { seat = x; seen = c'.seen }) w' end) (sym last) serves in
+    let begun : ServesSeat config questions terms.time terms.secret bytes failed b b' from w (record { seat = s'; seen = c'.seen }) w' end = subst (λ (x : Station). ServesSeat config questions terms.time terms.secret bytes failed b b' x w (record { seat = s'; seen = c'.seen }) w' end) first left in
     inl (record {
       bytes = bytes;
       failed = failed;
@@ -32,5 +37,68 @@ attended config terms questions failed bytes a b b' s s' seen c c' w w' end is a
       seen' = c'.seen;
       ahead = ahead;
       legal = legal;
-      serves = subst (λ q. ServesSeat config q terms.time bytes failed b b' from w (record { seat = s'; seen = c'.seen }) w' end) (sym is) begun;
+      serves = subst (λ q. ServesSeat config q terms.time terms.secret bytes failed b b' from w (record { seat = s'; seen = c'.seen }) w' end) (sym is) begun;
     })
+
+-- a session of a heap that stays, and the closings at its end
+pub stayed : (config : HeapSettings) (terms : Terms) (failed : Bool) (bytes : List ℕ) (a b b' : Incoming) (s s' : Chair) (seen seen' : List Call) (c c' : StayingStation) (w w' : Outgoing) (end : SessionEnd) → IsAhead bytes failed a b → IsLegalLedger config seen
+    → c ≡ record { seat = s; seen = seen; pins = []; questions = terms.questions } → s' ≡ c'.seat → ClosesEach config c'.pins c'.seen seen' → ServesClient (staying_says config terms) (staying_begins config terms) terms.secret bytes failed b b' c w c' w' end → IsAttendedStaying config terms s a b' w w' s' end
+stayed config terms failed bytes a b b' s s' seen seen' c c' w w' end ahead legal first last closes serves =
+    inl (record {
+      bytes = bytes;
+      failed = failed;
+      left = b;
+      seen = seen;
+      last = c';
+      seen' = seen';
+      ahead = ahead;
+      legal = legal;
+      serves = subst (λ (x : StayingStation). ServesClient (staying_says config terms) (staying_begins config terms) terms.secret bytes failed b b' x w c' w' end) first serves;
+      closes = closes;
+      seat = last;
+    })
+
+-- ---- sessions that are told as idle
+
+-- nobody is turned away so
+not_away : (secret : Option (List ℕ)) (bytes : List ℕ) → TurnsAway secret bytes Idle → ⊥
+not_away (Some word) bytes away = cc away.1
+not_away None bytes away = cc away.1
+
+-- no session ends so by itself
+never_idle : (config : HeapSettings) (terms : Terms) (stays : Bool) (a b : Incoming) (s s' : Chair) (w w' : Outgoing) → IsAttendedOn stays config terms s a b w w' s' Idle → ⊥
+never_idle config terms false a b s s' w w' (inl served) = not_away terms.secret served.bytes served.serves.0
+never_idle config terms false a b s s' w w' (inr none) = cc none.0
+never_idle config terms true a b s s' w w' (inl served) = not_away terms.secret served.bytes served.serves.0
+never_idle config terms true a b s s' w w' (inr none) = cc none.0
+
+plain : (config : HeapSettings) (terms : Terms) (stays : Bool) (a b : Incoming) (s s' : Chair) (w w' : Outgoing) (end : SessionEnd) → IsAttendedOn stays config terms s a b w w' s' end → IsAttendedOn stays config terms s a b w w' s' (plain_end end)
+plain config terms stays a b s s' w w' (Ran ended) h = h
+plain config terms stays a b s s' w w' Http h = h
+plain config terms stays a b s s' w w' Stranger h = h
+plain config terms stays a b s s' w w' Idle h = absurd (never_idle config terms stays a b s s' w w' h)
+
+-- a session is told as it ended, or as idle
+told_so : (config : HeapSettings) (terms : Terms) (stays : Bool) (a b : Incoming) (s s' : Chair) (w w' : Outgoing) (end told : SessionEnd) → IsAttendedOn stays config terms s a b w w' s' end → IsToldAs terms.idle end told
+    → IsLimited terms told × IsAttendedOn stays config terms s a b w w' s' (plain_end told)
+told_so config terms stays a b s s' w w' end told h (inl same) = (
+  (λ is. absurd (never_idle config terms stays a b s s' w w' (subst (λ e. IsAttendedOn stays config terms s a b w w' s' e) (sym same ∙ is) h))),
+  subst (λ e. IsAttendedOn stays config terms s a b w w' s' (plain_end e)) (sym same) (plain config terms stays a b s s' w w' end h),
+)
+told_so config terms stays a b s s' w w' end told h (inr idle) = (
+  (λ is. idle.2),
+  subst (λ e. IsAttendedOn stays config terms s a b w w' s' (plain_end e)) (sym idle.1) (subst (λ e. IsAttendedOn stays config terms s a b w w' s' e) idle.0 h),
+)
+
+-- what went through the socket of a client
+pub client_told : (config : HeapSettings) (terms : Terms) (stays : Bool) (s s' : Chair) (end told : SessionEnd) (a b given : Incoming) (w w' sent : Outgoing) → a.taken ≡ [] → w.out ≡ [] → IsAttendedOn stays config terms s a b w w' s' end → IsToldAs terms.idle end told → given ≡ b → sent ≡ w'
+    → IsLimited terms told × (x : Incoming) × (y : Outgoing) × (x.taken ≡ []) × (y.out ≡ []) × IsAttendedOn stays config terms s x given y sent s' (plain_end told)
+client_told config terms stays s s' end told a b given w w' sent taken out h so gave put =
+    let both = told_so config terms stays a b s s' w w' end told h so in (
+      both.0,
+      a,
+      w,
+      taken,
+      out,
+      subst (λ x. IsAttendedOn stays config terms s a x w sent s' (plain_end told)) (sym gave) (subst (λ y. IsAttendedOn stays config terms s a b w y s' (plain_end told)) (sym put) both.1),
+    )

@@ -10,4 +10,7 @@ pub mod AheadReads
 pub mod AheadSeen
 pub mod ClientSessions
 pub mod SeatOrder
+pub mod SittingTurns
+pub mod OpenPins
+pub mod Stays
 pub mod LentSessions

@@ -1,5 +1,5 @@
 -- What a client sends, and how it ends.
-use Rattle.std.specs.Prelude.{◌≡◌, ◌⊎◌, ℕ, Bool, true, false, codes}
+use Rattle.std.specs.Prelude.{◌≡◌, ◌⊎◌, ℕ, ◌<◌, Bool, true, false, List, [], ◌∷◌, ◌++◌, length, Option, Some, None, codes}
 use Rattle.dump_pump.specs.Outlets.{Outgoing}
 use Rattle.dump_pump.specs.Pumps.{PutsAll}
 use Rattle.dump_pump.specs.Inlets.{Incoming}
@@ -20,10 +20,32 @@ SendsAfter between w' failed ReadFault = (failed ≡ true) × PutsLastLine betwe
 SendsAfter between w' failed WriteFault = (failed ≡ false) × (w' ≡ between)
 
 -- what is read is written on until the input ends, a read fails or a write does
-abbrev pub Sends : Incoming → Incoming → Outgoing → Outgoing → Bool → Type 0
-Sends a b w w' failed =
+abbrev pub SendsInput : Incoming → Incoming → Outgoing → Outgoing → Bool → Type 0
+SendsInput a b w w' failed =
     (copied : Copied) × (between : Outgoing) × Copies a b w between copied
     × SendsAfter between w' failed copied
+
+-- the line of a secret word
+abbrev pub word_line : List ℕ → List ℕ
+word_line word = word ++ 10 ∷ []
+
+-- the line of a word, if there is one, was put out, or a beginning of it
+abbrev pub SendsWord : Option (List ℕ) → Outgoing → Outgoing → Bool → Type 0
+SendsWord None w w' whole = (whole ≡ true) × (w' ≡ w)
+SendsWord (Some word) w w' true = PutsAll (word_line word) w w' (length (word_line word))
+SendsWord (Some word) w w' false =
+    (n : ℕ) × (n < length (word_line word)) × PutsAll (word_line word) w w' n
+
+-- the input was put out behind a word's line that is whole; else it is untouched, and nothing more was put out
+abbrev pub SendsBehind : Bool → Incoming → Incoming → Outgoing → Outgoing → Bool → Type 0
+SendsBehind true a b between w' failed = SendsInput a b between w' failed
+SendsBehind false a b between w' failed = (failed ≡ false) × (b ≡ a) × (w' ≡ between)
+
+-- the line of a word, if there is one, was put out, and then the input, unless a write failed
+abbrev pub Sends : Option (List ℕ) → Incoming → Incoming → Outgoing → Outgoing → Bool → Type 0
+Sends secret a b w w' failed =
+    (whole : Bool) × (between : Outgoing) × SendsWord secret w between whole
+    × SendsBehind whole a b between w' failed
 
 -- a fault of the input goes before one of the copy
 abbrev pub asked_end : Bool → Copied → Asked

@@ -2,17 +2,8 @@
 use Rattle.std.specs.Prelude.{◌≡◌, ℕ, ◌-◌, ◌==◌, ◌&&◌, Bool, true, false, List, [], ◌∷◌, length, take, drop, slice_index, nat_le, codes, Option, Some, None, option_map, if◌then◌else◌}
 use Rattle.std.specs.Option.{option_map_or}
 use Rattle.std.specs.Str.{bytes_eq}
-use Rattle.std.specs.Io.KnownBytes.{prepend_known}
-use Rattle.dump_pump.specs.Inlets.{Incoming}
-use Rattle.dump_pump.specs.Outlets.{Outgoing}
 use Rattle.session_grammar.specs.Grammar.{without_cr}
 use Rattle.session_grammar.specs.declared.TheConstants.{LINE_LIMIT}
-use Rattle.session_text.specs.Answers.{AnswerRelation}
-use Rattle.session_text.specs.Talks.{Serves}
-use Rattle.session_text.specs.declared.Ended.{Ended}
-use Rattle.heap_server.specs.Ahead.{IsSeenBehind}
-use Rattle.heap_server.specs.declared.client_session.SessionEnd.{SessionEnd}
-use Rattle.heap_server.specs.declared.client_session.SessionEnd.TheVariants.{Ran, Http}
 
 -- the number of bytes of ` HTTP/1.` and a digit
 abbrev pub version_size : ℕ
@@ -42,23 +33,3 @@ is_request l = nat_le (length l) LINE_LIMIT && is_request_line (without_cr l)
 -- the first line, if it is whole, begins an HTTP request
 abbrev pub asks_http : List ℕ → Bool
 asks_http bytes = option_map_or is_request (first_line bytes) false
-
--- a session was served over these bytes, which were read ahead and left the inlet as `b`, and what the inlet gave behind them, up to
--- `b'`
-abbrev pub ServesBehind : {S : Type 0} → AnswerRelation S → AnswerRelation S → List ℕ → Bool
-    → Incoming → Incoming → S
-    → Outgoing → S → Outgoing → Ended → Type 0
-ServesBehind says begins bytes failed b b' c w c' w' ended =
-    (i : Incoming) × (j : Incoming) × (i.taken ≡ []) × (i.failures ≡ 0)
-    × (i.left ≡ prepend_known bytes b.left) × IsSeenBehind bytes failed b b' j
-    × Serves says begins i j c w c' w' ended
-
--- these bytes were read ahead of a session, the last of the reads failed or not, and left the inlet as `b`: they begin an HTTP
--- request, and nothing was read, done or put out; or they don't, and a session was served behind them
-abbrev pub ServesClient : {S : Type 0} → AnswerRelation S → AnswerRelation S → List ℕ → Bool
-    → Incoming → Incoming → S
-    → Outgoing → S → Outgoing → SessionEnd → Type 0
-ServesClient says begins bytes failed b b' c w c' w' Http =
-    (asks_http bytes ≡ true) × (b' ≡ b) × (c' ≡ c) × (w' ≡ w)
-ServesClient says begins bytes failed b b' c w c' w' (Ran ended) =
-    (asks_http bytes ≡ false) × ServesBehind says begins bytes failed b b' c w c' w' ended

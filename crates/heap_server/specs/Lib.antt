@@ -9,9 +9,13 @@ pub mod Reports
 pub mod DumpAnswers
 pub mod Tending
 pub mod Http
+pub mod Clients
 pub mod Ahead
 pub mod PageSessions
+pub mod StayingSeats
+pub mod Staying
 -- What clauses here, and proofs above, cite of the crates below.
 pub use Rattle.heap_lock.specs.Blanks
 pub use Rattle.heap_lock.specs.Calls
 pub use Rattle.heap_lock.specs.declared.role.Role
+pub use Rattle.secret_word.specs.Words

@@ -3,7 +3,7 @@ use Rattle.std.specs.Prelude.{ℕ, ◌+◌, List, [], ◌∷◌, ◌++◌, codes
 use Rattle.session_text.specs.declared.Ended.{Ended}
 use Rattle.session_text.specs.declared.Ended.TheVariants.{Quit, Eof, CutLine, TooLong, ReadFault, TooManyReads, WriteFault, NoMemory}
 use Rattle.heap_server.specs.declared.client_session.SessionEnd.{SessionEnd}
-use Rattle.heap_server.specs.declared.client_session.SessionEnd.TheVariants.{Ran, Http}
+use Rattle.heap_server.specs.declared.client_session.SessionEnd.TheVariants.{Ran, Http, Stranger, Idle}
 use Rattle.heap_server.specs.declared.sessions.SeatEnd.{SeatEnd}
 
 -- the word that names how a session ended
@@ -21,6 +21,8 @@ word_of_ending NoMemory = codes "memory"
 abbrev pub word_of_end : SessionEnd → List ℕ
 word_of_end (Ran ended) = word_of_ending ended
 word_of_end Http = codes "http"
+word_of_end Stranger = codes "secret"
+word_of_end Idle = codes "idle"
 
 -- the line of a session of this number
 abbrev pub line_of : ℕ → SessionEnd → List ℕ

@@ -1,5 +1,5 @@
 -- Where a session over a shared heap stands, and what a client did from a seat.
-use Rattle.std.specs.Prelude.{◌≡◌, ◌⊎◌, ℕ, Bool, true, false, List, [], ◌∷◌, Option, Some, None}
+use Rattle.std.specs.Prelude.{◌≡◌, ◌⊎◌, ℕ, ◌≤◌, Bool, true, false, List, [], ◌∷◌, Option, Some, None}
 use Rattle.heap_lock.specs.Seated.{TableId}
 use Rattle.dump_pump.specs.Inlets.{Incoming}
 use Rattle.dump_pump.specs.Outlets.{Outgoing}
@@ -13,12 +13,13 @@ use Rattle.session_text.specs.Answers.{AnswerRelation, AnswersCommand, Begins, a
 use Rattle.session_text.specs.Dumps.{Acts}
 use Rattle.session_text.specs.declared.Ended.TheVariants.{NoMemory}
 use Rattle.heap_server.specs.Ahead.{IsAhead}
-use Rattle.heap_server.specs.Http.{ServesClient}
+use Rattle.heap_server.specs.Clients.{ServesClient, plain_end}
 use Rattle.heap_server.specs.JoinedActs.{IsJoined}
 use Rattle.heap_server.specs.JoinedAnswers.{AnswersForSeat}
 use Rattle.heap_server.specs.SocketTraffic.{Traffic}
+use Rattle.heap_server.specs.StayingSeats.{ClosesEach, StayingStation, staying_acts, staying_answers}
 use Rattle.heap_server.specs.declared.client_session.SessionEnd.{SessionEnd}
-use Rattle.heap_server.specs.declared.client_session.SessionEnd.TheVariants.{Ran}
+use Rattle.heap_server.specs.declared.client_session.SessionEnd.TheVariants.{Ran, Idle}
 use Rattle.heap_server.specs.declared.sessions.SeatEnd.{SeatEnd}
 use Rattle.heap_server.specs.declared.sessions.Terms.{Terms}
 
@@ -58,7 +59,8 @@ pub record IsServedFrom (config : HeapSettings) (terms : Terms) (s : Chair) (a a
   pub seen' : List Call
   pub ahead : IsAhead bytes failed a left
   pub legal : IsLegalLedger config seen
-  pub serves : ServesClient (seat_says config terms) (seat_begins config terms) bytes failed left a'
+  pub serves : ServesClient (seat_says config terms) (seat_begins config terms) terms.secret bytes
+      failed left a'
       (record { seat = s; seen = seen }) w (record { seat = s'; seen = seen' }) w' end
 
 -- so it was; or memory for the first line was refused, and nothing was done or put out
@@ -69,12 +71,58 @@ IsAttended config terms s a a' w w' s' end =
     IsServedFrom config terms s a a' w w' s' end
     ⊎ ((end ≡ Ran NoMemory) × (s' ≡ s) × (w' ≡ w))
 
+-- what a line does from a seat of a heap that stays
+abbrev pub staying_says : HeapSettings → Terms → AnswerRelation StayingStation
+staying_says config terms =
+    AnswersCommand (staying_acts config) (staying_answers config) terms.time
+
+-- the same if a write fails in its answer
+abbrev pub staying_begins : HeapSettings → Terms → AnswerRelation StayingStation
+staying_begins config terms = Begins (staying_acts config) (staying_answers config) terms.time
+
+-- a client was served from seat `s` of a heap that stays, as above, and then the pins were closed that were left of those that it opened
+pub record IsServedStaying (config : HeapSettings) (terms : Terms) (s : Chair) (a a' : Incoming)
+    (w w' : Outgoing) (s' : Chair) (end : SessionEnd) : Type 0 where
+  pub bytes : List ℕ
+  pub failed : Bool
+  pub left : Incoming
+  pub seen : List Call
+  pub last : StayingStation
+  pub seen' : List Call
+  pub ahead : IsAhead bytes failed a left
+  pub legal : IsLegalLedger config seen
+  pub serves : ServesClient (staying_says config terms) (staying_begins config terms) terms.secret
+      bytes failed left a'
+      (record { seat = s; seen = seen; pins = []; questions = terms.questions }) w last w' end
+  pub closes : ClosesEach config last.pins last.seen seen'
+  pub seat : s' ≡ last.seat
+
+-- so it was; or memory for the first line was refused, and nothing was done or put out
+abbrev pub IsAttendedStaying : HeapSettings → Terms → Chair → Incoming → Incoming → Outgoing
+    → Outgoing
+    → Chair → SessionEnd → Type 0
+IsAttendedStaying config terms s a a' w w' s' end =
+    IsServedStaying config terms s a a' w w' s' end
+    ⊎ ((end ≡ Ran NoMemory) × (s' ≡ s) × (w' ≡ w))
+
+-- a client was attended from a seat of a heap that stays or doesn't
+abbrev pub IsAttendedOn : Bool → HeapSettings → Terms → Chair → Incoming → Incoming → Outgoing
+    → Outgoing
+    → Chair → SessionEnd → Type 0
+IsAttendedOn false config terms s a a' w w' s' end = IsAttended config terms s a a' w w' s' end
+IsAttendedOn true config terms s a a' w w' s' end =
+    IsAttendedStaying config terms s a a' w w' s' end
+
+-- a session of which reads may wait for any time isn't idle
+abbrev pub IsLimited : Terms → SessionEnd → Type 0
+IsLimited terms end = end ≡ Idle → 1 ≤ terms.idle
+
 -- the client of a socket was served, from the first byte that the socket gave to the last that it was sent; or memory for the socket was
 -- refused, and nothing was done
 abbrev pub IsClientOf : HeapSettings → Terms → Chair → Chair → SessionEnd → Option Traffic → Type 0
 IsClientOf config terms s s' end (Some traffic) =
-    (a : Incoming) × (w : Outgoing) × (a.taken ≡ []) × (w.out ≡ [])
-    × IsAttended config terms s a traffic.given w traffic.sent s' end
+    IsLimited terms end × (a : Incoming) × (w : Outgoing) × (a.taken ≡ []) × (w.out ≡ [])
+    × IsAttendedOn terms.stays config terms s a traffic.given w traffic.sent s' (plain_end end)
 IsClientOf config terms s s' end None = (end ≡ Ran NoMemory) × (s' ≡ s)
 
 -- a seat of the heap with these tables as its session left it; or there was no thread for the session, which ended by NoMemory

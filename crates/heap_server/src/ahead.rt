@@ -1,5 +1,5 @@
 //! An inlet whose first line is read ahead.
-ghost use Rattle.std.specs.Prelude.{◌≡◌, ◌+◌, ◌≤◌, ◌<◌, ◌^◌, [], IfOk, drop, length, take};
+ghost use Rattle.std.specs.Prelude.{◌≡◌, ◌+◌, ◌≤◌, ◌<◌, ◌^◌, [], IfOk, drop, length, take, vec_capacity};
 ghost use Rattle.std.specs.Io.KnownBytes.{prepend_known};
 ghost use Rattle.dump_pump.specs.Inlets.{IsTriedRead, count_of};
 ghost use Rattle.dump_pump.specs.Outlets.{log_bytes};
@@ -16,8 +16,9 @@ use session_text::{Inlet, Take};
 use std::alloc::{AllocError, Global};
 use std::marker::{Brand, Model, PhantomData};
 
-// The most bytes that are read ahead: more than a line has, and few, since each session that waits for its first line has them.
-const ROOM: usize = 8_192;
+// The most bytes that are read ahead: more than a line has, and few, since each session that waits for its first line has them. They
+// are a little more than a session's page has, which takes their place when the first line has come.
+const ROOM: usize = 8_704;
 
 // One less than the largest size of a read.
 const LAST_SIZE: usize = ROOM - 1;
@@ -46,17 +47,17 @@ fn read_more<I: Inlet>(inlet: &mut I, room: &mut [u8], end: usize) -> Take
 
 // Reads into a room until the first line is whole or too long, the end comes, or a read fails. Returns the number of bytes that
 // came, and whether the last read failed.
-fn fill<I: Inlet>(inlet: &mut I, room: &mut [u8], sizes: &mut [u16]) -> (usize, bool)
+fn fill<I: Inlet>(inlet: &mut I, room: &mut [u8], sizes: &mut Vec<u16>) -> (usize, bool)
     requires room { LINE_LIMIT < length room.old }
-    requires sizes { LINE_LIMIT < length sizes.old }
+    requires sizes { (sizes.old.items ≡ []) × (LINE_LIMIT < vec_capacity sizes.old) }
     ensures ahead { IsAhead (take result.0 room.new) result.1 (I.seen inlet.old)
         (I.seen inlet.new) }
 {
     let mut end = 0;
-    for read in 0..READS_LIMIT {
+    while sizes.len() < READS_LIMIT {
         match read_more(inlet, room, end) {
             Take::Got(n) => {
-                sizes[read] = n.saturating_sub(1).min(LAST_SIZE) as u16;
+                sizes.push_reserved(n.saturating_sub(1).min(LAST_SIZE) as u16);
                 end += n;
                 if line_end(&room[..end]).is_some() || end > LINE_LIMIT {
                     return (end, false);
@@ -76,15 +77,40 @@ pub(crate) fn read_line<I: Inlet>(alloc: Global, inlet: &mut I) -> Result<Ahead,
         (λ a. IsAhead a.bytes.items a.failed (I.seen inlet.old) (I.seen inlet.new)) }
 {
     let mut bytes = vec![in alloc; 0; ROOM]?;
-    let mut sizes = vec![in alloc; 0; READS_LIMIT]?;
-    let (end, failed) = fill(inlet, bytes.as_mut_slice(), sizes.as_mut_slice());
+    let mut sizes = Vec::with_capacity(alloc, READS_LIMIT)?;
+    let (end, failed) = fill(inlet, bytes.as_mut_slice(), &mut sizes);
     bytes.truncate(end);
     bytes.shrink_to_fit();
+    sizes.shrink_to_fit();
     Ok(Ahead {
         bytes,
         sizes,
         failed,
     })
+}
+
+impl Ahead {
+    /// Returns what was read ahead behind the first `size` bytes. It comes in one part.
+    pub(crate) fn behind(self, size: usize) -> Ahead
+        requires { size ≤ length self.bytes.items }
+        ensures bytes { result.bytes.items ≡ drop size self.bytes.items }
+        ensures failed { result.failed ≡ self.failed }
+    {
+        let Ahead {
+            mut bytes,
+            mut sizes,
+            failed,
+        } = self;
+        let left = bytes.len() - size;
+        bytes.as_mut_slice().rotate_left(size);
+        bytes.truncate(left);
+        sizes.clear();
+        Ahead {
+            bytes,
+            sizes,
+            failed,
+        }
+    }
 }
 
 /// What was read ahead of an inlet, and the inlet then. Each call picks it.

@@ -1,5 +1,6 @@
 //! A user's seat at a shared heap, which answers questions too.
 ghost use Rattle.std.specs.Prelude.{◌≡◌};
+ghost use Rattle.heap_lock.specs.declared.role.Role.TheVariants.{User};
 
 use crate::joined::Joined;
 use heap_lock::{Action, Heap, Reply, Seat};
@@ -35,7 +36,8 @@ impl<'a, L: Heap, R: Wait> AskingSeat<'a, L, R> {
 
     /// Gives the seat back.
     pub fn into_seat(self) -> Seat<L>
-        ensures { result ≡ self.entry.seat }
+        ensures seat { result ≡ self.entry.seat }
+        ensures role { result.role ≡ User }
     {
         self.joined.into_seat()
     }

@@ -2,33 +2,35 @@
 use heap_lock::{Heap, Shared};
 use heap_page::{PagePort, tend_page};
 use live_dump::{DumpListener, tend_dumps};
+use secret_word::Secret;
 use std::alloc::{AllocError, Global};
 use std::sync::Wait;
 use std::sync::atomic::{AtomicBool, Ordering};
 use std::thread::{JoinHandle, Scope, Threads};
 use std::time::Clock;
 
-// The thread that sends dumps and the one that answers the clients of the page, each if there is a port for it.
+// The first of the threads that send dumps and the thread that answers the clients of the page, each if there is a port for it.
 #[derive(Drop)]
 pub(crate) struct Beside {
     dumping: Option<JoinHandle<()>>,
     showing: Option<JoinHandle<()>>,
 }
 
-// Begins the thread that sends dumps, if there is a port for them. Fails if it can't be started.
+// Begins the first of the threads that send dumps, if there is a port for them; it begins the others. Fails if it can't be started.
 fn begin_dumps<'s, E, L: Heap + Send + Sync, R: Clock + Eprint + Threads + Wait + Sync>(
     scope: &Scope<'s, E>,
     rt: &'s R,
     alloc: Global,
     shared: &'s Shared<L>,
     dumps: Option<DumpListener>,
+    secret: &'s Option<Secret>,
     time: u64,
     stop: &'s AtomicBool,
 ) -> Result<Option<JoinHandle<()>>, AllocError> {
     let Some(dumps) = dumps else {
         return Ok(None);
     };
-    let thread = scope.spawn(move || tend_dumps(rt, alloc, shared, dumps, time, stop))?;
+    let thread = scope.spawn(move || tend_dumps(rt, alloc, shared, dumps, *secret, time, stop))?;
     Ok(Some(thread))
 }
 
@@ -49,18 +51,20 @@ fn begin_page<'s, E, L: Heap + Send + Sync, R: Clock + Threads + Wait + Sync>(
 }
 
 impl Beside {
-    // Begins the threads for which there are ports. Fails if one can't be started; the other is then told to stop, and joined.
+    // Begins the threads for which there are ports; the clients of dumps have to say the secret word, if there is one. Fails if one
+    // can't be started; the other is then told to stop, and joined.
     pub(crate) fn begin<'s, E, L: Heap + Send + Sync, R: Clock + Eprint + Threads + Wait + Sync>(
         scope: &Scope<'s, E>,
         rt: &'s R,
         alloc: Global,
         shared: &'s Shared<L>,
         dumps: Option<DumpListener>,
+        secret: &'s Option<Secret>,
         page: Option<PagePort>,
         time: u64,
         stop: &'s AtomicBool,
     ) -> Result<Beside, AllocError> {
-        let dumping = begin_dumps(scope, rt, alloc, shared, dumps, time, stop)?;
+        let dumping = begin_dumps(scope, rt, alloc, shared, dumps, secret, time, stop)?;
         let Ok(showing) = begin_page(scope, rt, alloc, shared, page, stop) else {
             let alone = Beside {
                 dumping,

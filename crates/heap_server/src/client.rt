@@ -1,11 +1,12 @@
 //! The client of a session: what it sends, and what comes back.
 ghost use Rattle.std.specs.Prelude.{◌≡◌, IfSome, IfNone};
 ghost use Rattle.heap_server.specs.declared.client.Asked.TheVariants.{NoMemory};
-ghost use Rattle.heap_server.specs.ClientEndings.{AsksServer, Receives, Sends, asked_end};
+ghost use Rattle.heap_server.specs.ClientEndings.{AsksServer, Receives, Sends, SendsInput, SendsWord, asked_end};
 
 use crate::copy::{Copied, copy_all};
 use dump_pump::Outlet;
 use dump_pump::transfer::put_all;
+use secret_word::Secret;
 use session_text::Inlet;
 use std::alloc::Global;
 use std::snapshot::Snapshot;
@@ -35,9 +36,10 @@ pub struct Sent<I, T> {
     pub failed: bool,
 }
 
-/// The promise of a thread that it sends this input to this outlet.
+/// The promise of a thread that it sends the line of this word, if there is one, and then this input to this outlet.
 #[derive(Drop)]
 pub struct SendsFrom<I, T> {
+    pub secret: Option<Secret>,
     pub input: Snapshot<I>,
     pub outlet: Snapshot<T>,
 }
@@ -45,7 +47,7 @@ pub struct SendsFrom<I, T> {
 impl<I: Inlet, T: Outlet> Promise<Sent<I, T>> for SendsFrom<I, T> {
     ghost use Rattle.heap_server.specs.ClientEndings.{Sends};
 
-    ghost kept_by = { λ p r. Sends (I.seen p.input.value) (I.seen r.input.value)
+    ghost kept_by = { λ p r. Sends p.secret (I.seen p.input.value) (I.seen r.input.value)
         (T.seen p.outlet.value) (T.seen r.outlet.value) r.failed };
 }
 
@@ -56,13 +58,14 @@ pub struct Client<I: Inlet, T: Outlet> {
     pub sender: Option<PromisedHandle<Sent<I, T>, SendsFrom<I, T>>>,
 }
 
-/// Sends all input and then an empty line and the line `end` to the outlet of a socket, in a thread of its own, and copies to the
-/// output what comes from the socket until it ends or a read or a write fails. Returns then, even if that thread still waits for
-/// input or for the socket: it ends with its input, with the connection or with the program. Of two faults the input's is named,
-/// if it came before the session ended. May wait.
+/// Sends the line of the secret word, if there is one, all input, and then an empty line and the line `end` to the outlet of a
+/// socket, in a thread of its own, and copies to the output what comes from the socket until it ends or a read or a write fails.
+/// Returns then, even if that thread still waits for input or for the socket: it ends with its input, with the connection or with
+/// the program. Of two faults the input's is named, if it came before the session ended. May wait.
 pub fn ask<R, I, T, S: Inlet, O: Outlet>(
     rt: &R,
     alloc: Global,
+    secret: Option<Secret>,
     input: I,
     outlet: T,
     socket: &mut S,
@@ -74,8 +77,8 @@ where
     T: Outlet + Send + Drop + 'static,
     ensures receives { AsksServer (S.seen socket.old) (S.seen socket.new) (O.seen output.old)
         (O.seen output.new) result.asked }
-    ensures sends { IfSome result.sender
-        (λ h. (h.promise.input.value ≡ input) × (h.promise.outlet.value ≡ outlet)) }
+    ensures sends { IfSome result.sender (λ h. (h.promise.secret ≡ secret)
+        × (h.promise.input.value ≡ input) × (h.promise.outlet.value ≡ outlet)) }
     ensures unsent { IfNone result.sender (result.asked ≡ NoMemory) }
 {
     let Some((own, theirs)) = marks(alloc) else {
@@ -83,12 +86,14 @@ where
         let sender = None;
         return Client { asked, sender };
     };
+    let word = &secret;
     let promise = SendsFrom {
+        secret: *word,
         input: Snapshot::of(&input),
         outlet: Snapshot::of(&outlet),
     };
-    let handle = *rt;
-    let send = move || send_from(&handle, input, outlet, &theirs);
+    let (handle, first) = (*rt, *word);
+    let send = move || send_from(&handle, first, input, outlet, &theirs);
     let Ok(sender) = thread::spawn_with(rt, promise, send) else {
         let asked = Asked::NoMemory;
         let sender = None;
@@ -106,19 +111,20 @@ fn marks(alloc: Global) -> Option<(Arc<AtomicBool>, Arc<AtomicBool>)> {
     Some((own, theirs))
 }
 
-// Sends all input to an outlet, as `send_all` does.
+// Sends the line of a word and all input to an outlet, as `send_all` does.
 fn send_from<R: Wait, I: Inlet + Drop, T: Outlet + Drop>(
     rt: &R,
+    secret: Option<Secret>,
     input: I,
     outlet: T,
     input_failed: &AtomicBool,
 ) -> Sent<I, T>
-    ensures { Sends (I.seen input) (I.seen result.input.value) (T.seen outlet)
+    ensures { Sends secret (I.seen input) (I.seen result.input.value) (T.seen outlet)
         (T.seen result.outlet.value) result.failed }
 {
     let mut input = input;
     let mut outlet = outlet;
-    let failed = send_all(rt, &mut input, &mut outlet, input_failed);
+    let failed = send_all(rt, secret, &mut input, &mut outlet, input_failed);
     Sent {
         input: Snapshot::of(&input),
         outlet: Snapshot::of(&outlet),
@@ -126,16 +132,48 @@ fn send_from<R: Wait, I: Inlet + Drop, T: Outlet + Drop>(
     }
 }
 
+// Sends the line of a word, if there is one. Returns whether all of it is out.
+fn send_word<O: Outlet>(secret: Option<Secret>, socket: &mut O) -> bool
+    ensures { SendsWord secret (O.seen socket.old) (O.seen socket.new) result }
+{
+    match secret {
+        Some(word) => {
+            let line = word.line();
+            let bytes = line.as_bytes();
+            put_all(socket, bytes) >= bytes.len()
+        }
+        None => true,
+    }
+}
+
+// Sends the line of a word, if there is one, and then input, as `send_input` does. A write that fails ends the sending and is no fault.
+// Returns whether the input failed.
+fn send_all<R: Wait, I: Inlet, O: Outlet>(
+    rt: &R,
+    secret: Option<Secret>,
+    input: &mut I,
+    socket: &mut O,
+    input_failed: &AtomicBool,
+) -> bool
+    ensures { Sends secret (I.seen input.old) (I.seen input.new) (O.seen socket.old)
+        (O.seen socket.new) result }
+{
+    if !send_word(secret, socket) {
+        return false;
+    }
+    send_input(rt, input, socket, input_failed)
+}
+
 // Sends all input, and then a line's end and the line `end`, also after a fault of the input, which is noted before. A write that
 // fails ends the sending and is no fault. Returns whether the input failed.
-fn send_all<R: Wait, I: Inlet, O: Outlet>(
+fn send_input<R: Wait, I: Inlet, O: Outlet>(
     rt: &R,
     input: &mut I,
     socket: &mut O,
     input_failed: &AtomicBool,
 ) -> bool
-    ensures { Sends (I.seen input.old) (I.seen input.new) (O.seen socket.old) (O.seen socket.new)
-        result }
+    ensures { SendsInput (I.seen input.old) (I.seen input.new) (O.seen socket.old)
+        (O.seen socket.new) result }
 {
     let copied = copy_all(rt, input, socket);
     let failed = copied == Copied::ReadFault;

@@ -1,10 +1,11 @@
-//! The session of a client, unless the client sends an HTTP request.
+//! The session of a client, unless its first line turns it away.
 ghost use Rattle.session_text.specs.Answers.{AnswersCommand, Begins};
-ghost use Rattle.std.specs.Prelude.{◌≡◌};
-ghost use Rattle.heap_server.specs.Http.{ServesBehind, ServesClient};
+ghost use Rattle.std.specs.Prelude.{◌≡◌, MatchResult};
+ghost use Rattle.heap_server.specs.Clients.{Admits, ServesBehind, ServesClient, TurnsAway};
 
 use crate::ahead::{Ahead, AheadInlet, AheadOrigin};
 use crate::http::asks_http;
+use secret_word::Secret;
 use session_text::{Commands, Ended, Inlet, Outlet, serve};
 use std::alloc::Global;
 use std::marker::Brand;
@@ -16,10 +17,37 @@ pub enum SessionEnd {
     Ran(Ended),
     /// By its first line, which begins an HTTP request. Nothing was run or put out.
     Http,
+    /// By its first line, which isn't the secret word. Nothing was run or put out.
+    Stranger,
+    /// By a read that failed because nothing came for too long. Else it ended as a session ends by a read that failed.
+    Idle,
 }
 
-/// Serves a client whose first line was read ahead, as `serve` does; unless that line begins an HTTP request: then nothing more is
-/// read, and nothing is run or put out. Fails with NoMemory, before the first line is run, if an allocation for the session fails.
+// Returns what is left of the bytes that were read ahead of a client that is served. Fails with how its session ends if the client is
+// turned away: if the first line isn't the secret word, or, without one, begins an HTTP request.
+fn admit(ahead: Ahead, secret: Option<Secret>) -> Result<Ahead, SessionEnd>
+    ensures { MatchResult result
+        (λ a. Admits secret ahead.bytes.items a.bytes.items × (a.failed ≡ ahead.failed))
+        (λ end. TurnsAway secret ahead.bytes.items end) }
+{
+    match secret {
+        Some(word) => match word.line_size(ahead.bytes.as_slice()) {
+            Some(size) => Ok(ahead.behind(size)),
+            None => Err(SessionEnd::Stranger),
+        },
+        None => {
+            if asks_http(ahead.bytes.as_slice()) {
+                Err(SessionEnd::Http)
+            } else {
+                Ok(ahead)
+            }
+        }
+    }
+}
+
+/// Serves a client whose first line was read ahead, as `serve` does. If a secret word is asked for, that line has to be the word, and
+/// the session begins behind it; else it may not begin an HTTP request. A client whose first line is another is turned away: nothing
+/// more is read, and nothing is run or put out. Fails with NoMemory, before a line is run, if an allocation for the session fails.
 /// Gives the inlet back.
 pub(crate) fn serve_client<I: Inlet + Drop, O: Outlet, C: Commands>(
     alloc: Global,
@@ -28,21 +56,23 @@ pub(crate) fn serve_client<I: Inlet + Drop, O: Outlet, C: Commands>(
     outlet: &mut O,
     commands: &mut C,
     time: u64,
+    secret: Option<Secret>,
 ) -> (SessionEnd, I)
     ensures { ServesClient (AnswersCommand C.acts C.unknown time) (Begins C.acts C.unknown time)
-        ahead.bytes.items ahead.failed (I.seen inlet) (I.seen result.1) commands.old
+        secret ahead.bytes.items ahead.failed (I.seen inlet) (I.seen result.1) commands.old
         (O.seen outlet.old) commands.new (O.seen outlet.new) result.0 }
 {
-    if asks_http(ahead.bytes.as_slice()) {
-        return (SessionEnd::Http, inlet);
-    }
+    let ahead = match admit(ahead, secret) {
+        Ok(ahead) => ahead,
+        Err(end) => return (end, inlet),
+    };
     let (ended, inlet) = serve_behind::<I, O, C, Brand>(
         alloc, inlet, ahead, outlet, commands, time,
     );
     (SessionEnd::Ran(ended), inlet)
 }
 
-// Serves a client whose first line was read ahead and begins no HTTP request. Gives the inlet back.
+// Serves a client whose first line was read ahead and doesn't turn it away. Gives the inlet back.
 fn serve_behind<I: Inlet + Drop, O: Outlet, C: Commands, B: AheadOrigin>(
     alloc: Global,
     inlet: I,

@@ -1,5 +1,5 @@
 //! A user's seat at a shared heap, which acts on the lines of a session.
-ghost use Rattle.std.specs.Prelude.{◌≡◌};
+ghost use Rattle.std.specs.Prelude.{◌≡◌, filter};
 ghost use Rattle.heap_lock.specs.Action.TheVariants.{NextPiece, ClosePin};
 ghost use Rattle.heap_lock.specs.Machine.{IsSmall};
 ghost use Rattle.heap_lock.specs.declared.role.Role.TheVariants.{User};
@@ -8,14 +8,16 @@ ghost use Rattle.heap_lock.specs.History.{reply_of};
 ghost use Rattle.session_text.specs.Replies.{line_answer_text};
 ghost use Rattle.heap_server.specs.JoinedActs.{IsReply, IsLegalPart, OpensMet};
 ghost use Rattle.heap_server.specs.JoinedAnswers.{IsAnswerOfHeap, IsCollectionOfHeap};
+ghost use Rattle.heap_server.specs.StayingSeats.{AreStillOpen, is_open};
 
 use crate::held_heap::collect_held;
-use heap_lock::{Action, Heap, Outcome, Receipt, Refusal, Reply, Seat, Shared, Witness};
+use heap_lock::{Action, Heap, Machine, Outcome, Receipt, Refusal, Reply, Seat, Shared, Witness};
 use question_text::answer_line;
 use session_text::{Commands, LineAnswer};
 use std::alloc::Global;
 use std::marker::Model;
 use std::sync::Wait;
+use std::thread;
 
 /// A user's seat, with its heap. What others do on the heap goes on between any two actions. Contracts see the seat, whose
 /// share has what this session did, in order, and the calls that its witness has seen: those up to this session's last dump
@@ -62,6 +64,27 @@ fn reply_to_act(done: Result<Receipt, Refusal>) -> Reply
     }
 }
 
+// Tells whether a pin is open.
+fn is_open(machine: &Machine, pin: u64) -> bool
+    ensures { result ≡ is_open machine.now pin }
+{
+    let mut index = 0;
+    while let Some(open) = machine.nth_pin(index) {
+        if open.number == pin {
+            return true;
+        }
+        index += 1;
+    }
+    false
+}
+
+// Drops the pins that aren't open.
+fn retain_open(machine: &Machine, pins: &mut Vec<u64>)
+    ensures { pins.new.items ≡ filter (is_open machine.now) pins.old.items }
+{
+    pins.retain(|pin| is_open(machine, *pin));
+}
+
 impl<'a, L: Heap, R: Wait> Joined<'a, L, R> {
     /// Creates the commands of this seat.
     pub fn new(
@@ -83,7 +106,8 @@ impl<'a, L: Heap, R: Wait> Joined<'a, L, R> {
 
     /// Gives the seat back.
     pub fn into_seat(self) -> Seat<L>
-        ensures { result ≡ self.entry.seat }
+        ensures seat { result ≡ self.entry.seat }
+        ensures role { result.role ≡ User }
     {
         self.seat
     }
@@ -133,7 +157,7 @@ impl<'a, L: Heap, R: Wait> Joined<'a, L, R> {
         }
     }
 
-    // Answers a question about the heap, at one moment under the lock.
+    // Answers a question about the heap, at one moment under the lock, and leaves the processor to others then.
     pub(crate) fn answer(&mut self, alloc: Global, line: &[u8]) -> LineAnswer
         ensures answer { IsAnswerOfHeap L.config self.old.seat self.old.seen line.now
             (line_answer_text result) self.new.seen }
@@ -143,16 +167,34 @@ impl<'a, L: Heap, R: Wait> Joined<'a, L, R> {
         kept.agree(&mut self.seat);
         kept.show(&mut self.witness);
         let acts = kept.chronicle().len() as u64;
-        answer_line(alloc, kept.machine(), Some(acts), line)
+        let answer = answer_line(alloc, kept.machine(), Some(acts), line);
+        drop(kept);
+        thread::yield_now();
+        answer
     }
 
-    // Takes the steps of `collect` under the lock, each an act of this seat, and returns its answer.
+    // Forgets those of the pins that aren't open any more, at one moment under the lock.
+    pub(crate) fn forget_closed(&mut self, pins: &mut Vec<u64>)
+        ensures open { AreStillOpen L.config self.old.seat self.old.seen pins.old.items
+            self.new.seen pins.new.items }
+        ensures seat { self.new.seat ≡ self.old.seat }
+    {
+        let mut kept = self.shared.lock(self.rt);
+        kept.agree(&mut self.seat);
+        kept.show(&mut self.witness);
+        retain_open(kept.machine(), pins);
+    }
+
+    // Takes the steps of `collect` under the lock, each an act of this seat, leaves the processor to others then, and returns its answer.
     pub(crate) fn collect(&mut self, alloc: Global) -> LineAnswer
         ensures collects { IsCollectionOfHeap L.config self.old.seat self.old.seen
             (line_answer_text result) self.new.seat self.new.seen }
     {
         let mut kept = self.shared.lock(self.rt);
-        collect_held(alloc, &mut *kept, &mut self.seat, &mut self.witness)
+        let answer = collect_held(alloc, &mut *kept, &mut self.seat, &mut self.witness);
+        drop(kept);
+        thread::yield_now();
+        answer
     }
 }
 

@@ -11,13 +11,19 @@ mod held_heap;
 mod http;
 pub mod joined;
 pub mod laws;
+mod paced;
 pub mod page_session;
 pub mod report;
 pub mod sessions;
+mod sittings;
 pub mod socket;
 pub mod socket_outlet;
+pub mod staying;
+mod staying_seat;
+pub mod staying_tended;
 pub mod tended;
 pub mod tending;
+mod time_limits;
 
 pub use asking::AskingSeat;
 pub use client::{Asked, Client, SendsFrom, Sent, ask};
@@ -30,10 +36,15 @@ pub use laws::served_dumps_are_text;
 pub use live_dump::DumpListener;
 pub use page_session::serve_beside_page;
 pub use report::{tell_sessions, word};
+pub use secret_word::Secret;
 pub use sessions::{
     Ports, SeatEnd, Served, ServedHeap, ServicePlan, Terms, serve_clients, serve_heap, users,
 };
 pub use socket::{Half, SocketTraffic, halves};
 pub use socket_outlet::SocketOutlet;
+pub use staying::{SeatStay, Stayed, StayedHeap, serve_staying, serve_staying_heap};
+pub use staying_tended::{
+    StayTended, StayTendedHeap, serve_staying_tended, serve_staying_tended_heap,
+};
 pub use tended::{Staff, Tended, TendedHeap, serve_tended, serve_tended_heap, workers_and_users};
 pub use tending::{Duty, tend};

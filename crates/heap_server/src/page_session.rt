@@ -6,6 +6,7 @@ use crate::beside::Beside;
 use dump_pump::Outlet;
 use heap_lock::{Heap, Shared};
 use heap_page::PagePort;
+use secret_word::Secret;
 use session_text::{Commands, Ended, Inlet, serve};
 use std::alloc::{AllocError, Global};
 use std::sync::Wait;
@@ -81,6 +82,8 @@ fn talk_beside<L: Heap + Send + Sync, R: Clock + Eprint + Threads + Wait + Sync,
 {
     let word = AtomicBool::new(false);
     let stop = &word;
+    let nothing: Option<Secret> = None;
+    let secret = &nothing;
     thread::scope(
         thread::scope_env(),
         rt,
@@ -88,7 +91,7 @@ fn talk_beside<L: Heap + Send + Sync, R: Clock + Eprint + Threads + Wait + Sync,
             ensures talked { IfSome result.1 (λ ended. T.talks session ended result.0) }
             ensures silent { IfNone result.1 (result.0 ≡ session) }
         {
-            let begun = Beside::begin(scope, rt, alloc, shared, None, Some(page), 0, stop);
+            let begun = Beside::begin(scope, rt, alloc, shared, None, secret, Some(page), 0, stop);
             let Ok(beside) = begun else {
                 return (session, None);
             };

@@ -25,18 +25,20 @@ fn word_of_ending(ended: Ended) -> &'static str
     }
 }
 
-/// Returns the word of a session's end: that of its ending, or http.
+/// Returns the word of a session's end: that of its ending, or http, secret or idle.
 pub fn word(end: SessionEnd) -> &'static str
     ensures { result.now ≡ word_of_end end }
 {
     match end {
         SessionEnd::Ran(ended) => word_of_ending(ended),
         SessionEnd::Http => "http",
+        SessionEnd::Stranger => "secret",
+        SessionEnd::Idle => "idle",
     }
 }
 
 // Writes the line of a session of this number.
-fn tell_session<W: Write>(writer: &mut W, number: u64, end: SessionEnd) -> io::Result<()>
+pub(crate) fn tell_session<W: Write>(writer: &mut W, number: u64, end: SessionEnd) -> io::Result<()>
     ensures { OnOk result
         (Appends (W.contents writer.old) (W.contents writer.new) (line_of number end)) }
 {

@@ -1,31 +1,36 @@
 //! Sessions over one shared heap.
-ghost use Rattle.std.specs.Prelude.{◌≡◌, ◌≤◌, IfOk, IfErr, [], length, vec_len, vec_capacity};
+ghost use Rattle.std.specs.Prelude.{◌≡◌, ◌≤◌, IfOk, IfErr, length};
 ghost use Rattle.heap_lock.specs.Blanks.{IsNamed};
 ghost use Rattle.heap_lock.specs.Refusal.TheVariants.{NoMemory};
 ghost use Rattle.heap_lock.specs.declared.role.Role.TheVariants.{User};
-ghost use Rattle.heap_server.specs.SessionSeats.{AreUsers, EndAs, EndsAs, IsBegun, IsFor, IsOver, session_limit};
-ghost use Rattle.heap_server.specs.Stations.{IsAttended, IsClientOf};
+ghost use Rattle.heap_server.specs.SessionSeats.{AreUsers, IsFor, IsOver, session_limit};
+ghost use Rattle.heap_server.specs.Clients.{IsToldAs};
+ghost use Rattle.heap_server.specs.Stations.{IsAttended, IsAttendedOn, IsAttendedStaying, IsClientOf};
 
 use crate::ahead::read_line;
 use crate::asking::AskingSeat;
 use crate::beside::Beside;
 use crate::client_session::{SessionEnd, serve_client};
 use crate::joined::Joined;
-use crate::socket::{SocketTraffic, halves};
+use crate::paced::Paced;
+use crate::sittings::{await_all, begin_session, end_words, join_ended};
+use crate::socket::{Half, SocketTraffic};
+use crate::staying_seat::StayingSeat;
+use crate::time_limits::limit_times;
 use dump_pump::Outlet;
 use heap_lock::{Blank, Config, Heap, Refusal, Role, Seat, Seats, Shared, Stub};
 use heap_page::PagePort;
 use live_dump::DumpListener;
+use secret_word::Secret;
 use session_text::{Ended, Inlet};
 use std::alloc::{AllocError, Global};
-use std::collections::VecDeque;
-use std::marker::{Brand, Model};
+use std::marker::Brand;
 use std::net::{TcpListener, TcpStream};
 use std::snapshot::Snapshot;
 use std::sync::Wait;
 use std::sync::atomic::AtomicBool;
 use std::thread;
-use std::thread::{Promise, PromisedHandle, Scope, Threads};
+use std::thread::{Promise, Scope, Threads};
 use std::time::Clock;
 
 /// The listener for the clients of sessions, the one for the clients of dumps, if there is one, and the port of the page, if there is
@@ -44,6 +49,12 @@ pub struct Terms {
     pub time: u64,
     /// Whether questions are answered.
     pub questions: bool,
+    /// The word that the first line of each client has to be, or None if there is none.
+    pub secret: Option<Secret>,
+    /// The seconds after which a session ends from which nothing comes, at least 1, or 0 if it goes on.
+    pub idle: u64,
+    /// Whether the pins of a session are closed at its end, unless it kept them.
+    pub stays: bool,
 }
 
 /// What a heap is opened for: the number of sessions, the listeners for their clients, and what the sessions have in common.
@@ -101,16 +112,16 @@ struct Attended<L: Heap, I: Inlet + Drop> {
 
 // How the session of a socket ended, and what went through the socket.
 #[derive(Drop)]
-struct SocketEnd {
-    end: SessionEnd,
-    traffic: Option<SocketTraffic>,
+pub(crate) struct SocketEnd {
+    pub(crate) end: SessionEnd,
+    pub(crate) traffic: Option<SocketTraffic>,
 }
 
 // The promise that the client of a socket was served from this seat on these terms.
 #[derive(Drop)]
-struct AttendsFrom<L: Heap> {
-    seat: Snapshot<Seat<L>>,
-    terms: Terms,
+pub(crate) struct AttendsFrom<L: Heap> {
+    pub(crate) seat: Snapshot<Seat<L>>,
+    pub(crate) terms: Terms,
 }
 
 impl<L: Heap> Promise<(SocketEnd, Seat<L>)> for AttendsFrom<L> {
@@ -119,8 +130,9 @@ impl<L: Heap> Promise<(SocketEnd, Seat<L>)> for AttendsFrom<L> {
     ghost kept_by = { λ p r. IsClientOf L.config p.terms p.seat.value r.1 r.0.end r.0.traffic };
 }
 
-// Serves one client from a seat, between an inlet and an outlet, unless its first line begins an HTTP request: then it reads nothing
-// more, and puts out and runs nothing. Each part of an answer goes out at once. Closes no pin at its end. May wait.
+// Serves one client from a seat, between an inlet and an outlet, unless its first line turns it away: if it isn't the secret word, or
+// without one, begins an HTTP request. Then it reads nothing more, and puts out and runs nothing. Each part of an answer goes out at
+// once. The word `hurry` is set while a piece of a dump is the last that was answered. Closes no pin at its end. May wait.
 fn attend<L: Heap, R: Wait, I: Inlet + Drop, O: Outlet>(
     rt: &R,
     alloc: Global,
@@ -128,33 +140,112 @@ fn attend<L: Heap, R: Wait, I: Inlet + Drop, O: Outlet>(
     seat: Seat<L>,
     inlet: I,
     outlet: &mut O,
-    terms: Terms,
+    hurry: &AtomicBool,
+    terms: &Terms,
 ) -> Attended<L, I>
     requires { seat.role ≡ User }
-    ensures { IsAttended L.config terms seat (I.seen inlet) (I.seen result.inlet)
+    ensures attended { IsAttended L.config terms.now seat (I.seen inlet) (I.seen result.inlet)
         (O.seen outlet.old) (O.seen outlet.new) result.seat result.end }
+    ensures role { result.seat.role ≡ User }
 {
     let mut inlet = inlet;
     let Ok(ahead) = read_line(alloc, &mut inlet) else {
         let end = SessionEnd::Ran(Ended::NoMemory);
         return Attended { end, inlet, seat };
     };
-    let mut joined = Joined::new(shared, rt, seat, shared.witness(rt));
+    let joined = Joined::new(shared, rt, seat, shared.witness(rt));
+    let (time, secret) = (terms.time, terms.secret);
     if terms.questions {
-        let mut asking = AskingSeat::new(joined);
-        let (end, inlet) = serve_client(alloc, inlet, ahead, outlet, &mut asking, terms.time);
-        let seat = asking.into_seat();
+        let mut asking = Paced::new(AskingSeat::new(joined), hurry);
+        let (end, inlet) = serve_client(alloc, inlet, ahead, outlet, &mut asking, time, secret);
+        let seat = asking.into_commands().into_seat();
         Attended { end, inlet, seat }
     } else {
-        let (end, inlet) = serve_client(alloc, inlet, ahead, outlet, &mut joined, terms.time);
-        let seat = joined.into_seat();
+        let mut acting = Paced::new(joined, hurry);
+        let (end, inlet) = serve_client(alloc, inlet, ahead, outlet, &mut acting, time, secret);
+        let seat = acting.into_commands().into_seat();
         Attended { end, inlet, seat }
+    }
+}
+
+// Serves one client from a seat of a heap that stays, as `attend` does, and then closes the pins that it opened and didn't keep.
+fn attend_staying<L: Heap, R: Wait, I: Inlet + Drop, O: Outlet>(
+    rt: &R,
+    alloc: Global,
+    shared: &Shared<L>,
+    seat: Seat<L>,
+    inlet: I,
+    outlet: &mut O,
+    hurry: &AtomicBool,
+    terms: &Terms,
+) -> Attended<L, I>
+    requires { seat.role ≡ User }
+    ensures attended { IsAttendedStaying L.config terms.now seat (I.seen inlet) (I.seen result.inlet)
+        (O.seen outlet.old) (O.seen outlet.new) result.seat result.end }
+    ensures role { result.seat.role ≡ User }
+{
+    let mut inlet = inlet;
+    let Ok(ahead) = read_line(alloc, &mut inlet) else {
+        let end = SessionEnd::Ran(Ended::NoMemory);
+        return Attended { end, inlet, seat };
+    };
+    let joined = Joined::new(shared, rt, seat, shared.witness(rt));
+    let (time, secret) = (terms.time, terms.secret);
+    let mut staying = Paced::new(StayingSeat::new(alloc, joined, terms.questions), hurry);
+    let (end, inlet) = serve_client(alloc, inlet, ahead, outlet, &mut staying, time, secret);
+    let seat = staying.into_commands().into_seat();
+    Attended { end, inlet, seat }
+}
+
+// Serves one client from a seat of a heap that stays or doesn't.
+fn attend_on<L: Heap, R: Wait, I: Inlet + Drop, O: Outlet>(
+    rt: &R,
+    alloc: Global,
+    shared: &Shared<L>,
+    seat: Seat<L>,
+    inlet: I,
+    outlet: &mut O,
+    hurry: &AtomicBool,
+    terms: &Terms,
+) -> Attended<L, I>
+    requires { seat.role ≡ User }
+    ensures attended { IsAttendedOn terms.now.stays L.config terms.now seat (I.seen inlet)
+        (I.seen result.inlet) (O.seen outlet.old) (O.seen outlet.new) result.seat result.end }
+    ensures role { result.seat.role ≡ User }
+{
+    if terms.stays {
+        attend_staying(rt, alloc, shared, seat, inlet, outlet, hurry, terms)
+    } else {
+        attend(rt, alloc, shared, seat, inlet, outlet, hurry, terms)
+    }
+}
+
+// Returns how a session is told to have ended whose reads may wait for `idle` seconds, or for any time if they are 0: as idle if a
+// read has waited so long and failed.
+fn told(idle: u64, waited: bool, end: SessionEnd) -> SessionEnd
+    ensures { IsToldAs idle end result }
+{
+    if idle > 0 && waited && end == SessionEnd::Ran(Ended::ReadFault) {
+        SessionEnd::Idle
+    } else {
+        end
+    }
+}
+
+// Returns how the session of a socket ended for which memory was refused.
+fn no_memory() -> SocketEnd
+    ensures end { result.end ≡ SessionEnd.Ran Ended.NoMemory }
+    ensures traffic { result.traffic ≡ None }
+{
+    SocketEnd {
+        end: SessionEnd::Ran(Ended::NoMemory),
+        traffic: None,
     }
 }
 
 // Serves the client of a socket from a seat, and gives the seat back. Ends by NoMemory, and does nothing, if memory for the socket is
 // refused.
-fn session<L: Heap, R: Wait>(
+pub(crate) fn session<L: Heap, R: Clock + Wait>(
     rt: &R,
     alloc: Global,
     shared: &Shared<L>,
@@ -163,106 +254,43 @@ fn session<L: Heap, R: Wait>(
     terms: Terms,
 ) -> (SocketEnd, Seat<L>)
     requires { seat.role ≡ User }
-    ensures { IsClientOf L.config terms seat result.1 result.0.end result.0.traffic }
+    ensures client { IsClientOf L.config terms seat result.1 result.0.end result.0.traffic }
+    ensures role { result.1.role ≡ User }
 {
-    let Ok((inlet, outlet)) = halves(alloc, stream) else {
-        let end = SessionEnd::Ran(Ended::NoMemory);
-        return (SocketEnd { end, traffic: None }, seat);
+    limit_times(rt, &stream, &terms);
+    let Ok(socket) = Half::new(alloc, stream) else {
+        return (no_memory(), seat);
+    };
+    let Ok((inlet, outlet)) = socket.directions() else {
+        return (no_memory(), seat);
     };
     let mut outlet = outlet;
-    let Attended { end, inlet, seat } = attend(rt, alloc, shared, seat, inlet, &mut outlet, terms);
+    let hurry = socket.hurry();
+    let done = attend_on(rt, alloc, shared, seat, inlet, &mut outlet, hurry, &terms);
+    let Attended { end, inlet, seat } = done;
     let traffic = Some(SocketTraffic::of(&inlet, &outlet));
+    let end = told(terms.idle, socket.has_waited(), end);
     (SocketEnd { end, traffic }, seat)
 }
 
-// A session in a thread; None if no thread could be started. Contracts see the seat and the terms that it began with.
-#[derive(Drop)]
-struct Running<L: Heap> {
-    thread: Option<PromisedHandle<(SocketEnd, Seat<L>), AttendsFrom<L>>>,
-}
-
-impl<L: Heap> Model for Running<L> {
-    ghost use Rattle.std.specs.Prelude.{Option, option_map};
-    ghost use Rattle.heap_lock.specs.LockStates.{Chair};
-    ghost use Rattle.heap_server.specs.declared.sessions.Terms.{Terms};
-
-    ghost Value = { Option (Chair × Terms) };
-
-    ghost view = { λ r. option_map (λ h. (h.promise.seat.value, h.promise.terms)) r.thread };
-}
-
-// Begins the session of a client, in a thread.
-fn begin_session<'s, E, L: Heap + Send + Sync, R: Threads + Wait + Sync>(
-    scope: &Scope<'s, E>,
-    rt: &'s R,
-    alloc: Global,
-    shared: &'s Shared<L>,
-    seat: Seat<L>,
-    stream: TcpStream,
-    terms: Terms,
-) -> Running<L>
-    requires { seat.role ≡ User }
-    ensures { IsBegun terms seat result }
-{
-    let promise = AttendsFrom {
-        seat: Snapshot::of(&seat),
-        terms,
-    };
-    let attend = move || session(rt, alloc, shared, seat, stream, terms);
-    Running {
-        thread: scope.spawn_with(promise, attend).ok(),
-    }
-}
-
-// Waits for a session, and gives its seat up. One whose thread couldn't be started ended by NoMemory.
-fn await_one<L: Heap, R: Threads>(rt: &R, running: Running<L>) -> SeatEnd
-    ensures { EndsAs L.config L.tables running result }
-{
-    match running.thread {
-        Some(thread) => {
-            let (SocketEnd { end, traffic }, seat) = thread.join(rt);
-            let stub = Some(seat.into_stub());
-            SeatEnd { end, traffic, stub }
-        }
-        None => {
-            let end = SessionEnd::Ran(Ended::NoMemory);
-            SeatEnd {
-                end,
-                traffic: None,
-                stub: None,
-            }
-        }
-    }
-}
-
-// Waits for each session in turn.
-fn await_all<L: Heap, R: Threads>(rt: &R, running: Vec<Running<L>>, ends: &mut Vec<SeatEnd>)
-    requires room { vec_len running ≤ vec_capacity ends.old }
-    requires first { ends.old.items ≡ [] }
-    ensures { EndAs L.config L.tables running.items ends.new.items }
-{
-    let mut threads = VecDeque::from_vec(running);
-    while let Some(session) = threads.pop_front() {
-        ends.push_reserved(await_one(rt, session));
-    }
-}
-
 // Accepts clients and serves them, as `serve_clients` says.
-fn serve_seats<'s, E, L: Heap + Send + Sync, R: Threads + Wait + Sync>(
+fn serve_seats<'s, E, L: Heap + Send + Sync, R: Clock + Threads + Wait + Sync>(
     scope: &Scope<'s, E>,
     rt: &'s R,
     alloc: Global,
     shared: &'s Shared<L>,
-    terms: Terms,
+    terms: &Terms,
     seats: Seats<L>,
     listener: TcpListener,
+    words: &'s [AtomicBool],
 ) -> Result<Served, AllocError>
-    requires { AreUsers seats }
-    ensures { IfOk result (IsFor L.config L.tables terms seats) }
+    requires users { AreUsers seats }
+    requires words { length seats ≤ length words.now }
+    ensures { IfOk result (IsFor L.config L.tables terms.now seats) }
 {
     let mut seats = seats;
     let count = seats.count();
-    let mut running = Vec::with_capacity(alloc, count)?;
+    let mut sittings = Vec::with_capacity(alloc, count)?;
     let mut sessions = Vec::with_capacity(alloc, count)?;
     let mut refused = false;
     while let Some(seat) = seats.take() {
@@ -270,19 +298,22 @@ fn serve_seats<'s, E, L: Heap + Send + Sync, R: Threads + Wait + Sync>(
             refused = true;
             break;
         };
-        running.push_reserved(begin_session(scope, rt, alloc, shared, seat, stream, terms));
+        join_ended(rt, &mut sittings, words);
+        let word = &words[sittings.len()];
+        let sitting = begin_session(scope, rt, alloc, shared, seat, stream, terms, word);
+        sittings.push_reserved(sitting);
     }
     drop(listener);
-    await_all(rt, running, &mut sessions);
+    await_all(rt, sittings, &mut sessions);
     Ok(Served { sessions, refused })
 }
 
-/// Accepts as many clients as there are seats, in turn, and serves each in a thread of its own. After the last of them, or after
-/// an accept that failed, it stops listening, so that a further client is refused at once. Returns once all sessions have ended,
-/// with their seats; that of a client whose thread can't be started ends by NoMemory, and its seat is gone. If the ports have a
-/// listener for dumps, one more thread sends a dump to each of its clients, and if they have a page, another answers its clients, from
-/// before the first accept until the last session has ended. Fails if such a thread can't be started, or memory is refused to the
-/// endings, and accepts nothing. May wait.
+/// Accepts as many clients as there are seats, in turn, and serves each in a thread of its own, which is joined at the next accept
+/// after its end. After the last of them, or after an accept that failed, it stops listening, so that a further client is refused at
+/// once. Returns once all sessions have ended, with their seats; that of a client whose thread can't be started ends by NoMemory, and its
+/// seat is gone. If the ports have a listener for dumps, three threads send a dump to each of its clients, and if they have a page,
+/// another answers its clients, from before the first accept until the last session has ended. Fails if such a thread can't be started,
+/// or memory is refused to the endings, and accepts nothing. May wait.
 pub fn serve_clients<L: Heap + Send + Sync, R: Clock + Eprint + Threads + Wait + Sync>(
     rt: &R,
     alloc: Global,
@@ -296,11 +327,16 @@ pub fn serve_clients<L: Heap + Send + Sync, R: Clock + Eprint + Threads + Wait +
 {
     let word = AtomicBool::new(false);
     let stop = &word;
+    let ends = end_words(alloc, seats.count())?;
+    let words = ends.as_slice();
+    let Terms { secret, .. } = terms;
+    let secret = &secret;
     thread::scope(
         thread::scope_env(),
         rt,
         move |scope| -> Result<Served, AllocError>
-            requires { AreUsers seats }
+            requires users { AreUsers seats }
+            requires words { length seats ≤ length words.now }
             ensures { IfOk result (IsFor L.config L.tables terms seats) }
         {
             let Ports {
@@ -309,8 +345,8 @@ pub fn serve_clients<L: Heap + Send + Sync, R: Clock + Eprint + Threads + Wait +
                 page,
             } = ports;
             let time = terms.time;
-            let beside = Beside::begin(scope, rt, alloc, shared, dumps, page, time, stop)?;
-            let served = serve_seats(scope, rt, alloc, shared, terms, seats, sessions);
+            let beside = Beside::begin(scope, rt, alloc, shared, dumps, secret, page, time, stop)?;
+            let served = serve_seats(scope, rt, alloc, shared, &terms, seats, sessions, words);
             beside.end(rt, stop);
             served
         },
@@ -344,10 +380,11 @@ fn serve_opened<L: Heap + Send + Sync, R: Clock + Eprint + Threads + Wait + Sync
     let made = Snapshot::of(&blank);
     let (shared, seats) = blank.open::<L>();
     let ServicePlan { ports, terms, .. } = plan;
-    let served = serve_clients(rt, alloc, &shared, seats, ports, terms)?;
+    let own = &terms;
+    let served = serve_clients(rt, alloc, &shared, seats, ports, *own)?;
     Ok(ServedHeap {
         served,
         made,
-        terms,
+        terms: *own,
     })
 }

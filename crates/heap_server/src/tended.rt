@@ -44,7 +44,7 @@ pub struct Tended<L: Heap> {
 
 // The promise that a marker's seat comes back as runs of its worker leave it.
 #[derive(Drop)]
-struct MarksFrom<L: Heap>(Snapshot<Seat<L>>);
+pub(crate) struct MarksFrom<L: Heap>(pub(crate) Snapshot<Seat<L>>);
 
 impl<L: Heap> Promise<Seat<L>> for MarksFrom<L> {
     ghost use Rattle.heap_server.specs.Tending.{MarkRuns};
@@ -54,7 +54,7 @@ impl<L: Heap> Promise<Seat<L>> for MarksFrom<L> {
 
 // The promise that a sweeper's seat comes back as runs of its worker leave it.
 #[derive(Drop)]
-struct SweepsFrom<L: Heap>(Snapshot<Seat<L>>);
+pub(crate) struct SweepsFrom<L: Heap>(pub(crate) Snapshot<Seat<L>>);
 
 impl<L: Heap> Promise<Seat<L>> for SweepsFrom<L> {
     ghost use Rattle.heap_server.specs.Tending.{SweepRuns};
@@ -92,13 +92,13 @@ pub fn workers_and_users(alloc: Global, config: Config, sessions: u64) -> Result
 
 // The threads of both workers.
 #[derive(Drop)]
-struct Workers<L: Heap> {
-    marking: PromisedHandle<Seat<L>, MarksFrom<L>>,
-    sweeping: PromisedHandle<Seat<L>, SweepsFrom<L>>,
+pub(crate) struct Workers<L: Heap> {
+    pub(crate) marking: PromisedHandle<Seat<L>, MarksFrom<L>>,
+    pub(crate) sweeping: PromisedHandle<Seat<L>, SweepsFrom<L>>,
 }
 
 // Begins the threads of both workers. Fails if one can't be started; the other is then told to stop, and joined.
-fn begin_workers<'s, E, L: Heap + Send + Sync, R: Clock + Threads + Wait + Sync>(
+pub(crate) fn begin_workers<'s, E, L: Heap + Send + Sync, R: Clock + Threads + Wait + Sync>(
     scope: &Scope<'s, E>,
     rt: &'s R,
     shared: &'s Shared<L>,
@@ -181,7 +181,7 @@ pub fn serve_tended_heap<R: Clock + Eprint + Threads + Wait + Sync>(
 }
 
 // Returns the marker's seat, the sweeper's, and those of `most` users.
-fn staff_of<L: Heap>(seats: Seats<L>, most: usize) -> Staff<L>
+pub(crate) fn staff_of<L: Heap>(seats: Seats<L>, most: usize) -> Staff<L>
     requires { AreStaff most seats }
     ensures seats { seats ≡ result.marker ∷ result.sweeper ∷ result.users }
     ensures staff { AreStaff most (result.marker ∷ result.sweeper ∷ result.users) }
@@ -216,16 +216,17 @@ fn serve_staffed<L: Heap + Send + Sync, R: Clock + Eprint + Threads + Wait + Syn
     let (shared, seats) = blank.open::<L>();
     let ServicePlan { most, ports, terms } = plan;
     let staff = staff_of(seats, most);
+    let own = &terms;
     let Tended {
         served,
         marker,
         sweeper,
-    } = serve_tended(rt, alloc, &shared, staff, ports, terms)?;
+    } = serve_tended(rt, alloc, &shared, staff, ports, *own)?;
     Ok(TendedHeap {
         heap: ServedHeap {
             served,
             made,
-            terms,
+            terms: *own,
         },
         marker: marker.into_stub(),
         sweeper: sweeper.into_stub(),

@@ -63,14 +63,14 @@ creation m r kind len refusal = record {
 -- what each event does
 abbrev pub model_of : Event → EventModel
 model_of (Event.Class name sup fields) = record {
-  refusal = λ w. class_refusal w.classes (instance_class name sup fields);
+  refusal = λ w. class_refusal w.limits.classes w.classes (instance_class name sup fields);
   after = λ w. after_class (instance_class name sup fields) w;
   answer = λ w v. Answer.Class (length w.classes);
   left = λ w. Undo.Class;
   may_grow = λ w. true;
 }
 model_of (Event.ArrayClass name) = record {
-  refusal = λ w. class_refusal w.classes (array_class name);
+  refusal = λ w. class_refusal w.limits.classes w.classes (array_class name);
   after = λ w. after_class (array_class name) w;
   answer = λ w v. Answer.Class (length w.classes);
   left = λ w. Undo.Class;

@@ -20,7 +20,8 @@ use Rattle.heap_trail.specs.declared.Action.TheVariants.{Step}
 use Rattle.heap_trail.specs.declared.Reply.{Reply}
 use Rattle.heap_trail.specs.declared.Reply.TheVariants.{Answered}
 use Rattle.heap_trail.specs.declared.held.NumberedPin.{NumberedPin}
-use Rattle.heap_trail.specs.Limits.{last_place, pin_limit}
+use Rattle.heap_world.specs.Limits.{pin_limit}
+use Rattle.heap_trail.specs.Limits.{last_place}
 use Rattle.heap_trail.specs.Pins.{Pins, PinState, if_kept, each_kept, with_lost}
 use Rattle.heap_trail.specs.Pins.{Kept as KeptState, Gone}
 use Rattle.heap_trail.specs.OpenPins.{pins_of, EachMayKeep, AreHeld}

@@ -18,7 +18,8 @@ use Rattle.heap_trail.specs.declared.Reply.{Reply}
 use Rattle.heap_trail.specs.declared.Reply.TheVariants.{Pinned as PinnedReply, Refused}
 use Rattle.heap_trail.specs.declared.held.Held.TheVariants.{Kept}
 use Rattle.heap_trail.specs.declared.held.NumberedPin.{NumberedPin}
-use Rattle.heap_trail.specs.Limits.{pin_limit, last_pin}
+use Rattle.heap_world.specs.Limits.{pin_limit}
+use Rattle.heap_trail.specs.Limits.{last_pin}
 use Rattle.heap_trail.specs.Trail.{Trail, retained, state_ago}
 use Rattle.heap_trail.specs.Pins.{PinState, is_retained, open_refusal, with_pin}
 use Rattle.heap_trail.specs.Pins.{Kept as KeptState}
@@ -77,28 +78,28 @@ acted_opens : (m : Machine) (asked : Option ℕ) (at : ℕ) → at ≡ unwrap_or
 unfolding acted
 acted_opens m asked at e = ap (opens m) (sym e)
 
-abbrev is_full : ℕ → ℕ → Bool
-is_full count next = nat_le pin_limit count || nat_lt last_pin next
+abbrev is_full : ℕ → ℕ → ℕ → Bool
+is_full most count next = nat_le most count || nat_lt last_pin next
 
 module _ (ids : IdSize) (w : HeapState) (ring : Buffer Undo) (place keep next : ℕ) (ss : List NumberedPin) where
   abbrev before : Machine
   before = machine_of ids w ring place keep next ss
 
-  refusal_is : (at : ℕ) (r f : Bool) → is_retained at before.trail ≡ r → is_full (length ss) next ≡ f → open_refusal at before.trail before.pins ≡ first_refusal ((not r, NotRetained) ∷ (f, PinLimit) ∷ [])
+  refusal_is : (at : ℕ) (r f : Bool) → is_retained at before.trail ≡ r → is_full w.limits.pins (length ss) next ≡ f → open_refusal at before.trail before.pins ≡ first_refusal ((not r, NotRetained) ∷ (f, PinLimit) ∷ [])
   unfolding open_refusal pins_of
   refusal_is at r f er ef = rw (er, length-map {B = ℕ × PinState} ss (λ (s : NumberedPin). (s.number, state_of w s.held)), ef) refl
 
-  not_full : length ss < pin_limit → next ≤ last_pin → is_full (length ss) next ≡ false
+  not_full : length ss < w.limits.pins → next ≤ last_pin → is_full w.limits.pins (length ss) next ≡ false
   not_full few low =
-      let a : nat_le pin_limit (length ss) ≡ false = grind (arith, few) in
+      let a : nat_le w.limits.pins (length ss) ≡ false = grind (arith, few) in
       let b : nat_lt last_pin next ≡ false = grind (arith, low) in
       rw (a, b) refl
 
-  no_refusal : (at : ℕ) → is_retained at before.trail ≡ true → length ss < pin_limit → next ≤ last_pin → open_refusal at before.trail before.pins ≡ None
+  no_refusal : (at : ℕ) → is_retained at before.trail ≡ true → length ss < w.limits.pins → next ≤ last_pin → open_refusal at before.trail before.pins ≡ None
   unfolding first_refusal
   no_refusal at r few low = refusal_is at true false r (not_full few low)
 
-  pub open_done : (asked : Option ℕ) (at : ℕ) (pin : PinContents) → at ≡ unwrap_or asked place → is_retained at before.trail ≡ true → HoldsPast pin w ring.items (place - at) → length ss < pin_limit → next ≤ last_pin
+  pub open_done : (asked : Option ℕ) (at : ℕ) (pin : PinContents) → at ≡ unwrap_or asked place → is_retained at before.trail ≡ true → HoldsPast pin w ring.items (place - at) → length ss < w.limits.pins → next ≤ last_pin
       → acted before (OpenPin asked) ≡ (machine_of ids w ring place keep (next + 1) (ss ++ new_slot next at pin ∷ []), PinnedReply next at)
   unfolding acted unless after_open with_pin pins_of state_of state_ago
   open_done asked at pin e r h few low =
@@ -113,21 +114,21 @@ module _ (ids : IdSize) (w : HeapState) (ring : Buffer Undo) (place keep next : 
 
   pub open_unretained : (asked : Option ℕ) (at : ℕ) → at ≡ unwrap_or asked place → is_retained at before.trail ≡ false → acted before (OpenPin asked) ≡ (before, Refused NotRetained)
   unfolding unless first_refusal
-  open_unretained asked at e r = acted_opens before asked at e ∙ ap (λ x. unless x (after_open at) before) (refusal_is at false (is_full (length ss) next) r refl)
+  open_unretained asked at e r = acted_opens before asked at e ∙ ap (λ x. unless x (after_open at) before) (refusal_is at false (is_full w.limits.pins (length ss) next) r refl)
 
-  pub open_full : (asked : Option ℕ) (at : ℕ) → at ≡ unwrap_or asked place → is_retained at before.trail ≡ true → is_full (length ss) next ≡ true → acted before (OpenPin asked) ≡ (before, Refused PinLimit)
+  pub open_full : (asked : Option ℕ) (at : ℕ) → at ≡ unwrap_or asked place → is_retained at before.trail ≡ true → is_full w.limits.pins (length ss) next ≡ true → acted before (OpenPin asked) ≡ (before, Refused PinLimit)
   unfolding unless first_refusal
   open_full asked at e r full = acted_opens before asked at e ∙ ap (λ x. unless x (after_open at) before) (refusal_is at true true r full)
 
-  pub open_starved : (asked : Option ℕ) (at : ℕ) → at ≡ unwrap_or asked place → is_retained at before.trail ≡ true → length ss < pin_limit → next ≤ last_pin → MayStand before (OpenPin asked, Denied)
+  pub open_starved : (asked : Option ℕ) (at : ℕ) → at ≡ unwrap_or asked place → is_retained at before.trail ≡ true → length ss < w.limits.pins → next ≤ last_pin → MayStand before (OpenPin asked, Denied)
   unfolding unless after_open may_grow is_accepted
   open_starved asked at e r few low = (refl, ap (λ (p : Machine × Reply). is_accepted p.1) (acted_opens before asked at e ∙ ap (λ x. unless x (after_open at) before) (no_refusal at r few low)))
 
-pub full_by_many : (n next : ℕ) → pin_limit ≤ n → is_full n next ≡ true
-full_by_many n next h = let a : nat_le pin_limit n ≡ true = grind (arith, h) in rw a refl
+pub full_by_many : (most n next : ℕ) → most ≤ n → is_full most n next ≡ true
+full_by_many most n next h = let a : nat_le most n ≡ true = grind (arith, h) in rw a refl
 
-pub full_by_number : (n next : ℕ) → last_pin < next → is_full n next ≡ true
-full_by_number n next h = let b : nat_lt last_pin next ≡ true = grind (arith, h) in rw b (go (nat_le pin_limit n))
+pub full_by_number : (most n next : ℕ) → last_pin < next → is_full most n next ≡ true
+full_by_number most n next h = let b : nat_lt last_pin next ≡ true = grind (arith, h) in rw b (go (nat_le most n))
   where
     go : (x : Bool) → (x || true) ≡ true
     go true = refl

@@ -1,14 +1,34 @@
 -- What records tell of the past.
 use Rattle.heap_class.specs.declared.IdSize.{IdSize}
-use Rattle.std.proofs.Common.{◌≡◌, ℕ, zero, suc, List, [], ◌∷◌, length, take, refl, ap, arith}
+use Rattle.std.proofs.Common.{◌≡◌, ℕ, zero, suc, List, [], ◌∷◌, length, take, refl, sym, ap, ◌∙◌, arith}
 use Rattle.heap_world.specs.State.{HeapState}
 use Rattle.heap_step.specs.declared.Undo.{Undo}
+use Rattle.heap_step.specs.declared.Undo.TheVariants.{Put, Store, Reg, New, Class, Snap, Mark, Drain, Finish, Sweep, Reclaim}
 use Rattle.heap_step.specs.Records.{undone}
 use Rattle.circular_buffer.specs.Buffer.{Buffer}
 use Rattle.heap_trail.specs.Laws.{IsTrail}
 use Rattle.heap_trail.specs.Records.{past_of, AreRecorded, IsRetaining, machine_with}
 use Rattle.heap_trail.specs.Pins.{Pins}
 use Rattle.heap_trail.proofs.RetainedStates.{steps_legal}
+
+-- a step that is undone changes nothing of what the heap allows
+limits_undone : (left : Undo) (w : HeapState) → (undone left w).limits ≡ w.limits
+unfolding undone
+limits_undone (Put at slot old) w = refl
+limits_undone (Store at slot old logged) w = refl
+limits_undone (Reg m r old) w = refl
+limits_undone (New at fresh m r old) w = refl
+limits_undone Class w = refl
+limits_undone Snap w = refl
+limits_undone (Mark parent pushed) w = refl
+limits_undone (Drain pushed) w = refl
+limits_undone (Finish log) w = refl
+limits_undone (Sweep region dead) w = refl
+limits_undone (Reclaim region storage) w = refl
+
+-- so a heap allows as much before a step as after it
+pub limits_stay : (left : Undo) (w v : HeapState) → undone left v ≡ w → w.limits ≡ v.limits
+limits_stay left w v back = ap (λ (u : HeapState). u.limits) (sym back) ∙ limits_undone left v
 
 -- as many states as records
 pub length-past_of : (w : HeapState) (rs : List Undo) → length (past_of w rs) ≡ length rs

@@ -17,6 +17,7 @@ use Rattle.heap_trail.specs.Trail.{Trail, retained, rewound, state_ago, rewind_r
 use Rattle.heap_trail.specs.Machine.{Machine, acted, unless, after_rewind_by}
 use Rattle.heap_trail.specs.Records.{AreRecorded, IsRetaining}
 use Rattle.heap_trail.specs.Pins.{after_rewind}
+use Rattle.heap_trail.proofs.RecordedPast.{limits_stay}
 
 -- ---- one step
 
@@ -64,6 +65,11 @@ kept_after_undo w v left ring place keep k first leads = go ring.items first k.r
           placed = omega (arith, placed);
           counted = omega (arith, k.counted);
         }
+
+-- the heap allows as much as before
+pub limits_before : (w v : HeapState) (left : Undo) (items : List Undo) → AreRecorded w items → slice_get items 0 ≡ Some left → LeadsTo v w left → v.limits ≡ w.limits
+limits_before w v left [] told first leads = absurd (no_first left first)
+limits_before w v left (r ∷ rs) told first leads = limits_stay r v w (sym (is_undone v w left r rs (first_is r left first) told leads))
 
 -- ---- several
 

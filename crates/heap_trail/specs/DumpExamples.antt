@@ -106,7 +106,7 @@ pub record RewindLosesPin : Type 0 where
   pub lost : pin_at 1 (machine_at_end (fresh_machine 1 1024) above_and_below).pins
       ≡ Some (Gone 1 Rewound)
 
--- four pins may be open, each on a retained place, and a number is used once
+-- in a heap that isn't wide four pins may be open, each on a retained place, and a number is used once
 abbrev pub FourPinsOpen : Type 0
 FourPinsOpen = RepliesAs 1 1
     (does (Clear 0 0) Done

@@ -11,6 +11,7 @@ use Rattle.heap_class.specs.declared.Refusal.TheVariants.{NoClass, BadName, Dupl
 use Rattle.heap_class.specs.Classes.{instance_class}
 use Rattle.heap_world.specs.Regions.{InUse, object_of}
 use Rattle.heap_world.specs.Phase.TheVariants.{Idle}
+use Rattle.heap_world.specs.Limits.{narrow_limits}
 use Rattle.heap_world.specs.State.{HeapState}
 use Rattle.heap_step.specs.declared.Event.{Event}
 use Rattle.heap_step.specs.declared.Event.TheVariants.{New, NewPrim, Load, Store, Put, Clear, Snap, Mark, Drain, Finish, Sweep}
@@ -40,7 +41,7 @@ replies_to m (l ∷ ls) = let r = acted m l.0 in r.1 ∷ replies_to r.0 ls
 
 -- a machine with this number of regions that keeps this number of records, with the registers of two mutators
 abbrev pub fresh_machine : ℕ → ℕ → Machine
-fresh_machine regions keep = opening_machine Eight regions 2 keep
+fresh_machine regions keep = opening_machine narrow_limits Eight regions 2 keep
 
 -- such a machine replies as the script says
 abbrev pub RepliesAs : ℕ → ℕ → Script → Type 0
@@ -265,6 +266,7 @@ swept_and_rewound =
 -- the condemned node is in its cell of 4 words, the array lives, and both regions are pending
 abbrev pub node_condemned : HeapState
 node_condemned = record {
+  limits = narrow_limits;
   classes = instance_class (codes "Node") None node_fields ∷ [];
   regions =
       InUse

@@ -1,14 +1,16 @@
 -- The machine, and what it replies to a list of actions.
-use Rattle.std.specs.Prelude.{◌≡◌, ◌⊎◌, ◌≤◌, ◌^◌, ℕ, Bool, true, false, not, nat_lt, nat_le, List, [], ◌∷◌, length, map, filter, Option, Some, None, unwrap_or, Result, Ok, Err, ⊤}
+use Rattle.std.specs.Prelude.{◌≡◌, ◌⊎◌, ◌≤◌, ℕ, Bool, true, false, not, nat_lt, nat_le, List, [], ◌∷◌, length, map, filter, Option, Some, None, unwrap_or, Result, Ok, Err, ⊤}
 use Rattle.heap_class.specs.declared.IdSize.{IdSize}
 use Rattle.heap_class.specs.declared.Refusal.{Refusal}
 use Rattle.heap_class.specs.declared.Refusal.TheVariants.{NoMemory, ChronicleFull, NoPin, Lost}
+use Rattle.heap_world.specs.declared.Limits.{Limits}
 use Rattle.heap_world.specs.State.{HeapState, opening_state}
 use Rattle.heap_step.specs.declared.Event.{Event}
 use Rattle.heap_step.specs.declared.Event.TheVariants.{Store, Put, Sweep}
 use Rattle.heap_step.specs.declared.Answer.{Answer}
 use Rattle.heap_step.specs.Apply.{applied, event_may_grow}
 use Rattle.heap_step.specs.Records.{undo_record}
+use Rattle.hprof_text.specs.Laws.{piece_size_limit}
 use Rattle.hprof_text.specs.Segments.{pieces_of, piece_of}
 use Rattle.heap_trail.specs.declared.Action.{Action}
 use Rattle.heap_trail.specs.declared.Action.TheVariants.{Step, Rewind, OpenPin, NextPiece, ClosePin}
@@ -27,12 +29,12 @@ pub record Machine : Type 0 where
   pub pins : Pins
 
 -- a machine at place 0, with no object and no pin
-unfoldable pub opening_machine : IdSize → ℕ → ℕ → ℕ → Machine
-opening_machine ids regions mutators keep =
+unfoldable pub opening_machine : Limits → IdSize → ℕ → ℕ → ℕ → Machine
+opening_machine limits ids regions mutators keep =
     record {
       keep = keep;
       ids = ids;
-      trail = opening_trail (opening_state regions mutators);
+      trail = opening_trail (opening_state limits regions mutators);
       pins = no_pins;
     }
 
@@ -171,12 +173,12 @@ MayDrive m actions replies n =
     × AreAllocations m marked
     × (replies ≡ replies_of m marked) × (n ≡ machine_after m marked)
 
--- a piece has at most 2 ^ 24 bytes
+-- a piece has at most `piece_size_limit` bytes
 abbrev pub IsSmall : Reply → Type 0
 IsSmall (Answered a) = ⊤
 IsSmall (Place place) = ⊤
 IsSmall (Pinned pin at) = ⊤
-IsSmall (Part piece) = length piece.bytes ≤ 2 ^ 24
+IsSmall (Part piece) = length piece.bytes ≤ piece_size_limit
 IsSmall Closed = ⊤
 IsSmall (Refused r) = ⊤
 

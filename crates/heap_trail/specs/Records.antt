@@ -1,7 +1,7 @@
 -- The past to which the records lead back, and what makes the records right.
 use Rattle.std.specs.Prelude.{◌≡◌, ℕ, ◌+◌, ◌≤◌, List, [], ◌∷◌, length, take}
 use Rattle.circular_buffer.specs.Buffer.{Buffer, buffer}
-use Rattle.heap_world.specs.Limits.{keep_limit}
+use Rattle.heap_world.specs.Limits.{keep_limit, pin_limit}
 use Rattle.heap_world.specs.State.{HeapState}
 use Rattle.heap_world.specs.Legal.{IsLegal}
 use Rattle.heap_step.specs.declared.Undo.{Undo}
@@ -10,7 +10,7 @@ use Rattle.heap_class.specs.declared.IdSize.{IdSize}
 use Rattle.heap_trail.specs.Limits.{last_place}
 use Rattle.heap_trail.specs.Laws.{AreSteps}
 use Rattle.heap_trail.specs.Machine.{Machine}
-use Rattle.heap_trail.specs.Limits.{pin_limit, last_pin}
+use Rattle.heap_trail.specs.Limits.{last_pin}
 use Rattle.heap_trail.specs.Pins.{Pins}
 use Rattle.heap_trail.specs.declared.held.NumberedPin.{NumberedPin}
 use Rattle.heap_trail.specs.OpenPins.{pins_of, AreHeld, EachMayKeep}
@@ -77,4 +77,5 @@ pub record IsPinning (ids : IdSize) (w : HeapState) (ring : Buffer Undo) (place 
 abbrev pub IsWholeMachine : IdSize → HeapState → Buffer Undo → ℕ → ℕ → ℕ → List NumberedPin → ℕ
     → Type 0
 IsWholeMachine ids w ring place keep next slots room =
-    IsRetaining w ring place keep × IsPinning ids w ring place next slots × (pin_limit ≤ room)
+    IsRetaining w ring place keep × IsPinning ids w ring place next slots
+    × (w.limits.pins ≤ room)

@@ -1,9 +1,10 @@
 //! The pins that are open, each with its number.
-ghost use Rattle.std.specs.Prelude.{◌≡◌, ◌==◌, ◌≤◌, ◌^◌, length, Some, IfOk, IfErr, OnErr};
+ghost use Rattle.std.specs.Prelude.{◌≡◌, ◌==◌, ◌≤◌, length, Some, IfOk, IfErr, OnErr};
 ghost use Rattle.std.specs.List.{position};
 ghost use Rattle.heap_world.specs.State.{HeapState};
 ghost use Rattle.heap_step.specs.declared.Event.{Event};
 ghost use Rattle.heap_step.specs.Laws.{IsStep};
+ghost use Rattle.hprof_text.specs.Laws.{piece_size_limit};
 ghost use Rattle.heap_pins.specs.KeptCopies.{touched};
 ghost use Rattle.heap_trail.specs.OpenPins.{CanGive, HasGiven, IsNextPiece, IsSizedPin, IsRegionWithin, MayCount, MayKeep, NeedsCopy, RefusesPiece, held_advanced, is_settled, held_place, slot_after_rewind};
 ghost use Rattle.heap_trail.specs.Views.{CanShow, IsViewBeside, RefusesView};
@@ -151,7 +152,7 @@ impl NumberedPin {
         ensures number { self.new.number ≡ self.old.number }
         ensures refused { IfErr result (λ e. RefusesPiece self.old.held e) }
         ensures unchanged { OnErr result (self.new ≡ self.old) }
-        ensures small { IfOk result (λ p. length p.bytes ≤ 2 ^ 24) }
+        ensures small { IfOk result (λ p. length p.bytes ≤ piece_size_limit) }
     {
         let (piece, next) = self.piece_here(alloc, world, ids, time)?;
         self.advance(next);
@@ -169,7 +170,7 @@ impl NumberedPin {
         requires { CanGive ids world.now self.now.held }
         ensures piece { IfOk result (λ p. IsNextPiece ids world.now time self.now.held p.0 p.1) }
         ensures refused { IfErr result (λ e. RefusesPiece self.now.held e) }
-        ensures small { IfOk result (λ p. length p.0.bytes ≤ 2 ^ 24) }
+        ensures small { IfOk result (λ p. length p.0.bytes ≤ piece_size_limit) }
     {
         match &self.held {
             Held::Kept { pin, cursor, .. } => {

@@ -1,7 +1,7 @@
 //! The machine: the current state, the retained past, and the pins on it.
 #![tactic(auto)]
 
-ghost use Rattle.std.specs.Prelude.{◌≡◌, true, ◌<◌, ◌≤◌, ◌+◌, ◌-◌, ◌^◌, ℕ, List, [], length, map, None, Some, IfOk, IfErr, OnOk, OnErr};
+ghost use Rattle.std.specs.Prelude.{◌≡◌, true, ◌<◌, ◌≤◌, ◌+◌, ◌-◌, ℕ, List, [], length, map, None, Some, IfOk, IfErr, OnOk, OnErr};
 ghost use Rattle.std.specs.Vec.{vec_capacity};
 ghost use Rattle.circular_buffer.specs.Buffer.{buffer};
 ghost use Rattle.heap_world.specs.Limits.{keep_limit};
@@ -16,7 +16,6 @@ ghost use Rattle.heap_world.specs.Legal.{IsLegal};
 ghost use Rattle.heap_trail.specs.declared.Action.TheVariants.{OpenPin, Step, Rewind};
 ghost use Rattle.heap_trail.specs.declared.Reply.TheVariants.{Answered, Pinned, Place, Refused};
 ghost use Rattle.heap_trail.specs.Headline.{Headline};
-ghost use Rattle.heap_trail.specs.Limits.{pin_limit};
 ghost use Rattle.heap_trail.specs.Laws.{FindsSnapshot, IsTrail, GivesText, KeepsImage, DumpIsWhole, KeepsReached, KeepsTrail, LeadsBack, LeavesTrail, ReachesLive, SparesReached};
 ghost use Rattle.heap_trail.specs.Machine.{IsSmall, Machine, Allocation, MayFail, MayReply, acted, opening_machine};
 ghost use Rattle.heap_trail.specs.OpenPins.{AreAllBelow, EachMayKeep, EachSized, slot_after_rewind};
@@ -50,9 +49,6 @@ use std::marker::Model;
 
 // The last place: no step goes past 2^62.
 const LAST_PLACE: u64 = 0x4000_0000_0000_0000;
-
-// The largest number of open pins, lost ones included.
-const PIN_LIMIT: usize = 4;
 
 /// A request to a machine.
 #[derive(Drop)]
@@ -115,7 +111,6 @@ impl Model for Machine {
 
     ghost view = { λ m. machine_of m.ids m.world m.records m.place m.keep m.next m.pins.items };
 
-    ghost use Rattle.std.specs.Prelude.{◌≤◌};
     ghost use Rattle.std.specs.Vec.{vec_capacity};
 
     ghost invariant = { λ m. IsWholeMachine m.ids m.world m.records m.place m.keep m.next
@@ -184,15 +179,15 @@ fn remember(pins: &mut [NumberedPin], world: &World, records: &mut RecordRing, l
     }
 }
 
-// Creates a ring with room for `keep` records, and a list with room for all pins. Fails with NoMemory.
-fn room_for(alloc: Global, keep: u64) -> Result<(RecordRing, Vec<NumberedPin>), Refusal>
+// Creates a ring with room for `keep` records, and a list with room for this many pins. Fails with NoMemory.
+fn room_for(alloc: Global, keep: u64, pins: u64) -> Result<(RecordRing, Vec<NumberedPin>), Refusal>
     requires { keep ≤ keep_limit }
     ensures records { IfOk result (λ r. r.0 ≡ buffer [] keep) }
-    ensures pins { IfOk result (λ r. (r.1.items ≡ []) × (pin_limit ≤ vec_capacity r.1)) }
+    ensures pins { IfOk result (λ r. (r.1.items ≡ []) × (pins ≤ vec_capacity r.1)) }
     ensures refused { IfErr result (λ e. e ≡ NoMemory) }
 {
     let records = RecordRing::with_capacity(alloc, keep as usize)?;
-    let pins = Vec::with_capacity(alloc, PIN_LIMIT)?;
+    let pins = Vec::with_capacity(alloc, pins as usize)?;
     Ok((records, pins))
 }
 
@@ -206,16 +201,16 @@ fn lose_above(pins: &mut [NumberedPin], to: u64)
 }
 
 impl Machine {
-    /// Creates a machine at place 0, with room for `keep` records and for all pins. Fails with NoMemory if an allocation
-    /// fails.
+    /// Creates a machine at place 0, with room for `keep` records and for as many pins as its heap allows. Fails with
+    /// NoMemory if an allocation fails.
     pub fn new(alloc: Global, config: Config) -> Result<Machine, Refusal>
         ensures opened { IfOk result
-            (λ m. m ≡ opening_machine config.ids config.regions config.mutators config.keep) }
+            (λ m. m ≡ opening_machine config.limits config.ids config.regions config.mutators config.keep) }
         ensures refused { IfErr result (λ e. e ≡ NoMemory) }
     {
         let keep = config.keep();
         let ids = config.ids();
-        let (records, pins) = room_for(alloc, keep)?;
+        let (records, pins) = room_for(alloc, keep, config.limits().pins)?;
         let world = World::new(alloc, config)?;
         // Its contract says that the heap is legal.
         world.phase();

@@ -1,6 +1,6 @@
 //! The open pins, for a list of them.
 ghost use Rattle.std.specs.Prelude.{◌≡◌, ◌<◌, IfSome, option_map, slice_get};
-ghost use Rattle.heap_trail.specs.Limits.{pin_limit};
+ghost use Rattle.heap_world.specs.Limits.{pin_limit};
 ghost use Rattle.heap_trail.specs.Listings.{listed_pin, listed_slot};
 
 use crate::Machine;
@@ -47,7 +47,7 @@ impl NumberedPin {
 
 impl Machine {
     /// Tells of the open pin at this index, lost ones included. Pins are listed in order of their numbers; past the last,
-    /// and from 4 on, there is none. Takes no memory.
+    /// and from 4 on, in a wide heap from 64 on, there is none. Takes no memory.
     pub fn nth_pin(&self, index: u64) -> Option<ListedPin>
         ensures value { result ≡ option_map listed_pin (slice_get self.now.pins.open_pins index) }
         ensures limit { IfSome result (λ p. index < pin_limit) }

@@ -1,5 +1,6 @@
 //! Pins: opened, read piece by piece, and closed.
-ghost use Rattle.std.specs.Prelude.{◌≡◌, ◌≤◌, ◌^◌, length, IfOk, IfErr, OnErr};
+ghost use Rattle.std.specs.Prelude.{◌≡◌, ◌≤◌, length, IfOk, IfErr, OnErr};
+ghost use Rattle.hprof_text.specs.Laws.{piece_size_limit};
 ghost use Rattle.heap_trail.specs.declared.Action.TheVariants.{OpenPin, NextPiece, ClosePin};
 ghost use Rattle.heap_trail.specs.declared.Reply.TheVariants.{Pinned as PinnedReply, Part, Closed, Refused};
 ghost use Rattle.heap_trail.specs.Laws.{IsPieceOfLegal};
@@ -8,7 +9,7 @@ ghost use Rattle.heap_trail.specs.Machine.{MayFail, acted};
 
 use crate::held::{Held, NumberedPin, slot_of};
 use crate::opening::past_pin;
-use crate::{Machine, PIN_LIMIT, PinAt};
+use crate::{Machine, PinAt};
 use heap_class::Refusal;
 use hprof_text::{Cursor, Piece};
 
@@ -24,8 +25,8 @@ impl Machine {
     }
 
     /// Opens a pin on the retained state at the place `at`, or on the current state. Fails with NotRetained if that state
-    /// isn't retained, with PinLimit if 4 pins are open or all numbers are used, or with NoMemory if an allocation fails. A
-    /// refused call uses no number.
+    /// isn't retained, with PinLimit if 4 pins are open (in a wide heap 64) or all numbers are used, or with NoMemory if an
+    /// allocation fails. A refused call uses no number.
     pub fn open_pin(&mut self, at: Option<u64>) -> Result<PinAt, Refusal>
         ensures done { IfOk result
             (λ p. acted self.old (OpenPin at) ≡ (self.new, PinnedReply p.pin p.at)) }
@@ -36,7 +37,7 @@ impl Machine {
         if !self.has_retained(at) {
             return Err(Refusal::NotRetained);
         }
-        if self.pins.len() >= PIN_LIMIT || self.next > LAST_PIN {
+        if self.pins.len() as u64 >= self.world.limits().pins || self.next > LAST_PIN {
             return Err(Refusal::PinLimit);
         }
         let pin = past_pin(self.alloc, &self.world, &self.records, self.place - at)?;
@@ -62,7 +63,7 @@ impl Machine {
         ensures legal { IfOk result (λ p. IsPieceOfLegal self.old.ids time p) }
         ensures refused { IfErr result (λ e. MayFail self.old (NextPiece pin time) self.new e) }
         ensures unchanged { OnErr result (self.new ≡ self.old) }
-        ensures small { IfOk result (λ p. length p.bytes ≤ 2 ^ 24) }
+        ensures small { IfOk result (λ p. length p.bytes ≤ piece_size_limit) }
     {
         match slot_of(&self.pins, pin) {
             Some(slot) => self.pins[slot].next_piece(self.alloc, &self.world, self.ids, time),

@@ -5,6 +5,7 @@ use Rattle.heap_class.specs.declared.ObjKind.{ObjKind}
 use Rattle.heap_class.specs.declared.ObjKind.TheVariants.{Instance, Array, Prim}
 use Rattle.heap_class.specs.Kinds.{value_limit}
 use Rattle.heap_class.specs.Classes.{Class, IsClassTable, IsDefined, class_refusal, slot_kinds_of, instance_class, array_class}
+use Rattle.heap_class.proofs.Definitions.{widest}
 use Rattle.heap_class.proofs.Slots.{slots_more, instance_within, instance_more, array_more, classes_more}
 use Rattle.heap_region.specs.Regions.{Object, object_of, slot_kinds, references_of}
 use Rattle.heap_region.proofs.ChangedLookups.{place_found}
@@ -79,12 +80,12 @@ pub class_spares : (w : HeapState) (c : Class) → HasClauses w → Spares w (af
 unfolding after_class
 class_spares w c l = class_spares_of w c l
 
-pub class_legal : (w : HeapState) (c : Class) → (c.is_array ≡ true → (c.sup ≡ None) × (c.fields ≡ [])) → HasClauses w → class_refusal w.classes c ≡ None → HasClauses (after_class c w)
+pub class_legal : (w : HeapState) (c : Class) → (c.is_array ≡ true → (c.sup ≡ None) × (c.fields ≡ [])) → HasClauses w → class_refusal w.limits.classes w.classes c ≡ None → HasClauses (after_class c w)
 unfolding after_class
 class_legal w c bare l accepted =
     let now : HeapState = with_class c w in
-    let sized : IsSized now = record { regions = l.sized.regions; mutators = l.sized.mutators } in
-    let classes : IsClassTable [] now.classes = classes_more [] w.classes c l.classes accepted bare in
+    let sized : IsSized now = record { limits = l.sized.limits; regions = l.sized.regions; mutators = l.sized.mutators } in
+    let classes : IsClassTable [] now.classes = classes_more [] w.classes c l.classes (widest w.limits.classes w.classes c l.sized.limits.classes accepted) bare in
     let objects : EachObject w.regions (λ at o. IsObjectOf now.classes o) = (λ at o e. fits_more w.classes c o (l.objects at o e)) in
     let slots_live : (x y : ℕ) → IsLive now x → Names now x y → IsLive now y = (λ x y a n. l.slots_live x y a (names_before w c l x y n)) in
     let idle : w.phase ≡ Idle → IsQuiet now = (λ i. record { gray = (l.idle i).gray; log = (l.idle i).log; drained = (l.idle i).drained; unmarked = (l.idle i).unmarked }) in
@@ -94,13 +95,13 @@ class_legal w c bare l accepted =
 -- ---- the heap that holds it
 
 pub class_held : (w : HeapState) (room : ℕ) (c : Class) (cs : List Class) (result : Result ℕ Refusal) → IsSoundHeap w room → (c.is_array ≡ true → (c.sup ≡ None) × (c.fields ≡ []))
-    → IsAnswered (class_refusal w.classes c) true result → OnOk result (cs ≡ w.classes ++ c ∷ []) → OnErr result (cs ≡ w.classes) → IsSoundHeap (record w { classes = cs }) room
+    → IsAnswered (class_refusal w.limits.classes w.classes c) true result → OnOk result (cs ≡ w.classes ++ c ∷ []) → OnErr result (cs ≡ w.classes) → IsSoundHeap (record w { classes = cs }) room
 unfolding after_class
 class_held w room c cs (Ok k) h bare accepted more same = subst (λ ds. IsSoundHeap (record w { classes = ds }) room) (sym more)
     (held_by (after_class c w) w room h (legal_by (after_class c w) (class_legal w c bare (clauses_of w h.legal) accepted)) refl)
 class_held w room c cs (Err e) h bare accepted more same = subst (λ ds. IsSoundHeap (record w { classes = ds }) room) (sym same) h
 
-pub class_is_new : (w v : HeapState) (c : Class) (cs : List Class) (result : Result ℕ Refusal) → w ≡ v → IsDefined c w.classes cs result → IsNewClass c v (record w { classes = cs }) result
+pub class_is_new : (w v : HeapState) (c : Class) (cs : List Class) (result : Result ℕ Refusal) → w ≡ v → IsDefined w.limits.classes c w.classes cs result → IsNewClass c v (record w { classes = cs }) result
 unfolding after_class
 class_is_new w v c cs (Ok k) e d = subst (λ (u : HeapState). IsNewClass c u (record w { classes = cs }) (Ok k)) e
     (record { answered = d.answered; defined = ap (λ ds. record w { classes = ds }) d.defined; number = d.number; unchanged = d.unchanged })
@@ -108,7 +109,7 @@ class_is_new w v c cs (Err x) e d = subst (λ (u : HeapState). IsNewClass c u (r
     (record { answered = d.answered; defined = d.defined; number = d.number; unchanged = ap (λ ds. record w { classes = ds }) d.unchanged })
 
 pub instance_held : (w : HeapState) (room : ℕ) (name : List ℕ) (sup : Option ℕ) (fields : List Field) (cs : List Class) (result : Result ℕ Refusal) → IsSoundHeap w room
-    → IsAnswered (class_refusal w.classes (instance_class name sup fields)) true result → OnOk result (cs ≡ w.classes ++ instance_class name sup fields ∷ []) → OnErr result (cs ≡ w.classes) → IsSoundHeap (record w { classes = cs }) room
+    → IsAnswered (class_refusal w.limits.classes w.classes (instance_class name sup fields)) true result → OnOk result (cs ≡ w.classes ++ instance_class name sup fields ∷ []) → OnErr result (cs ≡ w.classes) → IsSoundHeap (record w { classes = cs }) room
 instance_held w room name sup fields cs result h a d e = class_held w room (instance_class name sup fields) cs result h no_array a d e
   where
     no_array : false ≡ true → (sup ≡ None) × (fields ≡ [])
@@ -116,5 +117,5 @@ instance_held w room name sup fields cs result h a d e = class_held w room (inst
 
 -- a class of object arrays is defined
 pub array_class_held : (w : HeapState) (room : ℕ) (name : List ℕ) (cs : List Class) (result : Result ℕ Refusal) → IsSoundHeap w room
-    → IsAnswered (class_refusal w.classes (array_class name)) true result → OnOk result (cs ≡ w.classes ++ array_class name ∷ []) → OnErr result (cs ≡ w.classes) → IsSoundHeap (record w { classes = cs }) room
+    → IsAnswered (class_refusal w.limits.classes w.classes (array_class name)) true result → OnOk result (cs ≡ w.classes ++ array_class name ∷ []) → OnErr result (cs ≡ w.classes) → IsSoundHeap (record w { classes = cs }) room
 array_class_held w room name cs result h a d e = class_held w room (array_class name) cs result h (λ b. (refl, refl)) a d e

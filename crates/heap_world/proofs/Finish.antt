@@ -9,6 +9,7 @@ use Rattle.heap_mark.proofs.Each.{used_each}
 use Rattle.heap_class.proofs.Refusals.{none_holds}
 use Rattle.heap_class.specs.declared.ObjRef.{ObjRef}
 use Rattle.heap_class.specs.Classes.{Class}
+use Rattle.heap_region.specs.Limits.{region_limit}
 use Rattle.heap_region.specs.Regions.{Object, UsedRegion, Region, Empty, InUse, used_at, object_of, object_at, ref_of, in_used, references_of, slot_kinds, cell_size_for}
 use Rattle.heap_region.proofs.ChangedLookups.{ref_same, size_at, number_of, place_found}
 use Rattle.heap_region.proofs.References.{member_none}
@@ -156,7 +157,7 @@ marked_object_live w l x o e m = let p = place_found w.regions x o e in (o, e, l
 pub finish_legal : (w : HeapState) → HasClauses w → finish_refusal (marking_of w) ≡ None → HasClauses (after_finish w)
 unfolding finish_refusal after_finish finished
 finish_legal w l accepted = record {
-  sized = record { regions = subst (λ n. (1 ≤ n) × (n ≤ 256)) (sym (length_each w.regions)) l.sized.regions; mutators = l.sized.mutators };
+  sized = record { limits = l.sized.limits; regions = subst (λ n. (1 ≤ n) × (n ≤ region_limit)) (sym (length_each w.regions)) l.sized.regions; mutators = l.sized.mutators };
   classes = l.classes;
   objects = λ at o' e. (let q = was at o' e in subst (IsObjectOf w.classes) (sym q.2) (settled_fits w.classes q.0 (l.objects at q.0 q.1)));
   least_cells = λ at o' e. (let q = was at o' e in subst (λ (o : Object). IfSome (used_at (each_region finished_region w.regions) at.region) (λ u. u.cell_size ≡ cell_size_for (length o.words))) (sym q.2) (least_each w.regions at.region (cell_size_for (length q.0.words)) (l.least_cells at q.0 q.1)));

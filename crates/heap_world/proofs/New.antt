@@ -15,6 +15,7 @@ use Rattle.heap_class.specs.declared.ObjKind.{ObjKind}
 use Rattle.heap_class.specs.declared.ObjRef.{ObjRef}
 use Rattle.heap_class.specs.Classes.{Class}
 use Rattle.heap_class.specs.Kinds.{value_limit}
+use Rattle.heap_region.specs.Limits.{region_limit}
 use Rattle.heap_region.specs.Regions.{Object, UsedRegion, Region, Empty, InUse, used_part, used_at, object_of, object_at, id_of, ref_of, with_region, references_of, slot_kinds, cell_size_for}
 use Rattle.heap_region.specs.Pool.{RegionPool, fresh_region, free_place, place_or_fresh, new_place, taken, restored, allocated}
 use Rattle.heap_region.proofs.ChangedLookups.{same_or_not, ref_same, number_of, region_of_ref}
@@ -305,7 +306,7 @@ grown_spares w rs1 ts qs at o s n phase a t f = record {
 
 grown_legal : (w : HeapState) (rs1 ts : List Region) (qs : List ℕ) (at : ObjRef) (o : Object) (n : ℕ) → HasClauses w → IsOpened w.regions rs1 w.pool qs at (cell_size_for n) → IsTaken rs1 ts at o (cell_size_for n) → IsFresh w o n → HasClauses (grown w ts qs)
 grown_legal w rs1 ts qs at o n l a t f = record {
-  sized = record { regions = subst (λ k. (1 ≤ k) × (k ≤ 256)) (sym (t.count ∙ a.count)) l.sized.regions; mutators = l.sized.mutators };
+  sized = record { limits = l.sized.limits; regions = subst (λ k. (1 ≤ k) × (k ≤ region_limit)) (sym (t.count ∙ a.count)) l.sized.regions; mutators = l.sized.mutators };
   classes = l.classes;
   objects = λ b p e. elim (which b p e) [ inl q ↦ subst (IsObjectOf w.classes) (sym q.1) f.fits | inr q ↦ l.objects b p q ];
   least_cells = λ b p e. elim (which b p e) [

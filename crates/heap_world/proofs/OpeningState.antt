@@ -8,7 +8,8 @@ use Rattle.heap_class.specs.Classes.{Class}
 use Rattle.heap_region.specs.Pool.{RegionPool, opening_pool}
 use Rattle.heap_mark.specs.Marker.{MarkerState, idle_marker}
 use Rattle.heap_world.specs.State.{HeapState, opening_state}
-use Rattle.heap_world.specs.Limits.{AreHeapSettings}
+use Rattle.heap_world.specs.declared.Limits.{Limits}
+use Rattle.heap_world.specs.Limits.{AreHeapSettings, AreLimits}
 use Rattle.heap_world.specs.HeapParts.{heap_of_parts, IsSoundHeap}
 use Rattle.heap_region.specs.Regions.{object_of, ref_of}
 use Rattle.heap_region.specs.Legal.{NamesEach}
@@ -81,10 +82,10 @@ nobody n x o = go (ref_of (replicate n Empty) x)
     go (Some at) h = no_object n at o h
 
 -- with as many regions and mutators as there may be
-pub begins_legal : (n m : ℕ) → 1 ≤ n → n ≤ region_limit → 1 ≤ m → m ≤ mutator_limit → IsLegal (opening_state n m)
+pub begins_legal : (limits : Limits) (n m : ℕ) → AreLimits limits → 1 ≤ n → n ≤ region_limit → 1 ≤ m → m ≤ mutator_limit → IsLegal (opening_state limits n m)
 unfolding opening_state IsDistinct
-begins_legal n m n1 n_few m1 m_few = record {
-  sized = record { regions = (omega (arith, length-replicate n Empty), omega (arith, length-replicate n Empty)); mutators = (m, m1, m_few, length-replicate {A = ℕ} (8 * m) 0) };
+begins_legal limits n m few n1 n_few m1 m_few = record {
+  sized = record { limits = few; regions = (omega (arith, length-replicate n Empty), omega (arith, length-replicate n Empty)); mutators = (m, m1, m_few, length-replicate {A = ℕ} (8 * m) 0) };
   classes = tt;
   regions = record { tables = λ r u h. absurd (no_region n r u h); pool = pool_names n };
   objects = λ at o h. absurd (no_object n at o h);
@@ -102,12 +103,12 @@ begins_legal n m n1 n_few m1 m_few = record {
 }
 
 -- the fields of a heap as it begins
-pub opens : (n m k room : ℕ) (classes : List Class) (pool : RegionPool) (registers : List ℕ) (marker : MarkerState) → classes ≡ [] → pool ≡ opening_pool n → registers ≡ replicate k 0 → k ≡ 8 * m → marker ≡ idle_marker room
-    → heap_of_parts classes pool registers marker ≡ opening_state n m
+pub opens : (limits limits' : Limits) (n m k room : ℕ) (classes : List Class) (pool : RegionPool) (registers : List ℕ) (marker : MarkerState) → limits ≡ limits' → classes ≡ [] → pool ≡ opening_pool n → registers ≡ replicate k 0 → k ≡ 8 * m → marker ≡ idle_marker room
+    → heap_of_parts limits classes pool registers marker ≡ opening_state limits' n m
 unfolding opening_state opening_pool
-opens n m k room classes pool registers marker a b c d e = λ i. heap_of_parts (a i) (b i) ((c ∙ ap (λ j. replicate j 0) d) i) (e i)
+opens limits limits' n m k room classes pool registers marker z a b c d e = λ i. heap_of_parts (z i) (a i) (b i) ((c ∙ ap (λ j. replicate j 0) d) i) (e i)
 
-pub opens_held : (n m keep room : ℕ) (w : HeapState) → w ≡ opening_state n m → AreHeapSettings n m keep → room ≡ 256 * n → IsSoundHeap w room
+pub opens_held : (limits : Limits) (n m keep room : ℕ) (w : HeapState) → w ≡ opening_state limits n m → AreLimits limits → AreHeapSettings n m keep → room ≡ 256 * n → IsSoundHeap w room
 unfolding opening_state
-opens_held n m keep room w e s r = subst (λ (v : HeapState). IsSoundHeap v room) (sym e)
-    (record { legal = begins_legal n m s.regions_within.0 s.regions_within.1 s.mutators_within.0 s.mutators_within.1; ids = omega (arith, r, length-replicate n Empty) })
+opens_held limits n m keep room w e few s r = subst (λ (v : HeapState). IsSoundHeap v room) (sym e)
+    (record { legal = begins_legal limits n m few s.regions_within.0 s.regions_within.1 s.mutators_within.0 s.mutators_within.1; ids = omega (arith, r, length-replicate n Empty) })

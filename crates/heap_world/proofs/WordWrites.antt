@@ -7,6 +7,7 @@ use Rattle.heap_class.specs.declared.Kind.{Kind}
 use Rattle.heap_class.specs.declared.ObjRef.{ObjRef}
 use Rattle.heap_class.specs.Classes.{Class}
 use Rattle.heap_class.specs.Kinds.{is_reference, value_limit}
+use Rattle.heap_region.specs.Limits.{region_limit}
 use Rattle.heap_region.specs.Regions.{Object, Region, object_of, object_at, ref_of, with_object, with_word, with_region, references_of, slot_kinds}
 use Rattle.heap_region.proofs.Ids.{found_elsewhere, found_there}
 use Rattle.heap_region.proofs.UpdatedLists.{length_updated}
@@ -170,7 +171,7 @@ quiet_written rs at slot word h b o e = let q = object_was (with_object_word slo
 
 pub written_legal : (w : HeapState) (at : ObjRef) (x : ℕ) (o : Object) (slot word : ℕ) (after : List ℕ) → HasClauses w → ref_of w.regions x ≡ Some at → object_of w.regions x ≡ Some o → IsLive w x → (word ≢ 0 → IsReferenceSlot w.classes o slot → IsLive w word) → MayWrite w x o slot word after → HasClauses (written w at slot word after)
 written_legal w at x o slot word after l p e live word_live may = record {
-  sized = record { regions = subst (λ n. (1 ≤ n) × (n ≤ 256)) (sym (length_written w.regions at slot word)) l.sized.regions; mutators = l.sized.mutators };
+  sized = record { limits = l.sized.limits; regions = subst (λ n. (1 ≤ n) × (n ≤ region_limit)) (sym (length_written w.regions at slot word)) l.sized.regions; mutators = l.sized.mutators };
   classes = l.classes;
   objects = st.objects;
   least_cells = st.least_cells;

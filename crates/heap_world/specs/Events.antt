@@ -25,7 +25,7 @@ after_class c w = record w { classes = w.classes ++ c ∷ [] }
 -- a call that defines this class, unless it is refused, had this result
 pub record IsNewClass (c : Class) (before after : HeapState) (result : Result ℕ Refusal)
     : Type 0 where
-  pub answered : IsAnswered (class_refusal before.classes c) true result
+  pub answered : IsAnswered (class_refusal before.limits.classes before.classes c) true result
   pub defined : OnOk result (after ≡ after_class c before)
   pub number : IfOk result (λ k. k ≡ length before.classes)
   pub unchanged : OnErr result (after ≡ before)

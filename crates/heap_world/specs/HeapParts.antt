@@ -3,13 +3,15 @@ use Rattle.std.specs.Prelude.{ℕ, ◌*◌, ◌≤◌, List, length}
 use Rattle.heap_class.specs.Classes.{Class}
 use Rattle.heap_region.specs.Pool.{RegionPool}
 use Rattle.heap_mark.specs.Marker.{MarkerState, cells_each}
+use Rattle.heap_world.specs.declared.Limits.{Limits}
 use Rattle.heap_world.specs.State.{HeapState}
 use Rattle.heap_world.specs.Legal.{IsLegal}
 
 -- the state with these parts
-abbrev pub heap_of_parts : List Class → RegionPool → List ℕ → MarkerState → HeapState
-heap_of_parts classes pool registers marker =
+abbrev pub heap_of_parts : Limits → List Class → RegionPool → List ℕ → MarkerState → HeapState
+heap_of_parts limits classes pool registers marker =
     record {
+      limits = limits;
       classes = classes;
       regions = pool.regions;
       pool = pool.pool;

@@ -1,7 +1,10 @@
 -- The settings of a heap, and their limits.
-use Rattle.std.specs.Prelude.{ℕ, ◌≤◌}
+use Rattle.std.specs.Prelude.{ℕ, ◌≤◌, false}
+use Rattle.heap_class.specs.declared.ClassLimits.{ClassLimits}
 use Rattle.heap_class.specs.declared.IdSize.{IdSize}
+use Rattle.heap_class.specs.Limits.{AreClassLimits, widest_classes}
 use Rattle.heap_region.specs.Limits.{region_limit}
+use Rattle.heap_world.specs.declared.Limits.{Limits}
 
 -- the largest number of mutators of a heap
 abbrev pub mutator_limit : ℕ
@@ -13,7 +16,42 @@ registers_each = 8
 
 -- the largest number of steps that can be undone
 abbrev pub keep_limit : ℕ
-keep_limit = 65536
+keep_limit = 16777216
+
+-- the largest number of open pins, lost ones included
+abbrev pub pin_limit : ℕ
+pin_limit = 64
+
+-- the largest number of regions of a heap that isn't wide
+abbrev pub narrow_regions : ℕ
+narrow_regions = 256
+
+-- the largest number of steps that can be undone in a heap that isn't wide
+abbrev pub narrow_keep : ℕ
+narrow_keep = 65536
+
+-- what a heap that isn't wide allows of its classes and their names
+abbrev pub narrow_classes : ClassLimits
+narrow_classes = record { classes = 256; name_bytes = 64; any_sign = false }
+
+-- what a heap that isn't wide allows
+abbrev pub narrow_limits : Limits
+narrow_limits = record { classes = narrow_classes; pins = 4 }
+
+-- what a wide heap allows: as much as any heap
+abbrev pub wide_limits : Limits
+wide_limits = record { classes = widest_classes; pins = pin_limit }
+
+-- a heap may have these limits: they allow no more than any heap does
+pub record AreLimits (limits : Limits) : Type 0 where
+  pub classes : AreClassLimits limits.classes
+  pub pins : limits.pins ≤ pin_limit
+
+-- a heap that isn't wide may have these numbers of regions, of mutators and of steps that can be undone
+pub record AreNarrowSettings (regions mutators keep : ℕ) : Type 0 where
+  pub regions_within : (1 ≤ regions) × (regions ≤ narrow_regions)
+  pub mutators_within : (1 ≤ mutators) × (mutators ≤ mutator_limit)
+  pub keep_within : (1 ≤ keep) × (keep ≤ narrow_keep)
 
 -- a heap may have these numbers of regions, of mutators and of steps that can be undone
 pub record AreHeapSettings (regions mutators keep : ℕ) : Type 0 where
@@ -21,9 +59,11 @@ pub record AreHeapSettings (regions mutators keep : ℕ) : Type 0 where
   pub mutators_within : (1 ≤ mutators) × (mutators ≤ mutator_limit)
   pub keep_within : (1 ≤ keep) × (keep ≤ keep_limit)
 
--- the settings of a heap: its regions, its mutators, the steps that can be undone, and the size of the ids in its dumps
+-- the settings of a heap: its regions, its mutators, the steps that can be undone, the size of the ids in its dumps, and what
+-- it allows of classes, their names and pins
 pub record HeapSettings : Type 0 where
   pub regions : ℕ
   pub mutators : ℕ
   pub keep : ℕ
   pub ids : IdSize
+  pub limits : Limits

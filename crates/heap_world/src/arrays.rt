@@ -14,7 +14,7 @@ impl World {
     pub fn define_array_class(&mut self, name: &Name) -> Result<ClassNo, Refusal>
         ensures { IsNewClass (array_class name.now) self.old self.new result }
     {
-        self.classes.define_array(name)
+        self.classes.define_array(self.limits.classes, name)
     }
 
     /// Makes an object array of a class in register `r` of mutator `m`, its elements null. Fails with BadRegister, NoClass,

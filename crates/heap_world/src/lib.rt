@@ -9,7 +9,7 @@ ghost use Rattle.heap_class.specs.declared.ObjKind.TheVariants.{Instance};
 ghost use Rattle.heap_class.specs.declared.Refusal.TheVariants.{NoMemory, NullRegister, BadSlot, HeapFull};
 ghost use Rattle.heap_region.specs.Regions.{object_at, ref_of, slot_kinds, with_word};
 ghost use Rattle.heap_region.specs.Pool.{new_place, is_fresh, unallocated};
-ghost use Rattle.heap_world.specs.Limits.{AreHeapSettings, HeapSettings, mutator_limit, registers_each};
+ghost use Rattle.heap_world.specs.Limits.{AreHeapSettings, AreLimits, AreNarrowSettings, HeapSettings, mutator_limit, narrow_limits, registers_each, wide_limits};
 ghost use Rattle.heap_world.specs.State.{HeapState, opening_state, is_register, register, with_register, pool_of, with_pool, place_in, slot_kind};
 ghost use Rattle.heap_world.specs.Legal.{IsLegal, MayHold};
 ghost use Rattle.heap_world.specs.Events.{is_full, new_array_refusal, new_refusal, after_new, put_refusal, after_put, IsNewClass, IsNewObject, IsSlotAt};
@@ -19,14 +19,16 @@ mod marking;
 mod references;
 mod sweeping;
 
-use heap_class::{ClassNo, Classes, IdSize, Kind, NewClass, ObjKind, ObjRef, Refusal};
+use heap_class::{
+    ClassLimits, ClassNo, Classes, IdSize, Kind, NewClass, ObjKind, ObjRef, Refusal, WIDEST_CLASSES,
+};
 use heap_mark::{Marker, Phase};
 use heap_region::Regions;
 use std::alloc::Global;
 use std::marker::Model;
 
-/// The largest number of regions of a heap.
-pub const REGION_LIMIT: u64 = 256;
+/// The largest number of regions of a wide heap.
+pub const REGION_LIMIT: u64 = 65536;
 
 /// The largest number of mutators of a heap.
 pub const MUTATOR_LIMIT: u64 = 16;
@@ -37,41 +39,123 @@ pub const REGISTERS_EACH: u64 = 8;
 /// The largest number of elements of an array.
 pub const ARRAY_LIMIT: u64 = 1024;
 
-/// The largest number of steps that can be undone.
-pub const KEEP_LIMIT: u64 = 65536;
+/// The largest number of steps that can be undone in a wide heap.
+pub const KEEP_LIMIT: u64 = 16_777_216;
+
+/// What a heap allows. No event changes it.
+#[derive(Clone, Copy)]
+pub struct Limits {
+    /// What it allows of its classes and their names.
+    pub classes: ClassLimits,
+    /// The largest number of open pins, lost ones included: at most 64.
+    pub pins: u64,
+}
+
+/// What a heap allows that isn't wide: 256 classes, names of 64 letters, digits and `_$/[;.`, and 4 pins.
+pub const NARROW_LIMITS: Limits = Limits {
+    classes: ClassLimits {
+        classes: 256,
+        name_bytes: 64,
+        any_sign: false,
+    },
+    pins: 4,
+};
+
+/// What a wide heap allows: 4,096 classes, names of 255 bytes that print a sign, except the colon, and 64 pins.
+pub const WIDE_LIMITS: Limits = Limits {
+    classes: WIDEST_CLASSES,
+    pins: 64,
+};
+
+/// The largest number of regions of a heap that isn't wide.
+pub const NARROW_REGIONS: u64 = 256;
+
+/// The largest number of steps that can be undone in a heap that isn't wide.
+pub const NARROW_KEEP: u64 = 65536;
 
 // The largest number of cells of a region.
 const CELLS_EACH: u64 = 256;
 
-/// The settings of a heap: 1 to 256 regions, 1 to 16 mutators, 1 to 65,536 steps that can be undone, and the size of the ids in
-/// its dumps.
+/// The settings of a heap: 1 to 256 regions, in a wide heap 1 to 65,536; 1 to 16 mutators; 1 to 65,536 steps that can be undone,
+/// in a wide heap 1 to 2^24; the size of the ids in its dumps; and what it allows of classes, their names and pins.
 #[derive(Clone, Copy)]
 pub struct Config {
     regions: u64,
     mutators: u64,
     keep: u64,
     ids: IdSize,
+    limits: Limits,
 }
 
 impl Model for Config {
-    ghost use Rattle.heap_world.specs.Limits.{AreHeapSettings, HeapSettings};
+    ghost use Rattle.heap_world.specs.Limits.{AreHeapSettings, AreLimits, HeapSettings};
 
     ghost Value = { HeapSettings };
 
     ghost view = { λ c.
-        record { regions = c.regions; mutators = c.mutators; keep = c.keep; ids = c.ids } };
+        record {
+          regions = c.regions;
+          mutators = c.mutators;
+          keep = c.keep;
+          ids = c.ids;
+          limits = c.limits;
+        } };
 
     ghost inverse = { λ c.
-        record { regions = c.regions; mutators = c.mutators; keep = c.keep; ids = c.ids } };
+        record {
+          regions = c.regions;
+          mutators = c.mutators;
+          keep = c.keep;
+          ids = c.ids;
+          limits = c.limits;
+        } };
 
-    ghost invariant = { λ c. AreHeapSettings c.regions c.mutators c.keep };
+    ghost invariant = { λ c. AreHeapSettings c.regions c.mutators c.keep × AreLimits c.limits };
 }
 
 impl Config {
-    /// Creates settings with ids of 8 bytes. None if a number is outside its limits.
+    /// Creates settings of a heap that isn't wide, with ids of 8 bytes. None if a number is outside its limits: 1 to 256
+    /// regions, 1 to 16 mutators and 1 to 65,536 steps that can be undone.
     pub fn new(regions: u64, mutators: u64, keep: u64) -> Option<Config>
         ensures given { IfSome result
-            (λ c. c ≡ record { regions = regions; mutators = mutators; keep = keep; ids = Eight }) }
+            (λ c. c
+            ≡ record {
+              regions = regions;
+              mutators = mutators;
+              keep = keep;
+              ids = Eight;
+              limits = narrow_limits;
+            }) }
+        ensures within { IsSome result ↔ AreNarrowSettings regions mutators keep }
+    {
+        let sized = 1 <= regions
+            && regions <= NARROW_REGIONS
+            && 1 <= mutators
+            && mutators <= MUTATOR_LIMIT;
+        if !sized || keep == 0 || keep > NARROW_KEEP {
+            return None;
+        }
+        Some(Config {
+            regions,
+            mutators,
+            keep,
+            ids: IdSize::Eight,
+            limits: NARROW_LIMITS,
+        })
+    }
+
+    /// Creates settings of a wide heap, with ids of 8 bytes. None if a number is outside its limits: 1 to 65,536 regions, 1 to
+    /// 16 mutators and 1 to 2^24 steps that can be undone.
+    pub fn wide(regions: u64, mutators: u64, keep: u64) -> Option<Config>
+        ensures given { IfSome result
+            (λ c. c
+            ≡ record {
+              regions = regions;
+              mutators = mutators;
+              keep = keep;
+              ids = Eight;
+              limits = wide_limits;
+            }) }
         ensures within { IsSome result ↔ AreHeapSettings regions mutators keep }
     {
         let sized = 1 <= regions
@@ -86,6 +170,7 @@ impl Config {
             mutators,
             keep,
             ids: IdSize::Eight,
+            limits: WIDE_LIMITS,
         })
     }
 
@@ -96,7 +181,7 @@ impl Config {
         Config { ids, ..self }
     }
 
-    /// Returns the number of regions, 1 to 256.
+    /// Returns the number of regions: 1 to 256, in a wide heap 1 to 65,536.
     pub fn regions(&self) -> u64
         ensures value { result ≡ self.now.regions }
         ensures limits { AreHeapSettings self.now.regions self.now.mutators self.now.keep }
@@ -111,12 +196,20 @@ impl Config {
         self.mutators
     }
 
-    /// Returns the number of steps that can be undone, 1 to 65,536.
+    /// Returns the number of steps that can be undone: 1 to 65,536, in a wide heap 1 to 2^24.
     pub fn keep(&self) -> u64
         ensures value { result ≡ self.now.keep }
         ensures limits { AreHeapSettings self.now.regions self.now.mutators self.now.keep }
     {
         self.keep
+    }
+
+    /// Returns what the heap allows of classes, their names and pins.
+    pub fn limits(&self) -> Limits
+        ensures value { result ≡ self.now.limits }
+        ensures within { AreLimits self.now.limits }
+    {
+        self.limits
     }
 
     /// Returns the size of the ids in dumps.
@@ -219,6 +312,7 @@ fn kind_within(kind: Kind, len: u64, slot: u64) -> Option<Kind>
 /// The heap. Contracts see its whole state.
 #[derive(Drop)]
 pub struct World {
+    limits: Limits,
     classes: Classes,
     regions: Regions,
     registers: Vec<u64>,
@@ -232,17 +326,17 @@ impl Model for World {
 
     ghost Value = { HeapState };
 
-    ghost view = { λ w. heap_of_parts w.classes w.regions w.registers.items w.marker };
+    ghost view = { λ w. heap_of_parts w.limits w.classes w.regions w.registers.items w.marker };
 
     ghost invariant = { λ w. IsSoundHeap
-        (heap_of_parts w.classes w.regions w.registers.items w.marker) w.marker.room };
+        (heap_of_parts w.limits w.classes w.regions w.registers.items w.marker) w.marker.room };
 }
 
 impl World {
     /// Creates a heap: no class, each region empty, each register null. Reserves room for the gray stack. Fails with NoMemory
     /// if an allocation fails.
     pub fn new(alloc: Global, config: Config) -> Result<World, Refusal>
-        ensures opened { IfOk result (λ w. w ≡ opening_state config.regions config.mutators) }
+        ensures opened { IfOk result (λ w. w ≡ opening_state config.limits config.regions config.mutators) }
         ensures refused { IfErr result (λ e. e ≡ NoMemory) }
     {
         let count = config.regions();
@@ -251,6 +345,7 @@ impl World {
         let registers = nulls(alloc, (REGISTERS_EACH * mutators) as usize)?;
         let marker = Marker::new(alloc, CELLS_EACH * count)?;
         Ok(World {
+            limits: config.limits(),
             classes: Classes::new(alloc),
             regions,
             registers,
@@ -265,6 +360,14 @@ impl World {
         ensures legal { IsLegal self.now }
     {
         self.marker.phase()
+    }
+
+    /// Returns what the heap allows of classes, their names and pins.
+    pub fn limits(&self) -> Limits
+        ensures value { result ≡ self.now.limits }
+        ensures within { AreLimits self.now.limits }
+    {
+        self.limits
     }
 
     /// Returns the classes.
@@ -336,7 +439,7 @@ impl World {
             (instance_class class.entry.name.now class.entry.sup class.entry.fields.now) self.old
             self.new result }
     {
-        self.classes.define(class)
+        self.classes.define(self.limits.classes, class)
     }
 
     /// Undoes the last definition of a class, which must be there. The heap must be legal afterwards. Takes no memory.

@@ -1,3 +1,2 @@
 pub mod SavedRuns
-pub mod ServedHeaps
 pub mod PageHindrances

@@ -1,9 +1,8 @@
 -- A session that is saved is a run of the program.
-use Rattle.std.proofs.Common.{◌≡◌, ℕ, refl, ◌∙◌, subst, Bool, true, false, Option, Some, None}
+use Rattle.std.proofs.Common.{◌≡◌, ℕ, refl, subst, Bool, true, false, Option, Some, None}
 use Rattle.std.specs.Prelude.{is_some, option_map}
 use Rattle.dump_pump.specs.declared.transfer.Pumped.{Pumped}
 use Rattle.dump_pump.specs.Outlets.{Outgoing}
-use Rattle.heapdbg_options.specs.IdSize.{IdSize}
 use Rattle.session_text.specs.Machine.{Machine, opening_machine}
 use Rattle.session_text.specs.declared.Ended.{Ended}
 use Rattle.dump_pump.specs.Inlets.{Incoming}
@@ -14,14 +13,15 @@ use Rattle.question_text.specs.declared.asking.Asking.{Asking}
 use Rattle.question_text.specs.Sessions.{ServesAsking}
 use Rattle.heap_save.specs.Saves.{EndsSave, IsSaved}
 use Rattle.heap_save.proofs.SavedSessions.{ends_anywhere}
+use Rattle.heapdbg_options.specs.CommandLine.{limits_of}
 use Rattle.heapdbg_options.specs.declared.settings.Settings.{Settings}
 use Rattle.heapdbg.specs.Explorations.{IsOpening}
 use Rattle.heapdbg.specs.SaveOutcomes.{IsSavedWith, any_outlet}
 
 -- the first pin of a heap as it begins
-pub first_is : (ids : IdSize) (regions mutators keep : ℕ) → (opening_machine ids regions mutators keep).pins.next ≡ 1
+pub first_is : (s : Settings) → (opening_machine (limits_of s) s.ids s.regions s.mutators s.keep).pins.next ≡ 1
 unfolding opening_machine
-first_is ids regions mutators keep = refl
+first_is s = refl
 
 -- what is done after a session of a heap as it begins, wherever an outlet may be made
 ends_here : (makes : Option Outgoing → Type 0) (own mine time : ℕ) (left m' : Machine) (between w' : Outgoing) (outlet : Option Outgoing) (talked ended : Ended) (pumped : Option Pumped)

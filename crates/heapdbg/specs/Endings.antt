@@ -34,6 +34,7 @@ word_of_fault fault.Connect = codes "connect"
 word_of_fault fault.Out = codes "out"
 word_of_fault fault.From = codes "from"
 word_of_fault fault.Lost = codes "lost"
+word_of_fault fault.Secret = codes "secret"
 
 -- the text for the user: that of a bad command line, one that is asked for, or a line with the word of the fault
 abbrev pub message_of : Failure → List ℕ

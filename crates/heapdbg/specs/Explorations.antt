@@ -11,12 +11,13 @@ use Rattle.session_text.specs.Endings.{EndsSession}
 use Rattle.dump_pump.specs.Inlets.{Incoming}
 use Rattle.heapdbg.specs.declared.failure.Fault.{Fault}
 use Rattle.heapdbg.specs.declared.failure.Fault.TheVariants.{From, Memory}
+use Rattle.heapdbg_options.specs.CommandLine.{limits_of}
 use Rattle.heapdbg_options.specs.declared.settings.Settings.{Settings}
 use Rattle.heapdbg.specs.Endings.{outcome_of}
 
 -- a heap with these settings as it begins
 abbrev pub IsOpening : Settings → Asking → Type 0
-IsOpening s c = c.local.machine ≡ opening_machine s.ids s.regions s.mutators s.keep
+IsOpening s c = c.local.machine ≡ opening_machine (limits_of s) s.ids s.regions s.mutators s.keep
 
 -- the lines of a file were run first, or none were
 abbrev pub IsRunFirst : {S : Type 0} → Bool → AnswerRelation S → AnswerRelation S → S → S → Type 0

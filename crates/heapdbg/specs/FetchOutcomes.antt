@@ -1,4 +1,4 @@
--- The outcomes of a fetch. Files and sockets tell nothing of their bytes.
+-- The outcomes of a fetch.
 use Rattle.std.specs.Prelude.{◌≡◌, ◌⊎◌, Bool, true, false, [], Result, Ok, Err}
 use Rattle.dump_pump.specs.Outlets.{Outgoing}
 use Rattle.dump_pump.specs.Inlets.{Incoming}
@@ -22,17 +22,18 @@ abbrev pub IsUnfetched : Result (Unit {0}) Fault → Type 0
 IsUnfetched result =
     (result ≡ Err fault.Connect) ⊎ ((result ≡ Err fault.Out) ⊎ (result ≡ Err fault.Memory))
 
--- what a socket gave was put out to a file, and then a last line
-abbrev pub IsFetchTold : Incoming → Incoming → Outgoing → Outgoing → Outgoing → Outgoing
-    → Result (Unit {0}) Fault → Type 0
-IsFetchTold socket socket' file file' w w' result =
-    (fetched : Fetched) × IsFetched socket socket' file file' fetched
+-- a socket gave what stands behind `socket'`, having given nothing before; this was put out to a file, and then a last line was put out
+abbrev pub IsFetchTold : Fetched → Incoming → Outgoing → Outgoing → Outgoing
+    → Result (Unit {0}) Fault
+    → Type 0
+IsFetchTold fetched socket' file' w w' outcome =
+    (socket : Incoming) × (file : Outgoing) × (socket.taken ≡ []) × IsFetched socket socket' file file' fetched
     × ((written : Bool) × IsTextWritten (fetch_line_of fetched) w w' written
-    × (result ≡ fetched_outcome fetched.finish written))
+    × (outcome ≡ fetched_outcome fetched.finish written))
 
--- so it was for a socket that had given nothing before; or nothing was fetched, and nothing was put out
+-- so it was for some socket and file; or nothing was fetched, and nothing was put out
 abbrev pub IsDumpFetched : Outgoing → Outgoing → Result (Unit {0}) Fault → Type 0
-IsDumpFetched w w' result =
-    ((socket socket' : Incoming) × (file file' : Outgoing) × (socket.taken ≡ [])
-    × IsFetchTold socket socket' file file' w w' result)
-    ⊎ (IsUnfetched result × (w' ≡ w))
+IsDumpFetched w w' outcome =
+    ((fetched : Fetched) × (socket' : Incoming) × (file' : Outgoing)
+    × IsFetchTold fetched socket' file' w w' outcome)
+    ⊎ (IsUnfetched outcome × (w' ≡ w))

@@ -1,5 +1,5 @@
 -- A session with questions over a heap that a page shows.
-use Rattle.std.specs.Prelude.{◌≡◌, ◌⊎◌, ◌∷◌, ℕ, Bool, true, [], length, Result, Err}
+use Rattle.std.specs.Prelude.{◌≡◌, ◌⊎◌, ◌∷◌, ℕ, Bool, true, false, [], None, length, Result, Err}
 use Rattle.dump_pump.specs.Inlets.{Incoming}
 use Rattle.dump_pump.specs.Outlets.{Outgoing}
 use Rattle.session_text.specs.declared.Ended.{Ended}
@@ -8,6 +8,7 @@ use Rattle.heap_server.specs.Calls.{IsLegalLedger}
 use Rattle.heap_server.specs.PageSessions.{IsServedBeside}
 use Rattle.heap_server.specs.SessionSeats.{AreUsers}
 use Rattle.heap_server.specs.Stations.{Station, seat_acts, seat_answers, seat_begins, seat_says}
+use Rattle.heap_server.specs.declared.sessions.Terms.{Terms}
 use Rattle.heapdbg_options.specs.HeapLimits.{HeapSettings}
 use Rattle.heapdbg_options.specs.declared.settings.Settings.{Settings}
 use Rattle.heapdbg.specs.declared.failure.Fault.{Fault}
@@ -30,12 +31,16 @@ pub record IsSeated (config : HeapSettings) (c : Station) : Type 0 where
   pub only : made.seats ≡ c.seat ∷ []
   pub legal : IsLegalLedger config c.seen
 
+-- the terms of the session: it answers questions
+abbrev pub own_terms : ℕ → Terms
+own_terms time =
+    record { time = time; questions = true; secret = None; idle = 0; stays = false }
+
 -- a session as it begins: at such a seat, or as the lines of a file left it, which were run first
 abbrev pub IsSeatBegun : HeapSettings → Bool → ℕ → Station → Type 0
 IsSeatBegun config from time c =
     (b : Station) × IsSeated config b
-    × IsRunFirst from (seat_says config (record { time = time; questions = true }))
-    (seat_begins config (record { time = time; questions = true })) b c
+    × IsRunFirst from (seat_says config (own_terms time)) (seat_begins config (own_terms time)) b c
 
 -- why a session doesn't begin: as without a page, or its port can't be listened on
 abbrev pub IsPageHindrance : Bool → Fault → Type 0

@@ -1,5 +1,5 @@
 -- A run of the program between its reader and its writer.
-use Rattle.std.specs.Prelude.{◌≡◌, ℕ, ◌⊎◌, Bool, true, false, List, Result, None, Some, Ok, Err}
+use Rattle.std.specs.Prelude.{◌≡◌, ℕ, ◌⊎◌, Bool, true, false, List, Option, Result, None, Some, Ok, Err, is_some}
 use Rattle.dump_pump.specs.Outlets.{Outgoing}
 use Rattle.session_text.specs.Machine.{Machine, opening_machine}
 use Rattle.session_text.specs.declared.Ended.{Ended}
@@ -11,13 +11,15 @@ use Rattle.question_text.specs.Sessions.{ServesAsking}
 use Rattle.heapdbg.specs.declared.failure.Fault.{Fault}
 use Rattle.heapdbg.specs.declared.failure.Fault.TheVariants.{Memory}
 use Rattle.heapdbg.specs.declared.failure.Failure.{Failure}
+use Rattle.heapdbg.specs.declared.serve.HeapServed.{HeapServed}
 use Rattle.heapdbg_options.specs.declared.settings.LineFault.{LineFault}
+use Rattle.heapdbg_options.specs.declared.settings.Service.{Service}
 use Rattle.heapdbg_options.specs.declared.settings.Settings.{Settings}
 use Rattle.heapdbg_options.specs.declared.settings.Task.{Task}
 use Rattle.heapdbg.specs.declared.failure.Fault.TheVariants as fault
 use Rattle.heapdbg_options.specs.declared.settings.Task.TheVariants.{Run, Explore, Draw, Save, Serve, Ask, Fetch}
 use Rattle.heapdbg_options.specs.declared.settings.Target.TheVariants.{Out, To}
-use Rattle.heapdbg_options.specs.CommandLine.{settings_of}
+use Rattle.heapdbg_options.specs.CommandLine.{limits_of, settings_of}
 use Rattle.heapdbg.specs.Endings.{failure_of, outcome_of, work_of}
 use Rattle.heapdbg.specs.Explorations.{IsExplored, IsOpening}
 use Rattle.heapdbg.specs.FetchOutcomes.{IsDumpFetched}
@@ -32,7 +34,7 @@ abbrev pub IsRun : Settings → Incoming → Incoming → Outgoing → Outgoing 
     → Type 0
 IsRun s a b w w' result =
     ((ended : Ended) × (left : Machine)
-    × IsSession (opening_machine s.ids s.regions s.mutators s.keep) s.time a b w w' left ended
+    × IsSession (opening_machine (limits_of s) s.ids s.regions s.mutators s.keep) s.time a b w w' left ended
     × EndsSession a b w w' ended × (result ≡ outcome_of ended))
     ⊎ ((result ≡ Err Memory) × (b ≡ a) × (w' ≡ w))
 
@@ -64,6 +66,28 @@ abbrev pub IsSavedOut : Settings → Incoming → Incoming → Outgoing → Outg
 IsSavedOut s a b w w' result =
     IsSavedTo fault.Out s a b w w' result ⊎ ((result ≡ Err fault.Out) × (b ≡ a) × (w' ≡ w))
 
+-- a secret is wanted, and its file can't be read or has none; nothing was put out
+abbrev pub IsSecretMissing : Bool → Outgoing → Outgoing → Result (Unit {0}) Fault → Type 0
+IsSecretMissing is_wanted w w' result =
+    (is_wanted ≡ true) × ((result ≡ Err fault.Secret) ⊎ (result ≡ Err Memory)) × (w' ≡ w)
+
+-- a heap was served with this secret, if one is wanted, or not opened; or the secret was missing
+abbrev pub IsServiceDone : Service → Settings → Outgoing → Outgoing → Result (Unit {0}) Fault → Type 0
+IsServiceDone service s w w' result =
+    IsSecretMissing service.secret w w' result
+    ⊎ ((secret : Option (List ℕ)) × (heap : Option HeapServed) × (is_some secret ≡ service.secret)
+    × IsServed service secret s w w' heap result)
+
+-- a session was asked, behind a secret if one is wanted; or the secret was missing
+abbrev pub IsAskDone : Bool → Outgoing → Outgoing → Result (Unit {0}) Fault → Type 0
+IsAskDone is_secret w w' result =
+    IsSecretMissing is_secret w w' result ⊎ IsServerAsked w w' result
+
+-- a dump was fetched, behind a secret if one is wanted; or the secret was missing
+abbrev pub IsFetchDone : Bool → Outgoing → Outgoing → Result (Unit {0}) Fault → Type 0
+IsFetchDone is_secret w w' result =
+    IsSecretMissing is_secret w w' result ⊎ IsDumpFetched w w' result
+
 -- the task of the settings was done
 abbrev pub IsTaskDone : Task → Settings → Incoming → Incoming → Outgoing → Outgoing
     → Result (Unit {0}) Fault → Type 0
@@ -73,10 +97,9 @@ IsTaskDone (Explore from (Some page)) s a b w w' result = IsPageExplored from s 
 IsTaskDone Draw s a b w w' result = IsSessionDrawn s a b w w' result
 IsTaskDone (Save Out) s a b w w' result = IsSavedOut s a b w w' result
 IsTaskDone (Save (To port)) s a b w w' result = IsSavedTo fault.Connect s a b w w' result
-IsTaskDone (Serve port sessions workers dumps page) s a b w w' result =
-    (b ≡ a) × IsServed workers s sessions w w' result
-IsTaskDone (Ask port) s a b w w' result = (b ≡ a) × IsServerAsked w w' result
-IsTaskDone (Fetch port) s a b w w' result = (b ≡ a) × IsDumpFetched w w' result
+IsTaskDone (Serve service) s a b w w' result = (b ≡ a) × IsServiceDone service s w w' result
+IsTaskDone (Ask port is_secret) s a b w w' result = (b ≡ a) × IsAskDone is_secret w w' result
+IsTaskDone (Fetch port is_secret) s a b w w' result = (b ≡ a) × IsFetchDone is_secret w w' result
 
 -- the settings that the words ask for, and their task done; or a refusal of the words, and then nothing is read or written
 abbrev pub IsPerformed : List (List ℕ) → Incoming → Incoming → Outgoing → Outgoing

@@ -1,5 +1,5 @@
 -- The outcomes of a session whose last state is dumped. Files and sockets tell nothing of their bytes.
-use Rattle.std.specs.Prelude.{◌≡◌, ◌⊎◌, ℕ, Bool, true, false, Option, Some, None, Result, Ok, Err, is_some}
+use Rattle.std.specs.Prelude.{◌≡◌, ◌⊎◌, Bool, true, false, Option, Some, None, Result, Ok, Err, is_some}
 use Rattle.dump_pump.specs.declared.transfer.Pumped.{Pumped}
 use Rattle.dump_pump.specs.declared.transfer.Pumped.TheVariants.{Done, OutletFailed, Lost, Cancelled}
 use Rattle.dump_pump.specs.Outlets.{Outgoing}
@@ -8,12 +8,12 @@ use Rattle.session_text.specs.declared.Ended.{Ended}
 use Rattle.dump_pump.specs.Inlets.{Incoming}
 use Rattle.session_text.specs.Endings.{EndsSession}
 use Rattle.session_text.specs.Limits.{is_whole_session}
-use Rattle.session_text.specs.Session.{IsSession}
 use Rattle.question_text.specs.declared.asking.Asking.{Asking}
 use Rattle.question_text.specs.Sessions.{ServesAsking}
 use Rattle.heap_save.specs.Saves.{EndsSave, IsSaved}
 use Rattle.heapdbg.specs.declared.failure.Fault.{Fault}
 use Rattle.heapdbg.specs.declared.failure.Fault.TheVariants as fault
+use Rattle.heapdbg_options.specs.CommandLine.{limits_of}
 use Rattle.heapdbg_options.specs.declared.settings.Settings.{Settings}
 use Rattle.heapdbg.specs.Endings.{outcome_of}
 use Rattle.heapdbg.specs.Explorations.{IsOpening}
@@ -61,7 +61,7 @@ abbrev pub IsSavedWith : Bool → Settings → Machine → Incoming → Incoming
 IsSavedWith true s left a b w w' outlet ended pumped =
     IsAskingSaved s left a b w w' outlet ended pumped
 IsSavedWith false s left a b w w' outlet ended pumped =
-    IsSaved any_outlet 1 s.time (opening_machine s.ids s.regions s.mutators s.keep) left a b w w'
+    IsSaved any_outlet 1 s.time (opening_machine (limits_of s) s.ids s.regions s.mutators s.keep) left a b w w'
     outlet ended pumped
 
 -- a session over a heap with these settings as it begins, which was saved; or the heap couldn't be allocated, and nothing is

@@ -37,6 +37,8 @@ pub enum Fault {
     From,
     /// The dump is lost.
     Lost,
+    /// The file of the secret can't be read, is for others than its owner too, or has no secret.
+    Secret,
 }
 
 /// The reason why the program did no work, or failed. Its `Display` is the text for the user.
@@ -70,6 +72,7 @@ impl Fault {
             Fault::Out => "out",
             Fault::From => "from",
             Fault::Lost => "lost",
+            Fault::Secret => "secret",
         }
     }
 }

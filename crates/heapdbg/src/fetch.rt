@@ -1,54 +1,108 @@
 //! The client that fetches a dump of a heap that is served.
-ghost use Rattle.std.specs.Prelude.{◌≡◌, IfErr};
-ghost use Rattle.heapdbg.specs.FetchOutcomes.{IsDumpFetched, IsFetchTold, fetched_outcome};
+ghost use Rattle.std.specs.Prelude.{◌≡◌, Err, None, IfErr, IfNone, IfSome};
+ghost use Rattle.dump_client.specs.Fetches.{IsFetched};
+ghost use Rattle.heapdbg.specs.FetchOutcomes.{IsFetchTold, IsUnfetched, fetched_outcome};
 
 use crate::failure::Fault;
+use crate::ports::connect;
 use crate::progress::ProgressLine;
-use crate::reasons::{tell_path, tell_port};
-use dump_client::{Finish, fetch, write_last};
+use crate::reasons::tell_path;
+use dump_client::{Fetched, Finish, fetch, say_word, write_last};
 use dump_pump::{Outlet, WriteOutlet};
+use secret_word::Secret;
 use session_text::{Inlet, ReadInlet};
 use std::fs;
 use std::fs::Files;
-use std::net::{Ipv4Addr, Net, TcpStream};
+use std::io::{Read, Write};
+use std::net::Net;
 use std::sync::Wait;
 use std::time::Clock;
 
-/// Fetches the dump that a port gives into a file, and puts out a last line: `fetched`, or `cut` if what came is no whole dump,
-/// or `failed` if a write to the file failed, and the number of bytes that the file took. Shows its progress on standard error
-/// if that is a terminal. Fails with Connect if no connection can be made and with Out if no file can be made, and then puts
+/// A dump that was fetched: how that ended, the socket that it came from, and the file that it went to.
+#[derive(Drop)]
+pub struct DumpFetched<S: Read, F: Write> {
+    pub fetched: Fetched,
+    pub socket: ReadInlet<S>,
+    pub file: WriteOutlet<F>,
+}
+
+/// The outcome of a fetch, and the dump, if there was a connection and a file.
+#[derive(Drop)]
+pub struct FetchEnd<S: Read, F: Write> {
+    pub outcome: Result<(), Fault>,
+    pub dump: Option<DumpFetched<S, F>>,
+}
+
+impl<S: Read, F: Write> FetchEnd<S, F> {
+    /// Creates the outcome of a fetch that hasn't begun.
+    pub fn unfetched(fault: Fault) -> FetchEnd<S, F>
+        ensures outcome { result.outcome ≡ Err fault }
+        ensures dump { result.dump ≡ None }
+    {
+        FetchEnd {
+            outcome: Err(fault),
+            dump: None,
+        }
+    }
+}
+
+/// Sends the secret, if there is one, to a port, fetches the dump that it gives into a file, and puts out a last line: `fetched`, or `cut` if what came is no whole dump,
+/// or `failed` if a write to the file failed, and the number of bytes that the file took. Returns socket and file. Shows its progress on
+/// standard error if that is a terminal. Fails with Connect if no connection can be made and with Out if no file can be made, and then puts
 /// out nothing, and says why on such a terminal; else with Write if the last line can't be put out, with Cut, or with Out. May
 /// wait.
 pub fn fetch_port<R, O: Outlet>(
     rt: &R,
     port: u16,
+    secret: Option<Secret>,
     path: &str,
     writer: &mut O,
     is_terminal: bool,
-) -> Result<(), Fault>
+) -> FetchEnd<R::Stream, R::File>
 where
     R: AllocGlobal + Clock + Eprint + Files + Net + Wait,
-    ensures { IsDumpFetched (O.seen writer.old) (O.seen writer.new) result }
+    ensures fetched { IfSome result.dump (λ d. IsFetchTold d.fetched
+        (⟦<ReadInlet<R::Stream> as Inlet>⟧.seen d.socket)
+        (⟦<WriteOutlet<R::File> as Outlet>⟧.seen d.file) (O.seen writer.old) (O.seen writer.new)
+        result.outcome) }
+    ensures unfetched { IfNone result.dump
+        (IsUnfetched result.outcome × (O.seen writer.new ≡ O.seen writer.old)) }
 {
-    let stream = connect(rt, port, is_terminal)?;
-    let file = create(rt, path, is_terminal)?;
-    let mut inlet = ReadInlet::new(stream);
-    let mut outlet = WriteOutlet::new(file);
-    fetch_told(rt, &mut inlet, &mut outlet, writer, is_terminal)
+    let mut stream = match connect(rt, port, is_terminal) {
+        Ok(stream) => stream,
+        Err(fault) => return FetchEnd::unfetched(fault),
+    };
+    if let Some(secret) = secret {
+        let _ = say_word(&mut WriteOutlet::new(&mut stream), secret);
+    }
+    let file = match create(rt, path, is_terminal) {
+        Ok(file) => file,
+        Err(fault) => return FetchEnd::unfetched(fault),
+    };
+    let mut socket = ReadInlet::new(stream);
+    let mut file = WriteOutlet::new(file);
+    let fetched = fetch_shown(rt, &mut socket, &mut file, is_terminal);
+    let written = write_last(writer, &fetched);
+    let outcome = outcome(fetched.finish, written);
+    let dump = Some(DumpFetched {
+        fetched,
+        socket,
+        file,
+    });
+    FetchEnd { outcome, dump }
 }
 
-// Fetches what an inlet gives into an outlet, and puts out the last line, as `fetch_port` does.
-fn fetch_told<R, I: Inlet, F: Outlet, O: Outlet>(
+// Fetches what an inlet gives into an outlet, and shows its progress, if standard error is a terminal.
+fn fetch_shown<R, I: Inlet, F: Outlet>(
     rt: &R,
     inlet: &mut I,
     file: &mut F,
-    writer: &mut O,
     is_terminal: bool,
-) -> Result<(), Fault>
+) -> Fetched
 where
     R: AllocGlobal + Clock + Eprint + Wait,
-    ensures { IsFetchTold (I.seen inlet.old) (I.seen inlet.new) (F.seen file.old) (F.seen file.new)
-        (O.seen writer.old) (O.seen writer.new) result }
+    ensures { IsFetched (I.seen inlet.old) (I.seen inlet.new) (F.seen file.old) (F.seen file.new)
+        result }
 {
     let mut line = ProgressLine::new(rt);
     if is_terminal {
@@ -56,25 +110,7 @@ where
     }
     let fetched = fetch(rt, inlet, file, &mut line);
     line.end(fetched.bytes);
-    let written = write_last(writer, &fetched);
-    outcome(fetched.finish, written)
-}
-
-// Connects to a port. Fails with Connect.
-fn connect<R: AllocGlobal + Eprint + Net>(
-    rt: &R,
-    port: u16,
-    is_terminal: bool,
-) -> Result<R::Stream, Fault>
-    ensures { IfErr result (λ f. f ≡ Fault.Connect) }
-{
-    match TcpStream::connect(rt, (Ipv4Addr::LOCALHOST, port)) {
-        Ok(stream) => Ok(stream),
-        Err(error) => {
-            tell_port(rt, is_terminal, port, &error);
-            Err(Fault::Connect)
-        }
-    }
+    fetched
 }
 
 // Makes the file of a path. Fails with Out.

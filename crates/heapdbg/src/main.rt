@@ -17,6 +17,7 @@ mod progress;
 mod reasons;
 mod request;
 mod save;
+mod secret_file;
 mod serve;
 mod task;
 mod terminals;

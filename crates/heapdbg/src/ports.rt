@@ -1,6 +1,6 @@
-//! Ports of this computer that are listened on.
+//! Ports of this computer.
 ghost use Rattle.std.specs.Prelude.{◌≡◌, ◌⊎◌, IfErr};
-ghost use Rattle.heapdbg.specs.declared.failure.Fault.TheVariants.{Listen, Memory};
+ghost use Rattle.heapdbg.specs.declared.failure.Fault.TheVariants.{Connect, Listen, Memory};
 
 use crate::failure::Fault;
 use crate::reasons::tell_port;
@@ -9,6 +9,23 @@ use std::alloc::Global;
 use std::hash::RandomState;
 use std::net::{Ipv4Addr, Net, TcpListener, TcpStream};
 use std::random::RandomSource;
+
+/// Connects to a port. Fails with Connect, and says why on standard error, if that is a terminal.
+pub(crate) fn connect<R: AllocGlobal + Eprint + Net>(
+    rt: &R,
+    port: u16,
+    is_terminal: bool,
+) -> Result<R::Stream, Fault>
+    ensures { IfErr result (λ f. f ≡ Connect) }
+{
+    match TcpStream::connect(rt, (Ipv4Addr::LOCALHOST, port)) {
+        Ok(stream) => Ok(stream),
+        Err(error) => {
+            tell_port(rt, is_terminal, port, &error);
+            Err(Fault::Connect)
+        }
+    }
+}
 
 /// Listens on a port. Fails with Listen, and says why on standard error, if that is a terminal.
 pub(crate) fn listener<R>(rt: &R, port: u16, is_terminal: bool) -> Result<TcpListener, Fault>

@@ -14,6 +14,18 @@ pub(crate) fn tell_path<R: AllocGlobal + Eprint>(
     }
 }
 
+/// Says on standard error, if that is a terminal, why a file can't be used. A write that fails changes nothing.
+pub(crate) fn tell_reason<R: AllocGlobal + Eprint>(
+    rt: &R,
+    is_terminal: bool,
+    path: &str,
+    reason: &str,
+) {
+    if is_terminal {
+        let _ = eprintln!(rt; "heapdbg: {path}: {reason}");
+    }
+}
+
 /// Says on standard error, if that is a terminal, why a port of this computer can't be used. A write that fails changes
 /// nothing.
 pub(crate) fn tell_port<R: AllocGlobal + Eprint>(

@@ -1,20 +1,22 @@
 //! Sessions over one shared heap, for clients of this computer.
-ghost use Rattle.std.specs.Prelude.{◌≡◌, ◌⊎◌, ◌≤◌, [], IfErr, IfOk, length};
+ghost use Rattle.std.specs.Prelude.{◌≡◌, ◌⊎◌, ◌≤◌, [], Err, None, IfErr, IfOk, length};
 ghost use Rattle.heap_server.specs.SessionSeats.{AreUsers, session_limit};
 ghost use Rattle.heap_server.specs.Tending.{AreStaff};
 ghost use Rattle.heapdbg_options.specs.CommandLine.{IsHeapWithin};
 ghost use Rattle.heapdbg.specs.declared.failure.Fault.TheVariants.{Listen, Memory};
 ghost use Rattle.heapdbg.specs.Services.{IsOpened};
-ghost use Rattle.heapdbg.specs.ServeOutcomes.{IsReportTold, IsServed, config_of, served_outcome, terms_of};
+ghost use Rattle.heapdbg.specs.ServeOutcomes.{IsReportTold, IsServed, IsStayEnd, IsStayTendedEnd, IsTendedEnd, IsUntendedEnd, config_of, served_outcome, terms_of};
 
 use crate::failure::Fault;
 use crate::ports::{dump_listener, listener, page_port};
 use dump_pump::Outlet;
 use heap_server::{
-    Blank, Ports, Refusal, Served, ServicePlan, Terms, serve_heap, serve_tended_heap,
+    Blank, Ports, Refusal, Served, ServedHeap, ServicePlan, StayTendedHeap, StayedHeap, TendedHeap,
+    Terms, serve_heap, serve_staying_heap, serve_staying_tended_heap, serve_tended_heap,
     tell_sessions, users, workers_and_users,
 };
-use heapdbg_options::settings::{Settings, config};
+use heapdbg_options::settings::{Service, Settings, config};
+use secret_word::Secret;
 use session_text::write_all;
 use std::alloc::Global;
 use std::net::{Net, TcpListener, TcpStream};
@@ -26,59 +28,162 @@ use std::time::Clock;
 // The size in bytes of the longest line of the report: `session 1000 memory` and its end.
 const LINE: usize = 20;
 
-/// What serves a heap: its ports, its sessions and its workers.
-#[derive(Clone, Copy)]
-pub struct Service {
-    /// The port for sessions.
-    pub port: u16,
-    /// The port that sends dumps, or None if there is none.
-    pub dumps: Option<u16>,
-    /// The port of the page, or None if there is none.
-    pub page: Option<u16>,
-    /// The number of sessions.
-    pub sessions: u64,
-    /// Whether two threads tend the collector: 0 if not.
-    pub workers: u64,
+/// A heap that was served: how its sessions ended, with what went through each one's socket, and its seats as they left them.
+#[derive(Drop)]
+pub enum HeapServed {
+    /// Nobody tended its collector.
+    Untended(ServedHeap),
+    /// Two threads tended its collector.
+    Tended(TendedHeap),
+    /// Its seats served one session after another, for as long as clients could be accepted.
+    Stayed(StayedHeap),
+    /// Its seats did so, and two threads tended its collector.
+    StayedTended(StayTendedHeap),
 }
 
-/// Serves sessions to clients of a port, and puts out how each session ended. Two threads tend the collector meanwhile if there are
-/// workers, one sends dumps if there is a port for them, and one answers the clients of the page if there is a port for it; the page's
-/// address, with its key, is said on standard error. Fails with Memory if the heap can't be allocated, no thread for the workers, the
-/// dumps or the page can be had, or the system gives no random bytes for the key, with Listen if a port can't be listened on, with
-/// Accept if a client could not be accepted, and else with Write if a write failed. Says on standard error that it listens, or why it
-/// can't, if that is a terminal. May wait.
+/// The end of a service: its outcome, and the heap that it served. It served none if there was no memory for the heap or a thread, or if a
+/// port couldn't be listened on.
+#[derive(Drop)]
+pub struct ServiceEnd {
+    pub outcome: Result<(), Fault>,
+    pub heap: Option<HeapServed>,
+}
+
+impl ServiceEnd {
+    // Creates the end of a service that served no heap.
+    fn without_heap(fault: Fault) -> ServiceEnd
+        ensures { result ≡ record { outcome = Err fault; heap = None } }
+    {
+        ServiceEnd {
+            outcome: Err(fault),
+            heap: None,
+        }
+    }
+}
+
+/// Serves sessions to clients of a port, and puts out how each session ended; a heap that stays says it on standard output as each ends. Two threads tend the collector meanwhile if there are
+/// workers, three send dumps if there is a port for them, and one answers the clients of the page if there is a port for it; the page's
+/// address, with its key, is said on standard error. Returns the heap that was served. Fails with Memory if the heap can't be allocated,
+/// no thread for the workers, the dumps or the page can be had, or the system gives no random bytes for the key, with Listen if a port
+/// can't be listened on, with Accept if a client could not be accepted, and else with Write if a write failed. Says on standard error
+/// that it listens, or why it can't, if that is a terminal. May wait.
 pub fn serve_port<R, O: Outlet>(
     rt: &R,
     alloc: Global,
     settings: &Settings,
     service: Service,
+    secret: Option<Secret>,
     writer: &mut O,
     is_terminal: bool,
-) -> Result<(), Fault>
+) -> ServiceEnd
 where
     R: Net<Listener = TcpListener, Stream = TcpStream> + Threads + Wait + Sync,
-    R: AllocGlobal + Clock + Eprint + RandomSource,
+    R: AllocGlobal + Clock + Eprint + Print + RandomSource,
     requires heap { IsHeapWithin settings.now }
     requires sessions { (1 ≤ service.sessions) × (service.sessions ≤ session_limit) }
-    ensures { IsServed service.workers settings.now service.sessions (O.seen writer.old)
-        (O.seen writer.new) result }
+    ensures { IsServed service secret settings.now (O.seen writer.old) (O.seen writer.new)
+        result.heap result.outcome }
+{
+    let opened = match open_service(rt, alloc, settings, service, secret, is_terminal) {
+        Ok(opened) => opened,
+        Err(fault) => return ServiceEnd::without_heap(fault),
+    };
+    match (service.stays, service.workers) {
+        (false, 0) => serve_untended(rt, alloc, opened, writer),
+        (false, _) => serve_with_workers(rt, alloc, opened, writer),
+        (true, 0) => serve_stay(rt, alloc, opened),
+        (true, _) => serve_stay_with_workers(rt, alloc, opened),
+    }
+}
+
+// Serves the clients of a service without workers, and puts out how each session ended.
+fn serve_untended<R, O: Outlet>(rt: &R, alloc: Global, opened: Opened, writer: &mut O) -> ServiceEnd
+where
+    R: Clock + Eprint + Threads + Wait + Sync,
+    requires users { AreUsers opened.blank.seats }
+    requires report { opened.report.items ≡ [] }
+    ensures { IsUntendedEnd opened.blank opened.plan.terms (O.seen writer.old) (O.seen writer.new)
+        result.heap result.outcome }
 {
     let Opened {
         blank,
         plan,
         report,
-    } = open_service(rt, alloc, settings, service, is_terminal)?;
-    if service.workers == 0 {
-        match serve_heap(rt, alloc, blank, plan) {
-            Ok(heap) => tell(&heap.served, report, writer),
-            Err(_) => Err(Fault::Memory),
-        }
-    } else {
-        match serve_tended_heap(rt, alloc, blank, plan) {
-            Ok(tended) => tell(&tended.heap.served, report, writer),
-            Err(_) => Err(Fault::Memory),
-        }
-    }
+    } = opened;
+    let Ok(heap) = serve_heap(rt, alloc, blank, plan) else {
+        return ServiceEnd::without_heap(Fault::Memory);
+    };
+    let outcome = tell(&heap.served, report, writer);
+    let heap = Some(HeapServed::Untended(heap));
+    ServiceEnd { outcome, heap }
+}
+
+// Serves the clients of a service with workers, and puts out how each session ended.
+fn serve_with_workers<R, O: Outlet>(
+    rt: &R,
+    alloc: Global,
+    opened: Opened,
+    writer: &mut O,
+) -> ServiceEnd
+where
+    R: Clock + Eprint + Threads + Wait + Sync,
+    requires staff { AreStaff opened.plan.most opened.blank.seats }
+    requires report { opened.report.items ≡ [] }
+    ensures { IsTendedEnd opened.blank opened.plan.terms (O.seen writer.old) (O.seen writer.new)
+        result.heap result.outcome }
+{
+    let Opened {
+        blank,
+        plan,
+        report,
+    } = opened;
+    let Ok(tended) = serve_tended_heap(rt, alloc, blank, plan) else {
+        return ServiceEnd::without_heap(Fault::Memory);
+    };
+    let outcome = tell(&tended.heap.served, report, writer);
+    let heap = Some(HeapServed::Tended(tended));
+    ServiceEnd { outcome, heap }
+}
+
+// Serves clients from seats that serve one after another, for as long as clients can be accepted. How each session ended is said on
+// standard output as it ends.
+fn serve_stay<R>(rt: &R, alloc: Global, opened: Opened) -> ServiceEnd
+where
+    R: Clock + Eprint + Print + Threads + Wait + Sync,
+    requires users { AreUsers opened.blank.seats }
+    ensures { IsStayEnd opened.blank opened.plan.terms result.heap result.outcome }
+{
+    let Opened {
+        blank,
+        plan,
+        report: _,
+    } = opened;
+    let Ok(heap) = serve_staying_heap(rt, alloc, blank, plan) else {
+        return ServiceEnd::without_heap(Fault::Memory);
+    };
+    let outcome = Err(Fault::Accept);
+    let heap = Some(HeapServed::Stayed(heap));
+    ServiceEnd { outcome, heap }
+}
+
+// The same with two threads that tend the collector.
+fn serve_stay_with_workers<R>(rt: &R, alloc: Global, opened: Opened) -> ServiceEnd
+where
+    R: Clock + Eprint + Print + Threads + Wait + Sync,
+    requires staff { AreStaff opened.plan.most opened.blank.seats }
+    ensures { IsStayTendedEnd opened.blank opened.plan.terms result.heap result.outcome }
+{
+    let Opened {
+        blank,
+        plan,
+        report: _,
+    } = opened;
+    let Ok(heap) = serve_staying_tended_heap(rt, alloc, blank, plan) else {
+        return ServiceEnd::without_heap(Fault::Memory);
+    };
+    let outcome = Err(Fault::Accept);
+    let heap = Some(HeapServed::StayedTended(heap));
+    ServiceEnd { outcome, heap }
 }
 
 // A service that listens: its heap, what the heap is opened for, and an empty report with room for the lines of all sessions.
@@ -95,25 +200,26 @@ fn open_service<R>(
     alloc: Global,
     settings: &Settings,
     service: Service,
+    secret: Option<Secret>,
     is_terminal: bool,
 ) -> Result<Opened, Fault>
 where
     R: Net<Listener = TcpListener, Stream = TcpStream> + AllocGlobal + Eprint + RandomSource,
     requires heap { IsHeapWithin settings.now }
     requires sessions { (1 ≤ service.sessions) × (service.sessions ≤ session_limit) }
-    ensures opened { IfOk result (IsOpened service.workers settings.now service.sessions) }
+    ensures opened { IfOk result (IsOpened service secret settings.now) }
     ensures fault { IfErr result (λ f. (f ≡ Memory) ⊎ (f ≡ Listen)) }
 {
     let Ok(mut blank) = blank_for(alloc, settings, service) else {
         return Err(Fault::Memory);
     };
-    blank.set_rolls(settings.rolls);
+    blank.set_rolls(settings.rolls || service.stays || settings.wide);
     match listen(rt, alloc, service, settings.time, is_terminal) {
         Ok((ports, report)) => {
             let plan = ServicePlan {
                 most: service.sessions as usize,
                 ports,
-                terms: terms(settings),
+                terms: terms(settings, service, secret),
             };
             Ok(Opened {
                 blank,
@@ -142,12 +248,15 @@ fn blank_for(alloc: Global, settings: &Settings, service: Service) -> Result<Bla
 }
 
 // Returns the terms of the sessions.
-fn terms(settings: &Settings) -> Terms
-    ensures { result ≡ terms_of settings.now }
+fn terms(settings: &Settings, service: Service, secret: Option<Secret>) -> Terms
+    ensures { result ≡ terms_of settings.now service secret }
 {
     Terms {
         time: settings.time,
         questions: settings.questions,
+        secret,
+        idle: service.idle,
+        stays: service.stays,
     }
 }
 

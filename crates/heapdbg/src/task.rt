@@ -1,17 +1,18 @@
 //! The tasks, from the words of the command line on.
-ghost use Rattle.std.specs.Prelude.{◌≡◌, ◌⊎◌, Some, IfOk, IfErr, map, string_bytes};
+ghost use Rattle.std.specs.Prelude.{◌≡◌, ◌⊎◌, ◌≤◌, Some, IfOk, IfErr, map, string_bytes};
 ghost use Rattle.std.specs.IoError.{error_kind};
 ghost use Rattle.heapdbg_options.specs.CommandLine.{AreSettingsWithin, IsBadWith, IsHeapWithin, settings_of};
 ghost use Rattle.heapdbg_options.specs.Refusals.{IsRefusalOf};
 ghost use Rattle.heapdbg_options.specs.declared.settings.Task.TheVariants.{Explore, Save};
 ghost use Rattle.heapdbg.specs.FetchOutcomes.{IsDumpFetched};
-ghost use Rattle.heapdbg.specs.Runs.{IsTaskDone, IsRun, IsRunWith, IsPerformed};
+ghost use Rattle.heap_server.specs.SessionSeats.{session_limit};
+ghost use Rattle.heapdbg.specs.Runs.{IsAskDone, IsFetchDone, IsPerformed, IsRun, IsRunWith, IsServiceDone, IsTaskDone};
 
 use crate::ask::ask_port;
 use crate::draw::draw;
 use crate::explore::explore;
 use crate::failure::{Failure, Fault, outcome};
-use crate::fetch::fetch_port;
+use crate::fetch::{FetchEnd, fetch_port};
 use crate::folder::missing_folder;
 use crate::opening::open_local;
 use crate::page_exploration::explore_with_page;
@@ -19,15 +20,17 @@ use crate::progress::TerminalGauge;
 use crate::reasons::tell_path;
 use crate::request::Request;
 use crate::save::{out_file, peer, save};
-use crate::serve::{Service, serve_port};
+use crate::secret_file::secret_for;
+use crate::serve::serve_port;
 use crate::terminals::{Screen, Terminals};
 use dump_pump::{Outlet, WriteOutlet};
 use heap_console::{ColumnOutlet, LineInlet, NewestLine, NotingOutlet, PromptInlet};
 use heapdbg_options::command_line::{path_option, settings};
 use heapdbg_options::line_words::borrow_words;
 use heapdbg_options::refusal::bad;
-use heapdbg_options::settings::{LineFault, Settings, Target, Task};
+use heapdbg_options::settings::{LineFault, Service, Settings, Target, Task};
 use question_text::Watch;
+use secret_word::Secret;
 use session_text::{Inlet, ReadInlet, serve_local};
 use std::alloc::Global;
 use std::fs::Files;
@@ -136,7 +139,7 @@ fn perform_words<R, I: Inlet, J: Inlet + Send + Drop + 'static, O: Outlet>(
 ) -> Result<(), Failure>
 where
     R: Net<Listener = TcpListener, Stream = TcpStream> + Threads + Wait + RandomSource,
-    R: AllocGlobal + Clock + Eprint + Files + Copy + Send + Sync + Drop + 'static,
+    R: AllocGlobal + Clock + Eprint + Files + Print + Copy + Send + Sync + Drop + 'static,
     ensures { IsPerformed (map string_bytes words.now) (I.seen reader.old) (I.seen reader.new)
         (O.seen writer.old) (O.seen writer.new) result }
 {
@@ -144,7 +147,12 @@ where
     let settings = settings_of_words(alloc, words)?;
     let line = line_of_words(alloc, words)?;
     let path = path_of_task(alloc, line.as_slice(), settings.task);
-    let request = Request { settings, path };
+    let secret = path_option(alloc, line.as_slice(), "secret");
+    let request = Request {
+        settings,
+        path,
+        secret,
+    };
     work(rt, request, screen, reader, input, writer)?;
     Ok(())
 }
@@ -163,7 +171,7 @@ fn line_of_words<'a>(alloc: Global, words: &'a [String]) -> Result<Vec<&'a str>,
 fn path_of_task<'a>(alloc: Global, line: &'a [&'a str], task: Task) -> Option<&'a str> {
     match task {
         Task::Explore { from: true, .. } => path_option(alloc, line, "from"),
-        Task::Draw | Task::Save(Target::Out) | Task::Fetch { port: _ } => {
+        Task::Draw | Task::Save(Target::Out) | Task::Fetch { .. } => {
             path_option(alloc, line, "out")
         }
         _ => None,
@@ -181,39 +189,87 @@ fn work<R, I: Inlet, J: Inlet + Send + Drop + 'static, O: Outlet>(
 ) -> Result<(), Fault>
 where
     R: Net<Listener = TcpListener, Stream = TcpStream> + Threads + Wait + RandomSource,
-    R: AllocGlobal + Clock + Eprint + Files + Copy + Send + Sync + Drop + 'static,
+    R: AllocGlobal + Clock + Eprint + Files + Print + Copy + Send + Sync + Drop + 'static,
     requires { AreSettingsWithin request.settings }
     ensures { IsTaskDone request.entry.settings.task request.entry.settings (I.seen reader.old)
         (I.seen reader.new) (O.seen writer.old) (O.seen writer.new) result }
 {
-    let settings = request.settings;
     let is_terminal = screen.is_terminal;
-    match settings.task {
+    match request.settings.task {
         Task::Run => run(rt, request, screen, reader, writer),
         Task::Explore { from, page } => {
             explore_at(rt, request, from, page, screen, reader, writer)
         }
         Task::Draw => draw(rt, request, screen, reader, writer),
         Task::Save(target) => save_at(rt, request, target, is_terminal, reader, writer),
-        Task::Serve {
-            port,
-            sessions,
-            workers,
-            dumps,
-            page,
-        } => {
-            let service = Service {
-                port,
-                dumps,
-                page,
-                sessions,
-                workers,
-            };
-            serve_port(rt, rt.alloc(), &settings, service, writer, is_terminal)
-        }
-        Task::Ask { port } => ask_port(rt, port, input, writer, is_terminal),
-        Task::Fetch { port } => fetch_to(rt, port, request.path, writer, is_terminal),
+        Task::Serve(service) => serve(rt, request, service, writer, is_terminal),
+        Task::Ask { port, secret } => ask_at(rt, request, port, secret, input, writer, is_terminal),
+        Task::Fetch { port, secret } => fetch_at(rt, request, port, secret, writer, is_terminal),
     }
+}
+
+// Serves sessions over one shared heap, to clients who know the secret, if there is one.
+fn serve<R, O: Outlet>(
+    rt: &R,
+    request: Request<'_>,
+    service: Service,
+    writer: &mut O,
+    is_terminal: bool,
+) -> Result<(), Fault>
+where
+    R: Net<Listener = TcpListener, Stream = TcpStream> + Threads + Wait + RandomSource + Sync,
+    R: AllocGlobal + Clock + Eprint + Files + Print,
+    requires heap { IsHeapWithin request.settings }
+    requires sessions { (1 ≤ service.sessions) × (service.sessions ≤ session_limit) }
+    ensures { IsServiceDone service request.entry.settings (O.seen writer.old) (O.seen writer.new)
+        result }
+{
+    let secret = secret_for(rt, service.secret, request.secret, is_terminal)?;
+    let settings = request.settings;
+    serve_port(
+        rt,
+        rt.alloc(),
+        &settings,
+        service,
+        secret,
+        writer,
+        is_terminal,
+    )
+    .outcome
+}
+
+// Sends all input to the session on a port, behind the secret, if there is one.
+fn ask_at<R, I: Inlet + Send + Drop + 'static, O: Outlet>(
+    rt: &R,
+    request: Request<'_>,
+    port: u16,
+    is_secret: bool,
+    input: I,
+    writer: &mut O,
+    is_terminal: bool,
+) -> Result<(), Fault>
+where
+    R: Net<Stream = TcpStream> + Threads + Wait + Copy + Send + Sync + Drop + 'static,
+    R: AllocGlobal + Eprint + Files,
+    ensures { IsAskDone is_secret (O.seen writer.old) (O.seen writer.new) result }
+{
+    let secret = secret_for(rt, is_secret, request.secret, is_terminal)?;
+    ask_port(rt, port, secret, input, writer, is_terminal).outcome
+}
+
+// Fetches the dump that a port gives to clients who know the secret, if there is one, into the file of the path.
+fn fetch_at<R: AllocGlobal + Clock + Eprint + Files + Net + Wait, O: Outlet>(
+    rt: &R,
+    request: Request<'_>,
+    port: u16,
+    is_secret: bool,
+    writer: &mut O,
+    is_terminal: bool,
+) -> Result<(), Fault>
+    ensures { IsFetchDone is_secret (O.seen writer.old) (O.seen writer.new) result }
+{
+    let secret = secret_for(rt, is_secret, request.secret, is_terminal)?;
+    fetch_to(rt, port, secret, request.path, writer, is_terminal).outcome
 }
 
 // Runs a session with questions over a heap of its own, which a page shows if there is a port for it.
@@ -254,7 +310,7 @@ where
     ensures { IsTaskDone (Save target) request.entry.settings (I.seen reader.old)
         (I.seen reader.new) (O.seen writer.old) (O.seen writer.new) result }
 {
-    let Request { settings, path } = request;
+    let Request { settings, path, .. } = request;
     let mut gauge = TerminalGauge::new(rt, rt.alloc(), settings.ids, is_terminal);
     match target {
         Target::Out => {
@@ -272,14 +328,17 @@ where
 fn fetch_to<R: AllocGlobal + Clock + Eprint + Files + Net + Wait, O: Outlet>(
     rt: &R,
     port: u16,
+    secret: Option<Secret>,
     path: Option<&str>,
     writer: &mut O,
     is_terminal: bool,
-) -> Result<(), Fault>
-    ensures { IsDumpFetched (O.seen writer.old) (O.seen writer.new) result }
+) -> FetchEnd<R::Stream, R::File>
+    ensures { IsDumpFetched (O.seen writer.old) (O.seen writer.new) result.outcome }
 {
-    let path = file_of(rt, path, is_terminal)?;
-    fetch_port(rt, port, path, writer, is_terminal)
+    match file_of(rt, path, is_terminal) {
+        Ok(path) => fetch_port(rt, port, secret, path, writer, is_terminal),
+        Err(fault) => FetchEnd::unfetched(fault),
+    }
 }
 
 // The text for a word that is no UTF-8.

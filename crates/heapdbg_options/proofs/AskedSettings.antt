@@ -13,10 +13,10 @@ use Rattle.clap.specs.Walk.{answers_to, stop_after}
 use Rattle.clap.specs.Words.{Row, Text, first_of, subcommand_of}
 use Rattle.heap_class.specs.declared.IdSize.{IdSize}
 use Rattle.heap_class.specs.declared.IdSize.TheVariants.{Eight}
-use Rattle.heap_world.specs.RegionLimits.{region_limit}
-use Rattle.heap_world.specs.Limits.{AreHeapSettings, keep_limit, mutator_limit}
-use Rattle.heapdbg_options.specs.CommandLine.{AreSettingsWithin, HasDefaults, IsTask, ask_in, dumps_in, dumps_of, dumps_with, page_beside, page_in, page_of, page_with, explore_in, explore_with, own_page, flag_in, fetch_in, heapdbg_line, id_size_in, id_size_of, is_given, is_task, IsOther, IsThird, keep_default, most_sessions, number_in, number_or, other_port, port_in, port_limit, questions_in, rolls_in, reads_file, save_in, serve_in, serve_with, sessions_in, sessions_of, settings_in, settings_under, settings_with, target_in, task_in, third_port, time_limit, option_value, workers_in, workers_of}
+use Rattle.heap_world.specs.Limits.{mutator_limit}
+use Rattle.heapdbg_options.specs.CommandLine.{AreNumbersOf, AreSettingsWithin, HasDefaults, IsTask, ask_in, idle_in, idle_limit, idle_of, is_guarded, has_secret, stays_in, stays_of, dumps_in, dumps_of, dumps_with, page_beside, page_in, page_of, page_with, explore_in, explore_with, own_page, flag_in, fetch_in, heapdbg_line, id_size_in, id_size_of, is_given, is_task, IsOther, IsThird, keep_default, keep_in, most_kept, most_regions, most_sessions, number_in, number_or, other_port, port_in, port_limit, questions_in, regions_in, rolls_in, reads_file, save_in, serve_in, serve_with, sessions_in, sessions_of, settings_in, settings_over, settings_under, settings_with, target_in, task_in, third_port, time_limit, option_value, wide_in, workers_in, workers_of}
 use Rattle.heapdbg_options.specs.declared.settings.Settings.{Settings}
+use Rattle.heapdbg_options.specs.declared.settings.Service.{Service}
 use Rattle.heapdbg_options.specs.declared.settings.Task.{Task}
 use Rattle.heapdbg_options.specs.declared.settings.Task.TheVariants.{Run, Explore, Draw, Save, Serve, Ask, Fetch}
 use Rattle.heapdbg_options.specs.declared.settings.Target.{Target}
@@ -66,24 +66,43 @@ value_within default least most (Some text) n low high e = number_within least m
 
 -- the rows have the settings' values
 pub record AreRead (rows : List Row) (s : Settings) : Type 0 where
-  pub regions : option_value (codes "regions") 16 1 region_limit rows ≡ Some s.regions
+  pub wide : wide_in rows ≡ Some s.wide
+  pub regions : regions_in s.wide rows ≡ Some s.regions
   pub mutators : option_value (codes "mutators") 2 1 mutator_limit rows ≡ Some s.mutators
-  pub keep : option_value (codes "keep") keep_default 1 keep_limit rows ≡ Some s.keep
+  pub keep : keep_in s.wide rows ≡ Some s.keep
   pub time : option_value (codes "time") 0 0 time_limit rows ≡ Some s.time
   pub ids : id_size_in rows ≡ Some s.ids
   pub questions : questions_in rows ≡ Some s.questions
   pub rolls : rolls_in rows ≡ Some s.rolls
 
-all_there : (task : Task) (r m k t : Option ℕ) (i : Option IdSize) (q o : Option Bool) (s : Settings) → settings_with task r m k t i q o ≡ Some s
-    → (s.task ≡ task) × (r ≡ Some s.regions) × (m ≡ Some s.mutators) × (k ≡ Some s.keep) × (t ≡ Some s.time) × (i ≡ Some s.ids) × (q ≡ Some s.questions) × (o ≡ Some s.rolls)
-all_there task None m k t i q o s e = cc
-all_there task (Some r) None k t i q o s e = cc
-all_there task (Some r) (Some m) None t i q o s e = cc
-all_there task (Some r) (Some m) (Some k) None i q o s e = cc
-all_there task (Some r) (Some m) (Some k) (Some t) None q o s e = cc
-all_there task (Some r) (Some m) (Some k) (Some t) (Some i) None o s e = cc
-all_there task (Some r) (Some m) (Some k) (Some t) (Some i) (Some q) None s e = cc
-all_there task (Some r) (Some m) (Some k) (Some t) (Some i) (Some q) (Some o) s e = (cc, cc, cc, cc, cc, cc, cc, cc)
+all_there : (task : Task) (w : Bool) (r m k t : Option ℕ) (i : Option IdSize) (q o : Option Bool) (s : Settings) → settings_with task w r m k t i q o ≡ Some s
+    → (s.task ≡ task) × (w ≡ s.wide) × (r ≡ Some s.regions) × (m ≡ Some s.mutators) × (k ≡ Some s.keep) × (t ≡ Some s.time) × (i ≡ Some s.ids) × (q ≡ Some s.questions) × (o ≡ Some s.rolls)
+all_there task w None m k t i q o s e = cc
+all_there task w (Some r) None k t i q o s e = cc
+all_there task w (Some r) (Some m) None t i q o s e = cc
+all_there task w (Some r) (Some m) (Some k) None i q o s e = cc
+all_there task w (Some r) (Some m) (Some k) (Some t) None q o s e = cc
+all_there task w (Some r) (Some m) (Some k) (Some t) (Some i) None o s e = cc
+all_there task w (Some r) (Some m) (Some k) (Some t) (Some i) (Some q) None s e = cc
+all_there task w (Some r) (Some m) (Some k) (Some t) (Some i) (Some q) (Some o) s e = (cc, cc, cc, cc, cc, cc, cc, cc, cc)
+
+-- the settings over a heap that is wide, or isn't, are those of the rows
+are_read : (task : Task) (rows : List Row) (w : Bool) (s : Settings) → wide_in rows ≡ Some w → settings_over task rows w ≡ Some s → (s.task ≡ task) × AreRead rows s
+are_read task rows w s wide found =
+    let there = all_there task w (regions_in w rows) (option_value (codes "mutators") 2 1 mutator_limit rows) (keep_in w rows) (option_value (codes "time") 0 0 time_limit rows) (id_size_in rows) (questions_in rows) (rolls_in rows) s found in
+    let same : w ≡ s.wide = there.1 in (
+      there.0,
+      record {
+        wide = wide ∙ ap (λ b. Some b) same;
+        regions = ap (λ b. regions_in b rows) (sym same) ∙ there.2;
+        mutators = there.3;
+        keep = ap (λ b. keep_in b rows) (sym same) ∙ there.4;
+        time = there.5;
+        ids = there.6;
+        questions = there.7;
+        rolls = there.8;
+      },
+    )
 
 abbrev task_by : Bool → Bool → Bool → Bool → Bool → Bool → Bool → List Row → Option Task
 task_by runs explores draws saves serves asks fetches rows = cond runs (Some Run) (cond explores (explore_in rows) (cond draws (Some Draw) (cond saves (save_in rows) (cond serves (serve_in rows) (cond asks (ask_in rows) (cond fetches (fetch_in rows) None))))))
@@ -109,26 +128,34 @@ are_asked : (o : Option (Text × List Row)) (s : Settings) → option_and_then s
 are_asked None s e = cc
 are_asked (Some f) s e = go (task_in f.0 f.1) refl e
   where
+    sized : (task : Task) (b : Option Bool) → wide_in f.1 ≡ b → option_and_then (settings_over task f.1) b ≡ Some s → (s.task ≡ task) × AreRead f.1 s
+    sized task None h found = cc
+    sized task (Some w) h found = are_read task f.1 w s h found
+
     go : (t : Option Task) → task_in f.0 f.1 ≡ t → option_and_then (λ task. settings_in task f.1) t ≡ Some s → AreAsked (Some f) s
     go None h found = cc
     go (Some task) h found =
-        let there = all_there task (option_value (codes "regions") 16 1 region_limit f.1) (option_value (codes "mutators") 2 1 mutator_limit f.1)
-        (option_value (codes "keep") keep_default 1 keep_limit f.1) (option_value (codes "time") 0 0 time_limit f.1) (id_size_in f.1) (questions_in f.1) (rolls_in f.1) s found in
+        let there = sized task (wide_in f.1) refl found in
         record {
           found = f;
           is = refl;
           named = is_named (bytes_eq f.0 (codes "run")) (bytes_eq f.0 (codes "explore")) (bytes_eq f.0 (codes "draw")) (bytes_eq f.0 (codes "save")) (bytes_eq f.0 (codes "serve")) (bytes_eq f.0 (codes "ask")) (bytes_eq f.0 (codes "fetch")) f.1 task h;
           task = h ∙ ap (λ t. Some t) (sym there.0);
-          read = record { regions = there.1; mutators = there.2; keep = there.3; time = there.4; ids = there.5; questions = there.6; rolls = there.7 };
+          read = there.1;
         }
 
-heap_within : (o : Option (Text × List Row)) (s : Settings) (a : AreAsked o s) → AreHeapSettings s.regions s.mutators s.keep
-heap_within o s asked =
-    let rows = asked.found.1 in
+numbers_within : (w : Bool) (rows : List Row) (r m k : ℕ) → regions_in w rows ≡ Some r → option_value (codes "mutators") 2 1 mutator_limit rows ≡ Some m → keep_in w rows ≡ Some k → AreNumbersOf w r m k
+numbers_within false rows r m k regions mutators keep =
     record {
-      regions_within = value_within 16 1 region_limit (first_of (codes "regions") rows) s.regions (omega arith) (omega arith) asked.read.regions;
-      mutators_within = value_within 2 1 mutator_limit (first_of (codes "mutators") rows) s.mutators (omega arith) (omega arith) asked.read.mutators;
-      keep_within = value_within keep_default 1 keep_limit (first_of (codes "keep") rows) s.keep (omega arith) (omega arith) asked.read.keep;
+      regions_within = value_within 16 1 (most_regions false) (first_of (codes "regions") rows) r (omega arith) (omega arith) regions;
+      mutators_within = value_within 2 1 mutator_limit (first_of (codes "mutators") rows) m (omega arith) (omega arith) mutators;
+      keep_within = value_within keep_default 1 (most_kept false) (first_of (codes "keep") rows) k (omega arith) (omega arith) keep;
+    }
+numbers_within true rows r m k regions mutators keep =
+    record {
+      regions_within = value_within 16 1 (most_regions true) (first_of (codes "regions") rows) r (omega arith) (omega arith) regions;
+      mutators_within = value_within 2 1 mutator_limit (first_of (codes "mutators") rows) m (omega arith) (omega arith) mutators;
+      keep_within = value_within keep_default 1 (most_kept true) (first_of (codes "keep") rows) k (omega arith) (omega arith) keep;
     }
 
 port_within : (given : Option Text) (port : ℕ) → option_and_then (number_in 1 port_limit) given ≡ Some port → (1 ≤ port) × (port ≤ port_limit)
@@ -173,31 +200,96 @@ page_within : (port : ℕ) (dumps : Option ℕ) (given : Option Text) (page : Op
 page_within port dumps None page e = let same : None ≡ page = cc in subst (IsThird port dumps) same tt
 page_within port dumps (Some text) page e = third_within port dumps (number_in 1 port_limit text) page (λ g is. number_within 1 port_limit text g is) e
 
-serve_within : (rows : List Row) (p n k : Option ℕ) (d g : Option (Option ℕ)) (task : Task) → port_in rows ≡ p → sessions_in rows ≡ n → workers_in rows ≡ k
-    → option_and_then (λ port. dumps_with port (first_of (codes "dumps") rows)) p ≡ d → option_and_then (λ port. option_and_then (λ dumps. page_beside port dumps rows) d) p ≡ g
-    → serve_with p n k d g ≡ Some task → IsTask task
-serve_within rows None n k d g task at many tending beside third e = cc
-serve_within rows (Some port) None k d g task at many tending beside third e = cc
-serve_within rows (Some port) (Some sessions) None d g task at many tending beside third e = cc
-serve_within rows (Some port) (Some sessions) (Some workers) None g task at many tending beside third e = cc
-serve_within rows (Some port) (Some sessions) (Some workers) (Some dumps) None task at many tending beside third e = cc
-serve_within rows (Some port) (Some sessions) (Some workers) (Some dumps) (Some page) task at many tending beside third e =
-    let same : Serve port sessions workers dumps page ≡ task = cc in
-    let ports = port_within (first_of (codes "port") rows) port at in
-    let counts = value_within 1 1 most_sessions (first_of (codes "sessions") rows) sessions (omega arith) (omega arith) many in
-    let tended = value_within 0 0 1 (first_of (codes "workers") rows) workers (omega arith) (omega arith) tending in
-    subst IsTask same (ports.0, ports.1, counts.0, counts.1, tended.1, dumps_within port (first_of (codes "dumps") rows) dumps beside, page_within port dumps (first_of (codes "page") rows) page third)
+-- seconds of an option whose default is none
+idle_within : (given : Option Text) (n : ℕ) → number_or 0 1 idle_limit given ≡ Some n → n ≤ idle_limit
+idle_within None n e = let same : 0 ≡ n = cc in rw (← same) (omega arith)
+idle_within (Some text) n e = (number_within 1 idle_limit text n e).1
 
-ask_within : (rows : List Row) (p : Option ℕ) (task : Task) → port_in rows ≡ p → option_map (λ port. Ask port) p ≡ Some task → IsTask task
-ask_within rows None task at e = cc
-ask_within rows (Some port) task at e =
-    let same : Ask port ≡ task = cc in
+-- a served heap has what its options say
+pub record IsServeOf (p n w : Option ℕ) (d g : Option (Option ℕ)) (i : Option ℕ) (y : Option Bool) (x : Bool) (task : Task) : Type 0 where
+  pub service : Service
+  pub is : task ≡ Serve service
+  pub port : p ≡ Some service.port
+  pub sessions : n ≡ Some service.sessions
+  pub workers : w ≡ Some service.workers
+  pub dumps : d ≡ Some service.dumps
+  pub page : g ≡ Some service.page
+  pub idle : i ≡ Some service.idle
+  pub stays : y ≡ Some service.stays
+  pub secret : x ≡ service.secret
+
+serve_of : (p n w : Option ℕ) (d g : Option (Option ℕ)) (i : Option ℕ) (y : Option Bool) (x : Bool) (task : Task) → serve_with p n w d g i y x ≡ Some task → IsServeOf p n w d g i y x task
+serve_of None n w d g i y x task e = cc
+serve_of (Some port) None w d g i y x task e = cc
+serve_of (Some port) (Some sessions) None d g i y x task e = cc
+serve_of (Some port) (Some sessions) (Some workers) None g i y x task e = cc
+serve_of (Some port) (Some sessions) (Some workers) (Some dumps) None i y x task e = cc
+serve_of (Some port) (Some sessions) (Some workers) (Some dumps) (Some page) None y x task e = cc
+serve_of (Some port) (Some sessions) (Some workers) (Some dumps) (Some page) (Some idle) None x task e = cc
+serve_of (Some port) (Some sessions) (Some workers) (Some dumps) (Some page) (Some idle) (Some stays) x task e =
+    let made : Service =
+    record {
+      port = port;
+      sessions = sessions;
+      workers = workers;
+      dumps = dumps;
+      page = page;
+      idle = idle;
+      stays = stays;
+      secret = x;
+    }
+    in
+    let same : Serve made ≡ task = cc in
+    record { service = made; is = sym same; port = refl; sessions = refl; workers = refl; dumps = refl; page = refl; idle = refl; stays = refl; secret = refl }
+
+-- what the rows say of a served heap
+abbrev IsServedBy : List Row → Task → Type 0
+IsServedBy rows task = IsServeOf (port_in rows) (sessions_in rows) (workers_in rows) (dumps_in rows) (page_in rows) (idle_in rows) (stays_in rows) (has_secret rows) task
+
+serve_by : (rows : List Row) (task : Task) → serve_in rows ≡ Some task → IsServedBy rows task
+serve_by rows task e = serve_of (port_in rows) (sessions_in rows) (workers_in rows) (dumps_in rows) (page_in rows) (idle_in rows) (stays_in rows) (has_secret rows) task e
+
+-- the port for dumps is read beside the port that was read
+dumps_by : (rows : List Row) (task : Task) (served : IsServedBy rows task) → dumps_with served.service.port (first_of (codes "dumps") rows) ≡ Some served.service.dumps
+dumps_by rows task served =
+    sym (ap (option_and_then (λ port. dumps_with port (first_of (codes "dumps") rows))) served.port) ∙ served.dumps
+
+-- the port of the page is read beside these two
+page_by : (rows : List Row) (task : Task) (served : IsServedBy rows task) → page_beside served.service.port served.service.dumps rows ≡ Some served.service.page
+page_by rows task served =
+    sym
+    (ap (λ p. option_and_then (λ port. option_and_then (λ dumps. page_beside port dumps rows) (dumps_in rows)) p) served.port
+    ∙ ap (λ d. option_and_then (λ dumps. page_beside served.service.port dumps rows) d) served.dumps)
+    ∙ served.page
+
+serve_within : (rows : List Row) (task : Task) → serve_in rows ≡ Some task → IsTask task
+serve_within rows task e =
+    let served = serve_by rows task e in
+    let service = served.service in
+    let ports = port_within (first_of (codes "port") rows) service.port served.port in
+    let counts = value_within 1 1 most_sessions (first_of (codes "sessions") rows) service.sessions (omega arith) (omega arith) served.sessions in
+    let tended = value_within 0 0 1 (first_of (codes "workers") rows) service.workers (omega arith) (omega arith) served.workers in
+    subst IsTask (sym served.is) (
+      ports.0,
+      ports.1,
+      counts.0,
+      counts.1,
+      tended.1,
+      dumps_within service.port (first_of (codes "dumps") rows) service.dumps (dumps_by rows task served),
+      page_within service.port service.dumps (first_of (codes "page") rows) service.page (page_by rows task served),
+      idle_within (first_of (codes "idle") rows) service.idle served.idle,
+    )
+
+ask_within : (rows : List Row) (secret : Bool) (p : Option ℕ) (task : Task) → port_in rows ≡ p → option_map (λ port. Ask port secret) p ≡ Some task → IsTask task
+ask_within rows secret None task at e = cc
+ask_within rows secret (Some port) task at e =
+    let same : Ask port secret ≡ task = cc in
     subst IsTask same (port_within (first_of (codes "port") rows) port at)
 
-fetch_within : (rows : List Row) (p : Option ℕ) (task : Task) → port_in rows ≡ p → option_map (λ port. Fetch port) p ≡ Some task → IsTask task
-fetch_within rows None task at e = cc
-fetch_within rows (Some port) task at e =
-    let same : Fetch port ≡ task = cc in
+fetch_within : (rows : List Row) (secret : Bool) (p : Option ℕ) (task : Task) → port_in rows ≡ p → option_map (λ port. Fetch port secret) p ≡ Some task → IsTask task
+fetch_within rows secret None task at e = cc
+fetch_within rows secret (Some port) task at e =
+    let same : Fetch port secret ≡ task = cc in
     subst IsTask same (port_within (first_of (codes "port") rows) port at)
 
 save_within : (path port : Option Text) (task : Task) → option_map (λ target. Save target) (target_in path port) ≡ Some task → IsTask task
@@ -224,33 +316,34 @@ own_within from (Some text) task e = go (number_in 1 port_limit text) refl e
         let same : Explore from (Some page) ≡ task = cc in
         subst IsTask same (number_within 1 port_limit text page at)
 
-explore_within : (from page port : Option Text) (task : Task) → explore_with from page port ≡ Some task → IsTask task
-explore_within from page None task e = own_within (is_some from) page task e
-explore_within (Some path) page (Some text) task e = cc
-explore_within None (Some shown) (Some text) task e = cc
-explore_within None None (Some text) task e = go (number_in 1 port_limit text) refl e
+explore_within : (from page port : Option Text) (secret : Bool) (task : Task) → explore_with from page port secret ≡ Some task → IsTask task
+explore_within from page None false task e = own_within (is_some from) page task e
+explore_within from page None true task e = cc
+explore_within (Some path) page (Some text) secret task e = cc
+explore_within None (Some shown) (Some text) secret task e = cc
+explore_within None None (Some text) secret task e = go (number_in 1 port_limit text) refl e
   where
-    go : (n : Option ℕ) → number_in 1 port_limit text ≡ n → option_map (λ port. Ask port) n ≡ Some task → IsTask task
+    go : (n : Option ℕ) → number_in 1 port_limit text ≡ n → option_map (λ port. Ask port secret) n ≡ Some task → IsTask task
     go None at h = cc
     go (Some port) at h =
-        let same : Ask port ≡ task = cc in
+        let same : Ask port secret ≡ task = cc in
         subst IsTask same (number_within 1 port_limit text port at)
 
 task_within : (runs explores draws saves serves asks fetches : Bool) (rows : List Row) (task : Task) → task_by runs explores draws saves serves asks fetches rows ≡ Some task → IsTask task
 task_within true explores draws saves serves asks fetches rows task e = let same : Run ≡ task = cc in subst IsTask same tt
-task_within false true draws saves serves asks fetches rows task e = explore_within (first_of (codes "from") rows) (first_of (codes "page") rows) (first_of (codes "port") rows) task e
+task_within false true draws saves serves asks fetches rows task e = explore_within (first_of (codes "from") rows) (first_of (codes "page") rows) (first_of (codes "port") rows) (has_secret rows) task e
 task_within false false true saves serves asks fetches rows task e = let same : Draw ≡ task = cc in subst IsTask same tt
 task_within false false false true serves asks fetches rows task e = save_within (first_of (codes "out") rows) (first_of (codes "to") rows) task e
-task_within false false false false true asks fetches rows task e = serve_within rows (port_in rows) (sessions_in rows) (workers_in rows) (dumps_in rows) (page_in rows) task refl refl refl refl refl e
-task_within false false false false false true fetches rows task e = ask_within rows (port_in rows) task refl e
-task_within false false false false false false true rows task e = fetch_within rows (port_in rows) task refl e
+task_within false false false false true asks fetches rows task e = serve_within rows task e
+task_within false false false false false true fetches rows task e = ask_within rows (has_secret rows) (port_in rows) task refl e
+task_within false false false false false false true rows task e = fetch_within rows (has_secret rows) (port_in rows) task refl e
 task_within false false false false false false false rows task e = cc
 
-pub limits_of : (o : Option (Text × List Row)) (s : Settings) → option_and_then settings_under o ≡ Some s → AreSettingsWithin s
-limits_of o s e =
+pub settings_within : (o : Option (Text × List Row)) (s : Settings) → option_and_then settings_under o ≡ Some s → AreSettingsWithin s
+settings_within o s e =
     let asked = are_asked o s e in
     let name = asked.found.0 in (
-      heap_within o s asked,
+      numbers_within s.wide asked.found.1 s.regions s.mutators s.keep asked.read.regions asked.read.mutators asked.read.keep,
       task_within (bytes_eq name (codes "run")) (bytes_eq name (codes "explore")) (bytes_eq name (codes "draw")) (bytes_eq name (codes "save")) (bytes_eq name (codes "serve")) (bytes_eq name (codes "ask")) (bytes_eq name (codes "fetch")) asked.found.1 s.task asked.task,
     )
 
@@ -301,26 +394,27 @@ default_of name default least most words f n all is named read other =
     cc
 
 -- what sessions with questions have, of a private heap and of a served one, is what the task of `explore` has
-explore_has : (P : Task → Type 0) (from page port : Option Text) (task : Task) → ((p : Option ℕ) → own_page page ≡ Some p → P (Explore (is_some from) p)) → ((n : ℕ) → P (Ask n)) → explore_with from page port ≡ Some task → P task
-explore_has P from page None task one other e = go (own_page page) refl e
+explore_has : (P : Task → Type 0) (from page port : Option Text) (secret : Bool) (task : Task) → ((p : Option ℕ) → own_page page ≡ Some p → P (Explore (is_some from) p)) → ((n : ℕ) → P (Ask n secret)) → explore_with from page port secret ≡ Some task → P task
+explore_has P from page None true task one other e = cc
+explore_has P from page None false task one other e = go (own_page page) refl e
   where
     go : (o : Option (Option ℕ)) → own_page page ≡ o → option_map (λ p. Explore (is_some from) p) o ≡ Some task → P task
     go None at h = cc
     go (Some p) at h = let same : Explore (is_some from) p ≡ task = cc in subst P same (one p at)
-explore_has P (Some path) page (Some text) task one other e = cc
-explore_has P None (Some shown) (Some text) task one other e = cc
-explore_has P None None (Some text) task one other e = go (number_in 1 port_limit text) e
+explore_has P (Some path) page (Some text) secret task one other e = cc
+explore_has P None (Some shown) (Some text) secret task one other e = cc
+explore_has P None None (Some text) secret task one other e = go (number_in 1 port_limit text) e
   where
-    go : (n : Option ℕ) → option_map (λ port. Ask port) n ≡ Some task → P task
+    go : (n : Option ℕ) → option_map (λ port. Ask port secret) n ≡ Some task → P task
     go None h = cc
-    go (Some n) h = let same : Ask n ≡ task = cc in subst P same (other n)
+    go (Some n) h = let same : Ask n secret ≡ task = cc in subst P same (other n)
 
 -- what a task of no served heap has, and what a served heap has, is what each task has
 by_task : (P : Task → Type 0) (runs explores draws saves serves asks fetches : Bool) (rows : List Row) (task : Task) → P Run
     → ((p : Option ℕ) → own_page (first_of (codes "page") rows) ≡ Some p → P (Explore (is_some (first_of (codes "from") rows)) p)) → P Draw → ((target : Target) → P (Save target))
-    → ((port : ℕ) → P (Ask port)) → ((port : ℕ) → P (Fetch port)) → (serve_in rows ≡ Some task → P task) → task_by runs explores draws saves serves asks fetches rows ≡ Some task → P task
+    → ((port : ℕ) → P (Ask port (has_secret rows))) → ((port : ℕ) → P (Fetch port (has_secret rows))) → (serve_in rows ≡ Some task → P task) → task_by runs explores draws saves serves asks fetches rows ≡ Some task → P task
 by_task P true explores draws saves serves asks fetches rows task run explore draw save ask fetch serve e = let same : Run ≡ task = cc in subst P same run
-by_task P false true draws saves serves asks fetches rows task run explore draw save ask fetch serve e = explore_has P (first_of (codes "from") rows) (first_of (codes "page") rows) (first_of (codes "port") rows) task explore ask e
+by_task P false true draws saves serves asks fetches rows task run explore draw save ask fetch serve e = explore_has P (first_of (codes "from") rows) (first_of (codes "page") rows) (first_of (codes "port") rows) (has_secret rows) task explore ask e
 by_task P false false true saves serves asks fetches rows task run explore draw save ask fetch serve e = let same : Draw ≡ task = cc in subst P same draw
 by_task P false false false true serves asks fetches rows task run explore draw save ask fetch serve e = go (target_in (first_of (codes "out") rows) (first_of (codes "to") rows)) e
   where
@@ -330,58 +424,33 @@ by_task P false false false true serves asks fetches rows task run explore draw 
 by_task P false false false false true asks fetches rows task run explore draw save ask fetch serve e = serve e
 by_task P false false false false false true fetches rows task run explore draw save ask fetch serve e = go (port_in rows) e
   where
-    go : (p : Option ℕ) → option_map (λ port. Ask port) p ≡ Some task → P task
+    go : (p : Option ℕ) → option_map (λ port. Ask port (has_secret rows)) p ≡ Some task → P task
     go None h = cc
-    go (Some port) h = let same : Ask port ≡ task = cc in subst P same (ask port)
+    go (Some port) h = let same : Ask port (has_secret rows) ≡ task = cc in subst P same (ask port)
 by_task P false false false false false false true rows task run explore draw save ask fetch serve e = go (port_in rows) e
   where
-    go : (p : Option ℕ) → option_map (λ port. Fetch port) p ≡ Some task → P task
+    go : (p : Option ℕ) → option_map (λ port. Fetch port (has_secret rows)) p ≡ Some task → P task
     go None h = cc
-    go (Some port) h = let same : Fetch port ≡ task = cc in subst P same (fetch port)
+    go (Some port) h = let same : Fetch port (has_secret rows) ≡ task = cc in subst P same (fetch port)
 by_task P false false false false false false false rows task run explore draw save ask fetch serve e = cc
 
--- a served heap has the numbers of its options
-pub record IsServeOf (p n w : Option ℕ) (d g : Option (Option ℕ)) (task : Task) : Type 0 where
-  pub port : ℕ
-  pub at : p ≡ Some port
-  pub sessions : n ≡ Some (sessions_of task)
-  pub workers : w ≡ Some (workers_of task)
-  pub dumps : d ≡ Some (dumps_of task)
-  pub page : g ≡ Some (page_of task)
-
-serve_of : (p n w : Option ℕ) (d g : Option (Option ℕ)) (task : Task) → serve_with p n w d g ≡ Some task → IsServeOf p n w d g task
-serve_of None n w d g task e = cc
-serve_of (Some port) None w d g task e = cc
-serve_of (Some port) (Some sessions) None d g task e = cc
-serve_of (Some port) (Some sessions) (Some workers) None g task e = cc
-serve_of (Some port) (Some sessions) (Some workers) (Some dumps) None task e = cc
-serve_of (Some port) (Some sessions) (Some workers) (Some dumps) (Some page) task e =
-    let same : Serve port sessions workers dumps page ≡ task = cc in
-    subst (IsServeOf (Some port) (Some sessions) (Some workers) (Some dumps) (Some page)) same (record { port = port; at = refl; sessions = refl; workers = refl; dumps = refl; page = refl })
+-- what a served heap has, by its options
+by_service : {A : Type 0} (of : Task → A) (rows : List Row) (task : Task) (served : IsServedBy rows task) (x : A) → of (Serve served.service) ≡ x → of task ≡ x
+by_service of rows task served x e = ap of served.is ∙ e
 
 -- a port for dumps that no word tells is none
-default_dumps : (words : List Text) (f : Text × List Row) (task : Task) → subcommand_of heapdbg_line words ≡ Some f → is_task f.0 ≡ true
-    → is_given (codes "dumps") words ≡ false → serve_in f.1 ≡ Some task → dumps_of task ≡ None
-default_dumps words f task is named other e =
-    let served = serve_of (port_in f.1) (sessions_in f.1) (workers_in f.1) (dumps_in f.1) (page_in f.1) task e in
-    let missing : first_of (codes "dumps") f.1 ≡ None = none_of (codes "dumps") words f refl is named other in
-    let none : dumps_in f.1 ≡ Some None = ap (λ o. option_and_then (λ port. dumps_with port o) (port_in f.1)) missing ∙ ap (option_and_then (λ port. dumps_with port None)) served.at in
-    let same : Some (dumps_of task) ≡ Some None = sym served.dumps ∙ none in
-    cc
+default_dumps : (rows : List Row) (task : Task) → first_of (codes "dumps") rows ≡ None → serve_in rows ≡ Some task → dumps_of task ≡ None
+default_dumps rows task missing e =
+    let served = serve_by rows task e in
+    let same : Some None ≡ Some served.service.dumps = sym (ap (dumps_with served.service.port) missing) ∙ dumps_by rows task served in
+    by_service dumps_of rows task served None cc
 
 -- a port of the page that no word tells is none
-default_page : (words : List Text) (f : Text × List Row) (task : Task) → subcommand_of heapdbg_line words ≡ Some f → is_task f.0 ≡ true
-    → is_given (codes "page") words ≡ false → serve_in f.1 ≡ Some task → page_of task ≡ None
-default_page words f task is named other e =
-    let served = serve_of (port_in f.1) (sessions_in f.1) (workers_in f.1) (dumps_in f.1) (page_in f.1) task e in
-    let missing : first_of (codes "page") f.1 ≡ None = none_of (codes "page") words f refl is named other in
-    let none : page_in f.1 ≡ Some None =
-    ap (λ o. option_and_then (λ port. option_and_then (λ dumps. page_with port dumps o) (dumps_in f.1)) (port_in f.1)) missing
-    ∙ ap (λ p. option_and_then (λ port. option_and_then (λ dumps. page_with port dumps None) (dumps_in f.1)) p) served.at
-    ∙ ap (λ d. option_and_then (λ dumps. page_with served.port dumps None) d) served.dumps
-    in
-    let same : Some (page_of task) ≡ Some None = sym served.page ∙ none in
-    cc
+default_page : (rows : List Row) (task : Task) → first_of (codes "page") rows ≡ None → serve_in rows ≡ Some task → page_of task ≡ None
+default_page rows task missing e =
+    let served = serve_by rows task e in
+    let same : Some None ≡ Some served.service.page = sym (ap (page_with served.service.port served.service.dumps) missing) ∙ page_by rows task served in
+    by_service page_of rows task served None cc
 
 -- a page of a session's own heap that no word tells is none
 default_own : (given : Option Text) (p : Option ℕ) → given ≡ None → own_page given ≡ Some p → p ≡ None
@@ -393,14 +462,9 @@ unread : (given : Option Text) → given ≡ None → is_some given ≡ false
 unread None none = refl
 unread (Some path) none = cc
 
-served_unread : (p n w : Option ℕ) (d g : Option (Option ℕ)) (task : Task) → serve_with p n w d g ≡ Some task → reads_file task ≡ false
-served_unread None n w d g task e = cc
-served_unread (Some port) None w d g task e = cc
-served_unread (Some port) (Some sessions) None d g task e = cc
-served_unread (Some port) (Some sessions) (Some workers) None g task e = cc
-served_unread (Some port) (Some sessions) (Some workers) (Some dumps) None task e = cc
-served_unread (Some port) (Some sessions) (Some workers) (Some dumps) (Some page) task e =
-    let same : Serve port sessions workers dumps page ≡ task = cc in subst (λ t. reads_file t ≡ false) same refl
+-- no secret is given where no word tells one
+unguarded : (rows : List Row) → first_of (codes "secret") rows ≡ None → has_secret rows ≡ false
+unguarded rows none = unread (first_of (codes "secret") rows) none
 
 -- identifiers of which no word tells the size have 8 bytes
 default_size : (words : List Text) (f : Text × List Row) (x : IdSize) → subcommand_of heapdbg_line words ≡ Some f → is_task f.0 ≡ true
@@ -431,28 +495,37 @@ defaults_of words s e =
     let asked = are_asked (subcommand_of heapdbg_line words) s e in
     let name = asked.found.0 in
     let rows = asked.found.1 in
-    let served : serve_in rows ≡ Some s.task → IsServeOf (port_in rows) (sessions_in rows) (workers_in rows) (dumps_in rows) (page_in rows) s.task = serve_of (port_in rows) (sessions_in rows) (workers_in rows) (dumps_in rows) (page_in rows) s.task in
     record {
-      regions = default_of (codes "regions") 16 1 region_limit words asked.found s.regions refl asked.is asked.named asked.read.regions;
+      regions = default_of (codes "regions") 16 1 (most_regions s.wide) words asked.found s.regions refl asked.is asked.named asked.read.regions;
       mutators = default_of (codes "mutators") 2 1 mutator_limit words asked.found s.mutators refl asked.is asked.named asked.read.mutators;
-      keep = default_of (codes "keep") keep_default 1 keep_limit words asked.found s.keep refl asked.is asked.named asked.read.keep;
+      keep = default_of (codes "keep") keep_default 1 (most_kept s.wide) words asked.found s.keep refl asked.is asked.named asked.read.keep;
       time = default_of (codes "time") 0 0 time_limit words asked.found s.time refl asked.is asked.named asked.read.time;
       ids = default_size words asked.found s.ids asked.is asked.named asked.read.ids;
       questions = default_flag (codes "questions") words asked.found s.questions refl asked.is asked.named asked.read.questions;
       rolls = default_flag (codes "roll") words asked.found s.rolls refl asked.is asked.named asked.read.rolls;
+      wide = default_flag (codes "wide") words asked.found s.wide refl asked.is asked.named asked.read.wide;
       sessions = λ other. by_task (λ t. sessions_of t ≡ 1) (bytes_eq name (codes "run")) (bytes_eq name (codes "explore")) (bytes_eq name (codes "draw")) (bytes_eq name (codes "save")) (bytes_eq name (codes "serve")) (bytes_eq name (codes "ask")) (bytes_eq name (codes "fetch")) rows s.task
           refl (λ p at. refl) refl (λ target. refl) (λ port. refl) (λ port. refl)
-          (λ is. default_of (codes "sessions") 1 1 most_sessions words asked.found (sessions_of s.task) refl asked.is asked.named (served is).sessions other) asked.task;
+          (λ is. let served = serve_by rows s.task is in by_service sessions_of rows s.task served 1 (default_of (codes "sessions") 1 1 most_sessions words asked.found served.service.sessions refl asked.is asked.named served.sessions other)) asked.task;
       workers = λ other. by_task (λ t. workers_of t ≡ 0) (bytes_eq name (codes "run")) (bytes_eq name (codes "explore")) (bytes_eq name (codes "draw")) (bytes_eq name (codes "save")) (bytes_eq name (codes "serve")) (bytes_eq name (codes "ask")) (bytes_eq name (codes "fetch")) rows s.task
           refl (λ p at. refl) refl (λ target. refl) (λ port. refl) (λ port. refl)
-          (λ is. default_of (codes "workers") 0 0 1 words asked.found (workers_of s.task) refl asked.is asked.named (served is).workers other) asked.task;
+          (λ is. let served = serve_by rows s.task is in by_service workers_of rows s.task served 0 (default_of (codes "workers") 0 0 1 words asked.found served.service.workers refl asked.is asked.named served.workers other)) asked.task;
       dumps = λ other. by_task (λ t. dumps_of t ≡ None) (bytes_eq name (codes "run")) (bytes_eq name (codes "explore")) (bytes_eq name (codes "draw")) (bytes_eq name (codes "save")) (bytes_eq name (codes "serve")) (bytes_eq name (codes "ask")) (bytes_eq name (codes "fetch")) rows s.task
           refl (λ p at. refl) refl (λ target. refl) (λ port. refl) (λ port. refl)
-          (λ is. default_dumps words asked.found s.task asked.is asked.named other is) asked.task;
+          (λ is. default_dumps rows s.task (none_of (codes "dumps") words asked.found refl asked.is asked.named other) is) asked.task;
       page = λ other. by_task (λ t. page_of t ≡ None) (bytes_eq name (codes "run")) (bytes_eq name (codes "explore")) (bytes_eq name (codes "draw")) (bytes_eq name (codes "save")) (bytes_eq name (codes "serve")) (bytes_eq name (codes "ask")) (bytes_eq name (codes "fetch")) rows s.task
           refl (λ p at. default_own (first_of (codes "page") rows) p (none_of (codes "page") words asked.found refl asked.is asked.named other) at) refl (λ target. refl) (λ port. refl) (λ port. refl)
-          (λ is. default_page words asked.found s.task asked.is asked.named other is) asked.task;
+          (λ is. default_page rows s.task (none_of (codes "page") words asked.found refl asked.is asked.named other) is) asked.task;
       from = λ other. by_task (λ t. reads_file t ≡ false) (bytes_eq name (codes "run")) (bytes_eq name (codes "explore")) (bytes_eq name (codes "draw")) (bytes_eq name (codes "save")) (bytes_eq name (codes "serve")) (bytes_eq name (codes "ask")) (bytes_eq name (codes "fetch")) rows s.task
           refl (λ p at. unread (first_of (codes "from") rows) (none_of (codes "from") words asked.found refl asked.is asked.named other)) refl (λ target. refl) (λ port. refl) (λ port. refl)
-          (λ is. served_unread (port_in rows) (sessions_in rows) (workers_in rows) (dumps_in rows) (page_in rows) s.task is) asked.task;
+          (λ is. let served = serve_by rows s.task is in by_service reads_file rows s.task served false (refl)) asked.task;
+      idle = λ other. by_task (λ t. idle_of t ≡ 0) (bytes_eq name (codes "run")) (bytes_eq name (codes "explore")) (bytes_eq name (codes "draw")) (bytes_eq name (codes "save")) (bytes_eq name (codes "serve")) (bytes_eq name (codes "ask")) (bytes_eq name (codes "fetch")) rows s.task
+          refl (λ p at. refl) refl (λ target. refl) (λ port. refl) (λ port. refl)
+          (λ is. let served = serve_by rows s.task is in by_service idle_of rows s.task served 0 (default_of (codes "idle") 0 1 idle_limit words asked.found served.service.idle refl asked.is asked.named served.idle other)) asked.task;
+      stays = λ other. by_task (λ t. stays_of t ≡ false) (bytes_eq name (codes "run")) (bytes_eq name (codes "explore")) (bytes_eq name (codes "draw")) (bytes_eq name (codes "save")) (bytes_eq name (codes "serve")) (bytes_eq name (codes "ask")) (bytes_eq name (codes "fetch")) rows s.task
+          refl (λ p at. refl) refl (λ target. refl) (λ port. refl) (λ port. refl)
+          (λ is. let served = serve_by rows s.task is in by_service stays_of rows s.task served false (default_flag (codes "stay") words asked.found served.service.stays refl asked.is asked.named served.stays other)) asked.task;
+      secret = λ other. by_task (λ t. is_guarded t ≡ false) (bytes_eq name (codes "run")) (bytes_eq name (codes "explore")) (bytes_eq name (codes "draw")) (bytes_eq name (codes "save")) (bytes_eq name (codes "serve")) (bytes_eq name (codes "ask")) (bytes_eq name (codes "fetch")) rows s.task
+          refl (λ p at. refl) refl (λ target. refl) (λ port. unguarded rows (none_of (codes "secret") words asked.found refl asked.is asked.named other)) (λ port. unguarded rows (none_of (codes "secret") words asked.found refl asked.is asked.named other))
+          (λ is. let served = serve_by rows s.task is in by_service is_guarded rows s.task served false (sym served.secret ∙ unguarded rows (none_of (codes "secret") words asked.found refl asked.is asked.named other))) asked.task;
     }

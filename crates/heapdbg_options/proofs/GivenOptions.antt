@@ -1,14 +1,14 @@
 -- What the options tell, and the words.
-use Rattle.std.proofs.Common.{◌≡◌, ℕ, inl, inr, refl, ap, sym, ◌∙◌, subst, true, List, Option, Some, None, Result, Ok, Err, IfOk, codes}
+use Rattle.std.proofs.Common.{◌≡◌, ℕ, Bool, inl, inr, refl, ap, sym, ◌∙◌, subst, true, List, Option, Some, None, Result, Ok, Err, IfOk, codes}
 use Rattle.std.specs.Borrow.{Bor}
-use Rattle.std.specs.Prelude.{IfSome, option_and_then, option_map}
+use Rattle.std.specs.Prelude.{IfSome, is_some, option_and_then, option_map}
 use Rattle.clap.proofs.WalkLemmas.{first_value-rows}
 use Rattle.clap.specs.Matches.{first_value}
 use Rattle.clap.specs.Words.{App, FailsBy, HasMatchesOf, Row, Text, fault_of, first_of, is_simple, is_simple_and_free, rows_of, subcommand_of, subcommand_rows_of}
 use Rattle.clap.specs.declared.error.Error.{Error}
 use Rattle.clap.specs.declared.parser.matches.ArgMatches.{ArgMatches}
 use Rattle.clap.specs.declared.parser.matches.Found.{Found}
-use Rattle.heapdbg_options.specs.CommandLine.{explore_in, heapdbg_line, number_in, path_of, port_limit}
+use Rattle.heapdbg_options.specs.CommandLine.{explore_in, has_secret, heapdbg_line, number_in, path_of, port_limit}
 use Rattle.heapdbg_options.specs.Refusals.{IsExploreMistake, IsExploreOrMistake, IsMistakeIn, IsOutside, IsTargetMistake, IsTaskOrMistake}
 use Rattle.heapdbg_options.specs.declared.refusal.Mistake.{Mistake}
 use Rattle.heapdbg_options.specs.declared.settings.Task.{Task}
@@ -40,10 +40,16 @@ outside_none : (least most : ℕ) (given : Option Text) → IsOutside least most
 outside_none least most None h = absurd h
 outside_none least most (Some text) h = h
 
-of_sources : (m : Mistake) (rows : List Row) → IsExploreMistake m (first_of (codes "from") rows) (first_of (codes "page") rows) (first_of (codes "port") rows) → IsMistakeIn m rows
+-- an option is given as its row is there
+pub given_is : (found : Found) (name : Text) (given : Option (Bor Text)) → option_map (λ s. s.now) given ≡ first_value found name → is_some given ≡ is_some (first_of name (rows_of found))
+given_is found name None e = ap is_some (e ∙ first_value-rows found name)
+given_is found name (Some text) e = ap is_some (e ∙ first_value-rows found name)
+
+of_sources : (m : Mistake) (rows : List Row) → IsExploreMistake m (first_of (codes "from") rows) (first_of (codes "page") rows) (first_of (codes "port") rows) (has_secret rows) → IsMistakeIn m rows
 of_sources m rows (inl h) = subst (λ x. IsMistakeIn x rows) (sym h.0) (inl (refl, h.1, h.2))
 of_sources m rows (inr (inl h)) = subst (λ x. IsMistakeIn x rows) (sym h.0) (outside_none 1 port_limit (first_of (codes "port") rows) h.1)
-of_sources m rows (inr (inr h)) = subst (λ x. IsMistakeIn x rows) (sym h.0) h.1
+of_sources m rows (inr (inr (inl h))) = subst (λ x. IsMistakeIn x rows) (sym h.0) h.1
+of_sources m rows (inr (inr (inr h))) = subst (λ x. IsMistakeIn x rows) (sym h.0) (inr (inr (inr (refl, h.1, h.2))))
 
 -- the texts of the options of `explore` are those of their rows
 abbrev pub AreExploreTexts : Found → Option Text → Option Text → Option Text → Type 0
@@ -51,15 +57,16 @@ AreExploreTexts found from page port =
     (from ≡ first_value found (codes "from")) × (page ≡ first_value found (codes "page")) × (port ≡ first_value found (codes "port"))
 
 -- its task, or a mistake in them, is that of the rows
-pub of_explore : (found : Found) (from page port : Option Text) (result : Result Task Mistake) → AreExploreTexts found from page port → IsExploreOrMistake from page port result
+pub of_explore : (found : Found) (from page port : Option Text) (secret : Bool) (result : Result Task Mistake) → AreExploreTexts found from page port → secret ≡ has_secret (rows_of found) → IsExploreOrMistake from page port secret result
     → IsTaskOrMistake explore_in (rows_of found) result
-of_explore found from page port result texts h =
+of_explore found from page port secret result texts guarded h =
     of_rows result
-    (subst (λ o. IsExploreOrMistake o (first_of (codes "page") (rows_of found)) (first_of (codes "port") (rows_of found)) result) (texts.0 ∙ first_value-rows found (codes "from"))
-    (subst (λ o. IsExploreOrMistake from o (first_of (codes "port") (rows_of found)) result) (texts.1 ∙ first_value-rows found (codes "page"))
-    (subst (λ o. IsExploreOrMistake from page o result) (texts.2 ∙ first_value-rows found (codes "port")) h)))
+    (subst (λ b. IsExploreOrMistake (first_of (codes "from") (rows_of found)) (first_of (codes "page") (rows_of found)) (first_of (codes "port") (rows_of found)) b result) guarded
+    (subst (λ o. IsExploreOrMistake o (first_of (codes "page") (rows_of found)) (first_of (codes "port") (rows_of found)) secret result) (texts.0 ∙ first_value-rows found (codes "from"))
+    (subst (λ o. IsExploreOrMistake from o (first_of (codes "port") (rows_of found)) secret result) (texts.1 ∙ first_value-rows found (codes "page"))
+    (subst (λ o. IsExploreOrMistake from page o secret result) (texts.2 ∙ first_value-rows found (codes "port")) h))))
   where
-    of_rows : (r : Result Task Mistake) → IsExploreOrMistake (first_of (codes "from") (rows_of found)) (first_of (codes "page") (rows_of found)) (first_of (codes "port") (rows_of found)) r
+    of_rows : (r : Result Task Mistake) → IsExploreOrMistake (first_of (codes "from") (rows_of found)) (first_of (codes "page") (rows_of found)) (first_of (codes "port") (rows_of found)) (has_secret (rows_of found)) r
         → IsTaskOrMistake explore_in (rows_of found) r
     of_rows (Ok task) made = (made.0, tt)
     of_rows (Err m) made = (tt, (made.1.0, of_sources m (rows_of found) made.1.1))

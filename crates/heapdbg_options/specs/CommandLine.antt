@@ -13,7 +13,9 @@ use Rattle.clap.specs.declared.builder.ArgAction.TheVariants.{Set}
 use Rattle.heap_class.specs.declared.IdSize.{IdSize}
 use Rattle.heap_class.specs.declared.IdSize.TheVariants.{Four, Eight}
 use Rattle.heap_world.specs.RegionLimits.{region_limit}
-use Rattle.heap_world.specs.Limits.{AreHeapSettings, keep_limit, mutator_limit}
+use Rattle.heap_world.specs.Limits.{AreHeapSettings, AreNarrowSettings, keep_limit, mutator_limit, narrow_keep, narrow_limits, narrow_regions, wide_limits}
+use Rattle.heap_world.specs.declared.Limits.{Limits}
+use Rattle.heapdbg_options.specs.declared.settings.Service.{Service}
 use Rattle.heapdbg_options.specs.declared.settings.Task.{Task}
 use Rattle.heapdbg_options.specs.declared.settings.Task.TheVariants.{Run, Explore, Draw, Save, Serve, Ask, Fetch}
 use Rattle.heapdbg_options.specs.declared.settings.Target.{Target}
@@ -34,9 +36,11 @@ value_option name = record (new_rule name) { long = Some name; action = Some Set
 abbrev pub heap_line : Text → App
 heap_line name =
     with_rule
+    (with_rule
     (with_rule (with_rule (new_app name) (value_option (codes "regions")))
     (value_option (codes "mutators")))
-    (value_option (codes "keep"))
+    (value_option (codes "keep")))
+    (value_option (codes "wide"))
 
 -- a command with the options of the heap, its history and its dumps
 abbrev pub session_line : Text → App
@@ -48,6 +52,10 @@ session_line name =
 abbrev pub port_option : Rule
 port_option = record (value_option (codes "port")) { required = true }
 
+-- the option `--secret VALUE`
+abbrev pub secret_option : Rule
+secret_option = value_option (codes "secret")
+
 -- the command `run`
 abbrev pub run_line : App
 run_line = with_rule (session_line (codes "run")) (value_option (codes "questions"))
@@ -56,9 +64,11 @@ run_line = with_rule (session_line (codes "run")) (value_option (codes "question
 abbrev pub explore_line : App
 explore_line =
     with_rule
+    (with_rule
     (with_rule (with_rule (session_line (codes "explore")) (value_option (codes "from")))
     (value_option (codes "port")))
-    (value_option (codes "page"))
+    (value_option (codes "page")))
+    secret_option
 
 -- the command `save`
 abbrev pub save_line : App
@@ -81,15 +91,23 @@ abbrev pub ported_line : App
 ported_line =
     with_rule (with_rule staffed_line (value_option (codes "dumps"))) (value_option (codes "page"))
 
--- the command `serve`
-abbrev pub serve_line : App
-serve_line =
+-- the command `serve` with what it answers and forgets
+abbrev pub answering_line : App
+answering_line =
     with_rule (with_rule ported_line (value_option (codes "questions")))
     (value_option (codes "roll"))
 
+-- the command `serve`
+abbrev pub serve_line : App
+serve_line =
+    with_rule
+    (with_rule (with_rule answering_line (value_option (codes "stay")))
+    (value_option (codes "idle")))
+    secret_option
+
 -- the command `ask`
 abbrev pub ask_line : App
-ask_line = with_rule (new_app (codes "ask")) port_option
+ask_line = with_rule (with_rule (new_app (codes "ask")) port_option) secret_option
 
 -- the option `--out VALUE`, which has to be given
 abbrev pub out_option : Rule
@@ -101,7 +119,8 @@ draw_line = with_rule (session_line (codes "draw")) out_option
 
 -- the command `fetch`
 abbrev pub fetch_line : App
-fetch_line = with_rule (with_rule (new_app (codes "fetch")) port_option) out_option
+fetch_line =
+    with_rule (with_rule (with_rule (new_app (codes "fetch")) port_option) out_option) secret_option
 
 -- the program's name and `--version`, and a command that has to follow
 abbrev pub named_line : App
@@ -142,12 +161,13 @@ abbrev pub id_size_in : List Row → Option IdSize
 id_size_in rows = option_and_then id_size_of (option_value (codes "ids") 8 4 8 rows)
 
 -- the settings, if each option has a value in its range
-abbrev pub settings_with : Task → Option ℕ → Option ℕ → Option ℕ → Option ℕ → Option IdSize
+abbrev pub settings_with : Task → Bool → Option ℕ → Option ℕ → Option ℕ → Option ℕ → Option IdSize
     → Option Bool → Option Bool → Option Settings
-settings_with task (Some regions) (Some mutators) (Some keep) (Some time) (Some ids)
+settings_with task wide (Some regions) (Some mutators) (Some keep) (Some time) (Some ids)
     (Some questions) (Some rolls) =
     Some (record {
       task = task;
+      wide = wide;
       regions = regions;
       mutators = mutators;
       keep = keep;
@@ -156,7 +176,7 @@ settings_with task (Some regions) (Some mutators) (Some keep) (Some time) (Some 
       questions = questions;
       rolls = rolls;
     })
-settings_with task _ _ _ _ _ _ _ = None
+settings_with task wide _ _ _ _ _ _ _ = None
 
 -- the number of steps that can be undone, if the option is not given
 abbrev pub keep_default : ℕ
@@ -178,13 +198,36 @@ questions_in rows = flag_in (codes "questions") rows
 abbrev pub rolls_in : List Row → Option Bool
 rolls_in rows = flag_in (codes "roll") rows
 
--- the settings of a task and its options
-abbrev pub settings_in : Task → List Row → Option Settings
-settings_in task rows = settings_with task (option_value (codes "regions") 16 1 region_limit rows)
-    (option_value (codes "mutators") 2 1 mutator_limit rows)
-    (option_value (codes "keep") keep_default 1 keep_limit rows)
+-- whether the heap is wide
+abbrev pub wide_in : List Row → Option Bool
+wide_in rows = flag_in (codes "wide") rows
+
+-- the largest number of regions of a heap that is wide, or isn't
+abbrev pub most_regions : Bool → ℕ
+most_regions wide = if wide then region_limit else narrow_regions
+
+-- the largest number of steps that can be undone in a heap that is wide, or isn't
+abbrev pub most_kept : Bool → ℕ
+most_kept wide = if wide then keep_limit else narrow_keep
+
+-- the regions of a heap that is wide, or isn't
+abbrev pub regions_in : Bool → List Row → Option ℕ
+regions_in wide rows = option_value (codes "regions") 16 1 (most_regions wide) rows
+
+-- the steps that can be undone in a heap that is wide, or isn't
+abbrev pub keep_in : Bool → List Row → Option ℕ
+keep_in wide rows = option_value (codes "keep") keep_default 1 (most_kept wide) rows
+
+-- the settings of a task and its options over a heap that is wide, or isn't
+abbrev pub settings_over : Task → List Row → Bool → Option Settings
+settings_over task rows wide = settings_with task wide (regions_in wide rows)
+    (option_value (codes "mutators") 2 1 mutator_limit rows) (keep_in wide rows)
     (option_value (codes "time") 0 0 time_limit rows)
     (id_size_in rows) (questions_in rows) (rolls_in rows)
+
+-- the settings of a task and its options
+abbrev pub settings_in : Task → List Row → Option Settings
+settings_in task rows = option_and_then (settings_over task rows) (wide_in rows)
 
 -- the highest port
 abbrev pub port_limit : ℕ
@@ -211,18 +254,24 @@ abbrev pub own_page : Option Text → Option (Option ℕ)
 own_page None = Some None
 own_page (Some text) = option_map (λ page. Some page) (number_in 1 port_limit text)
 
--- the task of `explore`, to which this file of lines and this page are given, or this port, or none of them
-abbrev pub explore_with : Option Text → Option Text → Option Text → Option Task
-explore_with from page None = option_map (λ p. Explore (is_some from) p) (own_page page)
-explore_with None None (Some text) = option_map (λ port. Ask port) (number_in 1 port_limit text)
-explore_with (Some path) page (Some text) = None
-explore_with None (Some page) (Some text) = None
+-- the file of a secret is given
+abbrev pub has_secret : List Row → Bool
+has_secret rows = is_some (first_of (codes "secret") rows)
+
+-- the task of `explore`, to which this file of lines and this page are given, or this port, and a secret or none, or none of them
+abbrev pub explore_with : Option Text → Option Text → Option Text → Bool → Option Task
+explore_with from page None false = option_map (λ p. Explore (is_some from) p) (own_page page)
+explore_with from page None true = None
+explore_with None None (Some text) secret =
+    option_map (λ port. Ask port secret) (number_in 1 port_limit text)
+explore_with (Some path) page (Some text) secret = None
+explore_with None (Some page) (Some text) secret = None
 
 -- the task of the options of `explore`
 abbrev pub explore_in : List Row → Option Task
 explore_in rows =
     explore_with (first_of (codes "from") rows) (first_of (codes "page") rows)
-    (first_of (codes "port") rows)
+    (first_of (codes "port") rows) (has_secret rows)
 
 -- the target of a dump: one of the two options is given, and a port has to be one
 abbrev pub target_in : Option Text → Option Text → Option Target
@@ -272,25 +321,48 @@ page_in rows =
     option_and_then (λ port. option_and_then (λ dumps. page_beside port dumps rows) (dumps_in rows))
     (port_in rows)
 
+-- the largest number of seconds after which a session is ended
+abbrev pub idle_limit : ℕ
+idle_limit = 86400
+
+-- after how many seconds without input a session is ended, and 0 if the option is not given: none is
+abbrev pub idle_in : List Row → Option ℕ
+idle_in rows = option_value (codes "idle") 0 1 idle_limit rows
+
+-- whether the heap is served until it is ended from outside
+abbrev pub stays_in : List Row → Option Bool
+stays_in rows = flag_in (codes "stay") rows
+
 -- a served heap, if each option has a value in its range
 abbrev pub serve_with : Option ℕ → Option ℕ → Option ℕ → Option (Option ℕ) → Option (Option ℕ)
-    → Option Task
-serve_with (Some port) (Some sessions) (Some workers) (Some dumps) (Some page) =
-    Some (Serve port sessions workers dumps page)
-serve_with _ _ _ _ _ = None
+    → Option ℕ → Option Bool → Bool → Option Task
+serve_with (Some port) (Some sessions) (Some workers) (Some dumps) (Some page) (Some idle)
+    (Some stays) secret =
+    Some (Serve (record {
+      port = port;
+      sessions = sessions;
+      workers = workers;
+      dumps = dumps;
+      page = page;
+      idle = idle;
+      stays = stays;
+      secret = secret;
+    }))
+serve_with _ _ _ _ _ _ _ _ = None
 
 -- the task of the options of `serve`
 abbrev pub serve_in : List Row → Option Task
 serve_in rows =
     serve_with (port_in rows) (sessions_in rows) (workers_in rows) (dumps_in rows) (page_in rows)
+    (idle_in rows) (stays_in rows) (has_secret rows)
 
 -- the task of the options of `ask`
 abbrev pub ask_in : List Row → Option Task
-ask_in rows = option_map (λ port. Ask port) (port_in rows)
+ask_in rows = option_map (λ port. Ask port (has_secret rows)) (port_in rows)
 
 -- the task of the options of `fetch`
 abbrev pub fetch_in : List Row → Option Task
-fetch_in rows = option_map (λ port. Fetch port) (port_in rows)
+fetch_in rows = option_map (λ port. Fetch port (has_secret rows)) (port_in rows)
 
 -- a task has this name
 abbrev pub is_task : Text → Bool
@@ -347,7 +419,14 @@ IsThird port dumps None = ⊤
 IsThird port dumps (Some page) =
     (1 ≤ page) × (page ≤ port_limit) × (page ≢ port) × (dumps ≢ Some page)
 
--- the ports and the numbers of sessions and workers are within their limits
+-- the ports and numbers of a served heap are within their limits
+abbrev pub IsService : Service → Type 0
+IsService s =
+    (1 ≤ s.port) × (s.port ≤ port_limit) × (1 ≤ s.sessions) × (s.sessions ≤ most_sessions)
+    × (s.workers ≤ 1) × IsOther s.port s.dumps × IsThird s.port s.dumps s.page
+    × (s.idle ≤ idle_limit)
+
+-- the ports and numbers of a task are within their limits
 abbrev pub IsTask : Task → Type 0
 IsTask Run = ⊤
 IsTask (Explore from None) = ⊤
@@ -355,15 +434,22 @@ IsTask (Explore from (Some page)) = (1 ≤ page) × (page ≤ port_limit)
 IsTask Draw = ⊤
 IsTask (Save Out) = ⊤
 IsTask (Save (To port)) = (1 ≤ port) × (port ≤ port_limit)
-IsTask (Serve port sessions workers dumps page) =
-    (1 ≤ port) × (port ≤ port_limit) × (1 ≤ sessions) × (sessions ≤ most_sessions) × (workers ≤ 1)
-    × IsOther port dumps × IsThird port dumps page
-IsTask (Ask port) = (1 ≤ port) × (port ≤ port_limit)
-IsTask (Fetch port) = (1 ≤ port) × (port ≤ port_limit)
+IsTask (Serve service) = IsService service
+IsTask (Ask port secret) = (1 ≤ port) × (port ≤ port_limit)
+IsTask (Fetch port secret) = (1 ≤ port) × (port ≤ port_limit)
+
+-- the limits that the heap's events keep to
+abbrev pub limits_of : Settings → Limits
+limits_of s = if s.wide then wide_limits else narrow_limits
+
+-- a heap that is wide, or isn't, may have these numbers of regions, of mutators and of steps that can be undone
+abbrev pub AreNumbersOf : Bool → ℕ → ℕ → ℕ → Type 0
+AreNumbersOf true regions mutators keep = AreHeapSettings regions mutators keep
+AreNumbersOf false regions mutators keep = AreNarrowSettings regions mutators keep
 
 -- the settings of the heap and its history are within their limits
 abbrev pub IsHeapWithin : Settings → Type 0
-IsHeapWithin s = AreHeapSettings s.regions s.mutators s.keep
+IsHeapWithin s = AreNumbersOf s.wide s.regions s.mutators s.keep
 
 -- the settings are within their limits
 abbrev pub AreSettingsWithin : Settings → Type 0
@@ -371,24 +457,41 @@ AreSettingsWithin s = IsHeapWithin s × IsTask s.task
 
 -- the number of sessions
 abbrev pub sessions_of : Task → ℕ
-sessions_of (Serve port sessions workers dumps page) = sessions
+sessions_of (Serve service) = service.sessions
 sessions_of _ = 1
 
 -- the number of markers, and of sweepers
 abbrev pub workers_of : Task → ℕ
-workers_of (Serve port sessions workers dumps page) = workers
+workers_of (Serve service) = service.workers
 workers_of _ = 0
 
 -- the port for dumps
 abbrev pub dumps_of : Task → Option ℕ
-dumps_of (Serve port sessions workers dumps page) = dumps
+dumps_of (Serve service) = service.dumps
 dumps_of _ = None
 
 -- the port of the page
 abbrev pub page_of : Task → Option ℕ
-page_of (Serve port sessions workers dumps page) = page
+page_of (Serve service) = service.page
 page_of (Explore from page) = page
 page_of _ = None
+
+-- after how many seconds without input a session is ended: 0, if none is
+abbrev pub idle_of : Task → ℕ
+idle_of (Serve service) = service.idle
+idle_of _ = 0
+
+-- the heap is served until it is ended from outside
+abbrev pub stays_of : Task → Bool
+stays_of (Serve service) = service.stays
+stays_of _ = false
+
+-- a secret is asked for, or sent
+abbrev pub is_guarded : Task → Bool
+is_guarded (Serve service) = service.secret
+is_guarded (Ask port secret) = secret
+is_guarded (Fetch port secret) = secret
+is_guarded _ = false
 
 -- the lines of a file are read first
 abbrev pub reads_file : Task → Bool
@@ -396,9 +499,9 @@ reads_file Run = false
 reads_file (Explore from page) = from
 reads_file Draw = false
 reads_file (Save target) = false
-reads_file (Serve port sessions workers dumps page) = false
-reads_file (Ask port) = false
-reads_file (Fetch port) = false
+reads_file (Serve service) = false
+reads_file (Ask port secret) = false
+reads_file (Fetch port secret) = false
 
 -- an option that no word names has its default
 pub record HasDefaults (words : List Text) (s : Settings) : Type 0 where
@@ -409,11 +512,15 @@ pub record HasDefaults (words : List Text) (s : Settings) : Type 0 where
   pub ids : is_given (codes "ids") words ≡ false → s.ids ≡ Eight
   pub questions : is_given (codes "questions") words ≡ false → s.questions ≡ false
   pub rolls : is_given (codes "roll") words ≡ false → s.rolls ≡ false
+  pub wide : is_given (codes "wide") words ≡ false → s.wide ≡ false
   pub sessions : is_given (codes "sessions") words ≡ false → sessions_of s.task ≡ 1
   pub workers : is_given (codes "workers") words ≡ false → workers_of s.task ≡ 0
   pub from : is_given (codes "from") words ≡ false → reads_file s.task ≡ false
   pub dumps : is_given (codes "dumps") words ≡ false → dumps_of s.task ≡ None
   pub page : is_given (codes "page") words ≡ false → page_of s.task ≡ None
+  pub idle : is_given (codes "idle") words ≡ false → idle_of s.task ≡ 0
+  pub stays : is_given (codes "stay") words ≡ false → stays_of s.task ≡ false
+  pub secret : is_given (codes "secret") words ≡ false → is_guarded s.task ≡ false
 
 -- the fault has this text, or memory ran out
 abbrev pub IsBadWith : Text → LineFault → Type 0

@@ -1,15 +1,14 @@
 -- The texts for command lines that the program refuses.
-use Rattle.std.specs.Prelude.{◌≡◌, ◌≢◌, ◌⊎◌, ◌++◌, ◌||◌, ℕ, Bool, List, Option, Some, None, [], ◌∷◌, ⊤, false, true, codes, is_some, string_bytes, IfErr, IfOk, Result}
+use Rattle.std.specs.Prelude.{◌≡◌, ◌≢◌, ◌⊎◌, ◌++◌, ◌||◌, ℕ, Bool, List, Option, Some, None, [], ◌∷◌, ⊤, false, true, codes, is_some, string_bytes, if◌then◌else◌, IfErr, IfOk, Result}
 use Rattle.std.specs.Option.{option_map_or}
 use Rattle.std.specs.Str.{bytes_eq}
 use Rattle.clap.specs.Words.{IsAmong, Row, Text, fault_of, first_of, subcommand_of}
 use Rattle.clap.specs.declared.error.kind.ErrorKind.{ErrorKind}
 use Rattle.clap.specs.declared.error.kind.ErrorKind.TheVariants.{DisplayHelp, DisplayVersion, OutOfMemory}
-use Rattle.heap_world.specs.RegionLimits.{region_limit}
-use Rattle.heap_world.specs.Limits.{keep_limit, mutator_limit}
-use Rattle.heapdbg_options.specs.CommandLine.{dumps_with, explore_with, heapdbg_line, id_size_in, is_task, keep_default, number_in, page_with, port_in, port_limit, questions_in, rolls_in, sessions_in, settings_of, option_value, time_limit, workers_in}
+use Rattle.heap_world.specs.Limits.{mutator_limit}
+use Rattle.heapdbg_options.specs.CommandLine.{dumps_with, explore_with, has_secret, heapdbg_line, id_size_in, idle_in, is_task, keep_in, number_in, page_with, port_in, port_limit, questions_in, regions_in, rolls_in, sessions_in, settings_of, stays_in, option_value, time_limit, wide_in, workers_in}
 use Rattle.heapdbg_options.specs.declared.refusal.Mistake.{Mistake}
-use Rattle.heapdbg_options.specs.declared.refusal.Mistake.TheVariants.{Command, Regions, Mutators, Keep, Time, Ids, Port, Sessions, Workers, Questions, Roll, Dumps, Page, To, Place, Source, OwnPage}
+use Rattle.heapdbg_options.specs.declared.refusal.Mistake.TheVariants.{Command, Wide, Regions, WideRegions, Mutators, Keep, WideKeep, Time, Ids, Port, Sessions, Workers, Questions, Roll, Dumps, Page, Idle, Stay, To, Place, Source, OwnPage, Secret}
 use Rattle.heapdbg_options.specs.declared.settings.LineFault.{LineFault}
 use Rattle.heapdbg_options.specs.declared.settings.LineFault.TheVariants.{Bad, CommandText, Memory, OptionText}
 use Rattle.heapdbg_options.specs.declared.settings.Task.{Task}
@@ -24,18 +23,24 @@ abbrev pub IsTargetMistake : Mistake → Option Text → Option Text → Type 0
 IsTargetMistake m path port =
     ((m ≡ Place) × (is_some path ≡ is_some port)) ⊎ ((m ≡ To) × IsOutside 1 port_limit port)
 
--- a file of lines, a page and a port have this mistake, of which the port may only be given alone
-abbrev pub IsExploreMistake : Mistake → Option Text → Option Text → Option Text → Type 0
-IsExploreMistake m from page port =
+-- a file of lines, a page, a port, and a secret or none have this mistake: the port may only be given without the two before it, and
+-- a secret only with the port
+abbrev pub IsExploreMistake : Mistake → Option Text → Option Text → Option Text → Bool → Type 0
+IsExploreMistake m from page port secret =
     ((m ≡ Source) × (is_some from || is_some page ≡ true) × (is_some port ≡ true))
-    ⊎ (((m ≡ Port) × IsOutside 1 port_limit port) ⊎ ((m ≡ OwnPage) × IsOutside 1 port_limit page))
+    ⊎ (((m ≡ Port) × IsOutside 1 port_limit port)
+    ⊎ (((m ≡ OwnPage) × IsOutside 1 port_limit page)
+    ⊎ ((m ≡ Secret) × (secret ≡ true) × (is_some port ≡ false))))
 
 -- the options of a command have this mistake
 abbrev pub IsMistakeIn : Mistake → List Row → Type 0
 IsMistakeIn Command rows = ⊥
-IsMistakeIn Regions rows = option_value (codes "regions") 16 1 region_limit rows ≡ None
+IsMistakeIn Wide rows = wide_in rows ≡ None
+IsMistakeIn Regions rows = (wide_in rows ≡ Some false) × (regions_in false rows ≡ None)
+IsMistakeIn WideRegions rows = (wide_in rows ≡ Some true) × (regions_in true rows ≡ None)
 IsMistakeIn Mutators rows = option_value (codes "mutators") 2 1 mutator_limit rows ≡ None
-IsMistakeIn Keep rows = option_value (codes "keep") keep_default 1 keep_limit rows ≡ None
+IsMistakeIn Keep rows = (wide_in rows ≡ Some false) × (keep_in false rows ≡ None)
+IsMistakeIn WideKeep rows = (wide_in rows ≡ Some true) × (keep_in true rows ≡ None)
 IsMistakeIn Time rows = option_value (codes "time") 0 0 time_limit rows ≡ None
 IsMistakeIn Ids rows = id_size_in rows ≡ None
 IsMistakeIn Port rows = port_in rows ≡ None
@@ -52,11 +57,24 @@ IsMistakeIn Page rows =
     × (page_with port dumps (first_of (codes "page") rows) ≡ None)
 IsMistakeIn Source rows =
     IsExploreMistake Source (first_of (codes "from") rows) (first_of (codes "page") rows)
-    (first_of (codes "port") rows)
+    (first_of (codes "port") rows) (has_secret rows)
+IsMistakeIn Secret rows =
+    IsExploreMistake Secret (first_of (codes "from") rows) (first_of (codes "page") rows)
+    (first_of (codes "port") rows) (has_secret rows)
 IsMistakeIn OwnPage rows = IsOutside 1 port_limit (first_of (codes "page") rows)
+IsMistakeIn Idle rows = idle_in rows ≡ None
+IsMistakeIn Stay rows = stays_in rows ≡ None
 IsMistakeIn To rows = IsTargetMistake To (first_of (codes "out") rows) (first_of (codes "to") rows)
 IsMistakeIn Place rows =
     IsTargetMistake Place (first_of (codes "out") rows) (first_of (codes "to") rows)
+
+-- the mistake of regions that are out of the range of a heap that is wide, or isn't
+abbrev pub regions_mistake : Bool → Mistake
+regions_mistake wide = if wide then WideRegions else Regions
+
+-- the mistake of steps to keep that are out of the range of a heap that is wide, or isn't
+abbrev pub keep_mistake : Bool → Mistake
+keep_mistake wide = if wide then WideKeep else Keep
 
 -- what is read, or why there is none: a mistake
 abbrev pub IsValueOrMistake : {A : Type 0} → Option A → (Mistake → Type 0) → Result A Mistake
@@ -76,10 +94,11 @@ IsChoiceOrMistake choose IsMade one other result =
     IsValueOrMistake (choose one other) (λ m. IsMade m one other) result
 
 -- the task of `explore` to which these are given, or the mistake in them
-abbrev pub IsExploreOrMistake : Option Text → Option Text → Option Text → Result Task Mistake
-    → Type 0
-IsExploreOrMistake from page port result =
-    IsValueOrMistake (explore_with from page port) (λ m. IsExploreMistake m from page port) result
+abbrev pub IsExploreOrMistake : Option Text → Option Text → Option Text → Bool
+    → Result Task Mistake → Type 0
+IsExploreOrMistake from page port secret result =
+    IsValueOrMistake (explore_with from page port secret)
+    (λ m. IsExploreMistake m from page port secret) result
 
 -- no command of the program is there
 abbrev pub IsNoTask : Option (Text × List Row) → Type 0
@@ -94,9 +113,12 @@ IsMistake m found =
 -- the text that says what has to be given instead
 abbrev pub mistake_of : Mistake → Text
 mistake_of Command = codes "heapdbg takes one of run, explore, draw, save, serve, ask and fetch"
+mistake_of Wide = codes "--wide takes 0 or 1"
 mistake_of Regions = codes "--regions takes 1 to 256"
+mistake_of WideRegions = codes "--regions takes 1 to 65536"
 mistake_of Mutators = codes "--mutators takes 1 to 16"
 mistake_of Keep = codes "--keep takes 1 to 65536"
+mistake_of WideKeep = codes "--keep takes 1 to 16777216"
 mistake_of Time = codes "--time takes 0 to 18446744073709551615"
 mistake_of Ids = codes "--ids takes 4 or 8"
 mistake_of Port = codes "--port takes 1 to 65535"
@@ -106,10 +128,13 @@ mistake_of Questions = codes "--questions takes 0 or 1"
 mistake_of Roll = codes "--roll takes 0 or 1"
 mistake_of Dumps = codes "--dumps takes 1 to 65535, and not the number of --port"
 mistake_of Page = codes "--page takes 1 to 65535, and not the number of --port or --dumps"
+mistake_of Idle = codes "--idle takes 1 to 86400"
+mistake_of Stay = codes "--stay takes 0 or 1"
 mistake_of To = codes "--to takes 1 to 65535"
 mistake_of Place = codes "save takes one of --out and --to"
 mistake_of Source = codes "explore takes --port without --from and --page"
 mistake_of OwnPage = codes "--page takes 1 to 65535"
+mistake_of Secret = codes "explore takes --secret with --port alone"
 
 -- the whole text of a mistake
 abbrev pub text_of_mistake : Mistake → Text

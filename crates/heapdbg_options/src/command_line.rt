@@ -7,9 +7,9 @@ ghost use Rattle.clap.specs.Words.{FailsBy, app_of, fault_of, found_of, kind_of,
 ghost use Rattle.clap.specs.declared.builder.Command.TheViews.{out-Command};
 ghost use Rattle.heapdbg_options.specs.Parsers.{IsParserOf};
 ghost use Rattle.heapdbg_options.specs.CommandLine.{AreSettingsWithin, HasDefaults, heapdbg_line, named_line, number_in};
-ghost use Rattle.heapdbg_options.specs.CommandLine.{settings_in, settings_of, settings_under, texts, option_value};
-ghost use Rattle.heapdbg_options.specs.CommandLine.{id_size_in, id_size_of, flag_in, path_of, task_in};
-ghost use Rattle.heapdbg_options.specs.Refusals.{IsMistake, IsMistakeIn, IsRefusalOf, IsSaidOf, IsValueOrMistake, is_help};
+ghost use Rattle.heapdbg_options.specs.CommandLine.{settings_in, settings_of, settings_over, settings_under, texts, option_value};
+ghost use Rattle.heapdbg_options.specs.CommandLine.{id_size_in, id_size_of, flag_in, most_kept, most_regions, path_of, task_in, wide_in};
+ghost use Rattle.heapdbg_options.specs.Refusals.{IsMistake, IsMistakeIn, IsRefusalOf, keep_mistake, regions_mistake, IsSaidOf, IsValueOrMistake, is_help};
 
 use crate::line_words::{is_help, is_version};
 use crate::option_rows::{CommandRow, with_commands};
@@ -22,7 +22,7 @@ use crate::tip::with_tip;
 use clap::error::ErrorKind;
 use clap::{ArgMatches, Command, Error};
 use heap_class::IdSize;
-use heap_world::{KEEP_LIMIT, MUTATOR_LIMIT, REGION_LIMIT};
+use heap_world::{KEEP_LIMIT, MUTATOR_LIMIT, NARROW_KEEP, NARROW_REGIONS, REGION_LIMIT};
 use std::alloc::{AllocError, Global};
 
 /// Returns the settings that the words ask for, the first of which is the program's name. Fails with Bad if they are no command
@@ -139,14 +139,26 @@ fn settings_from(task: Task, options: &ArgMatches<'_>) -> Result<Settings, Mista
     ensures { IsValueOrMistake (settings_in task (rows_of (found_of options.now)))
         (λ m. IsMistakeIn m (rows_of (found_of options.now))) result }
 {
-    let Some(regions) = option_value(options, "regions", 16, 1, REGION_LIMIT) else {
-        return Err(Mistake::Regions);
+    match flag_from(options, "wide") {
+        Some(wide) => settings_over(task, options, wide),
+        None => Err(Mistake::Wide),
+    }
+}
+
+// Returns the settings of a task's options over a heap that is wide, or isn't, or the option whose value is out of its range.
+fn settings_over(task: Task, options: &ArgMatches<'_>, wide: bool) -> Result<Settings, Mistake>
+    requires { wide_in (rows_of (found_of options.now)) ≡ Some wide }
+    ensures { IsValueOrMistake (settings_over task (rows_of (found_of options.now)) wide)
+        (λ m. IsMistakeIn m (rows_of (found_of options.now))) result }
+{
+    let Some(regions) = option_value(options, "regions", 16, 1, most_regions(wide)) else {
+        return Err(regions_mistake(wide));
     };
     let Some(mutators) = option_value(options, "mutators", 2, 1, MUTATOR_LIMIT) else {
         return Err(Mistake::Mutators);
     };
-    let Some(keep) = option_value(options, "keep", 1024, 1, KEEP_LIMIT) else {
-        return Err(Mistake::Keep);
+    let Some(keep) = option_value(options, "keep", 1024, 1, most_kept(wide)) else {
+        return Err(keep_mistake(wide));
     };
     let Some(time) = option_value(options, "time", 0, 0, u64::MAX) else {
         return Err(Mistake::Time);
@@ -162,6 +174,7 @@ fn settings_from(task: Task, options: &ArgMatches<'_>) -> Result<Settings, Mista
     };
     Ok(Settings {
         task,
+        wide,
         regions,
         mutators,
         keep,
@@ -170,6 +183,42 @@ fn settings_from(task: Task, options: &ArgMatches<'_>) -> Result<Settings, Mista
         questions,
         rolls,
     })
+}
+
+// Returns the largest number of regions of a heap that is wide, or isn't.
+fn most_regions(wide: bool) -> u64
+    ensures { result ≡ most_regions wide }
+{
+    if wide { REGION_LIMIT } else { NARROW_REGIONS }
+}
+
+// Returns the largest number of steps that can be undone in a heap that is wide, or isn't.
+fn most_kept(wide: bool) -> u64
+    ensures { result ≡ most_kept wide }
+{
+    if wide { KEEP_LIMIT } else { NARROW_KEEP }
+}
+
+// Returns the mistake of regions that are out of the range of a heap that is wide, or isn't.
+fn regions_mistake(wide: bool) -> Mistake
+    ensures { result ≡ regions_mistake wide }
+{
+    if wide {
+        Mistake::WideRegions
+    } else {
+        Mistake::Regions
+    }
+}
+
+// Returns the mistake of steps to keep that are out of the range of a heap that is wide, or isn't.
+fn keep_mistake(wide: bool) -> Mistake
+    ensures { result ≡ keep_mistake wide }
+{
+    if wide {
+        Mistake::WideKeep
+    } else {
+        Mistake::Keep
+    }
 }
 
 // Returns the size of identifiers that the options give, or None if it is out of its range.
@@ -181,7 +230,7 @@ fn id_size_from(options: &ArgMatches<'_>) -> Option<IdSize>
 }
 
 // Returns whether an option is given as 1, or None if it is out of its range.
-fn flag_from(options: &ArgMatches<'_>, name: &str) -> Option<bool>
+pub(crate) fn flag_from(options: &ArgMatches<'_>, name: &str) -> Option<bool>
     ensures { result ≡ flag_in name.now (rows_of (found_of options.now)) }
 {
     let number = option_value(options, name, 0, 0, 1)?;

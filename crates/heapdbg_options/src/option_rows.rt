@@ -29,7 +29,7 @@ pub(crate) struct CommandRow {
 pub(crate) const REGIONS: OptionRow = OptionRow {
     name: "regions",
     value: "N",
-    help: "Regions of the heap, 1 to 256 [default: 16]",
+    help: "Regions of the heap, 1 to 256, or to 65536 with --wide 1 [default: 16]",
     is_required: false,
 };
 
@@ -45,7 +45,15 @@ pub(crate) const MUTATORS: OptionRow = OptionRow {
 pub(crate) const KEEP: OptionRow = OptionRow {
     name: "keep",
     value: "N",
-    help: "Steps that can be undone, 1 to 65536 [default: 1024]",
+    help: "Steps that can be undone, 1 to 65536, or to 16777216 with --wide 1 [default: 1024]",
+    is_required: false,
+};
+
+// The option `--wide N`.
+pub(crate) const WIDE: OptionRow = OptionRow {
+    name: "wide",
+    value: "N",
+    help: "Whether the heap has wider limits, of classes, names and pins too, 0 or 1 [default: 0]",
     is_required: false,
 };
 
@@ -78,6 +86,14 @@ pub(crate) const PAGE: OptionRow = OptionRow {
     name: "page",
     value: "N",
     help: "Port on 127.0.0.1 of a page that shows the heap to a browser, 1 to 65535 [default: none]",
+    is_required: false,
+};
+
+// The option `--secret PATH`.
+pub(crate) const SECRET: OptionRow = OptionRow {
+    name: "secret",
+    value: "PATH",
+    help: "File with the word that each client has to send first [default: none]",
     is_required: false,
 };
 

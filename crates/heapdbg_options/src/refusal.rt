@@ -17,12 +17,18 @@ const LOGIC: &str = "dac8208d650f15bf";
 pub enum Mistake {
     /// There is no command.
     Command,
-    /// `--regions` is out of its range.
+    /// `--wide` is out of its range.
+    Wide,
+    /// `--regions` is out of its range, and the heap isn't wide.
     Regions,
+    /// `--regions` is out of its range, and the heap is wide.
+    WideRegions,
     /// `--mutators` is out of its range.
     Mutators,
-    /// `--keep` is out of its range.
+    /// `--keep` is out of its range, and the heap isn't wide.
     Keep,
+    /// `--keep` is out of its range, and the heap is wide.
+    WideKeep,
     /// `--time` is out of its range.
     Time,
     /// `--ids` is neither 4 nor 8.
@@ -41,6 +47,10 @@ pub enum Mistake {
     Dumps,
     /// `--page` is out of its range, or another port of the heap.
     Page,
+    /// `--idle` is out of its range.
+    Idle,
+    /// `--stay` is out of its range.
+    Stay,
     /// `--to` is out of its range.
     To,
     /// Both of `--out` and `--to` are given, or neither.
@@ -49,6 +59,8 @@ pub enum Mistake {
     Source,
     /// `--page` of `explore` is out of its range.
     OwnPage,
+    /// `--secret` of `explore` is given without `--port`.
+    Secret,
 }
 
 impl Mistake {
@@ -59,9 +71,12 @@ impl Mistake {
         match self {
             Mistake::Command =>
                 "heapdbg takes one of run, explore, draw, save, serve, ask and fetch",
+            Mistake::Wide => "--wide takes 0 or 1",
             Mistake::Regions => "--regions takes 1 to 256",
+            Mistake::WideRegions => "--regions takes 1 to 65536",
             Mistake::Mutators => "--mutators takes 1 to 16",
             Mistake::Keep => "--keep takes 1 to 65536",
+            Mistake::WideKeep => "--keep takes 1 to 16777216",
             Mistake::Time => "--time takes 0 to 18446744073709551615",
             Mistake::Ids => "--ids takes 4 or 8",
             Mistake::Port => "--port takes 1 to 65535",
@@ -71,10 +86,13 @@ impl Mistake {
             Mistake::Roll => "--roll takes 0 or 1",
             Mistake::Dumps => "--dumps takes 1 to 65535, and not the number of --port",
             Mistake::Page => "--page takes 1 to 65535, and not the number of --port or --dumps",
+            Mistake::Idle => "--idle takes 1 to 86400",
+            Mistake::Stay => "--stay takes 0 or 1",
             Mistake::To => "--to takes 1 to 65535",
             Mistake::Place => "save takes one of --out and --to",
             Mistake::Source => "explore takes --port without --from and --page",
             Mistake::OwnPage => "--page takes 1 to 65535",
+            Mistake::Secret => "explore takes --secret with --port alone",
         }
     }
 

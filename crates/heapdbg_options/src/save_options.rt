@@ -4,7 +4,9 @@ ghost use Rattle.clap.specs.Words.{found_of, rows_of};
 ghost use Rattle.heapdbg_options.specs.CommandLine.{save_in, target_in};
 ghost use Rattle.heapdbg_options.specs.Refusals.{IsChoiceOrMistake, IsTargetMistake, IsTaskOrMistake};
 
-use crate::option_rows::{CommandRow, IDS, KEEP, MUTATORS, OptionRow, QUESTIONS, REGIONS, TIME};
+use crate::option_rows::{
+    CommandRow, IDS, KEEP, MUTATORS, OptionRow, QUESTIONS, REGIONS, TIME, WIDE,
+};
 use crate::refusal::Mistake;
 use crate::settings::{Target, Task};
 use crate::socket_options::port_of;
@@ -19,6 +21,7 @@ pub(crate) const SAVE: CommandRow = CommandRow {
         REGIONS,
         MUTATORS,
         KEEP,
+        WIDE,
         TIME,
         IDS,
         OptionRow {

@@ -7,11 +7,11 @@ ghost use Rattle.heapdbg_options.specs.declared.refusal.Mistake.TheVariants.{Own
 ghost use Rattle.heapdbg_options.specs.declared.settings.Task.TheVariants.{Explore};
 
 use crate::option_rows::{
-    CommandRow, IDS, KEEP, MUTATORS, OptionRow, PAGE, QUESTIONS, REGIONS, TIME,
+    CommandRow, IDS, KEEP, MUTATORS, OptionRow, PAGE, QUESTIONS, REGIONS, TIME, WIDE,
 };
 use crate::refusal::Mistake;
 use crate::settings::Task;
-use crate::socket_options::port_of;
+use crate::socket_options::{has_secret, port_of};
 use clap::ArgMatches;
 
 // The command `run`.
@@ -19,7 +19,7 @@ pub(crate) const RUN: CommandRow = CommandRow {
     name: "run",
     about: "Reads commands from standard input and writes replies to standard output",
     usage: None,
-    options: &[REGIONS, MUTATORS, KEEP, TIME, IDS, QUESTIONS],
+    options: &[REGIONS, MUTATORS, KEEP, WIDE, TIME, IDS, QUESTIONS],
 };
 
 // The command `explore`.
@@ -31,6 +31,7 @@ pub(crate) const EXPLORE: CommandRow = CommandRow {
         REGIONS,
         MUTATORS,
         KEEP,
+        WIDE,
         TIME,
         IDS,
         OptionRow {
@@ -46,6 +47,12 @@ pub(crate) const EXPLORE: CommandRow = CommandRow {
             is_required: false,
         },
         PAGE,
+        OptionRow {
+            name: "secret",
+            value: "PATH",
+            help: "File with the word that the heap at --port has to be sent first; only with --port",
+            is_required: false,
+        },
     ],
 };
 
@@ -58,6 +65,7 @@ pub(crate) const DRAW: CommandRow = CommandRow {
         REGIONS,
         MUTATORS,
         KEEP,
+        WIDE,
         TIME,
         IDS,
         OptionRow {
@@ -77,25 +85,34 @@ pub(crate) fn explore_task(options: &ArgMatches<'_>) -> Result<Task, Mistake>
     let from = options.get_str("from");
     let page = options.get_str("page");
     let port = options.get_str("port");
-    match choose_task(from, page, port) {
+    let secret = has_secret(options);
+    match choose_task(from, page, port, secret) {
         Ok(task) => Ok(task),
         Err(mistake) => Err(mistake),
     }
 }
 
-// Returns the task of `explore` to which this file, this page or this port is given.
-fn choose_task(from: Option<&str>, page: Option<&str>, port: Option<&str>) -> Result<Task, Mistake>
+// Returns the task of `explore` to which this file, this page or this port is given, and a secret or none.
+fn choose_task(
+    from: Option<&str>,
+    page: Option<&str>,
+    port: Option<&str>,
+    secret: bool,
+) -> Result<Task, Mistake>
     ensures { IsExploreOrMistake (option_map (λ s. s.now) from.entry)
-        (option_map (λ s. s.now) page.entry) (option_map (λ s. s.now) port.entry) result }
+        (option_map (λ s. s.now) page.entry) (option_map (λ s. s.now) port.entry) secret result }
 {
     let Some(text) = port else {
+        if secret {
+            return Err(Mistake::Secret);
+        }
         return own_task(from.is_some(), page);
     };
     if from.is_some() || page.is_some() {
         return Err(Mistake::Source);
     }
     match port_of(text) {
-        Some(port) => Ok(Task::Ask { port }),
+        Some(port) => Ok(Task::Ask { port, secret }),
         None => Err(Mistake::Port),
     }
 }

@@ -1,6 +1,7 @@
 //! The settings that a command line asks for.
-ghost use Rattle.std.specs.Prelude.{◌≡◌};
-ghost use Rattle.heapdbg_options.specs.CommandLine.{IsHeapWithin};
+ghost use Rattle.std.specs.Prelude.{◌≡◌, ◌↔◌, IfSome, IsSome};
+ghost use Rattle.heap_class.specs.declared.IdSize.TheVariants.{Eight};
+ghost use Rattle.heapdbg_options.specs.CommandLine.{IsHeapWithin, limits_of};
 
 use heap_class::IdSize;
 use heap_world::Config;
@@ -14,6 +15,27 @@ pub enum Target {
     Out,
     /// To a port of this computer, 1 to 65,535.
     To(u16),
+}
+
+/// How a heap is served.
+#[derive(Clone, Copy)]
+pub struct Service {
+    /// The port to listen on, 1 to 65,535.
+    pub port: u16,
+    /// The number of sessions, 1 to 1,000: of all, or at a time where the heap stays.
+    pub sessions: u64,
+    /// Whether two threads tend the collector, 0 or 1.
+    pub workers: u64,
+    /// The port to send dumps from, 1 to 65,535, or None if there is none.
+    pub dumps: Option<u16>,
+    /// The port of the page, 1 to 65,535, or None if there is none.
+    pub page: Option<u16>,
+    /// After how many seconds without input a session is ended, 1 to 86,400, or 0 if none is.
+    pub idle: u64,
+    /// Whether the heap is served until it is ended from outside, and a seat serves one session after another.
+    pub stays: bool,
+    /// Whether each client has to begin with the word in the file that the command line names.
+    pub secret: bool,
 }
 
 /// A task of the program.
@@ -33,27 +55,20 @@ pub enum Task {
     /// Runs one session as `Run` does, and dumps the state that it leaves.
     Save(Target),
     /// Serves sessions over one shared heap to clients of this computer.
-    Serve {
-        /// The port to listen on, 1 to 65,535.
-        port: u16,
-        /// The number of sessions, 1 to 1,000.
-        sessions: u64,
-        /// Whether two threads tend the collector, 0 or 1.
-        workers: u64,
-        /// The port to send dumps from, 1 to 65,535, or None if there is none.
-        dumps: Option<u16>,
-        /// The port of the page, 1 to 65,535, or None if there is none.
-        page: Option<u16>,
-    },
+    Serve(Service),
     /// Asks a session that is served: sends standard input, and copies what comes back to standard output.
     Ask {
         /// The port to connect to, 1 to 65,535.
         port: u16,
+        /// Whether the word in the file that the command line names is sent first.
+        secret: bool,
     },
     /// Fetches a dump of a heap that is served, into the file that the command line names.
     Fetch {
         /// The port to connect to, 1 to 65,535.
         port: u16,
+        /// Whether the word in the file that the command line names is sent first.
+        secret: bool,
     },
 }
 
@@ -62,11 +77,13 @@ pub enum Task {
 pub struct Settings {
     /// The task.
     pub task: Task,
-    /// Regions of the heap, 1 to 256.
+    /// Whether the heap is wide.
+    pub wide: bool,
+    /// Regions of the heap, 1 to 256, or 1 to 65,536 if it is wide.
     pub regions: u64,
     /// Mutators of the heap, 1 to 16.
     pub mutators: u64,
-    /// Steps that can be undone, 1 to 65,536.
+    /// Steps that can be undone, 1 to 65,536, or 1 to 2^24 if the heap is wide.
     pub keep: u64,
     /// The time in the header of a dump, in milliseconds since 1970.
     pub time: u64,
@@ -104,10 +121,31 @@ pub fn config(settings: &Settings) -> Config
           mutators = settings.now.mutators;
           keep = settings.now.keep;
           ids = settings.now.ids;
+          limits = limits_of settings.now;
         } }
 {
-    match Config::new(settings.regions, settings.mutators, settings.keep) {
+    match config_of_numbers(settings) {
         Some(config) => config.with_ids(settings.ids),
         None => unreachable!(),
+    }
+}
+
+// Returns the configuration that the settings' numbers give, with ids of 8 bytes, or None if a number is outside its limits.
+fn config_of_numbers(settings: &Settings) -> Option<Config>
+    ensures given { IfSome result
+        (λ c. c
+        ≡ record {
+          regions = settings.now.regions;
+          mutators = settings.now.mutators;
+          keep = settings.now.keep;
+          ids = Eight;
+          limits = limits_of settings.now;
+        }) }
+    ensures within { IsSome result ↔ IsHeapWithin settings.now }
+{
+    if settings.wide {
+        Config::wide(settings.regions, settings.mutators, settings.keep)
+    } else {
+        Config::new(settings.regions, settings.mutators, settings.keep)
     }
 }

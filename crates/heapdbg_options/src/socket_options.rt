@@ -1,15 +1,15 @@
 //! The command lines of the tasks over sockets.
 ghost use Rattle.std.specs.Prelude.{◌≡◌, codes, option_and_then};
 ghost use Rattle.clap.specs.Words.{first_of, found_of, rows_of};
-ghost use Rattle.heapdbg_options.specs.CommandLine.{ask_in, dumps_with, fetch_in, number_in, other_port, page_with, port_in, port_limit, serve_in, third_port};
+ghost use Rattle.heapdbg_options.specs.CommandLine.{ask_in, dumps_with, fetch_in, has_secret, number_in, other_port, page_with, port_in, port_limit, serve_in, third_port};
 ghost use Rattle.heapdbg_options.specs.Refusals.{IsTaskOrMistake};
 
-use crate::command_line::{number, option_value};
+use crate::command_line::{flag_from, number, option_value};
 use crate::option_rows::{
-    CommandRow, IDS, KEEP, MUTATORS, OptionRow, PAGE, QUESTIONS, REGIONS, TIME,
+    CommandRow, IDS, KEEP, MUTATORS, OptionRow, PAGE, QUESTIONS, REGIONS, SECRET, TIME, WIDE,
 };
 use crate::refusal::Mistake;
-use crate::settings::Task;
+use crate::settings::{Service, Task};
 use clap::ArgMatches;
 
 // The highest port.
@@ -20,6 +20,9 @@ const SESSION_LIMIT: u64 = 1000;
 
 // The largest number of markers, and of sweepers.
 const WORKER_LIMIT: u64 = 1;
+
+// The largest number of seconds after which a session is ended: a day.
+const IDLE_LIMIT: u64 = 86400;
 
 // The option `--port N`, which has to be given.
 const PORT: OptionRow = OptionRow {
@@ -38,13 +41,14 @@ pub(crate) const SERVE: CommandRow = CommandRow {
         REGIONS,
         MUTATORS,
         KEEP,
+        WIDE,
         TIME,
         IDS,
         PORT,
         OptionRow {
             name: "sessions",
             value: "N",
-            help: "Sessions over the one heap, 1 to 1000 [default: 1]",
+            help: "Sessions over the one heap, in all or with --stay 1 at a time, 1 to 1000 [default: 1]",
             is_required: false,
         },
         OptionRow {
@@ -67,6 +71,19 @@ pub(crate) const SERVE: CommandRow = CommandRow {
             help: "Whether the heap drops old acts in place of refusing new ones, 0 or 1 [default: 0]",
             is_required: false,
         },
+        OptionRow {
+            name: "stay",
+            value: "N",
+            help: "Whether the heap is served until it is ended from outside, and drops old acts, 0 or 1 [default: 0]",
+            is_required: false,
+        },
+        OptionRow {
+            name: "idle",
+            value: "SECONDS",
+            help: "Seconds without input after which a session is ended, 1 to 86400 [default: none]",
+            is_required: false,
+        },
+        SECRET,
     ],
 };
 
@@ -75,7 +92,7 @@ pub(crate) const ASK: CommandRow = CommandRow {
     name: "ask",
     about: "Sends standard input to a session that is served, and copies what comes back to standard output",
     usage: None,
-    options: &[PORT],
+    options: &[PORT, SECRET],
 };
 
 // The command `fetch`.
@@ -91,6 +108,7 @@ pub(crate) const FETCH: CommandRow = CommandRow {
             help: "File that the dump goes to",
             is_required: true,
         },
+        SECRET,
     ],
 };
 
@@ -113,13 +131,29 @@ pub(crate) fn serve_task(options: &ArgMatches<'_>) -> Result<Task, Mistake>
     let Some(page) = page(options, port, dumps) else {
         return Err(Mistake::Page);
     };
-    Ok(Task::Serve {
+    let Some(idle) = option_value(options, "idle", 0, 1, IDLE_LIMIT) else {
+        return Err(Mistake::Idle);
+    };
+    let Some(stays) = flag_from(options, "stay") else {
+        return Err(Mistake::Stay);
+    };
+    Ok(Task::Serve(Service {
         port,
         sessions,
         workers,
         dumps,
         page,
-    })
+        idle,
+        stays,
+        secret: has_secret(options),
+    }))
+}
+
+// Tells whether the options give a secret.
+pub(crate) fn has_secret(options: &ArgMatches<'_>) -> bool
+    ensures { result ≡ has_secret (rows_of (found_of options.now)) }
+{
+    options.get_str("secret").is_some()
 }
 
 // Returns the port for dumps that the options give beside that of the sessions.
@@ -192,7 +226,10 @@ pub(crate) fn fetch_task(options: &ArgMatches<'_>) -> Result<Task, Mistake>
     ensures { IsTaskOrMistake fetch_in (rows_of (found_of options.now)) result }
 {
     match port(options) {
-        Some(port) => Ok(Task::Fetch { port }),
+        Some(port) => {
+            let secret = has_secret(options);
+            Ok(Task::Fetch { port, secret })
+        }
         None => Err(Mistake::Port),
     }
 }
@@ -202,7 +239,10 @@ pub(crate) fn ask_task(options: &ArgMatches<'_>) -> Result<Task, Mistake>
     ensures { IsTaskOrMistake ask_in (rows_of (found_of options.now)) result }
 {
     match port(options) {
-        Some(port) => Ok(Task::Ask { port }),
+        Some(port) => {
+            let secret = has_secret(options);
+            Ok(Task::Ask { port, secret })
+        }
         None => Err(Mistake::Port),
     }
 }

@@ -74,7 +74,7 @@ segments_fit ids image d =
 -- ---- each part
 
 module _ (ids : IdSize) (image : Image) (d : IsDumpable image) where
-  few_names : length (name_table image.classes) ≤ 16640
+  few_names : length (name_table image.classes) ≤ 266240
   few_names = omega (arith, table_names_few image.classes d.classes, d.few_classes)
 
   name_fits : (name : List ℕ) → FitsId ids (name_id image.classes name)

@@ -67,7 +67,7 @@ dumpable_from classes registers os t c r n h = record {
   small = All-map (λ (o : DumpedObject). length o.words ≤ array_limit) dumped_object os (λ k d l. (h k d l).1);
 }
 
-pub shown_from : (classes : List Class) (registers : List ℕ) (os : List ListedObject) → IsDumpable (image_of_list classes registers os) → (length registers ≤ 128) × (length os ≤ 65536) × All (IsListable classes) os
+pub shown_from : (classes : List Class) (registers : List ℕ) (os : List ListedObject) → IsDumpable (image_of_list classes registers os) → (length registers ≤ 128) × (length os ≤ 16777216) × All (IsListable classes) os
 shown_from classes registers os h = (
   h.few_registers,
   omega (arith, h.few_objects, length-map os dumped_object),

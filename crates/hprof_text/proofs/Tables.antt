@@ -9,7 +9,7 @@ use Rattle.std.proofs.lemmas.List.{length-map}
 use Rattle.std.proofs.lemmas.List.Elements.{All-nil, All-cons, All-head, All-tail, All-append, All-filter}
 use Rattle.std.proofs.lemmas.List.Sums.{length-filter, count_by-le-length}
 use Rattle.heap_class.specs.declared.Field.{Field}
-use Rattle.heap_class.specs.Limits.{name_limit, slot_limit}
+use Rattle.heap_class.specs.Limits.{name_limit, slot_limit, widest_classes}
 use Rattle.heap_class.specs.Classes.{Class, first_uses, name_table, names_in, is_name, is_instance_class, class_refusal, IsClassTable}
 use Rattle.heap_class.proofs.Refusals.{none_holds}
 use Rattle.heap_class.proofs.Slots.{instance_within}
@@ -20,11 +20,11 @@ use Rattle.heap_class.proofs.Definitions.{super_stands, slots_fit}
 abbrev pub IsShort : List ℕ → Type 0
 IsShort n = length n ≤ name_limit
 
-names_short : (ns : List (List ℕ)) → list_all is_name ns ≡ true → All IsShort ns
+names_short : (ns : List (List ℕ)) → list_all (is_name widest_classes) ns ≡ true → All IsShort ns
 unfolding is_name
 names_short [] h = All-nil IsShort
 names_short (n ∷ ns) h =
-    let p = and_parts (is_name n) (list_all is_name ns) h in
+    let p = and_parts (is_name widest_classes n) (list_all (is_name widest_classes) ns) h in
     let q = and_parts (nat_le 1 (length n) && nat_le (length n) name_limit) _ p.0 in
     let r = and_parts (nat_le 1 (length n)) (nat_le (length n) name_limit) q.0 in
     All-cons IsShort n ns (leb-true (length n) name_limit r.1) (names_short ns p.1)
@@ -38,12 +38,12 @@ pub record IsSmall (n : ℕ) (c : Class) : Type 0 where
 super_within : (before : List Class) (sup : Option ℕ) → option_map_or (is_instance_class before) sup true ≡ true → (s : ℕ) → sup ≡ Some s → s < length before
 super_within before sup h s e = instance_within before s (subst (λ o. option_map_or (is_instance_class before) o true ≡ true) e h)
 
-class_small : (before : List Class) (c : Class) (n : ℕ) → length before ≤ n → class_refusal before c ≡ None → IsSmall n c
+class_small : (before : List Class) (c : Class) (n : ℕ) → length before ≤ n → class_refusal widest_classes before c ≡ None → IsSmall n c
 unfolding class_refusal
 class_small before c n l h =
     let f = slots_fit before c _ h refl in
     record {
-      names = names_short (names_in c) (not-false (list_all is_name (names_in c)) (none_holds _ h).1.1.0);
+      names = names_short (names_in c) (not-false (list_all (is_name widest_classes) (names_in c)) (none_holds _ h).1.1.0);
       fields = omega (arith, f);
       sup = λ s e. let w : s < length before = super_within before c.sup (super_stands before c h) s e in omega (arith, w, l);
     }

@@ -7,6 +7,10 @@ use Rattle.heap_class.specs.Limits.{array_limit}
 use Rattle.hprof_text.specs.declared.list_view.ListedObject.{ListedObject}
 use Rattle.hprof_text.specs.Image.{Image, DumpedObject, IsKnown}
 
+-- the largest number of objects of a list, each of which has a cell of region 0
+abbrev pub listed_limit : ℕ
+listed_limit = 65536
+
 -- the size of identifiers, and the image that is shown
 pub record Listed : Type 0 where
   pub ids : IdSize

@@ -25,7 +25,7 @@ IsKnown classes (Prim kind) n = Unit {0}
 
 -- the largest number of objects of a dump
 abbrev pub object_limit : ℕ
-object_limit = 65536
+object_limit = 16777216
 
 -- the largest number of registers of a dump
 abbrev pub register_limit : ℕ

@@ -19,10 +19,14 @@ IsCut limit subs = AreSegments limit subs (segments_of limit subs)
 abbrev pub NumbersFit : IdSize → Image → ℕ → Type 0
 NumbersFit ids image time = IsDumpable image → time < 2 ^ 64 → HoldsWhole ids image time
 
--- the largest number of pieces of a dump: one for each of 65,536 objects, 256 classes, their roots and 128 registers, the
+-- the largest number of pieces of a dump: one for each of 2^24 objects, 4,096 classes, their roots and 128 registers, the
 -- opening records and the end
 abbrev pub piece_limit : ℕ
-piece_limit = 66178
+piece_limit = 16785538
+
+-- the largest number of bytes of a piece
+abbrev pub piece_size_limit : ℕ
+piece_size_limit = 2 ^ 27
 
 -- a dump has few pieces
 abbrev pub PiecesFew : IdSize → Image → ℕ → Type 0

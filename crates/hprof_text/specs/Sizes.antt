@@ -17,13 +17,17 @@ class_size_limit = 647
 abbrev pub sub_record_limit : ℕ
 sub_record_limit = 8217
 
--- the largest size of the UTF8 records of a dump: 16,640 names of 64 bytes
+-- the largest size of the UTF8 record of a name: one of 255 bytes, with an id of 8 bytes
+abbrev pub utf8_size_limit : ℕ
+utf8_size_limit = 272
+
+-- the largest size of the UTF8 records of a dump: 266,240 names of 255 bytes
 abbrev pub names_size_limit : ℕ
-names_size_limit = 1347840
+names_size_limit = 72417280
 
 -- the largest size of the records before the segments
 abbrev pub opening_size_limit : ℕ
-opening_size_limit = 1356340
+opening_size_limit = 72552500
 
 -- the size of the UTF8 record of a name
 abbrev pub utf8_size : IdSize → List ℕ → ℕ

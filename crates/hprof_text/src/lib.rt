@@ -1,13 +1,13 @@
 //! The text of a dump, whole and in pieces: HPROF, JAVA PROFILE 1.0.2 (the format comment of OpenJDK's heapDumper.cpp).
 #![tactic(auto)]
 
-ghost use Rattle.std.specs.Prelude.{◌≡◌, ◌+◌, ◌≤◌, ◌^◌, ℕ, List, length, IfOk, IfErr};
+ghost use Rattle.std.specs.Prelude.{◌≡◌, ◌+◌, ◌≤◌, ℕ, List, length, IfOk, IfErr};
 ghost use Rattle.heap_class.specs.declared.ObjRef.{ObjRef};
 ghost use Rattle.heap_class.specs.declared.Refusal.TheVariants.{NoMemory};
 ghost use Rattle.heap_class.specs.declared.IdSize.{IdSize};
 ghost use Rattle.hprof_text.specs.Image.{Image, IsDumpable};
 ghost use Rattle.hprof_text.specs.Cursors.{IsAt};
-ghost use Rattle.hprof_text.specs.Laws.{EqualIds, IsCut, NumbersFit, PiecesFew, PiecesJoin};
+ghost use Rattle.hprof_text.specs.Laws.{EqualIds, IsCut, NumbersFit, PiecesFew, PiecesJoin, piece_size_limit};
 ghost use Rattle.hprof_text.specs.Segments.{dump_text, piece_of};
 
 use crate::measure::segments_size;
@@ -154,7 +154,7 @@ pub fn piece_from<V: View>(
     ensures next { IfOk result
         (λ p. (i : ℕ) → IsAt (V.ids view.now) (V.image view.now) (V.places view.now) cursor i
         → IsAt (V.ids view.now) (V.image view.now) (V.places view.now) p.1 (i + 1)) }
-    ensures small { IfOk result (λ p. length p.0.bytes ≤ 2 ^ 24) }
+    ensures small { IfOk result (λ p. length p.0.bytes ≤ piece_size_limit) }
     ensures refused { IfErr result (λ e. e ≡ NoMemory) }
 {
     match cursor {
@@ -175,7 +175,7 @@ pub fn segments_are_cut()
     ensures { (limit : ℕ) (subs : List (List ℕ)) → IsCut limit subs }
 {}
 
-/// States that a dump has at most 66,178 pieces.
+/// States that a dump has at most 16,785,538 pieces.
 pub fn pieces_few()
     ensures { (ids : IdSize) (image : Image) (time : ℕ) → PiecesFew ids image time }
 {}

@@ -1,8 +1,9 @@
 //! The pieces of a dump: the opening records, the segments, and the end.
-ghost use Rattle.std.specs.Prelude.{◌≡◌, ◌+◌, ◌≤◌, ◌^◌, ℕ, List, length, slice_get, IfOk, IfErr};
+ghost use Rattle.std.specs.Prelude.{◌≡◌, ◌+◌, ◌≤◌, ℕ, List, length, slice_get, IfOk, IfErr};
 ghost use Rattle.heap_class.specs.declared.Refusal.TheVariants.{NoMemory};
 ghost use Rattle.hprof_text.specs.declared.Cursor.TheVariants.{Past};
 ghost use Rattle.hprof_text.specs.declared.section.Section.TheVariants.{Numbered, Objects};
+ghost use Rattle.hprof_text.specs.Laws.{piece_size_limit};
 ghost use Rattle.hprof_text.specs.Records.{opening_of};
 ghost use Rattle.hprof_text.specs.Cursors.{IsAt, IsBefore, IsRest};
 ghost use Rattle.hprof_text.specs.Text.{after, records_in};
@@ -119,7 +120,7 @@ fn opening_bytes(
     time: u64,
 ) -> Result<Bytes, Refusal>
     ensures bytes { IfOk result (λ b. b ≡ opening_of ids classes.now time) }
-    ensures small { IfOk result (λ b. length b ≤ 2 ^ 24) }
+    ensures small { IfOk result (λ b. length b ≤ piece_size_limit) }
     ensures refused { IfErr result (λ e. e ≡ NoMemory) }
 {
     match SegmentBytes::new(alloc, opening_size(ids, classes) as usize) {
@@ -136,7 +137,7 @@ pub fn start_from<V: View>(alloc: Global, view: &V, time: u64) -> Result<(Piece,
     ensures piece { IfOk result (λ p. p.0 ≡ piece_of (V.ids view.now) (V.image view.now) time 0) }
     ensures next { IfOk result
         (λ p. IsAt (V.ids view.now) (V.image view.now) (V.places view.now) p.1 1) }
-    ensures small { IfOk result (λ p. length p.0.bytes ≤ 2 ^ 24) }
+    ensures small { IfOk result (λ p. length p.0.bytes ≤ piece_size_limit) }
     ensures refused { IfErr result (λ e. e ≡ NoMemory) }
 {
     let bytes = opening_bytes(alloc, view.id_size(), &view.classes(), time)?;
@@ -165,7 +166,7 @@ pub fn segment_from<V: View>(
         → IsRest (V.ids view.now) (V.image view.now) (V.places view.now) cursor rest
         → IsBefore (V.ids view.now) (V.image view.now) rest i
         → IsAt (V.ids view.now) (V.image view.now) (V.places view.now) p.1 (i + 1)) }
-    ensures small { IfOk result (λ p. length p.0.bytes ≤ 2 ^ 24) }
+    ensures small { IfOk result (λ p. length p.0.bytes ≤ piece_size_limit) }
     ensures refused { IfErr result (λ e. e ≡ NoMemory) }
 {
     let mut segment = Segment::new(alloc)?;

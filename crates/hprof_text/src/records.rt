@@ -16,7 +16,7 @@ use crate::sizes::instance_size;
 use byteorder::{BigEndian, ByteOrder};
 use heap_class::{ClassNo, FirstClasses, IdSize, Kind};
 
-/// Returns the id of a class, whose number must be below 256.
+/// Returns the id of a class, whose number must be below 4,096.
 pub fn class_id(class: ClassNo) -> u64
     requires { class < class_limit }
     ensures { result ≡ class_id class }
@@ -80,7 +80,7 @@ impl SegmentBytes {
         self.u4(length);
     }
 
-    /// Appends a UTF8 record: a name of at most 64 bytes with its id. There must be room.
+    /// Appends a UTF8 record: a name of at most 255 bytes with its id. There must be room.
     #[tactic(auto, using(crate::proofs::WrittenRecords::utf8_body), unfolding(crate::specs::Text::utf8, crate::specs::Text::record_of))]
     pub fn utf8(&mut self, ids: IdSize, number: u64, name: &[u8])
         requires room { HasRoom self.old (utf8 ids (number, name.now)) }

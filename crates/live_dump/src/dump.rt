@@ -14,7 +14,7 @@ use std::thread::Threads;
 
 /// Opens a pin on the current state of a shared heap, tells the watch its number, puts out its dump as `stream_all` does, and
 /// closes the pin, however that ended. So the dump is of a state with all that the dumper had seen. Returns the dumper, too,
-/// which has made these calls and no others. Fails, and puts out nothing, with PinLimit if 4 pins are open or with NoMemory.
+/// which has made these calls and no others. Fails, and puts out nothing, with PinLimit if no more pins may be open, or with NoMemory.
 /// Is never cancelled: it ends early only if a put fails or the pin is lost. May wait.
 pub fn dump_current<'a, L: Heap + Send + Sync, O: Outlet, R: Threads + Wait + Sync>(
     rt: &R,

@@ -2,6 +2,7 @@
 //! current state, also for the clients of a port, three at once.
 #![tactic(auto)]
 
+mod admission;
 pub mod dump;
 pub mod failures;
 pub mod laws;

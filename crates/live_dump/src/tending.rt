@@ -1,4 +1,5 @@
 //! The threads that send dumps.
+use crate::admission::is_admitted;
 use crate::dump::dump_current;
 use crate::failures::{Failures, tell, tell_due, tell_rest};
 use crate::listener::DumpListener;
@@ -7,6 +8,7 @@ use crate::watch::PinWatch;
 use crate::words::{cause_word, word};
 use dump_pump::WriteOutlet;
 use heap_lock::{Dumper, Heap, Shared};
+use secret_word::Secret;
 use std::alloc::Global;
 use std::net::TcpStream;
 use std::sync::atomic::{AtomicBool, Ordering};
@@ -18,25 +20,30 @@ use std::time::{Clock, Duration};
 // The milliseconds after which a thread looks for a client again: one of the three does about every millisecond.
 const PAUSE: u64 = 3;
 
-// The port for dumps: its heap, its listener, the time in the headers, the dumps that failed, and the stop word.
+// The port for dumps: its heap, its listener, the word that its clients have to say, if there is one, the time in the headers, the dumps
+// that failed, and the stop word.
 #[derive(Drop)]
 struct DumpPort<'a, L: Heap> {
     shared: &'a Shared<L>,
     listener: &'a DumpListener,
+    secret: Option<Secret>,
     time: u64,
     failures: &'a Mutex<Failures>,
     stop: &'a AtomicBool,
 }
 
 /// Accepts clients, sends each the dump of the state at its accept, with this time in its header, and ends its connection;
-/// until the stop word is set. Three threads do so, or fewer if they can't be started. A dump that runs at the stop is cut
-/// off, and so is one whose `DumpSocket` fails. Tells on standard error of dumps that are refused or lost. Returns within a
-/// tenth of a second of the stop, beside the time of one piece. May wait.
+/// until the stop word is set. If there is a secret word, a client has a quarter of a second to send it as its first line, and
+/// is sent nothing if that is another line; the dump is then of the state at the word. Three threads do so, or fewer if they
+/// can't be started. A dump that runs at the stop is cut off, and so is one whose `DumpSocket` fails. Tells on standard error
+/// of dumps that are refused or lost. Returns within a tenth of a second of the stop, or a third with a secret word, beside the
+/// time of one piece. May wait.
 pub fn tend_dumps<L: Heap + Send + Sync, R: Clock + Eprint + Threads + Wait + Sync>(
     rt: &R,
     alloc: Global,
     shared: &Shared<L>,
     listener: DumpListener,
+    secret: Option<Secret>,
     time: u64,
     stop: &AtomicBool,
 ) {
@@ -44,6 +51,7 @@ pub fn tend_dumps<L: Heap + Send + Sync, R: Clock + Eprint + Threads + Wait + Sy
     let port = &DumpPort {
         shared,
         listener: &listener,
+        secret,
         time,
         failures: &failures,
         stop,
@@ -82,7 +90,8 @@ fn send_dumps<L: Heap + Send + Sync, R: Clock + Eprint + Threads + Wait + Sync>(
     unreachable!()
 }
 
-// Sends a client the dump of the current state, and returns the dumper. Sends nothing if the socket has no time limits.
+// Sends a client the dump of the current state, and returns the dumper. Sends nothing if the client isn't admitted, or the socket has
+// no time limits.
 fn send_dump<'a, L: Heap + Send + Sync, R: Clock + Eprint + Threads + Wait + Sync>(
     rt: &'a R,
     alloc: Global,
@@ -90,6 +99,9 @@ fn send_dump<'a, L: Heap + Send + Sync, R: Clock + Eprint + Threads + Wait + Syn
     port: &DumpPort<'_, L>,
     stream: &TcpStream,
 ) -> Dumper<'a, L, R> {
+    if !is_admitted(rt, stream, port.secret) {
+        return dumper;
+    }
     let watch = PinWatch::new(port.shared, rt);
     let Ok(socket) = DumpSocket::new(rt, stream, port.stop, &watch) else {
         return dumper;

@@ -13,7 +13,7 @@ use Rattle.hprof_text.specs.Image.{Image}
 use Rattle.hprof_text.specs.declared.Piece.{Piece}
 use Rattle.hprof_text.specs.Segments.{dump_text}
 use Rattle.heap_pins.specs.Images.{image_of}
-use Rattle.heap_trail.specs.Limits.{pin_limit, last_pin}
+use Rattle.heap_trail.specs.Limits.{last_pin}
 use Rattle.heap_trail.specs.declared.Action.{Action}
 use Rattle.heap_trail.specs.declared.Action.TheVariants.{OpenPin, ClosePin}
 use Rattle.heap_trail.specs.declared.Reply.{Reply}
@@ -91,7 +91,7 @@ refusal_cause false false e is = absurd (clash is)
 
 open_cause : (m : Machine) (e : Refusal) → open_refusal m.trail.place m.trail m.pins ≡ Some e → cause_of e ≡ Closed
 unfolding open_refusal
-open_cause m e is = refusal_cause (not (is_retained m.trail.place m.trail)) (nat_le pin_limit (length m.pins.open_pins) || nat_lt last_pin m.pins.next) e is
+open_cause m e is = refusal_cause (not (is_retained m.trail.place m.trail)) (nat_le m.trail.current.limits.pins (length m.pins.open_pins) || nat_lt last_pin m.pins.next) e is
 
 -- nothing is put out if the pin is refused
 pub not_opened : (m n : Machine) (w : Outgoing) (time : ℕ) (e : Refusal) (cause : LostCause) → cause ≡ cause_of e → n ≡ m → MayFail m (OpenPin None) n e → IsPlaceDumped time m n w w (Lost cause 0)

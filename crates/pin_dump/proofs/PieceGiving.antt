@@ -85,7 +85,7 @@ dumpable_in pin (x ∷ xs) s all here = go (x.0 == pin) (λ h. dumpable_in pin x
 pub few_left : (pin time n : ℕ) (m m' : Machine) (p : Piece) → AreDumpable m.pins → GivesPiece pin time m m' p → n ≤ given_of (pin_at pin m.pins) → p.last ≡ false → n + 1 < part_limit
 unfolding pin_at piece_of nth_piece
 few_left pin time n m m' p all g le more =
-    let few : length (pieces_of m.ids g.image time) ≤ 66178 = pieces_few m.ids g.image time (dumpable_in pin m.pins.open_pins (Kept g.place g.image g.given) all g.here) in
+    let few : length (pieces_of m.ids g.image time) ≤ part_limit = pieces_few m.ids g.image time (dumpable_in pin m.pins.open_pins (Kept g.place g.image g.given) all g.here) in
     let lt : g.given + 1 < length (pieces_of m.ids g.image time) = leb-false (length (pieces_of m.ids g.image time)) (g.given + 1) (sym (ap (λ (q : Piece). q.last) g.piece) ∙ more) in
     omega (arith, few, lt, le, ap given_of g.here)
 

@@ -16,6 +16,7 @@ use Rattle.heap_mark.proofs.Calls.{snap_free, mark_free, drain_free}
 use Rattle.heap_mark.proofs.Finishes.{finish_free, pending_number}
 use Rattle.heap_world.specs.Events.{after_snap, after_mark, after_drain, after_finish, after_sweep}
 use Rattle.heap_world.specs.Live.{cells_of}
+use Rattle.heap_world.specs.RegionLimits.{cell_limit, region_limit}
 use Rattle.heap_world.specs.Regions.{UsedRegion, used_at}
 use Rattle.heap_world.specs.Legal.{IsLegal}
 use Rattle.heap_world.specs.State.{HeapState, marking_of, pool_of}
@@ -161,10 +162,10 @@ stopped D b m x e next free (inr h) = (x, next, inr h)
 
 -- ---- sweeps
 
-few_dead : (w : HeapState) (r : ℕ) → IsLegal w → length (dead_at r (pool_of w)) ≤ 256
+few_dead : (w : HeapState) (r : ℕ) → IsLegal w → length (dead_at r (pool_of w)) ≤ cell_limit
 few_dead w r legal = omega (arith, ap length (dead_in r (pool_of w)), go (used_at w.regions r) refl)
   where
-    go : (x : Option UsedRegion) → used_at w.regions r ≡ x → length (dead_pairs 0 (cells_of x)) ≤ 256
+    go : (x : Option UsedRegion) → used_at w.regions r ≡ x → length (dead_pairs 0 (cells_of x)) ≤ cell_limit
     go None h = omega arith
     go (Some u) h = omega (arith, length-filter_map dead_one (enumerate_from 0 u.cells), length-enumerate_from 0 u.cells, (table_few u (table_of w r u legal h)).1)
 
@@ -180,7 +181,7 @@ pub sweep_stopped : (D : Refusal → Type 0) (b : Bool) (m : Machine) (r : ℕ) 
 sweep_stopped D b m r e h f = stopped D b m (Sweep r) e (next_sweep b m.trail.current r h) (sweep_allowed m.trail.current r h) f
 
 -- what the sweep of a region says
-swept_answer : (w v : HeapState) (r : ℕ) → IsLegal w → (condemned_of (answer_of (Sweep r) w v) ≡ 0) × (swept_of (answer_of (Sweep r) w v) ≤ 256)
+swept_answer : (w v : HeapState) (r : ℕ) → IsLegal w → (condemned_of (answer_of (Sweep r) w v) ≡ 0) × (swept_of (answer_of (Sweep r) w v) ≤ cell_limit)
 unfolding answer_of
 swept_answer w v r legal = (refl, few_dead w r legal)
 
@@ -197,16 +198,16 @@ one_swept m n r a legal h reply =
     let state = swept_state w r h in
     record {
       step = λ b. subst (λ (k : ℕ). StepsLead b m ((Sweep r, a) ∷ []) b n k (swept_of a)) none (one_leads b m n (Sweep r) a (next_sweep b w r h) reply);
-      few = subst (λ (x : Answer). swept_of x ≤ 256) (sym t.answer) told.1;
+      few = subst (λ (x : Answer). swept_of x ≤ cell_limit) (sym t.answer) told.1;
       waiting = ap (λ (v : HeapState). pending_regions v.regions) t.state ∙ state.0;
       phase = ap (λ (v : HeapState). v.phase) t.state ∙ state.1;
     }
 
 -- no more regions wait than there are
-pub few_wait : (w : HeapState) → IsLegal w → length (pending_regions w.regions) ≤ 256
+pub few_wait : (w : HeapState) → IsLegal w → length (pending_regions w.regions) ≤ region_limit
 unfolding pending_regions
 few_wait w legal =
-    let most : length w.regions ≤ 256 = legal.sized.regions.1 in
+    let most : length w.regions ≤ region_limit = legal.sized.regions.1 in
     omega (arith, length-filter_map pending_number (enumerate_from 0 w.regions), length-enumerate_from 0 w.regions, most)
 
 one_fewer : (p : List ℕ) (r : ℕ) → slice_get p 0 ≡ Some r → length (drop 1 p) + 1 ≡ length p
@@ -217,10 +218,10 @@ none_first : (p : List ℕ) → slice_get p 0 ≡ None → p ≡ []
 none_first [] h = refl
 none_first (x ∷ xs) h = absurd (cc h)
 
--- the sweeps so far lead from m to n, and remove this number of objects; each region that still waits may have 256 more
+-- the sweeps so far lead from m to n, and remove this number of objects; each region that still waits may have as many more as it has cells
 pub record AreSweeping (m : Machine) (steps : List TakenStep) (count : ℕ) (n : Machine) : Type 0 where
   pub lead : (b : Bool) → StepsLead b m steps b n 0 count
-  pub few : count + 256 * length (pending_regions n.trail.current.regions) ≤ 65536
+  pub few : count + cell_limit * length (pending_regions n.trail.current.regions) ≤ region_limit * cell_limit
   pub phase : n.trail.current.phase ≡ m.trail.current.phase
 
 pub sweeping_begins : (m : Machine) → IsLegal m.trail.current → AreSweeping m [] 0 m

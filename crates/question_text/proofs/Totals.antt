@@ -14,7 +14,7 @@ use Rattle.heap_class.specs.declared.ObjKind.{ObjKind}
 use Rattle.heap_class.specs.declared.ObjKind.TheVariants.{Instance, Array, Prim}
 use Rattle.heap_class.specs.Kinds.{id_bytes, width_of}
 use Rattle.heap_class.specs.Classes.{Class, instance_size, slots_of}
-use Rattle.hprof_text.specs.Image.{DumpedObject, Image, IsDumpable, IsKnown}
+use Rattle.hprof_text.specs.Image.{DumpedObject, Image, IsDumpable, IsKnown, object_limit}
 use Rattle.hprof_text.proofs.Bounds.{width_small}
 use Rattle.heap_questions.specs.declared.rows.Row.{Row}
 use Rattle.heap_questions.specs.Histogram.{class_rows, kind_row, members, object_bytes, row_number, row_of, rows_of, value_size}
@@ -191,7 +191,7 @@ total ids classes objects each =
 
 -- the total of countable rows is small
 pub sums_small : (ids : IdSize) (classes : List Class) (objects : List DumpedObject) (rows : List Row) → rows ≡ rows_of ids classes objects
-    → AreCountable classes objects → length objects ≤ 65536 → ((sum_of rows).objects < 2 ^ 64) × ((sum_of rows).bytes < 2 ^ 64)
+    → AreCountable classes objects → length objects ≤ object_limit → ((sum_of rows).objects < 2 ^ 64) × ((sum_of rows).bytes < 2 ^ 64)
 sums_small ids classes objects rows e each few =
     let t = ap (λ (rs : List Row). sum_of rs) e ∙ total ids classes objects each in
     let a : (sum_of rows).objects ≡ length objects = ap (λ (r : Row). r.objects) t in

@@ -1,13 +1,16 @@
 -- The text of a histogram.
-use Rattle.std.specs.Prelude.{◌≡◌, ℕ, Bool, filter, List, ◌∷◌, ◌++◌, codes, flat_map, sum_by, length}
+use Rattle.std.specs.Prelude.{◌≡◌, ℕ, Bool, filter, List, ◌∷◌, ◌++◌, codes, flat_map, sum_by, length, Option, Some, None}
 use Rattle.heap_class.specs.declared.IdSize.{IdSize}
 use Rattle.heap_class.specs.Classes.{Class}
 use Rattle.hprof_text.specs.Image.{DumpedObject, Image}
 use Rattle.heap_questions.specs.declared.rows.Row.{Row}
+use Rattle.heap_questions.specs.Dominators.{TellsRetained}
 use Rattle.heap_questions.specs.Garbage.{TellsUnreached}
+use Rattle.heap_questions.specs.Graph.{object_with}
 use Rattle.heap_questions.specs.Histogram.{object_bytes, row_at, rows_of}
 use Rattle.heap_questions.specs.Ranking.{IsRanking}
 use Rattle.session_text.specs.Replies.{and_number, line}
+use Rattle.question_text.specs.Moments.{no_object_text}
 use Rattle.question_text.specs.Names.{row_name}
 
 -- two numbers, each after a space
@@ -53,3 +56,18 @@ abbrev pub IsGarbageText : IdSize → Image → List ℕ → Type 0
 IsGarbageText ids image text =
     (test : DumpedObject → Bool) × TellsUnreached image test
     × IsCountText ids image.classes (filter test image.objects) text
+
+-- the text counts the objects that are reached, and not without x
+abbrev pub IsRetainedCount : ℕ → IdSize → Image → List ℕ → Type 0
+IsRetainedCount x ids image text =
+    (test : DumpedObject → Bool) × TellsRetained image x test
+    × IsCountText ids image.classes (filter test image.objects) text
+
+-- the same about the object with this id, if there is one
+abbrev pub IsRetainedTextOf : Option DumpedObject → ℕ → IdSize → Image → List ℕ → Type 0
+IsRetainedTextOf None x ids image text = text ≡ no_object_text
+IsRetainedTextOf (Some o) x ids image text = IsRetainedCount x ids image text
+
+-- the answer of `retained`
+abbrev pub IsRetainedText : ℕ → IdSize → Image → List ℕ → Type 0
+IsRetainedText x ids image text = IsRetainedTextOf (object_with image x) x ids image text

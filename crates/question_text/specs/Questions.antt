@@ -5,7 +5,7 @@ use Rattle.session_grammar.specs.Grammar.{at_end, next_number, number_of_word, o
 use Rattle.question_text.specs.declared.question.At.{At}
 use Rattle.question_text.specs.declared.question.At.TheVariants.{Current, Pin, Place}
 use Rattle.question_text.specs.declared.question.Question.{Question}
-use Rattle.question_text.specs.declared.question.Question.TheVariants.{Histogram, Garbage, Growth, Registers, Classes, Objects, Referrers, Path, Show, Born, Wrote, Dropped, History, Pins, Cells, Status}
+use Rattle.question_text.specs.declared.question.Question.TheVariants.{Histogram, Garbage, Growth, Registers, Classes, Objects, Referrers, Path, Retained, Show, Born, Wrote, Dropped, History, Pins, Cells, Status}
 use Rattle.question_text.specs.Ids.{id_of_word}
 
 -- the state that a word names: `-`, `@` and a place, or the number of a pin
@@ -41,6 +41,12 @@ next_id (w ∷ ws) = option_map (λ x. (x, ws)) (id_of_word w)
 abbrev pub at_and_id : List (List ℕ) → Option (At × ℕ)
 at_and_id ws =
     option_and_then (λ a. option_and_then (λ x. at_end (a.0, x.0) x.1) (next_id a.1)) (next_at ws)
+
+-- the same; without a state it is the current one
+abbrev pub optional_at_and_id : List (List ℕ) → Option (At × ℕ)
+optional_at_and_id [] = None
+optional_at_and_id (w ∷ []) = option_map (λ x. (Current, x)) (id_of_word w)
+optional_at_and_id (w ∷ v ∷ ws) = at_and_id (w ∷ v ∷ ws)
 
 -- the one id that the words name
 abbrev pub one_id : List (List ℕ) → Option ℕ
@@ -81,6 +87,7 @@ question_rules =
     ∷ (codes "objects", λ ws. option_map (λ at. Objects at) (one_at ws))
     ∷ (codes "referrers", λ ws. option_map (λ a. Referrers a.0 a.1) (at_and_id ws))
     ∷ (codes "path", λ ws. option_map (λ a. Path a.0 a.1) (at_and_id ws))
+    ∷ (codes "retained", λ ws. option_map (λ a. Retained a.0 a.1) (optional_at_and_id ws))
     ∷ (codes "show", λ ws. option_map (λ a. Show a.0 a.1) (at_and_id ws))
     ∷ past_rules
 

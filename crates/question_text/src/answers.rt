@@ -12,7 +12,7 @@ use crate::cell_list::cells_answer;
 use crate::class_list::classes_answer;
 use crate::comment::unasked_answer;
 use crate::growth::growth_answer;
-use crate::histogram::{garbage_text, histogram_text};
+use crate::histogram::{garbage_text, histogram_text, retained_answer};
 use crate::history::history_answer;
 use crate::loss::dropped_answer;
 use crate::object_list::objects_answer;
@@ -48,6 +48,8 @@ enum StateQuestion {
     Referrers(u64),
     // Why the object with this id is alive.
     Path(u64),
+    // What is reached, and wouldn't be without the object with this id, as a histogram has it.
+    Retained(u64),
     // The slots of an object, and whether it is marked.
     Show { id: u64, marked: bool },
 }
@@ -86,6 +88,7 @@ fn view_lines(
         StateQuestion::Objects => or_refused(objects_answer(alloc, view)),
         StateQuestion::Referrers(id) => referrers_answer(alloc, view, id),
         StateQuestion::Path(id) => path_answer(alloc, view, id),
+        StateQuestion::Retained(id) => retained_answer(alloc, view, id),
         StateQuestion::Show { id, marked } => show_answer(alloc, view, id, marked),
     }
 }
@@ -167,6 +170,9 @@ pub fn answer(alloc: Global, machine: &Machine, acts: Option<u64>, question: Que
             state_answer(alloc, machine, at, StateQuestion::Referrers(id))
         }
         Question::Path { at, id } => state_answer(alloc, machine, at, StateQuestion::Path(id)),
+        Question::Retained { at, id } => {
+            state_answer(alloc, machine, at, StateQuestion::Retained(id))
+        }
         Question::Show { at, id } => {
             let marked = shows_mark(machine, at, id);
             state_answer(alloc, machine, at, StateQuestion::Show { id, marked })

@@ -1,14 +1,17 @@
-//! The answers of `histogram` and `garbage`.
+//! The answers of `histogram`, `garbage` and `retained`.
 ghost use Rattle.std.specs.Prelude.{◌≡◌, ◌<◌, ◌+◌, ◌^◌, All, length, flat_map};
 ghost use Rattle.heap_class.specs.declared.Refusal.TheVariants.{NoMemory};
 ghost use Rattle.heap_questions.specs.Histogram.{class_rows};
 ghost use Rattle.question_text.specs.Appends.{Appends, ReturnsText};
-ghost use Rattle.question_text.specs.Histograms.{IsGarbageText, IsHistogramText, IsRowsText, and_counts, row_text, sum_of, total_text};
+ghost use Rattle.question_text.specs.Histograms.{IsGarbageText, IsHistogramText, IsRetainedCount, IsRetainedText, IsRowsText, and_counts, row_text, sum_of, total_text};
+ghost use Rattle.question_text.specs.Moments.{IsToldOf, told_text};
 
 use crate::names::push_row_name;
-use crate::rows::{push_number, push_words};
+use crate::rows::{Unanswered, push_number, push_words};
 use heap_class::{FirstClasses, Refusal};
-use heap_questions::{Histogram, Row, count_by_class, count_garbage, ranking};
+use heap_questions::{
+    Histogram, Row, count_by_class, count_garbage, count_retained, object_with, ranking,
+};
 use hprof_text::View;
 use std::alloc::{AllocError, Global};
 
@@ -117,4 +120,28 @@ pub(crate) fn garbage_text<V: View>(alloc: Global, view: &V) -> Result<Vec<u8>, 
     let histogram = count_garbage(alloc, view)?;
     let classes = view.classes();
     rows_text(alloc, &classes, &histogram)
+}
+
+// Returns the lines of what the object with this id retains. Fails with NoMemory.
+fn retained_text<V: View>(alloc: Global, view: &V, id: u64) -> Result<Vec<u8>, Refusal>
+    ensures { ReturnsText (IsRetainedCount id (V.ids view.now) (V.image view.now)) result }
+{
+    let histogram = count_retained(alloc, view, id)?;
+    let classes = view.classes();
+    rows_text(alloc, &classes, &histogram)
+}
+
+// Returns the answer of `retained` about a view. Fails with NoObject if the id names no object, and with NoMemory if an
+// allocation fails. Reads each object a few times.
+pub(crate) fn retained_answer<V: View>(
+    alloc: Global,
+    view: &V,
+    id: u64,
+) -> Result<Vec<u8>, Unanswered>
+    ensures { IsToldOf (IsRetainedText id (V.ids view.now)) (V.image view.now) (told_text result) }
+{
+    match object_with(view, id) {
+        Some(_) => Ok(retained_text(alloc, view, id)?),
+        None => Err(Unanswered::NoObject),
+    }
 }

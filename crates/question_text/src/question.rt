@@ -2,7 +2,7 @@
 ghost use Rattle.std.specs.Prelude.{◌≡◌, drop};
 ghost use Rattle.session_grammar.specs.Grammar.{words_of_line};
 ghost use Rattle.session_grammar.specs.Reads.{IsNextWord};
-ghost use Rattle.question_text.specs.Questions.{at_and_id, at_of_word, id_and_number, next_at, next_id, one_at, one_id, past_rules, question_by, question_of, question_rules, two_ats};
+ghost use Rattle.question_text.specs.Questions.{at_and_id, at_of_word, id_and_number, next_at, next_id, one_at, one_id, optional_at_and_id, past_rules, question_by, question_of, question_rules, two_ats};
 
 use crate::id::id_of;
 use session_grammar::command::{at_end, next_number, one_number};
@@ -39,6 +39,8 @@ pub enum Question {
     Referrers { at: At, id: u64 },
     /// Why an object is alive: a shortest path from a register.
     Path { at: At, id: u64 },
+    /// What is reached, and wouldn't be without an object, as a histogram has it.
+    Retained { at: At, id: u64 },
     /// The slots of an object.
     Show { at: At, id: u64 },
     /// When an object was made.
@@ -99,6 +101,17 @@ fn at_and_id(mut words: Words) -> Option<(At, u64)>
     ensures { result ≡ at_and_id (words_of_line words.entry) }
 {
     at_end((next_at(&mut words)?, next_id(&mut words)?), words)
+}
+
+// Returns the state and the id that the words name. If they are only an id, the state is the current one.
+fn optional_at_and_id(mut words: Words) -> Option<(At, u64)>
+    ensures { result ≡ optional_at_and_id (words_of_line words.entry) }
+{
+    let word = words.next_word()?;
+    let Some(second) = words.next_word() else {
+        return Some((At::Current, id_of(word)?));
+    };
+    at_end((at_of(word)?, id_of(second)?), words)
 }
 
 // Returns the two states that the words name.
@@ -171,6 +184,10 @@ fn later_question(keyword: &[u8], words: Words) -> Option<Question>
     if is_word(keyword, b"path") {
         let (at, id) = at_and_id(words)?;
         return Some(Question::Path { at, id });
+    }
+    if is_word(keyword, b"retained") {
+        let (at, id) = optional_at_and_id(words)?;
+        return Some(Question::Retained { at, id });
     }
     if is_word(keyword, b"show") {
         let (at, id) = at_and_id(words)?;

@@ -13,7 +13,7 @@ use hprof_text::{Cursor, View, piece_from, pieces_few, text_len};
 use std::alloc::Global;
 
 // The most pieces of a dump.
-const PIECE_LIMIT: u64 = 66_178;
+const PIECE_LIMIT: u64 = 16_785_538;
 
 // Returns the dump of a view, which is allocated at once. Fails with NoMemory.
 fn text_of_view<V: View>(alloc: Global, view: &V, time: u64) -> Result<Vec<u8>, Refusal>

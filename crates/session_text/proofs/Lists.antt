@@ -1,9 +1,10 @@
 -- Lists cut in two.
-use Rattle.std.proofs.Common.{◌≡◌, ℕ, ◌+◌, ◌-◌, ◌<◌, ◌≤◌, true, false, List, [], ◌∷◌, ◌++◌, take, drop, length, get_or, refl, ap, sym, ◌∙◌, subst, arith, add-one, drop-cons}
-use Rattle.std.proofs.lemmas.List.{take-append-drop, length-take-le, length-drop, take_all}
-use Rattle.std.proofs.lemmas.List.{take-take, drop-take, drop-drop, take-append-le}
+use Rattle.std.proofs.Common.{◌≡◌, ℕ, ◌+◌, ◌-◌, ◌<◌, ◌≤◌, true, false, List, [], ◌∷◌, ◌++◌, take, drop, length, replicate, length-append, get_or, refl, ap, sym, ◌∙◌, subst, arith, add-one, drop-cons}
+use Rattle.std.proofs.lemmas.List.{take-append-drop, length-take-le, length-drop, length-replicate, take_all}
+use Rattle.std.proofs.lemmas.List.{take-take, drop-take, drop-drop, take-append-le, drop-append-le}
 use Rattle.std.proofs.Math.Seq.{take-append-add}
 use Rattle.std.specs.Bool.{◌==◌}
+use Rattle.std.specs.Prelude.{Result, Ok, Err, is_ok, if◌then◌else◌}
 use Rattle.std.proofs.lemmas.Bool.Decides.{nat_tests}
 use Rattle.std.proofs.lemmas.Slice.{take-put_mid_below}
 use borrow.Rule.Slice.PartMut.{put_mid, post_of}
@@ -23,6 +24,26 @@ drop_window xs s e n se el le =
     let size : length (take (e - s) (drop s xs)) ≡ e - s = length-take-le (e - s) (drop s xs) (omega (arith, length-drop s xs)) in
     let q : e - s ≡ n + (e - (s + n)) = omega arith in
     sym (ap (λ k. drop n (take k (drop s xs))) q ∙ drop-take n (e - (s + n)) (drop s xs) ∙ ap (λ l. take (e - (s + n)) l) (drop-drop n s xs))
+
+-- a window of a list to which something is appended
+pub kept_window : (xs zs : List ℕ) (s n : ℕ) → s + n ≤ length xs → take n (drop s (xs ++ zs)) ≡ take n (drop s xs)
+kept_window xs zs s n le =
+    ap (λ l. take n l) (drop-append-le s xs zs (omega (arith, le))) ∙ take-append-le n (drop s xs) zs (omega (arith, le, length-drop s xs))
+
+-- a list that is filled up to a length, if that succeeds: its size, and a window of it
+pub filled_size : {A E : Type 0} (r : Result A E) (xs ys : List ℕ) (l m : ℕ) → m ≡ length xs → m ≤ l → ys ≡ (if is_ok r then take l xs ++ replicate (l - m) 0 else xs) → (m ≤ length ys) × (length ys ≤ l)
+filled_size (Ok done) xs ys l m size fits is =
+    let z : ℕ = 0 in
+    let n : length ys ≡ length (take l xs) + length (replicate (l - m) z) = ap (λ k. length k) is ∙ length-append (take l xs) (replicate (l - m) z) in
+    let whole : length (take l xs) ≡ length xs = ap (λ k. length k) (take_all l xs (omega (arith, size, fits))) in
+    let rest : length (replicate (l - m) z) ≡ l - m = length-replicate (l - m) z in (omega (arith, n, whole, rest, size, fits), omega (arith, n, whole, rest, size, fits))
+filled_size (Err e) xs ys l m size fits is =
+    let n : length ys ≡ length xs = ap (λ k. length k) is in (omega (arith, n, size), omega (arith, n, size, fits))
+
+pub filled_window : {A E : Type 0} (r : Result A E) (xs ys : List ℕ) (l m s n : ℕ) → m ≡ length xs → m ≤ l → ys ≡ (if is_ok r then take l xs ++ replicate (l - m) 0 else xs) → s + n ≤ m → take n (drop s ys) ≡ take n (drop s xs)
+filled_window (Ok done) xs ys l m s n size fits is le =
+    ap (λ k. take n (drop s k)) (is ∙ ap (λ k. k ++ replicate (l - m) 0) (take_all l xs (omega (arith, size, fits)))) ∙ kept_window xs (replicate (l - m) 0) s n (omega (arith, size, le))
+filled_window (Err e) xs ys l m s n size fits is le = ap (λ k. take n (drop s k)) is
 
 -- a read into what lies behind the bytes in use
 pub refilled : (used : ℕ) (bytes room : List ℕ) (a b : Incoming) (t : Take) → used < length bytes → IsTake room a b t → IsInletRead (take used bytes) (take (used + count_of t) (put_mid used (length bytes - used) bytes room)) a b t

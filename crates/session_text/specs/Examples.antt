@@ -2,10 +2,11 @@
 use Rattle.std.specs.Prelude.{ℕ, List, ◌++◌, codes}
 use Rattle.heap_class.specs.declared.IdSize.TheVariants.{Eight}
 use Rattle.heap_trail.specs.Machine.{Machine, opening_machine}
+use Rattle.heap_world.specs.Limits.{narrow_limits}
 
 -- the machine that a program makes by default: ids of 8 bytes, 16 regions, 2 mutators, and 1,024 records kept
 abbrev pub default_machine : Machine
-default_machine = opening_machine Eight 16 2 1024
+default_machine = opening_machine narrow_limits Eight 16 2 1024
 
 -- a point is made, and one of its slots is written; then the heap is dumped
 abbrev pub point_lines : List ℕ

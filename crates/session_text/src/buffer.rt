@@ -17,7 +17,11 @@ pub const LF: u8 = b'\n';
 // The largest number of bytes of a buffer.
 const BUFFER_LIMIT: usize = 65_536;
 
-/// Bytes that were read. All memory is allocated when the buffer is made. Contracts see the bytes.
+// The number of bytes in use until a read fills them, more than a line has: a session that is idle touches no more of its memory.
+const FIRST_LIMIT: usize = 4_608;
+
+/// Bytes that were read. All memory is allocated when the buffer is made, and most of it is touched only after a read that filled what is
+/// in use. Contracts see the bytes.
 #[derive(Drop)]
 pub struct Buffer {
     bytes: Vec<u8>,
@@ -27,16 +31,17 @@ pub struct Buffer {
 }
 
 impl Model for Buffer {
-    ghost use Rattle.std.specs.Prelude.{◌≡◌, ℕ, ◌+◌, ◌-◌, ◌≤◌, List, take, drop, length};
+    ghost use Rattle.std.specs.Prelude.{◌≡◌, ℕ, ◌+◌, ◌-◌, ◌<◌, ◌≤◌, List, take, drop, length};
     ghost use Rattle.session_text.specs.Limits.{buffer_limit};
     ghost use Rattle.session_grammar.specs.Lines.{NoLf};
+    ghost use Rattle.session_grammar.specs.declared.TheConstants.{LINE_LIMIT};
 
     ghost Value = { List ℕ };
 
     ghost view = { λ b. take (b.end - b.start) (drop b.start b.bytes.items) };
 
-    ghost invariant = { λ b. (b.start + b.scanned ≤ b.end) × (b.end ≤ buffer_limit)
-        × (length b.bytes.items ≡ buffer_limit)
+    ghost invariant = { λ b. (b.start + b.scanned ≤ b.end) × (b.end ≤ length b.bytes.items)
+        × (LINE_LIMIT < length b.bytes.items) × (length b.bytes.items ≤ buffer_limit)
         × NoLf (take b.scanned (drop b.start b.bytes.items)) };
 }
 
@@ -45,8 +50,10 @@ impl Buffer {
     pub fn new(alloc: Global) -> Result<Buffer, AllocError>
         ensures { IfOk result (λ b. b ≡ []) }
     {
+        let mut bytes = Vec::with_capacity(alloc, BUFFER_LIMIT)?;
+        bytes.resize(FIRST_LIMIT, 0)?;
         Ok(Buffer {
-            bytes: vec![in alloc; 0; BUFFER_LIMIT]?,
+            bytes,
             start: 0,
             end: 0,
             scanned: 0,
@@ -87,8 +94,30 @@ impl Buffer {
         found
     }
 
+    // Puts all memory to use, if a read has filled what was.
+    fn widen(&mut self)
+        ensures { self.new ≡ self.old }
+    {
+        if self.end < self.bytes.len() {
+            return;
+        }
+        match self.bytes.resize(BUFFER_LIMIT, 0) {
+            Ok(()) => (),
+            Err(_) => (),
+        }
+    }
+
     /// Reads once, and appends the bytes.
     pub fn read<I: Inlet>(&mut self, inlet: &mut I) -> Take
+        requires { length self.old ≤ LINE_LIMIT }
+        ensures { IsInletRead self.old self.new (I.seen inlet.old) (I.seen inlet.new) result }
+    {
+        self.widen();
+        self.read_on(inlet)
+    }
+
+    // Reads once into what is in use, and appends the bytes.
+    fn read_on<I: Inlet>(&mut self, inlet: &mut I) -> Take
         requires { length self.old ≤ LINE_LIMIT }
         ensures { IsInletRead self.old self.new (I.seen inlet.old) (I.seen inlet.new) result }
     {

@@ -34,7 +34,7 @@ pub trait Commands {
 
     ghost unknown: { List ℕ → Self → List ℕ → Self → Type 0 };
 
-    /// Does an action and returns its reply. A piece has at most 2^24 bytes.
+    /// Does an action and returns its reply. A piece has at most 2^27 bytes.
     fn act(&mut self, action: Action) -> Reply
         ensures acts { acts self.old action result self.new }
         ensures small { IsSmall result };

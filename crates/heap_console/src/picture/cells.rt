@@ -1,5 +1,6 @@
-//! The cells of a heap, as strokes of a picture: a row for each region, and a pixel for each word.
+//! The cells of regions, as strokes of a picture: a row for each region, and a pixel for each word.
 use crate::picture::colors::Palette;
+use crate::picture::rows::Rows;
 use crate::picture::text::{add, add_next_stroke, add_stroke};
 use heap_class::ObjRef;
 use heap_region::Regions;
@@ -50,23 +51,24 @@ impl CellSort {
     }
 }
 
-// Returns the height of the middle of a region's row.
-pub(crate) fn middle_of(region: u64) -> u64 {
-    TOP.saturating_add(STEP.saturating_mul(region))
+// Returns the height of the middle of a row.
+pub(crate) fn middle_of(row: u64) -> u64 {
+    TOP.saturating_add(STEP.saturating_mul(row))
 }
 
-// Appends the strokes of a region's cells that are of this sort.
+// Appends the strokes of a region's cells that are of this sort, in this row.
 fn add_cells(
     text: &mut Vec<u8>,
     regions: &Regions,
     palette: &Palette,
     sort: CellSort,
     region: u64,
+    row: u64,
 ) -> Result<(), AllocError> {
     let Some(size) = regions.cell_size(region) else {
         return Ok(());
     };
-    let y = middle_of(region).saturating_add(sort.drop_below());
+    let y = middle_of(row).saturating_add(sort.drop_below());
     let number = regions.region_number(region);
     let mut pen = None;
     for cell in 0..regions.cell_count(region) {
@@ -82,36 +84,47 @@ fn add_cells(
     Ok(())
 }
 
-// Appends the strokes of all cells that are of this sort.
+// Appends the strokes of all cells that are of this sort, of the regions that have a row.
 pub(crate) fn add_all_cells(
     text: &mut Vec<u8>,
     regions: &Regions,
+    rows: &Rows,
     palette: &Palette,
     sort: CellSort,
 ) -> Result<(), AllocError> {
     for region in 0..regions.count() {
-        add_cells(text, regions, palette, sort, region)?;
+        if let Some(row) = rows.row(region) {
+            add_cells(text, regions, palette, sort, region, row)?;
+        }
     }
     Ok(())
 }
 
-// Appends the strokes of the cells whose objects are gray.
+// Appends the stroke of a gray object, in this row.
+fn add_gray_cell(
+    text: &mut Vec<u8>,
+    regions: &Regions,
+    at: ObjRef,
+    row: u64,
+) -> Result<(), AllocError> {
+    let size = regions.cell_size(at.region as u64).unwrap_or(1);
+    let x = LEFT.saturating_add(size.saturating_mul(at.cell as u64));
+    let y = middle_of(row).saturating_sub(4);
+    add_stroke(text, x, y, size.saturating_sub(1))
+}
+
+// Appends the strokes of the cells whose objects are gray, of the regions that have a row.
 pub(crate) fn add_gray(
     text: &mut Vec<u8>,
     regions: &Regions,
+    rows: &Rows,
     gray: &[u64],
 ) -> Result<(), AllocError> {
     for id in gray {
         if let Some(at) = regions.find(*id) {
-            let region = at.region as u64;
-            let size = regions.cell_size(region).unwrap_or(1);
-            let x = LEFT.saturating_add(size.saturating_mul(at.cell as u64));
-            add_stroke(
-                text,
-                x,
-                middle_of(region).saturating_sub(4),
-                size.saturating_sub(1),
-            )?;
+            if let Some(row) = rows.row(at.region as u64) {
+                add_gray_cell(text, regions, at, row)?;
+            }
         }
     }
     Ok(())

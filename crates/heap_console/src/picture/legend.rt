@@ -4,7 +4,7 @@ ghost use Rattle.heap_questions.specs.Histogram.{class_rows};
 
 use crate::picture::cells::{LEFT, add_path_begin, add_path_end};
 use crate::picture::colors::{COLORS, OTHER};
-use crate::picture::text::{add, add_number, add_stroke, add_text_at};
+use crate::picture::text::{add, add_name, add_number, add_stroke, add_text_at};
 use heap_class::FirstClasses;
 use heap_questions::Row;
 use question_text::push_row_name;
@@ -60,7 +60,7 @@ pub(crate) fn add_row(
     add_sample(text, y, shade, b"9")?;
     let mut name = Vec::new(alloc);
     push_row_name(&mut name, classes, index)?;
-    add(text, name.as_slice())?;
+    add_name(text, name.as_slice())?;
     add(text, b": ")?;
     add_number(text, row.objects)?;
     add(text, b" objects, ")?;

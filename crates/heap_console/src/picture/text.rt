@@ -7,6 +7,19 @@ pub(crate) fn add(text: &mut Vec<u8>, words: &[u8]) -> Result<(), AllocError> {
     Ok(())
 }
 
+// Appends a name. The signs that have a meaning in SVG are written as it demands.
+pub(crate) fn add_name(text: &mut Vec<u8>, name: &[u8]) -> Result<(), AllocError> {
+    for byte in name {
+        match *byte {
+            b'&' => add(text, b"&amp;")?,
+            b'<' => add(text, b"&lt;")?,
+            b'>' => add(text, b"&gt;")?,
+            sign => add(text, &[sign])?,
+        }
+    }
+    Ok(())
+}
+
 // Appends a number.
 pub(crate) fn add_number(text: &mut Vec<u8>, number: u64) -> Result<(), AllocError> {
     add(text, itoa::Buffer::new().format(number).as_bytes())

@@ -2,6 +2,7 @@
 use crate::scripts::{ONE_POINT, point};
 use heap_class::{Classes, IdSize, NewClass, ObjKind};
 use heap_step::Event;
+use heap_world::NARROW_LIMITS;
 use hprof_text::{ListView, ListedObject, piece_of, text_len};
 use std::alloc::Global;
 use std::test::Fail;
@@ -15,7 +16,9 @@ fn has_class(alloc: Global, classes: &mut Classes) -> bool {
     match &class {
         Ok(Event::Class { name, fields, .. }) => {
             let sup = None;
-            classes.define(NewClass { name, sup, fields }).is_ok()
+            classes
+                .define(NARROW_LIMITS.classes, NewClass { name, sup, fields })
+                .is_ok()
         }
         _ => false,
     }

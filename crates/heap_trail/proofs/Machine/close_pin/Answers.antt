@@ -1,13 +1,22 @@
-use Rattle.std.proofs.Common.{◌≡◌, List, sym, ap, subst, ◌∙◌}
+use Rattle.std.proofs.Common.{◌≡◌, ◌≤◌, List, sym, ap, subst, ◌∙◌}
 use Rattle.heap_class.specs.declared.Refusal.TheVariants.{NoPin}
 use Rattle.heap_trail.specs.declared.Action.TheVariants.{ClosePin}
 use Rattle.heap_trail.specs.declared.Reply.TheVariants.{Closed, Refused}
 use Rattle.heap_trail.specs.declared.held.NumberedPin.{NumberedPin}
 use Rattle.heap_trail.specs.Machine.{Machine, acted}
-use Rattle.heap_trail.specs.Records.{machine_of}
+use Rattle.heap_trail.specs.Records.{IsPinning, machine_of}
 use Rattle.heap_trail.proofs.PinSearch.{slot_found, pin_missing}
-use Rattle.heap_trail.proofs.ClosedPins.{close_done, close_missing}
+use Rattle.heap_trail.proofs.ClosedPins.{close_done, close_missing, pinning_without}
 use Rattle.heap_trail.proofs.Machine.close_pin.Goals as goal
+
+pub invariant_of-self : goal.invariant_of-self
+invariant_of-self c =
+    let i = c.self.inside in
+    let there = slot_found c.args.pin i.pins.items c.deref.result.now c.slot_of.result c.in-Some.slot c.remove.result c.deref.ensures.value c.slot_of.ensures c.in-Some.is c.remove.ensures.value in (
+      c.self.invariant.0,
+      subst (λ (ss : List NumberedPin). IsPinning i.ids i.world i.records i.place i.next ss) (sym c.remove.ensures.items) (pinning_without i.ids i.world i.records i.place i.next c.in-Some.slot i.pins.items there.0.within c.self.invariant.1),
+      subst (λ n. i.world.limits.pins ≤ n) (sym c.remove.ensures.capacity) c.self.invariant.2,
+    )
 
 pub returns-in-Some-clause-done : goal.returns-in-Some-clause-done
 returns-in-Some-clause-done c =

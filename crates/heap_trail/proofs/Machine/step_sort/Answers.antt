@@ -1,8 +1,9 @@
-use Rattle.std.proofs.Common.{◌≡◌, vec_capacity, ◌⊎◌, ℕ, ◌+◌, ◌<◌, length, List, inl, sym, subst, arith}
+use Rattle.std.proofs.Common.{◌≡◌, vec_capacity, ◌⊎◌, ℕ, ◌+◌, ◌<◌, ◌≤◌, length, List, inl, sym, subst, arith}
 use Rattle.std.proofs.lemmas.Result.{err_from_is_err_and}
 use Rattle.circular_buffer.specs.Buffer.{Buffer}
 use Rattle.heap_class.specs.declared.Refusal.TheVariants.{NoMemory, ChronicleFull}
 use Rattle.heap_world.specs.State.{HeapState}
+use Rattle.heap_world.specs.declared.Limits.{Limits}
 use Rattle.heap_step.specs.declared.Event.TheVariants.{Finish, Sweep}
 use Rattle.heap_step.specs.declared.Undo.{Undo}
 use Rattle.heap_step.specs.Records.{undone}
@@ -14,6 +15,7 @@ use Rattle.heap_trail.specs.Machine.{Machine, Denied, MayStand, acted}
 use Rattle.heap_trail.specs.Laws.{SparesReached, FindsSnapshot}
 use Rattle.heap_trail.specs.OpenPins.{pins_of, EachSized}
 use Rattle.heap_trail.specs.Records.{past_of, IsWholeMachine, machine_of, machine_with, with_record}
+use Rattle.heap_trail.proofs.RecordedPast.{limits_stay}
 use Rattle.heap_trail.proofs.MachineSteps.{accepted_as, leads_back, kept_after_step, step_full, step_err}
 use Rattle.heap_trail.proofs.PinnedSteps.{MayAnswer, list_after, pinning_after, step_pinned}
 use Rattle.heap_trail.proofs.EachPin.{sized_after}
@@ -46,12 +48,13 @@ pub invariant_of-self-2 : goal.invariant_of-self-2
 invariant_of-self-2 g c =
     let h = c.in_ok-answer.ensures in
     let a = accepted_as (g.E.ApplyEvent.event c.args.event.now) c.self.inside.world c.apply_sort.new.world c.in_ok-answer.left h.effect.answered h.effect.state h.effect.recorded h.legal (c.undo_takes_back.ensures (g.E.ApplyEvent.event c.args.event.now) c.self.inside.world) in
+    let back : undone c.in_ok-answer.left c.apply_sort.new.world ≡ c.self.inside.world = leads_back (g.E.ApplyEvent.event c.args.event.now) c.self.inside.world c.apply_sort.new.world c.in_ok-answer.left c.self.invariant.0.legal a in
     let pins = list_after c.in_ok-answer.left c.apply_sort.new.world c.self.inside.pins.items _ c.remember.new.pins c.self.inside.pins.len c.deref_mut.ensures.value c.remember.ensures.pins (omega (arith, c.self.inside.pins.ok.0)) in
     rw pins.1
     (subst (λ (r : Buffer Undo). IsWholeMachine c.self.inside.ids c.apply_sort.new.world r (c.self.inside.place + 1) c.self.inside.keep c.self.inside.next c.remember.new.pins (vec_capacity c.self.inside.pins)) (sym c.remember.ensures.records) (
       kept_after_step (g.E.ApplyEvent.event c.args.event.now) c.self.inside.world c.apply_sort.new.world c.in_ok-answer.left c.self.inside.records c.self.inside.place c.self.inside.keep c.self.invariant.0 a c.if-self-ge-LAST_PLACE.false,
       pinning_after c.self.inside.ids (g.E.ApplyEvent.event c.args.event.now) c.self.inside.world c.apply_sort.new.world c.in_ok-answer.left c.self.inside.records c.self.inside.place c.self.inside.keep c.self.inside.next c.self.inside.pins.items c.remember.new.pins c.self.invariant.0 c.self.invariant.1 a pins.0,
-      c.self.invariant.2,
+      subst (λ (l : Limits). l.pins ≤ vec_capacity c.self.inside.pins) (limits_stay c.in_ok-answer.left c.self.inside.world c.apply_sort.new.world back) c.self.invariant.2,
     ))
 
 pub returns-clause-done : goal.returns-clause-done

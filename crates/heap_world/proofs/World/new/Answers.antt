@@ -5,9 +5,9 @@ use Rattle.heap_region.specs.Pool.{opening_pool}
 use Rattle.heap_world.proofs.World.new.Goals as goal
 
 pub invariant_of-result : goal.invariant_of-result
-invariant_of-result c = opens_held c.args.config.regions c.args.config.mutators _ _ _
-    (opens _ _ _ _ _ _ _ _ c.new-3.ensures (c.in_ok-regions.ensures.opened ∙ ap opening_pool c.regions-count.ensures.value) c.in_ok-registers.ensures.null (ap (λ n. 8 * n) c.mutators-mutators.ensures.value) c.in_ok-marker.ensures.idle)
-    c.regions-count.ensures.limits (ap (λ (m : MarkerState). m.room) c.in_ok-marker.ensures.idle ∙ ap (λ n. 256 * n) c.regions-count.ensures.value)
+invariant_of-result c = opens_held c.args.config.limits c.args.config.regions c.args.config.mutators _ _ _
+    (opens _ _ _ _ _ _ _ _ _ _ c.limits.ensures.value c.new-3.ensures (c.in_ok-regions.ensures.opened ∙ ap opening_pool c.regions-count.ensures.value) c.in_ok-registers.ensures.null (ap (λ n. 8 * n) c.mutators-mutators.ensures.value) c.in_ok-marker.ensures.idle)
+    c.limits.ensures.within c.regions-count.ensures.limits (ap (λ (m : MarkerState). m.room) c.in_ok-marker.ensures.idle ∙ ap (λ n. 256 * n) c.regions-count.ensures.value)
 
 pub returns-clause-opened : goal.returns-clause-opened
-returns-clause-opened c = opens _ _ _ _ _ _ _ _ c.new-3.ensures (c.in_ok-regions.ensures.opened ∙ ap opening_pool c.regions-count.ensures.value) c.in_ok-registers.ensures.null (ap (λ n. 8 * n) c.mutators-mutators.ensures.value) c.in_ok-marker.ensures.idle
+returns-clause-opened c = opens _ _ _ _ _ _ _ _ _ _ c.limits.ensures.value c.new-3.ensures (c.in_ok-regions.ensures.opened ∙ ap opening_pool c.regions-count.ensures.value) c.in_ok-registers.ensures.null (ap (λ n. 8 * n) c.mutators-mutators.ensures.value) c.in_ok-marker.ensures.idle

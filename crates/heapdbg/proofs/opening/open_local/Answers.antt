@@ -6,10 +6,10 @@ use Rattle.heapdbg.proofs.opening.open_local.Goals as goal
 
 pub returns-in-Ok-clause-opening : goal.returns-in-Ok-clause-opening
 returns-in-Ok-clause-opening c =
-    ap (λ (l : Local). l.machine) c.new-local.ensures ∙ c.in-Ok.ensures.opened ∙ ap (λ s. opening_machine s.ids s.regions s.mutators s.keep) c.config.ensures
+    ap (λ (l : Local). l.machine) c.new-local.ensures ∙ c.in-Ok.ensures.opened ∙ ap (λ s. opening_machine s.limits s.ids s.regions s.mutators s.keep) c.config.ensures
 
 pub returns-in-Ok-clause-first : goal.returns-in-Ok-clause-first
 returns-in-Ok-clause-first c =
     ap (λ (l : Local). l.first_pin) c.new-local.ensures
-    ∙ ap (λ (m : Machine). m.pins.next) (c.in-Ok.ensures.opened ∙ ap (λ s. opening_machine s.ids s.regions s.mutators s.keep) c.config.ensures)
-    ∙ first_is c.args.settings.now.ids c.args.settings.now.regions c.args.settings.now.mutators c.args.settings.now.keep
+    ∙ ap (λ (m : Machine). m.pins.next) (c.in-Ok.ensures.opened ∙ ap (λ s. opening_machine s.limits s.ids s.regions s.mutators s.keep) c.config.ensures)
+    ∙ first_is c.args.settings.now

@@ -2,13 +2,13 @@ use Rattle.std.proofs.Common.{◌∙◌, ap, sym}
 use Rattle.std.specs.Prelude.{option_and_then}
 use Rattle.clap.specs.Words.{subcommand_of}
 use Rattle.heapdbg_options.specs.CommandLine.{heapdbg_line, settings_under, texts}
-use Rattle.heapdbg_options.proofs.AskedSettings.{defaults_of, limits_of}
+use Rattle.heapdbg_options.proofs.AskedSettings.{defaults_of, settings_within}
 use Rattle.heapdbg_options.proofs.AskedTexts.{version_refuses}
 use Rattle.heapdbg_options.proofs.command_line.settings.Goals as goal
 
 pub returns-in-Ok-settings_of_matches-clause-limits : goal.returns-in-Ok-settings_of_matches-clause-limits
 returns-in-Ok-settings_of_matches-clause-limits c =
-    limits_of (subcommand_of heapdbg_line (texts c.args.words.now)) c.in-Ok-settings_of_matches.settings
+    settings_within (subcommand_of heapdbg_line (texts c.args.words.now)) c.in-Ok-settings_of_matches.settings
     (ap (option_and_then settings_under) (sym c.in-Ok.ensures.ok) ∙ c.in-Ok-settings_of_matches.ensures.0)
 
 pub returns-in-Ok-settings_of_matches-clause-defaults : goal.returns-in-Ok-settings_of_matches-clause-defaults

@@ -4,7 +4,7 @@ use Rattle.std.proofs.lemmas.Result.{IfOk-weaker}
 use Rattle.heap_world.specs.Live.{cells_of}
 use Rattle.heap_world.specs.Pool.{RegionPool}
 use Rattle.heap_world.specs.Regions.{UsedRegion, used_at}
-use Rattle.heap_world.specs.State.{HeapState, pool_of}
+use Rattle.heap_world.specs.State.{pool_of}
 use Rattle.session_text.specs.Replies.{and_number}
 use Rattle.question_text.specs.CellLists.{cell_letters, region_text, sweep_words}
 use Rattle.question_text.proofs.UsedRegions.{region_line, region_row}

@@ -1,4 +1,4 @@
-use Rattle.std.proofs.Common.{◌≡◌, ℕ, [], ◌∷◌, subst, sym}
+use Rattle.std.proofs.Common.{ℕ, [], ◌∷◌, subst, sym}
 use Rattle.std.proofs.lemmas.Result.{err_from_is_err_and}
 use Rattle.heap_step.specs.declared.Event.TheVariants.{Sweep}
 use Rattle.heap_trail.specs.Machine.{Machine}

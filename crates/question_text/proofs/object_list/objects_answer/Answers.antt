@@ -1,4 +1,3 @@
-use Rattle.std.proofs.Common.{◌≡◌, ◌∙◌}
 use Rattle.question_text.proofs.NamedObjects.{all_listed_there}
 use Rattle.question_text.proofs.object_list.objects_answer.Goals as goal
 

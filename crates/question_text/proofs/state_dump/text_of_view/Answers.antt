@@ -1,4 +1,4 @@
-use Rattle.std.proofs.Common.{◌≡◌, ◌+◌, ap, refl, ◌∙◌}
+use Rattle.std.proofs.Common.{ap, refl, ◌∙◌}
 use Rattle.hprof_text.specs.declared.Piece.{Piece}
 use Rattle.question_text.proofs.JoinedDump.{front_first, front_last, front_more, one_after, some_piece}
 use Rattle.question_text.proofs.state_dump.text_of_view.Goals as goal

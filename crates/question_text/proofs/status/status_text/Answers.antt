@@ -1,4 +1,4 @@
-use Rattle.std.proofs.Common.{◌≡◌, ◌∙◌, ◌++◌, ℕ, List, ap}
+use Rattle.std.proofs.Common.{◌∙◌, ◌++◌, ℕ, List, ap}
 use Rattle.std.specs.Prelude.{flat_map}
 use Rattle.heap_world.specs.State.{HeapState}
 use Rattle.question_text.specs.Statuses.{collector_facts, fact_text, trail_facts}

@@ -1,7 +1,6 @@
-use Rattle.std.proofs.Common.{◌≡◌, ◌∙◌, ◌<◌, Bool, List, Option, ap, arith, false, length, sym, true}
-use Rattle.std.specs.Prelude.{option_map, unwrap_or}
+use Rattle.std.proofs.Common.{◌≡◌, ◌∙◌, ◌<◌, Bool, Option, ap, arith, false, length, sym}
+use Rattle.std.specs.Prelude.{unwrap_or}
 use Rattle.heap_world.specs.Pool.{RegionPool}
-use Rattle.heap_world.specs.Regions.{Region, UsedRegion, used_at}
 use Rattle.heap_mark.specs.MarkSteps.{pending_regions}
 use Rattle.question_text.proofs.UsedRegions.{none_waits, one_waits, waiting_all, waiting_none}
 use Rattle.question_text.proofs.status.unswept_count.Goals as goal

@@ -1,0 +1,79 @@
+"""Cases of wide heaps, and of what others refuse."""
+import os
+import tempfile
+
+from clients import served, told_all
+from runs import run
+from save_cases import saved
+
+# Names that only a wide heap allows, and names that none does.
+WIDE_NAMES = (b"n" * 65, b"n" * 255, b"map<int,[]>", b'"a|b"', b"-", b"~!@#%^&*()+=?\\'`{}")
+NO_NAMES = (b"n" * 256, b"a:b", b":")
+
+
+def classes(count):
+    """Returns lines that define `count` classes, and what they are answered where all are allowed."""
+    lines = b"".join(b"class C%d -\n" % number for number in range(count))
+    return lines, b"".join(b"ok class %d\n" % number for number in range(count))
+
+
+def arrays(count):
+    """Returns lines that fill `count` regions with an array each, and what they are answered where there are so many."""
+    return b"newprim 0 0 long 1024\n" * count, b"".join(b"ok object 0x%08x\n" % (0x10000000 + 8192 * number) for number in range(count))
+
+
+def pins(count):
+    """Returns lines that open `count` pins, and what they are answered where all are allowed."""
+    return b"open -\n" * count, b"".join(b"ok pin %d at 0\n" % number for number in range(1, count + 1))
+
+
+def limits_of_a_wide_heap(program):
+    """Yields sessions at the limits of a wide heap."""
+    lines, answers = classes(4096)
+    wanted = answers + b"no 3 ClassLimit\nno 3 ClassLimit\n"
+    yield "4,096 classes", run(program, ["run", "--wide", "1"], lines + b"class D -\narray E\n"), (0, wanted, b"")
+    lines, answers = arrays(257)
+    ran = run(program, ["run", "--wide", "1", "--regions", "257"], lines + b"newprim 0 0 long 1\n")
+    yield "257 regions", ran, (0, answers + b"no 13 HeapFull\n", b"")
+    lines, answers = pins(64)
+    yield "64 pins", run(program, ["run", "--wide=1"], lines + b"open -\n"), (0, answers + b"no 25 PinLimit\n", b"")
+    for name in WIDE_NAMES:
+        ran = run(program, ["run", "--wide", "1"], b"class %s - %s:int\narray x%s\n" % (name, name, name[1:]))
+        yield f"the name {name!r:.40} in a wide heap", ran, (0, b"ok class 0\nok class 1\n", b"")
+    for name in NO_NAMES:
+        ran = run(program, ["run", "--wide", "1"], b"array %s\n" % name)
+        yield f"the name {name!r:.40} in a wide heap", ran, (0, b"no 4 BadName\n", b"")
+    elements = b"newprim 0 0 byte 1025\nnewprim 0 0 byte 1024\n"
+    yield "elements", run(program, ["run", "--wide", "1"], elements), (0, b"no 12 TooLarge\nok object 0x10000000\n", b"")
+    kept = b"clear 0 0\n" * 65_538 + b"rewind 65538\nrewind 65537\n"
+    ran = run(program, ["run", "--keep", "65537", "--wide", "1"], kept)
+    yield "65,537 steps", ran, (0, b"ok\n" * 65_538 + b"no 21 TooFar 65538 65537\nok place 1\n", b"")
+    for words in (["--regions", "65536", "--keep", "1"], ["--regions", "1", "--keep", "16777216"]):
+        yield " ".join(words), run(program, ["run", "--wide", "1", *words], b"clear 0 0\n"), (0, b"ok\n", b"")
+
+
+def limits_of_other_heaps(program):
+    """Yields sessions at the limits of a heap that isn't wide, which `--wide 0` leaves as they are."""
+    for words in ([], ["--wide", "0"]):
+        lines, answers = classes(256)
+        wanted = answers + b"no 3 ClassLimit\nno 3 ClassLimit\n"
+        yield f"256 classes {words}", run(program, ["run", *words], lines + b"class D -\narray E\n"), (0, wanted, b"")
+        lines, answers = pins(4)
+        yield f"4 pins {words}", run(program, ["run", *words], lines + b"open -\n"), (0, answers + b"no 25 PinLimit\n", b"")
+        for name in WIDE_NAMES + NO_NAMES:
+            yield f"the name {name!r:.40} {words}", run(program, ["run", *words], b"array %s\n" % name), (0, b"no 4 BadName\n", b"")
+
+
+def wide_heaps(program):
+    """Yields sessions of wide heaps, by each command that opens one, and of others, as (name, what happened, what must happen)."""
+    yield from limits_of_a_wide_heap(program)
+    yield from limits_of_other_heaps(program)
+    lines, answers = classes(257)
+    wanted = (0, answers, b"")
+    yield "explore --wide 1", run(program, ["explore", "--wide", "1"], lines), wanted
+    yield "serve --wide 1", served(program, told_all(lines), ["--wide", "1"]), (0, b"session 1 quit\n", b"", answers)
+    with tempfile.TemporaryDirectory() as folder:
+        path = os.path.join(folder, "heap.svg")
+        yield "draw --wide 1", run(program, ["draw", "--out", path, "--wide", "1"], lines), wanted
+        status, out, error, dump = saved(program, os.path.join(folder, "heap.hprof"), lines, ["--wide", "1"])
+        yield "save --wide 1", (status, out, error, dump.count(b"C256")), (0, answers + b"saved %d\n" % len(dump), b"", 1)

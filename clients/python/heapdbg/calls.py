@@ -1,0 +1,242 @@
+"""The lines of a session as methods."""
+from __future__ import annotations
+
+from typing import Any, Optional, Sequence, Union
+
+from .faults import word_of
+from .moments import Moment, Now, Pin, PinAt, Place, word_of_moment
+from .rows import (
+    Cells,
+    ClassCount,
+    ClassGrowth,
+    ClassRow,
+    Collected,
+    HeldPin,
+    ListedObject,
+    LostPin,
+    NullRegister,
+    ObjectId,
+    PastStep,
+    Piece,
+    Reader,
+    Register,
+    RegisterReference,
+    RegisterStep,
+    SlotReference,
+    SlotRow,
+    SlotStep,
+    Swept,
+    When,
+    bytes_of,
+    cells_of,
+    collected,
+    counted,
+    defined,
+    facts_by_name,
+    grown,
+    listed,
+    loaded,
+    number,
+    open_pin,
+    past,
+    path_step,
+    piece,
+    place_or_older,
+    reference,
+    register,
+    rows_by,
+    slot,
+    swept,
+)
+
+
+def pinned(words: list, _lines: list) -> PinAt:
+    """Returns a pin and its place."""
+    return PinAt(int(words[1]), int(words[3]))
+
+
+# The name of a pin.
+PinName = Union[Pin, PinAt, int]
+
+
+class Calls:
+    """The lines of a session as methods. `send` sends a line and returns what becomes of its reply, and `order` does so for a
+    line whose reply is only `ok`. The types are those of a session's values: a batch returns a `Later` in place of each."""
+
+    def send(self, line: str, reader: Reader) -> Any:
+        """Sends a line whose reply `reader` turns into a value."""
+        raise NotImplementedError
+
+    def order(self, line: str) -> Any:
+        """Sends a line whose reply is only `ok`."""
+        raise NotImplementedError
+
+    # ---- classes and objects
+
+    def define_class(self, name: str, fields: Sequence[tuple[str, str]] = (), sup: Optional[int] = None) -> int:
+        """Defines a class with fields (name, kind), and returns its number."""
+        texts = [word_of(f"{field}:{kind}") for field, kind in fields]
+        return self.send(" ".join(["class", word_of(name), "-" if sup is None else str(sup), *texts]), number)
+
+    def define_array(self, name: str) -> int:
+        """Defines a class of object arrays, and returns its number."""
+        return self.send(f"array {word_of(name)}", number)
+
+    def new(self, m: int, r: int, class_number: int) -> ObjectId:
+        """Makes an instance in register `r` of mutator `m`, and returns its id."""
+        return self.send(f"new {m} {r} {class_number}", loaded)
+
+    def new_array(self, m: int, r: int, class_number: int, length: int) -> ObjectId:
+        """Makes an object array, and returns its id."""
+        return self.send(f"newarray {m} {r} {class_number} {length}", loaded)
+
+    def new_values(self, m: int, r: int, kind: str, length: int) -> ObjectId:
+        """Makes an array of values of a kind, and returns its id."""
+        return self.send(f"newprim {m} {r} {word_of(kind)} {length}", loaded)
+
+    def load(self, m: int, to: int, source: int, slot: int) -> Union[ObjectId, int, None]:
+        """Reads a slot: returns a value, or an id or None, which is then in register `to`."""
+        return self.send(f"load {m} {to} {source} {slot}", loaded)
+
+    def store(self, m: int, target: int, slot: int, source: int) -> None:
+        """Writes what register `source` holds to a reference slot of the object in register `target`."""
+        return self.order(f"store {m} {target} {slot} {source}")
+
+    def put(self, m: int, target: int, slot: int, value: int) -> None:
+        """Writes a value slot of the object in register `target`."""
+        return self.order(f"put {m} {target} {slot} {value}")
+
+    def move(self, m: int, to: int, from_m: int, source: int) -> None:
+        """Copies a register of mutator `from_m` to one of mutator `m`."""
+        return self.order(f"move {m} {to} {from_m} {source}")
+
+    def clear(self, m: int, r: int) -> None:
+        """Makes a register null."""
+        return self.order(f"clear {m} {r}")
+
+    # ---- collecting
+
+    def snap(self) -> int:
+        """Begins a cycle, and returns how many objects were marked."""
+        return self.send("snap", number)
+
+    def mark(self) -> int:
+        """Looks at a gray object, and returns how many were marked."""
+        return self.send("mark", number)
+
+    def drain(self) -> int:
+        """Looks at an entry of the log, and returns how many objects were marked."""
+        return self.send("drain", number)
+
+    def finish(self) -> int:
+        """Ends the cycle, and returns how many objects aren't live."""
+        return self.send("finish", number)
+
+    def sweep(self, region: int) -> Swept:
+        """Removes a region's objects that aren't live, and returns a `Swept`."""
+        return self.send(f"sweep {region}", swept)
+
+    # ---- the past and dumps
+
+    def rewind(self, count: int) -> int:
+        """Undoes the last steps, and returns the place."""
+        return self.send(f"rewind {count}", number)
+
+    def open(self, place: Union[Place, Now, int, None] = None) -> PinAt:
+        """Opens a pin on a retained place, or on the current state, and returns a `PinAt`."""
+        return self.send(f"open {word_of_moment(place)}", pinned)
+
+    def piece(self, pin: PinName) -> Piece:
+        """Returns the next `Piece` of a pin's dump."""
+        return self.send(f"piece {word_of_moment(pin)}", piece)
+
+    def dump(self, pin: Union[PinName, Now, None] = None) -> bytes:
+        """Returns the bytes of a pin's dump from the next piece on, or those of the current state."""
+        return self.send(f"dump {word_of_moment(pin)}", bytes_of)
+
+    def close(self, pin: PinName) -> None:
+        """Closes a pin."""
+        return self.order(f"close {word_of_moment(pin)}")
+
+    def keep(self, pin: PinName) -> None:
+        """Has a pin of this session stay open when the session ends. Only a heap that is served with `--stay 1` knows this line."""
+        return self.order(f"keep {word_of_moment(pin)}")
+
+    # ---- questions, of a heapdbg that answers them
+
+    def show(self, moment: Moment, of: int) -> list[SlotRow]:
+        """Returns a `SlotRow` for each slot of an object."""
+        return self.send(f"show {word_of_moment(moment)} {ObjectId(of)}", rows_by(slot))
+
+    def registers(self, moment: Moment = None) -> list[Union[Register, NullRegister]]:
+        """Returns a `Register` for each register that names an object, and a `NullRegister` for each other."""
+        return self.send(f"registers {word_of_moment(moment)}", rows_by(register))
+
+    def classes(self, moment: Moment = None) -> list[ClassRow]:
+        """Returns a `ClassRow` for each class."""
+        return self.send(f"classes {word_of_moment(moment)}", rows_by(defined))
+
+    def objects(self, moment: Moment = None) -> list[ListedObject]:
+        """Returns a `ListedObject` for each live object, in the order of a dump."""
+        return self.send(f"objects {word_of_moment(moment)}", rows_by(listed))
+
+    def histogram(self, moment: Moment = None) -> list[ClassCount]:
+        """Returns a `ClassCount` for each class that has objects, the most bytes first."""
+        return self.send(f"histogram {word_of_moment(moment)}", rows_by(counted))
+
+    def growth(self, older: Moment, newer: Moment = None) -> list[ClassGrowth]:
+        """Returns a `ClassGrowth` for each class that differs between two moments."""
+        return self.send(f"growth {word_of_moment(older)} {word_of_moment(newer)}", rows_by(grown))
+
+    def path(self, moment: Moment, to: int) -> list[Union[RegisterStep, SlotStep]]:
+        """Returns a shortest path to an object: a `RegisterStep`, then a `SlotStep` for each slot."""
+        return self.send(f"path {word_of_moment(moment)} {ObjectId(to)}", rows_by(path_step))
+
+    def retained(self, moment: Moment, of: int) -> list[ClassCount]:
+        """Returns a `ClassCount` for each class of the objects that are reached, and wouldn't be without this one, itself
+        among them. What several objects retain may overlap."""
+        return self.send(f"retained {word_of_moment(moment)} {ObjectId(of)}", rows_by(counted))
+
+    def referrers(self, moment: Moment, of: int) -> list[Union[RegisterReference, SlotReference]]:
+        """Returns what names an object: a `RegisterReference` for each register, then a `SlotReference` for each slot."""
+        return self.send(f"referrers {word_of_moment(moment)} {ObjectId(of)}", rows_by(reference))
+
+    def garbage(self, moment: Moment = None) -> list[ClassCount]:
+        """Returns a `ClassCount` for each class with live objects that no register reaches."""
+        return self.send(f"garbage {word_of_moment(moment)}", rows_by(counted))
+
+    def wrote(self, of: int, slot: int) -> When:
+        """Returns the `When` of the newest retained step that changed a slot: ("place", P), or ("older", P)."""
+        return self.send(f"wrote {ObjectId(of)} {slot}", place_or_older)
+
+    def born(self, of: int) -> When:
+        """Returns the `When` of the step that made an object: ("place", P), or ("older", P)."""
+        return self.send(f"born {ObjectId(of)}", place_or_older)
+
+    def dropped(self, of: int) -> When:
+        """Returns the `When` of the step after which no register reached an object: ("place", P), ("reached",) or
+        ("older", P)."""
+        return self.send(f"dropped {ObjectId(of)}", place_or_older)
+
+    def history(self, count: int) -> list[PastStep]:
+        """Returns a `PastStep` for each of the newest retained steps, the newest first."""
+        return self.send(f"history {count}", rows_by(past))
+
+    def pins(self) -> list[Union[HeldPin, LostPin]]:
+        """Returns a `HeldPin` or a `LostPin` for each open pin."""
+        return self.send("pins", rows_by(open_pin))
+
+    def cells(self) -> list[Cells]:
+        """Returns `Cells` of each region in use: a letter is `.` for a free cell, `o` for a live object, `m` for a marked one, `g`
+        for a gray one, and `x` for one that isn't live."""
+        return self.send("cells", rows_by(cells_of))
+
+    def heap_status(self) -> dict[str, Union[int, str]]:
+        """Asks `status`, and returns a dict of numbers, but for "phase", which is "idle" or "marking": "place", "retained", "gray",
+        "undrained", "unswept", "regions", and of a served heap "acts"."""
+        return self.send("status", facts_by_name)
+
+    def collect(self) -> Collected:
+        """Runs a whole cycle, or finishes the one that runs, and returns what it did as `Collected`. The only question that
+        changes the heap."""
+        return self.send("collect", collected)

@@ -1,0 +1,192 @@
+//! Which regions a picture shows cell by cell, each in a row of its own.
+use heap_class::ObjRef;
+use heap_region::Regions;
+use std::alloc::{AllocError, Global};
+
+// A heap of at most this many regions is shown whole.
+const WHOLE_LIMIT: u64 = 256;
+
+// The most rows of a picture of a larger heap.
+const ROW_LIMIT: u64 = 1_024;
+
+// The most bytes that the rows of such a picture take. The bars of all other regions take 0.7 MB at most.
+const TEXT_LIMIT: u64 = 1_200_000;
+
+// The most bytes that a row takes beside its cells, that a cell takes, and that the stroke of a gray object takes.
+const ROW_TEXT: u64 = 128;
+
+const CELL_TEXT: u64 = 8;
+
+const GRAY_TEXT: u64 = 16;
+
+// The number of words of a region.
+const REGION_WORDS: u64 = 1_024;
+
+// What there is in a region: the words of the cells in use, and the most bytes that its row takes.
+#[derive(Clone, Copy)]
+struct Contents {
+    words: u64,
+    text: u64,
+}
+
+// Returns what there is in a region, without the strokes of gray objects.
+fn contents_of(regions: &Regions, region: u64) -> Contents {
+    let mut contents = Contents {
+        words: 0,
+        text: ROW_TEXT,
+    };
+    let Some(size) = regions.cell_size(region) else {
+        return contents;
+    };
+    let number = regions.region_number(region);
+    for cell in 0..regions.cell_count(region) {
+        let at = ObjRef {
+            region: number,
+            cell,
+        };
+        contents.text = contents.text.saturating_add(CELL_TEXT);
+        if regions.has_object(at) {
+            contents.words = contents.words.saturating_add(size);
+            let (live, mark) = regions.bits(at);
+            if mark || !live {
+                contents.text = contents.text.saturating_add(CELL_TEXT);
+            }
+        }
+    }
+    contents
+}
+
+// Returns what there is in each region, without the strokes of gray objects.
+fn all_contents(alloc: Global, regions: &Regions) -> Result<Vec<Contents>, AllocError> {
+    let mut contents = Vec::new(alloc);
+    for region in 0..regions.count() {
+        contents.push(contents_of(regions, region))?;
+    }
+    Ok(contents)
+}
+
+// Counts the strokes of gray objects.
+fn count_gray(contents: &mut [Contents], regions: &Regions, gray: &[u64]) {
+    for id in gray {
+        if let Some(at) = regions.find(*id) {
+            let region = at.region as usize;
+            if region < contents.len() {
+                contents[region].text = contents[region].text.saturating_add(GRAY_TEXT);
+            }
+        }
+    }
+}
+
+// Returns a number for each region, by which those with more bytes come first, and of as many those with a lower number. Its
+// rest by the number of regions is the region.
+fn keys_of(alloc: Global, contents: &[Contents]) -> Result<Vec<u64>, AllocError> {
+    let count = contents.len() as u64;
+    let mut keys = Vec::new(alloc);
+    let mut region = 0;
+    for content in contents {
+        let empty = REGION_WORDS.saturating_sub(content.words);
+        keys.push(empty.saturating_mul(count).saturating_add(region))?;
+        region = region.saturating_add(1);
+    }
+    keys.as_mut_slice().sort_unstable();
+    Ok(keys)
+}
+
+// Marks the regions that get a row: those with the most bytes, as many as there is room for.
+fn mark_largest(marked: &mut [bool], contents: &[Contents], keys: &[u64]) {
+    let count = contents.len() as u64;
+    let mut rows: u64 = 0;
+    let mut left = TEXT_LIMIT;
+    for key in keys {
+        let region = (*key).checked_rem(count).unwrap_or(0) as usize;
+        if rows < ROW_LIMIT && region < marked.len() && region < contents.len() {
+            let text = contents[region].text;
+            if text <= left {
+                marked[region] = true;
+                rows = rows.saturating_add(1);
+                left = left.saturating_sub(text);
+            }
+        }
+    }
+}
+
+// The rows of a picture.
+#[derive(Drop)]
+pub(crate) struct Rows {
+    // For each region its row, if it has one.
+    rows: Vec<Option<u64>>,
+    // The number of rows.
+    count: u64,
+    // What there is in each region of a heap that isn't shown whole.
+    contents: Vec<Contents>,
+}
+
+impl Rows {
+    // Gives rows to regions, in the order of their numbers: to all of a small heap, and of a larger one to those with the most
+    // bytes. Fails if an allocation fails.
+    pub(crate) fn new(alloc: Global, regions: &Regions, gray: &[u64]) -> Result<Rows, AllocError> {
+        let is_whole = regions.count() <= WHOLE_LIMIT;
+        let mut marked = vec![in alloc; is_whole; regions.count() as usize]?;
+        let mut contents = Vec::new(alloc);
+        if !is_whole {
+            contents = all_contents(alloc, regions)?;
+            count_gray(contents.as_mut_slice(), regions, gray);
+            let keys = keys_of(alloc, contents.as_slice())?;
+            mark_largest(marked.as_mut_slice(), contents.as_slice(), keys.as_slice());
+        }
+        Rows::of_marked(alloc, marked.as_slice(), contents)
+    }
+
+    // Gives a row to each region that is marked.
+    fn of_marked(
+        alloc: Global,
+        marked: &[bool],
+        contents: Vec<Contents>,
+    ) -> Result<Rows, AllocError> {
+        let mut rows = Vec::new(alloc);
+        let mut count: u64 = 0;
+        for is_marked in marked {
+            if *is_marked {
+                rows.push(Some(count))?;
+                count = count.saturating_add(1);
+            } else {
+                rows.push(None)?;
+            }
+        }
+        Ok(Rows {
+            rows,
+            count,
+            contents,
+        })
+    }
+
+    // Returns the number of rows.
+    pub(crate) fn count(&self) -> u64 {
+        self.count
+    }
+
+    // Returns the number of regions that have no row.
+    pub(crate) fn others(&self) -> u64 {
+        (self.rows.len() as u64).saturating_sub(self.count)
+    }
+
+    // Returns the row of a region, if it has one.
+    pub(crate) fn row(&self, region: u64) -> Option<u64> {
+        let place = region as usize;
+        if place < self.rows.len() {
+            self.rows[place]
+        } else {
+            None
+        }
+    }
+
+    // Returns how many words of a region are in use, of a heap that isn't shown whole.
+    pub(crate) fn words(&self, region: u64) -> u64 {
+        let place = region as usize;
+        if place < self.contents.len() {
+            self.contents[place].words
+        } else {
+            0
+        }
+    }
+}

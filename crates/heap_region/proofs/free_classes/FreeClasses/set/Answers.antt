@@ -1,4 +1,0 @@
-use Rattle.heap_region.proofs.free_classes.FreeClasses.set.Goals as goal
-
-pub returns-then-was-class : goal.returns-then-was-class
-returns-then-was-class c = c.change.ensures

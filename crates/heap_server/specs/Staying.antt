@@ -1,0 +1,90 @@
+-- What the seats of a heap did that stays.
+use Rattle.std.specs.Prelude.{◌≡◌, List, [], ◌∷◌, ◌++◌, Option, Some, None, IfSome}
+use Rattle.heap_lock.specs.Seated.{TableId}
+use Rattle.heap_lock.specs.HeapLimits.{HeapSettings}
+use Rattle.heap_lock.specs.Blanks.{Maker, chair_of}
+use Rattle.heap_lock.specs.LockStates.{Chair, IsChair}
+use Rattle.heap_lock.specs.declared.stub.Stub.{Stub}
+use Rattle.heap_server.specs.SocketTraffic.{Traffic}
+use Rattle.heap_server.specs.Stations.{InTurn, IsClientOf}
+use Rattle.heap_server.specs.declared.client_session.SessionEnd.{SessionEnd}
+use Rattle.heap_server.specs.declared.sessions.Terms.{Terms}
+use Rattle.heap_server.specs.declared.staying.SeatStay.{SeatStay}
+use Rattle.heap_server.specs.declared.staying.StayedHeap.{StayedHeap}
+use Rattle.heap_server.specs.declared.staying_tended.StayTendedHeap.{StayTendedHeap}
+use Rattle.heap_server.specs.Tending.{IsSeatAfterRuns, MarkRuns, SweepRuns}
+
+-- how a session ended, and what went through its socket
+abbrev pub SocketSession : Type 0
+SocketSession = SessionEnd × Option Traffic
+
+-- sessions from a seat, one after another, each from the seat as the one before it left it
+abbrev pub AreSessions : HeapSettings → Terms → Chair → List SocketSession → Chair → Type 0
+AreSessions config terms s [] s' = s' ≡ s
+AreSessions config terms s (e ∷ es) s' =
+    (next : Chair) × IsClientOf config terms s next e.0 e.1 × AreSessions config terms next es s'
+
+-- a seat of the heap with these tables as its sessions left it; or there was no thread for it, and it had none
+abbrev pub IsStayLeft : HeapSettings → List TableId → Terms → Chair → List SocketSession
+    → Option Stub
+    → Type 0
+IsStayLeft config tables terms s sessions (Some stub) =
+    IsChair tables stub.number stub.share × AreSessions config terms s sessions (chair_of stub)
+IsStayLeft config tables terms s sessions None = sessions ≡ []
+
+-- the same of the sessions beside their seat
+abbrev pub IsSeatStay : HeapSettings → List TableId → Terms → Chair → SeatStay → Type 0
+IsSeatStay config tables terms s stay =
+    IsStayLeft config tables terms s stay.sessions.items stay.stub
+
+-- the sessions of each of these seats, in order
+abbrev pub AreStays : HeapSettings → List TableId → Terms → List Chair → List SeatStay → Type 0
+AreStays config tables terms seats stays =
+    InTurn (IsSeatStay config tables terms) seats stays []
+
+-- one more session was served from the seat
+abbrev pub ServesNext : HeapSettings → Terms → Chair → List SocketSession → Chair
+    → List SocketSession
+    → Type 0
+ServesNext config terms s es s' es' =
+    (e : SocketSession) × IsClientOf config terms s s' e.0 e.1 × (es' ≡ es ++ e ∷ [])
+
+-- ---- a heap
+
+-- these are the sessions of all seats of this heap, on these terms
+abbrev pub IsStayedOver : Maker → Terms → StayedHeap → Type 0
+IsStayedOver blank terms h =
+    (h.made.value ≡ blank) × (h.terms ≡ terms)
+    × AreStays blank.config blank.tables terms blank.seats h.stayed.seats.items
+
+-- the first two of these seats, as the runs of their workers left them, and the sessions of the others, on these terms
+abbrev pub AreTendedStays : HeapSettings → List TableId → Terms → List Chair → StayTendedHeap
+    → Type 0
+AreTendedStays config tables terms (marker ∷ sweeper ∷ users) h =
+    IsSeatAfterRuns tables (MarkRuns config marker) h.marker
+    × IsSeatAfterRuns tables (SweepRuns config sweeper) h.sweeper
+    × AreStays config tables terms users h.heap.stayed.seats.items
+AreTendedStays config tables terms seats h = ⊥
+
+-- these are the sessions of all users' seats of this heap, on these terms, and this is what its workers did
+abbrev pub IsStayTendedOver : Maker → Terms → StayTendedHeap → Type 0
+IsStayTendedOver blank terms h =
+    (h.heap.made.value ≡ blank) × (h.heap.terms ≡ terms)
+    × AreTendedStays blank.config blank.tables terms blank.seats h
+
+-- if a thread was started for a seat, it was for this one and on these terms
+abbrev pub IsStayBegun : Terms → Chair → Option (Chair × Terms) → Type 0
+IsStayBegun terms s thread = IfSome thread (λ r. r ≡ (s, terms))
+
+-- a seat for which a thread was begun so, if at all, stayed so
+abbrev pub StaysAs : HeapSettings → List TableId → Option (Chair × Terms) → SeatStay → Type 0
+StaysAs config tables thread stay =
+    (terms : Terms) (s : Chair) → IsStayBegun terms s thread
+    → IsSeatStay config tables terms s stay
+
+-- seats for which threads were begun so stayed so, in order
+abbrev pub StayAs : HeapSettings → List TableId → List (Option (Chair × Terms)) → List SeatStay
+    → Type 0
+StayAs config tables threads stays =
+    (terms : Terms) (seats rest : List Chair) → InTurn (IsStayBegun terms) seats threads rest
+    → InTurn (IsSeatStay config tables terms) seats stays rest

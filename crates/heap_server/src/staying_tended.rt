@@ -1,0 +1,126 @@
+//! Seats that serve one client after another, over a heap whose collector is tended in two threads.
+ghost use Rattle.std.specs.Prelude.{◌≡◌, ◌∷◌, IfOk, length};
+ghost use Rattle.heap_lock.specs.Blanks.{IsNamed};
+ghost use Rattle.heap_server.specs.Staying.{AreStays, IsStayTendedOver};
+ghost use Rattle.heap_server.specs.Tending.{AreStaff, MarkRuns, SweepRuns};
+
+use crate::sessions::{Ports, ServicePlan, Terms};
+use crate::staying::{Stayed, StayedHeap, serve_staying};
+use crate::tended::{Staff, begin_workers, staff_of};
+use heap_lock::{Blank, Heap, Seat, Shared, Stub};
+use std::alloc::{AllocError, Global};
+use std::marker::Brand;
+use std::snapshot::Snapshot;
+use std::sync::Wait;
+use std::sync::atomic::{AtomicBool, Ordering};
+use std::thread;
+use std::thread::Threads;
+use std::time::Clock;
+
+/// What the seats of a heap did that stays, and the two seats of its workers as their runs left them.
+#[derive(Drop)]
+pub struct StayTended<L: Heap> {
+    pub stayed: Stayed,
+    pub marker: Seat<L>,
+    pub sweeper: Seat<L>,
+}
+
+/// The same of a heap that no type names.
+#[derive(Drop)]
+pub struct StayTendedHeap {
+    pub heap: StayedHeap,
+    pub marker: Stub,
+    pub sweeper: Stub,
+}
+
+/// Serves clients from all users' seats at a time as `serve_staying` does, while two threads tend the collector. They begin before the
+/// first accept, and are told to stop and joined after the last session. Fails as `serve_staying` does, and if a thread for them can't be
+/// started. May wait.
+pub fn serve_staying_tended<
+    L: Heap + Send + Sync,
+    R: Clock + Eprint + Print + Threads + Wait + Sync,
+>(
+    rt: &R,
+    alloc: Global,
+    shared: &Shared<L>,
+    staff: Staff<L>,
+    ports: Ports,
+    terms: Terms,
+) -> Result<StayTended<L>, AllocError>
+    requires { AreStaff (length staff.users) (staff.marker ∷ staff.sweeper ∷ staff.users) }
+    ensures seats { IfOk result
+        (λ s. AreStays L.config L.tables terms staff.users s.stayed.seats.items) }
+    ensures marks { IfOk result (λ s. MarkRuns L.config staff.marker s.marker) }
+    ensures sweeps { IfOk result (λ s. SweepRuns L.config staff.sweeper s.sweeper) }
+{
+    let word = AtomicBool::new(false);
+    let stop = &word;
+    thread::scope(
+        thread::scope_env(),
+        rt,
+        move |scope| -> Result<StayTended<L>, AllocError>
+            requires { AreStaff (length staff.users)
+                (staff.marker ∷ staff.sweeper ∷ staff.users) }
+            ensures seats { IfOk result
+                (λ s. AreStays L.config L.tables terms staff.users s.stayed.seats.items) }
+            ensures marks { IfOk result (λ s. MarkRuns L.config staff.marker s.marker) }
+            ensures sweeps { IfOk result (λ s. SweepRuns L.config staff.sweeper s.sweeper) }
+        {
+            let workers = begin_workers(scope, rt, shared, staff.marker, staff.sweeper, stop)?;
+            let stayed = serve_staying(rt, alloc, shared, staff.users, ports, terms);
+            stop.store(true, Ordering::SeqCst);
+            let marker = workers.marking.join(rt);
+            let sweeper = workers.sweeping.join(rt);
+            Ok(StayTended {
+                stayed: stayed?,
+                marker,
+                sweeper,
+            })
+        },
+    )
+}
+
+/// Opens a heap, and serves clients from all its users' seats at a time, as `serve_staying_tended` does. May wait.
+pub fn serve_staying_tended_heap<R: Clock + Eprint + Print + Threads + Wait + Sync>(
+    rt: &R,
+    alloc: Global,
+    blank: Blank,
+    plan: ServicePlan,
+) -> Result<StayTendedHeap, AllocError>
+    requires { AreStaff plan.most blank.seats }
+    ensures { IfOk result (IsStayTendedOver blank plan.terms) }
+{
+    stay_staffed::<Brand, R>(rt, alloc, blank, plan)
+}
+
+// Opens a heap that a type names, and serves clients as `serve_staying_tended_heap` does.
+fn stay_staffed<L: Heap + Send + Sync, R: Clock + Eprint + Print + Threads + Wait + Sync>(
+    rt: &R,
+    alloc: Global,
+    blank: Blank,
+    plan: ServicePlan,
+) -> Result<StayTendedHeap, AllocError>
+    requires named { IsNamed L.config L.tables L.ledger L.rolls blank }
+    requires staff { AreStaff plan.most blank.seats }
+    ensures { IfOk result (IsStayTendedOver blank plan.terms) }
+{
+    let made = Snapshot::of(&blank);
+    let (shared, seats) = blank.open::<L>();
+    let ServicePlan { most, ports, terms } = plan;
+    let staff = staff_of(seats, most);
+    let own = &terms;
+    let StayTended {
+        stayed,
+        marker,
+        sweeper,
+    } = serve_staying_tended(rt, alloc, &shared, staff, ports, *own)?;
+    Ok(StayTendedHeap {
+        heap: StayedHeap {
+            stayed,
+            made,
+            terms: *own,
+        },
+        marker: marker.into_stub(),
+        sweeper: sweeper.into_stub(),
+    })
+}

@@ -1,0 +1,4 @@
+pub mod WordEnds
+pub mod Differences
+pub mod FirstLines
+pub mod WordRooms

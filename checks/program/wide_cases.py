@@ -3,6 +3,8 @@ import os
 import tempfile
 
 from clients import served, told_all
+from explore_cases import run_after
+from run_cases import read_by_one
 from runs import run
 from save_cases import saved
 
@@ -64,10 +66,27 @@ def limits_of_other_heaps(program):
             yield f"the name {name!r:.40} {words}", run(program, ["run", *words], b"array %s\n" % name), (0, b"no 4 BadName\n", b"")
 
 
+def reads(program):
+    """Yields sessions at the most reads that a heap which isn't wide allows, and beyond it. In a file each line is read alone, and an
+    LF by one read; the last read finds the end."""
+    for words in ([], ["--wide", "0"]):
+        yield f"1,000,000 reads {words}", read_by_one(program, 1_000_000, False, *words), (1, b"bad reads\n", b"heapdbg: reads\n")
+        yield f"999,999 lines first {words}", run_after(program, b"\n" * 999_998 + b"q\n", b"", *words), (0, b"", b"heapdbg: PATH:999999: bad command: q\n")
+        said = b"heapdbg: PATH:1000000: a session has at most 1000000 reads\n"
+        yield f"1,000,001 lines first {words}", run_after(program, b"\n" * 1_000_000 + b"q\n", b"", *words), (0, b"", said)
+    wide = ["--wide", "1"]
+    yield "1,000,001 reads of a wide heap", read_by_one(program, 1_000_001, True, *wide), (0, b"", b"")
+    asked = read_by_one(program, 1_000_001, True, "--questions", "1", *wide)
+    yield "1,000,001 reads of a wide heap with questions", asked, (0, b"", b"")
+    said = b"heapdbg: PATH:1000001: bad command: q\n"
+    yield "1,000,001 lines first in a wide heap", run_after(program, b"\n" * 1_000_000 + b"q\n", b"", *wide), (0, b"", said)
+
+
 def wide_heaps(program):
     """Yields sessions of wide heaps, by each command that opens one, and of others, as (name, what happened, what must happen)."""
     yield from limits_of_a_wide_heap(program)
     yield from limits_of_other_heaps(program)
+    yield from reads(program)
     lines, answers = classes(257)
     wanted = (0, answers, b"")
     yield "explore --wide 1", run(program, ["explore", "--wide", "1"], lines), wanted

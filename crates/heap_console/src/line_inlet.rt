@@ -87,6 +87,12 @@ impl<F: Read + Drop, R: Eprint> LineInlet<'_, F, R> {
         let _ = eprintln!(self.rt; "heapdbg: {name}:{number}: {reason}");
     }
 
+    // Reports with the newest line that no more reads were allowed than these.
+    pub(crate) fn report_reads(&self, most: u64) {
+        let (name, number) = (self.name, self.number);
+        let _ = eprintln!(self.rt; "heapdbg: {name}:{number}: a session has at most {most} reads");
+    }
+
     // Keeps a part of a line, if there is memory for it, and counts the line if it begins here.
     fn keep(&mut self, part: &[u8])
         ensures { self.new.given ≡ self.old.given }

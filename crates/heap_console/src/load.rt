@@ -6,25 +6,30 @@ ghost use Rattle.heap_console.specs.Loads.{IsLoaded};
 use crate::discard::Discard;
 use crate::line_inlet::LineInlet;
 use crate::newest::{NewestLine, NotingOutlet};
-use session_text::{Commands, Ended, serve};
+use session_text::{Commands, Ended, SessionLimits, serve};
 use std::alloc::{AllocError, Global};
 use std::io::Read;
 
-// Returns why no line was read after the newest, or None if the file was read to its end or to a line `end`.
-fn reason_of(ended: Ended) -> Option<&'static str> {
-    match ended {
-        Ended::Quit | Ended::Eof => None,
-        Ended::CutLine => Some("the last line has no end"),
-        Ended::TooLong => Some("the line is too long"),
-        Ended::ReadFault => Some("a read failed after this line"),
-        Ended::TooManyReads => Some("a session has at most 1000000 reads"),
-        Ended::WriteFault | Ended::NoMemory => Some("out of memory"),
-    }
+// Reports why no line was read after the newest, unless the file was read to its end or to a line `end`.
+fn report_ending<F: Read + Drop, R: Eprint>(
+    lines: &LineInlet<'_, F, R>,
+    ended: Ended,
+    limits: SessionLimits,
+) {
+    let reason = match ended {
+        Ended::Quit | Ended::Eof => return,
+        Ended::TooManyReads => return lines.report_reads(limits.reads()),
+        Ended::CutLine => "the last line has no end",
+        Ended::TooLong => "the line is too long",
+        Ended::ReadFault => "a read failed after this line",
+        Ended::WriteFault | Ended::NoMemory => "out of memory",
+    };
+    lines.report_end(reason);
 }
 
-/// Serves the lines of a file as a session of these commands, whose answers go nowhere. Reports on standard error, by the file's
-/// name and the line's number, answer and text, each line that is no command or is refused, and why reading ended early. Fails
-/// if an allocation for reading the file fails, and reads nothing.
+/// Serves the lines of a file as a session of these commands, within these limits, whose answers go nowhere. Reports on standard
+/// error, by the file's name and the line's number, answer and text, each line that is no command or is refused, and why reading
+/// ended early. Fails if an allocation for reading the file fails, and reads nothing.
 pub fn load_lines<F: Read + Drop, R: Eprint, C: Commands>(
     rt: &R,
     alloc: Global,
@@ -32,17 +37,16 @@ pub fn load_lines<F: Read + Drop, R: Eprint, C: Commands>(
     file: F,
     commands: &mut C,
     time: u64,
+    limits: SessionLimits,
 ) -> Result<Ended, AllocError>
     ensures { IfOk result
-        (IsLoaded (AnswersCommand C.acts C.unknown time) (Begins C.acts C.unknown time)
+        (IsLoaded limits (AnswersCommand C.acts C.unknown time) (Begins C.acts C.unknown time)
         commands.old commands.new) }
 {
     let newest = NewestLine::new(alloc);
     let mut lines = LineInlet::new(rt, alloc, &newest, name, file)?;
     let mut answers = NotingOutlet::new(Discard::new(), &newest);
-    let ended = serve(alloc, &mut lines, &mut answers, commands, time);
-    if let Some(reason) = reason_of(ended) {
-        lines.report_end(reason);
-    }
+    let ended = serve(alloc, &mut lines, &mut answers, commands, time, limits);
+    report_ending(&lines, ended, limits);
     Ok(ended)
 }

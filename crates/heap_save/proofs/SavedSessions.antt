@@ -6,6 +6,7 @@ use Rattle.dump_pump.specs.Outlets.{Outgoing}
 use Rattle.pin_dump.specs.Machine.{Machine}
 use Rattle.session_text.specs.declared.Ended.{Ended}
 use Rattle.session_text.specs.Endings.{EndsSession, ended_of}
+use Rattle.session_text.specs.declared.limits.SessionLimits.{SessionLimits}
 use Rattle.dump_pump.specs.Inlets.{Incoming}
 use Rattle.session_text.specs.Limits.{is_whole_session}
 use Rattle.session_text.specs.Local.{own_closed}
@@ -21,10 +22,10 @@ saved_so makes first time left m' between w' outlet talked ended r written whole
     subst (λ q. EndsSave makes first time left m' between w' outlet talked ended (Some r) q) (sym whole) (r, lands, refl, (written, said, is))
 
 -- a session, and what was done after it
-pub saved_whole : (makes : Option Outgoing → Type 0) (first own time : ℕ) (m left m' : Machine) (a b : Incoming) (w between w' : Outgoing) (outlet : Option Outgoing) (talked ended : Ended) (pumped : Option Pumped)
-    → own ≡ first → IsSession m time a b w between left talked → EndsSession a b w between talked
-    → EndsSave makes own time left m' between w' outlet talked ended pumped (is_whole_session talked) → IsSaved makes first time m m' a b w w' outlet ended pumped
-saved_whole makes first own time m left m' a b w between w' outlet talked ended pumped same session ends goes = record {
+pub saved_whole : (limits : SessionLimits) (makes : Option Outgoing → Type 0) (first own time : ℕ) (m left m' : Machine) (a b : Incoming) (w between w' : Outgoing) (outlet : Option Outgoing) (talked ended : Ended) (pumped : Option Pumped)
+    → own ≡ first → IsSession m time a b w between left talked → EndsSession limits a b w between talked
+    → EndsSave makes own time left m' between w' outlet talked ended pumped (is_whole_session talked) → IsSaved limits makes first time m m' a b w w' outlet ended pumped
+saved_whole limits makes first own time m left m' a b w between w' outlet talked ended pumped same session ends goes = record {
   talked = talked;
   left = left;
   between = between;

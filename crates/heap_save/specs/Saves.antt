@@ -9,6 +9,7 @@ use Rattle.pin_dump.specs.Machine.{Machine}
 use Rattle.pin_dump.specs.PinDumps.{IsPlaceDumped, with_number_used}
 use Rattle.session_text.specs.declared.Ended.{Ended}
 use Rattle.session_text.specs.Endings.{EndsSession, EndsWith}
+use Rattle.session_text.specs.declared.limits.SessionLimits.{SessionLimits}
 use Rattle.dump_pump.specs.Inlets.{Incoming}
 use Rattle.session_text.specs.Limits.{is_whole_session}
 use Rattle.session_text.specs.Local.{own_closed}
@@ -88,14 +89,14 @@ EndsSave makes first time left m' between w' outlet talked ended pumped true =
 EndsSave makes first time left m' between w' outlet talked ended pumped false =
     (m' ≡ left) × (w' ≡ between) × (outlet ≡ None) × (pumped ≡ None) × (ended ≡ talked)
 
--- a session, how it ended, and what was done after it
-pub record IsSaved (makes : Option Outgoing → Type 0) (first time : ℕ) (m m' : Machine)
+-- a session that may have at most this, how it ended, and what was done after it
+pub record IsSaved (limits : SessionLimits) (makes : Option Outgoing → Type 0) (first time : ℕ) (m m' : Machine)
     (a b : Incoming) (w w' : Outgoing) (outlet : Option Outgoing) (ended : Ended)
     (pumped : Option Pumped) : Type 0 where
   pub talked : Ended
   pub left : Machine
   pub between : Outgoing
   pub session : IsSession m time a b w between left talked
-  pub ends : EndsSession a b w between talked
+  pub ends : EndsSession limits a b w between talked
   pub goes : EndsSave makes first time left m' between w' outlet talked ended pumped
       (is_whole_session talked)

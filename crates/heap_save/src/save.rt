@@ -10,7 +10,7 @@ use crate::line::write_last;
 use crate::outlets::Outlets;
 use dump_pump::{Outlet, Pumped};
 use pin_dump::{Gauge, Machine, stream_place};
-use session_text::{Ended, Inlet, Local, serve_local};
+use session_text::{Ended, Inlet, Local, SessionLimits, serve_local};
 use std::alloc::Global;
 use std::marker::Brand;
 use std::sync::Wait;
@@ -136,15 +136,16 @@ impl<'a, P: Outlets, G: Gauge> LastDump<'a, P, G> {
         local: &mut Local,
         reader: &mut I,
         writer: &mut O,
+        limits: SessionLimits,
     ) -> Saved<P, P::Out>
-        ensures saved { IsSaved (P.makes self.entry.place) local.old.first_pin self.entry.time
+        ensures saved { IsSaved limits (P.makes self.entry.place) local.old.first_pin self.entry.time
             local.old.machine local.new.machine (I.seen reader.old) (I.seen reader.new)
             (O.seen writer.old) (O.seen writer.new) (option_map P.Out.seen result.outlet)
             result.ended result.pumped }
         ensures first { local.new.first_pin ≡ local.old.first_pin }
         ensures untouched { is_unasked result.pumped ≡ true → result.place ≡ self.entry.place }
     {
-        let ended = serve_local(alloc, reader, writer, local, self.time);
+        let ended = serve_local(alloc, reader, writer, local, self.time, limits);
         self.save_after(rt, alloc, ended, local, writer)
     }
 }

@@ -5,6 +5,7 @@ use Rattle.dump_pump.specs.Inlets.{Incoming}
 use Rattle.dump_pump.specs.Outlets.{Outgoing}
 use Rattle.secret_word.specs.Words.{IsBehindWord}
 use Rattle.session_text.specs.Answers.{AnswerRelation}
+use Rattle.session_text.specs.declared.limits.SessionLimits.TheVariants.{Narrow}
 use Rattle.session_text.specs.Talks.{Serves}
 use Rattle.session_text.specs.declared.Ended.{Ended}
 use Rattle.session_text.specs.declared.Ended.TheVariants.{ReadFault}
@@ -33,7 +34,7 @@ abbrev pub ServesBehind : {S : Type 0} → AnswerRelation S → AnswerRelation S
 ServesBehind says begins bytes failed b b' c w c' w' ended =
     (i : Incoming) × (j : Incoming) × (i.taken ≡ []) × (i.failures ≡ 0)
     × (i.left ≡ prepend_known bytes b.left) × IsSeenBehind bytes failed b b' j
-    × Serves says begins i j c w c' w' ended
+    × Serves Narrow says begins i j c w c' w' ended
 
 -- these bytes were read ahead of a session, the last of the reads failed or not, and left the inlet as `b`: they turn the client away,
 -- and nothing was read, done or put out; or they don't, and a session was served behind those that are not the secret word's line

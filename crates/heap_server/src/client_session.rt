@@ -6,7 +6,7 @@ ghost use Rattle.heap_server.specs.Clients.{Admits, ServesBehind, ServesClient, 
 use crate::ahead::{Ahead, AheadInlet, AheadOrigin};
 use crate::http::asks_http;
 use secret_word::Secret;
-use session_text::{Commands, Ended, Inlet, Outlet, serve};
+use session_text::{Commands, Ended, Inlet, Outlet, SessionLimits, serve};
 use std::alloc::Global;
 use std::marker::Brand;
 
@@ -88,6 +88,13 @@ fn serve_behind<I: Inlet + Drop, O: Outlet, C: Commands, B: AheadOrigin>(
         (O.seen outlet.old) commands.new (O.seen outlet.new) result.0 }
 {
     let mut inlet: AheadInlet<I, B> = AheadInlet::new(inlet, ahead);
-    let ended = serve(alloc, &mut inlet, outlet, commands, time);
+    let ended = serve(
+        alloc,
+        &mut inlet,
+        outlet,
+        commands,
+        time,
+        SessionLimits::Narrow,
+    );
     (ended, inlet.into_inlet())
 }

@@ -7,7 +7,7 @@ use dump_pump::Outlet;
 use heap_lock::{Heap, Shared};
 use heap_page::PagePort;
 use secret_word::Secret;
-use session_text::{Commands, Ended, Inlet, serve};
+use session_text::{Commands, Ended, Inlet, SessionLimits, serve};
 use std::alloc::{AllocError, Global};
 use std::sync::Wait;
 use std::sync::atomic::AtomicBool;
@@ -56,7 +56,7 @@ impl<'a, I: Inlet, O: Outlet, C: Commands> Talk for Loan<'a, I, O, C> {
             commands,
             time,
         } = self;
-        let ended = serve(alloc, reader, writer, commands, time);
+        let ended = serve(alloc, reader, writer, commands, time, SessionLimits::Narrow);
         let loan = Loan {
             alloc,
             reader,

@@ -7,7 +7,7 @@ use Rattle.session_text.specs.Machine.{Machine, opening_machine}
 use Rattle.session_text.specs.declared.Ended.{Ended}
 use Rattle.dump_pump.specs.Inlets.{Incoming}
 use Rattle.session_text.specs.Endings.{EndsSession}
-use Rattle.session_text.specs.Limits.{is_whole_session}
+use Rattle.session_text.specs.Limits.{is_whole_session, session_limits}
 use Rattle.session_text.specs.Session.{IsSession}
 use Rattle.question_text.specs.declared.asking.Asking.{Asking}
 use Rattle.question_text.specs.Sessions.{ServesAsking}
@@ -33,7 +33,7 @@ ends_here makes own mine time left m' between w' outlet talked ended pumped one 
 
 -- a session with questions, and what was done after it
 pub asking_saved : (questions : Bool) (s : Settings) (makes : Option Outgoing → Type 0) (own mine : ℕ) (c asked : Asking) (left : Machine) (a b : Incoming) (w between w' : Outgoing) (outlet : Option Outgoing) (talked ended : Ended) (pumped : Option Pumped)
-    → questions ≡ true → own ≡ 1 → mine ≡ s.time → IsOpening s c → ServesAsking s.time a b c w asked between talked → EndsSession a b w between talked
+    → questions ≡ true → own ≡ 1 → mine ≡ s.time → IsOpening s c → ServesAsking (session_limits s.wide) s.time a b c w asked between talked → EndsSession (session_limits s.wide) a b w between talked
     → EndsSave makes own mine asked.local.machine left between w' outlet talked ended pumped (is_whole_session talked) → IsSavedWith questions s left a b w w' outlet ended pumped
 asking_saved true s makes own mine c asked left a b w between w' outlet talked ended pumped is one same opening session ends goes = record {
   begun = c;
@@ -49,7 +49,7 @@ asking_saved false s makes own mine c asked left a b w between w' outlet talked 
 
 -- a session without questions, and what was done after it
 pub plain_saved : (questions : Bool) (s : Settings) (makes : Option Outgoing → Type 0) (own mine : ℕ) (c : Asking) (left : Machine) (a b : Incoming) (w w' : Outgoing) (outlet : Option Outgoing) (ended : Ended) (pumped : Option Pumped)
-    → questions ≡ false → own ≡ 1 → mine ≡ s.time → IsOpening s c → IsSaved makes own mine c.local.machine left a b w w' outlet ended pumped → IsSavedWith questions s left a b w w' outlet ended pumped
+    → questions ≡ false → own ≡ 1 → mine ≡ s.time → IsOpening s c → IsSaved (session_limits s.wide) makes own mine c.local.machine left a b w w' outlet ended pumped → IsSavedWith questions s left a b w w' outlet ended pumped
 plain_saved true s makes own mine c left a b w w' outlet ended pumped is one same opening h = cc
 plain_saved false s makes own mine c left a b w w' outlet ended pumped is one same opening h = record {
   talked = h.talked;

@@ -2,7 +2,9 @@
 use Rattle.std.specs.Prelude.{◌≡◌, ◌⊎◌, ◌∷◌, ℕ, Bool, true, false, [], None, length, Result, Err}
 use Rattle.dump_pump.specs.Inlets.{Incoming}
 use Rattle.dump_pump.specs.Outlets.{Outgoing}
+use Rattle.session_text.specs.Limits.{session_limits}
 use Rattle.session_text.specs.declared.Ended.{Ended}
+use Rattle.session_text.specs.declared.limits.SessionLimits.{SessionLimits}
 use Rattle.heap_server.specs.Blanks.{Maker}
 use Rattle.heap_server.specs.Calls.{IsLegalLedger}
 use Rattle.heap_server.specs.PageSessions.{IsServedBeside}
@@ -36,22 +38,24 @@ abbrev pub own_terms : ℕ → Terms
 own_terms time =
     record { time = time; questions = true; secret = None; idle = 0; stays = false }
 
--- a session as it begins: at such a seat, or as the lines of a file left it, which were run first
-abbrev pub IsSeatBegun : HeapSettings → Bool → ℕ → Station → Type 0
-IsSeatBegun config from time c =
+-- a session as it begins: at such a seat, or as the lines of a file left it, which were run first in a session that may have at
+-- most this
+abbrev pub IsSeatBegun : SessionLimits → HeapSettings → Bool → ℕ → Station → Type 0
+IsSeatBegun limits config from time c =
     (b : Station) × IsSeated config b
-    × IsRunFirst from (seat_says config (own_terms time)) (seat_begins config (own_terms time)) b c
+    × IsRunFirst limits from (seat_says config (own_terms time))
+    (seat_begins config (own_terms time)) b c
 
 -- why a session doesn't begin: as without a page, or its port can't be listened on
 abbrev pub IsPageHindrance : Bool → Fault → Type 0
 IsPageHindrance from f = IsHindrance from f ⊎ (f ≡ Listen)
 
 -- a session with questions from the only seat of a heap of these settings, and how it ended; or it didn't begin, and then nothing
--- is read or written
-abbrev pub IsPageExploredOver : HeapSettings → Bool → ℕ → Incoming → Incoming → Outgoing → Outgoing
-    → Result (Unit {0}) Fault → Type 0
-IsPageExploredOver config from time a b w w' result =
-    ((ended : Ended) × (c : Station) × (left : Station) × IsSeatBegun config from time c
+-- is read or written; the lines of the file may have at most this
+abbrev pub IsPageExploredOver : SessionLimits → HeapSettings → Bool → ℕ → Incoming → Incoming
+    → Outgoing → Outgoing → Result (Unit {0}) Fault → Type 0
+IsPageExploredOver limits config from time a b w w' result =
+    ((ended : Ended) × (c : Station) × (left : Station) × IsSeatBegun limits config from time c
     × IsServedBeside (seat_acts config) (seat_answers config true) time a b c w left w' ended
     × (result ≡ outcome_of ended))
     ⊎ ((f : Fault) × IsPageHindrance from f × (result ≡ Err f) × (b ≡ a) × (w' ≡ w))
@@ -59,4 +63,5 @@ IsPageExploredOver config from time a b w w' result =
 -- the same of a heap with the settings of a command line
 abbrev pub IsPageExplored : Bool → Settings → Incoming → Incoming → Outgoing → Outgoing
     → Result (Unit {0}) Fault → Type 0
-IsPageExplored from s a b w w' result = IsPageExploredOver (config_of s) from s.time a b w w' result
+IsPageExplored from s a b w w' result =
+    IsPageExploredOver (session_limits s.wide) (config_of s) from s.time a b w w' result

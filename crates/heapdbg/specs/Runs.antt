@@ -5,6 +5,7 @@ use Rattle.session_text.specs.Machine.{Machine, opening_machine}
 use Rattle.session_text.specs.declared.Ended.{Ended}
 use Rattle.session_text.specs.Endings.{EndsSession}
 use Rattle.dump_pump.specs.Inlets.{Incoming}
+use Rattle.session_text.specs.Limits.{session_limits}
 use Rattle.session_text.specs.Session.{IsSession}
 use Rattle.question_text.specs.declared.asking.Asking.{Asking}
 use Rattle.question_text.specs.Sessions.{ServesAsking}
@@ -35,7 +36,7 @@ abbrev pub IsRun : Settings → Incoming → Incoming → Outgoing → Outgoing 
 IsRun s a b w w' result =
     ((ended : Ended) × (left : Machine)
     × IsSession (opening_machine (limits_of s) s.ids s.regions s.mutators s.keep) s.time a b w w' left ended
-    × EndsSession a b w w' ended × (result ≡ outcome_of ended))
+    × EndsSession (session_limits s.wide) a b w w' ended × (result ≡ outcome_of ended))
     ⊎ ((result ≡ Err Memory) × (b ≡ a) × (w' ≡ w))
 
 -- a session with questions or without
@@ -56,8 +57,8 @@ abbrev pub IsSessionDrawn : Settings → Incoming → Incoming → Outgoing → 
     → Result (Unit {0}) Fault → Type 0
 IsSessionDrawn s a b w w' result =
     ((ended : Ended) × (c : Asking) × (left : Asking) × IsOpening s c
-    × ServesAsking s.time a b c w left w' ended
-    × EndsSession a b w w' ended × IsDrawingOutcome (outcome_of ended) result)
+    × ServesAsking (session_limits s.wide) s.time a b c w left w' ended
+    × EndsSession (session_limits s.wide) a b w w' ended × IsDrawingOutcome (outcome_of ended) result)
     ⊎ ((result ≡ Err Memory) × (b ≡ a) × (w' ≡ w))
 
 -- a session that was saved to a file; or the folder of its path was not there, and nothing was read or written

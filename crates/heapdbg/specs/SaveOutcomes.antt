@@ -7,7 +7,7 @@ use Rattle.session_text.specs.Machine.{Machine, opening_machine}
 use Rattle.session_text.specs.declared.Ended.{Ended}
 use Rattle.dump_pump.specs.Inlets.{Incoming}
 use Rattle.session_text.specs.Endings.{EndsSession}
-use Rattle.session_text.specs.Limits.{is_whole_session}
+use Rattle.session_text.specs.Limits.{is_whole_session, session_limits}
 use Rattle.question_text.specs.declared.asking.Asking.{Asking}
 use Rattle.question_text.specs.Sessions.{ServesAsking}
 use Rattle.heap_save.specs.Saves.{EndsSave, IsSaved}
@@ -50,8 +50,8 @@ pub record IsAskingSaved (s : Settings) (left : Machine) (a b : Incoming) (w w' 
   pub talked : Ended
   pub between : Outgoing
   pub opening : IsOpening s begun
-  pub session : ServesAsking s.time a b begun w asked between talked
-  pub ends : EndsSession a b w between talked
+  pub session : ServesAsking (session_limits s.wide) s.time a b begun w asked between talked
+  pub ends : EndsSession (session_limits s.wide) a b w between talked
   pub goes : EndsSave any_outlet 1 s.time asked.local.machine left between w' outlet talked ended
       pumped (is_whole_session talked)
 
@@ -61,8 +61,8 @@ abbrev pub IsSavedWith : Bool → Settings → Machine → Incoming → Incoming
 IsSavedWith true s left a b w w' outlet ended pumped =
     IsAskingSaved s left a b w w' outlet ended pumped
 IsSavedWith false s left a b w w' outlet ended pumped =
-    IsSaved any_outlet 1 s.time (opening_machine (limits_of s) s.ids s.regions s.mutators s.keep) left a b w w'
-    outlet ended pumped
+    IsSaved (session_limits s.wide) any_outlet 1 s.time
+    (opening_machine (limits_of s) s.ids s.regions s.mutators s.keep) left a b w w' outlet ended pumped
 
 -- a session over a heap with these settings as it begins, which was saved; or the heap couldn't be allocated, and nothing is
 -- read or written

@@ -10,8 +10,9 @@ use crate::request::Request;
 use crate::terminals::Screen;
 use dump_pump::{Outlet, WriteOutlet};
 use heap_console::picture_of;
+use heapdbg_options::settings::Settings;
 use question_text::serve_asking;
-use session_text::{Inlet, Machine, write_all};
+use session_text::{Inlet, Machine, session_limits, write_all};
 use std::fs;
 use std::fs::Files;
 
@@ -32,8 +33,9 @@ pub fn draw<R: AllocGlobal + Eprint + Files, I: Inlet, O: Outlet>(
     let Screen { is_terminal, watch } = screen;
     match open(rt.alloc(), &request.settings, watch) {
         Ok(mut asking) => {
-            let time = request.settings.time;
-            let ended = serve_asking(rt.alloc(), reader, writer, &mut asking, time);
+            let Settings { time, wide, .. } = request.settings;
+            let limits = session_limits(wide);
+            let ended = serve_asking(rt.alloc(), reader, writer, &mut asking, time, limits);
             let machine = &asking.local.machine;
             draw_after(rt, request.path, is_terminal, outcome(ended), machine)
         }

@@ -11,7 +11,7 @@ use crate::terminals::Screen;
 use dump_pump::Outlet;
 use heapdbg_options::settings::Settings;
 use question_text::{Asking, Watch, serve_asking};
-use session_text::Inlet;
+use session_text::{Inlet, session_limits};
 use std::alloc::Global;
 use std::fs::Files;
 
@@ -53,7 +53,9 @@ fn explore_on<R: AllocGlobal + Eprint + Files, I: Inlet, O: Outlet>(
         (O.seen writer.old) (O.seen writer.new) result }
 {
     run_first(rt, request, from, is_terminal, asking)?;
-    let ended = serve_asking(rt.alloc(), reader, writer, asking, request.settings.time);
+    let Settings { time, wide, .. } = request.settings;
+    let limits = session_limits(wide);
+    let ended = serve_asking(rt.alloc(), reader, writer, asking, time, limits);
     outcome(ended)
 }
 

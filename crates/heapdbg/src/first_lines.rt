@@ -1,6 +1,7 @@
 //! The file of lines that are run before a session.
 ghost use Rattle.std.specs.Prelude.{true, IfErr, IfOk};
 ghost use Rattle.session_text.specs.Answers.{AnswersCommand, Begins};
+ghost use Rattle.session_text.specs.Limits.{session_limits};
 ghost use Rattle.heapdbg.specs.Explorations.{IsHindrance, IsRunFirst};
 
 use crate::failure::Fault;
@@ -8,7 +9,8 @@ use crate::folder::is_folder;
 use crate::reasons::tell_path;
 use crate::request::Request;
 use heap_console::load_lines;
-use session_text::Commands;
+use heapdbg_options::settings::Settings;
+use session_text::{Commands, session_limits};
 use std::fs;
 use std::fs::Files;
 use std::io::Error;
@@ -23,7 +25,8 @@ pub(crate) fn run_first<R: AllocGlobal + Eprint + Files, C: Commands>(
     is_terminal: bool,
     commands: &mut C,
 ) -> Result<(), Fault>
-    ensures run { IfOk result (λ u. IsRunFirst from
+    ensures run { IfOk result (λ u. IsRunFirst
+        (session_limits request.entry.settings.wide) from
         (AnswersCommand C.acts C.unknown request.entry.settings.time)
         (Begins C.acts C.unknown request.entry.settings.time) commands.old commands.new) }
     ensures hindrance { IfErr result (IsHindrance from) }
@@ -41,7 +44,8 @@ fn load<R: AllocGlobal + Eprint + Files, C: Commands>(
     is_terminal: bool,
     commands: &mut C,
 ) -> Result<(), Fault>
-    ensures run { IfOk result (λ u. IsRunFirst true
+    ensures run { IfOk result (λ u. IsRunFirst
+        (session_limits request.entry.settings.wide) true
         (AnswersCommand C.acts C.unknown request.entry.settings.time)
         (Begins C.acts C.unknown request.entry.settings.time) commands.old commands.new) }
     ensures hindrance { IfErr result (IsHindrance true) }
@@ -56,8 +60,16 @@ fn load<R: AllocGlobal + Eprint + Files, C: Commands>(
             return Err(Fault::From);
         }
     };
-    let (alloc, time) = (rt.alloc(), request.settings.time);
-    match load_lines(rt, alloc, path, file, commands, time) {
+    let Settings { time, wide, .. } = request.settings;
+    match load_lines(
+        rt,
+        rt.alloc(),
+        path,
+        file,
+        commands,
+        time,
+        session_limits(wide),
+    ) {
         Ok(_) => Ok(()),
         Err(_) => Err(Fault::Memory),
     }

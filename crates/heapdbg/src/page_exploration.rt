@@ -3,6 +3,7 @@ ghost use Rattle.std.specs.Prelude.{◌≡◌, ◌∷◌, [], IfErr, IfOk, lengt
 ghost use Rattle.heap_server.specs.Blanks.{IsNamed};
 ghost use Rattle.heap_server.specs.Role.TheVariants.{User};
 ghost use Rattle.heap_server.specs.SessionSeats.{AreUsers};
+ghost use Rattle.session_text.specs.Limits.{session_limits};
 ghost use Rattle.heapdbg_options.specs.CommandLine.{IsHeapWithin};
 ghost use Rattle.heapdbg.specs.declared.failure.Fault.TheVariants.{Memory};
 ghost use Rattle.heapdbg.specs.ServeOutcomes.{config_of};
@@ -82,8 +83,8 @@ where
     R: AllocGlobal + Clock + Eprint + Files + Threads + Wait + Sync,
     requires named { IsNamed L.config L.tables L.ledger L.rolls blank }
     requires made { IsMadeFor L.config blank }
-    ensures { IsPageExploredOver L.config from request.entry.settings.time (I.seen reader.old)
-        (I.seen reader.new) (O.seen writer.old) (O.seen writer.new) result }
+    ensures { IsPageExploredOver (session_limits request.entry.settings.wide) L.config from
+        request.entry.settings.time (I.seen reader.old) (I.seen reader.new) (O.seen writer.old) (O.seen writer.new) result }
 {
     let (shared, seats) = blank.open::<L>();
     let mut seat = WatchedSeat::new(rt, &shared, only_seat(seats), screen.watch);

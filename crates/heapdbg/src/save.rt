@@ -12,7 +12,7 @@ use heap_save::{LastDump, Outlets, Saved};
 use heapdbg_options::settings::Settings;
 use pin_dump::Gauge;
 use question_text::{Asking, Watch, serve_asking};
-use session_text::{Ended, Inlet};
+use session_text::{Ended, Inlet, session_limits};
 use std::fs;
 use std::fs::Files;
 use std::net::{Ipv4Addr, Net, TcpStream};
@@ -132,11 +132,12 @@ where
         (option_map P.Out.seen result.outlet) result.ended result.pumped }
 {
     let alloc = rt.alloc();
+    let limits = session_limits(settings.wide);
     if settings.questions {
-        let ended = serve_asking(alloc, reader, writer, asking, settings.time);
+        let ended = serve_asking(alloc, reader, writer, asking, settings.time, limits);
         dump.save_after(rt, alloc, ended, &mut asking.local, writer)
     } else {
-        dump.save_into(rt, alloc, &mut asking.local, reader, writer)
+        dump.save_into(rt, alloc, &mut asking.local, reader, writer, limits)
     }
 }
 

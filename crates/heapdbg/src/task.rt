@@ -31,7 +31,7 @@ use heapdbg_options::refusal::bad;
 use heapdbg_options::settings::{LineFault, Service, Settings, Target, Task};
 use question_text::Watch;
 use secret_word::Secret;
-use session_text::{Inlet, ReadInlet, serve_local};
+use session_text::{Inlet, ReadInlet, serve_local, session_limits};
 use std::alloc::Global;
 use std::fs::Files;
 use std::io::{Error, ErrorKind};
@@ -398,7 +398,11 @@ fn session<I: Inlet, O: Outlet>(
         (O.seen writer.new) result }
 {
     match open_local(alloc, settings) {
-        Ok(mut local) => outcome(serve_local(alloc, reader, writer, &mut local, settings.time)),
+        Ok(mut local) => {
+            let limits = session_limits(settings.wide);
+            let time = settings.time;
+            outcome(serve_local(alloc, reader, writer, &mut local, time, limits))
+        }
         Err(fault) => Err(fault),
     }
 }

@@ -18,6 +18,7 @@ use Rattle.session_text.specs.Inlets.{Incoming}
 use Rattle.session_text.specs.Local.{LocalActs}
 use Rattle.session_text.specs.Talks.{IsLine, Serves, stream}
 use Rattle.session_text.specs.declared.commands.Local.{Local}
+use Rattle.session_text.specs.declared.limits.SessionLimits.{SessionLimits}
 use Rattle.question_text.specs.declared.asking.Asking.{Asking}
 use Rattle.question_text.specs.Answers.{IsAnswerOfLine}
 use Rattle.question_text.specs.Collections.{Collects, NoneDenies, is_collect}
@@ -38,12 +39,13 @@ abbrev pub AskingAnswers : AnswerRelation Asking
 AskingAnswers l c text d =
     AnswersLine (is_collect l) l c.local text d.local × (d.watch ≡ c.watch)
 
--- a session with questions
-abbrev pub ServesAsking : ℕ → Incoming → Incoming → Asking → Outgoing → Asking → Outgoing → Ended
+-- a session with questions, which may have at most this
+abbrev pub ServesAsking : SessionLimits → ℕ → Incoming → Incoming → Asking → Outgoing → Asking
+    → Outgoing → Ended
     → Type 0
-ServesAsking time a b c w c' w' ended =
-    Serves (AnswersCommand AskingActs AskingAnswers time) (Begins AskingActs AskingAnswers time) a b
-    c w c' w' ended
+ServesAsking limits time a b c w c' w' ended =
+    Serves limits (AnswersCommand AskingActs AskingAnswers time)
+    (Begins AskingActs AskingAnswers time) a b c w c' w' ended
 
 -- ---- a session without its questions
 

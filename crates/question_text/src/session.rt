@@ -4,7 +4,7 @@ ghost use Rattle.session_text.specs.Endings.{EndsSession};
 ghost use Rattle.question_text.specs.Sessions.{ServesAsking};
 
 use crate::asking::Asking;
-use session_text::{Ended, Inlet, Outlet, serve};
+use session_text::{Ended, Inlet, Outlet, SessionLimits, serve};
 use std::alloc::Global;
 
 /// Serves a session of a private machine as `serve` does: each line of the grammar of sessions is answered as without
@@ -15,12 +15,13 @@ pub fn serve_asking<I: Inlet, O: Outlet>(
     writer: &mut O,
     asking: &mut Asking<'_>,
     time: u64,
+    limits: SessionLimits,
 ) -> Ended
-    ensures ends { EndsSession (I.seen reader.old) (I.seen reader.new) (O.seen writer.old)
+    ensures ends { EndsSession limits (I.seen reader.old) (I.seen reader.new) (O.seen writer.old)
         (O.seen writer.new) result }
     ensures first { asking.new.local.first_pin ≡ asking.old.local.first_pin }
-    ensures session { ServesAsking time (I.seen reader.old) (I.seen reader.new) asking.old
+    ensures session { ServesAsking limits time (I.seen reader.old) (I.seen reader.new) asking.old
         (O.seen writer.old) asking.new (O.seen writer.new) result }
 {
-    serve(alloc, reader, writer, asking, time)
+    serve(alloc, reader, writer, asking, time, limits)
 }

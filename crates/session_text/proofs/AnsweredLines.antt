@@ -13,6 +13,9 @@ use Rattle.session_text.specs.declared.Ended.{Ended}
 use Rattle.session_text.specs.declared.Ended.TheVariants.{Quit, Eof, CutLine, TooLong, ReadFault, TooManyReads, WriteFault, NoMemory}
 use Rattle.session_text.specs.declared.answer.Flow.{Flow}
 use Rattle.session_text.specs.declared.answer.Flow.TheVariants.{Next, Quit as Stop, Long, Fault}
+use Rattle.session_text.specs.declared.limits.SessionLimits.{SessionLimits}
+use Rattle.session_text.specs.declared.limits.SessionLimits.TheVariants.{Narrow, Wide}
+use Rattle.session_text.specs.Limits.{most_reads}
 use Rattle.session_grammar.specs.declared.command.Command.{Command}
 use Rattle.session_grammar.specs.declared.command.Command.TheVariants.{Blank, Bad, Ask, Piece, Dump, DumpNow, End}
 use Rattle.session_text.specs.Answers.{Reaction, AnswerRelation, AnswersTo, BeginsTo}
@@ -218,7 +221,6 @@ pub record IsOpen {S : Type 0} (says : AnswerRelation S) (a : Incoming) (c : S) 
   pub reads_are : b.reads ≡ a.reads ++ earlier
   pub each : All (λ n. 0 < n) earlier
   pub count : length earlier ≡ reads
-  pub most : reads ≤ 1000000
   pub no_fault : b.failures ≡ a.failures
 
 pub open_none : {S : Type 0} (says : AnswerRelation S) (a : Incoming) (rest : List ℕ) (c : S) (w : Outgoing) → rest ≡ [] → IsOpen says a c w a rest c w 0
@@ -233,7 +235,6 @@ open_none says a rest c w is = record {
   reads_are = sym (append-nil a.reads);
   each = All-nil (λ n. 0 < n);
   count = refl;
-  most = omega arith;
   no_fault = refl;
 }
 
@@ -251,14 +252,13 @@ open_answered says a c w b rest c1 w1 reads rest' text c2 w2 o t h = record {
   reads_are = o.reads_are;
   each = o.each;
   count = o.count;
-  most = o.most;
   no_fault = o.no_fault;
 }
 
 -- after a read that gave something
 pub open_read : {S : Type 0} (says : AnswerRelation S) (a : Incoming) (c : S) (w : Outgoing) (b : Incoming) (rest : List ℕ) (c' : S) (w' : Outgoing) (reads : ℕ) (b' : Incoming) (rest' more : List ℕ)
-    → IsOpen says a c w b rest c' w' reads → reads < 1000000 → 0 < length more → rest' ≡ rest ++ more → b'.taken ≡ b.taken ++ more → b'.reads ≡ b.reads ++ length more ∷ [] → b'.failures ≡ b.failures → Keeps (whole b) (whole b') → IsOpen says a c w b' rest' c' w' (reads + 1)
-open_read says a c w b rest c' w' reads b' rest' more o less some is taken read kept same = record {
+    → IsOpen says a c w b rest c' w' reads → 0 < length more → rest' ≡ rest ++ more → b'.taken ≡ b.taken ++ more → b'.reads ≡ b.reads ++ length more ∷ [] → b'.failures ≡ b.failures → Keeps (whole b) (whole b') → IsOpen says a c w b' rest' c' w' (reads + 1)
+open_read says a c w b rest c' w' reads b' rest' more o some is taken read kept same = record {
   bytes = o.bytes ++ more;
   text = o.text;
   earlier = o.earlier ++ length more ∷ [];
@@ -269,7 +269,6 @@ open_read says a c w b rest c' w' reads b' rest' more o less some is taken read 
   reads_are = read ∙ ap (λ l. l ++ length more ∷ []) o.reads_are ∙ append_assoc a.reads o.earlier (length more ∷ []);
   each = All-append (λ n. 0 < n) o.earlier (length more ∷ []) o.each (All-cons (λ n. 0 < n) (length more) [] some (All-nil (λ n. 0 < n)));
   count = length-append o.earlier (length more ∷ []) ∙ ap (λ n. n + 1) o.count;
-  most = omega (arith, less);
   no_fault = kept ∙ o.no_fault;
 }
 
@@ -298,31 +297,31 @@ came_read says a c w b rest c' w' reads b' rest' more reads' o line is taken rea
     inr (o.bytes, more, rest, taken ∙ ap (λ l. l ++ more) o.taken ∙ append_assoc a.taken o.bytes more, is, last_read says a c w b rest c' w' reads b' more o line read)
 
 -- the session was served up to an ending that no failed write made
-served : {S : Type 0} (says begins : AnswerRelation S) (bytes : List ℕ) (a b : Incoming) (c : S) (w : Outgoing) (c' : S) (w' : Outgoing) (ended : Ended) (rest text tail : List ℕ) → IsTalk says bytes c rest text c' → EndsCleanly rest a b ended tail → IsTextWritten (text ++ tail) w w' true → IsSessionServed says begins bytes a b c w c' w' ended
-served says begins bytes a b c w c' w' Quit rest text tail t h out = (rest, text, tail, t, h, out)
-served says begins bytes a b c w c' w' Eof rest text tail t h out = (rest, text, tail, t, h, out)
-served says begins bytes a b c w c' w' CutLine rest text tail t h out = (rest, text, tail, t, h, out)
-served says begins bytes a b c w c' w' TooLong rest text tail t h out = (rest, text, tail, t, h, out)
-served says begins bytes a b c w c' w' ReadFault rest text tail t h out = (rest, text, tail, t, h, out)
-served says begins bytes a b c w c' w' TooManyReads rest text tail t h out = (rest, text, tail, t, h, out)
-served says begins bytes a b c w c' w' WriteFault rest text tail t h out = absurd h
-served says begins bytes a b c w c' w' NoMemory rest text tail t h out = absurd h
+served : {S : Type 0} (limits : SessionLimits) (says begins : AnswerRelation S) (bytes : List ℕ) (a b : Incoming) (c : S) (w : Outgoing) (c' : S) (w' : Outgoing) (ended : Ended) (rest text tail : List ℕ) → IsTalk says bytes c rest text c' → EndsCleanly limits rest a b ended tail → IsTextWritten (text ++ tail) w w' true → IsSessionServed limits says begins bytes a b c w c' w' ended
+served limits says begins bytes a b c w c' w' Quit rest text tail t h out = (rest, text, tail, t, h, out)
+served limits says begins bytes a b c w c' w' Eof rest text tail t h out = (rest, text, tail, t, h, out)
+served limits says begins bytes a b c w c' w' CutLine rest text tail t h out = (rest, text, tail, t, h, out)
+served limits says begins bytes a b c w c' w' TooLong rest text tail t h out = (rest, text, tail, t, h, out)
+served limits says begins bytes a b c w c' w' ReadFault rest text tail t h out = (rest, text, tail, t, h, out)
+served limits says begins bytes a b c w c' w' TooManyReads rest text tail t h out = (rest, text, tail, t, h, out)
+served limits says begins bytes a b c w c' w' WriteFault rest text tail t h out = absurd h
+served limits says begins bytes a b c w c' w' NoMemory rest text tail t h out = absurd h
 
 -- the lines of the buffer, and what an ending prints, unless a write fails
-pub ends_saying : {S : Type 0} (says begins : AnswerRelation S) (a : Incoming) (c : S) (w : Outgoing) (b : Incoming) (rest : List ℕ) (c1 : S) (w1 : Outgoing) (reads : ℕ) (rest' text : List ℕ) (c' : S) (b' : Incoming) (w2 : Outgoing) (ended : Ended) (tail : List ℕ) (r : Bool)
-    → IsOpen says a c w b rest c1 w1 reads → IsTalk says rest c1 rest' text c' → b'.taken ≡ b.taken → Keeps (whole b) (whole b') → EndsCleanly rest' a b' ended tail → IsTextWritten (text ++ tail) w1 w2 r
-    → (IsTextWritten (text ++ tail) w1 w2 false → Serves says begins a b' c w c' w2 WriteFault) → Serves says begins a b' c w c' w2 (ended_of ended r)
-ends_saying says begins a c w b rest c1 w1 reads rest' text c' b' w2 ended tail true o t taken same closes h fault =
+pub ends_saying : {S : Type 0} (limits : SessionLimits) (says begins : AnswerRelation S) (a : Incoming) (c : S) (w : Outgoing) (b : Incoming) (rest : List ℕ) (c1 : S) (w1 : Outgoing) (reads : ℕ) (rest' text : List ℕ) (c' : S) (b' : Incoming) (w2 : Outgoing) (ended : Ended) (tail : List ℕ) (r : Bool)
+    → IsOpen says a c w b rest c1 w1 reads → IsTalk says rest c1 rest' text c' → b'.taken ≡ b.taken → Keeps (whole b) (whole b') → EndsCleanly limits rest' a b' ended tail → IsTextWritten (text ++ tail) w1 w2 r
+    → (IsTextWritten (text ++ tail) w1 w2 false → Serves limits says begins a b' c w c' w2 WriteFault) → Serves limits says begins a b' c w c' w2 (ended_of ended r)
+ends_saying limits says begins a c w b rest c1 w1 reads rest' text c' b' w2 ended tail true o t taken same closes h fault =
     let all = subst (λ l. IsTextWritten l w w2 true) (sym (append_assoc o.text text tail)) (written_more o.text (text ++ tail) w w1 w2 true o.written h) in
-    (o.bytes, taken ∙ o.taken, keeps_then (whole a) (whole b) (whole b') o.keeps same, served says begins o.bytes a b' c w c' w2 ended rest' (o.text ++ text) tail (talk_then says o.bytes c rest o.text c1 rest' text c' o.talk t) closes all)
-ends_saying says begins a c w b rest c1 w1 reads rest' text c' b' w2 ended tail false o t taken same closes h fault = fault h
+    (o.bytes, taken ∙ o.taken, keeps_then (whole a) (whole b) (whole b') o.keeps same, served limits says begins o.bytes a b' c w c' w2 ended rest' (o.text ++ text) tail (talk_then says o.bytes c rest o.text c1 rest' text c' o.talk t) closes all)
+ends_saying limits says begins a c w b rest c1 w1 reads rest' text c' b' w2 ended tail false o t taken same closes h fault = fault h
 
 -- the session ends, and prints nothing more
-pub ends_plainly : {S : Type 0} (says begins : AnswerRelation S) (a : Incoming) (c : S) (w : Outgoing) (b : Incoming) (rest : List ℕ) (c' : S) (w1 : Outgoing) (reads : ℕ) (b' : Incoming) (ended : Ended)
-    → IsOpen says a c w b rest c' w1 reads → b'.taken ≡ b.taken → Keeps (whole b) (whole b') → EndsCleanly rest a b' ended []
-    → Serves says begins a b' c w c' w1 ended
-ends_plainly says begins a c w b rest c' w1 reads b' ended o taken same closes =
-    (o.bytes, taken ∙ o.taken, keeps_then (whole a) (whole b) (whole b') o.keeps same, served says begins o.bytes a b' c w c' w1 ended rest o.text [] o.talk closes (written_more o.text [] w w1 w1 true o.written (written_none w1)))
+pub ends_plainly : {S : Type 0} (limits : SessionLimits) (says begins : AnswerRelation S) (a : Incoming) (c : S) (w : Outgoing) (b : Incoming) (rest : List ℕ) (c' : S) (w1 : Outgoing) (reads : ℕ) (b' : Incoming) (ended : Ended)
+    → IsOpen says a c w b rest c' w1 reads → b'.taken ≡ b.taken → Keeps (whole b) (whole b') → EndsCleanly limits rest a b' ended []
+    → Serves limits says begins a b' c w c' w1 ended
+ends_plainly limits says begins a c w b rest c' w1 reads b' ended o taken same closes =
+    (o.bytes, taken ∙ o.taken, keeps_then (whole a) (whole b) (whole b') o.keeps same, served limits says begins o.bytes a b' c w c' w1 ended rest o.text [] o.talk closes (written_more o.text [] w w1 w1 true o.written (written_none w1)))
 
 -- ---- failed writes
 
@@ -337,39 +336,44 @@ no_talk : {S : Type 0} (says : AnswerRelation S) (lines : List (List ℕ)) (rest
 no_talk says [] rest c text c' none t = (t.0, none)
 no_talk says (l ∷ ls) rest c text c' none t = absurd (omega (arith, none, length-append (stream (l ∷ ls)) rest, length-append (l ++ 10 ∷ []) (stream ls), length-append l (10 ∷ [])))
 
+-- a session may have a read
+some_reads : (limits : SessionLimits) → 0 < most_reads limits
+some_reads Narrow = omega arith
+some_reads Wide = omega arith
+
 -- if nothing was read, no ending's line can fail
-closes_none : (rest text tail : List ℕ) (a b : Incoming) (w w' : Outgoing) (ended : Ended) → length rest ≡ 0 → text ≡ [] → length b.reads ≡ length a.reads → b.failures ≡ a.failures → EndsCleanly rest a b ended tail → IsTextWritten (text ++ tail) w w' false → ⊥
-closes_none rest text tail a b w w' Quit none empty same fine h k = no_line rest h.0.0 none h.0.1
-closes_none rest text tail a b w w' Eof none empty same fine h k = no_cut (text ++ tail) w.out w'.out (ap (λ l. l ++ tail) empty ∙ h.2) k.0
-closes_none rest text tail a b w w' CutLine none empty same fine h k = omega (arith, none, h.1)
-closes_none rest text tail a b w w' TooLong none empty same fine h k = omega (arith, none, h.0.0)
-closes_none rest text tail a b w w' ReadFault none empty same fine h k = omega (arith, fine, h.2)
-closes_none rest text tail a b w w' TooManyReads none empty same fine h k = omega (arith, same, h.1)
-closes_none rest text tail a b w w' WriteFault none empty same fine h k = h
-closes_none rest text tail a b w w' NoMemory none empty same fine h k = h
+closes_none : (limits : SessionLimits) (rest text tail : List ℕ) (a b : Incoming) (w w' : Outgoing) (ended : Ended) → length rest ≡ 0 → text ≡ [] → length b.reads ≡ length a.reads → b.failures ≡ a.failures → EndsCleanly limits rest a b ended tail → IsTextWritten (text ++ tail) w w' false → ⊥
+closes_none limits rest text tail a b w w' Quit none empty same fine h k = no_line rest h.0.0 none h.0.1
+closes_none limits rest text tail a b w w' Eof none empty same fine h k = no_cut (text ++ tail) w.out w'.out (ap (λ l. l ++ tail) empty ∙ h.2) k.0
+closes_none limits rest text tail a b w w' CutLine none empty same fine h k = omega (arith, none, h.1)
+closes_none limits rest text tail a b w w' TooLong none empty same fine h k = omega (arith, none, h.0.0)
+closes_none limits rest text tail a b w w' ReadFault none empty same fine h k = omega (arith, fine, h.2)
+closes_none limits rest text tail a b w w' TooManyReads none empty same fine h k = omega (arith, same, h.1, some_reads limits)
+closes_none limits rest text tail a b w w' WriteFault none empty same fine h k = h
+closes_none limits rest text tail a b w w' NoMemory none empty same fine h k = h
 
-breaks_none : {S : Type 0} (begins : AnswerRelation S) (text rest : List ℕ) (a b : Incoming) (c : S) (w : Outgoing) (c' : S) (w' : Outgoing) → length rest ≡ 0 → text ≡ [] → length b.reads ≡ length a.reads → b.failures ≡ a.failures → FailsWhileWriting begins text rest a b c w c' w' → ⊥
-breaks_none begins text rest a b c w c' w' none empty same fine (inl (h, k)) = no_line rest h.0 none h.2
-breaks_none begins text rest a b c w c' w' none empty same fine (inr (inl h)) = closes_none rest text h.1 a b w w' h.0 none empty same fine h.2 h.4
-breaks_none begins text rest a b c w c' w' none empty same fine (inr (inr h)) = no_cut text w.out w'.out empty h.3.0
+breaks_none : {S : Type 0} (limits : SessionLimits) (begins : AnswerRelation S) (text rest : List ℕ) (a b : Incoming) (c : S) (w : Outgoing) (c' : S) (w' : Outgoing) → length rest ≡ 0 → text ≡ [] → length b.reads ≡ length a.reads → b.failures ≡ a.failures → FailsWhileWriting limits begins text rest a b c w c' w' → ⊥
+breaks_none limits begins text rest a b c w c' w' none empty same fine (inl (h, k)) = no_line rest h.0 none h.2
+breaks_none limits begins text rest a b c w c' w' none empty same fine (inr (inl h)) = closes_none limits rest text h.1 a b w w' h.0 none empty same fine h.2 h.4
+breaks_none limits begins text rest a b c w c' w' none empty same fine (inr (inr h)) = no_cut text w.out w'.out empty h.3.0
 
-fails_none : {S : Type 0} (says begins : AnswerRelation S) (bytes : List ℕ) (a b : Incoming) (c : S) (w : Outgoing) (c' : S) (w' : Outgoing) → bytes ≡ [] → length b.reads ≡ length a.reads → b.failures ≡ a.failures → IsTruncatedRun says begins bytes a b c w c' w' → ⊥
-fails_none says begins bytes a b c w c' w' none same fine f =
+fails_none : {S : Type 0} (limits : SessionLimits) (says begins : AnswerRelation S) (bytes : List ℕ) (a b : Incoming) (c : S) (w : Outgoing) (c' : S) (w' : Outgoing) → bytes ≡ [] → length b.reads ≡ length a.reads → b.failures ≡ a.failures → IsTruncatedRun limits says begins bytes a b c w c' w' → ⊥
+fails_none limits says begins bytes a b c w c' w' none same fine f =
     let n = no_talk says f.3.lines f.0 c f.1 f.2 (ap (λ x. length x) (sym f.3.are ∙ none)) f.3.talks in
-    breaks_none begins f.1 f.0 a b f.2 w c' w' n.1 n.0 same fine f.4
+    breaks_none limits begins f.1 f.0 a b f.2 w c' w' n.1 n.0 same fine f.4
 
 -- a write failed in the answers of the buffer's lines, or behind them
-pub ends_failing : {S : Type 0} (says begins : AnswerRelation S) (a : Incoming) (c : S) (w : Outgoing) (b : Incoming) (buffer : List ℕ) (c1 : S) (w1 : Outgoing) (reads : ℕ) (c2 : S) (w2 : Outgoing)
-    → IsOpen says a c w b buffer c1 w1 reads → Came says a c w b buffer c1 w1 reads → IsTruncatedRun says begins buffer a b c1 w1 c2 w2 → Serves says begins a b c w c2 w2 WriteFault
-ends_failing says begins a c w b buffer c1 w1 reads c2 w2 o (inl (none, zero)) f =
-    absurd (fails_none says begins buffer a b c1 w1 c2 w2 none (omega (arith, zero, o.count, ap (λ x. length x) o.reads_are, length-append a.reads o.earlier)) o.no_fault f)
-ends_failing says begins a c w b buffer c1 w1 reads c2 w2 o (inr (before, last, rest, taken, is, h)) f =
-    (before ++ last, taken, o.keeps, (before, last, rest, c1, w1, refl, h, subst (λ l. IsTruncatedRun says begins l a b c1 w1 c2 w2) is f))
+pub ends_failing : {S : Type 0} (limits : SessionLimits) (says begins : AnswerRelation S) (a : Incoming) (c : S) (w : Outgoing) (b : Incoming) (buffer : List ℕ) (c1 : S) (w1 : Outgoing) (reads : ℕ) (c2 : S) (w2 : Outgoing)
+    → IsOpen says a c w b buffer c1 w1 reads → Came says a c w b buffer c1 w1 reads → IsTruncatedRun limits says begins buffer a b c1 w1 c2 w2 → Serves limits says begins a b c w c2 w2 WriteFault
+ends_failing limits says begins a c w b buffer c1 w1 reads c2 w2 o (inl (none, zero)) f =
+    absurd (fails_none limits says begins buffer a b c1 w1 c2 w2 none (omega (arith, zero, o.count, ap (λ x. length x) o.reads_are, length-append a.reads o.earlier)) o.no_fault f)
+ends_failing limits says begins a c w b buffer c1 w1 reads c2 w2 o (inr (before, last, rest, taken, is, h)) f =
+    (before ++ last, taken, o.keeps, (before, last, rest, c1, w1, refl, h, subst (λ l. IsTruncatedRun limits says begins l a b c1 w1 c2 w2) is f))
 
 -- an ending's line failed after a read that took nothing
-pub ends_silent : {S : Type 0} (says begins : AnswerRelation S) (a : Incoming) (c : S) (w : Outgoing) (b : Incoming) (rest : List ℕ) (c' : S) (w1 : Outgoing) (reads : ℕ) (b' : Incoming) (w2 : Outgoing) (ended : Ended) (tail : List ℕ)
-    → IsOpen says a c w b rest c' w1 reads → IsLine rest → b'.taken ≡ b.taken → b'.reads ≡ b.reads ++ 0 ∷ [] → Keeps (whole b) (whole b') → EndsCleanly rest a b' ended tail → IsTextWritten tail w1 w2 false → Serves says begins a b' c w c' w2 WriteFault
-ends_silent says begins a c w b rest c' w1 reads b' w2 ended tail o line taken read same closes h = (
+pub ends_silent : {S : Type 0} (limits : SessionLimits) (says begins : AnswerRelation S) (a : Incoming) (c : S) (w : Outgoing) (b : Incoming) (rest : List ℕ) (c' : S) (w1 : Outgoing) (reads : ℕ) (b' : Incoming) (w2 : Outgoing) (ended : Ended) (tail : List ℕ)
+    → IsOpen says a c w b rest c' w1 reads → IsLine rest → b'.taken ≡ b.taken → b'.reads ≡ b.reads ++ 0 ∷ [] → Keeps (whole b) (whole b') → EndsCleanly limits rest a b' ended tail → IsTextWritten tail w1 w2 false → Serves limits says begins a b' c w c' w2 WriteFault
+ends_silent limits says begins a c w b rest c' w1 reads b' w2 ended tail o line taken read same closes h = (
   o.bytes ++ [],
   taken ∙ o.taken ∙ ap (λ l. a.taken ++ l) (sym (append-nil o.bytes)),
   keeps_then (whole a) (whole b) (whole b') o.keeps same,
@@ -386,45 +390,45 @@ ends_silent says begins a c w b rest c' w1 reads b' w2 ended tail o line taken r
 )
 
 -- a text that is out, and then the write that failed
-breaks_more : {S : Type 0} (begins : AnswerRelation S) (out text rest : List ℕ) (a b : Incoming) (c : S) (w m : Outgoing) (c' : S) (w' : Outgoing) → IsTextWritten out w m true → FailsWhileWriting begins text rest a b c m c' w' → FailsWhileWriting begins (out ++ text) rest a b c w c' w'
-breaks_more begins out text rest a b c w m c' w' o (inl ((l, tail, starts, h, cut), same)) =
+breaks_more : {S : Type 0} (limits : SessionLimits) (begins : AnswerRelation S) (out text rest : List ℕ) (a b : Incoming) (c : S) (w m : Outgoing) (c' : S) (w' : Outgoing) → IsTextWritten out w m true → FailsWhileWriting limits begins text rest a b c m c' w' → FailsWhileWriting limits begins (out ++ text) rest a b c w c' w'
+breaks_more limits begins out text rest a b c w m c' w' o (inl ((l, tail, starts, h, cut), same)) =
     inl ((l, tail, starts, h, subst (λ x. IsTextWritten x w w' false) (sym (append_assoc out text tail)) (written_more out (text ++ tail) w m w' false o cut)), same)
-breaks_more begins out text rest a b c w m c' w' o (inr (inl (ended, tail, closes, same, cut))) =
+breaks_more limits begins out text rest a b c w m c' w' o (inr (inl (ended, tail, closes, same, cut))) =
     inr (inl (ended, tail, closes, same, subst (λ x. IsTextWritten x w w' false) (sym (append_assoc out text tail)) (written_more out (text ++ tail) w m w' false o cut)))
-breaks_more begins out text rest a b c w m c' w' o (inr (inr (line, fine, same, cut))) = inr (inr (line, fine, same, written_more out text w m w' false o cut))
+breaks_more limits begins out text rest a b c w m c' w' o (inr (inr (line, fine, same, cut))) = inr (inr (line, fine, same, written_more out text w m w' false o cut))
 
 -- all the lines from the beginning, and then the write that failed
-pub served_fails : {S : Type 0} (says begins : AnswerRelation S) (bytes : List ℕ) (a b : Incoming) (c : S) (w : Outgoing) (c' : S) (w' : Outgoing) → IsSessionServed says begins bytes a b c w c' w' WriteFault → IsTruncatedRun says begins bytes a b c w c' w'
-served_fails says begins bytes a b c w c' w' (before, last, rest, c1, w1, is, h, (left, text, between, talk, breaks)) =
+pub served_fails : {S : Type 0} (limits : SessionLimits) (says begins : AnswerRelation S) (bytes : List ℕ) (a b : Incoming) (c : S) (w : Outgoing) (c' : S) (w' : Outgoing) → IsSessionServed limits says begins bytes a b c w c' w' WriteFault → IsTruncatedRun limits says begins bytes a b c w c' w'
+served_fails limits says begins bytes a b c w c' w' (before, last, rest, c1, w1, is, h, (left, text, between, talk, breaks)) =
     let all = talk_then says (before ++ last) c (rest ++ last) h.text c1 left text between (talk_read says before c rest h.text c1 last h.talk) talk in
-    (left, h.text ++ text, between, subst (λ l. IsTalk says l c left (h.text ++ text) between) (sym is) all, breaks_more begins h.text text left a b between w w1 c' w' h.written breaks)
+    (left, h.text ++ text, between, subst (λ l. IsTalk says l c left (h.text ++ text) between) (sym is) all, breaks_more limits begins h.text text left a b between w w1 c' w' h.written breaks)
 
 -- ---- what a session says of its ends alone
 
-ends_either : (a b : Incoming) (rest tail : List ℕ) (ended : Ended) → EndsCleanly rest a b ended tail → (b.failures ≡ a.failures) ⊎ (b.failures ≡ a.failures + 1)
-ends_either a b rest tail Quit h = inl h.2
-ends_either a b rest tail Eof h = inl h.3
-ends_either a b rest tail CutLine h = inl h.4
-ends_either a b rest tail TooLong h = inl h.2
-ends_either a b rest tail ReadFault h = inr h.2
-ends_either a b rest tail TooManyReads h = inl h.3
-ends_either a b rest tail WriteFault h = absurd h
-ends_either a b rest tail NoMemory h = absurd h
+ends_either : (limits : SessionLimits) (a b : Incoming) (rest tail : List ℕ) (ended : Ended) → EndsCleanly limits rest a b ended tail → (b.failures ≡ a.failures) ⊎ (b.failures ≡ a.failures + 1)
+ends_either limits a b rest tail Quit h = inl h.2
+ends_either limits a b rest tail Eof h = inl h.3
+ends_either limits a b rest tail CutLine h = inl h.4
+ends_either limits a b rest tail TooLong h = inl h.2
+ends_either limits a b rest tail ReadFault h = inr h.2
+ends_either limits a b rest tail TooManyReads h = inl h.3
+ends_either limits a b rest tail WriteFault h = absurd h
+ends_either limits a b rest tail NoMemory h = absurd h
 
-breaks_either : {S : Type 0} (begins : AnswerRelation S) (text rest : List ℕ) (a b : Incoming) (c : S) (w : Outgoing) (c' : S) (w' : Outgoing) → FailsWhileWriting begins text rest a b c w c' w' → (w'.failures ≡ w.failures + 1) × ((b.failures ≡ a.failures) ⊎ (b.failures ≡ a.failures + 1))
-breaks_either begins text rest a b c w c' w' (inl (h, k)) = (h.4.1, inl k)
-breaks_either begins text rest a b c w c' w' (inr (inl h)) = (h.4.1, ends_either a b rest h.1 h.0 h.2)
-breaks_either begins text rest a b c w c' w' (inr (inr h)) = (h.3.1, inl h.1)
+breaks_either : {S : Type 0} (limits : SessionLimits) (begins : AnswerRelation S) (text rest : List ℕ) (a b : Incoming) (c : S) (w : Outgoing) (c' : S) (w' : Outgoing) → FailsWhileWriting limits begins text rest a b c w c' w' → (w'.failures ≡ w.failures + 1) × ((b.failures ≡ a.failures) ⊎ (b.failures ≡ a.failures + 1))
+breaks_either limits begins text rest a b c w c' w' (inl (h, k)) = (h.4.1, inl k)
+breaks_either limits begins text rest a b c w c' w' (inr (inl h)) = (h.4.1, ends_either limits a b rest h.1 h.0 h.2)
+breaks_either limits begins text rest a b c w c' w' (inr (inr h)) = (h.3.1, inl h.1)
 
-fails_ends : {S : Type 0} (says begins : AnswerRelation S) (bytes : List ℕ) (a b : Incoming) (c : S) (w : Outgoing) (c' : S) (w' : Outgoing) → IsTruncatedRun says begins bytes a b c w c' w' → EndsSession a b w w' WriteFault
-fails_ends says begins bytes a b c w c' w' f = breaks_either begins f.1 f.0 a b f.2 w c' w' f.4
+fails_ends : {S : Type 0} (limits : SessionLimits) (says begins : AnswerRelation S) (bytes : List ℕ) (a b : Incoming) (c : S) (w : Outgoing) (c' : S) (w' : Outgoing) → IsTruncatedRun limits says begins bytes a b c w c' w' → EndsSession limits a b w w' WriteFault
+fails_ends limits says begins bytes a b c w c' w' f = breaks_either limits begins f.1 f.0 a b f.2 w c' w' f.4
 
-pub serves_ends : {S : Type 0} (says begins : AnswerRelation S) (a b : Incoming) (c : S) (w : Outgoing) (c' : S) (w' : Outgoing) (ended : Ended) → Serves says begins a b c w c' w' ended → EndsSession a b w w' ended
-serves_ends says begins a b c w c' w' Quit s = let h = s.3 in (h.5.1, h.4.2)
-serves_ends says begins a b c w c' w' Eof s = let h = s.3 in (h.5.1, (h.4.1, h.4.3))
-serves_ends says begins a b c w c' w' CutLine s = let h = s.3 in (h.5.1, (h.4.2, h.4.4))
-serves_ends says begins a b c w c' w' TooLong s = let h = s.3 in (h.5.1, h.4.2)
-serves_ends says begins a b c w c' w' ReadFault s = let h = s.3 in (h.5.1, h.4.2)
-serves_ends says begins a b c w c' w' TooManyReads s = let h = s.3 in (h.5.1, (h.4.1, h.4.3))
-serves_ends says begins a b c w c' w' WriteFault s = fails_ends says begins s.0 a b c w c' w' (served_fails says begins s.0 a b c w c' w' s.3)
-serves_ends says begins a b c w c' w' NoMemory s = let h = s.3 in (h.1, h.3)
+pub serves_ends : {S : Type 0} (limits : SessionLimits) (says begins : AnswerRelation S) (a b : Incoming) (c : S) (w : Outgoing) (c' : S) (w' : Outgoing) (ended : Ended) → Serves limits says begins a b c w c' w' ended → EndsSession limits a b w w' ended
+serves_ends limits says begins a b c w c' w' Quit s = let h = s.3 in (h.5.1, h.4.2)
+serves_ends limits says begins a b c w c' w' Eof s = let h = s.3 in (h.5.1, (h.4.1, h.4.3))
+serves_ends limits says begins a b c w c' w' CutLine s = let h = s.3 in (h.5.1, (h.4.2, h.4.4))
+serves_ends limits says begins a b c w c' w' TooLong s = let h = s.3 in (h.5.1, h.4.2)
+serves_ends limits says begins a b c w c' w' ReadFault s = let h = s.3 in (h.5.1, h.4.2)
+serves_ends limits says begins a b c w c' w' TooManyReads s = let h = s.3 in (h.5.1, (h.4.1, h.4.3))
+serves_ends limits says begins a b c w c' w' WriteFault s = fails_ends limits says begins s.0 a b c w c' w' (served_fails limits says begins s.0 a b c w c' w' s.3)
+serves_ends limits says begins a b c w c' w' NoMemory s = let h = s.3 in (h.1, h.3)

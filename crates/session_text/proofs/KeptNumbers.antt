@@ -4,6 +4,7 @@ use Rattle.dump_pump.specs.Outlets.{Outgoing}
 use Rattle.dump_pump.specs.Piece.{Piece as GivenPiece}
 use Rattle.heap_trail.specs.declared.Action.{Action}
 use Rattle.heap_trail.specs.declared.Reply.{Reply}
+use Rattle.session_text.specs.declared.limits.SessionLimits.{SessionLimits}
 use Rattle.session_text.specs.declared.Ended.{Ended}
 use Rattle.session_text.specs.declared.Ended.TheVariants.{Quit, Eof, CutLine, TooLong, ReadFault, TooManyReads, WriteFault, NoMemory}
 use Rattle.session_grammar.specs.declared.command.Command.{Command}
@@ -80,30 +81,30 @@ talks_same f does unknown keep also time (l ∷ ls) c text d (first, between, mo
 
 -- ---- sessions
 
-breaks_same : {S : Type 0} (f : S → ℕ) (does : Acts S) (unknown : AnswerRelation S) (keep : ActsKeep f does) (also : LinesKeep f unknown) (time : ℕ) (text rest : List ℕ) (a b : Incoming) (c : S) (w : Outgoing) (d : S) (w' : Outgoing) → FailsWhileWriting (Begins does unknown time) text rest a b c w d w' → Same f c d
-breaks_same f does unknown keep also time text rest a b c w d w' (inl ((l, tail, line, begins, cut), none)) = begin_same f does _ keep (also _) time _ c tail d begins
-breaks_same f does unknown keep also time text rest a b c w d w' (inr (inl (ended, tail, closes, same, cut))) = of_same f c d same
-breaks_same f does unknown keep also time text rest a b c w d w' (inr (inr (line, none, same, cut))) = of_same f c d same
+breaks_same : {S : Type 0} (limits : SessionLimits) (f : S → ℕ) (does : Acts S) (unknown : AnswerRelation S) (keep : ActsKeep f does) (also : LinesKeep f unknown) (time : ℕ) (text rest : List ℕ) (a b : Incoming) (c : S) (w : Outgoing) (d : S) (w' : Outgoing) → FailsWhileWriting limits (Begins does unknown time) text rest a b c w d w' → Same f c d
+breaks_same limits f does unknown keep also time text rest a b c w d w' (inl ((l, tail, line, begins, cut), none)) = begin_same f does _ keep (also _) time _ c tail d begins
+breaks_same limits f does unknown keep also time text rest a b c w d w' (inr (inl (ended, tail, closes, same, cut))) = of_same f c d same
+breaks_same limits f does unknown keep also time text rest a b c w d w' (inr (inr (line, none, same, cut))) = of_same f c d same
 
-fails_same : {S : Type 0} (f : S → ℕ) (does : Acts S) (unknown : AnswerRelation S) (keep : ActsKeep f does) (also : LinesKeep f unknown) (time : ℕ) (bytes : List ℕ) (a b : Incoming) (c : S) (w : Outgoing) (d : S) (w' : Outgoing) → IsTruncatedRun (AnswersCommand does unknown time) (Begins does unknown time) bytes a b c w d w' → Same f c d
-fails_same f does unknown keep also time bytes a b c w d w' (rest, text, between, k, breaks) =
-    breaks_same f does unknown keep also time text rest a b between w d w' breaks ∙ talks_same f does unknown keep also time k.lines c text between k.talks
+fails_same : {S : Type 0} (limits : SessionLimits) (f : S → ℕ) (does : Acts S) (unknown : AnswerRelation S) (keep : ActsKeep f does) (also : LinesKeep f unknown) (time : ℕ) (bytes : List ℕ) (a b : Incoming) (c : S) (w : Outgoing) (d : S) (w' : Outgoing) → IsTruncatedRun limits (AnswersCommand does unknown time) (Begins does unknown time) bytes a b c w d w' → Same f c d
+fails_same limits f does unknown keep also time bytes a b c w d w' (rest, text, between, k, breaks) =
+    breaks_same limits f does unknown keep also time text rest a b between w d w' breaks ∙ talks_same f does unknown keep also time k.lines c text between k.talks
 
-served_same : {S : Type 0} (f : S → ℕ) (does : Acts S) (unknown : AnswerRelation S) (keep : ActsKeep f does) (also : LinesKeep f unknown) (time : ℕ) (bytes : List ℕ) (a b : Incoming) (c : S) (w : Outgoing) (d : S) (w' : Outgoing) (ended : Ended) → IsSessionServed (AnswersCommand does unknown time) (Begins does unknown time) bytes a b c w d w' ended → Same f c d
-served_same f does unknown keep also time bytes a b c w d w' Quit (rest, text, tail, k, closes, out) = talks_same f does unknown keep also time k.lines c text d k.talks
-served_same f does unknown keep also time bytes a b c w d w' Eof (rest, text, tail, k, closes, out) = talks_same f does unknown keep also time k.lines c text d k.talks
-served_same f does unknown keep also time bytes a b c w d w' CutLine (rest, text, tail, k, closes, out) = talks_same f does unknown keep also time k.lines c text d k.talks
-served_same f does unknown keep also time bytes a b c w d w' TooLong (rest, text, tail, k, closes, out) = talks_same f does unknown keep also time k.lines c text d k.talks
-served_same f does unknown keep also time bytes a b c w d w' ReadFault (rest, text, tail, k, closes, out) = talks_same f does unknown keep also time k.lines c text d k.talks
-served_same f does unknown keep also time bytes a b c w d w' TooManyReads (rest, text, tail, k, closes, out) = talks_same f does unknown keep also time k.lines c text d k.talks
-served_same f does unknown keep also time bytes a b c w d w' WriteFault (before, last, rest, c1, w1, are, read, fails) =
-    fails_same f does unknown keep also time _ a b c1 w1 d w' fails ∙ talks_same f does unknown keep also time read.talk.lines c read.text c1 read.talk.talks
-served_same f does unknown keep also time bytes a b c w d w' NoMemory h = of_same f c d h.2
+served_same : {S : Type 0} (limits : SessionLimits) (f : S → ℕ) (does : Acts S) (unknown : AnswerRelation S) (keep : ActsKeep f does) (also : LinesKeep f unknown) (time : ℕ) (bytes : List ℕ) (a b : Incoming) (c : S) (w : Outgoing) (d : S) (w' : Outgoing) (ended : Ended) → IsSessionServed limits (AnswersCommand does unknown time) (Begins does unknown time) bytes a b c w d w' ended → Same f c d
+served_same limits f does unknown keep also time bytes a b c w d w' Quit (rest, text, tail, k, closes, out) = talks_same f does unknown keep also time k.lines c text d k.talks
+served_same limits f does unknown keep also time bytes a b c w d w' Eof (rest, text, tail, k, closes, out) = talks_same f does unknown keep also time k.lines c text d k.talks
+served_same limits f does unknown keep also time bytes a b c w d w' CutLine (rest, text, tail, k, closes, out) = talks_same f does unknown keep also time k.lines c text d k.talks
+served_same limits f does unknown keep also time bytes a b c w d w' TooLong (rest, text, tail, k, closes, out) = talks_same f does unknown keep also time k.lines c text d k.talks
+served_same limits f does unknown keep also time bytes a b c w d w' ReadFault (rest, text, tail, k, closes, out) = talks_same f does unknown keep also time k.lines c text d k.talks
+served_same limits f does unknown keep also time bytes a b c w d w' TooManyReads (rest, text, tail, k, closes, out) = talks_same f does unknown keep also time k.lines c text d k.talks
+served_same limits f does unknown keep also time bytes a b c w d w' WriteFault (before, last, rest, c1, w1, are, read, fails) =
+    fails_same limits f does unknown keep also time _ a b c1 w1 d w' fails ∙ talks_same f does unknown keep also time read.talk.lines c read.text c1 read.talk.talks
+served_same limits f does unknown keep also time bytes a b c w d w' NoMemory h = of_same f c d h.2
 
-pub number_stays : {S : Type 0} (f : S → ℕ) (does : Acts S) (unknown : AnswerRelation S) → ActsKeep f does → LinesKeep f unknown
-    → (time : ℕ) (a b : Incoming) (c : S) (w : Outgoing) (d : S) (w' : Outgoing) (ended : Ended) → Serves (AnswersCommand does unknown time) (Begins does unknown time) a b c w d w' ended → f d ≡ f c
-number_stays f does unknown keep also time a b c w d w' ended (bytes, taken, keeps, served) = served_same f does unknown keep also time bytes a b c w d w' ended served
+pub number_stays : {S : Type 0} (limits : SessionLimits) (f : S → ℕ) (does : Acts S) (unknown : AnswerRelation S) → ActsKeep f does → LinesKeep f unknown
+    → (time : ℕ) (a b : Incoming) (c : S) (w : Outgoing) (d : S) (w' : Outgoing) (ended : Ended) → Serves limits (AnswersCommand does unknown time) (Begins does unknown time) a b c w d w' ended → f d ≡ f c
+number_stays limits f does unknown keep also time a b c w d w' ended (bytes, taken, keeps, served) = served_same limits f does unknown keep also time bytes a b c w d w' ended served
 
 -- the first number of the pins that are opened through a machine's commands
-pub first_stays : (time : ℕ) (a b : Incoming) (c : Local) (w : Outgoing) (d : Local) (w' : Outgoing) (ended : Ended) → Serves (AnswersCommand acts all_bad time) (Begins acts all_bad time) a b c w d w' ended → d.first_pin ≡ c.first_pin
-first_stays = number_stays (λ c. c.first_pin) acts all_bad (λ c a r d did. did.1) (λ l c text d h. ap (λ (x : Local). x.first_pin) h.1)
+pub first_stays : (limits : SessionLimits) (time : ℕ) (a b : Incoming) (c : Local) (w : Outgoing) (d : Local) (w' : Outgoing) (ended : Ended) → Serves limits (AnswersCommand acts all_bad time) (Begins acts all_bad time) a b c w d w' ended → d.first_pin ≡ c.first_pin
+first_stays limits = number_stays limits (λ c. c.first_pin) acts all_bad (λ c a r d did. did.1) (λ l c text d h. ap (λ (x : Local). x.first_pin) h.1)

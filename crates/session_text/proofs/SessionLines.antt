@@ -8,6 +8,7 @@ use Rattle.std.proofs.lemmas.List.Splits.{slice_split-cons_no, slice_split_at, s
 use Rattle.std.proofs.lemmas.List.Elements.{All-head, All-tail}
 use Rattle.std.proofs.lemmas.Bool.Decides.{nat_tests}
 use Rattle.heap_trail.specs.Machine.{Machine, Allocation}
+use Rattle.session_text.specs.declared.limits.SessionLimits.{SessionLimits}
 use Rattle.session_text.specs.declared.Ended.{Ended}
 use Rattle.session_text.specs.declared.Ended.TheVariants.{Quit, Eof, CutLine, TooLong, ReadFault, TooManyReads, WriteFault, NoMemory as NoRoom}
 use Rattle.session_text.specs.declared.ReadEnd.{ReadEnd}
@@ -130,13 +131,13 @@ FitsEnd e TooManyReads = e ≡ Spent
 FitsEnd e WriteFault = Unit {0}
 FitsEnd e NoRoom = Unit {0}
 
-pub closes_so : (time : ℕ) (e : ReadEnd) (rest : List ℕ) (a b : Incoming) (ended : Ended) (tail : List ℕ) (m : Machine) (ms : List Allocation) (w : List ℕ) → FitsEnd e ended → EndsCleanly rest a b ended tail
+pub closes_so : (limits : SessionLimits) (time : ℕ) (e : ReadEnd) (rest : List ℕ) (a b : Incoming) (ended : Ended) (tail : List ℕ) (m : Machine) (ms : List Allocation) (w : List ℕ) → FitsEnd e ended → EndsCleanly limits rest a b ended tail
     → talked time e (parts rest) (talk m ms w) ≡ (talk m ms (w ++ tail), ended)
-closes_so time e rest a b Quit tail m ms w f h = quits time e rest (talk m ms w) h.0 ∙ ap (λ l. (talk m ms l, Quit)) (sym (append-nil w) ∙ ap (λ l. w ++ l) (sym h.1))
-closes_so time e rest a b Eof tail m ms w f h = (λ i. talked time (f i) (parts (h.0 i)) (talk m ms w)) ∙ ap (λ l. (talk m ms l, Eof)) (sym (append-nil w) ∙ ap (λ l. w ++ l) (sym h.2))
-closes_so time e rest a b CutLine tail m ms w f h = alone time e rest (talk m ms w) h.0 ∙ (let z = not_zero (length rest) h.1 in λ i. at_read_end (f i) (z i) (talk m ms w)) ∙ ap (λ l. (talk m ms (w ++ l), CutLine)) (sym h.3)
-closes_so time e rest a b TooLong tail m ms w f h = too_long time e rest (talk m ms w) h.0 ∙ ap (λ l. (talk m ms (w ++ l), TooLong)) (sym h.1)
-closes_so time e rest a b ReadFault tail m ms w f h = alone time e rest (talk m ms w) h.0 ∙ ap (λ x. at_read_end x (length rest == 0) (talk m ms w)) f ∙ ap (λ l. (talk m ms (w ++ l), ReadFault)) (sym h.1)
-closes_so time e rest a b TooManyReads tail m ms w f h = alone time e rest (talk m ms w) h.0 ∙ ap (λ x. at_read_end x (length rest == 0) (talk m ms w)) f ∙ ap (λ l. (talk m ms (w ++ l), TooManyReads)) (sym h.2)
-closes_so time e rest a b WriteFault tail m ms w f h = absurd h
-closes_so time e rest a b NoRoom tail m ms w f h = absurd h
+closes_so limits time e rest a b Quit tail m ms w f h = quits time e rest (talk m ms w) h.0 ∙ ap (λ l. (talk m ms l, Quit)) (sym (append-nil w) ∙ ap (λ l. w ++ l) (sym h.1))
+closes_so limits time e rest a b Eof tail m ms w f h = (λ i. talked time (f i) (parts (h.0 i)) (talk m ms w)) ∙ ap (λ l. (talk m ms l, Eof)) (sym (append-nil w) ∙ ap (λ l. w ++ l) (sym h.2))
+closes_so limits time e rest a b CutLine tail m ms w f h = alone time e rest (talk m ms w) h.0 ∙ (let z = not_zero (length rest) h.1 in λ i. at_read_end (f i) (z i) (talk m ms w)) ∙ ap (λ l. (talk m ms (w ++ l), CutLine)) (sym h.3)
+closes_so limits time e rest a b TooLong tail m ms w f h = too_long time e rest (talk m ms w) h.0 ∙ ap (λ l. (talk m ms (w ++ l), TooLong)) (sym h.1)
+closes_so limits time e rest a b ReadFault tail m ms w f h = alone time e rest (talk m ms w) h.0 ∙ ap (λ x. at_read_end x (length rest == 0) (talk m ms w)) f ∙ ap (λ l. (talk m ms (w ++ l), ReadFault)) (sym h.1)
+closes_so limits time e rest a b TooManyReads tail m ms w f h = alone time e rest (talk m ms w) h.0 ∙ ap (λ x. at_read_end x (length rest == 0) (talk m ms w)) f ∙ ap (λ l. (talk m ms (w ++ l), TooManyReads)) (sym h.2)
+closes_so limits time e rest a b WriteFault tail m ms w f h = absurd h
+closes_so limits time e rest a b NoRoom tail m ms w f h = absurd h

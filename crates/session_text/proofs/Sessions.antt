@@ -5,6 +5,7 @@ use Rattle.std.specs.Io.KnownBytes.{Keeps}
 use mathlib.Core.List.{IsPrefix}
 use Rattle.dump_pump.specs.Outlets.{Outgoing}
 use Rattle.heap_trail.specs.Machine.{Machine, Allocation}
+use Rattle.session_text.specs.declared.limits.SessionLimits.{SessionLimits}
 use Rattle.session_text.specs.declared.Ended.{Ended}
 use Rattle.session_text.specs.declared.Ended.TheVariants.{Quit, Eof, CutLine, TooLong, ReadFault, TooManyReads, WriteFault, NoMemory as NoRoom}
 use Rattle.session_text.specs.declared.ReadEnd.{ReadEnd}
@@ -54,9 +55,9 @@ fits WriteFault = tt
 fits NoRoom = tt
 
 -- the lines and what an ending prints
-closed_so : (time : ℕ) (a b : Incoming) (c d : Local) (ended : Ended) (bytes rest text tail : List ℕ) (k : IsTalk (AnswersCommand acts all_bad time) bytes c rest text d) → EndsCleanly rest a b ended tail → (e : ReadEnd) → FitsEnd e ended
+closed_so : (limits : SessionLimits) (time : ℕ) (a b : Incoming) (c d : Local) (ended : Ended) (bytes rest text tail : List ℕ) (k : IsTalk (AnswersCommand acts all_bad time) bytes c rest text d) → EndsCleanly limits rest a b ended tail → (e : ReadEnd) → FitsEnd e ended
     → ShowsSession c.machine ((passes time k.lines c text d k.talks).found ++ []) time bytes e (text ++ tail) d.machine ended
-closed_so time a b c d ended bytes rest text tail k closes e f = session_lines time e bytes rest c text d k [] ∙ closes_so time e rest a b ended tail d.machine [] text f closes
+closed_so limits time a b c d ended bytes rest text tail k closes e f = session_lines time e bytes rest c text d k [] ∙ closes_so limits time e rest a b ended tail d.machine [] text f closes
 
 -- all lines are answered, and nothing follows
 session_done : (time : ℕ) (bytes rest : List ℕ) (c : Local) (text : List ℕ) (d : Local) (k : IsTalk (AnswersCommand acts all_bad time) bytes c rest text d) (ms : List Allocation)
@@ -91,8 +92,8 @@ record CutTail (time : ℕ) (rest : List ℕ) (c : Local) (text : List ℕ) (d :
   cut : IsTextWritten (text ++ tail) w w' false
   stops : Stops time end rest (talk c.machine found text) (text ++ tail) cut.0.part d.machine
 
-broken_tail : (time : ℕ) (a b : Incoming) (rest : List ℕ) (c : Local) (text : List ℕ) (d : Local) (w w' : Outgoing) → FailsWhileWriting (Begins acts all_bad time) text rest a b c w d w' → CutTail time rest c text d w w'
-broken_tail time a b rest c text d w w' (inl ((l, tail, starts, h, cut), same)) =
+broken_tail : (limits : SessionLimits) (time : ℕ) (a b : Incoming) (rest : List ℕ) (c : Local) (text : List ℕ) (d : Local) (w w' : Outgoing) → FailsWhileWriting limits (Begins acts all_bad time) text rest a b c w d w' → CutTail time rest c text d w w'
+broken_tail limits time a b rest c text d w w' (inl ((l, tail, starts, h, cut), same)) =
     let g = begins_so time (command_of l) c tail d text (talked time Over (parts starts.1)) (λ u. stays time Over (parts starts.1) u) h in
     let t = talk c.machine g.found text in
     record {
@@ -104,8 +105,8 @@ broken_tail time a b rest c text d w w' (inl ((l, tail, starts, h, cut), same)) 
       cut = cut;
       stops = inl (l, starts, g.pieces, g.most, g.machine, cut_in (text ++ tail) (after_up_to g.pieces time (command_of l) t).written w.out w'.out cut.0 g.here);
     }
-broken_tail time a b rest c text d w w' (inr (inl (ended, tail, closes, same, cut))) =
-    let shows = closes_so time (end_for ended) rest a b ended tail c.machine [] text (fits ended) closes in
+broken_tail limits time a b rest c text d w w' (inr (inl (ended, tail, closes, same, cut))) =
+    let shows = closes_so limits time (end_for ended) rest a b ended tail c.machine [] text (fits ended) closes in
     record {
       end = end_for ended;
       found = [];
@@ -115,7 +116,7 @@ broken_tail time a b rest c text d w w' (inr (inl (ended, tail, closes, same, cu
       cut = cut;
       stops = inr (inl (ended, shows, ap (λ (x : Local). x.machine) same));
     }
-broken_tail time a b rest c text d w w' (inr (inr (line, none, same, cut))) =
+broken_tail limits time a b rest c text d w w' (inr (inr (line, none, same, cut))) =
     let t = talk c.machine [] text in
     let all = subst (λ l. IsTextWritten l w w' false) (sym (append-nil text)) cut in
     record {
@@ -135,9 +136,9 @@ stops_so time bytes rest start marks e t full out left lines cut (inl h) = inl h
 stops_so time bytes rest start marks e t full out left lines cut (inr (inl (ended, shows, same))) = inr (inl (full, ended, lines ∙ shows ∙ ap (λ m. (talk m [] full, ended)) (sym same), same, cut))
 stops_so time bytes rest start marks e t full out left lines cut (inr (inr h)) = inr (inr h)
 
-failed_session : (time : ℕ) (bytes : List ℕ) (a b : Incoming) (c : Local) (w : Outgoing) (d : Local) (w' : Outgoing) → b.taken ≡ a.taken ++ bytes → Keeps (whole a) (whole b) → IsTruncatedRun (AnswersCommand acts all_bad time) (Begins acts all_bad time) bytes a b c w d w' → IsSession c.machine time a b w w' d.machine WriteFault
-failed_session time bytes a b c w d w' taken keeps (rest, text, between, k, breaks) =
-    let g = broken_tail time a b rest between text d w w' breaks in
+failed_session : (limits : SessionLimits) (time : ℕ) (bytes : List ℕ) (a b : Incoming) (c : Local) (w : Outgoing) (d : Local) (w' : Outgoing) → b.taken ≡ a.taken ++ bytes → Keeps (whole a) (whole b) → IsTruncatedRun limits (AnswersCommand acts all_bad time) (Begins acts all_bad time) bytes a b c w d w' → IsSession c.machine time a b w w' d.machine WriteFault
+failed_session limits time bytes a b c w d w' taken keeps (rest, text, between, k, breaks) =
+    let g = broken_tail limits time a b rest between text d w w' breaks in
     let h = g.cut.0 in
     let marks = (passes time k.lines c text between k.talks).found ++ g.found in
     let lines = session_lines time g.end bytes rest c text between k g.found in
@@ -158,12 +159,12 @@ failed_session time bytes a b c w d w' taken keeps (rest, text, between, k, brea
       ),
     )
 
-pub local_session : (time : ℕ) (a b : Incoming) (c : Local) (w : Outgoing) (d : Local) (w' : Outgoing) (ended : Ended) → Serves (AnswersCommand acts all_bad time) (Begins acts all_bad time) a b c w d w' ended → IsSession c.machine time a b w w' d.machine ended
-local_session time a b c w d w' Quit (bytes, taken, keeps, (rest, text, tail, k, closes, h)) = (bytes, text ++ tail, (passes time k.lines c text d k.talks).found ++ [], all_fit time bytes rest c text d k, taken, keeps, h.0, λ e. closed_so time a b c d Quit bytes rest text tail k closes e tt)
-local_session time a b c w d w' Eof (bytes, taken, keeps, (rest, text, tail, k, closes, h)) = (bytes, text ++ tail, (passes time k.lines c text d k.talks).found ++ [], all_fit time bytes rest c text d k, taken, keeps, h.0, closed_so time a b c d Eof bytes rest text tail k closes Over refl)
-local_session time a b c w d w' CutLine (bytes, taken, keeps, (rest, text, tail, k, closes, h)) = (bytes, text ++ tail, (passes time k.lines c text d k.talks).found ++ [], all_fit time bytes rest c text d k, taken, keeps, h.0, closed_so time a b c d CutLine bytes rest text tail k closes Over refl)
-local_session time a b c w d w' TooLong (bytes, taken, keeps, (rest, text, tail, k, closes, h)) = (bytes, text ++ tail, (passes time k.lines c text d k.talks).found ++ [], all_fit time bytes rest c text d k, taken, keeps, h.0, λ e. closed_so time a b c d TooLong bytes rest text tail k closes e tt)
-local_session time a b c w d w' ReadFault (bytes, taken, keeps, (rest, text, tail, k, closes, h)) = (bytes, text ++ tail, (passes time k.lines c text d k.talks).found ++ [], all_fit time bytes rest c text d k, taken, keeps, h.0, closed_so time a b c d ReadFault bytes rest text tail k closes Failed refl)
-local_session time a b c w d w' TooManyReads (bytes, taken, keeps, (rest, text, tail, k, closes, h)) = (bytes, text ++ tail, (passes time k.lines c text d k.talks).found ++ [], all_fit time bytes rest c text d k, taken, keeps, h.0, closed_so time a b c d TooManyReads bytes rest text tail k closes Spent refl)
-local_session time a b c w d w' WriteFault (bytes, taken, keeps, h) = failed_session time bytes a b c w d w' taken keeps (served_fails (AnswersCommand acts all_bad time) (Begins acts all_bad time) bytes a b c w d w' h)
-local_session time a b c w d w' NoRoom (bytes, taken, keeps, h) = (bytes, [], [], fine time (parts bytes) (talk c.machine [] []) refl, taken, keeps, ap (λ (x : Outgoing). x.out) h.3 ∙ sym (append-nil w.out), (h.0, refl, ap (λ (x : Local). x.machine) h.2))
+pub local_session : (limits : SessionLimits) (time : ℕ) (a b : Incoming) (c : Local) (w : Outgoing) (d : Local) (w' : Outgoing) (ended : Ended) → Serves limits (AnswersCommand acts all_bad time) (Begins acts all_bad time) a b c w d w' ended → IsSession c.machine time a b w w' d.machine ended
+local_session limits time a b c w d w' Quit (bytes, taken, keeps, (rest, text, tail, k, closes, h)) = (bytes, text ++ tail, (passes time k.lines c text d k.talks).found ++ [], all_fit time bytes rest c text d k, taken, keeps, h.0, λ e. closed_so limits time a b c d Quit bytes rest text tail k closes e tt)
+local_session limits time a b c w d w' Eof (bytes, taken, keeps, (rest, text, tail, k, closes, h)) = (bytes, text ++ tail, (passes time k.lines c text d k.talks).found ++ [], all_fit time bytes rest c text d k, taken, keeps, h.0, closed_so limits time a b c d Eof bytes rest text tail k closes Over refl)
+local_session limits time a b c w d w' CutLine (bytes, taken, keeps, (rest, text, tail, k, closes, h)) = (bytes, text ++ tail, (passes time k.lines c text d k.talks).found ++ [], all_fit time bytes rest c text d k, taken, keeps, h.0, closed_so limits time a b c d CutLine bytes rest text tail k closes Over refl)
+local_session limits time a b c w d w' TooLong (bytes, taken, keeps, (rest, text, tail, k, closes, h)) = (bytes, text ++ tail, (passes time k.lines c text d k.talks).found ++ [], all_fit time bytes rest c text d k, taken, keeps, h.0, λ e. closed_so limits time a b c d TooLong bytes rest text tail k closes e tt)
+local_session limits time a b c w d w' ReadFault (bytes, taken, keeps, (rest, text, tail, k, closes, h)) = (bytes, text ++ tail, (passes time k.lines c text d k.talks).found ++ [], all_fit time bytes rest c text d k, taken, keeps, h.0, closed_so limits time a b c d ReadFault bytes rest text tail k closes Failed refl)
+local_session limits time a b c w d w' TooManyReads (bytes, taken, keeps, (rest, text, tail, k, closes, h)) = (bytes, text ++ tail, (passes time k.lines c text d k.talks).found ++ [], all_fit time bytes rest c text d k, taken, keeps, h.0, closed_so limits time a b c d TooManyReads bytes rest text tail k closes Spent refl)
+local_session limits time a b c w d w' WriteFault (bytes, taken, keeps, h) = failed_session limits time bytes a b c w d w' taken keeps (served_fails limits (AnswersCommand acts all_bad time) (Begins acts all_bad time) bytes a b c w d w' h)
+local_session limits time a b c w d w' NoRoom (bytes, taken, keeps, h) = (bytes, [], [], fine time (parts bytes) (talk c.machine [] []) refl, taken, keeps, ap (λ (x : Outgoing). x.out) h.3 ∙ sym (append-nil w.out), (h.0, refl, ap (λ (x : Local). x.machine) h.2))

@@ -3,11 +3,12 @@ use Rattle.std.specs.Prelude.{◌≡◌, ℕ, ◌+◌, ◌⊎◌, Bool, true, fa
 use Rattle.dump_pump.specs.Outlets.{Outgoing}
 use Rattle.session_text.specs.declared.Ended.{Ended}
 use Rattle.session_text.specs.declared.Ended.TheVariants.{Quit, Eof, CutLine, TooLong, ReadFault, TooManyReads, WriteFault, NoMemory}
-use Rattle.session_text.specs.declared.TheConstants.{READ_LIMIT}
 use Rattle.session_text.specs.declared.answer.Flow.{Flow}
 use Rattle.session_text.specs.declared.answer.Flow.TheVariants.{Next, Fault}
+use Rattle.session_text.specs.declared.limits.SessionLimits.{SessionLimits}
 use Rattle.dump_pump.specs.Inlets.{Incoming}
 use Rattle.session_text.specs.Buffers.{HasEnded}
+use Rattle.session_text.specs.Limits.{most_reads}
 use Rattle.session_text.specs.Writes.{IsTextWritten}
 
 -- the next line comes, unless a write failed
@@ -25,21 +26,21 @@ abbrev pub EndsWith : List ℕ → List ℕ → Outgoing → Outgoing → Ended 
 EndsWith line page w w' ended result =
     (written : Bool) × IsTextWritten (page ++ line) w w' written × (result ≡ ended_of ended written)
 
--- the reader before and after, if no write failed
-abbrev pub ReaderEnds : Incoming → Incoming → Ended → Type 0
-ReaderEnds a b Quit = b.failures ≡ a.failures
-ReaderEnds a b Eof = HasEnded b × (b.failures ≡ a.failures)
-ReaderEnds a b CutLine = HasEnded b × (b.failures ≡ a.failures)
-ReaderEnds a b TooLong = b.failures ≡ a.failures
-ReaderEnds a b ReadFault = b.failures ≡ a.failures + 1
-ReaderEnds a b TooManyReads =
-    (length b.reads ≡ length a.reads + READ_LIMIT) × (b.failures ≡ a.failures)
-ReaderEnds a b WriteFault = ⊥
-ReaderEnds a b NoMemory = b ≡ a
+-- the reader before and after a session that had at most this, if no write failed
+abbrev pub ReaderEnds : SessionLimits → Incoming → Incoming → Ended → Type 0
+ReaderEnds limits a b Quit = b.failures ≡ a.failures
+ReaderEnds limits a b Eof = HasEnded b × (b.failures ≡ a.failures)
+ReaderEnds limits a b CutLine = HasEnded b × (b.failures ≡ a.failures)
+ReaderEnds limits a b TooLong = b.failures ≡ a.failures
+ReaderEnds limits a b ReadFault = b.failures ≡ a.failures + 1
+ReaderEnds limits a b TooManyReads =
+    (length b.reads ≡ length a.reads + most_reads limits) × (b.failures ≡ a.failures)
+ReaderEnds limits a b WriteFault = ⊥
+ReaderEnds limits a b NoMemory = b ≡ a
 
--- the reader and the writer before and after
-abbrev pub EndsSession : Incoming → Incoming → Outgoing → Outgoing → Ended → Type 0
-EndsSession a b w w' WriteFault =
+-- the reader and the writer before and after a session that had at most this
+abbrev pub EndsSession : SessionLimits → Incoming → Incoming → Outgoing → Outgoing → Ended → Type 0
+EndsSession limits a b w w' WriteFault =
     (w'.failures ≡ w.failures + 1) × ((b.failures ≡ a.failures) ⊎ (b.failures ≡ a.failures + 1))
-EndsSession a b w w' NoMemory = (b ≡ a) × (w' ≡ w)
-EndsSession a b w w' ended = (w'.failures ≡ w.failures) × ReaderEnds a b ended
+EndsSession limits a b w w' NoMemory = (b ≡ a) × (w' ≡ w)
+EndsSession limits a b w w' ended = (w'.failures ≡ w.failures) × ReaderEnds limits a b ended

@@ -5,9 +5,9 @@ use Rattle.dump_pump.specs.Outlets.{Outgoing}
 use Rattle.session_text.specs.declared.Ended.{Ended}
 use Rattle.session_text.specs.declared.Ended.TheVariants.{Quit, Eof, CutLine, TooLong, ReadFault, TooManyReads, WriteFault, NoMemory}
 use Rattle.session_grammar.specs.declared.TheConstants.{LINE_LIMIT}
-use Rattle.session_text.specs.declared.TheConstants.{READ_LIMIT}
 use Rattle.session_text.specs.declared.answer.Flow.{Flow}
 use Rattle.session_text.specs.declared.answer.Flow.TheVariants.{Next, Quit as Stop, Long, Fault}
+use Rattle.session_text.specs.declared.limits.SessionLimits.{SessionLimits}
 use Rattle.session_grammar.specs.declared.command.Command.{Command}
 use Rattle.session_grammar.specs.declared.command.Command.TheVariants.{End}
 use Rattle.session_text.specs.Answers.{Reaction, AnswerRelation}
@@ -15,6 +15,7 @@ use Rattle.session_grammar.specs.Grammar.{command_of}
 use Rattle.dump_pump.specs.Inlets.{Incoming, whole}
 use Rattle.session_text.specs.Buffers.{HasEnded}
 use Rattle.session_grammar.specs.Lines.{NoLf}
+use Rattle.session_text.specs.Limits.{most_reads}
 use Rattle.session_text.specs.Writes.{IsTextWritten, IsTextAdded}
 
 -- a line without its LF, or the beginning of one
@@ -130,24 +131,24 @@ IsFirst says begins bytes c page w rest c' page' w' (Some Fault) =
 
 -- ---- endings
 
--- the condition of an ending on the bytes behind the last line that was answered and on the reader, and the line that it
--- prints
-abbrev pub EndsCleanly : List ℕ → Incoming → Incoming → Ended → List ℕ → Type 0
-EndsCleanly rest a b Quit tail = IsQuit rest × (tail ≡ []) × (b.failures ≡ a.failures)
-EndsCleanly rest a b Eof tail =
+-- the condition of an ending on what the session may have at most, on the bytes behind the last line that was answered and on
+-- the reader, and the line that it prints
+abbrev pub EndsCleanly : SessionLimits → List ℕ → Incoming → Incoming → Ended → List ℕ → Type 0
+EndsCleanly limits rest a b Quit tail = IsQuit rest × (tail ≡ []) × (b.failures ≡ a.failures)
+EndsCleanly limits rest a b Eof tail =
     (rest ≡ []) × HasEnded b × (tail ≡ []) × (b.failures ≡ a.failures)
-EndsCleanly rest a b CutLine tail =
+EndsCleanly limits rest a b CutLine tail =
     IsLine rest × (0 < length rest) × HasEnded b × (tail ≡ codes "bad cut\n")
     × (b.failures ≡ a.failures)
-EndsCleanly rest a b TooLong tail =
+EndsCleanly limits rest a b TooLong tail =
     IsLong rest × (tail ≡ codes "bad long\n") × (b.failures ≡ a.failures)
-EndsCleanly rest a b ReadFault tail =
+EndsCleanly limits rest a b ReadFault tail =
     IsLine rest × (tail ≡ codes "bad read\n") × (b.failures ≡ a.failures + 1)
-EndsCleanly rest a b TooManyReads tail =
-    IsLine rest × (length b.reads ≡ length a.reads + READ_LIMIT) × (tail ≡ codes "bad reads\n")
+EndsCleanly limits rest a b TooManyReads tail =
+    IsLine rest × (length b.reads ≡ length a.reads + most_reads limits) × (tail ≡ codes "bad reads\n")
     × (b.failures ≡ a.failures)
-EndsCleanly rest a b WriteFault tail = ⊥
-EndsCleanly rest a b NoMemory tail = ⊥
+EndsCleanly limits rest a b WriteFault tail = ⊥
+EndsCleanly limits rest a b NoMemory tail = ⊥
 
 -- all whole lines were answered, and their texts were to be put out before the next read
 abbrev pub Waits : {S : Type 0} → List ℕ → List ℕ → Incoming → Incoming → S → Outgoing → S
@@ -156,22 +157,22 @@ Waits text rest a b c w c' w' =
     IsLine rest × (b.failures ≡ a.failures) × (c' ≡ c) × IsTextWritten text w w' false
 
 -- a write failed in a text or behind it: with the answer of the next line, with what an ending prints, or before a read
-abbrev pub FailsWhileWriting : {S : Type 0} → AnswerRelation S → List ℕ → List ℕ → Incoming
+abbrev pub FailsWhileWriting : {S : Type 0} → SessionLimits → AnswerRelation S → List ℕ → List ℕ → Incoming
     → Incoming → S → Outgoing → S
     → Outgoing → Type 0
-FailsWhileWriting begins text rest a b c w c' w' =
+FailsWhileWriting limits begins text rest a b c w c' w' =
     (IsBrokenOff begins text rest c w c' w' × (b.failures ≡ a.failures))
-    ⊎ (((ended : Ended) × (tail : List ℕ) × EndsCleanly rest a b ended tail × (c' ≡ c)
+    ⊎ (((ended : Ended) × (tail : List ℕ) × EndsCleanly limits rest a b ended tail × (c' ≡ c)
     × IsTextWritten (text ++ tail) w w' false)
     ⊎ Waits text rest a b c w c' w')
 
 -- some whole lines were answered, and a write failed in their texts or behind them
-abbrev pub IsTruncatedRun : {S : Type 0} → AnswerRelation S → AnswerRelation S → List ℕ → Incoming
+abbrev pub IsTruncatedRun : {S : Type 0} → SessionLimits → AnswerRelation S → AnswerRelation S → List ℕ → Incoming
     → Incoming → S → Outgoing → S
     → Outgoing → Type 0
-IsTruncatedRun {S} says begins bytes a b c w c' w' =
+IsTruncatedRun {S} limits says begins bytes a b c w c' w' =
     (rest : List ℕ) × (text : List ℕ) × (between : S) × IsTalk says bytes c rest text between
-    × FailsWhileWriting begins text rest a b between w c' w'
+    × FailsWhileWriting limits begins text rest a b between w c' w'
 
 -- the last read took `last`. Each read earlier took some bytes; when the last one was made, all whole lines of the bytes
 -- before were answered, their texts were out, and a line's beginning was left
@@ -189,24 +190,24 @@ pub record IsLastRead {S : Type 0} (says : AnswerRelation S) (before last : List
 -- ---- whole sessions
 
 -- the bytes read, the commands and the writer before and after, and the ending
-abbrev pub IsSessionServed : {S : Type 0} → AnswerRelation S → AnswerRelation S → List ℕ → Incoming
+abbrev pub IsSessionServed : {S : Type 0} → SessionLimits → AnswerRelation S → AnswerRelation S → List ℕ → Incoming
     → Incoming → S → Outgoing
     → S → Outgoing → Ended → Type 0
-IsSessionServed {S} says begins bytes a b c w c' w' WriteFault =
+IsSessionServed {S} limits says begins bytes a b c w c' w' WriteFault =
     (before : List ℕ) × (last : List ℕ) × (rest : List ℕ) × (c1 : S) × (w1 : Outgoing)
     × (bytes ≡ before ++ last) × IsLastRead says before last a b c w rest c1 w1
-    × IsTruncatedRun says begins (rest ++ last) a b c1 w1 c' w'
-IsSessionServed says begins bytes a b c w c' w' NoMemory =
+    × IsTruncatedRun limits says begins (rest ++ last) a b c1 w1 c' w'
+IsSessionServed limits says begins bytes a b c w c' w' NoMemory =
     (bytes ≡ []) × (b ≡ a) × (c' ≡ c) × (w' ≡ w)
-IsSessionServed says begins bytes a b c w c' w' ended =
+IsSessionServed limits says begins bytes a b c w c' w' ended =
     (rest : List ℕ) × (text : List ℕ) × (tail : List ℕ)
-    × IsTalk says bytes c rest text c' × EndsCleanly rest a b ended tail
+    × IsTalk says bytes c rest text c' × EndsCleanly limits rest a b ended tail
     × IsTextWritten (text ++ tail) w w' true
 
--- what `serve` does
-abbrev pub Serves : {S : Type 0} → AnswerRelation S → AnswerRelation S → Incoming → Incoming → S
+-- what `serve` does in a session that may have at most this
+abbrev pub Serves : {S : Type 0} → SessionLimits → AnswerRelation S → AnswerRelation S → Incoming → Incoming → S
     → Outgoing → S
     → Outgoing → Ended → Type 0
-Serves says begins a b c w c' w' ended =
+Serves limits says begins a b c w c' w' ended =
     (bytes : List ℕ) × (b.taken ≡ a.taken ++ bytes) × Keeps (whole a) (whole b)
-    × IsSessionServed says begins bytes a b c w c' w' ended
+    × IsSessionServed limits says begins bytes a b c w c' w' ended

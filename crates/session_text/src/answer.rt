@@ -99,7 +99,7 @@ fn answer_text<O: Outlet, C: Commands>(
         (command_of_text text.now) commands.old page.old (O.seen writer.old) commands.new page.new
         (O.seen writer.new) result }
 {
-    let Context { alloc, time } = context;
+    let Context { alloc, time, .. } = context;
     match command_of_text(alloc, spans, text) {
         Err(_) => next_unless(write_reply(page, writer, &Reply::Refused(Refusal::NoMemory))),
         Ok(Command::Blank) => Flow::Next,

@@ -15,6 +15,7 @@ mod data;
 mod digits;
 mod dump;
 mod examples;
+pub mod limits;
 mod mutator;
 mod page;
 mod printing;
@@ -28,13 +29,11 @@ pub use commands::{Commands, LineAnswer, Local};
 pub use dump_pump::{Inlet, Outlet, ReadInlet, Take};
 pub use examples::worked_session;
 pub use heap_trail::Machine;
+pub use limits::{SessionLimits, session_limits};
 pub use printing::printed;
 pub use reply::cause_word;
 pub use talk::{serve, serve_local};
 pub use write::write_all;
-
-/// The largest number of reads of a session.
-pub const READ_LIMIT: u64 = 1_000_000;
 
 /// The way in which a session ended.
 #[derive(Clone, Copy, PartialEq, Eq)]
@@ -49,7 +48,7 @@ pub enum Ended {
     TooLong,
     /// By a read that failed.
     ReadFault,
-    /// After 1,000,000 reads.
+    /// After as many reads as it may have.
     TooManyReads,
     /// By a write that failed or took nothing. Nothing was read after it.
     WriteFault,
@@ -64,7 +63,7 @@ pub enum ReadEnd {
     Over,
     /// By a read that failed.
     Failed,
-    /// After 1,000,000 reads.
+    /// After as many reads as there may be.
     Spent,
 }
 

@@ -2,15 +2,18 @@
 ghost use Rattle.std.specs.Prelude.{◌≡◌, [], IfOk};
 
 use crate::buffer::Buffer;
+use crate::limits::SessionLimits;
 use crate::page::Page;
 use session_grammar::spans::FieldSpans;
 use std::alloc::{AllocError, Global};
 
-/// What stays the same in a session: its allocator, and the time that stands in the header of each dump, in milliseconds.
+/// What stays the same in a session: its allocator, the time that stands in the header of each dump, in milliseconds, and what it
+/// may have at most.
 #[derive(Clone, Copy)]
 pub struct Context {
     pub alloc: Global,
     pub time: u64,
+    pub limits: SessionLimits,
 }
 
 /// What a session keeps between its lines. All memory is allocated when it begins.

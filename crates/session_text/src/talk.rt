@@ -10,7 +10,7 @@ use crate::answer::{Flow, answer_lines};
 use crate::commands::{Commands, Local};
 use crate::session::{Context, Session};
 use crate::write::{flush, write_text};
-use crate::{Ended, READ_LIMIT};
+use crate::{Ended, SessionLimits};
 use dump_pump::{Inlet, Outlet, Take};
 use std::alloc::Global;
 
@@ -38,11 +38,12 @@ fn talk<I: Inlet, O: Outlet, C: Commands>(
     commands: &mut C,
 ) -> Ended
     requires { (session.old.buffer ≡ []) × (session.old.page ≡ []) }
-    ensures { Serves (AnswersCommand C.acts C.unknown context.time)
+    ensures { Serves context.limits (AnswersCommand C.acts C.unknown context.time)
         (Begins C.acts C.unknown context.time)
         (I.seen reader.old) (I.seen reader.new) commands.old (O.seen writer.old) commands.new
         (O.seen writer.new) result }
 {
+    let most = context.limits.reads();
     let mut reads: u64 = 0;
     loop {
         match answer_lines(context, session, writer, commands) {
@@ -51,7 +52,7 @@ fn talk<I: Inlet, O: Outlet, C: Commands>(
             Flow::Long => return end_with(session, writer, Ended::TooLong, b"bad long\n"),
             Flow::Fault => return Ended::WriteFault,
         }
-        if reads == READ_LIMIT {
+        if reads == most {
             return end_with(session, writer, Ended::TooManyReads, b"bad reads\n");
         }
         if !flush(&mut session.page, writer) {
@@ -74,25 +75,30 @@ fn talk<I: Inlet, O: Outlet, C: Commands>(
 /// the lines that were acted on and of the line of the ending, with all answers to lines that were whole before the last
 /// read. A dump asks for no more pieces, and one of the current state closes its pin.
 ///
-/// `time`, in milliseconds, stands in the header of each dump. Fails with NoMemory, before the first read, if an allocation
-/// for the session fails.
+/// `time`, in milliseconds, stands in the header of each dump. The session ends once it has as much of something as `limits`
+/// allow. Fails with NoMemory, before the first read, if an allocation for the session fails.
 pub fn serve<I: Inlet, O: Outlet, C: Commands>(
     alloc: Global,
     reader: &mut I,
     writer: &mut O,
     commands: &mut C,
     time: u64,
+    limits: SessionLimits,
 ) -> Ended
-    ensures ends { EndsSession (I.seen reader.old) (I.seen reader.new) (O.seen writer.old)
+    ensures ends { EndsSession limits (I.seen reader.old) (I.seen reader.new) (O.seen writer.old)
         (O.seen writer.new) result }
-    ensures text { Serves (AnswersCommand C.acts C.unknown time) (Begins C.acts C.unknown time)
+    ensures text { Serves limits (AnswersCommand C.acts C.unknown time) (Begins C.acts C.unknown time)
         (I.seen reader.old) (I.seen reader.new) commands.old (O.seen writer.old) commands.new
         (O.seen writer.new) result }
 {
     let Ok(mut session) = Session::new(alloc) else {
         return Ended::NoMemory;
     };
-    let context = Context { alloc, time };
+    let context = Context {
+        alloc,
+        time,
+        limits,
+    };
     talk(context, &mut session, reader, writer, commands)
 }
 
@@ -108,12 +114,13 @@ pub fn serve_local<I: Inlet, O: Outlet>(
     writer: &mut O,
     local: &mut Local,
     time: u64,
+    limits: SessionLimits,
 ) -> Ended
-    ensures ends { EndsSession (I.seen reader.old) (I.seen reader.new) (O.seen writer.old)
+    ensures ends { EndsSession limits (I.seen reader.old) (I.seen reader.new) (O.seen writer.old)
         (O.seen writer.new) result }
     ensures first { local.new.first_pin ≡ local.old.first_pin }
     ensures session { IsSession local.old.machine time (I.seen reader.old) (I.seen reader.new)
         (O.seen writer.old) (O.seen writer.new) local.new.machine result }
 {
-    serve(alloc, reader, writer, local, time)
+    serve(alloc, reader, writer, local, time, limits)
 }

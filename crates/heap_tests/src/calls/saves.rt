@@ -5,7 +5,7 @@ use dump_pump::{Inlet, Outlet, ReadInlet, WriteOutlet};
 use heap_lock::Machine;
 use heap_save::{LastDump, Outlets};
 use pin_dump::{Gauge, Silent};
-use session_text::Local;
+use session_text::{Local, SessionLimits};
 use std::alloc::Global;
 use std::sync::Wait;
 use std::test::Fail;
@@ -46,7 +46,7 @@ fn save_to<P: Outlets + Drop, G: Gauge, I: Inlet, O: Outlet, R: Threads + Wait +
 ) -> Option<P::Out> {
     let time = 0;
     let dump = LastDump { place, gauge, time };
-    let saved = dump.save_into(rt, alloc, local, reader, writer);
+    let saved = dump.save_into(rt, alloc, local, reader, writer, SessionLimits::Narrow);
     saved.outlet
 }
 

@@ -4,4 +4,4 @@ use Rattle.question_text.proofs.KeptPins.{line_keeps}
 use Rattle.question_text.proofs.session.serve_asking.Goals as goal
 
 pub returns-clause-first : goal.returns-clause-first
-returns-clause-first g c = number_stays (λ c. c.local.first_pin) AskingActs AskingAnswers (λ c a r d did. did.1) line_keeps _ _ _ _ _ _ _ c.serve.result c.serve.ensures.text
+returns-clause-first g c = number_stays _ (λ c. c.local.first_pin) AskingActs AskingAnswers (λ c a r d did. did.1) line_keeps _ _ _ _ _ _ _ c.serve.result c.serve.ensures.text

@@ -8,6 +8,7 @@ use Rattle.session_text.specs.Answers.{AnswersCommand, Begins}
 use Rattle.session_text.specs.Endings.{EndsWith}
 use Rattle.dump_pump.specs.Inlets.{whole}
 use Rattle.session_text.specs.Talks.{EndsCleanly, IsTalk, Serves}
+use Rattle.session_text.specs.Limits.{most_reads}
 use Rattle.session_text.specs.Writes.{IsTextAdded, IsTextWritten}
 use Rattle.session_text.proofs.Lists.{is_empty_of, is_some_of}
 use Rattle.session_text.proofs.PageTexts.{paged_written, paged_flushed}
@@ -18,7 +19,7 @@ use Rattle.session_text.proofs.talk.talk.Goals as goal
 
 -- the line of an ending, behind the answers of the buffer's lines
 closed : (g : Over) (c : After-answer_lines g) (text : List ℕ) (ended : Ended) (line : List ℕ) (w2 : Outgoing) (result : Ended) → IsTalk (AnswersCommand g.C.Commands.acts g.C.Commands.unknown c.args.context.time) c.loop-session.session.buffer c.loop-session.commands c.answer_lines.new.session.buffer text c.answer_lines.new.commands → IsTextAdded text [] (g.O.Outlet.seen c.loop-session.writer) c.answer_lines.new.session.page (g.O.Outlet.seen c.answer_lines.new.writer) true
-    → EndsCleanly c.answer_lines.new.session.buffer (g.I.Inlet.seen c.args.reader.now) (g.I.Inlet.seen c.loop-session.reader) ended line → EndsWith line c.answer_lines.new.session.page (g.O.Outlet.seen c.answer_lines.new.writer) w2 ended result → Serves (AnswersCommand g.C.Commands.acts g.C.Commands.unknown c.args.context.time) (Begins g.C.Commands.acts g.C.Commands.unknown c.args.context.time) (g.I.Inlet.seen c.args.reader.now) (g.I.Inlet.seen c.loop-session.reader) c.args.commands.now (g.O.Outlet.seen c.args.writer.now) c.answer_lines.new.commands w2 result
+    → EndsCleanly c.args.context.limits c.answer_lines.new.session.buffer (g.I.Inlet.seen c.args.reader.now) (g.I.Inlet.seen c.loop-session.reader) ended line → EndsWith line c.answer_lines.new.session.page (g.O.Outlet.seen c.answer_lines.new.writer) w2 ended result → Serves c.args.context.limits (AnswersCommand g.C.Commands.acts g.C.Commands.unknown c.args.context.time) (Begins g.C.Commands.acts g.C.Commands.unknown c.args.context.time) (g.I.Inlet.seen c.args.reader.now) (g.I.Inlet.seen c.loop-session.reader) c.args.commands.now (g.O.Outlet.seen c.args.writer.now) c.answer_lines.new.commands w2 result
 closed g c text ended line w2 result talk added closes out =
     let says = AnswersCommand g.C.Commands.acts g.C.Commands.unknown c.args.context.time in
     let begins = Begins g.C.Commands.acts g.C.Commands.unknown c.args.context.time in
@@ -28,8 +29,8 @@ closed g c text ended line w2 result talk added closes out =
     let left = c.answer_lines.new.session.buffer in
     let last = c.answer_lines.new.commands in
     let said = paged_written text c.answer_lines.new.session.page line w0 (g.O.Outlet.seen c.answer_lines.new.writer) w2 out.0 added out.1 in
-    rw out.2 (ends_saying says begins _ _ _ _ _ _ w0 _ left text last a w2 ended line out.0 i.1 talk refl (keeps_same (whole a)) closes said
-    (λ h. ends_failing says begins _ _ _ _ _ _ _ _ last w2 i.1 i.2 (left, text, last, talk, inr (inl (ended, line, closes, refl, h)))))
+    rw out.2 (ends_saying c.args.context.limits says begins _ _ _ _ _ _ w0 _ left text last a w2 ended line out.0 i.1 talk refl (keeps_same (whole a)) closes said
+    (λ h. ends_failing c.args.context.limits says begins _ _ _ _ _ _ _ _ last w2 i.1 i.2 (left, text, last, talk, inr (inl (ended, line, closes, refl, h)))))
 
 -- the buffer's lines, whose answers were put out
 opened : (g : Over) (c : After-read g) → IsOpen (AnswersCommand g.C.Commands.acts g.C.Commands.unknown c.args.context.time) (g.I.Inlet.seen c.args.reader.now) c.args.commands.now (g.O.Outlet.seen c.args.writer.now) (g.I.Inlet.seen c.loop-session.reader) c.answer_lines.new.session.buffer c.answer_lines.new.commands (g.O.Outlet.seen c.flush.new.outlet) c.loop-session.reads
@@ -42,7 +43,7 @@ opened g c =
 
 -- the line of an ending, behind a read that gave nothing
 unread : (g : Over) (c : After-read g) (ended : Ended) (line : List ℕ) (w2 : Outgoing) (result : Ended) → (g.I.Inlet.seen c.read.new.inlet).taken ≡ (g.I.Inlet.seen c.loop-session.reader).taken → (g.I.Inlet.seen c.read.new.inlet).reads ≡ (g.I.Inlet.seen c.loop-session.reader).reads ++ 0 ∷ [] → Keeps (whole (g.I.Inlet.seen c.loop-session.reader)) (whole (g.I.Inlet.seen c.read.new.inlet))
-    → EndsCleanly c.answer_lines.new.session.buffer (g.I.Inlet.seen c.args.reader.now) (g.I.Inlet.seen c.read.new.inlet) ended line → EndsWith line c.flush.new.page (g.O.Outlet.seen c.flush.new.outlet) w2 ended result → Serves (AnswersCommand g.C.Commands.acts g.C.Commands.unknown c.args.context.time) (Begins g.C.Commands.acts g.C.Commands.unknown c.args.context.time) (g.I.Inlet.seen c.args.reader.now) (g.I.Inlet.seen c.read.new.inlet) c.args.commands.now (g.O.Outlet.seen c.args.writer.now) c.answer_lines.new.commands w2 result
+    → EndsCleanly c.args.context.limits c.answer_lines.new.session.buffer (g.I.Inlet.seen c.args.reader.now) (g.I.Inlet.seen c.read.new.inlet) ended line → EndsWith line c.flush.new.page (g.O.Outlet.seen c.flush.new.outlet) w2 ended result → Serves c.args.context.limits (AnswersCommand g.C.Commands.acts g.C.Commands.unknown c.args.context.time) (Begins g.C.Commands.acts g.C.Commands.unknown c.args.context.time) (g.I.Inlet.seen c.args.reader.now) (g.I.Inlet.seen c.read.new.inlet) c.args.commands.now (g.O.Outlet.seen c.args.writer.now) c.answer_lines.new.commands w2 result
 unread g c ended line w2 result taken reads same closes out =
     let says = AnswersCommand g.C.Commands.acts g.C.Commands.unknown c.args.context.time in
     let begins = Begins g.C.Commands.acts g.C.Commands.unknown c.args.context.time in
@@ -52,21 +53,23 @@ unread g c ended line w2 result taken reads same closes out =
     let left = c.answer_lines.new.session.buffer in
     let last = c.answer_lines.new.commands in
     let said = subst (λ l. IsTextWritten (l ++ line) w1 w2 out.0) c.if-not-flush.ensures.empty out.1 in
-    rw out.2 (ends_saying says begins _ _ _ _ _ _ w1 _ left [] last b w2 ended line out.0 o (talk_none says left last) taken same closes said
-    (λ h. ends_silent says begins _ _ _ _ _ _ _ _ b w2 ended line o c.in-Next.ensures.2 taken reads same closes h))
+    rw out.2 (ends_saying c.args.context.limits says begins _ _ _ _ _ _ w1 _ left [] last b w2 ended line out.0 o (talk_none says left last) taken same closes said
+    (λ h. ends_silent c.args.context.limits says begins _ _ _ _ _ _ _ _ b w2 ended line o c.in-Next.ensures.2 taken reads same closes h))
 
 pub loop-session-init : goal.loop-session-init
 loop-session-init g c = (
   c.requires.1,
   open_none (AnswersCommand g.C.Commands.acts g.C.Commands.unknown c.args.context.time) (g.I.Inlet.seen c.args.reader.now) c.args.session.now.buffer c.args.commands.now (g.O.Outlet.seen c.args.writer.now) c.requires.0,
   inl (c.requires.0, refl),
+  c.reads-most.ensures,
+  omega arith,
 )
 
 pub returns-in-Fault : goal.returns-in-Fault
 returns-in-Fault g c =
     let e = c.in-Fault.ensures in
     let i = c.loop-session.invariant in
-    ends_failing (AnswersCommand g.C.Commands.acts g.C.Commands.unknown c.args.context.time) (Begins g.C.Commands.acts g.C.Commands.unknown c.args.context.time) _ _ _ _ _ _ _ _ c.answer_lines.new.commands (g.O.Outlet.seen c.answer_lines.new.writer) i.1 i.2 (e.0, e.1, e.2, e.3, inl (e.4, i.1.no_fault))
+    ends_failing c.args.context.limits (AnswersCommand g.C.Commands.acts g.C.Commands.unknown c.args.context.time) (Begins g.C.Commands.acts g.C.Commands.unknown c.args.context.time) _ _ _ _ _ _ _ _ c.answer_lines.new.commands (g.O.Outlet.seen c.answer_lines.new.writer) i.1 i.2 (e.0, e.1, e.2, e.3, inl (e.4, i.1.no_fault))
 
 pub returns-in-Quit : goal.returns-in-Quit
 returns-in-Quit g c =
@@ -79,14 +82,14 @@ returns-in-Long g c =
     let w = c.end_with-in-Long in
     closed g (goal.at.returns-in-Long g c).After-answer_lines e.0 TooLong (codes "bad long\n") (g.O.Outlet.seen w.new.outlet) w.result e.1 e.3 (e.2, refl, c.loop-session.invariant.1.no_fault) w.ensures
 
-pub returns-then-reads-eq-READ_LIMIT : goal.returns-then-reads-eq-READ_LIMIT
-returns-then-reads-eq-READ_LIMIT g c =
+pub returns-then-reads-most : goal.returns-then-reads-most
+returns-then-reads-most g c =
     let e = c.in-Next.ensures in
     let i = c.loop-session.invariant in
     let first = g.I.Inlet.seen c.args.reader.now in
-    let w = c.end_with-then-reads-eq-READ_LIMIT in
-    let all : length (g.I.Inlet.seen c.loop-session.reader).reads ≡ length first.reads + 1000000 = omega (arith, ap (λ x. length x) i.1.reads_are, length-append first.reads i.1.earlier, i.1.count, c.if-reads-eq-READ_LIMIT.true) in
-    closed g (goal.at.returns-then-reads-eq-READ_LIMIT g c).After-answer_lines e.0 TooManyReads (codes "bad reads\n") (g.O.Outlet.seen w.new.outlet) w.result e.1 e.3 (e.2, all, refl, i.1.no_fault) w.ensures
+    let w = c.end_with-then-reads-most in
+    let all : length (g.I.Inlet.seen c.loop-session.reader).reads ≡ length first.reads + most_reads c.args.context.limits = omega (arith, ap (λ x. length x) i.1.reads_are, length-append first.reads i.1.earlier, i.1.count, c.if-reads-most.true, i.3) in
+    closed g (goal.at.returns-then-reads-most g c).After-answer_lines e.0 TooManyReads (codes "bad reads\n") (g.O.Outlet.seen w.new.outlet) w.result e.1 e.3 (e.2, all, refl, i.1.no_fault) w.ensures
 
 pub returns-then-not-flush : goal.returns-then-not-flush
 returns-then-not-flush g c =
@@ -95,18 +98,19 @@ returns-then-not-flush g c =
     let f = c.if-not-flush.ensures in
     let w2 = g.O.Outlet.seen c.flush.new.outlet in
     let cut = paged_flushed e.0 c.answer_lines.new.session.page (g.O.Outlet.seen c.loop-session.writer) (g.O.Outlet.seen c.answer_lines.new.writer) c.flush.new.page w2 false e.3 f.added f.empty in
-    ends_failing (AnswersCommand g.C.Commands.acts g.C.Commands.unknown c.args.context.time) (Begins g.C.Commands.acts g.C.Commands.unknown c.args.context.time) _ _ _ _ _ _ _ _ c.answer_lines.new.commands w2 i.1 i.2 (c.answer_lines.new.session.buffer, e.0, c.answer_lines.new.commands, e.1, inr (inr (e.2, i.1.no_fault, refl, cut)))
+    ends_failing c.args.context.limits (AnswersCommand g.C.Commands.acts g.C.Commands.unknown c.args.context.time) (Begins g.C.Commands.acts g.C.Commands.unknown c.args.context.time) _ _ _ _ _ _ _ _ c.answer_lines.new.commands w2 i.1 i.2 (c.answer_lines.new.session.buffer, e.0, c.answer_lines.new.commands, e.1, inr (inr (e.2, i.1.no_fault, refl, cut)))
 
 pub loop-session-preserved : goal.loop-session-preserved
 loop-session-preserved g c =
     let r = c.in-Got.ensures in
     let says = AnswersCommand g.C.Commands.acts g.C.Commands.unknown c.args.context.time in
     let o = opened g (goal.at.loop-session-preserved g c).After-read in
-    let less : c.loop-session.reads < 1000000 = omega (arith, o.most, c.if-reads-eq-READ_LIMIT.false) in
     let b = g.I.Inlet.seen c.read.new.inlet in (
       c.if-not-flush.ensures.empty,
-      open_read says _ _ _ _ _ _ _ _ b c.read.new.self r.0 o less r.1 r.2 r.3 r.4 r.5 r.6,
+      open_read says _ _ _ _ _ _ _ _ b c.read.new.self r.0 o r.1 r.2 r.3 r.4 r.5 r.6,
       came_read says _ _ _ _ _ _ _ _ b c.read.new.self r.0 (c.loop-session.reads + 1) o c.in-Next.ensures.2 r.2 r.3 r.4,
+      c.loop-session.invariant.3,
+      omega (arith, c.loop-session.invariant.4, c.if-reads-most.false),
     )
 
 pub returns-in-End : goal.returns-in-End
@@ -114,7 +118,7 @@ returns-in-End g c =
     let r = c.in-End.ensures in
     let o = opened g (goal.at.returns-in-End g c).After-read in
     let none = is_empty_of c.as_slice.result.now c.read.new.self c.answer_lines.new.session.buffer c.as_slice.ensures r.0 c.if-is_empty.ensures in
-    ends_plainly (AnswersCommand g.C.Commands.acts g.C.Commands.unknown c.args.context.time) (Begins g.C.Commands.acts g.C.Commands.unknown c.args.context.time) _ _ _ _ _ _ _ _ (g.I.Inlet.seen c.read.new.inlet) Eof o r.2 r.5 (none, (r.1, (_, r.3)), refl, r.4 ∙ o.no_fault)
+    ends_plainly c.args.context.limits (AnswersCommand g.C.Commands.acts g.C.Commands.unknown c.args.context.time) (Begins g.C.Commands.acts g.C.Commands.unknown c.args.context.time) _ _ _ _ _ _ _ _ (g.I.Inlet.seen c.read.new.inlet) Eof o r.2 r.5 (none, (r.1, (_, r.3)), refl, r.4 ∙ o.no_fault)
 
 pub returns-in-End-2 : goal.returns-in-End-2
 returns-in-End-2 g c =

@@ -1,5 +1,6 @@
-use Rattle.std.proofs.Common.{◌≡◌, [], ◌-◌}
+use Rattle.std.proofs.Common.{◌≡◌, ◌≤◌, [], ◌-◌}
 use Rattle.session_text.specs.Answers.{AnswersCommand}
+use Rattle.session_text.specs.Limits.{most_reads}
 use Rattle.session_text.proofs.AnsweredLines.{IsOpen, Came}
 use Rattle.session_text.proofs.talk.talk.Given as goal
 
@@ -10,6 +11,7 @@ invariant-loop-session g l =
     (l.session.page ≡ [])
     × IsOpen says (g.I.Inlet.seen s.reader) s.commands (g.O.Outlet.seen s.writer) (g.I.Inlet.seen l.reader) l.session.buffer l.commands (g.O.Outlet.seen l.writer) l.reads
     × Came says (g.I.Inlet.seen s.reader) s.commands (g.O.Outlet.seen s.writer) (g.I.Inlet.seen l.reader) l.session.buffer l.commands (g.O.Outlet.seen l.writer) l.reads
+    × (l.most ≡ most_reads l.context.limits) × (l.reads ≤ l.most)
 
 abbrev pub decreases-loop-session : goal.decreases-loop-session
-decreases-loop-session g l = 1000000 - l.reads
+decreases-loop-session g l = l.most - l.reads

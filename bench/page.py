@@ -21,7 +21,7 @@ from paged import Heap, nodes  # noqa: E402
 
 NODES, KEEP, TRIES = 65_000, 65_536, 9
 FIRST, MOVE = 300, 100
-LINES = ("status", "histogram -", "objects -", "cells", "garbage -", "classes -", "registers -", "pins", "history 400", "history 65536")
+LINES = ("status", "histogram -", "objects -", "cells", "classes -", "registers -", "pins", "history 400", "history 65536")
 SHOWN = "performance.getEntriesByName('shown').length > 0 && document.documentElement.dataset.ready === '1'"
 
 
@@ -90,6 +90,8 @@ def main(program):
             print("bench/page.py: no browser is here, so the page itself wasn't measured")
             return 0
         tab = browser.Browser(path)
+        # The browser needn't keep what is sent: nobody asks for it.
+        tab.call("Network.disable")
         try:
             first = told("the first sight of the page", first_sights(tab, heap))
             move = told("a move of the handle", moves(tab))

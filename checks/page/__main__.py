@@ -224,7 +224,7 @@ def main(program, *pictures):
         for folder in pictures:
             with Heap(program, LEAK) as heap:
                 take(heap, pathlib.Path(folder))
-        for load in (loads.empty, loads.few, loads.full, loads.busy):
+        for load in (loads.empty, loads.mixed, loads.few, loads.full, loads.busy):
             cases += until_late(load(program))
     for name, found, wanted in cases:
         if found != wanted:

@@ -88,6 +88,8 @@ def hunt(tab, told):
     at_place(tab, TO, FROM)
     table = [[cells[0], *map(number, cells[1:])] for cells in tab.value(CELLS.format("classes"))]
     yield "the table of classes", sorted(table), grown(told)
+    lost = told[f"garbage @{TO}"][1].split()[2]
+    yield "the bytes that no register reaches", tab.value("document.getElementById('lostb').textContent"), f"{int(lost):,}"
     tab.click_on("[...document.querySelectorAll('#classes th button')].find((b) => b.textContent === 'Objects')")
     yield "the classes sorted by objects", [cells[1] for cells in tab.value(CELLS.format("classes"))], ["12", "12", "12", "1", "1"]
     tab.click_on(row("classes", CLASS))
@@ -134,6 +136,9 @@ def inspected(tab, told):
     fields = [cells[:3] for cells in tab.value("[...document.querySelectorAll('#insp table tbody tr')].map((r) => [...r.cells].map((c) => c.textContent))")]
     wanted = [[name, kind, value] for _, name, kind, value in told[f"show @{TO} {LEAKED}"][0]]
     yield "the fields", [[name, kind, value.split()[0]] for name, kind, value in fields], wanted
+    _, objects, size = told[f"retained @{TO} {LEAKED}"][1].split()
+    tab.wait("/[0-9]/.test(document.getElementById('retains').textContent)")
+    yield "what it retains", tab.value("document.getElementById('retains').textContent"), f"retains {objects} objects, {size} bytes"
     path, named = tab.value("[...document.querySelectorAll('#insp .path')].map((l) => [...l.querySelectorAll('.n')].map((n) => n.innerText))")
     first, *rest = told[f"path @{TO} {LEAKED}"][0]
     yield "the register of the path", path[0], f"register {first[1]} of mutator {first[0]}"
@@ -229,7 +234,7 @@ def narrow(tab):
 def questions():
     """Returns the questions whose answers the page has to show."""
     yield from (f"{line} @{TO}" for line in ("histogram", "garbage", "objects"))
-    yield from (f"{word} @{TO} {LEAKED}" for word in ("show", "path", "referrers"))
+    yield from (f"{word} @{TO} {LEAKED}" for word in ("show", "path", "referrers", "retained"))
     yield from (f"show @{CLOSED} {LEAKED}", f"show @{CLOSED - 17} 0x10000000", f"show @{CLOSED - 18} 0x10002000", f"registers @{CLOSED - 19}")
     yield from (f"growth @{FROM} @{TO}", f"born {LEAKED}")
 

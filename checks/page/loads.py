@@ -12,6 +12,27 @@ from paged import Heap, nodes
 AT_ONCE, RATE = 1, 100_000
 # The objects of a heap whose regions are all full.
 FULL = 65_536
+# Objects of classes and arrays of several lengths, some of which no register names in the end; and what the page has to show of them.
+MIXED = b"""class A - x:int y:byte z:long
+new 0 0 0
+new 0 1 0
+newprim 0 1 byte 5
+newprim 0 1 byte 9
+newprim 0 2 int 3
+newprim 0 3 long 100
+newprim 0 3 int 7
+newprim 0 4 byte 0
+newprim 0 4 int 2
+"""
+MIXED_ROWS = [["long[]", "1", "800", "1"], ["int[]", "3", "48", "·"], ["A", "2", "26", "1"], ["byte[]", "3", "14", "2"]]
+MIXED_LOST = "818"
+# A class with the name of the arrays of bytes, and the bytes that no register reaches: one object of the class, and no array.
+ALIKE = b"""class byte[] - x:long
+newprim 0 0 byte 3
+new 0 1 0
+clear 0 1
+"""
+ALIKE_LOST = "8"
 # Regions as the page is given them: all cells of 4,096 regions, whose classes and sizes differ.
 MANY = """(() => {
   const rows = [], names = ["A", "B", "C"];
@@ -21,7 +42,7 @@ MANY = """(() => {
       rows.push(`row 0x${(0x10000000 + n * 8192 + k * size * 8).toString(16)} ${names[(n + k) % 3]} ${size}${k % 5 ? "" : " unreached"}`);
   }
   names.forEach((name, i) => heapdbg.S.color.set(name, ["#4269d0", "#efb118", "#ff725c"][i]));
-  heapdbg.S.regions = heapdbg.regionsOf(rows.join("\\n") + "\\nok " + rows.length + "\\n");
+  heapdbg.S.regions = heapdbg.regionsOf(new TextEncoder().encode(rows.join("\\n") + "\\nok " + rows.length + "\\n")).regions;
   heapdbg.M.fresh = true;
   return rows.length;
 })()"""
@@ -89,6 +110,24 @@ def empty(program):
             heap.client.close()
             tab.wait("document.getElementById('state').textContent === 'no connection'")
             yield "the end", True, True
+        finally:
+            tab.close()
+
+
+def mixed(program):
+    """A heap of several kinds of objects, some of them unreached."""
+    with Heap(program, MIXED) as heap:
+        tab = opened(heap)
+        try:
+            yield "several kinds of objects", tab.value(CELLS.format("classes")), MIXED_ROWS
+            yield "the bytes that no register reaches", tab.value("document.getElementById('lostb').textContent"), MIXED_LOST
+            yield "complaints of the browser", tab.faults(), []
+        finally:
+            tab.close()
+    with Heap(program, ALIKE, "--wide", "1") as heap:
+        tab = opened(heap)
+        try:
+            yield "bytes beside a class with the name of arrays", tab.value("document.getElementById('lostb').textContent"), ALIKE_LOST
         finally:
             tab.close()
 

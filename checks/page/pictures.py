@@ -4,7 +4,7 @@ import zlib
 
 from clicks import CLASS, CLOSED, FROM, LEAKED, TO, at_place, opened, row
 
-INSPECTED = f"document.getElementById('insp').innerText.includes('@{CLOSED:,}')"
+INSPECTED = f"/@{CLOSED:,}/.test(document.getElementById('insp').innerText) && /retains [0-9]/.test(document.getElementById('insp').innerText)"
 
 
 def chunks(png):
@@ -78,6 +78,7 @@ def take(heap, folder):
         tab.click_on("document.getElementById('zoomall')")
         tab.click_on(f"[...document.querySelectorAll('#insp a')].find((a) => a.textContent === '@{CLOSED:,}')")
         at_place(tab, CLOSED, FROM)
+        tab.wait(f"document.getElementById('inspnote').textContent.endsWith('@{CLOSED:,}')")
         tab.wait(INSPECTED)
         taken(tab, folder / "hunt-steps.png")
     finally:

@@ -2,11 +2,11 @@
 
 // The policy of the page.
 pub(crate) const POLICY: &str =
-    "default-src 'none'; script-src 'sha256-bvEmn1n5OdYCCQUlOdCH7tPdWZ/KcU4fw6kB2wnBVTQ='; style-src 'sha256-jjcl5Lx/0IHhiIQFHnMWbeir9C+x8iVSbIo6aZHC8CI='; img-src data:; connect-src 'self'; base-uri 'none'; form-action 'none'; frame-ancestors 'none'";
+    "default-src 'none'; script-src 'sha256-E2wD0rWKFr3nh9+z6H1QT9om6+aO7LpmW14D7m/9+dw='; style-src 'sha256-9Me/SFiawhkG25pGyw6I+0x79AccM3lNGUCYmjDwzrQ='; img-src data:; connect-src 'self'; base-uri 'none'; form-action 'none'; frame-ancestors 'none'";
 
 // The page.
 pub(crate) const PAGE: &[u8] = b"<!doctype html>\n\
-    <html lang=\"en\">\n\
+    <html lang=\"en\" class=\"early\">\n\
     <head>\n\
     <meta charset=\"utf-8\">\n\
     <title>heapdbg</title>\n\
@@ -29,6 +29,7 @@ pub(crate) const PAGE: &[u8] = b"<!doctype html>\n\
     }\n\
     * { box-sizing: border-box; }\n\
     html, body { height: 100%; margin: 0; }\n\
+    html.early body { display: none !important; }\n\
     body {\n\
     \x20\x20display: grid; grid-template: auto auto minmax(0, 1fr) auto / minmax(0, 1fr); background: var(--bg); color: var(--ink);\n\
     \x20\x20font: 13px/1.45 system-ui, -apple-system, \"Segoe UI\", \"DejaVu Sans\", sans-serif; overflow: hidden;\n\
@@ -98,8 +99,8 @@ pub(crate) const PAGE: &[u8] = b"<!doctype html>\n\
     \n\
     #mapbox { position: relative; flex: 1; min-height: 0; margin: 2px 12px 10px; overflow: hidden; } #map { display: block; cursor: pointer; touch-action: none; } #map.drag { cursor: grabbing; }\n\
     #legend { min-height: 26px; display: flex; gap: 4px 12px; flex-wrap: wrap; padding: 0 12px 8px; color: var(--ink2); font-size: 11.5px; }\n\
-    #legend span { display: inline-flex; align-items: center; gap: 5px; } #legend canvas { width: 14px; height: 10px; }\n\
-    #ramp { width: 120px !important; height: 8px !important; border-radius: 2px; }\n\
+    #legend span { display: inline-flex; align-items: center; gap: 5px; } #legend i { width: 14px; height: 10px; }\n\
+    #legend #ramp { width: 120px; height: 8px; border-radius: 2px; }\n\
     \n\
     .step { height: 21px; overflow: hidden; display: grid; grid-template-columns: 64px 1fr; gap: 8px; padding: 1.5px 12px; font: 12px/1.5 var(--mono); cursor: pointer; white-space: nowrap; }\n\
     .step:hover { background: var(--shade); } .step.now { background: var(--accent-bg); } .step .p { color: var(--ink3); text-align: right; } .step.later { opacity: .45; }\n\
@@ -178,7 +179,7 @@ pub(crate) const PAGE: &[u8] = b"<!doctype html>\n\
     <ol>\n\
     <li><b>Growth between cycles</b> compares the heap at the ends of the two newest marking cycles, so with little garbage in it. Or drag the handle of the time line to a place, press <b>Compare from here</b> (or click the line with <kbd>Shift</kbd>), and drag it to a later one.</li>\n\
     <li>The classes that grew most stand first. Click one: its objects are listed, the oldest first; those that were there before are faint.</li>\n\
-    <li>Click an object. <b>Why it is alive</b> is a shortest path from a register, and <b>Written at</b> the step that wrote each field.</li>\n\
+    <li>Click an object. <b>Why it is alive</b> is a shortest path from a register, and <b>Written at</b> the step that wrote each field. What it <b>retains</b> is what would go with it, itself counted.</li>\n\
     <li>Click a place, such as @1,507: everything now shows the heap there, and <b>Steps</b> what was done around it.</li>\n\
     </ol>\n\
     <h2>Words</h2>\n\
@@ -242,8 +243,11 @@ pub(crate) const PAGE: &[u8] = b"<!doctype html>\n\
     \x20\x20\x20\x20MANY = 4000;\n\
     \n\
     \x20\x20// ---- what is known\n\
-    \x20\x20let key = location.hash.slice(1) || sessionStorage.getItem(\"heapdbg-key\") || \"\";\n\
-    \x20\x20if (location.hash.length > 1) {\n\
+    \x20\x20const key = location.hash.slice(1) || sessionStorage.getItem(\"heapdbg-key\") || \"\";\n\
+    \n\
+    \x20\x20// Keeps the key, and takes it out of the address.\n\
+    \x20\x20function keepKey() {\n\
+    \x20\x20\x20\x20if (location.hash.length < 2) return;\n\
     \x20\x20\x20\x20sessionStorage.setItem(\"heapdbg-key\", key);\n\
     \x20\x20\x20\x20history.replaceState(null, \"\", \"/\");\n\
     \x20\x20}\n\
@@ -272,13 +276,15 @@ pub(crate) const PAGE: &[u8] = b"<!doctype html>\n\
     \x20\x20\x20\x20born: new Map(),\n\
     \x20\x20\x20\x20cycles: [],\n\
     \x20\x20\x20\x20samples: new Map(),\n\
-    \x20\x20\x20\x20rest: \"\",\n\
+    \x20\x20\x20\x20told: { classes: \"\", pins: \"ok 0\\n\" },\n\
     \x20\x20\x20\x20pins: [],\n\
     \x20\x20\x20\x20classes: new Map(),\n\
     \x20\x20\x20\x20classOf: new Map(),\n\
     \x20\x20\x20\x20color: new Map(),\n\
     \x20\x20\x20\x20path: new Set(),\n\
     \x20\x20\x20\x20refs: new Set(),\n\
+    \x20\x20\x20\x20retains: { id: null, text: \"\" },\n\
+    \x20\x20\x20\x20later: 0,\n\
     \x20\x20\x20\x20values: new Map(),\n\
     \x20\x20\x20\x20more: 0,\n\
     \x20\x20\x20\x20epoch: 0,\n\
@@ -293,7 +299,7 @@ pub(crate) const PAGE: &[u8] = b"<!doctype html>\n\
     \x20\x20// ---- asking\n\
     \x20\x20let busy = 0;\n\
     \x20\x20const queue = [];\n\
-    \x20\x20async function post(path, body) {\n\
+    \x20\x20async function post(path, body, form = \"text\") {\n\
     \x20\x20\x20\x20if (busy < LANES) busy++;\n\
     \x20\x20\x20\x20else await new Promise((go) => queue.push(go));\n\
     \x20\x20\x20\x20try {\n\
@@ -312,7 +318,7 @@ pub(crate) const PAGE: &[u8] = b"<!doctype html>\n\
     \x20\x20\x20\x20\x20\x20\x20\x20\x20\x20\"heapdbg prints the address of the page with its key when it starts. Open that address.\");\n\
     \x20\x20\x20\x20\x20\x20\x20\x20throw new Error(\"key\");\n\
     \x20\x20\x20\x20\x20\x20}\n\
-    \x20\x20\x20\x20\x20\x20return { reply, data: await (path === \"/dump\" && reply.ok ? reply.blob() : reply.text()) };\n\
+    \x20\x20\x20\x20\x20\x20return { reply, data: await reply[form]() };\n\
     \x20\x20\x20\x20} finally {\n\
     \x20\x20\x20\x20\x20\x20if (queue.length) queue.shift()();\n\
     \x20\x20\x20\x20\x20\x20else busy--;\n\
@@ -339,11 +345,8 @@ pub(crate) const PAGE: &[u8] = b"<!doctype html>\n\
     \x20\x20\x20\x20};\n\
     \x20\x20}\n\
     \n\
-    \x20\x20// Returns the regions of a state, and whether it is retained.\n\
-    \x20\x20async function askObjects(at) {\n\
-    \x20\x20\x20\x20const { ok, text } = await ask(\"objects \" + at, true);\n\
-    \x20\x20\x20\x20return { ok, regions: ok ? regionsOf(text) : null };\n\
-    \x20\x20}\n\
+    \x20\x20// Returns the objects of a state, if it is retained.\n\
+    \x20\x20const askObjects = async (at) => regionsOf(new Uint8Array((await post(\"/ask\", \"objects \" + at, \"arrayBuffer\")).data));\n\
     \n\
     \x20\x20function lock(head, text) {\n\
     \x20\x20\x20\x20$(\"lock\").hidden = false;\n\
@@ -396,53 +399,86 @@ pub(crate) const PAGE: &[u8] = b"<!doctype html>\n\
     \x20\x20\x20\x20const of = g.cells[cell];\n\
     \x20\x20\x20\x20return of ? { w: g.number * WORDS + cell * g.size, name: g.names[Math.floor(of / NAME)], slots: of % NAME >> 1, lost: of % 2 === 1 } : undefined;\n\
     \x20\x20}\n\
-    \x20\x20const ROW = \"row 0x\",\n\
+    \x20\x20const ID = \"row 0x\".length,\n\
+    \x20\x20\x20\x20END = ID + 8,\n\
+    \x20\x20\x20\x20LF = 10,\n\
+    \x20\x20\x20\x20[R, O] = [\"r\", \"o\"].map((letter) => letter.charCodeAt(0)),\n\
     \x20\x20\x20\x20DIGITS = new Uint8Array(128);\n\
     \x20\x20for (let digit = 0; digit < 16; digit++) DIGITS[digit.toString(16).charCodeAt(0)] = digit;\n\
     \n\
-    \x20\x20// Returns what gives the end of a row of `objects`, such as \" Node 2 unreached\\n\", as the number of an object there.\n\
-    \x20\x20function numbering(names) {\n\
+    \x20\x20// Tells whether the same bytes stand at two places.\n\
+    \x20\x20function isSame(bytes, a, b, count) {\n\
+    \x20\x20\x20\x20let k = 0;\n\
+    \x20\x20\x20\x20while (k < count && bytes[a + k] === bytes[b + k]) k++;\n\
+    \x20\x20\x20\x20return k === count;\n\
+    \x20\x20}\n\
+    \x20\x20const textOf = (bytes, from, to) => String.fromCharCode(...bytes.subarray(from, to));\n\
+    \n\
+    \x20\x20// Returns what gives the end of a row of `objects`, such as \" Node 2 unreached\\n\": where it stands for the first time, its size, and\n\
+    \x20\x20// the number of an object there.\n\
+    \x20\x20function numbering(bytes, names) {\n\
     \x20\x20\x20\x20const known = new Map();\n\
-    \x20\x20\x20\x20return (end) => {\n\
-    \x20\x20\x20\x20\x20\x20let of = known.get(end);\n\
-    \x20\x20\x20\x20\x20\x20if (of !== undefined) return of;\n\
-    \x20\x20\x20\x20\x20\x20const [, name, slots, lost] = end.trimEnd().split(\" \");\n\
+    \x20\x20\x20\x20return (at) => {\n\
+    \x20\x20\x20\x20\x20\x20let sum = 0,\n\
+    \x20\x20\x20\x20\x20\x20\x20\x20to = at;\n\
+    \x20\x20\x20\x20\x20\x20for (; bytes[to] !== LF; to++) sum = sum * 31 + bytes[to] | 0;\n\
+    \x20\x20\x20\x20\x20\x20const size = to + 1 - at,\n\
+    \x20\x20\x20\x20\x20\x20\x20\x20same = known.get(sum);\n\
+    \x20\x20\x20\x20\x20\x20if (same && same.size === size && isSame(bytes, same.at, at, size)) return same;\n\
+    \x20\x20\x20\x20\x20\x20const [, name, slots, lost] = textOf(bytes, at, to).split(\" \");\n\
     \x20\x20\x20\x20\x20\x20if (!names.includes(name)) names.push(name);\n\
-    \x20\x20\x20\x20\x20\x20known.set(end, of = names.indexOf(name) * NAME + slots * 2 + (lost ? 1 : 0));\n\
-    \x20\x20\x20\x20\x20\x20return of;\n\
+    \x20\x20\x20\x20\x20\x20const end = { at, size, of: names.indexOf(name) * NAME + slots * 2 + (lost ? 1 : 0) };\n\
+    \x20\x20\x20\x20\x20\x20known.set(sum, end);\n\
+    \x20\x20\x20\x20\x20\x20return end;\n\
     \x20\x20\x20\x20};\n\
     \x20\x20}\n\
     \n\
-    \x20\x20// Returns the regions that the rows of `objects` fill, by number. There may be very many rows, and most of them are as the one before:\n\
-    \x20\x20// from their beginning to all but three digits of the id, and from there to their end.\n\
-    \x20\x20function regionsOf(text) {\n\
+    \x20\x20// Returns the regions that the rows of `objects` fill, by number, how many objects there are of each class and how many of these no\n\
+    \x20\x20// register reaches, and whether there was an answer. There may be very many rows, and most of them end as the one before.\n\
+    \x20\x20function regionsOf(bytes) {\n\
     \x20\x20\x20\x20const regions = new Map(),\n\
     \x20\x20\x20\x20\x20\x20names = [\"\"],\n\
-    \x20\x20\x20\x20\x20\x20objectOf = numbering(names);\n\
-    \x20\x20\x20\x20let head = \"\\n\",\n\
-    \x20\x20\x20\x20\x20\x20end = \"\\n\",\n\
-    \x20\x20\x20\x20\x20\x20of = 0,\n\
-    \x20\x20\x20\x20\x20\x20first = 0,\n\
-    \x20\x20\x20\x20\x20\x20g = null;\n\
-    \x20\x20\x20\x20for (let i = 0;; i += ROW.length + 8 + end.length) {\n\
-    \x20\x20\x20\x20\x20\x20const isOn = text.startsWith(head, i);\n\
-    \x20\x20\x20\x20\x20\x20if (!isOn && !text.startsWith(ROW, i)) return regions;\n\
-    \x20\x20\x20\x20\x20\x20if (!text.startsWith(end, i + ROW.length + 8)) {\n\
-    \x20\x20\x20\x20\x20\x20\x20\x20end = text.slice(i + ROW.length + 8, text.indexOf(\"\\n\", i) + 1);\n\
-    \x20\x20\x20\x20\x20\x20\x20\x20of = objectOf(end);\n\
+    \x20\x20\x20\x20\x20\x20endAt = numbering(bytes, names),\n\
+    \x20\x20\x20\x20\x20\x20tally = new Map();\n\
+    \x20\x20\x20\x20let end = { at: 0, size: 0, of: 0 },\n\
+    \x20\x20\x20\x20\x20\x20count = 0,\n\
+    \x20\x20\x20\x20\x20\x20g = null,\n\
+    \x20\x20\x20\x20\x20\x20i = 0;\n\
+    \x20\x20\x20\x20for (; bytes[i] === R; i += END + end.size) {\n\
+    \x20\x20\x20\x20\x20\x20let k = 0;\n\
+    \x20\x20\x20\x20\x20\x20while (k < end.size && bytes[end.at + k] === bytes[i + END + k]) k++;\n\
+    \x20\x20\x20\x20\x20\x20if (k < end.size || k === 0) {\n\
+    \x20\x20\x20\x20\x20\x20\x20\x20addTo(tally, names, end.of, count);\n\
+    \x20\x20\x20\x20\x20\x20\x20\x20count = 0;\n\
+    \x20\x20\x20\x20\x20\x20\x20\x20end = endAt(i + END);\n\
     \x20\x20\x20\x20\x20\x20}\n\
-    \x20\x20\x20\x20\x20\x20if (!isOn) {\n\
-    \x20\x20\x20\x20\x20\x20\x20\x20head = text.slice(i, i + ROW.length + 5);\n\
-    \x20\x20\x20\x20\x20\x20\x20\x20const word = wordOf(head.slice(ROW.length - 2) + \"000\"),\n\
-    \x20\x20\x20\x20\x20\x20\x20\x20\x20\x20number = Math.floor(word / WORDS);\n\
-    \x20\x20\x20\x20\x20\x20\x20\x20first = word % WORDS;\n\
+    \x20\x20\x20\x20\x20\x20count++;\n\
+    \x20\x20\x20\x20\x20\x20const at = i + ID,\n\
+    \x20\x20\x20\x20\x20\x20\x20\x20id = DIGITS[bytes[at]] << 28 | DIGITS[bytes[at + 1]] << 24 | DIGITS[bytes[at + 2]] << 20 | DIGITS[bytes[at + 3]] << 16 |\n\
+    \x20\x20\x20\x20\x20\x20\x20\x20DIGITS[bytes[at + 4]] << 12 | DIGITS[bytes[at + 5]] << 8 | DIGITS[bytes[at + 6]] << 4 | DIGITS[bytes[at + 7]],\n\
+    \x20\x20\x20\x20\x20\x20\x20\x20word = (id >>> 0) - BASE >>> 3;\n\
+    \x20\x20\x20\x20\x20\x20if (!g || word >>> 10 !== g.number) {\n\
+    \x20\x20\x20\x20\x20\x20\x20\x20const number = word >>> 10;\n\
     \x20\x20\x20\x20\x20\x20\x20\x20g = regions.get(number);\n\
-    \x20\x20\x20\x20\x20\x20\x20\x20if (!g) regions.set(number, g = regionOf(SIZES.find((s) => s >= of % NAME >> 1), number, names));\n\
+    \x20\x20\x20\x20\x20\x20\x20\x20if (!g) regions.set(number, g = regionOf(SIZES.find((s) => s >= end.of % NAME >> 1), number, names));\n\
     \x20\x20\x20\x20\x20\x20}\n\
-    \x20\x20\x20\x20\x20\x20const at = i + ROW.length + 5,\n\
-    \x20\x20\x20\x20\x20\x20\x20\x20low = DIGITS[text.charCodeAt(at)] << 8 | DIGITS[text.charCodeAt(at + 1)] << 4 | DIGITS[text.charCodeAt(at + 2)];\n\
-    \x20\x20\x20\x20\x20\x20g.cells[first + (low >> 3) >> g.shift] = of;\n\
+    \x20\x20\x20\x20\x20\x20g.cells[word % WORDS >> g.shift] = end.of;\n\
     \x20\x20\x20\x20}\n\
+    \x20\x20\x20\x20addTo(tally, names, end.of, count);\n\
+    \x20\x20\x20\x20return { ok: bytes[i] === O, regions, tally };\n\
+    \x20\x20}\n\
+    \n\
+    \x20\x20// Adds objects of one class and size to those that were counted.\n\
+    \x20\x20function addTo(tally, names, of, count) {\n\
+    \x20\x20\x20\x20if (!count) return;\n\
+    \x20\x20\x20\x20const name = names[Math.floor(of / NAME)],\n\
+    \x20\x20\x20\x20\x20\x20slots = (of % NAME >> 1) * count;\n\
+    \x20\x20\x20\x20let t = tally.get(name);\n\
+    \x20\x20\x20\x20if (!t) tally.set(name, t = { slots: 0, lost: 0, lostSlots: 0 });\n\
+    \x20\x20\x20\x20t.slots += slots;\n\
+    \x20\x20\x20\x20if (of % 2 === 0) return;\n\
+    \x20\x20\x20\x20t.lost += count;\n\
+    \x20\x20\x20\x20t.lostSlots += slots;\n\
     \x20\x20}\n\
     \n\
     \x20\x20// Adds what `cells` says. A region that has another size there was taken anew since.\n\
@@ -579,30 +615,51 @@ pub(crate) const PAGE: &[u8] = b"<!doctype html>\n\
     \x20\x20const unknown = () => S.whole ? \"older\" : \"\xe2\x80\xa6\";\n\
     \n\
     \x20\x20// ---- the shown state\n\
-    \x20\x20// Asks all that makes up a state, the longest answer first.\n\
-    \x20\x20const askState = (at, live) => Promise.all([askObjects(at), ...[`garbage ${at}`, `histogram ${at}`, live ? \"cells\" : null, `registers ${at}`,\n\
-    \x20\x20\x20\x20S.base === null ? null : `growth @${S.base} ${at}`\n\
-    \x20\x20].map((line) => line && ask(line, true))]);\n\
+    \x20\x20// Asks all that makes up a state, the longest answer first. If a class has the name of a kind of arrays, what no register reaches is\n\
+    \x20\x20// asked, too.\n\
+    \x20\x20async function askState(at, live) {\n\
+    \x20\x20\x20\x20const found = await Promise.all([askObjects(at), ...[`histogram ${at}`, live ? \"cells\" : null, `registers ${at}`,\n\
+    \x20\x20\x20\x20\x20\x20S.base === null ? null : `growth @${S.base} ${at}`\n\
+    \x20\x20\x20\x20].map((line) => line && ask(line, true))]),\n\
+    \x20\x20\x20\x20\x20\x20names = found[1].rows.map((x) => x[2]);\n\
+    \x20\x20\x20\x20return new Set(names).size < names.length ? [...found, await ask(`garbage ${at}`, true)] : found;\n\
+    \x20\x20}\n\
     \n\
-    \x20\x20// Asks what is the same at all places: those of the newest state are the classes of each, and the pins.\n\
-    \x20\x20const askRest = () => Promise.all([ask(\"classes -\", true), ask(\"pins\", true)]);\n\
-    \n\
-    \x20\x20// Takes what was answered of it. Returns whether anything is new.\n\
-    \x20\x20function takeRest([k, pins]) {\n\
-    \x20\x20\x20\x20const now = k.text + pins.text;\n\
-    \x20\x20\x20\x20if (now === S.rest) return false;\n\
-    \x20\x20\x20\x20S.rest = now;\n\
-    \x20\x20\x20\x20S.pins = pins.rows;\n\
-    \x20\x20\x20\x20if (k.ok) {\n\
-    \x20\x20\x20\x20\x20\x20S.classes = new Map(k.rows.map((x) => [+x[0], { name: x[1], up: x[2], fields: x.slice(3).map((f) => f.split(\":\")[0]) }]));\n\
-    \x20\x20\x20\x20\x20\x20S.classOf = new Map([...S.classes].map(([, c]) => [c.name, c]));\n\
+    \x20\x20// Takes of each class how many objects no register reaches, and of all how many bytes these have: as `garbage` says, or from the\n\
+    \x20\x20// rows of `objects`, since the bytes of a class are as many for each of its slots.\n\
+    \x20\x20function takeGarbage(tally, garbage) {\n\
+    \x20\x20\x20\x20S.garbage = new Map(garbage ? garbage.rows.map((x) => [x[2], +x[0]]) : []);\n\
+    \x20\x20\x20\x20S.lost = garbage ? +garbage.words[2] : 0;\n\
+    \x20\x20\x20\x20if (garbage) return;\n\
+    \x20\x20\x20\x20for (const { name, bytes } of S.hist) {\n\
+    \x20\x20\x20\x20\x20\x20const t = tally.get(name);\n\
+    \x20\x20\x20\x20\x20\x20if (!t || !t.lost) continue;\n\
+    \x20\x20\x20\x20\x20\x20S.garbage.set(name, t.lost);\n\
+    \x20\x20\x20\x20\x20\x20S.lost += t.slots && Math.round(bytes * t.lostSlots / t.slots);\n\
     \x20\x20\x20\x20}\n\
+    \x20\x20}\n\
+    \n\
+    \x20\x20// Takes what was answered of the classes. Returns whether anything is new.\n\
+    \x20\x20function takeClasses(k) {\n\
+    \x20\x20\x20\x20if (!k.ok || k.text === S.told.classes) return false;\n\
+    \x20\x20\x20\x20S.told.classes = k.text;\n\
+    \x20\x20\x20\x20S.classes = new Map(k.rows.map((x) => [+x[0], { name: x[1], up: x[2], fields: x.slice(3).map((f) => f.split(\":\")[0]) }]));\n\
+    \x20\x20\x20\x20S.classOf = new Map([...S.classes].map(([, c]) => [c.name, c]));\n\
+    \x20\x20\x20\x20return true;\n\
+    \x20\x20}\n\
+    \n\
+    \x20\x20// Takes what was answered of the pins. Returns whether anything is new.\n\
+    \x20\x20function takePins(pins) {\n\
+    \x20\x20\x20\x20if (pins.text === S.told.pins) return false;\n\
+    \x20\x20\x20\x20S.told.pins = pins.text;\n\
+    \x20\x20\x20\x20S.pins = pins.rows;\n\
     \x20\x20\x20\x20return true;\n\
     \x20\x20}\n\
     \n\
     \x20\x20// Takes what was answered of the state at a place, and draws it. Returns false if that state is no longer retained.\n\
-    \x20\x20function takeState([o, g, h, cells, r, d], place) {\n\
-    \x20\x20\x20\x20if (!h.ok || !o.ok || !g.ok) return false;\n\
+    \x20\x20function takeState([o, h, cells, r, d, g], place) {\n\
+    \x20\x20\x20\x20unveil();\n\
+    \x20\x20\x20\x20if (!h.ok || !o.ok || (g && !g.ok)) return false;\n\
     \x20\x20\x20\x20S.shown = place;\n\
     \x20\x20\x20\x20S.values = new Map();\n\
     \x20\x20\x20\x20S.hist = h.rows.map((x) => ({ objects: +x[0], bytes: +x[1], name: x[2] }));\n\
@@ -611,8 +668,7 @@ pub(crate) const PAGE: &[u8] = b"<!doctype html>\n\
     \x20\x20\x20\x20giveColors();\n\
     \x20\x20\x20\x20S.regions = o.regions;\n\
     \x20\x20\x20\x20if (cells) addCells(S.regions, cells.rows);\n\
-    \x20\x20\x20\x20S.garbage = new Map(g.rows.map((x) => [x[2], { objects: +x[0], bytes: +x[1] }]));\n\
-    \x20\x20\x20\x20S.lost = +g.words[2];\n\
+    \x20\x20\x20\x20takeGarbage(o.tally, g);\n\
     \x20\x20\x20\x20S.growth = new Map();\n\
     \x20\x20\x20\x20if (d && d.ok)\n\
     \x20\x20\x20\x20\x20\x20for (const x of d.rows) S.growth.set(x[0], { objects: x[3] - x[1], bytes: x[4] - x[2] });\n\
@@ -623,20 +679,25 @@ pub(crate) const PAGE: &[u8] = b"<!doctype html>\n\
     \x20\x20\x20\x20return true;\n\
     \x20\x20}\n\
     \n\
+    \x20\x20// Does something once what has been drawn is on the screen.\n\
+    \x20\x20const afterPaint = (act) => requestAnimationFrame(() => setTimeout(act));\n\
+    \n\
     \x20\x20// Notes how long it took from what was asked for until it was on the screen.\n\
     \x20\x20function onScreen(place, asked) {\n\
-    \x20\x20\x20\x20requestAnimationFrame(() => setTimeout(() => {\n\
+    \x20\x20\x20\x20afterPaint(() => {\n\
     \x20\x20\x20\x20\x20\x20S.took = { place, ms: performance.now() - asked };\n\
     \x20\x20\x20\x20\x20\x20if (!performance.getEntriesByName(\"shown\").length) performance.mark(\"shown\");\n\
+    \x20\x20\x20\x20\x20\x20loadRest().catch(() => {});\n\
     \x20\x20\x20\x20\x20\x20if (!S.fast && !S.whole) loadWhole().catch(() => {});\n\
-    \x20\x20\x20\x20}));\n\
+    \x20\x20\x20\x20});\n\
     \x20\x20}\n\
     \n\
-    \x20\x20// Reads what is the same at all places once the state has been drawn.\n\
+    \x20\x20// Reads what is the same at all places, once the state is on the screen: those of the newest state are the classes of each, and the\n\
+    \x20\x20// pins.\n\
     \x20\x20async function loadRest() {\n\
-    \x20\x20\x20\x20if (!takeRest(await askRest())) return;\n\
-    \x20\x20\x20\x20drawLine();\n\
-    \x20\x20\x20\x20drawSteps();\n\
+    \x20\x20\x20\x20const [classes, pins] = await Promise.all([ask(\"classes -\", true), ask(\"pins\", true)]);\n\
+    \x20\x20\x20\x20if (takePins(pins)) drawLine();\n\
+    \x20\x20\x20\x20if (takeClasses(classes)) drawSteps();\n\
     \x20\x20}\n\
     \x20\x20async function loadState() {\n\
     \x20\x20\x20\x20const live = S.at === null,\n\
@@ -650,7 +711,6 @@ pub(crate) const PAGE: &[u8] = b"<!doctype html>\n\
     \x20\x20\x20\x20\x20\x20return;\n\
     \x20\x20\x20\x20}\n\
     \x20\x20\x20\x20onScreen(place, asked);\n\
-    \x20\x20\x20\x20loadRest().catch(() => {});\n\
     \x20\x20\x20\x20if (S.sel) await inspect(S.sel, true);\n\
     \x20\x20\x20\x20else drawRegisters();\n\
     \x20\x20}\n\
@@ -686,14 +746,25 @@ pub(crate) const PAGE: &[u8] = b"<!doctype html>\n\
     \x20\x20\x20\x20$(\"state\").classList.remove(\"lost\");\n\
     \x20\x20}\n\
     \n\
-    \x20\x20// The first look asks all at once. If the heap has gone on meanwhile, another look follows.\n\
+    \x20\x20// Shows the page: at first it waits for its answers for a while, so that a browser needn't lay it out twice.\n\
+    \x20\x20const unveil = () => document.documentElement.classList.remove(\"early\");\n\
+    \x20\x20setTimeout(unveil, 150);\n\
+    \n\
+    \x20\x20// Asks all that the first look needs.\n\
+    \x20\x20function askFirst() {\n\
+    \x20\x20\x20\x20const all = [askState(\"-\", true), ...[\"status\", \"history \" + FEW, \"classes -\"].map((line) => ask(line, true))];\n\
+    \x20\x20\x20\x20Promise.all(all).catch(() => {});\n\
+    \x20\x20\x20\x20return all;\n\
+    \x20\x20}\n\
+    \x20\x20// It is asked before anything else is done here.\n\
+    \x20\x20let asked = key ? askFirst() : null;\n\
+    \n\
+    \x20\x20// The first look. If the heap has gone on meanwhile, another look follows.\n\
     \x20\x20async function firstLook() {\n\
-    \x20\x20\x20\x20const state = askState(\"-\", true),\n\
-    \x20\x20\x20\x20\x20\x20status = ask(\"status\", true),\n\
-    \x20\x20\x20\x20\x20\x20rest = askRest(),\n\
-    \x20\x20\x20\x20\x20\x20steps = ask(\"history \" + FEW, true);\n\
+    \x20\x20\x20\x20const [state, status, steps, classes] = asked ?? askFirst();\n\
+    \x20\x20\x20\x20asked = null;\n\
     \x20\x20\x20\x20takeStatus(await status);\n\
-    \x20\x20\x20\x20takeRest(await rest);\n\
+    \x20\x20\x20\x20takeClasses(await classes);\n\
     \x20\x20\x20\x20takeEvents(eventsOf((await steps).text, S.place), S.status.retained <= FEW);\n\
     \x20\x20\x20\x20again = !takeState(await state, S.place) || (S.events.length > 0 && !(await steps).text.startsWith(`row ${S.place} `));\n\
     \x20\x20\x20\x20onScreen(S.place, 0);\n\
@@ -701,10 +772,11 @@ pub(crate) const PAGE: &[u8] = b"<!doctype html>\n\
     \x20\x20}\n\
     \x20\x20async function look(full) {\n\
     \x20\x20\x20\x20if (S.place < 0) return firstLook();\n\
+    \x20\x20\x20\x20// A place is shown without asking what is new: the next look does.\n\
+    \x20\x20\x20\x20if (full && S.at !== null) return loadState();\n\
     \x20\x20\x20\x20if (!full) S.began = performance.now();\n\
     \x20\x20\x20\x20const was = S.status,\n\
-    \x20\x20\x20\x20\x20\x20before = S.place,\n\
-    \x20\x20\x20\x20\x20\x20past = full && S.at !== null ? loadState() : null;\n\
+    \x20\x20\x20\x20\x20\x20before = S.place;\n\
     \x20\x20\x20\x20takeStatus(await ask(\"status\", true));\n\
     \x20\x20\x20\x20const stepped = S.place !== before || S.status.acts !== was.acts,\n\
     \x20\x20\x20\x20\x20\x20moved = stepped || [\"gray\", \"phase\", \"unswept\"].some((x) => S.status[x] !== was[x]);\n\
@@ -712,7 +784,7 @@ pub(crate) const PAGE: &[u8] = b"<!doctype html>\n\
     \x20\x20\x20\x20if (S.at !== null && (S.at > S.place || S.at < S.oldest)) S.at = null;\n\
     \x20\x20\x20\x20if (S.base !== null && (S.base > S.place || S.base < S.oldest)) S.base = null;\n\
     \x20\x20\x20\x20const events = stepped ? loadEvents(S.place) : null,\n\
-    \x20\x20\x20\x20\x20\x20state = past || (full || (moved && S.at === null) ? loadState() : null);\n\
+    \x20\x20\x20\x20\x20\x20state = full || (moved && S.at === null) ? loadState() : null;\n\
     \x20\x20\x20\x20await events;\n\
     \x20\x20\x20\x20await state;\n\
     \x20\x20\x20\x20if (!state && moved) draw();\n\
@@ -765,8 +837,8 @@ pub(crate) const PAGE: &[u8] = b"<!doctype html>\n\
     \x20\x20\x20\x20if (S.more || $(\"steps\").dataset.far) $(\"steps\").scrollTop = S.more = 0;\n\
     \x20\x20\x20\x20S.began = performance.now();\n\
     \x20\x20\x20\x20refresh(true);\n\
-    \x20\x20\x20\x20drawHead();\n\
     \x20\x20\x20\x20drawLine();\n\
+    \x20\x20\x20\x20drawHead();\n\
     \x20\x20}\n\
     \n\
     \x20\x20function follow() {\n\
@@ -853,7 +925,7 @@ pub(crate) const PAGE: &[u8] = b"<!doctype html>\n\
     \x20\x20\x20\x20return c;\n\
     \x20\x20}\n\
     \x20\x20const LINE = { top: 18, bottom: 80, strip: 87, high: 108, w: 0 };\n\
-    \x20\x20// What is drawn of the time line only if something of it is new: the strip of all steps, and all that stays while the handle moves.\n\
+    \x20\x20// What is drawn of the time line, while the handle moves, only if something of it is new: the strip of all steps, and all that stays.\n\
     \x20\x20const layer = () => ({ canvas: document.createElement(\"canvas\"), drawn: \"\" });\n\
     \x20\x20const STRIP = layer(),\n\
     \x20\x20\x20\x20LAYER = layer();\n\
@@ -866,6 +938,12 @@ pub(crate) const PAGE: &[u8] = b"<!doctype html>\n\
     \x20\x20\x20\x20it.drawn = now;\n\
     \x20\x20\x20\x20draw(fit(it.canvas, w, LINE.high), w);\n\
     \x20\x20\x20\x20return it.canvas;\n\
+    \x20\x20}\n\
+    \n\
+    \x20\x20// Makes all canvases as large as they will be, which takes long, before there is anything to draw.\n\
+    \x20\x20function fitAll() {\n\
+    \x20\x20\x20\x20if (M.box.w > 0) fit($(\"map\"), M.box.w, M.box.h);\n\
+    \x20\x20\x20\x20if (LINE.w > 0) fit($(\"line\"), LINE.w, LINE.high);\n\
     \x20\x20}\n\
     \n\
     \x20\x20function drawStill(c, w) {\n\
@@ -992,8 +1070,13 @@ pub(crate) const PAGE: &[u8] = b"<!doctype html>\n\
     \x20\x20\x20\x20const c = fit(canvas, w, LINE.high);\n\
     \x20\x20\x20\x20const o = S.sel && objectAt(S.sel),\n\
     \x20\x20\x20\x20\x20\x20life = o ? [S.sel, o.name, bornAt(o, S.shown), S.shown] : [];\n\
-    \x20\x20\x20\x20c.drawImage(drawLayer(STRIP, w, [], drawStrip), 0, 0, w, LINE.high);\n\
-    \x20\x20\x20\x20c.drawImage(drawLayer(LAYER, w, [S.samples.size, S.epoch, S.klass, S.color.size, css(\"--ink\"), ...S.pins, ...life], drawStill), 0, 0, w, LINE.high);\n\
+    \x20\x20\x20\x20if (S.at === null) {\n\
+    \x20\x20\x20\x20\x20\x20drawStrip(c, w);\n\
+    \x20\x20\x20\x20\x20\x20drawStill(c, w);\n\
+    \x20\x20\x20\x20} else {\n\
+    \x20\x20\x20\x20\x20\x20c.drawImage(drawLayer(STRIP, w, [], drawStrip), 0, 0, w, LINE.high);\n\
+    \x20\x20\x20\x20\x20\x20c.drawImage(drawLayer(LAYER, w, [S.samples.size, S.epoch, S.klass, S.color.size, css(\"--ink\"), ...S.pins, ...life], drawStill), 0, 0, w, LINE.high);\n\
+    \x20\x20\x20\x20}\n\
     \x20\x20\x20\x20c.font = \"11px \" + css(\"--mono\");\n\
     \x20\x20\x20\x20c.textBaseline = \"middle\";\n\
     \x20\x20\x20\x20c.textAlign = \"left\";\n\
@@ -1089,9 +1172,8 @@ pub(crate) const PAGE: &[u8] = b"<!doctype html>\n\
     \x20\x20\x20\x20\x20\x20have = new Map(S.hist.map((r) => [r.name, r])),\n\
     \x20\x20\x20\x20\x20\x20rows = [...names].map((name) => {\n\
     \x20\x20\x20\x20\x20\x20\x20\x20const h = have.get(name) || { objects: 0, bytes: 0 },\n\
-    \x20\x20\x20\x20\x20\x20\x20\x20\x20\x20g = S.garbage.get(name),\n\
     \x20\x20\x20\x20\x20\x20\x20\x20\x20\x20d = S.growth.get(name);\n\
-    \x20\x20\x20\x20\x20\x20\x20\x20return { name, objects: h.objects, bytes: h.bytes, lost: g ? g.objects : 0, dobjects: d ? d.objects : 0, dbytes: d ? d.bytes : 0 };\n\
+    \x20\x20\x20\x20\x20\x20\x20\x20return { name, objects: h.objects, bytes: h.bytes, lost: S.garbage.get(name) || 0, dobjects: d ? d.objects : 0, dbytes: d ? d.bytes : 0 };\n\
     \x20\x20\x20\x20\x20\x20}),\n\
     \x20\x20\x20\x20\x20\x20[by, dir] = S.sort;\n\
     \x20\x20\x20\x20return rows.sort((a, b) => (by === \"name\" ? a.name.localeCompare(b.name) : a[by] - b[by]) * dir || b.bytes - a.bytes || a.name.localeCompare(b\n\
@@ -1243,10 +1325,10 @@ pub(crate) const PAGE: &[u8] = b"<!doctype html>\n\
     \x20\x20\x20\x20\x20\x20\x20\x20return (h - gap * (rows - 1)) / rows;\n\
     \x20\x20\x20\x20\x20\x20},\n\
     \x20\x20\x20\x20\x20\x20bad = (columns) => wide(columns) < 1 || high(columns) < 1 ? Infinity : Math.abs(Math.log(wide(columns) / high(columns) / 2));\n\
-    \x20\x20\x20\x20let columns = 1;\n\
-    \x20\x20\x20\x20if (!few)\n\
-    \x20\x20\x20\x20\x20\x20for (let k = 2; k <= n; k++)\n\
-    \x20\x20\x20\x20\x20\x20\x20\x20if (bad(k) < bad(columns)) columns = k;\n\
+    \x20\x20\x20\x20let columns = 1,\n\
+    \x20\x20\x20\x20\x20\x20least = few ? 0 : bad(1);\n\
+    \x20\x20\x20\x20for (let k = 2; k <= n && !few; k++)\n\
+    \x20\x20\x20\x20\x20\x20if (bad(k) < least) least = bad(columns = k);\n\
     \x20\x20\x20\x20const bw = wide(columns),\n\
     \x20\x20\x20\x20\x20\x20bh = few ? Math.min(88, high(columns)) : high(columns),\n\
     \x20\x20\x20\x20\x20\x20lines = 2 ** Math.max(0, Math.min(5, Math.round(Math.log2(154 * bh / bw) / 2))),\n\
@@ -1699,50 +1781,30 @@ pub(crate) const PAGE: &[u8] = b"<!doctype html>\n\
     \x20\x20\x20\x20const now = [S.by, S.at === null, S.status.phase, S.status.unswept > 0, css(\"--ink\"), ...S.hist.slice(0, 7).map((r) => r.name + colorOf(r.name))].join();\n\
     \x20\x20\x20\x20if (now === M.legend) return;\n\
     \x20\x20\x20\x20M.legend = now;\n\
-    \x20\x20\x20\x20const item = (color, text, extra) => {\n\
+    \x20\x20\x20\x20const item = (text, background, look) => {\n\
     \x20\x20\x20\x20\x20\x20\x20\x20const s = el(\"span\"),\n\
-    \x20\x20\x20\x20\x20\x20\x20\x20\x20\x20c = document.createElement(\"canvas\"),\n\
-    \x20\x20\x20\x20\x20\x20\x20\x20\x20\x20d = fit(c, 14, 10);\n\
-    \x20\x20\x20\x20\x20\x20\x20\x20d.fillStyle = color;\n\
-    \x20\x20\x20\x20\x20\x20\x20\x20d.fillRect(0, 0, 14, 10);\n\
-    \x20\x20\x20\x20\x20\x20\x20\x20if (extra) extra(d);\n\
-    \x20\x20\x20\x20\x20\x20\x20\x20s.append(c, text);\n\
+    \x20\x20\x20\x20\x20\x20\x20\x20\x20\x20i = el(\"i\");\n\
+    \x20\x20\x20\x20\x20\x20\x20\x20Object.assign(i.style, { background }, look);\n\
+    \x20\x20\x20\x20\x20\x20\x20\x20s.append(i, text);\n\
     \x20\x20\x20\x20\x20\x20\x20\x20return s;\n\
     \x20\x20\x20\x20\x20\x20},\n\
+    \x20\x20\x20\x20\x20\x20hatched = (color, back) => `repeating-linear-gradient(135deg, ${color} 0 1.3px, ${back} 1.3px 4.2px)`,\n\
     \x20\x20\x20\x20\x20\x20out = [];\n\
     \x20\x20\x20\x20if (S.by === \"age\") {\n\
     \x20\x20\x20\x20\x20\x20const s = el(\"span\"),\n\
-    \x20\x20\x20\x20\x20\x20\x20\x20c = document.createElement(\"canvas\"),\n\
-    \x20\x20\x20\x20\x20\x20\x20\x20d = fit(c, 120, 8);\n\
-    \x20\x20\x20\x20\x20\x20c.id = \"ramp\";\n\
-    \x20\x20\x20\x20\x20\x20for (let i = 0; i < 120; i++) {\n\
-    \x20\x20\x20\x20\x20\x20\x20\x20d.fillStyle = ramp(i / 120);\n\
-    \x20\x20\x20\x20\x20\x20\x20\x20d.fillRect(i, 0, 1.5, 8);\n\
-    \x20\x20\x20\x20\x20\x20}\n\
-    \x20\x20\x20\x20\x20\x20s.append(\"just made\", c, \"old\");\n\
-    \x20\x20\x20\x20\x20\x20out.push(s, item(ANCIENT, \"made before what is retained\"));\n\
+    \x20\x20\x20\x20\x20\x20\x20\x20i = el(\"i\");\n\
+    \x20\x20\x20\x20\x20\x20i.id = \"ramp\";\n\
+    \x20\x20\x20\x20\x20\x20i.style.background = `linear-gradient(90deg, ${[4, 3, 2, 1, 0].map((k) => ramp(1 - k / 4)).join()})`;\n\
+    \x20\x20\x20\x20\x20\x20s.append(\"just made\", i, \"old\");\n\
+    \x20\x20\x20\x20\x20\x20out.push(s, item(\"made before what is retained\", ANCIENT));\n\
     \x20\x20\x20\x20} else {\n\
-    \x20\x20\x20\x20\x20\x20for (const r of S.hist.slice(0, 7)) out.push(item(colorOf(r.name), r.name));\n\
-    \x20\x20\x20\x20\x20\x20out.push(item(\"transparent\", \"unreached\", (d) => {\n\
-    \x20\x20\x20\x20\x20\x20\x20\x20d.fillStyle = hatch(d, OTHER, mixed(OTHER, M.ink.panel, .18));\n\
-    \x20\x20\x20\x20\x20\x20\x20\x20d.fillRect(0, 0, 14, 10);\n\
-    \x20\x20\x20\x20\x20\x20\x20\x20d.strokeStyle = OTHER;\n\
-    \x20\x20\x20\x20\x20\x20\x20\x20d.strokeRect(.5, .5, 13, 9);\n\
-    \x20\x20\x20\x20\x20\x20}));\n\
+    \x20\x20\x20\x20\x20\x20for (const r of S.hist.slice(0, 7)) out.push(item(r.name, colorOf(r.name)));\n\
+    \x20\x20\x20\x20\x20\x20out.push(item(\"unreached\", hatched(OTHER, mixed(OTHER, M.ink.panel, .18)), { boxShadow: \"inset 0 0 0 1px \" + OTHER }));\n\
     \x20\x20\x20\x20}\n\
-    \x20\x20\x20\x20out.push(item(M.ink.free, \"free cell\"));\n\
-    \x20\x20\x20\x20if (S.at === null && (S.status.phase === \"marking\" || S.status.unswept)) {\n\
-    \x20\x20\x20\x20\x20\x20out.push(item(OTHER, \"marked\", (d) => {\n\
-    \x20\x20\x20\x20\x20\x20\x20\x20d.fillStyle = M.ink.ink;\n\
-    \x20\x20\x20\x20\x20\x20\x20\x20d.fillRect(0, 8, 14, 2);\n\
-    \x20\x20\x20\x20\x20\x20}), item(OTHER, \"gray\", (d) => {\n\
-    \x20\x20\x20\x20\x20\x20\x20\x20d.fillStyle = M.ink.red;\n\
-    \x20\x20\x20\x20\x20\x20\x20\x20d.fillRect(0, 0, 14, 2);\n\
-    \x20\x20\x20\x20\x20\x20}), item(\"transparent\", \"dead\", (d) => {\n\
-    \x20\x20\x20\x20\x20\x20\x20\x20d.fillStyle = hatch(d, M.ink.ink3, M.ink.free);\n\
-    \x20\x20\x20\x20\x20\x20\x20\x20d.fillRect(0, 0, 14, 10);\n\
-    \x20\x20\x20\x20\x20\x20}));\n\
-    \x20\x20\x20\x20}\n\
+    \x20\x20\x20\x20out.push(item(\"free cell\", M.ink.free));\n\
+    \x20\x20\x20\x20if (S.at === null && (S.status.phase === \"marking\" || S.status.unswept))\n\
+    \x20\x20\x20\x20\x20\x20out.push(item(\"marked\", OTHER, { borderBottom: \"2px solid \" + M.ink.ink }), item(\"gray\", OTHER, { borderTop: \"2px solid \" + M.ink.red }),\n\
+    \x20\x20\x20\x20\x20\x20\x20\x20item(\"dead\", hatched(M.ink.ink3, M.ink.free)));\n\
     \x20\x20\x20\x20$(\"legend\").replaceChildren(...out);\n\
     \x20\x20}\n\
     \n\
@@ -1813,36 +1875,58 @@ pub(crate) const PAGE: &[u8] = b"<!doctype html>\n\
     \x20\x20\x20\x20return [dim(w.slice(1).join(\" \"))];\n\
     \x20\x20}\n\
     \n\
+    \x20\x20function stepRow(e, at) {\n\
+    \x20\x20\x20\x20const p = e.p,\n\
+    \x20\x20\x20\x20\x20\x20row = el(\"div\", \"step\" + (p === at ? \" now\" : p > at ? \" later\" : \"\")),\n\
+    \x20\x20\x20\x20\x20\x20text = el(\"span\"),\n\
+    \x20\x20\x20\x20\x20\x20ev = el(\"span\", \"ev\", e.kind);\n\
+    \x20\x20\x20\x20ev.style.setProperty(\"--c\", EVENTS[e.kind]);\n\
+    \x20\x20\x20\x20text.append(ev, \" \", ...told(e));\n\
+    \x20\x20\x20\x20row.append(el(\"span\", \"p\", \"@\" + num(p)), text);\n\
+    \x20\x20\x20\x20row.title = \"Show the heap just after this step\";\n\
+    \x20\x20\x20\x20for (const a of row.querySelectorAll(\"a\")) a.tabIndex = -1;\n\
+    \x20\x20\x20\x20row.onclick = () => go(p);\n\
+    \x20\x20\x20\x20return row;\n\
+    \x20\x20}\n\
+    \n\
+    \x20\x20// The row below the steps that are listed.\n\
+    \x20\x20function olderRow(count) {\n\
+    \x20\x20\x20\x20const more = el(\"div\", \"step dim\", \"\");\n\
+    \x20\x20\x20\x20more.append(el(\"span\"), `\xe2\x80\xa6 ${num(count)} older steps`);\n\
+    \x20\x20\x20\x20more.onclick = () => {\n\
+    \x20\x20\x20\x20\x20\x20S.more += 200;\n\
+    \x20\x20\x20\x20\x20\x20drawSteps();\n\
+    \x20\x20\x20\x20};\n\
+    \x20\x20\x20\x20return more;\n\
+    \x20\x20}\n\
+    \n\
+    \x20\x20// How often the steps were drawn, and how high what can be seen of them is, at most as long as it isn't known.\n\
+    \x20\x20let turns = 0,\n\
+    \x20\x20\x20\x20stepsHigh = innerHeight * .4;\n\
+    \n\
+    \x20\x20// Draws the steps that can be seen without scrolling, and then, once these are on the screen, the others.\n\
     \x20\x20function drawSteps() {\n\
     \x20\x20\x20\x20const at = atPlace(),\n\
-    \x20\x20\x20\x20\x20\x20from = Math.max(S.first, at - 30 - S.more),\n\
+    \x20\x20\x20\x20\x20\x20last = Math.max(S.first, at - 30 - S.more),\n\
     \x20\x20\x20\x20\x20\x20to = Math.min(S.place, at + 4),\n\
-    \x20\x20\x20\x20\x20\x20out = [];\n\
-    \x20\x20\x20\x20for (let p = to; p >= from; p--) {\n\
-    \x20\x20\x20\x20\x20\x20const e = eventAt(p);\n\
-    \x20\x20\x20\x20\x20\x20if (!e) continue;\n\
-    \x20\x20\x20\x20\x20\x20const row = el(\"div\", \"step\" + (p === at ? \" now\" : p > at ? \" later\" : \"\")),\n\
-    \x20\x20\x20\x20\x20\x20\x20\x20text = el(\"span\"),\n\
-    \x20\x20\x20\x20\x20\x20\x20\x20ev = el(\"span\", \"ev\", e.kind);\n\
-    \x20\x20\x20\x20\x20\x20ev.style.setProperty(\"--c\", EVENTS[e.kind]);\n\
-    \x20\x20\x20\x20\x20\x20text.append(ev, \" \", ...told(e));\n\
-    \x20\x20\x20\x20\x20\x20row.append(el(\"span\", \"p\", \"@\" + num(p)), text);\n\
-    \x20\x20\x20\x20\x20\x20row.title = \"Show the heap just after this step\";\n\
-    \x20\x20\x20\x20\x20\x20for (const a of row.querySelectorAll(\"a\")) a.tabIndex = -1;\n\
-    \x20\x20\x20\x20\x20\x20row.onclick = () => go(p);\n\
-    \x20\x20\x20\x20\x20\x20out.push(row);\n\
-    \x20\x20\x20\x20}\n\
-    \x20\x20\x20\x20if (from > S.first) {\n\
-    \x20\x20\x20\x20\x20\x20const more = el(\"div\", \"step dim\", \"\");\n\
-    \x20\x20\x20\x20\x20\x20more.append(el(\"span\"), `\xe2\x80\xa6 ${num(from - S.first)} older steps`);\n\
-    \x20\x20\x20\x20\x20\x20more.onclick = () => {\n\
-    \x20\x20\x20\x20\x20\x20\x20\x20S.more += 200;\n\
-    \x20\x20\x20\x20\x20\x20\x20\x20drawSteps();\n\
-    \x20\x20\x20\x20\x20\x20};\n\
-    \x20\x20\x20\x20\x20\x20out.push(more);\n\
-    \x20\x20\x20\x20}\n\
-    \x20\x20\x20\x20$(\"steps\").replaceChildren(...out);\n\
+    \x20\x20\x20\x20\x20\x20from = $(\"steps\").dataset.far ? last : Math.max(last, to - Math.ceil(stepsHigh / 21)),\n\
+    \x20\x20\x20\x20\x20\x20turn = ++turns;\n\
+    \x20\x20\x20\x20$(\"steps\").replaceChildren(...stepRows(to, from, at));\n\
     \x20\x20\x20\x20$(\"stepnote\").textContent = S.events.length ? \"what each wrote and what was there, newest first\" : S.place > S.oldest ? \"\xe2\x80\xa6\" : \"no step is retained\";\n\
+    \x20\x20\x20\x20const drawOlder = () => {\n\
+    \x20\x20\x20\x20\x20\x20if (turn !== turns) return;\n\
+    \x20\x20\x20\x20\x20\x20$(\"steps\").append(...stepRows(from - 1, last, at));\n\
+    \x20\x20\x20\x20\x20\x20if (last > S.first) $(\"steps\").append(olderRow(last - S.first));\n\
+    \x20\x20\x20\x20};\n\
+    \x20\x20\x20\x20if (from === last) drawOlder();\n\
+    \x20\x20\x20\x20else afterPaint(drawOlder);\n\
+    \x20\x20}\n\
+    \n\
+    \x20\x20function stepRows(to, from, at) {\n\
+    \x20\x20\x20\x20const out = [];\n\
+    \x20\x20\x20\x20for (let p = to; p >= from; p--)\n\
+    \x20\x20\x20\x20\x20\x20if (eventAt(p)) out.push(stepRow(eventAt(p), at));\n\
+    \x20\x20\x20\x20return out;\n\
     \x20\x20}\n\
     \n\
     \x20\x20// ---- object\n\
@@ -1905,6 +1989,7 @@ pub(crate) const PAGE: &[u8] = b"<!doctype html>\n\
     \x20\x20\x20\x20const turn = ++inspecting,\n\
     \x20\x20\x20\x20\x20\x20box = $(\"insp\"),\n\
     \x20\x20\x20\x20\x20\x20at = atPlace(),\n\
+    \x20\x20\x20\x20\x20\x20word = atWord(),\n\
     \x20\x20\x20\x20\x20\x20live = S.at === null;\n\
     \x20\x20\x20\x20if (!quiet) box.replaceChildren(el(\"div\", \"empty\", \"\xe2\x80\xa6\"));\n\
     \x20\x20\x20\x20const [me, born, path, refs] = await Promise.all([fieldsOf(id), live ? ask(\"born \" + id, true) : null, ask(`path ${atWord()} ${id}`, true),\n\
@@ -1930,6 +2015,21 @@ pub(crate) const PAGE: &[u8] = b"<!doctype html>\n\
     \x20\x20\x20\x20$(\"inspnote\").textContent = live ? \"\" : `as it was at @${num(at)}`;\n\
     \x20\x20\x20\x20drawMap();\n\
     \x20\x20\x20\x20writers(id, written, turn, at, live).catch(() => {});\n\
+    \x20\x20\x20\x20if (path.ok) afterPaint(() => retainedBy(id, word, turn).catch(() => {}));\n\
+    \x20\x20}\n\
+    \n\
+    \x20\x20// Fills in what an object retains, once all else of it is on the screen. While the heap goes on, what was there before stays until then.\n\
+    \x20\x20async function retainedBy(id, word, turn) {\n\
+    \x20\x20\x20\x20if (turn !== inspecting) return;\n\
+    \x20\x20\x20\x20const r = await ask(`retained ${word} ${id}`, true),\n\
+    \x20\x20\x20\x20\x20\x20[, objects, bytes] = r.words,\n\
+    \x20\x20\x20\x20\x20\x20of = r.rows.slice(0, 12).map((x) => `\\n${num(x[0])} ${x[2]}, ${num(x[1])} bytes`),\n\
+    \x20\x20\x20\x20\x20\x20box = $(\"retains\");\n\
+    \x20\x20\x20\x20S.later = r.ms;\n\
+    \x20\x20\x20\x20if (turn !== inspecting) return;\n\
+    \x20\x20\x20\x20S.retains = { id, text: r.ok ? `retains ${num(objects)} object${objects === \"1\" ? \"\" : \"s\"}, ${num(bytes)} bytes` : \"\" };\n\
+    \x20\x20\x20\x20box.textContent = S.retains.text;\n\
+    \x20\x20\x20\x20box.title = \"What is reached and would not be without this object, itself among them:\" + of.join(\"\") + (r.rows.length > 12 ? \"\\n\xe2\x80\xa6\" : \"\");\n\
     \x20\x20}\n\
     \n\
     \x20\x20function headOf(id, me, born, path, dropped, at) {\n\
@@ -1943,7 +2043,9 @@ pub(crate) const PAGE: &[u8] = b"<!doctype html>\n\
     \x20\x20\x20\x20s.append(el(\"span\", \"mono\", id), el(\"span\", \"\", `${num(me.count)} ${isArray(me.name) ? \"elements\" : \"slots\"}`), made);\n\
     \x20\x20\x20\x20const chip = el(\"span\", path.ok ? \"chip ok\" : \"chip warn\", path.ok ? \"reached\" : \"unreached\");\n\
     \x20\x20\x20\x20if (dropped && dropped.words[1] === \"place\") chip.append(\" since \", placeLink(+dropped.words[2]));\n\
-    \x20\x20\x20\x20s.append(chip);\n\
+    \x20\x20\x20\x20const retains = el(\"span\", \"\", !path.ok ? \"\" : S.retains.id === id && S.at === null ? S.retains.text : \"retains \xe2\x80\xa6\");\n\
+    \x20\x20\x20\x20retains.id = \"retains\";\n\
+    \x20\x20\x20\x20s.append(chip, retains);\n\
     \x20\x20\x20\x20const w = wordOf(id),\n\
     \x20\x20\x20\x20\x20\x20g = S.regions.get(Math.floor(w / WORDS)),\n\
     \x20\x20\x20\x20\x20\x20cell = g && cellOf(g, (w % WORDS) / g.size);\n\
@@ -2082,12 +2184,13 @@ pub(crate) const PAGE: &[u8] = b"<!doctype html>\n\
     \x20\x20}\n\
     \n\
     \x20\x20// ---- all\n\
+    \x20\x20// Draws all. The canvases come first: to set their font, a browser works out the style of all elements that are new.\n\
     \x20\x20function draw() {\n\
-    \x20\x20\x20\x20drawHead();\n\
     \x20\x20\x20\x20drawLine();\n\
+    \x20\x20\x20\x20drawMap();\n\
+    \x20\x20\x20\x20drawHead();\n\
     \x20\x20\x20\x20drawClasses();\n\
     \x20\x20\x20\x20drawInstances();\n\
-    \x20\x20\x20\x20drawMap();\n\
     \x20\x20\x20\x20drawSteps();\n\
     \x20\x20}\n\
     \x20\x20$(\"line\").onpointerdown = (e) => {\n\
@@ -2185,9 +2288,9 @@ pub(crate) const PAGE: &[u8] = b"<!doctype html>\n\
     \x20\x20$(\"how\").onclick = () => $(\"help\").showModal();\n\
     \x20\x20$(\"save\").onclick = async () => {\n\
     \x20\x20\x20\x20const name = S.fast && S.at === null ? \"heap.hprof\" : `heap-${atPlace()}.hprof`,\n\
-    \x20\x20\x20\x20\x20\x20{ reply, data } = await post(\"/dump\", atWord()).catch(() => ({ reply: null }));\n\
+    \x20\x20\x20\x20\x20\x20{ reply, data } = await post(\"/dump\", atWord(), \"blob\").catch(() => ({ reply: null }));\n\
     \x20\x20\x20\x20if (!reply || !reply.ok) {\n\
-    \x20\x20\x20\x20\x20\x20$(\"last\").textContent = \"no dump: \" + (reply ? data : \"no connection\");\n\
+    \x20\x20\x20\x20\x20\x20$(\"last\").textContent = \"no dump: \" + (reply ? await data.text() : \"no connection\");\n\
     \x20\x20\x20\x20\x20\x20return;\n\
     \x20\x20\x20\x20}\n\
     \x20\x20\x20\x20const url = URL.createObjectURL(data),\n\
@@ -2310,18 +2413,20 @@ pub(crate) const PAGE: &[u8] = b"<!doctype html>\n\
     \x20\x20const seen = new ResizeObserver((found) => {\n\
     \x20\x20\x20\x20for (const { target, contentRect: r } of found)\n\
     \x20\x20\x20\x20\x20\x20if (target === $(\"mapbox\")) Object.assign(M.box, { w: Math.floor(r.width), h: Math.floor(r.height) });\n\
+    \x20\x20\x20\x20\x20\x20else if (target === $(\"steps\")) stepsHigh = r.height;\n\
     \x20\x20\x20\x20\x20\x20else LINE.w = Math.floor(r.width);\n\
-    \x20\x20\x20\x20if (S.place < 0) return;\n\
+    \x20\x20\x20\x20if (S.place < 0) return fitAll();\n\
     \x20\x20\x20\x20drawLine();\n\
     \x20\x20\x20\x20drawMap();\n\
     \x20\x20});\n\
     \x20\x20seen.observe($(\"mapbox\"));\n\
+    \x20\x20seen.observe($(\"steps\"));\n\
     \x20\x20seen.observe($(\"time\"));\n\
     \x20\x20matchMedia(\"(prefers-color-scheme: dark)\").onchange = drawAnew;\n\
     \x20\x20// Does what takes long the first time while the first answers are on their way: reads the style, and loads the font.\n\
     \x20\x20function prepare() {\n\
     \x20\x20\x20\x20for (const name of [\"line\", \"ink\", \"ink2\", \"ink3\", \"panel\", \"free\", \"red\", \"amber\", \"green\", \"accent\", \"mono\"]) css(\"--\" + name);\n\
-    \x20\x20\x20\x20for (const canvas of [$(\"line\"), $(\"map\"), STRIP.canvas, LAYER.canvas]) {\n\
+    \x20\x20\x20\x20for (const canvas of [$(\"line\"), $(\"map\")]) {\n\
     \x20\x20\x20\x20\x20\x20const c = canvas.getContext(\"2d\");\n\
     \x20\x20\x20\x20\x20\x20c.font = \"11px \" + css(\"--mono\");\n\
     \x20\x20\x20\x20\x20\x20c.measureText(\"0\");\n\
@@ -2334,6 +2439,7 @@ pub(crate) const PAGE: &[u8] = b"<!doctype html>\n\
     \x20\x20\x20\x20\x20\x20return;\n\
     \x20\x20\x20\x20}\n\
     \x20\x20\x20\x20const first = refresh(true);\n\
+    \x20\x20\x20\x20keepKey();\n\
     \x20\x20\x20\x20prepare();\n\
     \x20\x20\x20\x20await first;\n\
     \x20\x20\x20\x20await new Promise((go) => requestAnimationFrame(() => setTimeout(go)));\n\
@@ -2351,7 +2457,7 @@ pub(crate) const PAGE: &[u8] = b"<!doctype html>\n\
     \x20\x20\x20\x20\x20\x20await new Promise((r) => setTimeout(r, document.hidden ? Math.max(4000, pause) : pause));\n\
     \x20\x20\x20\x20\x20\x20const began = performance.now();\n\
     \x20\x20\x20\x20\x20\x20await refresh(false);\n\
-    \x20\x20\x20\x20\x20\x20pause = Math.max(600, Math.min(15000, (performance.now() - began) * 8));\n\
+    \x20\x20\x20\x20\x20\x20pause = Math.max(600, Math.min(15000, (performance.now() - began + (S.sel ? S.later : 0)) * 8));\n\
     \x20\x20\x20\x20\x20\x20sampleMore();\n\
     \x20\x20\x20\x20}\n\
     \x20\x20}\n\

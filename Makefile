@@ -58,6 +58,7 @@ bench: build
 	bash bench/lines.sh
 	python3 bench/page.py bin/heapdbg
 	python3 bench/large.py bin/heapdbg
+	python3 bench/millions.py bin/heapdbg
 
 # Looks at the page in Chromium, which it installs where it is missing and apt-get is there. PROGRAM is the program that serves it.
 PROGRAM ?= bin/heapdbg

@@ -500,7 +500,7 @@ def old_acts(program):
     """Yields what a client has of more acts than a heap keeps, of a heap that drops old ones and of one that doesn't."""
     lines = b"clear 0 0\n" * 1_000_001 + b"rewind 2\nend\n"
     dropped, refused = b"ok\nok place 999999\n", b"no 26 ChronicleFull\n" * 2
-    for options, rest in ((["--roll", "1"], dropped), (["--wide", "1"], dropped), (["--roll", "0"], refused)):
+    for options, rest in ((["--roll", "1"], dropped), (["--roll"], dropped), (["--wide", "1"], dropped), (["--roll", "0"], refused)):
         with Server(program, 1, *options) as server, server.client() as client:
             writer = threading.Thread(target=client.sendall, args=(lines,))
             writer.start()

@@ -58,7 +58,8 @@ class Told:
 @contextlib.contextmanager
 def staying(program, sessions, *options):
     """Serves `sessions` clients at a time. Yields the server."""
-    with Server(program, sessions, "--stay", "1", *options) as server:
+    value = ["1"] if options else []
+    with Server(program, sessions, "--stay", *value, *options) as server:
         yield server
 
 

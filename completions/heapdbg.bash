@@ -14,11 +14,13 @@ _heapdbg() {
             mapfile -t COMPREPLY < <(compgen -f -- "$word")
             return
             ;;
-        --questions | --roll | --stay | --wide)
-            mapfile -t COMPREPLY < <(compgen -W "0 1" -- "$word")
-            return
+        --questions | --roll | --stay | --wide | --workers)
+            [[ $word == -* ]] || {
+                mapfile -t COMPREPLY < <(compgen -W "0 1" -- "$word")
+                return
+            }
             ;;
-        --regions | --mutators | --keep | --time | --port | --to | --sessions | --workers | --dumps | --page | --idle)
+        --regions | --mutators | --keep | --time | --port | --to | --sessions | --dumps | --page | --idle)
             return
             ;;
     esac

@@ -178,6 +178,7 @@ def tended(program):
     told = (b"ok pushed 1", b"no 15 NotMarking", b"no 20 NothingToSweep 0")
     quits = b"session 1 quit\nsession 2 quit\n"
     yield "a cycle done by workers", served(program, cycle_by_workers, two), (0, quits, b"", told, after, b"")
+    yield "a cycle done by workers that are asked for without a value", served(program, cycle_by_workers, ["--workers", *two[:2]]), (0, quits, b"", told, after, b"")
     happened = served(program, ending_in_a_cycle, ["--workers", "1"])
     yield "an end within a cycle", happened[:3], (0, b"session 1 quit\n", b"")
     idle = served(program, ended(EXAMPLE + b"end\n"), ["--workers=1"])

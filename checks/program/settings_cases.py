@@ -59,3 +59,33 @@ def settings_shown(program):
         with tempfile.TemporaryDirectory() as folder:
             happened = saved(program, os.path.join(folder, "heap.hprof"), lines, words)
         yield f"save {name}", happened, (0, answers + b"saved %d\n" % len(dump), b"", dump)
+
+
+def sizes_by_names(program):
+    """Yields sessions whose sizes have a `k` or an `m`. Of so many steps as are kept one more can't be undone."""
+    for words, kept in ((["--keep", "2k"], 2048), (["--keep=003k"], 3072), (["--keep", "64k"], 65_536), (["--keep", "1m", "--wide", "1"], 1_048_576)):
+        ran = run(program, ["run", *words], b"clear 0 0\n" * (kept + 1) + b"rewind %d\n" % (kept + 1))
+        yield " ".join(words), ran, (0, b"ok\n" * (kept + 1) + b"no 21 TooFar %d %d\n" % (kept + 1, kept), b"")
+    lines, made = b"newprim 0 0 long 1024\n" * 2048, b"".join(b"ok object 0x%08x\n" % (0x10000000 + 8192 * number) for number in range(2048))
+    ran = run(program, ["run", "--regions", "2k", "--wide", "1"], lines + b"newprim 0 0 long 1\n")
+    yield "--regions 2k", ran, (0, made + b"no 13 HeapFull\n", b"")
+    yield "--regions 64k", run(program, ["run", "--wide", "1", "--regions=64k"], b"clear 0 0\n"), (0, b"ok\n", b"")
+
+
+def options_without_values(program):
+    """Yields command lines of which an option has no value, at their end or before another option, as (name, what happened, what must
+    happen)."""
+    pins, said = b"pins\n", (0, b"ok 0\n", b"")
+    for words in (["--questions"], ["--questions", "--keep", "4"], ["--wide", "--questions"], ["--questions", "--wide", "0"]):
+        yield f"run {' '.join(words)}", run(program, ["run", *words], pins), said
+    arrays = b"array A1\n" + b"".join(b"array B%d\n" % number for number in range(256))
+    defined = b"".join(b"ok class %d\n" % number for number in range(257))
+    for words in (["run", "--wide"], ["run", "--wide", "--keep=4"], ["explore", "--wide"]):
+        yield " ".join(words), run(program, words, arrays), (0, defined, b"")
+    for words in (["--questions"], ["--questions", "--ids", "8"]):
+        with tempfile.TemporaryDirectory() as folder:
+            status, out, error, _ = saved(program, os.path.join(folder, "heap.hprof"), pins, words)
+        yield f"save {' '.join(words)}", (status, out[:5], error), said
+    ended = (0, b"session 1 quit\n", b"", b"ok 0\n")
+    for words in (["--questions"], ["--questions", "--workers"], ["--roll", "--questions"]):
+        yield f"serve {' '.join(words)}", served(program, told_all(pins), words), ended

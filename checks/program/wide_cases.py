@@ -67,11 +67,13 @@ def limits_of_other_heaps(program):
 
 
 def reads(program):
-    """Yields sessions at the most reads that a heap which isn't wide allows, and beyond it. In a file each line is read alone, and an
-    LF by one read; the last read finds the end."""
+    """Yields sessions at the most reads that a heap which isn't wide allows, and beyond it. In a file each line is read alone, and
+    an LF by one read; the last read finds the end."""
     for words in ([], ["--wide", "0"]):
-        yield f"1,000,000 reads {words}", read_by_one(program, 1_000_000, False, *words), (1, b"bad reads\n", b"heapdbg: reads\n")
-        yield f"999,999 lines first {words}", run_after(program, b"\n" * 999_998 + b"q\n", b"", *words), (0, b"", b"heapdbg: PATH:999999: bad command: q\n")
+        ended = (1, b"bad reads\n", b"heapdbg: reads\n")
+        yield f"1,000,000 reads {words}", read_by_one(program, 1_000_000, False, *words), ended
+        said = b"heapdbg: PATH:999999: bad command: q\n"
+        yield f"999,999 lines first {words}", run_after(program, b"\n" * 999_998 + b"q\n", b"", *words), (0, b"", said)
         said = b"heapdbg: PATH:1000000: a session has at most 1000000 reads\n"
         yield f"1,000,001 lines first {words}", run_after(program, b"\n" * 1_000_000 + b"q\n", b"", *words), (0, b"", said)
     wide = ["--wide", "1"]

@@ -27,9 +27,9 @@ fn report_ending<F: Read + Drop, R: Eprint>(
     lines.report_end(reason);
 }
 
-/// Serves the lines of a file as a session of these commands, within these limits, whose answers go nowhere. Reports on standard
-/// error, by the file's name and the line's number, answer and text, each line that is no command or is refused, and why reading
-/// ended early. Fails if an allocation for reading the file fails, and reads nothing.
+/// Serves the lines of a file as a session of these commands, within these limits, whose answers go nowhere. Reports on
+/// standard error, by the file's name and the line's number, answer and text, each line that is no command or is refused, and
+/// why reading ended early. Fails if an allocation for reading the file fails, and reads nothing.
 pub fn load_lines<F: Read + Drop, R: Eprint, C: Commands>(
     rt: &R,
     alloc: Global,

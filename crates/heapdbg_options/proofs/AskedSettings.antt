@@ -1,5 +1,5 @@
 -- What the settings are that a command line asks for.
-use Rattle.std.proofs.Common.{◌≡◌, ◌∙◌, ◌<◌, ◌≤◌, ◌^◌, ℕ, Bool, true, false, ◌&&◌, ◌||◌, cond, List, [], ◌∷◌, Option, Some, None, refl, sym, ap, subst, arith, codes, rules}
+use Rattle.std.proofs.Common.{◌≡◌, ◌∙◌, ◌<◌, ◌≤◌, ◌^◌, ◌*◌, ℕ, Bool, true, false, ◌&&◌, ◌||◌, cond, List, [], ◌∷◌, Option, Some, None, refl, sym, ap, subst, arith, codes, rules}
 use Rattle.std.specs.Prelude.{◌==◌, Err, is_some, not, find, drop, length, option_and_then, option_map, nat_le, nat_lt}
 use Rattle.std.specs.List.{list_all}
 use Rattle.std.specs.Option.{option_map_or}
@@ -14,7 +14,7 @@ use Rattle.clap.specs.Words.{Row, Text, first_of, subcommand_of}
 use Rattle.heap_class.specs.declared.IdSize.{IdSize}
 use Rattle.heap_class.specs.declared.IdSize.TheVariants.{Eight}
 use Rattle.heap_world.specs.Limits.{mutator_limit}
-use Rattle.heapdbg_options.specs.CommandLine.{AreNumbersOf, AreSettingsWithin, HasDefaults, IsTask, ask_in, idle_in, idle_limit, idle_of, is_guarded, has_secret, stays_in, stays_of, dumps_in, dumps_of, dumps_with, page_beside, page_in, page_of, page_with, explore_in, explore_with, own_page, flag_in, fetch_in, heapdbg_line, id_size_in, id_size_of, is_given, is_task, IsOther, IsThird, keep_default, keep_in, most_kept, most_regions, most_sessions, number_in, number_or, other_port, port_in, port_limit, questions_in, regions_in, rolls_in, reads_file, save_in, serve_in, serve_with, sessions_in, sessions_of, settings_in, settings_over, settings_under, settings_with, target_in, task_in, third_port, time_limit, option_value, wide_in, workers_in, workers_of}
+use Rattle.heapdbg_options.specs.CommandLine.{AreNumbersOf, AreSettingsWithin, HasDefaults, IsTask, ask_in, idle_in, idle_limit, idle_of, is_guarded, has_secret, stays_in, stays_of, dumps_in, dumps_of, dumps_with, page_beside, page_in, page_of, page_with, explore_in, explore_with, own_page, flag_in, fetch_in, heapdbg_line, id_size_in, id_size_of, is_given, is_task, IsOther, IsThird, keep_default, keep_in, most_kept, most_regions, most_sessions, number_in, number_or, other_port, port_in, port_limit, questions_in, regions_in, rolls_in, reads_file, save_in, serve_in, serve_with, sessions_in, sessions_of, settings_in, settings_over, settings_under, settings_with, target_in, task_in, third_port, time_limit, option_value, wide_in, workers_in, workers_of, counted_in, option_size, size_in, size_or, size_with, text_before, times_in}
 use Rattle.heapdbg_options.specs.declared.settings.Settings.{Settings}
 use Rattle.heapdbg_options.specs.declared.settings.Service.{Service}
 use Rattle.heapdbg_options.specs.declared.settings.Task.{Task}
@@ -56,6 +56,33 @@ number_within least most text n e =
         let within = both_true _ _ (both_true _ _ (both_true _ _ h).1).1 in
         let same : digits_value 10 text ≡ n = cc (found) in
         rw (← same) (leb-true _ _ within.0, leb-true _ _ within.1)
+
+times_within : (least most times k n : ℕ) → times_in least most times k ≡ Some n → (least ≤ n) × (n ≤ most)
+times_within least most times k n e = go (nat_le least (k * times) && nat_le (k * times) most) refl e
+  where
+    go : (b : Bool) → (nat_le least (k * times) && nat_le (k * times) most) ≡ b → cond b (Some (k * times)) None ≡ Some n → (least ≤ n) × (n ≤ most)
+    go false h found = cc
+    go true h found =
+        let within = both_true _ _ h in
+        let same : k * times ≡ n = cc (found) in
+        rw (← same) (leb-true _ _ within.0, leb-true _ _ within.1)
+
+counted_within : (least most times : ℕ) (text : Text) (n : ℕ) → counted_in least most times text ≡ Some n → (least ≤ n) × (n ≤ most)
+counted_within least most times text n e = go (number_in 0 most text) e
+  where
+    go : (o : Option ℕ) → option_and_then (times_in least most times) o ≡ Some n → (least ≤ n) × (n ≤ most)
+    go None found = cc
+    go (Some k) found = times_within least most times k n found
+
+size_within : (least most : ℕ) (text : Text) (before_k before_m : Option Text) (n : ℕ) → size_with least most text before_k before_m ≡ Some n → (least ≤ n) × (n ≤ most)
+size_within least most text (Some digits) before_m n e = counted_within least most 1024 digits n e
+size_within least most text None (Some digits) n e = counted_within least most 1048576 digits n e
+size_within least most text None None n e = number_within least most text n e
+
+sized_within : (default least most : ℕ) (given : Option Text) (n : ℕ) → least ≤ default → default ≤ most
+    → size_or default least most given ≡ Some n → (least ≤ n) × (n ≤ most)
+sized_within default least most None n low high e = let same : default ≡ n = cc in rw (← same) (low, high)
+sized_within default least most (Some text) n low high e = size_within least most text (text_before (codes "k") text) (text_before (codes "m") text) n e
 
 value_within : (default least most : ℕ) (given : Option Text) (n : ℕ) → least ≤ default → default ≤ most
     → number_or default least most given ≡ Some n → (least ≤ n) × (n ≤ most)
@@ -147,15 +174,15 @@ are_asked (Some f) s e = go (task_in f.0 f.1) refl e
 numbers_within : (w : Bool) (rows : List Row) (r m k : ℕ) → regions_in w rows ≡ Some r → option_value (codes "mutators") 2 1 mutator_limit rows ≡ Some m → keep_in w rows ≡ Some k → AreNumbersOf w r m k
 numbers_within false rows r m k regions mutators keep =
     record {
-      regions_within = value_within 16 1 (most_regions false) (first_of (codes "regions") rows) r (omega arith) (omega arith) regions;
+      regions_within = sized_within 16 1 (most_regions false) (first_of (codes "regions") rows) r (omega arith) (omega arith) regions;
       mutators_within = value_within 2 1 mutator_limit (first_of (codes "mutators") rows) m (omega arith) (omega arith) mutators;
-      keep_within = value_within keep_default 1 (most_kept false) (first_of (codes "keep") rows) k (omega arith) (omega arith) keep;
+      keep_within = sized_within keep_default 1 (most_kept false) (first_of (codes "keep") rows) k (omega arith) (omega arith) keep;
     }
 numbers_within true rows r m k regions mutators keep =
     record {
-      regions_within = value_within 16 1 (most_regions true) (first_of (codes "regions") rows) r (omega arith) (omega arith) regions;
+      regions_within = sized_within 16 1 (most_regions true) (first_of (codes "regions") rows) r (omega arith) (omega arith) regions;
       mutators_within = value_within 2 1 mutator_limit (first_of (codes "mutators") rows) m (omega arith) (omega arith) mutators;
-      keep_within = value_within keep_default 1 (most_kept true) (first_of (codes "keep") rows) k (omega arith) (omega arith) keep;
+      keep_within = sized_within keep_default 1 (most_kept true) (first_of (codes "keep") rows) k (omega arith) (omega arith) keep;
     }
 
 port_within : (given : Option Text) (port : ℕ) → option_and_then (number_in 1 port_limit) given ≡ Some port → (1 ≤ port) × (port ≤ port_limit)
@@ -393,6 +420,14 @@ default_of name default least most words f n all is named read other =
     let same : Some default ≡ Some n = subst (λ o. number_or default least most o ≡ Some n) none read in
     cc
 
+default_sized : (name : Text) (default least most : ℕ) (words : List Text) (f : Text × List Row) (n : ℕ)
+    → list_all (is_free_command name) (built heapdbg_line).subs ≡ true → subcommand_of heapdbg_line words ≡ Some f → is_task f.0 ≡ true
+    → option_size name default least most f.1 ≡ Some n → is_given name words ≡ false → n ≡ default
+default_sized name default least most words f n all is named read other =
+    let none = none_of name words f all is named other in
+    let same : Some default ≡ Some n = subst (λ o. size_or default least most o ≡ Some n) none read in
+    cc
+
 -- what sessions with questions have, of a private heap and of a served one, is what the task of `explore` has
 explore_has : (P : Task → Type 0) (from page port : Option Text) (secret : Bool) (task : Task) → ((p : Option ℕ) → own_page page ≡ Some p → P (Explore (is_some from) p)) → ((n : ℕ) → P (Ask n secret)) → explore_with from page port secret ≡ Some task → P task
 explore_has P from page None true task one other e = cc
@@ -496,9 +531,9 @@ defaults_of words s e =
     let name = asked.found.0 in
     let rows = asked.found.1 in
     record {
-      regions = default_of (codes "regions") 16 1 (most_regions s.wide) words asked.found s.regions refl asked.is asked.named asked.read.regions;
+      regions = default_sized (codes "regions") 16 1 (most_regions s.wide) words asked.found s.regions refl asked.is asked.named asked.read.regions;
       mutators = default_of (codes "mutators") 2 1 mutator_limit words asked.found s.mutators refl asked.is asked.named asked.read.mutators;
-      keep = default_of (codes "keep") keep_default 1 (most_kept s.wide) words asked.found s.keep refl asked.is asked.named asked.read.keep;
+      keep = default_sized (codes "keep") keep_default 1 (most_kept s.wide) words asked.found s.keep refl asked.is asked.named asked.read.keep;
       time = default_of (codes "time") 0 0 time_limit words asked.found s.time refl asked.is asked.named asked.read.time;
       ids = default_size words asked.found s.ids asked.is asked.named asked.read.ids;
       questions = default_flag (codes "questions") words asked.found s.questions refl asked.is asked.named asked.read.questions;

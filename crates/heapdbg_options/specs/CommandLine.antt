@@ -1,5 +1,5 @@
 -- The command line: the settings that a list of words asks for.
-use Rattle.std.specs.Prelude.{◌≡◌, ◌≢◌, ◌≤◌, ◌==◌, ◌&&◌, ◌||◌, ℕ, List, Option, Some, None, Bool, ⊤, true, false, codes}
+use Rattle.std.specs.Prelude.{◌≡◌, ◌≢◌, ◌≤◌, ◌==◌, ◌∷◌, ◌++◌, ◌*◌, ◌-◌, [], take, ◌&&◌, ◌||◌, ℕ, List, Option, Some, None, Bool, ⊤, true, false, codes}
 use Rattle.std.specs.Prelude.{is_some, length, map, nat_le, nat_lt, option_and_then, option_map, string_bytes, if◌then◌else◌}
 use Rattle.std.specs.List.{list_all, list_any}
 use Rattle.std.specs.Option.{option_map_or}
@@ -32,6 +32,18 @@ texts = map (λ word. word.now)
 abbrev pub value_option : Text → Rule
 value_option name = record (new_rule name) { long = Some name; action = Some Set; value_names = 1 }
 
+-- the option, of which a use without a value is one with the value 1
+abbrev pub flag_of : Rule → Rule
+flag_of option =
+    record option {
+      range = Some (record { start_inclusive = 0; end_inclusive = 1 });
+      missing = codes "1" ∷ [];
+    }
+
+-- an option `--NAME VALUE` or `--NAME`
+abbrev pub flag_option : Text → Rule
+flag_option name = flag_of (value_option name)
+
 -- a command with the options of the heap and its history
 abbrev pub heap_line : Text → App
 heap_line name =
@@ -40,7 +52,7 @@ heap_line name =
     (with_rule (with_rule (new_app name) (value_option (codes "regions")))
     (value_option (codes "mutators")))
     (value_option (codes "keep")))
-    (value_option (codes "wide"))
+    (flag_option (codes "wide"))
 
 -- a command with the options of the heap, its history and its dumps
 abbrev pub session_line : Text → App
@@ -58,7 +70,7 @@ secret_option = value_option (codes "secret")
 
 -- the command `run`
 abbrev pub run_line : App
-run_line = with_rule (session_line (codes "run")) (value_option (codes "questions"))
+run_line = with_rule (session_line (codes "run")) (flag_option (codes "questions"))
 
 -- the command `explore`
 abbrev pub explore_line : App
@@ -76,7 +88,7 @@ save_line =
     with_rule
     (with_rule (with_rule (session_line (codes "save")) (value_option (codes "out")))
     (value_option (codes "to")))
-    (value_option (codes "questions"))
+    (flag_option (codes "questions"))
 
 -- the command `serve` with its port, its sessions and its workers
 abbrev pub staffed_line : App
@@ -84,7 +96,7 @@ staffed_line =
     with_rule
     (with_rule (with_rule (session_line (codes "serve")) port_option)
     (value_option (codes "sessions")))
-    (value_option (codes "workers"))
+    (flag_option (codes "workers"))
 
 -- the command `serve` with its ports beside that of the sessions
 abbrev pub ported_line : App
@@ -94,14 +106,14 @@ ported_line =
 -- the command `serve` with what it answers and forgets
 abbrev pub answering_line : App
 answering_line =
-    with_rule (with_rule ported_line (value_option (codes "questions")))
-    (value_option (codes "roll"))
+    with_rule (with_rule ported_line (flag_option (codes "questions")))
+    (flag_option (codes "roll"))
 
 -- the command `serve`
 abbrev pub serve_line : App
 serve_line =
     with_rule
-    (with_rule (with_rule answering_line (value_option (codes "stay")))
+    (with_rule (with_rule answering_line (flag_option (codes "stay")))
     (value_option (codes "idle")))
     secret_option
 
@@ -151,6 +163,44 @@ number_or default least most (Some text) = number_in least most text
 -- the value of the option of this name among the options given
 abbrev pub option_value : Text → ℕ → ℕ → ℕ → List Row → Option ℕ
 option_value name default least most rows = number_or default least most (first_of name rows)
+
+-- the text before this ending, if it ends so
+abbrev pub text_before : Text → Text → Option Text
+text_before ending text =
+    let front = take (length text - length ending) text in
+    if bytes_eq text (front ++ ending) then Some front else None
+
+-- this number of times a number, if that lies from least to most
+abbrev pub times_in : ℕ → ℕ → ℕ → ℕ → Option ℕ
+times_in least most times number =
+    if nat_le least (number * times) && nat_le (number * times) most then Some (number * times)
+    else None
+
+-- this number of times the number that a text writes, if that lies from least to most
+abbrev pub counted_in : ℕ → ℕ → ℕ → Text → Option ℕ
+counted_in least most times text =
+    option_and_then (times_in least most times) (number_in 0 most text)
+
+-- the size that a text writes, if it lies from least to most, from what stands before a `k`, or before an `m`, at its end
+abbrev pub size_with : ℕ → ℕ → Text → Option Text → Option Text → Option ℕ
+size_with least most text (Some digits) before_m = counted_in least most 1024 digits
+size_with least most text None (Some digits) = counted_in least most 1048576 digits
+size_with least most text None None = number_in least most text
+
+-- the size that a text writes, if it lies from least to most: a number, or 1,024 times the number before a `k`, or 1,048,576 times the
+-- number before an `m`
+abbrev pub size_in : ℕ → ℕ → Text → Option ℕ
+size_in least most text =
+    size_with least most text (text_before (codes "k") text) (text_before (codes "m") text)
+
+-- the size that an option is given, and its default if it is not given
+abbrev pub size_or : ℕ → ℕ → ℕ → Option Text → Option ℕ
+size_or default least most None = Some default
+size_or default least most (Some text) = size_in least most text
+
+-- the size that the option of this name among the options is given
+abbrev pub option_size : Text → ℕ → ℕ → ℕ → List Row → Option ℕ
+option_size name default least most rows = size_or default least most (first_of name rows)
 
 -- the size of an identifier of this number of bytes
 abbrev pub id_size_of : ℕ → Option IdSize
@@ -212,11 +262,11 @@ most_kept wide = if wide then keep_limit else narrow_keep
 
 -- the regions of a heap that is wide, or isn't
 abbrev pub regions_in : Bool → List Row → Option ℕ
-regions_in wide rows = option_value (codes "regions") 16 1 (most_regions wide) rows
+regions_in wide rows = option_size (codes "regions") 16 1 (most_regions wide) rows
 
 -- the steps that can be undone in a heap that is wide, or isn't
 abbrev pub keep_in : Bool → List Row → Option ℕ
-keep_in wide rows = option_value (codes "keep") keep_default 1 (most_kept wide) rows
+keep_in wide rows = option_size (codes "keep") keep_default 1 (most_kept wide) rows
 
 -- the settings of a task and its options over a heap that is wide, or isn't
 abbrev pub settings_over : Task → List Row → Bool → Option Settings

@@ -1,10 +1,11 @@
 -- What is made to read a command line.
-use Rattle.std.specs.Prelude.{◌≡◌, ◌∷◌, [], false, IfOk, List, Result, Some, map}
+use Rattle.std.specs.Prelude.{◌≡◌, ◌∷◌, [], false, IfOk, List, Result, Some, map, if◌then◌else◌}
 use Rattle.std.specs.declared.alloc.AllocError.{AllocError}
 use Rattle.clap.specs.Words.{App, Rule, app_of, new_app, new_rule, with_rule, with_subcommand}
 use Rattle.clap.specs.declared.builder.ArgAction.TheVariants.{Set}
 use Rattle.clap.specs.declared.builder.Command.{Command}
 use Rattle.clap.specs.declared.builder.Command.TheViews.{out-Command}
+use Rattle.heapdbg_options.specs.CommandLine.{flag_of}
 use Rattle.heapdbg_options.specs.declared.option_rows.CommandRow.{CommandRow}
 use Rattle.heapdbg_options.specs.declared.option_rows.OptionRow.{OptionRow}
 
@@ -17,15 +18,19 @@ abbrev pub with_rules : App → List Rule → App
 with_rules line [] = line
 with_rules line (rule ∷ rules) = with_rules (with_rule line rule) rules
 
--- the option of a row
-abbrev pub rule_of_row : OptionRow → Rule
-rule_of_row row =
+-- the option of a row, which takes a value
+abbrev pub valued_rule : OptionRow → Rule
+valued_rule row =
     record (new_rule row.name.now) {
       long = Some row.name.now;
       action = Some Set;
       value_names = 1;
       required = row.is_required;
     }
+
+-- the option of a row, which takes a value, or may have none if it is a flag
+abbrev pub rule_of_row : OptionRow → Rule
+rule_of_row row = if row.is_flag then flag_of (valued_rule row) else valued_rule row
 
 -- the line of a row's command
 abbrev pub line_of_row : CommandRow → App

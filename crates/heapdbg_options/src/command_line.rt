@@ -1,5 +1,5 @@
 //! Reads the command line.
-ghost use Rattle.std.specs.Prelude.{◌≡◌, None, Some, false, IfOk, IfErr, IfSome};
+ghost use Rattle.std.specs.Prelude.{◌≡◌, ◌<◌, None, Some, false, IfOk, IfErr, IfSome, option_map};
 ghost use Rattle.std.specs.List.{list_all};
 ghost use Rattle.std.specs.Prelude.{option_and_then};
 ghost use Rattle.std.specs.Char.{is_ascii_digit};
@@ -7,7 +7,7 @@ ghost use Rattle.clap.specs.Words.{FailsBy, app_of, fault_of, found_of, kind_of,
 ghost use Rattle.clap.specs.declared.builder.Command.TheViews.{out-Command};
 ghost use Rattle.heapdbg_options.specs.Parsers.{IsParserOf};
 ghost use Rattle.heapdbg_options.specs.CommandLine.{AreSettingsWithin, HasDefaults, heapdbg_line, named_line, number_in};
-ghost use Rattle.heapdbg_options.specs.CommandLine.{settings_in, settings_of, settings_over, settings_under, texts, option_value};
+ghost use Rattle.heapdbg_options.specs.CommandLine.{settings_in, settings_of, settings_over, settings_under, texts, option_size, option_value, counted_in, size_in, text_before};
 ghost use Rattle.heapdbg_options.specs.CommandLine.{id_size_in, id_size_of, flag_in, most_kept, most_regions, path_of, task_in, wide_in};
 ghost use Rattle.heapdbg_options.specs.Refusals.{IsMistake, IsMistakeIn, IsRefusalOf, keep_mistake, regions_mistake, IsSaidOf, IsValueOrMistake, is_help};
 
@@ -151,13 +151,13 @@ fn settings_over(task: Task, options: &ArgMatches<'_>, wide: bool) -> Result<Set
     ensures { IsValueOrMistake (settings_over task (rows_of (found_of options.now)) wide)
         (λ m. IsMistakeIn m (rows_of (found_of options.now))) result }
 {
-    let Some(regions) = option_value(options, "regions", 16, 1, most_regions(wide)) else {
+    let Some(regions) = option_size(options, "regions", 16, 1, most_regions(wide)) else {
         return Err(regions_mistake(wide));
     };
     let Some(mutators) = option_value(options, "mutators", 2, 1, MUTATOR_LIMIT) else {
         return Err(Mistake::Mutators);
     };
-    let Some(keep) = option_value(options, "keep", 1024, 1, most_kept(wide)) else {
+    let Some(keep) = option_size(options, "keep", 1024, 1, most_kept(wide)) else {
         return Err(keep_mistake(wide));
     };
     let Some(time) = option_value(options, "time", 0, 0, u64::MAX) else {
@@ -275,6 +275,57 @@ pub(crate) fn number(text: &str, least: u64, most: u64) -> Option<u64>
         Ok(number) if least <= number && number <= most => Some(number),
         Ok(_) => None,
         Err(_) => None,
+    }
+}
+
+// Returns the size that an option is given, `default` if it isn't given, or None if it isn't from `least` to `most`.
+fn option_size(
+    options: &ArgMatches<'_>,
+    name: &str,
+    default: u64,
+    least: u64,
+    most: u64,
+) -> Option<u64>
+    ensures { result ≡ option_size name.now default least most (rows_of (found_of options.now)) }
+{
+    match options.get_str(name) {
+        Some(text) => size(text, least, most),
+        None => Some(default),
+    }
+}
+
+// Returns the size that a text writes, by digits alone or with `k` or `m` behind them, or None if it isn't from `least` to `most` or the
+// text is another.
+fn size(text: &str, least: u64, most: u64) -> Option<u64>
+    ensures { result ≡ size_in least most text.now }
+{
+    if let Some(digits) = text_before(text, "k") {
+        return counted(digits, 1_024, least, most);
+    }
+    match text_before(text, "m") {
+        Some(digits) => counted(digits, 1_048_576, least, most),
+        None => number(text, least, most),
+    }
+}
+
+// Returns the text before an ending, or None if it doesn't end so.
+fn text_before<'a>(text: &'a str, ending: &str) -> Option<&'a str>
+    ensures { option_map (λ front. front.now) result ≡ text_before ending.now text.now }
+{
+    text.strip_suffix(ending)
+}
+
+// Returns so many times the number that a text of digits alone writes, or None if that isn't from `least` to `most` or the text is
+// another.
+fn counted(text: &str, times: u64, least: u64, most: u64) -> Option<u64>
+    requires { 0 < times }
+    ensures { result ≡ counted_in least most times text.now }
+{
+    let number = number(text, 0, most)?;
+    match number.checked_mul(times) {
+        Some(size) if least <= size && size <= most => Some(size),
+        Some(_) => None,
+        None => None,
     }
 }
 

@@ -2,18 +2,20 @@
 ghost use Rattle.std.specs.Prelude.{◌≡◌, false, IfOk, map};
 ghost use Rattle.clap.specs.Words.{app_of, new_app, rule_of};
 ghost use Rattle.clap.specs.declared.builder.Command.TheViews.{out-Command};
-ghost use Rattle.heapdbg_options.specs.Parsers.{AddsCommand, IsParserOf, line_of_row, rule_of_row, with_command_rows, with_rules};
+ghost use Rattle.heapdbg_options.specs.Parsers.{AddsCommand, IsParserOf, line_of_row, rule_of_row, valued_rule, with_command_rows, with_rules};
 
 use clap::{Arg, ArgAction, Command};
 use std::alloc::{AllocError, Global};
 
-// An option `--NAME VALUE`: its name, what help calls its value, its help, and whether it has to be given.
+// An option `--NAME VALUE`: its name, what help calls its value, its help, whether it has to be given, and whether it is a flag:
+// `--NAME` without a value is `--NAME 1`.
 #[derive(Clone, Copy)]
 pub(crate) struct OptionRow {
     pub(crate) name: &'static str,
     pub(crate) value: &'static str,
     pub(crate) help: &'static str,
     pub(crate) is_required: bool,
+    pub(crate) is_flag: bool,
 }
 
 // A command: its name, what help says about it, the usage that help shows if that is another than clap's, and its options.
@@ -31,6 +33,7 @@ pub(crate) const REGIONS: OptionRow = OptionRow {
     value: "N",
     help: "Regions of the heap, 1 to 256, or to 65536 with --wide 1 [default: 16]",
     is_required: false,
+    is_flag: false,
 };
 
 // The option `--mutators N`.
@@ -39,6 +42,7 @@ pub(crate) const MUTATORS: OptionRow = OptionRow {
     value: "N",
     help: "Mutators of the heap, 1 to 16 [default: 2]",
     is_required: false,
+    is_flag: false,
 };
 
 // The option `--keep N`.
@@ -47,14 +51,16 @@ pub(crate) const KEEP: OptionRow = OptionRow {
     value: "N",
     help: "Steps that can be undone, 1 to 65536, or to 16777216 with --wide 1 [default: 1024]",
     is_required: false,
+    is_flag: false,
 };
 
-// The option `--wide N`.
+// The option `--wide [N]`.
 pub(crate) const WIDE: OptionRow = OptionRow {
     name: "wide",
     value: "N",
     help: "Whether the heap has wider limits, of classes, names and pins too, 0 or 1 [default: 0]",
     is_required: false,
+    is_flag: true,
 };
 
 // The option `--time N`.
@@ -63,6 +69,7 @@ pub(crate) const TIME: OptionRow = OptionRow {
     value: "N",
     help: "Milliseconds since 1970 in the header of a dump [default: 0]",
     is_required: false,
+    is_flag: false,
 };
 
 // The option `--ids N`.
@@ -71,14 +78,16 @@ pub(crate) const IDS: OptionRow = OptionRow {
     value: "N",
     help: "Bytes of an identifier in a dump, 4 or 8 [default: 8]",
     is_required: false,
+    is_flag: false,
 };
 
-// The option `--questions N`.
+// The option `--questions [N]`.
 pub(crate) const QUESTIONS: OptionRow = OptionRow {
     name: "questions",
     value: "N",
     help: "Whether questions are answered, 0 or 1 [default: 0]",
     is_required: false,
+    is_flag: true,
 };
 
 // The option `--page N`.
@@ -87,6 +96,7 @@ pub(crate) const PAGE: OptionRow = OptionRow {
     value: "N",
     help: "Port on 127.0.0.1 of a page that shows the heap to a browser, 1 to 65535 [default: none]",
     is_required: false,
+    is_flag: false,
 };
 
 // The option `--secret PATH`.
@@ -95,6 +105,7 @@ pub(crate) const SECRET: OptionRow = OptionRow {
     value: "PATH",
     help: "File with the word that each client has to send first [default: none]",
     is_required: false,
+    is_flag: false,
 };
 
 // Returns the parser with the commands of these rows added in turn.
@@ -158,6 +169,19 @@ fn with_options<'a>(
 // Creates a row's option.
 fn option_of_row<'a>(alloc: Global, row: &OptionRow) -> Arg<'a>
     ensures rule { rule_of result ≡ rule_of_row row.now }
+    ensures local { result.global ≡ false }
+{
+    let option = valued_option(alloc, row);
+    if row.is_flag {
+        option.num_args(..=1).default_missing_value("1")
+    } else {
+        option
+    }
+}
+
+// Creates a row's option, which takes a value.
+fn valued_option<'a>(alloc: Global, row: &OptionRow) -> Arg<'a>
+    ensures rule { rule_of result ≡ valued_rule row.now }
     ensures local { result.global ≡ false }
 {
     Arg::new(alloc, row.name)

@@ -39,12 +39,14 @@ pub(crate) const EXPLORE: CommandRow = CommandRow {
             value: "PATH",
             help: "File of lines that are run first; their replies are not shown",
             is_required: false,
+            is_flag: false,
         },
         OptionRow {
             name: "port",
             value: "N",
             help: "Port on 127.0.0.1 of a heap that is served, to ask about that, 1 to 65535; not with --from or --page",
             is_required: false,
+            is_flag: false,
         },
         PAGE,
         OptionRow {
@@ -52,6 +54,7 @@ pub(crate) const EXPLORE: CommandRow = CommandRow {
             value: "PATH",
             help: "File with the word that the heap at --port has to be sent first; only with --port",
             is_required: false,
+            is_flag: false,
         },
     ],
 };
@@ -73,6 +76,7 @@ pub(crate) const DRAW: CommandRow = CommandRow {
             value: "PATH",
             help: "File that the picture goes to, as SVG",
             is_required: true,
+            is_flag: false,
         },
     ],
 };

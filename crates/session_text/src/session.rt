@@ -7,8 +7,8 @@ use crate::page::Page;
 use session_grammar::spans::FieldSpans;
 use std::alloc::{AllocError, Global};
 
-/// What stays the same in a session: its allocator, the time that stands in the header of each dump, in milliseconds, and what it
-/// may have at most.
+/// What stays the same in a session: its allocator, the time that stands in the header of each dump, in milliseconds, and what
+/// it may have at most.
 #[derive(Clone, Copy)]
 pub struct Context {
     pub alloc: Global,

@@ -138,6 +138,7 @@ def few(program):
         tab = opened(heap)
         try:
             yield from small(tab)
+            yield from scrolled(tab, heap)
             yield from many(tab)
             yield "complaints of the browser", tab.faults(), []
         finally:
@@ -152,6 +153,16 @@ def small(tab):
     # A cell of byte[] that no register reaches, and a free one.
     yield from pointed(tab, 2, 0, ["byte[]", "0x10004000", "no register reaches it"])
     yield from pointed(tab, 1, 5, ["free", "0x10002280"])
+
+
+def scrolled(tab, heap):
+    """A list that isn't at its beginning when the heap goes on."""
+    tab.wait("document.getElementById('steps').scrollHeight > 600")
+    tab.value("document.getElementById('steps').scrollTop = 150")
+    tab.wait("document.getElementById('steps').hasAttribute('data-far')")
+    heap.say("put 0 0 1 7")
+    tab.wait("document.querySelector('#steps .now .p').textContent === '@2,026'")
+    yield "the steps after the heap went on", tab.value("document.getElementById('steps').scrollTop"), 150
 
 
 def pointed(tab, region, cell, words):

@@ -2,7 +2,7 @@
 
 // The policy of the page.
 pub(crate) const POLICY: &str =
-    "default-src 'none'; script-src 'sha256-E2wD0rWKFr3nh9+z6H1QT9om6+aO7LpmW14D7m/9+dw='; style-src 'sha256-9Me/SFiawhkG25pGyw6I+0x79AccM3lNGUCYmjDwzrQ='; img-src data:; connect-src 'self'; base-uri 'none'; form-action 'none'; frame-ancestors 'none'";
+    "default-src 'none'; script-src 'sha256-s66BrqWKJGGN+9KDAXDD5dcMJGzhePmFjUkzaoNyXqw='; style-src 'sha256-9Me/SFiawhkG25pGyw6I+0x79AccM3lNGUCYmjDwzrQ='; img-src data:; connect-src 'self'; base-uri 'none'; form-action 'none'; frame-ancestors 'none'";
 
 // The page.
 pub(crate) const PAGE: &[u8] = b"<!doctype html>\n\
@@ -497,12 +497,12 @@ pub(crate) const PAGE: &[u8] = b"<!doctype html>\n\
     \x20\x20\x20\x20return g && objectIn(g, (w % WORDS) / g.size);\n\
     \x20\x20}\n\
     \n\
-    \x20\x20// The objects of a class, or all of them.\n\
-    \x20\x20function* objects(name) {\n\
-    \x20\x20\x20\x20for (const [, g] of S.regions) {\n\
+    \x20\x20// Calls f for each cell with an object of a class, or of any.\n\
+    \x20\x20function eachCell(name, f) {\n\
+    \x20\x20\x20\x20for (const g of S.regions.values()) {\n\
     \x20\x20\x20\x20\x20\x20const only = name === null ? 0 : g.names.indexOf(name);\n\
     \x20\x20\x20\x20\x20\x20for (let cell = 0; cell < g.cells.length; cell++)\n\
-    \x20\x20\x20\x20\x20\x20\x20\x20if (g.cells[cell] && (!only || Math.floor(g.cells[cell] / NAME) === only)) yield objectIn(g, cell);\n\
+    \x20\x20\x20\x20\x20\x20\x20\x20if (g.cells[cell] && (!only || Math.floor(g.cells[cell] / NAME) === only)) f(g, cell);\n\
     \x20\x20\x20\x20}\n\
     \x20\x20}\n\
     \n\
@@ -602,8 +602,11 @@ pub(crate) const PAGE: &[u8] = b"<!doctype html>\n\
     \x20\x20\x20\x20if (S.sel) await inspect(S.sel, true);\n\
     \x20\x20}\n\
     \n\
-    \x20\x20const bornAt = (o, at) => {\n\
-    \x20\x20\x20\x20const list = S.born.get(o.w);\n\
+    \x20\x20const bornAt = ({ w }, at) => bornIn(w, at);\n\
+    \n\
+    \x20\x20// Returns where the object was made that is at a word at a place, or null if that isn't known.\n\
+    \x20\x20function bornIn(w, at) {\n\
+    \x20\x20\x20\x20const list = S.born.get(w);\n\
     \x20\x20\x20\x20if (!list) return null;\n\
     \x20\x20\x20\x20let found = null;\n\
     \x20\x20\x20\x20for (const p of list) {\n\
@@ -611,7 +614,7 @@ pub(crate) const PAGE: &[u8] = b"<!doctype html>\n\
     \x20\x20\x20\x20\x20\x20else break;\n\
     \x20\x20\x20\x20}\n\
     \x20\x20\x20\x20return found;\n\
-    \x20\x20};\n\
+    \x20\x20}\n\
     \x20\x20const unknown = () => S.whole ? \"older\" : \"\xe2\x80\xa6\";\n\
     \n\
     \x20\x20// ---- the shown state\n\
@@ -834,7 +837,7 @@ pub(crate) const PAGE: &[u8] = b"<!doctype html>\n\
     \x20\x20\x20\x20const to = place >= S.place ? null : place;\n\
     \x20\x20\x20\x20if (to === S.at) return;\n\
     \x20\x20\x20\x20S.at = to;\n\
-    \x20\x20\x20\x20if (S.more || $(\"steps\").dataset.far) $(\"steps\").scrollTop = S.more = 0;\n\
+    \x20\x20\x20\x20if (S.more || isFar($(\"steps\"))) $(\"steps\").scrollTop = S.more = 0;\n\
     \x20\x20\x20\x20S.began = performance.now();\n\
     \x20\x20\x20\x20refresh(true);\n\
     \x20\x20\x20\x20drawLine();\n\
@@ -1114,6 +1117,9 @@ pub(crate) const PAGE: &[u8] = b"<!doctype html>\n\
     \x20\x20}\n\
     \n\
     \x20\x20// ---- rows\n\
+    \x20\x20// Tells whether a list isn't at its beginning.\n\
+    \x20\x20const isFar = (box) => box.hasAttribute(\"data-far\");\n\
+    \n\
     \x20\x20// Draws anew, and leaves the focus on the row that had it.\n\
     \x20\x20function keepFocus(box, draw) {\n\
     \x20\x20\x20\x20const on = document.activeElement,\n\
@@ -1229,6 +1235,34 @@ pub(crate) const PAGE: &[u8] = b"<!doctype html>\n\
     \x20\x20}\n\
     \n\
     \x20\x20// ---- instances\n\
+    \x20\x20// Returns how many objects of a class there are, or of any that were made since a place, how many of them were there before it, and\n\
+    \x20\x20// the first few: those made since come first, since they are what has grown, and the oldest of them before the others.\n\
+    \x20\x20function listed(name, at, since) {\n\
+    \x20\x20\x20\x20const first = (found) => found.sort((a, b) => a.key - b.key).slice(0, LISTED);\n\
+    \x20\x20\x20\x20let count = 0,\n\
+    \x20\x20\x20\x20\x20\x20before = 0,\n\
+    \x20\x20\x20\x20\x20\x20most = Infinity,\n\
+    \x20\x20\x20\x20\x20\x20some = [];\n\
+    \x20\x20\x20\x20eachCell(name, (g, cell) => {\n\
+    \x20\x20\x20\x20\x20\x20const p = bornIn(g.number * WORDS + cell * g.size, at),\n\
+    \x20\x20\x20\x20\x20\x20\x20\x20old = since !== null && (p === null || p <= since),\n\
+    \x20\x20\x20\x20\x20\x20\x20\x20key = (old ? 2 ** 52 : 0) + (p ?? -1);\n\
+    \x20\x20\x20\x20\x20\x20if (name === null && old) return;\n\
+    \x20\x20\x20\x20\x20\x20count++;\n\
+    \x20\x20\x20\x20\x20\x20before += old;\n\
+    \x20\x20\x20\x20\x20\x20if (key >= most) return;\n\
+    \x20\x20\x20\x20\x20\x20some.push({ g, cell, key, p, before: old });\n\
+    \x20\x20\x20\x20\x20\x20if (some.length < 2 * LISTED) return;\n\
+    \x20\x20\x20\x20\x20\x20some = first(some);\n\
+    \x20\x20\x20\x20\x20\x20most = some[LISTED - 1].key;\n\
+    \x20\x20\x20\x20});\n\
+    \x20\x20\x20\x20return { count, before, some: first(some).map((x) => ({ o: objectIn(x.g, x.cell), ...x })) };\n\
+    \x20\x20}\n\
+    \n\
+    \x20\x20// How often the instances were drawn.\n\
+    \x20\x20let lists = 0;\n\
+    \n\
+    \x20\x20// Draws those that can be seen without scrolling, and then, once these are on the screen, the others.\n\
     \x20\x20function drawInstances() {\n\
     \x20\x20\x20\x20const note = $(\"instnote\"),\n\
     \x20\x20\x20\x20\x20\x20name = S.klass,\n\
@@ -1239,31 +1273,22 @@ pub(crate) const PAGE: &[u8] = b"<!doctype html>\n\
     \x20\x20\x20\x20$(\"inst\").hidden = !any;\n\
     \x20\x20\x20\x20note.textContent = \"\";\n\
     \x20\x20\x20\x20if (!any) return;\n\
-    \x20\x20\x20\x20const all = [],\n\
-    \x20\x20\x20\x20\x20\x20keys = [];\n\
-    \x20\x20\x20\x20let before = 0;\n\
-    \x20\x20\x20\x20// Those made since come first: they are what has grown.\n\
-    \x20\x20\x20\x20for (const o of objects(name)) {\n\
-    \x20\x20\x20\x20\x20\x20const p = bornAt(o, at),\n\
-    \x20\x20\x20\x20\x20\x20\x20\x20old = since !== null && (p === null || p <= since);\n\
-    \x20\x20\x20\x20\x20\x20if (name === null && old) continue;\n\
-    \x20\x20\x20\x20\x20\x20before += old;\n\
-    \x20\x20\x20\x20\x20\x20all.push(o);\n\
-    \x20\x20\x20\x20\x20\x20keys.push((old ? 2 ** 52 : 0) + (p ?? -1));\n\
-    \x20\x20\x20\x20}\n\
-    \x20\x20\x20\x20const last = Float64Array.from(keys).sort()[Math.min(keys.length, LISTED) - 1],\n\
-    \x20\x20\x20\x20\x20\x20some = all.map((o, i) => keys[i] <= last ? { o, key: keys[i], p: bornAt(o, at), before: keys[i] >= 2 ** 52 - 1 } : null).filter((x) => x).sort((a,\n\
-    \x20\x20\x20\x20\x20\x20\x20\x20b) => a.key - b.key).slice(0, LISTED),\n\
-    \x20\x20\x20\x20\x20\x20fresh = since === null ? \"\" : `, ${num(all.length - before)} made since @${num(since)}`;\n\
+    \x20\x20\x20\x20const { count, before, some } = listed(name, at, since),\n\
+    \x20\x20\x20\x20\x20\x20fresh = since === null ? \"\" : `, ${num(count - before)} made since @${num(since)}`;\n\
     \x20\x20\x20\x20note.title = \"The oldest first; those that were there before a place that is compared with come last\";\n\
-    \x20\x20\x20\x20note.textContent = `${num(all.length)}${name ? \" of \" + name : \"\"}${fresh}` + (all.length > some.length ?\n\
-    \x20\x20\x20\x20\x20\x20`, ${num(some.length)} shown` : \"\");\n\
+    \x20\x20\x20\x20note.textContent = `${num(count)}${name ? \" of \" + name : \"\"}${fresh}` + (count > some.length ? `, ${num(some.length)} shown` : \"\");\n\
     \x20\x20\x20\x20const head = el(\"tr\");\n\
     \x20\x20\x20\x20for (const t of [\"Object\", name ? \"Slots\" : \"Class\", \"Made at\", \"Steps ago\"]) head.append(el(\"th\", t === \"Class\" ? \"left\" : \"\", t));\n\
+    \x20\x20\x20\x20const box = $(\"inst\").parentElement,\n\
+    \x20\x20\x20\x20\x20\x20body = $(\"inst\").tBodies[0],\n\
+    \x20\x20\x20\x20\x20\x20rows = (part) => part.map((x) => instanceRow(x, name, at)),\n\
+    \x20\x20\x20\x20\x20\x20few = isFar(box) || box.contains(document.activeElement) ? some.length : Math.ceil(innerHeight / 40),\n\
+    \x20\x20\x20\x20\x20\x20turn = ++lists;\n\
     \x20\x20\x20\x20keepFocus($(\"inst\"), () => {\n\
     \x20\x20\x20\x20\x20\x20$(\"inst\").tHead.replaceChildren(head);\n\
-    \x20\x20\x20\x20\x20\x20$(\"inst\").tBodies[0].replaceChildren(...some.map((x) => instanceRow(x, name, at)));\n\
+    \x20\x20\x20\x20\x20\x20body.replaceChildren(...rows(some.slice(0, few)));\n\
     \x20\x20\x20\x20});\n\
+    \x20\x20\x20\x20if (few < some.length) afterPaint(() => turn === lists && body.append(...rows(some.slice(few))));\n\
     \x20\x20}\n\
     \n\
     \x20\x20function instanceRow({ o, p, before }, name, at) {\n\
@@ -1909,7 +1934,7 @@ pub(crate) const PAGE: &[u8] = b"<!doctype html>\n\
     \x20\x20\x20\x20const at = atPlace(),\n\
     \x20\x20\x20\x20\x20\x20last = Math.max(S.first, at - 30 - S.more),\n\
     \x20\x20\x20\x20\x20\x20to = Math.min(S.place, at + 4),\n\
-    \x20\x20\x20\x20\x20\x20from = $(\"steps\").dataset.far ? last : Math.max(last, to - Math.ceil(stepsHigh / 21)),\n\
+    \x20\x20\x20\x20\x20\x20from = isFar($(\"steps\")) ? last : Math.max(last, to - Math.ceil(stepsHigh / 21)),\n\
     \x20\x20\x20\x20\x20\x20turn = ++turns;\n\
     \x20\x20\x20\x20$(\"steps\").replaceChildren(...stepRows(to, from, at));\n\
     \x20\x20\x20\x20$(\"stepnote\").textContent = S.events.length ? \"what each wrote and what was there, newest first\" : S.place > S.oldest ? \"\xe2\x80\xa6\" : \"no step is retained\";\n\
@@ -2280,7 +2305,7 @@ pub(crate) const PAGE: &[u8] = b"<!doctype html>\n\
     \x20\x20\x20\x20M.fresh = true;\n\
     \x20\x20\x20\x20drawMap();\n\
     \x20\x20};\n\
-    \x20\x20$(\"steps\").onscroll = () => $(\"steps\").toggleAttribute(\"data-far\", $(\"steps\").scrollTop > 0);\n\
+    \x20\x20for (const box of [$(\"steps\"), $(\"inst\").parentElement]) box.onscroll = () => box.toggleAttribute(\"data-far\", box.scrollTop > 0);\n\
     \x20\x20$(\"golive\").onclick = follow;\n\
     \x20\x20$(\"cycles\").onclick = betweenCycles;\n\
     \x20\x20$(\"setbase\").onclick = () => compare(atPlace());\n\

@@ -3,3 +3,4 @@ pub mod SupplySteps
 pub mod ToldStreams
 pub mod LiveTexts
 pub mod SentDumps
+pub mod GuardAsks

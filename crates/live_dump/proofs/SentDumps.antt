@@ -1,15 +1,18 @@
 -- Dumps of a pin that was opened on the current state.
-use Rattle.std.proofs.Common.{◌≡◌, ℕ, Bool, [], ◌∷◌, ◌++◌, None, ap, ◌∙◌, subst, inr, append_assoc, Result, Ok, Err, IfOk, IfErr}
+use Rattle.std.proofs.Common.{◌≡◌, ℕ, Bool, true, [], ◌∷◌, ◌++◌, None, ap, ◌∙◌, subst, inr, append_assoc, Result, Ok, Err, IfOk, IfErr}
 use Rattle.heap_lock.specs.Refusal.{Refusal}
 use Rattle.heap_lock.specs.Refusal.TheVariants.{NoMemory}
 use Rattle.heap_lock.specs.HeapLimits.{HeapSettings}
 use Rattle.heap_lock.specs.Action.TheVariants.{OpenPin, ClosePin}
 use Rattle.heap_lock.specs.Reply.TheVariants.{Pinned, Closed, Refused}
 use Rattle.dump_pump.specs.declared.transfer.Pumped.{Pumped}
+use Rattle.dump_pump.specs.declared.transfer.Pumped.TheVariants.{Done, OutletFailed, Lost, Cancelled}
 use Rattle.dump_pump.specs.Outlets.{Outgoing}
 use Rattle.heap_lock.specs.Dumpers.{DumperState, Makes}
 use Rattle.heap_lock.specs.Laws.{pieces_given}
+use Rattle.live_dump.specs.Streams.{PutsLive}
 use Rattle.live_dump.specs.Dumps.{PutsServedPin, PutsState, Closes, IsDump, IsDumpRefused}
+use Rattle.live_dump.specs.Guards.{IsCancelledOnlyIf}
 use Rattle.live_dump.proofs.LiveTexts.{got_text}
 use Rattle.live_dump.proofs.OwnAsks.{keep_off}
 
@@ -33,10 +36,17 @@ sent config pin place time found d first last d' w w' r opens puts closes = reco
 }
 
 -- a dump that has ended, if there was memory for it
-pub sent_if : (config : HeapSettings) (pin place time : ℕ) (found : Bool) (d first last d' : DumperState) (w w' : Outgoing) (done : Result Pumped Refusal) → Makes config d (OpenPin None) (Pinned pin place) first
-    → IfOk done (PutsServedPin config pin time found first last w w') → Closes config pin last d' → IfOk done (IsDump config time found d d' w w')
-sent_if config pin place time found d first last d' w w' (Ok r) opens puts closes = sent config pin place time found d first last d' w w' r opens puts closes
-sent_if config pin place time found d first last d' w w' (Err e) opens puts closes = tt
+pub sent_if : (config : HeapSettings) (pin place time : ℕ) (d first last d' : DumperState) (w w' : Outgoing) (done : Result Pumped Refusal) → Makes config d (OpenPin None) (Pinned pin place) first
+    → IfOk done (λ r. (found : Bool) × PutsServedPin config pin time found first last w w' r) → Closes config pin last d' → IfOk done (λ r. (found : Bool) × IsDump config time found d d' w w' r)
+sent_if config pin place time d first last d' w w' (Ok r) opens puts closes = (puts.0, sent config pin place time puts.0 d first last d' w w' r opens puts.1 closes)
+sent_if config pin place time d first last d' w w' (Err e) opens puts closes = tt
+
+-- a stream is cancelled only if that was found
+pub cancelled_only : (config : HeapSettings) (pin time : ℕ) (found : Bool) (d d' : DumperState) (w w' : Outgoing) (r : Pumped) (P : Type 0) → PutsLive config pin time d d' found w w' r → (found ≡ true → P) → IsCancelledOnlyIf P r
+cancelled_only config pin time found d d' w w' (Cancelled n) P puts why = why puts.tells.1
+cancelled_only config pin time found d d' w w' (Done n) P puts why = tt
+cancelled_only config pin time found d d' w w' (OutletFailed n) P puts why = tt
+cancelled_only config pin time found d d' w w' (Lost cause n) P puts why = tt
 
 -- a dump that there was no memory for
 pub unsent_if : (config : HeapSettings) (pin place : ℕ) (d first last d' : DumperState) (done : Result Pumped Refusal) → Makes config d (OpenPin None) (Pinned pin place) first

@@ -3,24 +3,29 @@
 #![tactic(auto)]
 
 mod admission;
+mod asking;
 pub mod dump;
 pub mod failures;
+pub mod guard;
 pub mod laws;
 pub mod listener;
 pub mod socket;
 pub mod source;
 pub mod streams;
 pub mod tending;
+pub mod term;
 pub mod watch;
 pub mod words;
 
 pub use dump::dump_current;
 pub use dump_pipe::{AskSeat, Cancel, FeedSeat, Meter, NewMeter, OutSeat, ReadSeat};
+pub use guard::{DumpGuard, Guarded};
 pub use laws::streams_are_text;
 pub use listener::DumpListener;
 pub use socket::DumpSocket;
 pub use source::ToldSource;
 pub use streams::{LivePin, StreamSeats, stream};
 pub use tending::tend_dumps;
+pub use term::{DumpTerm, TermGuard};
 pub use watch::PinWatch;
 pub use words::word;

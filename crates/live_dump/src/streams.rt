@@ -1,5 +1,5 @@
 //! Dumps of a shared heap's pins through a pipe.
-ghost use Rattle.std.specs.Prelude.{◌≡◌, ◌+◌, false};
+ghost use Rattle.std.specs.Prelude.{◌≡◌, ◌+◌};
 ghost use Rattle.dump_pump.specs.Pumps.{bytes_of};
 ghost use Rattle.dump_pipe.specs.Seats.{HasDumpRoom, knows};
 ghost use Rattle.heap_lock.specs.Calls.{IsLegalLedger};
@@ -76,23 +76,4 @@ pub fn stream<'a, 'm, L: Heap + Send + Sync, O: Outlet, R: Threads + Wait + Sync
         feed: seat,
     };
     (pumped, seats, told.into_dumper())
-}
-
-/// Puts out the dump of a pin of a shared heap as `stream` does, where nobody can ask to cancel. Counts what is put out, and
-/// returns the dumper, which has asked for the pieces and nothing else. May wait. The sum has room for a dump.
-pub fn stream_all<'a, L: Heap + Send + Sync, O: Outlet, R: Threads + Wait + Sync>(
-    rt: &R,
-    alloc: Global,
-    from: LivePin<'a, L, R>,
-    outlet: &mut O,
-    counter: &mut Counter<'_>,
-) -> (Pumped, Dumper<'a, L, R>)
-    requires { HasDumpRoom counter.old }
-    ensures put { PutsLive L.config from.entry.pin from.entry.time from.entry.dumper result.1 false
-        (O.seen outlet.old) (O.seen outlet.new) result.0 }
-    ensures legal { IsLegalLedger L.config result.1.seen }
-{
-    let mut source = ToldSource::new(from.dumper, from.pin, from.time);
-    let pumped = stream_parts(rt, alloc, &mut source, outlet, counter);
-    (pumped, source.into_dumper())
 }

@@ -2,10 +2,12 @@
 use crate::admission::is_admitted;
 use crate::dump::dump_current;
 use crate::failures::{Failures, tell, tell_due, tell_rest};
+use crate::guard::Guarded;
 use crate::listener::DumpListener;
 use crate::socket::DumpSocket;
+use crate::term::{DumpTerm, TermGuard};
 use crate::watch::PinWatch;
-use crate::words::{cause_word, word};
+use crate::words::word;
 use dump_pump::WriteOutlet;
 use heap_lock::{Dumper, Heap, Shared};
 use secret_word::Secret;
@@ -90,8 +92,8 @@ fn send_dumps<L: Heap + Send + Sync, R: Clock + Eprint + Threads + Wait + Sync>(
     unreachable!()
 }
 
-// Sends a client the dump of the current state, and returns the dumper. Sends nothing if the client isn't admitted, or the socket has
-// no time limits.
+// Sends a client the dump of the current state, until its term ends, and returns the dumper. Sends nothing if the client isn't
+// admitted, the socket has no time limits, or there is no clock.
 fn send_dump<'a, L: Heap + Send + Sync, R: Clock + Eprint + Threads + Wait + Sync>(
     rt: &'a R,
     alloc: Global,
@@ -103,13 +105,18 @@ fn send_dump<'a, L: Heap + Send + Sync, R: Clock + Eprint + Threads + Wait + Syn
         return dumper;
     }
     let watch = PinWatch::new(port.shared, rt);
-    let Ok(socket) = DumpSocket::new(rt, stream, port.stop, &watch) else {
+    let Ok(term) = DumpTerm::new(rt, port.stop, &watch) else {
         return dumper;
     };
-    let mut outlet = WriteOutlet::new(socket);
-    let (ended, dumper) = dump_current(rt, alloc, dumper, port.time, &mut outlet, &watch);
-    let lost = outlet.into_writer().loss();
-    if let Some(word) = word(&ended).or(lost.map(cause_word)) {
+    let Ok(socket) = DumpSocket::new(stream, &term) else {
+        return dumper;
+    };
+    let to = Guarded {
+        outlet: WriteOutlet::new(socket),
+        guard: TermGuard::new(&term),
+    };
+    let (ended, _, dumper) = dump_current(rt, alloc, dumper, port.time, to, &watch);
+    if let Some(word) = word(&ended, term.loss()) {
         tell(rt, port.failures, word);
     }
     dumper

@@ -85,10 +85,8 @@ class Dump:
 
     def read_other(self, tag, at):
         """Reads a sub-record that is no instance. Returns where it ends."""
-        if tag == 0x05:
+        if tag in (0x05, 0xFF):
             return at + 9
-        if tag == 0x08:
-            return at + 17
         if tag == 0x22:
             count = self.number(at + 13, 4)
             self.tables.append(struct.unpack_from(f">{count}Q", self.text, at + 25))
@@ -151,7 +149,7 @@ class Hunt:
         begun = time.monotonic()
         self.ran = subprocess.Popen(words, stdin=subprocess.PIPE, stdout=subprocess.PIPE, stderr=subprocess.DEVNULL)
         self.faults = []
-        self.ask("status", 8)
+        self.ask("status", 7)
         told("explore --from", begun)
 
     def ask(self, line, wanted=None):

@@ -29,11 +29,11 @@ pub record IsMarking (first : Stage) (s s' : Chair) (stage : Stage) (i : ℕ) : 
   pub count : length gained ≡ i
   pub seat : s' ≡ with_more gained s
 
-no_more : (s : Chair) → s ≡ with_more [] s
+pub no_more : (s : Chair) → s ≡ with_more [] s
 no_more s = ap (λ l. let c : Chair = record s { share = l } in c) (sym (append-nil s.share))
 
 -- an entry more
-one_more : (s s' s'' : Chair) (gained : List (ℕ × Entry)) (turn : ℕ) (action : Action) (answer : Outcome) → s' ≡ with_more gained s → s'' ≡ with_entry turn action answer s' → s'' ≡ with_more (gained ++ (turn, entry s.number action answer) ∷ []) s
+pub one_more : (s s' s'' : Chair) (gained : List (ℕ × Entry)) (turn : ℕ) (action : Action) (answer : Outcome) → s' ≡ with_more gained s → s'' ≡ with_entry turn action answer s' → s'' ≡ with_more (gained ++ (turn, entry s.number action answer) ∷ []) s
 one_more s s' s'' gained turn action answer was is =
     is ∙ ap (with_entry turn action answer) was ∙ ap (λ l. let c : Chair = record s { share = l } in c) (append_assoc s.share gained ((turn, entry s.number action answer) ∷ []))
 

@@ -1,6 +1,8 @@
 //! The marker's and the sweeper's workers.
 #![tactic(auto)]
 
+mod pending_sweeps;
+
 ghost use Rattle.std.specs.Prelude.{◌≡◌};
 ghost use Rattle.heap_lock.specs.declared.role.Role.TheVariants.{Marker, Sweeper};
 ghost use Rattle.heap_work.specs.declared.Stage.TheVariants.{Mark, Snap};
@@ -8,6 +10,7 @@ ghost use Rattle.heap_work.specs.Rule.{mark_end_of, event_of, stage_after, Begin
 ghost use Rattle.heap_work.specs.Gates.{IsMarkRun, MarkAsks, SweepAsks};
 
 use heap_lock::{Answer, Event, Heap, Outcome, Receipt, Refusal, Seat, Shared};
+pub use pending_sweeps::pending_worker;
 use std::sync::Wait;
 
 /// What a worker passes before each act, without the lock. Contracts see what it may say.
@@ -58,7 +61,7 @@ pub enum MarkEnd {
 /// How a sweep worker ended.
 #[derive(Clone, Copy, PartialEq, Eq, Debug)]
 pub enum SweepEnd {
-    /// It has asked for each region.
+    /// It has asked for each region, or none waits any more.
     Swept,
     /// An act was refused, NoMemory or ChronicleFull.
     Refused(Refusal),

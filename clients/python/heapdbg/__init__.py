@@ -26,6 +26,7 @@ from .rows import (
     Register,
     RegisterReference,
     RegisterStep,
+    SlotChange,
     SlotReference,
     SlotRow,
     SlotStep,
@@ -38,5 +39,6 @@ __all__ = ["Session", "Batch", "Later", "Refused", "Ended", "BadCommand", "fetch
 __all__ += ["NotDoneFacts", "RegionFact", "TooFarFacts", "LostFact"]
 __all__ += ["Moment", "Now", "Place", "Pin", "PinAt", "ObjectId", "Swept", "Collected", "Piece"]
 __all__ += ["Cells", "ClassCount", "ClassGrowth", "ClassRow", "Field", "HeldPin", "LostPin", "ListedObject"]
-__all__ += ["NullRegister", "Register", "PastStep", "RegisterReference", "RegisterStep", "SlotReference", "SlotRow", "SlotStep", "When"]
+__all__ += ["NullRegister", "Register", "PastStep", "RegisterReference", "RegisterStep", "SlotChange", "SlotReference", "SlotRow"]
+__all__ += ["SlotStep", "When"]
 __all__ += ["Recorder", "Call", "Cost", "UnknownName"]

@@ -22,6 +22,7 @@ from .rows import (
     Register,
     RegisterReference,
     RegisterStep,
+    SlotChange,
     SlotReference,
     SlotRow,
     SlotStep,
@@ -29,6 +30,7 @@ from .rows import (
     When,
     bytes_of,
     cells_of,
+    changed,
     collected,
     counted,
     defined,
@@ -208,6 +210,10 @@ class Calls:
     def wrote(self, of: int, slot: int) -> When:
         """Returns the `When` of the newest retained step that changed a slot: ("place", P), or ("older", P)."""
         return self.send(f"wrote {ObjectId(of)} {slot}", place_or_older)
+
+    def watch(self, of: int, slot: int) -> list[SlotChange]:
+        """Returns a `SlotChange` for each retained step that changed a slot since its object was made, the oldest first."""
+        return self.send(f"watch {ObjectId(of)} {slot}", rows_by(changed))
 
     def born(self, of: int) -> When:
         """Returns the `When` of the step that made an object: ("place", P), or ("older", P)."""

@@ -155,6 +155,14 @@ class SlotRow(NamedTuple):
     value: Union[ObjectId, int, None]
 
 
+class SlotChange(NamedTuple):
+    """A step that changed a slot: the place that it led to, and what the slot held before and after it."""
+
+    place: int
+    old: Union[ObjectId, int, None]
+    new: Union[ObjectId, int, None]
+
+
 class When(tuple):
     """When something happened: ("place", P), ("older", P) or ("reached",). `place` is P, or None."""
 
@@ -323,6 +331,11 @@ def facts_by_name(_words: list, lines: list) -> dict[str, Union[int, str]]:
 def slot(row: list) -> SlotRow:
     """Reads SLOT NAME KIND VALUE."""
     return SlotRow(int(row[0]), row[1], row[2], id_of(row[3]) if row[2] == "object" else int(row[3]))
+
+
+def changed(row: list) -> SlotChange:
+    """Reads PLACE OLD NEW, of which OLD and NEW are numbers, ids and null."""
+    return SlotChange(int(row[0]), number_or_id(row[1]), number_or_id(row[2]))
 
 
 def past(row: list) -> PastStep:

@@ -16,6 +16,7 @@ pub mod PathOrder
 pub mod ToldObjects
 pub mod Writes
 pub mod Walk
+pub mod ChangedSlots
 pub mod NewestSteps
 pub mod Sizes
 pub mod ImagePaths

@@ -56,7 +56,7 @@ plain left before after at s now t n c h =
 -- ---- a word that was written
 
 -- the word before a write, by whether it was of this slot
-written_here : (before after : HeapState) (at : ObjRef) (s old now : ℕ) → before.regions ≡ with_word at s old after.regions → slot_word after at s ≡ Some now → slot_word before at s ≡ Some old
+pub written_here : (before after : HeapState) (at : ObjRef) (s old now : ℕ) → before.regions ≡ with_word at s old after.regions → slot_word after at s ≡ Some now → slot_word before at s ≡ Some old
 unfolding with_word
 written_here before after at s old now e h =
     let o = object_of_word after at s now h in
@@ -64,7 +64,7 @@ written_here before after at s old now e h =
     let b : object_at before.regions at ≡ Some (f o.0) = ap (λ (rs : List Region). object_at rs at) e ∙ object_there at f after.regions ∙ ap (option_map f) o.1 in
     word_of_object before at s (f o.0) b ∙ get_set o.0.words s old (slice_get_within o.0.words s now o.2)
 
-other_slot : (before after : HeapState) (at : ObjRef) (s k old now : ℕ) → before.regions ≡ with_word at s old after.regions → s ≢ k → slot_word after at k ≡ Some now → slot_word before at k ≡ Some now
+pub other_slot : (before after : HeapState) (at : ObjRef) (s k old now : ℕ) → before.regions ≡ with_word at s old after.regions → s ≢ k → slot_word after at k ≡ Some now → slot_word before at k ≡ Some now
 unfolding with_word
 other_slot before after at s k old now e n h =
     let o = object_of_word after at k now h in
@@ -72,7 +72,7 @@ other_slot before after at s k old now e n h =
     let b : object_at before.regions at ≡ Some (f o.0) = ap (λ (rs : List Region). object_at rs at) e ∙ object_there at f after.regions ∙ ap (option_map f) o.1 in
     word_of_object before at k (f o.0) b ∙ got_set_elsewhere s k o.0.words old n ∙ o.2
 
-other_place : (before after : HeapState) (a at : ObjRef) (s k old now : ℕ) → before.regions ≡ with_word a s old after.regions → at ≢ a → slot_word after at k ≡ Some now → slot_word before at k ≡ Some now
+pub other_place : (before after : HeapState) (a at : ObjRef) (s k old now : ℕ) → before.regions ≡ with_word a s old after.regions → at ≢ a → slot_word after at k ≡ Some now → slot_word before at k ≡ Some now
 unfolding with_word
 other_place before after a at s k old now e n h =
     let o = object_of_word after at k now h in
@@ -80,7 +80,7 @@ other_place before after a at s k old now e n h =
     let b : object_at before.regions at ≡ Some o.0 = ap (λ (rs : List Region). object_at rs at) e ∙ object_elsewhere a at f after.regions (λ q. n (sym q)) ∙ o.1 in
     word_of_object before at k o.0 b ∙ o.2
 
-same_place : (a b : ObjRef) → a.region ≡ b.region → a.cell ≡ b.cell → a ≡ b
+pub same_place : (a b : ObjRef) → a.region ≡ b.region → a.cell ≡ b.cell → a ≡ b
 same_place a b e f = ap₂ (λ (r c : ℕ). let p : ObjRef = record { region = r; cell = c } in p) e f
 
 by_test : (b : Bool) (P Q : Type 0) → (b ≡ true → P) → (b ≡ false → Q) → MatchBool b P Q

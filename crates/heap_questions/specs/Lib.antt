@@ -9,6 +9,7 @@ pub mod ObjectLists
 pub mod Registers
 pub mod Ranking
 pub mod Changes
+pub mod SlotChanges
 pub mod Newest
 pub mod Losses
 pub mod Cells

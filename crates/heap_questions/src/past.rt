@@ -2,9 +2,11 @@
 mod changes;
 mod events;
 mod losses;
+mod slots;
 mod steps;
 
 pub use changes::{birth, last_write};
 pub use events::PastEvent;
 pub use losses::{Loss, loss_of, path_is_reach, unreached_stays};
+pub use slots::{SlotChange, refers_at, slot_changes};
 pub use steps::{PastStep, history};

@@ -17,6 +17,7 @@ pub mod CellLists
 pub mod Statuses
 pub mod Births
 pub mod Writes
+pub mod SlotChanges
 pub mod Losses
 pub mod Histories
 pub mod Help

@@ -41,6 +41,7 @@ mod registers;
 mod rows;
 mod session;
 mod show;
+mod slot_changes;
 mod state_dump;
 mod status;
 mod steps;

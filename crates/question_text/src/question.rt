@@ -47,6 +47,8 @@ pub enum Question {
     Born(u64),
     /// When a slot of an object last changed.
     Wrote { id: u64, slot: u64 },
+    /// The changes of a slot of an object.
+    Watch { id: u64, slot: u64 },
     /// When registers lost an object.
     Dropped(u64),
     /// What the newest retained steps did: how many of them.
@@ -161,6 +163,10 @@ fn past_question(keyword: &[u8], words: Words) -> Option<Question>
     if is_word(keyword, b"wrote") {
         let (id, slot) = id_and_number(words)?;
         return Some(Question::Wrote { id, slot });
+    }
+    if is_word(keyword, b"watch") {
+        let (id, slot) = id_and_number(words)?;
+        return Some(Question::Watch { id, slot });
     }
     None
 }

@@ -14,7 +14,7 @@ use heap_trail::Machine;
 use session_text::LineAnswer;
 
 // Tells whether the object at a place has a slot.
-fn has_slot(machine: &Machine, at: ObjRef, slot: u64) -> bool
+pub(crate) fn has_slot(machine: &Machine, at: ObjRef, slot: u64) -> bool
     requires { IsSome (object_at machine.now.trail.current.regions at) }
     ensures { result ≡ is_some (slot_word machine.now.trail.current at slot) }
 {

@@ -37,7 +37,7 @@ fn changes(left: &Undo, at: ObjRef, slot: u64, now: u64) -> bool
 }
 
 // Tells whether the step that left this record created the object at a place.
-fn makes(left: &Undo, at: ObjRef) -> bool
+pub(crate) fn makes(left: &Undo, at: ObjRef) -> bool
     ensures { result ≡ made_by left.now at }
 {
     match left {

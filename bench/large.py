@@ -90,6 +90,8 @@ def times(heap):
     yield "mark", heap.say(b"mark\n" * MANY, MANY)[0]
     yield "collect: the rest of a cycle", heap.say(b"collect\n", 1)[0]
     yield "collect: a whole cycle", heap.say(b"collect\n", 1)[0]
+    heap.say(b"".join(b"clear 0 %d\n" % register for register in range(8)) + b"snap\n", 9)
+    yield "finish and rewind 1, each", heap.say(b"finish\nrewind 1\n" * 10, 20)[0]
 
 
 def shown(nanoseconds):

@@ -95,7 +95,7 @@ cells_back cells h = map_back _ _ cells back
     back c None e = refl
     back c (Some o) e = ap (λ (b : Bool). Some (record o { live = b })) (sym (h c o e))
 
-regions_back : (regions : List Region) → ((r : ℕ) → pending_in (slice_get regions r) ≡ false) → EachObject regions (λ at o. o.live ≡ true) → each_region unfinished_region (each_region finished_region regions) ≡ regions
+pub regions_back : (regions : List Region) → ((r : ℕ) → pending_in (slice_get regions r) ≡ false) → EachObject regions (λ at o. o.live ≡ true) → each_region unfinished_region (each_region finished_region regions) ≡ regions
 unfolding each_region unfinished_region finished_region each_object in_used
 regions_back regions swept live = map_back _ _ regions back
   where

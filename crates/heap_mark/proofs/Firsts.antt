@@ -1,5 +1,5 @@
 -- A list of which the first items were changed.
-use Rattle.std.proofs.Common.{◌≡◌, ℕ, zero, suc, ◌≤◌, List, [], ◌∷◌, length, map, get_or, Some, refl, sym, ap, ap₂, arith}
+use Rattle.std.proofs.Common.{◌≡◌, ℕ, zero, suc, ◌≤◌, List, [], ◌∷◌, length, map, Some, refl, sym, ap, ap₂, arith}
 use Rattle.std.specs.Prelude.{slice_get}
 use Rattle.heap_region.specs.Regions.{updated}
 
@@ -41,9 +41,3 @@ unfolding firsts
 next_as_was n f [] = refl
 next_as_was zero f (x ∷ xs) = refl
 next_as_was (suc n) f (x ∷ xs) = next_as_was n f xs
-
-pub next_is : {A : Type 0} (n : ℕ) (f : A → A) (xs : List A) (d : A) → get_or (firsts n f xs) n d ≡ get_or xs n d
-unfolding firsts
-next_is n f [] d = refl
-next_is zero f (x ∷ xs) d = refl
-next_is (suc n) f (x ∷ xs) d = next_is n f xs d

@@ -10,6 +10,7 @@ pub mod Children
 pub mod Pops
 pub mod Calls
 pub mod Firsts
-pub mod ObjectWalks
+pub mod RegionWalks
 pub mod UnmarkedCounts
 pub mod Finishes
+pub mod TurnedRegions

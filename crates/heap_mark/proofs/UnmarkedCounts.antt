@@ -1,33 +1,20 @@
--- How many objects aren't marked, and aren't live after the end of the cycle.
-use Rattle.std.proofs.Common.{◌≡◌, ℕ, zero, suc, ◌+◌, ◌<◌, ◌≤◌, Bool, true, false, not, cond, List, [], ◌∷◌, length, drop, map, get_or, Option, Some, None, refl, sym, ap, ap₂, ◌∙◌, arith}
+-- How many objects aren't marked, and aren't live after a turn.
+use Rattle.std.proofs.Common.{◌≡◌, ℕ, zero, suc, ◌+◌, ◌<◌, ◌≤◌, Bool, false, not, cond, List, [], ◌∷◌, length, drop, map, get_or, Option, Some, None, refl, sym, ap, ap₂, ◌∙◌, arith}
 use Rattle.std.specs.Prelude.{is_some, count_by, option_map, flat_map}
 use Rattle.std.specs.List.{filter_map, enumerate_from, sum_by}
 use Rattle.std.proofs.lemmas.List.{at_drop_more, at_drop_all}
 use Rattle.std.proofs.lemmas.List.Sums.{sum_by-append, sum_by-cons}
 use Rattle.heap_class.specs.declared.ObjRef.{ObjRef}
 use Rattle.heap_region.specs.Regions.{Object, UsedRegion, Region, Empty, InUse, used_part, used_at, objects_of_region, objects_in, in_used}
-use Rattle.heap_mark.specs.MarkSteps.{each_object, each_region, finished_region, dead_count}
-use Rattle.heap_mark.specs.Finish.{finished_object, is_unmarked, unmarked_in}
+use Rattle.heap_region.specs.Turns.{turned_object, turned_region, is_unmarked, unmarked_in}
+use Rattle.heap_mark.specs.MarkSteps.{each_region, dead_count}
 
 -- those of all regions
 abbrev pub unmarked_count : List Region → ℕ
 unmarked_count regions = sum_by (λ x. unmarked_in (used_part x)) regions
 
--- ---- cells
-
 abbrev one : Option Object → ℕ
 one x = cond (is_unmarked x) 1 0
-
-pub unmarked_here : (cells : List (Option Object)) (c : ℕ) → c < length cells → is_unmarked (get_or cells c None) ≡ true → count_by is_unmarked (drop c cells) ≡ 1 + count_by is_unmarked (drop (c + 1) cells)
-unmarked_here cells c lt there = at_drop_more (count_by is_unmarked) cells c None lt ∙ (sum_by-cons one (get_or cells c None) (drop (c + 1) cells) ∙ ap (λ (b : Bool). cond b 1 0 + count_by is_unmarked (drop (c + 1) cells)) there)
-
-pub unmarked_later : (cells : List (Option Object)) (c : ℕ) → c < length cells → is_unmarked (get_or cells c None) ≡ false → count_by is_unmarked (drop c cells) ≡ count_by is_unmarked (drop (c + 1) cells)
-unmarked_later cells c lt there =
-    let zero : 0 + count_by is_unmarked (drop (c + 1) cells) ≡ count_by is_unmarked (drop (c + 1) cells) = omega arith in
-    at_drop_more (count_by is_unmarked) cells c None lt ∙ (sum_by-cons one (get_or cells c None) (drop (c + 1) cells) ∙ (ap (λ (b : Bool). cond b 1 0 + count_by is_unmarked (drop (c + 1) cells)) there ∙ zero))
-
-pub none_unmarked : (cells : List (Option Object)) (c : ℕ) → length cells ≤ c → count_by is_unmarked (drop c cells) ≡ 0
-none_unmarked cells c le = at_drop_all (count_by is_unmarked) cells c le
 
 -- ---- regions
 
@@ -48,7 +35,7 @@ none_in_unused (Some u) e = cc
 pub no_region_left : (regions : List Region) (r : ℕ) → length regions ≤ r → unmarked_count (drop r regions) ≡ 0
 no_region_left regions r le = at_drop_all unmarked_count regions r le
 
--- ---- those that aren't live after the end of the cycle
+-- ---- those that aren't live after a turn
 
 abbrev is_dead : ObjRef × Object → Bool
 is_dead p = not p.1.live
@@ -56,26 +43,26 @@ is_dead p = not p.1.live
 abbrev placed : ℕ → ℕ × Option Object → Option (ObjRef × Object)
 placed r c = option_map (λ o. (record { region = r; cell = c.0 }, o)) c.1
 
-cells_dead : (r n : ℕ) (cells : List (Option Object)) → count_by is_dead (filter_map (placed r) (enumerate_from n (map (option_map finished_object) cells))) ≡ count_by is_unmarked cells
+cells_dead : (r n : ℕ) (cells : List (Option Object)) → count_by is_dead (filter_map (placed r) (enumerate_from n (map (option_map turned_object) cells))) ≡ count_by is_unmarked cells
 cells_dead r n [] = refl
 cells_dead r n (None ∷ os) =
     let zero : count_by is_unmarked os ≡ 0 + count_by is_unmarked os = omega arith in
     cells_dead r (n + 1) os ∙ (zero ∙ sym (sum_by-cons one None os))
 cells_dead r n (Some o ∷ os) =
-    sum_by-cons (λ (p : ObjRef × Object). cond (is_dead p) 1 0) (record { region = r; cell = n }, finished_object o) (filter_map (placed r) (enumerate_from (n + 1) (map (option_map finished_object) os)))
+    sum_by-cons (λ (p : ObjRef × Object). cond (is_dead p) 1 0) (record { region = r; cell = n }, turned_object o) (filter_map (placed r) (enumerate_from (n + 1) (map (option_map turned_object) os)))
     ∙ (ap (λ (k : ℕ). cond (not o.mark) 1 0 + k) (cells_dead r (n + 1) os) ∙ sym (sum_by-cons one (Some o) os))
 
-region_dead : (r : ℕ) (x : Region) → count_by is_dead (objects_of_region (r, in_used finished_region x)) ≡ unmarked_in (used_part x)
-unfolding objects_of_region in_used finished_region each_object
+region_dead : (r : ℕ) (x : Region) → count_by is_dead (objects_of_region (r, in_used turned_region x)) ≡ unmarked_in (used_part x)
+unfolding objects_of_region in_used turned_region
 region_dead r Empty = refl
 region_dead r (InUse u) = cells_dead r 0 u.cells
 
-regions_dead : (r : ℕ) (regions : List Region) → count_by is_dead (flat_map objects_of_region (enumerate_from r (map (in_used finished_region) regions))) ≡ unmarked_count regions
+regions_dead : (r : ℕ) (regions : List Region) → count_by is_dead (flat_map objects_of_region (enumerate_from r (map (in_used turned_region) regions))) ≡ unmarked_count regions
 regions_dead r [] = refl
 regions_dead r (x ∷ xs) =
-    sum_by-append (λ (p : ObjRef × Object). cond (is_dead p) 1 0) (objects_of_region (r, in_used finished_region x)) (flat_map objects_of_region (enumerate_from (r + 1) (map (in_used finished_region) xs)))
+    sum_by-append (λ (p : ObjRef × Object). cond (is_dead p) 1 0) (objects_of_region (r, in_used turned_region x)) (flat_map objects_of_region (enumerate_from (r + 1) (map (in_used turned_region) xs)))
     ∙ (ap₂ (λ (j k : ℕ). j + k) (region_dead r x) (regions_dead (r + 1) xs) ∙ sym (sum_by-cons (λ y. unmarked_in (used_part y)) x xs))
 
-pub dead_are : (regions : List Region) → dead_count (each_region finished_region regions) ≡ unmarked_count regions
+pub dead_are : (regions : List Region) → dead_count (each_region turned_region regions) ≡ unmarked_count regions
 unfolding dead_count objects_in each_region
 dead_are regions = regions_dead 0 regions

@@ -11,7 +11,7 @@ ghost use Rattle.heap_mark.specs.MarkSteps.{MarkState, shaded, unshaded, is_mark
 ghost use Rattle.heap_mark.specs.Marker.{references_among, MarkerState, work, after_work, pool_with, idle_marker, IsNullOrNames, IsGraySound, HasSlots, IsIdle};
 
 use crate::Phase;
-use crate::finish::{finish_all, first_pending, unfinish_all};
+use crate::finish::{first_pending, turn_all, turn_all_back};
 use heap_class::{Classes, Items, Kind, ObjKind, ObjRef, Refusal};
 use heap_region::Regions;
 use std::alloc::Global;
@@ -258,6 +258,8 @@ impl Marker {
     /// if an object is gray or an entry of the log is left, or with SweepPending and the lowest region that waits to be swept,
     /// if one does. Takes no memory.
     pub fn finish(&mut self, regions: &mut Regions) -> Result<Finished, Refusal>
+        requires { finish_refusal (work regions.old self.old) ≡ None
+            → EachObject regions.old.regions (λ at o. o.live ≡ true) }
         ensures answered { IsAnswered (finish_refusal (work regions.old self.old)) false result }
         ensures marker { OnOk result
             (self.new ≡ after_work (finished (work regions.old self.old)) self.old) }
@@ -278,7 +280,7 @@ impl Marker {
         if let Some(region) = first_pending(regions) {
             return Err(Refusal::SweepPending { region });
         }
-        let condemned = finish_all(regions);
+        let condemned = turn_all(regions);
         let ids = mem::replace(&mut self.log, Vec::new(self.alloc));
         (self.drained, self.phase) = (0, Phase::Idle);
         Ok(Finished {
@@ -290,6 +292,9 @@ impl Marker {
     /// Undoes `finish`, given the log that it returned: marks the objects that are live, makes all of them live, lets no region
     /// wait to be swept, and has the log drained. Takes no memory.
     pub fn unfinish(&mut self, regions: &mut Regions, log: Log)
+        requires { (before : MarkState) × (finish_refusal before ≡ None)
+            × EachObject before.regions (λ at o. o.live ≡ true)
+            × (regions.old.regions ≡ (finished before).regions) }
         ensures marker { self.new
             ≡ after_work (unfinished log (work regions.old self.old)) self.old }
         ensures regions { regions.new
@@ -299,7 +304,7 @@ impl Marker {
             → log ≡ before.log → work regions.old self.old ≡ finished before
             → work regions.new self.new ≡ before }
     {
-        unfinish_all(regions);
+        turn_all_back(regions);
         self.drained = log.len();
         self.log = log.into_vec();
         self.phase = Phase::Marking;

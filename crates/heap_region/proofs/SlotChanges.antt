@@ -3,12 +3,12 @@ use Rattle.std.proofs.Common.{◌≡◌, ◌≢◌, ℕ, zero, suc, [], ◌∷�
 use Rattle.std.specs.Prelude.{slice_get}
 use Rattle.std.proofs.lemmas.List.{length-map}
 use Rattle.heap_class.specs.declared.ObjRef.{ObjRef}
-use Rattle.heap_region.specs.Regions.{Object, UsedRegion, FitsWords, used_at, object_at, slot_object, with_object}
+use Rattle.heap_region.specs.Regions.{Object, UsedRegion, FitsWords, used_at, object_at, slot_object, with_object, with_region}
 use Rattle.heap_region.specs.Changes.{with_pending}
 use Rattle.heap_region.specs.Pool.{RegionPool, taken, freed, cell_freed}
 use Rattle.heap_region.specs.Layout.{IsWholeRegion, changed_at, cell_filled, pending_set}
 use Rattle.heap_region.specs.Table.{shown_region, free_class_of, IsRegionTable, IsGood}
-use Rattle.heap_region.proofs.ShownRegions.{used_shown, object_shown, taken_shown, freed_shown, changed_shown, pending_shown}
+use Rattle.heap_region.proofs.ShownRegions.{used_shown, object_shown, taken_shown, freed_shown, changed_shown, pending_shown, with_shown}
 use Rattle.heap_region.proofs.Tables.{table_changed, table_kept, in_use_within, used_from, used_of_object, take_ready, taken_good, vacated_good, changed_good, mapped_some, room_kept, pending_kept}
 
 -- the regions that these slots show, with their pool
@@ -68,6 +68,24 @@ module _ (slots : List (Option UsedRegion)) (free_classes pool : List ℕ) (capa
         rw now (table_kept slots free_classes pool capacity r _ table used kept.0 kept.1 kept.2),
         rw (← view, now) (ap (λ rs. let p : RegionPool = record { regions = rs; pool = pool } in p) (sym (pending_shown slots r pending))),
       )
+
+  -- a region in use is changed, but neither its free list nor which of its cells have an object
+  pub region_changed : (r : ℕ) (f : UsedRegion → UsedRegion) → ((x : Option UsedRegion) → IsSome x → IsGood x → IsSome (option_map f x) × IsGood (option_map f x) × (free_class_of (option_map f x) ≡ free_class_of x)) → IsSome (used_at s.regions r) → (found new : Option UsedRegion) → found ≡ get_or slots r found → new ≡ option_map f found → IsRegionTable (set slots r new) free_classes pool capacity × (seen (set slots r new) pool ≡ record s { regions = with_region r f s.regions })
+  region_changed r f keeps some found new read is =
+      let old : Option UsedRegion = get_or slots r None in
+      let slot : (used_at (map shown_region slots) r ≡ old) × (r < length slots) = slot_used slots r (rw (← view) at some) in
+      let used : IsSome old = rw (← view, slot.0) at some in
+      let now : new ≡ option_map f old = changed_slot slots r f found new slot.1 read is in
+      let kept = keeps old used (table.good r) in (
+        rw now (table_kept slots free_classes pool capacity r _ table used kept.0 kept.1 kept.2),
+        rw (← view, now) (ap (λ rs. let p : RegionPool = record { regions = rs; pool = pool } in p) (sym (with_shown slots r f))),
+      )
+
+  -- what a call found of a region in use
+  pub region_found : {A : Type 0} (g : Option UsedRegion → A) (r : ℕ) → IsSome (used_at s.regions r) → (found : Option UsedRegion) → found ≡ get_or slots r found → g found ≡ g (used_at s.regions r)
+  region_found g r some found read =
+      let slot = slot_used slots r (rw (← view) at some) in
+      rw (← view) (ap g (read ∙ place_read slots r found slot.1 ∙ sym slot.0))
 
   -- what the table and the free classes keep once the changed region was read again
   reread : (r : ℕ) (f : UsedRegion → UsedRegion) → IsSome (get_or slots r None) → (found new now : Option UsedRegion) → found ≡ get_or slots r found → new ≡ option_map f found → now ≡ get_or (set slots r new) r now → IfSome now (λ u. IsWholeRegion u) → (IfSome (option_map f (get_or slots r None)) (λ u. IsWholeRegion u) → IsGood (option_map f (get_or slots r None))) → IsRegionTable (set slots r new) (set free_classes r (free_class_of now)) pool capacity

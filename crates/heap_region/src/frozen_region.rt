@@ -5,7 +5,6 @@ ghost use Rattle.heap_region.specs.RegionCopies.{frozen, frozen_object, frozen_w
 ghost use Rattle.heap_region.specs.Limits.{region_words};
 
 use crate::storage::{Block, ObjectCopy, Storage, header_at, part};
-use arrayvec::ArrayVec;
 use heap_class::ObjKind;
 use std::alloc::{AllocError, Global};
 use std::marker::Model;
@@ -28,10 +27,10 @@ impl Model for FrozenRegion {
     ghost view = { λ f.
         record {
           cell_size = f.cell_size;
-          cells = cells_from f.cell_size f.block.value.words 0 f.block.value.headers.items;
+          cells = cells_from f.cell_size f.block.value.words 0 f.block.value.headers;
         } };
 
-    ghost invariant = { λ f. IsLaid f.cell_size f.block.value.words f.block.value.headers.items };
+    ghost invariant = { λ f. IsLaid f.cell_size f.block.value.words f.block.value.headers };
 }
 
 impl Block {
@@ -40,15 +39,11 @@ impl Block {
     fn copy_block(&self, alloc: Global) -> Result<Box<Block>, AllocError>
         ensures { IfOk result
             (λ b. (b.value.words ≡ self.now.words)
-            × (b.value.headers.items ≡ self.now.headers.items)) }
+            × (b.value.headers ≡ self.now.headers)) }
     {
-        let mut headers = ArrayVec::new();
-        if headers.try_extend_from_slice(&self.headers).is_err() {
-            unreachable!();
-        }
         let copy = Block {
             words: self.words,
-            headers,
+            headers: self.headers.copied(),
         };
         Ok(Box::new(alloc, copy)?)
     }

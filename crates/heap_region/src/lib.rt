@@ -9,21 +9,25 @@ ghost use Rattle.heap_class.specs.declared.ObjRef.{ObjRef};
 ghost use Rattle.heap_class.specs.declared.Refusal.TheVariants.{NoMemory};
 ghost use Rattle.heap_region.specs.Limits.{region_limit, region_words, cell_limit};
 ghost use Rattle.heap_region.specs.RegionCopies.{region_frozen};
-ghost use Rattle.heap_region.specs.Regions.{FitsWords, Object, UsedRegion, object_at, object_of, used_at, id_of, ref_of, with_object, with_word};
+ghost use Rattle.heap_region.specs.Regions.{FitsWords, Object, UsedRegion, object_at, object_of, used_at, id_of, ref_of, with_object, with_region, with_word};
 ghost use Rattle.heap_region.specs.Pool.{RegionPool, opening_pool, alloc_refusal, is_fresh, free_place, pending_place, new_place, taken, freed, released, restored, allocated, unallocated, blank_object};
 ghost use Rattle.heap_region.specs.Legal.{IsCellTable, IsRegionPool};
 ghost use Rattle.heap_region.specs.Layout.{IsCellSize, bit_set};
 ghost use Rattle.heap_region.specs.Changes.{WritesLive, WritesMark, WritesPending};
 ghost use Rattle.heap_region.specs.Live.{cells_of};
+ghost use Rattle.heap_region.specs.Turns.{turned_region, turned_back_region, unmarked_in};
 
 mod cell;
+mod counts;
 mod frozen_region;
+mod headers;
 mod lists;
 mod live_walk;
 mod region_classes;
 mod sizes;
 mod slots;
 mod storage;
+mod turn;
 
 use cell::Bit;
 pub use frozen_region::FrozenRegion;
@@ -33,7 +37,7 @@ use region_classes::RegionClasses;
 pub use sizes::{OBJECT_BASE, REGION_WORDS, cell_size_for};
 use slots::{
     WAITING, first_free_in, free_class, free_in, pool_head, set_bit_in, set_pending_in,
-    set_word_in, size_class, slot_at, take_in, unfree_in, wait_class,
+    set_word_in, size_class, slot_at, take_in, turn_back_in, turn_in, unfree_in, wait_class,
 };
 use std::alloc::{AllocError, Global};
 use std::marker::Model;
@@ -362,6 +366,37 @@ impl Regions {
     {
         let region = region as usize;
         set_pending_in(&mut self.slots[region], pending);
+        self.waits.set(region, wait_class(&self.slots[region]));
+    }
+
+    /// Turns the bits of all objects of a region in use: each is live if it was marked, and marked if it wasn't live. The region
+    /// then waits to be swept if it didn't. Returns the number of objects that weren't marked. Takes no memory.
+    #[tactic(auto, using(crate::proofs::SlotChanges::used_slots))]
+    pub fn turn(&mut self, region: u64) -> u64
+        requires { IsSome (used_at self.old.regions region) }
+        ensures turned { self.new
+            ≡ record self.old { regions = with_region region turned_region self.old.regions } }
+        ensures unmarked { result ≡ unmarked_in (used_at self.old.regions region) }
+        ensures limit { result ≤ cell_limit }
+    {
+        let region = region as usize;
+        let unmarked = turn_in(&mut self.slots[region]);
+        self.waits.set(region, wait_class(&self.slots[region]));
+        unmarked
+    }
+
+    /// Undoes `turn`. Takes no memory.
+    #[tactic(auto, using(crate::proofs::SlotChanges::used_slots))]
+    pub fn turn_back(&mut self, region: u64)
+        requires { IsSome (used_at self.old.regions region) }
+        ensures { self.new
+            ≡ record self.old {
+              regions = with_region region turned_back_region
+                  self.old.regions;
+            } }
+    {
+        let region = region as usize;
+        turn_back_in(&mut self.slots[region]);
         self.waits.set(region, wait_class(&self.slots[region]));
     }
 

@@ -1,14 +1,15 @@
 //! A region in use: 1,024 words, cut into cells of one size, with a free list that lies in the free cells.
-ghost use Rattle.std.specs.Prelude.{◌≡◌, ℕ, ◌+◌, ◌-◌, ◌*◌, ◌/◌, ◌<◌, ◌≤◌, [], length, IfOk, IsSome, IfSome, slice_index, slice_index_or, replicate, take, drop, Some, None, is_some, option_map, slice_get, slice_set};
+ghost use Rattle.std.specs.Prelude.{◌≡◌, ℕ, ◌+◌, ◌-◌, ◌*◌, ◌/◌, ◌<◌, ◌≤◌, [], length, IfOk, IsSome, IfSome, slice_index, slice_index_or, replicate, take, drop, count_by, Some, None, is_some, option_map, slice_get, slice_set};
 ghost use Rattle.heap_region.specs.Regions.{FitsWords, cell_object};
 ghost use Rattle.heap_region.specs.Pool.{blank_object, cell_freed, fresh_region};
 ghost use Rattle.heap_region.specs.Layout.{next_link, IsCellSize, IsWholeRegion, words_at, changed_at, word_set, bit_set, with_bit, cell_filled, Heads, overwritten, header_live, header_of};
 ghost use Rattle.heap_region.specs.Live.{IsNextLive};
+ghost use Rattle.heap_region.specs.Turns.{is_unmarked, turned_region, turned_back_region};
 ghost use Rattle.heap_region.specs.Limits.{region_words, cell_limit};
 
-use crate::cell::{Bit, Cell, Header};
+use crate::cell::{Bit, Header};
+use crate::headers::Headers;
 use crate::lists::FreeCells;
-use arrayvec::ArrayVec;
 use heap_class::ObjKind;
 use smallvec::SmallVec;
 use std::alloc::{AllocError, Global};
@@ -19,7 +20,7 @@ use std::marker::Model;
 pub(crate) struct Block {
     pub(crate) words: [u64; 1024],
     // The headers of the cells.
-    pub(crate) headers: ArrayVec<Cell, 256>,
+    pub(crate) headers: Headers,
 }
 
 /// A region in use.
@@ -44,12 +45,12 @@ impl Model for Storage {
     ghost view = { λ s. record {
       cell_size = s.cell_size;
       pending = s.pending;
-      cells = cells_from s.cell_size s.block.value.words 0 s.block.value.headers.items;
-      free = walk (length s.block.value.headers.items) s.cell_size s.block.value.words s.head;
+      cells = cells_from s.cell_size s.block.value.words 0 s.block.value.headers;
+      free = walk (length s.block.value.headers) s.cell_size s.block.value.words s.head;
     } };
 
-    ghost invariant = { λ s. IsSound s.cell_size s.block.value.words s.block.value.headers.items
-        s.head (walk (length s.block.value.headers.items) s.cell_size s.block.value.words s.head) };
+    ghost invariant = { λ s. IsSound s.cell_size s.block.value.words s.block.value.headers
+        s.head (walk (length s.block.value.headers) s.cell_size s.block.value.words s.head) };
 }
 
 /// A copy of an object: its kind, its slots and its two bits.
@@ -107,41 +108,44 @@ impl ObjectCopy {
 
 // Returns the header of the object in a cell, which must have one.
 #[inline(always)]
-pub(crate) fn header_at(headers: &[Cell], cell: usize) -> Header
+pub(crate) fn header_at(headers: &Headers, cell: usize) -> Header
     requires { IsSome (slice_index_or headers.now cell None) }
     ensures { slice_index_or headers.now cell None ≡ Some result }
 {
-    match headers[cell].header() {
+    match headers.at(cell) {
         Some(header) => header,
         None => unreachable!(),
     }
 }
 
 // Tells whether a cell has an object.
-fn is_taken(headers: &[Cell], cell: usize) -> bool
+fn is_taken(headers: &Headers, cell: usize) -> bool
     ensures { result ≡ is_some (slice_index_or headers.now cell None) }
 {
-    cell < headers.len() && headers[cell].header().is_some()
+    cell < headers.len() && headers.at(cell).is_some()
 }
 
 // Tells whether a cell has a live object.
 #[inline(always)]
-fn is_live_at(headers: &[Cell], cell: usize) -> bool
+fn is_live_at(headers: &Headers, cell: usize) -> bool
     requires { cell < length headers.now }
     ensures { result ≡ header_live (slice_index_or headers.now cell None) }
 {
-    headers[cell].is_live()
+    match headers.at(cell) {
+        Some(header) => header.live,
+        None => false,
+    }
 }
 
 // Tells whether the object of a cell is live. None if the cell has no object.
 #[inline(always)]
-fn liveness_at(headers: &[Cell], cell: usize) -> Option<bool>
+fn liveness_at(headers: &Headers, cell: usize) -> Option<bool>
     ensures { result ≡ option_map (λ h. h.live) (slice_index_or headers.now cell None) }
 {
     if cell >= headers.len() {
         return None;
     }
-    match headers[cell].header() {
+    match headers.at(cell) {
         Some(header) => Some(header.live),
         None => None,
     }
@@ -191,55 +195,16 @@ fn link_cells(words: &mut [u64], cell_size: usize, count: usize)
     }
 }
 
-// Writes the header of the object in a cell.
-pub(crate) fn set_header(headers: &mut ArrayVec<Cell, 256>, cell: usize, header: Header)
-    requires within { cell < length headers.old.items }
-    requires fits { header.len ≤ region_words }
-    ensures { headers.new.items ≡ slice_set headers.old.items cell (Some header) }
-{
-    headers[cell] = Cell::with_header(header);
-}
-
-// Writes a bit of the object in a cell, which must have one.
-#[inline(always)]
-fn set_bit_at(headers: &mut ArrayVec<Cell, 256>, cell: usize, bit: Bit, on: bool)
-    requires { IsSome (slice_index_or headers.old.items cell None) }
-    ensures { headers.new.items
-        ≡ slice_set headers.old.items cell
-        (option_map (with_bit bit on) (slice_index_or headers.old.items cell None)) }
-{
-    headers[cell].set_bit(bit, on);
-}
-
-// Makes a cell free.
-fn set_free(headers: &mut ArrayVec<Cell, 256>, cell: usize)
-    requires { cell < length headers.old.items }
-    ensures { headers.new.items ≡ slice_set headers.old.items cell None }
-{
-    headers[cell] = Cell::default();
-}
-
-// Adds `count` cells to none, all of them free.
-fn add_vacant(headers: &mut ArrayVec<Cell, 256>, count: usize)
-    requires none { headers.old.items ≡ [] }
-    requires few { count ≤ cell_limit }
-    ensures { headers.new.items ≡ replicate count None }
-{
-    for _ in 0..count {
-        headers.push(Cell::default());
-    }
-}
-
 impl Block {
     // Returns words that are all 0, and no cells. It is never inlined, so that no other function has a block on its stack.
     #[inline(never)]
     fn blank(alloc: Global) -> Result<Box<Block>, AllocError>
         ensures { IfOk result
-            (λ b. (b.value.words ≡ replicate region_words 0) × (b.value.headers.items ≡ [])) }
+            (λ b. (b.value.words ≡ replicate region_words 0) × (b.value.headers ≡ [])) }
     {
         let blank = Block {
             words: [0; 1024],
-            headers: ArrayVec::new(),
+            headers: Headers::new(),
         };
         Ok(Box::new(alloc, blank)?)
     }
@@ -247,11 +212,11 @@ impl Block {
     // Writes an object into a cell: its words from `start` on, and its header.
     pub(crate) fn put(&mut self, start: usize, cell: usize, object: &ObjectCopy)
         requires lies { start + length object.now.words ≤ length self.old.words }
-        requires within { cell < length self.old.headers.items }
+        requires within { cell < length self.old.headers }
         requires fits { length object.now.words ≤ region_words }
         ensures words { self.new.words ≡ overwritten self.old.words start object.now.words }
-        ensures headers { self.new.headers.items
-            ≡ slice_set self.old.headers.items cell (Some (header_of object.now)) }
+        ensures headers { self.new.headers
+            ≡ slice_set self.old.headers cell (Some (header_of object.now)) }
     {
         overwrite(&mut self.words, start, &object.words);
         let header = Header {
@@ -260,7 +225,7 @@ impl Block {
             live: object.live,
             mark: object.mark,
         };
-        set_header(&mut self.headers, cell, header);
+        self.headers.set(cell, header);
     }
 }
 
@@ -272,7 +237,7 @@ impl Storage {
     {
         let count = 1024 / cell_size;
         let mut block = Block::blank(alloc)?;
-        add_vacant(&mut block.headers, count);
+        block.headers.add_vacant(count);
         link_cells(&mut block.words, cell_size, count);
         Ok(Storage {
             block,
@@ -311,6 +276,31 @@ impl Storage {
         ensures { self.new ≡ record self.old { pending = pending } }
     {
         self.pending = pending;
+    }
+
+    // Turns the bits of all objects: each is live if it was marked, and marked if it wasn't live. The region then waits to be
+    // swept if it didn't.
+    pub(crate) fn turn(&mut self)
+        ensures { self.new ≡ turned_region self.old }
+    {
+        self.block.headers.turn();
+        self.pending = !self.pending;
+    }
+
+    // Undoes `turn`.
+    pub(crate) fn turn_back(&mut self)
+        ensures { self.new ≡ turned_back_region self.old }
+    {
+        self.block.headers.turn_back();
+        self.pending = !self.pending;
+    }
+
+    // Returns the number of objects that aren't marked.
+    pub(crate) fn unmarked(&self) -> u64
+        ensures value { result ≡ count_by is_unmarked self.now.cells }
+        ensures limit { result ≤ cell_limit }
+    {
+        self.block.headers.unmarked()
     }
 
     // Returns the cell that heads the free list.
@@ -390,7 +380,7 @@ impl Storage {
         ensures value { IsNextLive self.now from result }
         ensures limit { IfSome result (λ cell. cell < cell_limit) }
     {
-        let headers: &[Cell] = &self.block.headers;
+        let headers = &self.block.headers;
         for cell in from..headers.len() {
             if is_live_at(headers, cell) {
                 return Some(cell);
@@ -440,7 +430,7 @@ impl Storage {
         ensures value { self.new ≡ changed_at self.old cell (bit_set bit on) }
         ensures whole { IsWholeRegion self.new }
     {
-        set_bit_at(&mut self.block.headers, cell, bit, on);
+        self.block.headers.set_bit(cell, bit, on);
     }
 
     // Returns a copy of the object in the cell. Fails if the allocation fails.
@@ -470,7 +460,7 @@ impl Storage {
         let start = cell * self.cell_size as usize;
         let block = &mut *self.block;
         block.words[start] = self.head as u64;
-        set_free(&mut block.headers, cell);
+        block.headers.free(cell);
         self.head = (cell + 1) as u16;
     }
 
@@ -491,7 +481,7 @@ impl Storage {
             live: true,
             mark,
         };
-        set_header(&mut block.headers, cell, header);
+        block.headers.fill(cell, header);
     }
 
     // Puts an object back into the cell, which heads the free list.

@@ -71,7 +71,7 @@ unfolding refusal_of state_after undo_record undone
 finish_sound = record {
   legal = finish_legal;
   back = finish_back;
-  fits = λ w legal accepted. tt;
+  fits = λ w legal accepted. (w, legal, accepted, refl);
   found = λ w l accepted. finish_stays w;
   shape = λ w l accepted x live. finish_shape w x;
   run = λ w i. let c : Idle ≡ Marking = sym (finish_phase w) ∙ i in cc;

@@ -4,9 +4,9 @@ use Rattle.std.specs.Prelude.{slice_get}
 use Rattle.heap_class.specs.declared.ObjRef.{ObjRef}
 use Rattle.heap_region.specs.Live.{is_live}
 use Rattle.heap_region.specs.Regions.{Object, UsedRegion, cell_object, object_at}
-use Rattle.heap_mark.specs.MarkSteps.{logged, snap_refusal}
+use Rattle.heap_mark.specs.MarkSteps.{finish_refusal, logged, snap_refusal}
 use Rattle.heap_sweep.specs.Sweep.{dead_at, is_emptied, sweep_refusal}
-use Rattle.heap_world.specs.Events.{after_snap, after_sweep}
+use Rattle.heap_world.specs.Events.{after_finish, after_snap, after_sweep}
 use Rattle.heap_world.specs.Legal.{IsLegal}
 use Rattle.heap_world.specs.State.{HeapState, is_register, marking_of, pool_of}
 use Rattle.heap_step.specs.declared.Undo.{Undo}
@@ -22,6 +22,10 @@ IsHeld w at m r = ((o : Object) × (object_at w.regions at ≡ Some o)) × (is_r
 -- a snap of a legal heap that accepts it gave the state
 abbrev pub IsSnapped : HeapState → Type 0
 IsSnapped w = (before : HeapState) × IsLegal before × (snap_refusal (marking_of before) ≡ None) × (w ≡ after_snap before)
+
+-- a finish of a legal heap that accepts it gave the state
+abbrev pub IsFinished : HeapState → Type 0
+IsFinished w = (before : HeapState) × IsLegal before × (finish_refusal (marking_of before) ≡ None) × (w ≡ after_finish before)
 
 -- a sweep of a legal heap that accepts it gave the state: it left objects in the region, and took these out
 abbrev pub IsSwept : ℕ → List (ℕ × Object) → HeapState → Type 0
@@ -45,7 +49,7 @@ Fits Undo.Class w = 0 < length w.classes
 Fits Undo.Snap w = IsSnapped w
 Fits (Undo.Mark parent pushed) w = pushed ≤ length w.gray
 Fits (Undo.Drain pushed) w = (pushed ≤ length w.gray) × (0 < w.drained)
-Fits (Undo.Finish log) w = Unit {0}
+Fits (Undo.Finish log) w = IsFinished w
 Fits (Undo.Sweep region dead) w = IsSwept region dead w
 Fits (Undo.Reclaim region storage) w = (slice_get w.pool 0 ≡ Some region) × IsInhabited storage × IsLifeless storage
 

@@ -14,7 +14,7 @@ use Rattle.heap_step.specs.declared.Undo.{Undo}
 use Rattle.heap_step.specs.Records.{undone, undo_record}
 use Rattle.heap_step.specs.Laws.{IsStep}
 use Rattle.heap_step.proofs.EventLaws.{sound, undo_takes_back}
-use Rattle.heap_step.proofs.Fits.{HasSlot, IsHeld, IsSnapped, IsSwept, IsInhabited, IsLifeless, Fits}
+use Rattle.heap_step.proofs.Fits.{HasSlot, IsHeld, IsSnapped, IsFinished, IsSwept, IsInhabited, IsLifeless, Fits}
 
 -- ---- what holds of the state that a step gave, where the record is `was`
 
@@ -149,6 +149,9 @@ unfolding undone
 drain_is e before after left s pushed is = back_is e before after left (Undo.Drain pushed) s is
 
 -- ---- the record of a finish
+
+pub finish_before : (e : Event) (before after : HeapState) (left : Undo) → IsStep e before after left → (log : List ℕ) → left ≡ Undo.Finish log → IsFinished after
+finish_before e before after left s log is = fits e before after left (Undo.Finish log) s is
 
 pub finish_legal : (e : Event) (before after : HeapState) (left : Undo) → IsStep e before after left → (log : List ℕ) → left ≡ Undo.Finish log → IsLegal (with_marking (unfinished log (marking_of after)) after)
 unfolding undone

@@ -6,15 +6,17 @@ use Rattle.std.specs.Option.{option_map_or}
 use Rattle.std.proofs.lemmas.Option.{slice_get-map}
 use Rattle.std.proofs.lemmas.List.{length-map}
 use Rattle.heap_mark.proofs.Each.{used_each}
+use Rattle.heap_mark.proofs.Finishes.{none_pending, pending_in}
+use Rattle.heap_region.specs.Legal.{EachObject}
 use Rattle.heap_class.proofs.Refusals.{none_holds}
 use Rattle.heap_class.specs.declared.ObjRef.{ObjRef}
 use Rattle.heap_class.specs.Classes.{Class}
 use Rattle.heap_region.specs.Limits.{region_limit}
-use Rattle.heap_region.specs.Regions.{Object, UsedRegion, Region, Empty, InUse, used_at, object_of, object_at, ref_of, in_used, references_of, slot_kinds, cell_size_for}
+use Rattle.heap_region.specs.Regions.{Object, UsedRegion, Region, Empty, InUse, used_part, used_at, object_of, object_at, ref_of, in_used, references_of, slot_kinds, cell_size_for}
 use Rattle.heap_region.proofs.ChangedLookups.{ref_same, size_at, number_of, place_found}
 use Rattle.heap_region.proofs.References.{member_none}
 use Rattle.heap_mark.specs.declared.Phase.TheVariants.{Idle, Marking}
-use Rattle.heap_mark.specs.MarkSteps.{each_object, each_region, finish_refusal, finished_region, finished, MarkState, unfinished_region, unfinished}
+use Rattle.heap_mark.specs.MarkSteps.{each_object, each_region, pending_regions, finish_refusal, finished_region, finished, MarkState, unfinished_region, unfinished}
 use Rattle.heap_world.specs.State.{HeapState, marking_of, with_marking, pool_of, with_pool}
 use Rattle.heap_world.specs.Reach.{Names}
 use Rattle.heap_world.specs.Legal.{IsObjectOf, IsUnmarked, IsLive, Sheltered, IsLegal}
@@ -250,3 +252,33 @@ pub unfinish_held : (w v : HeapState) (room : ℕ) (log : List ℕ) (k : MarkerS
     → k ≡ after_work (unfinished log (marking_of w)) (marker_of w room) → s ≡ record (pool_of w) { regions = (unfinished log (marking_of w)).regions } → IsSoundHeap (with_marker k (with_pool s w)) k.room
 unfinish_held w v room log k s h same l = work_held w room (unfinished log (marking_of w)) k s h
     (subst (λ (u : HeapState). IsLegal (with_marking (unfinished log (marking_of u)) u)) (sym same) l) (length_unfinished log (marking_of w))
+
+-- ---- a finish is a turn
+
+pending_at : (regions : List Region) (r : ℕ) (u : UsedRegion) → used_at regions r ≡ Some u → pending_in (slice_get regions r) ≡ u.pending
+unfolding used_at
+pending_at regions r u is = go (slice_get regions r) is
+  where
+    go : (x : Option Region) → option_and_then used_part x ≡ Some u → pending_in x ≡ u.pending
+    go None e = cc
+    go (Some Empty) e = cc
+    go (Some (InUse v)) e = ap (λ (x : Option UsedRegion). option_map_or (λ (v : UsedRegion). v.pending) x false) e
+
+-- where a finish is accepted, all objects are live
+pub all_live : (w : HeapState) → IsLegal w → finish_refusal (marking_of w) ≡ None → EachObject w.regions (λ at o. o.live ≡ true)
+unfolding finish_refusal pending_regions object_at
+all_live w legal accepted at o there = go (used_at w.regions at.region) refl (legal.swept_live at o there)
+  where
+    swept : pending_in (slice_get w.regions at.region) ≡ false
+    swept = none_pending w.regions 0 (none_holds _ accepted).1.1.0 at.region
+
+    go : (x : Option UsedRegion) → used_at w.regions at.region ≡ x → IfSome x (λ u. u.pending ≡ false → o.live ≡ true) → o.live ≡ true
+    go None is h = (let bad : None ≡ Some o = sym (ap (option_and_then (λ (u : UsedRegion). option_and_then (λ (x : Option Object). x) (slice_get u.cells at.cell))) is) ∙ there in cc)
+    go (Some u) is h = h (sym (pending_at w.regions at.region u is) ∙ swept)
+
+-- what a finish left is known of the regions
+pub finished_before : (w v : HeapState) → w ≡ v → (before : HeapState) → IsLegal before → finish_refusal (marking_of before) ≡ None → v ≡ after_finish before
+    → (b : MarkState) × (finish_refusal b ≡ None) × EachObject b.regions (λ at o. o.live ≡ true) × (w.regions ≡ (finished b).regions)
+unfolding after_finish
+finished_before w v same before legal accepted is =
+    (marking_of before, accepted, all_live before legal accepted, ap (λ (u : HeapState). u.regions) (same ∙ is))

@@ -97,9 +97,12 @@ impl World {
         self.marker.finish(&mut self.regions)
     }
 
-    /// Undoes `finish`, given the log that it returned. The heap must be legal afterwards. Takes no memory.
+    /// Undoes `finish`, which must have led to this state, given the log that it returned. The heap must be legal afterwards.
+    /// Takes no memory.
     pub fn unfinish(&mut self, log: Log)
         requires legal { IsLegal (with_marking (unfinished log (marking_of self.old)) self.old) }
+        requires finished { (before : HeapState) × IsLegal before
+            × (finish_refusal (marking_of before) ≡ None) × (self.old ≡ after_finish before) }
         ensures { self.new ≡ with_marking (unfinished log (marking_of self.old)) self.old }
     {
         self.marker.unfinish(&mut self.regions, log)

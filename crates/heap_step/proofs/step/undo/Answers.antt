@@ -1,4 +1,4 @@
-use Rattle.heap_step.proofs.Steps.{put_within, store_within, store_entry, store_legal, new_legal, snap_before, mark_legal, drain_begun, drain_legal, finish_legal, sweep_before, reclaim_inhabited, reclaim_legal}
+use Rattle.heap_step.proofs.Steps.{put_within, store_within, store_entry, store_legal, new_legal, snap_before, mark_legal, drain_begun, drain_legal, finish_before, finish_legal, sweep_before, reclaim_inhabited, reclaim_legal}
 use Rattle.heap_step.proofs.step.undo.Goals as goal
 
 pub unput-requires-clause-within : goal.unput-requires-clause-within
@@ -28,8 +28,11 @@ undrain-requires-clause-drained c = drain_begun c.requires.0 c.requires.1 _ _ c.
 pub undrain-requires-clause-legal : goal.undrain-requires-clause-legal
 undrain-requires-clause-legal c = drain_legal c.requires.0 c.requires.1 _ _ c.requires.2 c.in-Drain.pushed c.in-Drain.is
 
-pub unfinish-requires : goal.unfinish-requires
-unfinish-requires c = record { legal = finish_legal c.requires.0 c.requires.1 _ _ c.requires.2 c.in-Finish.log c.in-Finish.is }
+pub unfinish-requires-clause-legal : goal.unfinish-requires-clause-legal
+unfinish-requires-clause-legal c = finish_legal c.requires.0 c.requires.1 _ _ c.requires.2 c.in-Finish.log c.in-Finish.is
+
+pub unfinish-requires-clause-finished : goal.unfinish-requires-clause-finished
+unfinish-requires-clause-finished c = finish_before c.requires.0 c.requires.1 _ _ c.requires.2 c.in-Finish.log c.in-Finish.is
 
 pub unsweep-requires : goal.unsweep-requires
 unsweep-requires c = record { swept = sweep_before c.requires.0 c.requires.1 _ _ c.requires.2 c.in-Sweep.region c.in-Sweep.dead c.in-Sweep.is }

@@ -4,6 +4,8 @@ use Rattle.std.specs.Prelude.{vec_capacity}
 use Rattle.heap_mark.specs.declared.Phase.TheVariants.{Idle}
 use Rattle.heap_mark.specs.MarkSteps.{finished}
 use Rattle.heap_mark.specs.Marker.{MarkerState, at_work}
+use Rattle.heap_region.specs.Regions.{Region}
+use Rattle.heap_mark.proofs.TurnedRegions.{turn_ends}
 use Rattle.heap_mark.proofs.Finishes.{finish_idle, finish_undone, finish_unswept, finish_free}
 use Rattle.heap_mark.proofs.marker.Marker.finish.Goals as goal
 use Rattle.heap_mark.proofs.marker.Marker.finish.Goals.{then-gray-gt0-via-then-gray-gt0, then-gray-gt0-via-else-gray-gt0+then-undrained-gt0}
@@ -43,5 +45,6 @@ returns-clause-marker c =
     rw (← c.self.view_is) (ap with_log emptied)
 
 pub returns-clause-regions : goal.returns-clause-regions
-unfolding finished
-returns-clause-regions c = c.finish_all-condemned.ensures.regions
+returns-clause-regions c =
+    c.turn_all-condemned.ensures.regions
+    ∙ ap (λ (l : List Region). record c.args.regions.now { regions = l }) (turn_ends (at_work c.args.regions.now.regions c.args.self.now) (returns-clause-answered c) (c.requires (returns-clause-answered c)))

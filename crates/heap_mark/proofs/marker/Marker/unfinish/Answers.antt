@@ -1,8 +1,10 @@
-use Rattle.std.proofs.Common.{ℕ, List, reverse, ap₂, ◌∙◌}
+use Rattle.std.proofs.Common.{ℕ, List, reverse, ap, ap₂, ◌∙◌}
 use Rattle.std.specs.Prelude.{vec_capacity}
 use Rattle.heap_mark.specs.declared.Phase.TheVariants.{Marking}
 use Rattle.heap_mark.specs.MarkSteps.{unfinished}
 use Rattle.heap_mark.specs.Marker.{MarkerState, at_work}
+use Rattle.heap_region.specs.Regions.{Region}
+use Rattle.heap_mark.proofs.TurnedRegions.{turn_back_undoes}
 use Rattle.heap_mark.proofs.Calls.{at_work_after}
 use Rattle.heap_mark.proofs.Finishes.{finish_back}
 use Rattle.heap_mark.proofs.marker.Marker.unfinish.Goals as goal
@@ -16,7 +18,9 @@ returns-clause-marker c =
 
 pub returns-clause-regions : goal.returns-clause-regions
 unfolding unfinished
-returns-clause-regions c = c.unfinish_all.ensures
+returns-clause-regions c =
+    c.turn_all_back.ensures
+    ∙ ap (λ (l : List Region). record c.args.regions.now { regions = l }) (turn_back_undoes c.requires.0 c.args.regions.now.regions c.requires.1 c.requires.2 c.requires.3)
 
 pub returns-clause-back : goal.returns-clause-back
 returns-clause-back c before accepted live within same is =

@@ -5,5 +5,5 @@ use Rattle.heap_region.proofs.storage.Storage.liveness.Goals as goal
 pub returns : goal.returns
 returns c =
     let i = c.self.inside in
-    let is = rw (c.deref-2.ensures.0 ∙ ap (λ b. b.headers.items) c.deref.ensures) at c.liveness_at.ensures in
-    rw (← c.self.view_is) (is ∙ sym (liveness_shown i.cell_size i.block.value.words i.block.value.headers.items c.args.cell))
+    let is = rw (ap (λ b. b.headers) c.deref.ensures) at c.liveness_at.ensures in
+    rw (← c.self.view_is) (is ∙ sym (liveness_shown i.cell_size i.block.value.words i.block.value.headers c.args.cell))

@@ -1,0 +1,91 @@
+-- What a turn of all headers of a region leaves of what they show.
+use Rattle.std.proofs.Common.{◌≡◌, ℕ, zero, suc, ◌+◌, Bool, true, false, not, cond, List, [], ◌∷◌, length, map, Option, Some, None, is_none, option_map, drop, get_or, refl, sym, ap, ap₂, ◌∙◌}
+use Rattle.std.specs.Prelude.{count_by}
+use Rattle.std.proofs.lemmas.List.{length-map}
+use Rattle.std.proofs.lemmas.List.Sums.{sum_by-cons}
+use Rattle.heap_region.specs.Regions.{Object}
+use Rattle.heap_region.specs.Layout.{cells_from, walk, header_object, CellHeaderFits, IsSound}
+use Rattle.heap_region.specs.Turns.{turned_region, turned_back_region, turned_object, turned_back_object, is_unmarked}
+use Rattle.heap_region.specs.TurnedHeaders.{turned_header, turned_back_header, header_unmarked}
+use Rattle.heap_region.specs.declared.cell.Header.{Header}
+use Rattle.heap_region.proofs.Sound.{shown}
+
+-- ---- headers that are all changed, but not in their lengths
+
+abbrev KeepsLen : (Header → Header) → Type 0
+KeepsLen f = (h : Header) → (f h).len ≡ h.len
+
+same_vacant : (f : Header → Header) (hs : List (Option Header)) → map is_none (map (option_map f) hs) ≡ map is_none hs
+same_vacant f [] = refl
+same_vacant f (None ∷ hs) = ap (λ bs. true ∷ bs) (same_vacant f hs)
+same_vacant f (Some h ∷ hs) = ap (λ bs. false ∷ bs) (same_vacant f hs)
+
+same_fits : (f : Header → Header) → KeepsLen f → (size : ℕ) (hs : List (Option Header)) (cell : ℕ) → CellHeaderFits size (get_or hs cell None) → CellHeaderFits size (get_or (map (option_map f) hs) cell None)
+same_fits f len size [] cell fits = fits
+same_fits f len size (None ∷ hs) zero fits = fits
+same_fits f len size (Some h ∷ hs) zero fits = rw (len h) fits
+same_fits f len size (h ∷ hs) (suc cell) fits = same_fits f len size hs cell fits
+
+sound_changed : (f : Header → Header) → KeepsLen f → (size : ℕ) (ws : List ℕ) (hs : List (Option Header)) (link : ℕ) → IsSound size ws hs link (walk (length hs) size ws link)
+    → IsSound size ws (map (option_map f) hs) link (walk (length (map (option_map f) hs)) size ws link)
+sound_changed f len size ws hs link sound =
+    rw (length-map hs (option_map f)) (record {
+      sized = sound.sized;
+      words = sound.words;
+      covers = rw (length-map hs (option_map f)) sound.covers;
+      fits = λ cell. same_fits f len size hs cell (sound.fits cell);
+      linked = sound.linked;
+      apart = sound.apart;
+      vacant = λ cell. sound.vacant cell ∙ ap (λ bs. get_or bs cell false) (sym (same_vacant f hs));
+    })
+
+-- ---- a turn
+
+cells_turned : (size : ℕ) (ws : List ℕ) (base : ℕ) (hs : List (Option Header)) → cells_from size ws base (map (option_map turned_header) hs) ≡ map (option_map turned_object) (cells_from size ws base hs)
+unfolding cells_from
+cells_turned size ws base [] = refl
+cells_turned size ws base (None ∷ hs) = ap (λ (l : List (Option Object)). None ∷ l) (cells_turned size ws (base + size) hs)
+cells_turned size ws base (Some h ∷ hs) = ap (λ (l : List (Option Object)). header_object (drop base ws) (Some (turned_header h)) ∷ l) (cells_turned size ws (base + size) hs)
+
+cells_turned_back : (size : ℕ) (ws : List ℕ) (base : ℕ) (hs : List (Option Header)) → cells_from size ws base (map (option_map turned_back_header) hs) ≡ map (option_map turned_back_object) (cells_from size ws base hs)
+unfolding cells_from
+cells_turned_back size ws base [] = refl
+cells_turned_back size ws base (None ∷ hs) = ap (λ (l : List (Option Object)). None ∷ l) (cells_turned_back size ws (base + size) hs)
+cells_turned_back size ws base (Some h ∷ hs) = ap (λ (l : List (Option Object)). header_object (drop base ws) (Some (turned_back_header h)) ∷ l) (cells_turned_back size ws (base + size) hs)
+
+pub turned_sound : (size : ℕ) (ws : List ℕ) (hs : List (Option Header)) (link : ℕ) → IsSound size ws hs link (walk (length hs) size ws link) → IsSound size ws (map (option_map turned_header) hs) link (walk (length (map (option_map turned_header) hs)) size ws link)
+turned_sound = sound_changed turned_header (λ h. refl)
+
+pub turned_back_sound : (size : ℕ) (ws : List ℕ) (hs : List (Option Header)) (link : ℕ) → IsSound size ws hs link (walk (length hs) size ws link) → IsSound size ws (map (option_map turned_back_header) hs) link (walk (length (map (option_map turned_back_header) hs)) size ws link)
+turned_back_sound = sound_changed turned_back_header (λ h. refl)
+
+pub turned_shown : (size : ℕ) (pending : Bool) (ws : List ℕ) (hs : List (Option Header)) (link : ℕ) → shown size (not pending) ws (map (option_map turned_header) hs) link ≡ turned_region (shown size pending ws hs link)
+unfolding turned_region
+turned_shown size pending ws hs link = λ i. record {
+  cell_size = size;
+  pending = not pending;
+  cells = cells_turned size ws 0 hs i;
+  free = walk (length-map hs (option_map turned_header) i) size ws link;
+}
+
+pub turned_back_shown : (size : ℕ) (pending : Bool) (ws : List ℕ) (hs : List (Option Header)) (link : ℕ) → shown size (not pending) ws (map (option_map turned_back_header) hs) link ≡ turned_back_region (shown size pending ws hs link)
+unfolding turned_back_region
+turned_back_shown size pending ws hs link = λ i. record {
+  cell_size = size;
+  pending = not pending;
+  cells = cells_turned_back size ws 0 hs i;
+  free = walk (length-map hs (option_map turned_back_header) i) size ws link;
+}
+
+-- the unmarked objects that headers show
+pub unmarked_shown : (size : ℕ) (ws : List ℕ) (base : ℕ) (hs : List (Option Header)) → count_by header_unmarked hs ≡ count_by is_unmarked (cells_from size ws base hs)
+unfolding cells_from
+unmarked_shown size ws base [] = refl
+unmarked_shown size ws base (h ∷ hs) =
+    sum_by-cons (λ x. cond (header_unmarked x) 1 0) h hs
+    ∙ (ap₂ (λ (b : Bool) (n : ℕ). cond b 1 0 + n) (go h) (unmarked_shown size ws (base + size) hs)
+    ∙ sym (sum_by-cons (λ x. cond (is_unmarked x) 1 0) _ (cells_from size ws (base + size) hs)))
+  where
+    go : (h : Option Header) → header_unmarked h ≡ is_unmarked (header_object (drop base ws) h)
+    go None = refl
+    go (Some h) = refl

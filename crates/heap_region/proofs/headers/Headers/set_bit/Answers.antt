@@ -1,0 +1,31 @@
+use Rattle.std.proofs.Common.{arith}
+use Rattle.heap_region.proofs.TurnedHeaders.{bit_shown, kept_there}
+use Rattle.heap_region.proofs.CountedHeaders.{counted_few, counted_set}
+use Rattle.heap_region.proofs.Cells.{there_within}
+use Rattle.heap_region.proofs.headers.Headers.set_bit.Goals as goal
+
+pub set_bit_at-requires : goal.set_bit_at-requires
+set_bit_at-requires c = kept_there c.self.inside.turn c.self.inside.kept.items c.args.cell (rw (← c.self.view_is) at c.requires)
+
+pub with-self-inside-requires-clause-objects : goal.with-self-inside-requires-clause-objects
+with-self-inside-requires-clause-objects c = omega (arith, (counted_few _ _ c.self.invariant).objects, c.without.ensures.objects)
+
+pub with-self-inside-requires-clause-unmarked : goal.with-self-inside-requires-clause-unmarked
+with-self-inside-requires-clause-unmarked c = omega (arith, (counted_few _ _ c.self.invariant).unmarked, c.without.ensures.unmarked)
+
+pub with-self-inside-requires-clause-dead : goal.with-self-inside-requires-clause-dead
+with-self-inside-requires-clause-dead c = omega (arith, (counted_few _ _ c.self.invariant).dead, c.without.ensures.dead)
+
+pub invariant_of-self : goal.invariant_of-self
+invariant_of-self c =
+    let i = c.self.inside in
+    let e = c.without.ensures in
+    let f = c.with-self-inside.ensures in
+    let was = rw (← c.self.view_is) at c.at-was.ensures in
+    let k = c.kept_bit-kept_bit in
+    rw (c.set_bit_at.ensures, bit_shown i.turn i.kept.items c.args.cell k.result.0 c.args.bit k.result.1 c.args.on k.ensures, ← was, c.header_with.ensures)
+    (counted_set _ i.counts _ c.args.cell c.at-was.result _ (there_within _ c.args.cell (rw (← c.self.view_is) at c.requires)) was c.self.invariant
+    (record { objects = omega (arith, e.objects, f.objects); unmarked = omega (arith, e.unmarked, f.unmarked); dead = omega (arith, e.dead, f.dead) }))
+
+pub returns : goal.returns
+returns c = rw (← c.self.view_is, c.set_bit_at.ensures) (bit_shown c.self.inside.turn c.self.inside.kept.items c.args.cell c.kept_bit-kept_bit.result.0 c.args.bit c.kept_bit-kept_bit.result.1 c.args.on c.kept_bit-kept_bit.ensures)

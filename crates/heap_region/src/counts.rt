@@ -1,0 +1,104 @@
+//! How many objects a region has, and of how many a bit isn't set.
+ghost use Rattle.std.specs.Prelude.{◌≡◌, ◌+◌, ◌≤◌, Some, is_some};
+ghost use Rattle.heap_region.specs.Limits.{cell_limit};
+ghost use Rattle.heap_region.specs.TurnedHeaders.{header_dead, header_unmarked, one_if};
+
+use crate::cell::Header;
+
+// The numbers of a region's objects, of those that aren't marked, and of those that aren't live.
+#[derive(Clone, Copy)]
+pub(crate) struct Counts {
+    pub(crate) objects: u16,
+    pub(crate) unmarked: u16,
+    pub(crate) dead: u16,
+}
+
+// Returns 1 or 0.
+#[inline(always)]
+fn one_if(is_so: bool) -> u16
+    ensures value { result ≡ one_if is_so }
+    ensures limit { result ≤ 1 }
+{
+    if is_so { 1 } else { 0 }
+}
+
+impl Counts {
+    // Returns the counts of no objects.
+    pub(crate) fn none() -> Counts
+        ensures objects { result.objects ≡ 0 }
+        ensures unmarked { result.unmarked ≡ 0 }
+        ensures dead { result.dead ≡ 0 }
+    {
+        Counts {
+            objects: 0,
+            unmarked: 0,
+            dead: 0,
+        }
+    }
+
+    // Returns the counts with one more object.
+    #[inline(always)]
+    pub(crate) fn with(self, header: Header) -> Counts
+        requires objects { self.objects ≤ cell_limit }
+        requires unmarked { self.unmarked ≤ cell_limit }
+        requires dead { self.dead ≤ cell_limit }
+        ensures objects { result.objects ≡ self.objects + 1 }
+        ensures unmarked { result.unmarked
+            ≡ self.unmarked + one_if (header_unmarked (Some header)) }
+        ensures dead { result.dead ≡ self.dead + one_if (header_dead (Some header)) }
+    {
+        Counts {
+            objects: self.objects + 1,
+            unmarked: self.unmarked + one_if(!header.mark),
+            dead: self.dead + one_if(!header.live),
+        }
+    }
+
+    // Returns the counts without an object, if there is one in its cell.
+    #[inline(always)]
+    pub(crate) fn without(self, header: Option<Header>) -> Counts
+        requires objects { one_if (is_some header) ≤ self.objects }
+        requires unmarked { one_if (header_unmarked header) ≤ self.unmarked }
+        requires dead { one_if (header_dead header) ≤ self.dead }
+        ensures objects { result.objects + one_if (is_some header) ≡ self.objects }
+        ensures unmarked { result.unmarked + one_if (header_unmarked header) ≡ self.unmarked }
+        ensures dead { result.dead + one_if (header_dead header) ≡ self.dead }
+    {
+        match header {
+            Some(header) => Counts {
+                objects: self.objects - 1,
+                unmarked: self.unmarked - one_if(!header.mark),
+                dead: self.dead - one_if(!header.live),
+            },
+            None => self,
+        }
+    }
+
+    // Returns the counts after a turn.
+    pub(crate) fn next(self) -> Counts
+        requires { self.dead ≤ self.objects }
+        ensures objects { result.objects ≡ self.objects }
+        ensures unmarked { result.unmarked + self.dead ≡ self.objects }
+        ensures dead { result.dead ≡ self.unmarked }
+    {
+        Counts {
+            objects: self.objects,
+            unmarked: self.objects - self.dead,
+            dead: self.unmarked,
+        }
+    }
+
+    // Returns the counts before a turn.
+    pub(crate) fn prior(self) -> Counts
+        requires { self.unmarked ≤ self.objects }
+        ensures objects { result.objects ≡ self.objects }
+        ensures unmarked { result.unmarked ≡ self.dead }
+        ensures dead { result.dead + self.unmarked ≡ self.objects }
+    {
+        Counts {
+            objects: self.objects,
+            unmarked: self.dead,
+            dead: self.objects - self.unmarked,
+        }
+    }
+}

@@ -1,0 +1,217 @@
+//! The headers of a region's cells, whose bits are read by turns.
+ghost use Rattle.std.specs.Prelude.{◌≡◌, ◌<◌, ◌≤◌, [], length, map, Some, None, IsSome, option_map, count_by, replicate, slice_index_or, slice_set};
+ghost use Rattle.heap_region.specs.Layout.{with_bit};
+ghost use Rattle.heap_region.specs.Limits.{region_words, cell_limit};
+ghost use Rattle.heap_region.specs.TurnedHeaders.{header_unmarked, turned_header, turned_back_header};
+
+use crate::cell::{Bit, Cell, Header};
+use crate::counts::Counts;
+use crate::turn::Turn;
+use arrayvec::ArrayVec;
+use std::marker::Model;
+
+// The headers of up to 256 cells, and the turn by which their bits are read. Contracts see the headers as they are read.
+#[derive(Drop)]
+pub(crate) struct Headers {
+    kept: ArrayVec<Cell, 256>,
+    turn: Turn,
+    counts: Counts,
+}
+
+impl Model for Headers {
+    ghost use Rattle.std.specs.Prelude.{List, Option};
+    ghost use Rattle.heap_region.specs.TurnedHeaders.{IsCounted, shown_headers};
+    ghost use Rattle.heap_region.specs.declared.cell.Header.{Header};
+
+    ghost Value = { List (Option Header) };
+
+    ghost view = { λ h. shown_headers h.turn h.kept.items };
+
+    ghost invariant = { λ h. IsCounted (shown_headers h.turn h.kept.items) h.counts };
+}
+
+// Returns the header in a cell after a bit was written. There must be one.
+#[inline(always)]
+fn header_with(header: Option<Header>, bit: Bit, on: bool) -> Header
+    requires { IsSome header }
+    ensures { option_map (with_bit bit on) header ≡ Some result }
+{
+    match header {
+        Some(header) => match bit {
+            Bit::Live => Header { live: on, ..header },
+            Bit::Mark => Header { mark: on, ..header },
+        },
+        None => unreachable!(),
+    }
+}
+
+// Writes the header of the object in a cell.
+#[inline(always)]
+fn set_header(kept: &mut ArrayVec<Cell, 256>, cell: usize, header: Header)
+    requires within { cell < length kept.old.items }
+    requires fits { header.len ≤ region_words }
+    ensures { kept.new.items ≡ slice_set kept.old.items cell (Some header) }
+{
+    kept[cell] = Cell::with_header(header);
+}
+
+// Writes a bit of the object in a cell, which must have one.
+#[inline(always)]
+fn set_bit_at(kept: &mut ArrayVec<Cell, 256>, cell: usize, bit: Bit, on: bool)
+    requires { IsSome (slice_index_or kept.old.items cell None) }
+    ensures { kept.new.items
+        ≡ slice_set kept.old.items cell
+        (option_map (with_bit bit on) (slice_index_or kept.old.items cell None)) }
+{
+    kept[cell].set_bit(bit, on);
+}
+
+// Makes a cell free.
+#[inline(always)]
+fn set_free(kept: &mut ArrayVec<Cell, 256>, cell: usize)
+    requires { cell < length kept.old.items }
+    ensures { kept.new.items ≡ slice_set kept.old.items cell None }
+{
+    kept[cell] = Cell::default();
+}
+
+// Adds `count` cells to none, all of them free.
+fn add_vacant(kept: &mut ArrayVec<Cell, 256>, count: usize)
+    requires none { kept.old.items ≡ [] }
+    requires few { count ≤ cell_limit }
+    ensures { kept.new.items ≡ replicate count None }
+{
+    for _ in 0..count {
+        kept.push(Cell::default());
+    }
+}
+
+impl Headers {
+    // Returns no headers.
+    pub(crate) fn new() -> Headers
+        ensures { result ≡ [] }
+    {
+        Headers {
+            kept: ArrayVec::new(),
+            turn: Turn::start(),
+            counts: Counts::none(),
+        }
+    }
+
+    // Returns the number of cells: at most 256.
+    #[inline(always)]
+    pub(crate) fn len(&self) -> usize
+        ensures value { result ≡ length self.now }
+        ensures limit { result ≤ cell_limit }
+    {
+        self.kept.len()
+    }
+
+    // Adds `count` cells to none, all of them free.
+    pub(crate) fn add_vacant(&mut self, count: usize)
+        requires none { self.old ≡ [] }
+        requires few { count ≤ cell_limit }
+        ensures { self.new ≡ replicate count None }
+    {
+        add_vacant(&mut self.kept, count);
+    }
+
+    // Returns the header of the object in a cell, or None if the cell is free.
+    #[inline(always)]
+    pub(crate) fn at(&self, cell: usize) -> Option<Header>
+        requires { cell < length self.now }
+        ensures { result ≡ slice_index_or self.now cell None }
+    {
+        match self.kept[cell].header() {
+            Some(header) => Some(self.turn.shown(header)),
+            None => None,
+        }
+    }
+
+    // Returns the number of objects that aren't marked.
+    pub(crate) fn unmarked(&self) -> u64
+        ensures value { result ≡ count_by header_unmarked self.now }
+        ensures limit { result ≤ cell_limit }
+    {
+        self.counts.unmarked as u64
+    }
+
+    // Writes the header of the object in a free cell.
+    #[inline(always)]
+    pub(crate) fn fill(&mut self, cell: usize, header: Header)
+        requires within { cell < length self.old }
+        requires vacant { slice_index_or self.old cell None ≡ None }
+        requires fits { header.len ≤ region_words }
+        ensures { self.new ≡ slice_set self.old cell (Some header) }
+    {
+        self.counts = self.counts.with(header);
+        set_header(&mut self.kept, cell, self.turn.kept(header));
+    }
+
+    // Writes the header of the object in a cell.
+    pub(crate) fn set(&mut self, cell: usize, header: Header)
+        requires within { cell < length self.old }
+        requires fits { header.len ≤ region_words }
+        ensures { self.new ≡ slice_set self.old cell (Some header) }
+    {
+        let was = self.at(cell);
+        self.counts = self.counts.without(was).with(header);
+        set_header(&mut self.kept, cell, self.turn.kept(header));
+    }
+
+    // Writes a bit of the object in a cell, which must have one.
+    #[inline(always)]
+    pub(crate) fn set_bit(&mut self, cell: usize, bit: Bit, on: bool)
+        requires { IsSome (slice_index_or self.old cell None) }
+        ensures { self.new
+            ≡ slice_set self.old cell
+            (option_map (with_bit bit on) (slice_index_or self.old cell None)) }
+    {
+        let was = self.at(cell);
+        self.counts = self.counts.without(was).with(header_with(was, bit, on));
+        let (kept_bit, kept_on) = self.turn.kept_bit(bit, on);
+        set_bit_at(&mut self.kept, cell, kept_bit, kept_on);
+    }
+
+    // Makes a cell free.
+    pub(crate) fn free(&mut self, cell: usize)
+        requires { cell < length self.old }
+        ensures { self.new ≡ slice_set self.old cell None }
+    {
+        let was = self.at(cell);
+        self.counts = self.counts.without(was);
+        set_free(&mut self.kept, cell);
+    }
+
+    // Makes each object live if it was marked, and marked if it wasn't live.
+    pub(crate) fn turn(&mut self)
+        ensures { self.new ≡ map (option_map turned_header) self.old }
+    {
+        self.turn = self.turn.next();
+        self.counts = self.counts.next();
+    }
+
+    // Undoes `turn`.
+    pub(crate) fn turn_back(&mut self)
+        ensures { self.new ≡ map (option_map turned_back_header) self.old }
+    {
+        self.turn = self.turn.prior();
+        self.counts = self.counts.prior();
+    }
+
+    // Returns a copy of the headers.
+    #[inline(always)]
+    pub(crate) fn copied(&self) -> Headers
+        ensures { result ≡ self.now }
+    {
+        let mut kept = ArrayVec::new();
+        if kept.try_extend_from_slice(&self.kept).is_err() {
+            unreachable!();
+        }
+        Headers {
+            kept,
+            turn: self.turn,
+            counts: self.counts,
+        }
+    }
+}

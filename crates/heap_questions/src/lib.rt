@@ -32,4 +32,4 @@ pub use past::{
 pub use paths::{Path, shortest_path};
 pub use references::{Referrer, referrers};
 pub use registers::{NamedObject, named_by_registers};
-pub use rows::{CLASS_ROWS, Histogram, Row, count_by_class, kind_row};
+pub use rows::{CLASS_ROWS, Histogram, Row, count_by_class, kind_row, value_size};

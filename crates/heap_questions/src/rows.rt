@@ -73,9 +73,9 @@ fn row_number(classes: &FirstClasses<'_>, kind: ObjKind, words: u64) -> usize
     }
 }
 
-// Returns the bytes that the values of an object of this kind have in a dump.
+/// Returns the bytes that the values of an object of this kind with this many slots take in a dump. Takes no memory.
 #[tactic(auto, unfolding(crate::specs::Histogram::value_size))]
-fn value_size(ids: IdSize, classes: &FirstClasses<'_>, kind: ObjKind, words: u64) -> u64
+pub fn value_size(ids: IdSize, classes: &FirstClasses<'_>, kind: ObjKind, words: u64) -> u64
     requires known { IsKnown classes.now kind words }
     requires small { words ≤ array_limit }
     ensures value { result ≡ value_size ids classes.now kind words }

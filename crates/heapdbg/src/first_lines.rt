@@ -9,7 +9,6 @@ use crate::folder::is_folder;
 use crate::reasons::tell_path;
 use crate::request::Request;
 use heap_console::load_lines;
-use heapdbg_options::settings::Settings;
 use session_text::{Commands, session_limits};
 use std::fs;
 use std::fs::Files;
@@ -60,16 +59,9 @@ fn load<R: AllocGlobal + Eprint + Files, C: Commands>(
             return Err(Fault::From);
         }
     };
-    let Settings { time, wide, .. } = request.settings;
-    match load_lines(
-        rt,
-        rt.alloc(),
-        path,
-        file,
-        commands,
-        time,
-        session_limits(wide),
-    ) {
+    let (alloc, time) = (rt.alloc(), request.settings.time);
+    let limits = session_limits(request.settings.wide);
+    match load_lines(rt, alloc, path, file, commands, time, limits) {
         Ok(_) => Ok(()),
         Err(_) => Err(Fault::Memory),
     }

@@ -10,7 +10,7 @@ returns-in-Ok g c =
       c.in-Ok.asking,
       c.serve_asking-ended.new.asking,
       c.in-Ok.ensures.opening,
-      c.serve_asking-ended.ensures.session,
-      c.serve_asking-ended.ensures.ends,
+      rw c.session_limits-limits.ensures at c.serve_asking-ended.ensures.session,
+      rw c.session_limits-limits.ensures at c.serve_asking-ended.ensures.ends,
       subst (λ (r : Result (Unit {0}) Fault). IsDrawingOutcome r c.draw_after.result) c.outcome.ensures c.draw_after.ensures,
     )

@@ -8,7 +8,7 @@ returns g c =
       c.run_first.new.commands,
       c.serve_asking-ended.new.asking,
       (c.args.asking.now, c.requires, c.in_ok-run_first.ensures.run),
-      c.serve_asking-ended.ensures.session,
-      c.serve_asking-ended.ensures.ends,
+      rw c.session_limits-limits.ensures at c.serve_asking-ended.ensures.session,
+      rw c.session_limits-limits.ensures at c.serve_asking-ended.ensures.ends,
       c.outcome.ensures,
     )

@@ -12,6 +12,6 @@ returns-in-Ok g c =
           (λ (m : Machine). IsSession m c.args.settings.now.time (g.I.Inlet.seen c.args.reader.now) (g.I.Inlet.seen c.serve_local.new.reader) (g.O.Outlet.seen c.args.writer.now) (g.O.Outlet.seen c.serve_local.new.writer) c.serve_local.new.local.machine c.serve_local.result)
           c.in-Ok.ensures.opening
           c.serve_local.ensures.session,
-      c.serve_local.ensures.ends,
+      rw c.session_limits-limits.ensures at c.serve_local.ensures.ends,
       c.outcome.ensures,
     )

@@ -244,6 +244,15 @@ def blocking_sockets(program):
         yield f"a server that would block after {count} bytes", happened[3:], (1, EXAMPLE_REPLIES[:count], b"heapdbg: read\n")
 
 
+def many_reads(program):
+    """Yields served sessions of which each read takes one LF, at the most reads that a heap which isn't wide allows, and beyond it.
+    Where the session goes on, the last read finds the end."""
+    narrow = (0, b"session 1 reads\n", b"", b"bad reads\n")
+    for words, count, wanted in (([], 1_000_000, narrow), (["--wide", "1"], 1_000_001, (0, b"session 1 eof\n", b"", b""))):
+        happened = served(program.program, ended_by(b"\n" * count), words, env=program.rules(RECEIVED_MOST=1))
+        yield f"{count} reads of a client {words}", happened, wanted
+
+
 # ---- what a session leaves that ended by a fault
 
 
@@ -390,7 +399,7 @@ def late_threads(program):
 
 
 CHECKS = (in_parts, pages, interrupted, failing_reads, failing_writes, failing_files, failing_saves)
-CHECKS += (would_block, blocking_saves, blocking_sockets, states_left, outlets_that_fail, failing_fetches, late_threads)
+CHECKS += (would_block, blocking_saves, blocking_sockets, many_reads, states_left, outlets_that_fail, failing_fetches, late_threads)
 
 
 def differences(program, check):

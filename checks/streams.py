@@ -244,6 +244,13 @@ def blocking_sockets(program):
         yield f"a server that would block after {count} bytes", happened[3:], (1, EXAMPLE_REPLIES[:count], b"heapdbg: read\n")
 
 
+def many_reads(program):
+    """Yields served sessions of a million reads that take one LF each, and then the end, which a wide heap's alone may read."""
+    for words, ending, answer in (([], b"reads", b"bad reads\n"), (["--wide", "1"], b"eof", b"")):
+        happened = served(program.program, ended_by(b"\n" * 1_000_000), words, env=program.rules(RECEIVED_MOST=1))
+        yield f"a million reads and the end {words}", happened, (0, b"session 1 %s\n" % ending, b"", answer)
+
+
 # ---- what a session leaves that ended by a fault
 
 
@@ -390,7 +397,7 @@ def late_threads(program):
 
 
 CHECKS = (in_parts, pages, interrupted, failing_reads, failing_writes, failing_files, failing_saves)
-CHECKS += (would_block, blocking_saves, blocking_sockets, states_left, outlets_that_fail, failing_fetches, late_threads)
+CHECKS += (would_block, blocking_saves, blocking_sockets, many_reads, states_left, outlets_that_fail, failing_fetches, late_threads)
 
 
 def differences(program, check):

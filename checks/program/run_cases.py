@@ -59,11 +59,12 @@ def lines_at_the_limits(program):
     yield "1,000,000 reads", read_by_one(program, 1_000_000, False), (1, b"bad reads\n", b"heapdbg: reads\n")
 
 
-def read_by_one(program, count, ends, *words):
-    """Returns what happened to a session of `run` each of whose `count` reads gives one LF, and then the end if it has one."""
+def read_by_one(program, count, ends, *words, task="run"):
+    """Returns what happened to a session of `run`, or another task, each of whose `count` reads gives one LF, and then the end if it
+    has one."""
     ours, theirs = socket.socketpair(socket.AF_UNIX, socket.SOCK_SEQPACKET)
     pipes = {"stdin": theirs, "stdout": subprocess.PIPE, "stderr": subprocess.PIPE}
-    with ours, subprocess.Popen(["heapdbg", "run", *words], executable=program, **pipes) as child:
+    with ours, subprocess.Popen(["heapdbg", task, *words], executable=program, **pipes) as child:
         theirs.close()
         with contextlib.suppress(OSError):
             for _ in range(count):

@@ -2,7 +2,7 @@
 import os
 import tempfile
 
-from clients import served, told_all
+from clients import free_port, served, told_all
 from explore_cases import run_after
 from run_cases import read_by_one
 from runs import run
@@ -80,6 +80,9 @@ def reads(program):
     yield "1,000,001 reads of a wide heap", read_by_one(program, 1_000_001, True, *wide), (0, b"", b"")
     asked = read_by_one(program, 1_000_001, True, "--questions", "1", *wide)
     yield "1,000,001 reads of a wide heap with questions", asked, (0, b"", b"")
+    for words, count, wanted in (([], 1_000_000, (1, b"bad reads\n")), (wide, 1_000_001, (0, b""))):
+        beside = read_by_one(program, count, bool(words), "--page", str(free_port()), *words, task="explore")
+        yield f"{count} reads beside a page {words}", beside[:2], wanted
     said = b"heapdbg: PATH:1000001: bad command: q\n"
     yield "1,000,001 lines first in a wide heap", run_after(program, b"\n" * 1_000_000 + b"q\n", b"", *wide), (0, b"", said)
 

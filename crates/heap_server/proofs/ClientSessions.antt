@@ -6,6 +6,7 @@ use Rattle.dump_pump.specs.Outlets.{Outgoing}
 use Rattle.session_text.specs.Answers.{AnswerRelation, AnswersCommand, Begins}
 use Rattle.session_text.specs.declared.Ended.{Ended}
 use Rattle.session_text.specs.declared.Ended.TheVariants.{ReadFault}
+use Rattle.session_text.specs.declared.limits.SessionLimits.{SessionLimits}
 use Rattle.heap_lock.specs.HeapLimits.{HeapSettings}
 use Rattle.heap_lock.specs.Calls.{Call, IsLegalLedger}
 use Rattle.heap_lock.specs.LockStates.{Chair}
@@ -18,17 +19,17 @@ use Rattle.heap_server.specs.Stations.{IsAttended, IsAttendedOn, IsAttendedStayi
 use Rattle.heap_server.specs.StayingSeats.{ClosesEach, StayingStation}
 
 -- what a session does that answers questions or doesn't
-abbrev pub ServesSeat : HeapSettings → Bool → ℕ → Option (List ℕ) → List ℕ → Bool → Incoming → Incoming → Station → Outgoing → Station → Outgoing → SessionEnd → Type 0
-ServesSeat config questions time secret bytes failed b b' c w c' w' end =
-    ServesClient (AnswersCommand (seat_acts config) (seat_answers config questions) time) (Begins (seat_acts config) (seat_answers config questions) time) secret bytes failed b b' c w c' w' end
+abbrev pub ServesSeat : SessionLimits → HeapSettings → Bool → ℕ → Option (List ℕ) → List ℕ → Bool → Incoming → Incoming → Station → Outgoing → Station → Outgoing → SessionEnd → Type 0
+ServesSeat limits config questions time secret bytes failed b b' c w c' w' end =
+    ServesClient limits (AnswersCommand (seat_acts config) (seat_answers config questions) time) (Begins (seat_acts config) (seat_answers config questions) time) secret bytes failed b b' c w c' w' end
 
 -- a session on these terms is one that answers questions, if they say so
 pub attended : (config : HeapSettings) (terms : Terms) (questions failed : Bool) (bytes : List ℕ) (a b b' : Incoming) (s s' : Chair) (seen : List Call) (c c' : Station) (w w' : Outgoing) (end : SessionEnd) → terms.questions ≡ questions → IsAhead bytes failed a b → IsLegalLedger config seen
-    → c ≡ record { seat = s; seen = seen } → s' ≡ c'.seat → ServesSeat config questions terms.time terms.secret bytes failed b b' c w c' w' end → IsAttended config terms s a b' w w' s' end
+    → c ≡ record { seat = s; seen = seen } → s' ≡ c'.seat → ServesSeat terms.limits config questions terms.time terms.secret bytes failed b b' c w c' w' end → IsAttended config terms s a b' w w' s' end
 attended config terms questions failed bytes a b b' s s' seen c c' w w' end is ahead legal first last serves =
     let from : Station = record { seat = s; seen = seen } in
-    let left : ServesSeat config questions terms.time terms.secret bytes failed b b' c w (record { seat = s'; seen = c'.seen }) w' end = subst (λ (x : Chair). ServesSeat config questions terms.time terms.secret bytes failed b b' c w (record { seat = x; seen = c'.seen }) w' end) (sym last) serves in
-    let begun : ServesSeat config questions terms.time terms.secret bytes failed b b' from w (record { seat = s'; seen = c'.seen }) w' end = subst (λ (x : Station). ServesSeat config questions terms.time terms.secret bytes failed b b' x w (record { seat = s'; seen = c'.seen }) w' end) first left in
+    let left : ServesSeat terms.limits config questions terms.time terms.secret bytes failed b b' c w (record { seat = s'; seen = c'.seen }) w' end = subst (λ (x : Chair). ServesSeat terms.limits config questions terms.time terms.secret bytes failed b b' c w (record { seat = x; seen = c'.seen }) w' end) (sym last) serves in
+    let begun : ServesSeat terms.limits config questions terms.time terms.secret bytes failed b b' from w (record { seat = s'; seen = c'.seen }) w' end = subst (λ (x : Station). ServesSeat terms.limits config questions terms.time terms.secret bytes failed b b' x w (record { seat = s'; seen = c'.seen }) w' end) first left in
     inl (record {
       bytes = bytes;
       failed = failed;
@@ -37,12 +38,12 @@ attended config terms questions failed bytes a b b' s s' seen c c' w w' end is a
       seen' = c'.seen;
       ahead = ahead;
       legal = legal;
-      serves = subst (λ q. ServesSeat config q terms.time terms.secret bytes failed b b' from w (record { seat = s'; seen = c'.seen }) w' end) (sym is) begun;
+      serves = subst (λ q. ServesSeat terms.limits config q terms.time terms.secret bytes failed b b' from w (record { seat = s'; seen = c'.seen }) w' end) (sym is) begun;
     })
 
 -- a session of a heap that stays, and the closings at its end
 pub stayed : (config : HeapSettings) (terms : Terms) (failed : Bool) (bytes : List ℕ) (a b b' : Incoming) (s s' : Chair) (seen seen' : List Call) (c c' : StayingStation) (w w' : Outgoing) (end : SessionEnd) → IsAhead bytes failed a b → IsLegalLedger config seen
-    → c ≡ record { seat = s; seen = seen; pins = []; questions = terms.questions } → s' ≡ c'.seat → ClosesEach config c'.pins c'.seen seen' → ServesClient (staying_says config terms) (staying_begins config terms) terms.secret bytes failed b b' c w c' w' end → IsAttendedStaying config terms s a b' w w' s' end
+    → c ≡ record { seat = s; seen = seen; pins = []; questions = terms.questions } → s' ≡ c'.seat → ClosesEach config c'.pins c'.seen seen' → ServesClient terms.limits (staying_says config terms) (staying_begins config terms) terms.secret bytes failed b b' c w c' w' end → IsAttendedStaying config terms s a b' w w' s' end
 stayed config terms failed bytes a b b' s s' seen seen' c c' w w' end ahead legal first last closes serves =
     inl (record {
       bytes = bytes;
@@ -53,7 +54,7 @@ stayed config terms failed bytes a b b' s s' seen seen' c c' w w' end ahead lega
       seen' = seen';
       ahead = ahead;
       legal = legal;
-      serves = subst (λ (x : StayingStation). ServesClient (staying_says config terms) (staying_begins config terms) terms.secret bytes failed b b' x w c' w' end) first serves;
+      serves = subst (λ (x : StayingStation). ServesClient terms.limits (staying_says config terms) (staying_begins config terms) terms.secret bytes failed b b' x w c' w' end) first serves;
       closes = closes;
       seat = last;
     })

@@ -11,7 +11,8 @@ use Rattle.heap_work.specs.declared.MarkEnd.{MarkEnd}
 use Rattle.heap_work.specs.declared.MarkEnd.TheVariants.{Finished, NotMarking, Pending, Refused, Stopped, TurnsOver}
 use Rattle.heap_work.specs.declared.Stage.{Stage}
 use Rattle.heap_work.specs.declared.SweepEnd.{SweepEnd}
-use Rattle.heap_work.specs.Rule.{BeginsNoCycle, EndsMarking, IsMarkWorkFrom, IsNoSnap, IsResumedWork, IsSweepWork}
+use Rattle.heap_work.specs.Rule.{BeginsNoCycle, EndsMarking, IsMarkWorkFrom, IsNoSnap, IsResumedWork}
+use Rattle.heap_work.specs.PendingSweeps.{IsPendingWork}
 use Rattle.heap_server.specs.Tending.{AreRuns, MarksOnce, SweepsOnce, TakesTurn, Tends, rests_in, role_for, turn_limit}
 use Rattle.heap_server.specs.declared.tending.Duty.{Duty}
 use Rattle.heap_server.specs.declared.tending.Duty.TheVariants.{Mark, Sweep}
@@ -66,7 +67,7 @@ pub rests : (duty : Duty) (config : HeapSettings) (s s' : Chair) (seen seen' : L
 rests duty config s s' seen seen' b is h same = inl (seen_as config duty seen seen' b true is h, same)
 
 pub marks : (duty : Duty) (config : HeapSettings) (s s' : Chair) (seen seen' : List Call) (b : Bool) (end : MarkEnd) → duty ≡ Mark → b ≡ false → SeesState config seen (λ w. b ≡ rests_in duty w) seen' → IsResumedWork config s s' turn_limit end → BeginsNoCycle s s' → TakesTurn duty config s seen s' seen'
-marks Mark config s s' seen seen' b end is off h w none = inr (seen_as config Mark seen seen' b false off h, (end, w, none))
+marks Mark config s s' seen seen' b end is off h w none = inr (seen', seen_as config Mark seen seen' b false off h, (end, w, none, refl))
 marks Sweep config s s' seen seen' b end is off h w none = absurd cc
 
 pub role_stays : {first : Stage} (duty : Duty) (config : HeapSettings) (s s' : Chair) (turns : ℕ) (end : MarkEnd) → IsMarkWorkFrom first config s s' turns end → s.role ≡ role_for duty → s'.role ≡ role_for duty
@@ -76,15 +77,15 @@ pub is_sweeper : (duty : Duty) (s : Chair) → duty ≡ Sweep → s.role ≡ rol
 is_sweeper Mark s is role = absurd cc
 is_sweeper Sweep s is role = role
 
-pub sweeps : (duty : Duty) (config : HeapSettings) (s s' : Chair) (seen seen' : List Call) (b : Bool) (end : SweepEnd) → duty ≡ Sweep → b ≡ false → SeesState config seen (λ w. b ≡ rests_in duty w) seen' → IsSweepWork config s s' turn_limit end → TakesTurn duty config s seen s' seen'
-sweeps Mark config s s' seen seen' b end is off h w = absurd cc
-sweeps Sweep config s s' seen seen' b end is off h w = inr (seen_as config Sweep seen seen' b false off h, (end, w))
+pub sweeps : (duty : Duty) (config : HeapSettings) (s s' : Chair) (seen now seen' : List Call) (b : Bool) (end : SweepEnd) → duty ≡ Sweep → b ≡ false → SeesState config seen (λ w. b ≡ rests_in duty w) now → IsPendingWork config s now s' seen' turn_limit end → TakesTurn duty config s seen s' seen'
+sweeps Mark config s s' seen now seen' b end is off h w = absurd cc
+sweeps Sweep config s s' seen now seen' b end is off h w = inr (now, seen_as config Sweep seen now b false off h, (end, w))
 
-pub role_keeps : (duty : Duty) (config : HeapSettings) (s s' : Chair) (turns : ℕ) (end : SweepEnd) → IsSweepWork config s s' turns end → s.role ≡ role_for duty → s'.role ≡ role_for duty
-role_keeps duty config s s' turns end w is = ap (λ (c : Chair). c.role) w.seat ∙ is
+pub role_keeps : (duty : Duty) (config : HeapSettings) (s s' : Chair) (seen seen' : List Call) (turns : ℕ) (end : SweepEnd) → IsPendingWork config s seen s' seen' turns end → s.role ≡ role_for duty → s'.role ≡ role_for duty
+role_keeps duty config s s' seen seen' turns end w is = ap (λ (c : Chair). c.role) w.seat ∙ is
 
 -- a turn is a run, or none
 pub turn_tends : (duty : Duty) (config : HeapSettings) (s s' : Chair) (seen seen' : List Call) → TakesTurn duty config s seen s' seen' → Tends duty config s s'
 turn_tends duty config s s' seen seen' (inl t) = subst (λ (x : Chair). Tends duty config s x) (sym t.1) (works_none duty config s)
-turn_tends Mark config s s' seen seen' (inr t) = record { runs = (s', t.1.0) ∷ []; each = (t.1.1, refl); begins = t.1.2 }
-turn_tends Sweep config s s' seen seen' (inr t) = ((s', t.1.0) ∷ [], (t.1.1, refl))
+turn_tends Mark config s s' seen seen' (inr t) = record { runs = (s', t.2.0) ∷ []; each = (t.2.1, refl); begins = t.2.2 }
+turn_tends Sweep config s s' seen seen' (inr t) = ((s', t.2.0) ∷ [], ((t.0, seen', t.2.1), refl))

@@ -5,7 +5,7 @@ use Rattle.dump_pump.specs.Inlets.{Incoming}
 use Rattle.dump_pump.specs.Outlets.{Outgoing}
 use Rattle.secret_word.specs.Words.{IsBehindWord}
 use Rattle.session_text.specs.Answers.{AnswerRelation}
-use Rattle.session_text.specs.declared.limits.SessionLimits.TheVariants.{Narrow}
+use Rattle.session_text.specs.declared.limits.SessionLimits.{SessionLimits}
 use Rattle.session_text.specs.Talks.{Serves}
 use Rattle.session_text.specs.declared.Ended.{Ended}
 use Rattle.session_text.specs.declared.Ended.TheVariants.{ReadFault}
@@ -26,25 +26,25 @@ TurnsAway (Some word) bytes end =
     ((rest : List ℕ) → IsBehindWord word bytes rest → ⊥) × (end ≡ Stranger)
 TurnsAway None bytes end = (asks_http bytes ≡ true) × (end ≡ Http)
 
--- a session was served over these bytes, which were read ahead and left the inlet as `b`, and what the inlet gave behind them, up to
--- `b'`
-abbrev pub ServesBehind : {S : Type 0} → AnswerRelation S → AnswerRelation S → List ℕ → Bool
-    → Incoming → Incoming → S
+-- a session with these limits was served over these bytes, which were read ahead and left the inlet as `b`, and what the inlet
+-- gave behind them, up to `b'`
+abbrev pub ServesBehind : {S : Type 0} → SessionLimits → AnswerRelation S → AnswerRelation S
+    → List ℕ → Bool → Incoming → Incoming → S
     → Outgoing → S → Outgoing → Ended → Type 0
-ServesBehind says begins bytes failed b b' c w c' w' ended =
+ServesBehind limits says begins bytes failed b b' c w c' w' ended =
     (i : Incoming) × (j : Incoming) × (i.taken ≡ []) × (i.failures ≡ 0)
     × (i.left ≡ prepend_known bytes b.left) × IsSeenBehind bytes failed b b' j
-    × Serves Narrow says begins i j c w c' w' ended
+    × Serves limits says begins i j c w c' w' ended
 
 -- these bytes were read ahead of a session, the last of the reads failed or not, and left the inlet as `b`: they turn the client away,
 -- and nothing was read, done or put out; or they don't, and a session was served behind those that are not the secret word's line
-abbrev pub ServesClient : {S : Type 0} → AnswerRelation S → AnswerRelation S → Option (List ℕ)
-    → List ℕ → Bool → Incoming → Incoming → S
+abbrev pub ServesClient : {S : Type 0} → SessionLimits → AnswerRelation S → AnswerRelation S
+    → Option (List ℕ) → List ℕ → Bool → Incoming → Incoming → S
     → Outgoing → S → Outgoing → SessionEnd → Type 0
-ServesClient says begins secret bytes failed b b' c w c' w' (Ran ended) =
+ServesClient limits says begins secret bytes failed b b' c w c' w' (Ran ended) =
     (rest : List ℕ) × Admits secret bytes rest
-    × ServesBehind says begins rest failed b b' c w c' w' ended
-ServesClient says begins secret bytes failed b b' c w c' w' end =
+    × ServesBehind limits says begins rest failed b b' c w c' w' ended
+ServesClient limits says begins secret bytes failed b b' c w c' w' end =
     TurnsAway secret bytes end × (b' ≡ b) × (c' ≡ c) × (w' ≡ w)
 
 -- the end of a session, whatever the reason of a read that failed

@@ -59,8 +59,8 @@ pub record IsServedFrom (config : HeapSettings) (terms : Terms) (s : Chair) (a a
   pub seen' : List Call
   pub ahead : IsAhead bytes failed a left
   pub legal : IsLegalLedger config seen
-  pub serves : ServesClient (seat_says config terms) (seat_begins config terms) terms.secret bytes
-      failed left a'
+  pub serves : ServesClient terms.limits (seat_says config terms) (seat_begins config terms)
+      terms.secret bytes failed left a'
       (record { seat = s; seen = seen }) w (record { seat = s'; seen = seen' }) w' end
 
 -- so it was; or memory for the first line was refused, and nothing was done or put out
@@ -91,8 +91,8 @@ pub record IsServedStaying (config : HeapSettings) (terms : Terms) (s : Chair) (
   pub seen' : List Call
   pub ahead : IsAhead bytes failed a left
   pub legal : IsLegalLedger config seen
-  pub serves : ServesClient (staying_says config terms) (staying_begins config terms) terms.secret
-      bytes failed left a'
+  pub serves : ServesClient terms.limits (staying_says config terms) (staying_begins config terms)
+      terms.secret bytes failed left a'
       (record { seat = s; seen = seen; pins = []; questions = terms.questions }) w last w' end
   pub closes : ClosesEach config last.pins last.seen seen'
   pub seat : s' ≡ last.seat

@@ -15,7 +15,8 @@ use Rattle.heap_lock.specs.Blanks.{Maker, chair_of}
 use Rattle.heap_lock.specs.LockStates.{Chair, IsChair}
 use Rattle.heap_work.specs.declared.MarkEnd.{MarkEnd}
 use Rattle.heap_work.specs.declared.SweepEnd.{SweepEnd}
-use Rattle.heap_work.specs.Rule.{BeginsNoCycle, IsResumedWork, IsSweepWork}
+use Rattle.heap_work.specs.Rule.{BeginsNoCycle, IsResumedWork}
+use Rattle.heap_work.specs.PendingSweeps.{IsPendingWork}
 use Rattle.heap_server.specs.SessionSeats.{AreUsers, IsFor}
 use Rattle.heap_server.specs.declared.sessions.Terms.{Terms}
 use Rattle.heap_server.specs.declared.tended.TendedHeap.{TendedHeap}
@@ -36,9 +37,10 @@ AreRuns Works s (run ∷ runs) s' = Works s run.0 run.1 × AreRuns Works run.0 r
 abbrev pub MarksOnce : HeapSettings → Chair → Chair → MarkEnd → Type 0
 MarksOnce config s s' end = IsResumedWork config s s' turn_limit end
 
--- a run of a sweep worker
+-- a run of a worker that sweeps only regions that it has seen to wait
 abbrev pub SweepsOnce : HeapSettings → Chair → Chair → SweepEnd → Type 0
-SweepsOnce config s s' end = IsSweepWork config s s' turn_limit end
+SweepsOnce config s s' end =
+    (seen seen' : List Call) × IsPendingWork config s seen s' seen' turn_limit end
 
 -- the seat's share is what it was and what runs of a worker on cycles that others began gained; no act of theirs begins a cycle
 pub record MarkRuns (config : HeapSettings) (s s' : Chair) : Type 0 where
@@ -46,7 +48,7 @@ pub record MarkRuns (config : HeapSettings) (s s' : Chair) : Type 0 where
   pub each : AreRuns (MarksOnce config) s runs s'
   pub begins : BeginsNoCycle s s'
 
--- the seat's share is what it was and what runs of a sweep worker gained
+-- the seat's share is what it was and what runs of such a worker gained
 abbrev pub SweepRuns : HeapSettings → Chair → Chair → Type 0
 SweepRuns config s s' = (runs : List (Chair × SweepEnd)) × AreRuns (SweepsOnce config) s runs s'
 
@@ -70,16 +72,19 @@ abbrev pub rests_in : Duty → HeapState → Bool
 rests_in Mark w = is_idle_phase w.phase
 rests_in Sweep w = is_none (pending_in w)
 
--- one run of this work's worker
-abbrev pub WorksOnce : Duty → HeapSettings → Chair → Chair → Type 0
-WorksOnce Mark config s s' = (end : MarkEnd) × MarksOnce config s s' end × BeginsNoCycle s s'
-WorksOnce Sweep config s s' = (end : SweepEnd) × SweepsOnce config s s' end
+-- one run of this work's worker, and the calls that were seen before and after it
+abbrev pub WorksOnce : Duty → HeapSettings → Chair → List Call → Chair → List Call → Type 0
+WorksOnce Mark config s seen s' seen' =
+    (end : MarkEnd) × MarksOnce config s s' end × BeginsNoCycle s s' × (seen' ≡ seen)
+WorksOnce Sweep config s seen s' seen' =
+    (end : SweepEnd) × IsPendingWork config s seen s' seen' turn_limit end
 
 -- the heap was seen to have no work of this kind, and nothing was done; or to have some, and the worker ran
 abbrev pub TakesTurn : Duty → HeapSettings → Chair → List Call → Chair → List Call → Type 0
 TakesTurn duty config s seen s' seen' =
     (SeesState config seen (λ w. rests_in duty w ≡ true) seen' × (s' ≡ s))
-    ⊎ (SeesState config seen (λ w. rests_in duty w ≡ false) seen' × WorksOnce duty config s s')
+    ⊎ ((now : List Call) × SeesState config seen (λ w. rests_in duty w ≡ false) now
+    × WorksOnce duty config s now s' seen')
 
 -- the marker's seat, the sweeper's, and those of `most` users
 abbrev pub AreStaff : ℕ → List Chair → Type 0

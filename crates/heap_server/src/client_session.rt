@@ -5,6 +5,7 @@ ghost use Rattle.heap_server.specs.Clients.{Admits, ServesBehind, ServesClient, 
 
 use crate::ahead::{Ahead, AheadInlet, AheadOrigin};
 use crate::http::asks_http;
+use crate::sessions::Terms;
 use secret_word::Secret;
 use session_text::{Commands, Ended, Inlet, Outlet, SessionLimits, serve};
 use std::alloc::Global;
@@ -45,29 +46,30 @@ fn admit(ahead: Ahead, secret: Option<Secret>) -> Result<Ahead, SessionEnd>
     }
 }
 
-/// Serves a client whose first line was read ahead, as `serve` does. If a secret word is asked for, that line has to be the word, and
-/// the session begins behind it; else it may not begin an HTTP request. A client whose first line is another is turned away: nothing
-/// more is read, and nothing is run or put out. Fails with NoMemory, before a line is run, if an allocation for the session fails.
-/// Gives the inlet back.
+/// Serves a client whose first line was read ahead, as `serve` does, on these terms. If they have a secret word, that line has
+/// to be the word, and the session begins behind it; else it may not begin an HTTP request. A client whose first line is
+/// another is turned away: nothing more is read, and nothing is run or put out. Fails with NoMemory, before a line is run, if
+/// an allocation for the session fails. Gives the inlet back.
 pub(crate) fn serve_client<I: Inlet + Drop, O: Outlet, C: Commands>(
     alloc: Global,
     inlet: I,
     ahead: Ahead,
     outlet: &mut O,
     commands: &mut C,
-    time: u64,
-    secret: Option<Secret>,
+    terms: &Terms,
 ) -> (SessionEnd, I)
-    ensures { ServesClient (AnswersCommand C.acts C.unknown time) (Begins C.acts C.unknown time)
-        secret ahead.bytes.items ahead.failed (I.seen inlet) (I.seen result.1) commands.old
-        (O.seen outlet.old) commands.new (O.seen outlet.new) result.0 }
+    ensures { ServesClient terms.now.limits (AnswersCommand C.acts C.unknown terms.now.time)
+        (Begins C.acts C.unknown terms.now.time) terms.now.secret ahead.bytes.items ahead.failed
+        (I.seen inlet) (I.seen result.1) commands.old (O.seen outlet.old) commands.new
+        (O.seen outlet.new) result.0 }
 {
-    let ahead = match admit(ahead, secret) {
+    let ahead = match admit(ahead, terms.secret) {
         Ok(ahead) => ahead,
         Err(end) => return (end, inlet),
     };
+    let (time, limits) = (terms.time, terms.limits);
     let (ended, inlet) = serve_behind::<I, O, C, Brand>(
-        alloc, inlet, ahead, outlet, commands, time,
+        alloc, inlet, ahead, outlet, commands, time, limits,
     );
     (SessionEnd::Ran(ended), inlet)
 }
@@ -80,21 +82,16 @@ fn serve_behind<I: Inlet + Drop, O: Outlet, C: Commands, B: AheadOrigin>(
     outlet: &mut O,
     commands: &mut C,
     time: u64,
+    limits: SessionLimits,
 ) -> (Ended, I)
     requires bytes { (ahead.bytes.items ≡ B.start.bytes) × (ahead.failed ≡ B.start.failed) }
     requires first { I.seen inlet ≡ B.start.first }
-    ensures { ServesBehind (AnswersCommand C.acts C.unknown time) (Begins C.acts C.unknown time)
-        B.start.bytes B.start.failed B.start.first (I.seen result.1) commands.old
-        (O.seen outlet.old) commands.new (O.seen outlet.new) result.0 }
+    ensures { ServesBehind limits (AnswersCommand C.acts C.unknown time)
+        (Begins C.acts C.unknown time) B.start.bytes B.start.failed B.start.first
+        (I.seen result.1) commands.old (O.seen outlet.old) commands.new (O.seen outlet.new)
+        result.0 }
 {
     let mut inlet: AheadInlet<I, B> = AheadInlet::new(inlet, ahead);
-    let ended = serve(
-        alloc,
-        &mut inlet,
-        outlet,
-        commands,
-        time,
-        SessionLimits::Narrow,
-    );
+    let ended = serve(alloc, &mut inlet, outlet, commands, time, limits);
     (ended, inlet.into_inlet())
 }

@@ -35,6 +35,7 @@ struct Loan<'a, I, O, C> {
     writer: &'a mut O,
     commands: &'a mut C,
     time: u64,
+    limits: SessionLimits,
 }
 
 impl<'a, I: Inlet, O: Outlet, C: Commands> Talk for Loan<'a, I, O, C> {
@@ -45,8 +46,9 @@ impl<'a, I: Inlet, O: Outlet, C: Commands> Talk for Loan<'a, I, O, C> {
         (new.reader.ghost_name ≡ old.reader.ghost_name)
         × (new.writer.ghost_name ≡ old.writer.ghost_name)
         × (new.commands.ghost_name ≡ old.commands.ghost_name)
-        × IsServedBeside C.acts C.unknown old.time (I.seen old.reader.now) (I.seen new.reader.now)
-        old.commands.now (O.seen old.writer.now) new.commands.now (O.seen new.writer.now) ended };
+        × IsServedBeside old.limits C.acts C.unknown old.time (I.seen old.reader.now)
+        (I.seen new.reader.now) old.commands.now (O.seen old.writer.now) new.commands.now
+        (O.seen new.writer.now) ended };
 
     fn talk(self) -> (Self, Ended) {
         let Loan {
@@ -55,14 +57,16 @@ impl<'a, I: Inlet, O: Outlet, C: Commands> Talk for Loan<'a, I, O, C> {
             writer,
             commands,
             time,
+            limits,
         } = self;
-        let ended = serve(alloc, reader, writer, commands, time, SessionLimits::Narrow);
+        let ended = serve(alloc, reader, writer, commands, time, limits);
         let loan = Loan {
             alloc,
             reader,
             writer,
             commands,
             time,
+            limits,
         };
         (loan, ended)
     }
@@ -121,12 +125,14 @@ pub fn serve_beside_page<L, R, I: Inlet, O: Outlet, C: Commands>(
     writer: &mut O,
     commands: &mut C,
     time: u64,
+    limits: SessionLimits,
 ) -> Result<Ended, AllocError>
 where
     L: Heap + Send + Sync,
     R: Clock + Eprint + Threads + Wait + Sync,
-    ensures served { IfOk result (IsServedBeside C.acts C.unknown time (I.seen reader.old)
-        (I.seen reader.new) commands.old (O.seen writer.old) commands.new (O.seen writer.new)) }
+    ensures served { IfOk result (IsServedBeside limits C.acts C.unknown time
+        (I.seen reader.old) (I.seen reader.new) commands.old (O.seen writer.old) commands.new
+        (O.seen writer.new)) }
     ensures reader { IfErr result (λ e. reader.new ≡ reader.old) }
     ensures writer { IfErr result (λ e. writer.new ≡ writer.old) }
     ensures commands { IfErr result (λ e. commands.new ≡ commands.old) }
@@ -137,6 +143,7 @@ where
         writer,
         commands,
         time,
+        limits,
     };
     let (session, ended) = talk_beside(rt, alloc, shared, page, session);
     let Loan {
@@ -145,6 +152,7 @@ where
         writer,
         commands,
         time: _,
+        limits: _,
     } = session;
     give_back(reader, writer, commands);
     match ended {

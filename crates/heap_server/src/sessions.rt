@@ -22,7 +22,7 @@ use heap_lock::{Blank, Config, Heap, Refusal, Role, Seat, Seats, Shared, Stub};
 use heap_page::PagePort;
 use live_dump::DumpListener;
 use secret_word::Secret;
-use session_text::{Ended, Inlet};
+use session_text::{Ended, Inlet, SessionLimits};
 use std::alloc::{AllocError, Global};
 use std::marker::Brand;
 use std::net::{TcpListener, TcpStream};
@@ -55,6 +55,8 @@ pub struct Terms {
     pub idle: u64,
     /// Whether the pins of a session are closed at its end, unless it kept them.
     pub stays: bool,
+    /// What each session may have at most.
+    pub limits: SessionLimits,
 }
 
 /// What a heap is opened for: the number of sessions, the listeners for their clients, and what the sessions have in common.
@@ -154,15 +156,14 @@ fn attend<L: Heap, R: Wait, I: Inlet + Drop, O: Outlet>(
         return Attended { end, inlet, seat };
     };
     let joined = Joined::new(shared, rt, seat, shared.witness(rt));
-    let (time, secret) = (terms.time, terms.secret);
     if terms.questions {
         let mut asking = Paced::new(AskingSeat::new(joined), hurry);
-        let (end, inlet) = serve_client(alloc, inlet, ahead, outlet, &mut asking, time, secret);
+        let (end, inlet) = serve_client(alloc, inlet, ahead, outlet, &mut asking, terms);
         let seat = asking.into_commands().into_seat();
         Attended { end, inlet, seat }
     } else {
         let mut acting = Paced::new(joined, hurry);
-        let (end, inlet) = serve_client(alloc, inlet, ahead, outlet, &mut acting, time, secret);
+        let (end, inlet) = serve_client(alloc, inlet, ahead, outlet, &mut acting, terms);
         let seat = acting.into_commands().into_seat();
         Attended { end, inlet, seat }
     }
@@ -190,9 +191,8 @@ fn attend_staying<L: Heap, R: Wait, I: Inlet + Drop, O: Outlet>(
         return Attended { end, inlet, seat };
     };
     let joined = Joined::new(shared, rt, seat, shared.witness(rt));
-    let (time, secret) = (terms.time, terms.secret);
     let mut staying = Paced::new(StayingSeat::new(alloc, joined, terms.questions), hurry);
-    let (end, inlet) = serve_client(alloc, inlet, ahead, outlet, &mut staying, time, secret);
+    let (end, inlet) = serve_client(alloc, inlet, ahead, outlet, &mut staying, terms);
     let seat = staying.into_commands().into_seat();
     Attended { end, inlet, seat }
 }

@@ -4,7 +4,7 @@ ghost use Rattle.heap_lock.specs.Collector.{SeesState};
 ghost use Rattle.heap_server.specs.Tending.{TakesTurn, Tends, rests_in, role_for};
 
 use heap_lock::{Heap, Phase, Seat, Shared, Witness};
-use heap_work::{Gate, MarkEnd, SweepEnd, resume_worker, sweep_worker};
+use heap_work::{Gate, MarkEnd, SweepEnd, pending_worker, resume_worker};
 use std::sync::Wait;
 use std::sync::atomic::{AtomicBool, Ordering};
 use std::thread;
@@ -37,7 +37,7 @@ fn pause<R: Clock>(rt: &R) {
 pub enum Duty {
     /// To go on with each cycle that others begin, by runs of a worker that begins none.
     Mark,
-    /// To sweep the regions that wait for it, by runs of a sweep worker.
+    /// To sweep the regions that wait for it, by runs of a worker that asks for no others.
     Sweep,
 }
 
@@ -110,7 +110,7 @@ fn works_on<L: Heap, R: Clock + Wait>(
             }
             _ => true,
         },
-        Duty::Sweep => match sweep_worker(shared, rt, seat, &mut gate, RUN_TURNS) {
+        Duty::Sweep => match pending_worker(shared, rt, seat, witness, &mut gate, RUN_TURNS) {
             SweepEnd::Refused(_) => false,
             _ => true,
         },

@@ -33,31 +33,31 @@ pub record IsSeated (config : HeapSettings) (c : Station) : Type 0 where
   pub only : made.seats ≡ c.seat ∷ []
   pub legal : IsLegalLedger config c.seen
 
--- the terms of the session: it answers questions
-abbrev pub own_terms : ℕ → Terms
-own_terms time =
-    record { time = time; questions = true; secret = None; idle = 0; stays = false }
+-- the terms of the session: it answers questions, and may have at most this
+abbrev pub own_terms : SessionLimits → ℕ → Terms
+own_terms limits time =
+    record { time = time; questions = true; secret = None; idle = 0; stays = false; limits = limits }
 
 -- a session as it begins: at such a seat, or as the lines of a file left it, which were run first in a session that may have at
 -- most this
 abbrev pub IsSeatBegun : SessionLimits → HeapSettings → Bool → ℕ → Station → Type 0
 IsSeatBegun limits config from time c =
     (b : Station) × IsSeated config b
-    × IsRunFirst limits from (seat_says config (own_terms time))
-    (seat_begins config (own_terms time)) b c
+    × IsRunFirst limits from (seat_says config (own_terms limits time))
+    (seat_begins config (own_terms limits time)) b c
 
 -- why a session doesn't begin: as without a page, or its port can't be listened on
 abbrev pub IsPageHindrance : Bool → Fault → Type 0
 IsPageHindrance from f = IsHindrance from f ⊎ (f ≡ Listen)
 
 -- a session with questions from the only seat of a heap of these settings, and how it ended; or it didn't begin, and then nothing
--- is read or written; the lines of the file may have at most this
+-- is read or written; the session and the lines of the file may each have at most this
 abbrev pub IsPageExploredOver : SessionLimits → HeapSettings → Bool → ℕ → Incoming → Incoming
     → Outgoing → Outgoing → Result (Unit {0}) Fault → Type 0
 IsPageExploredOver limits config from time a b w w' result =
     ((ended : Ended) × (c : Station) × (left : Station) × IsSeatBegun limits config from time c
-    × IsServedBeside (seat_acts config) (seat_answers config true) time a b c w left w' ended
-    × (result ≡ outcome_of ended))
+    × IsServedBeside limits (seat_acts config) (seat_answers config true) time a b c w left w'
+    ended × (result ≡ outcome_of ended))
     ⊎ ((f : Fault) × IsPageHindrance from f × (result ≡ Err f) × (b ≡ a) × (w' ≡ w))
 
 -- the same of a heap with the settings of a command line

@@ -2,6 +2,7 @@
 use Rattle.std.specs.Prelude.{◌≡◌, ◌≤◌, ℕ, ◌⊎◌, Bool, ◌||◌, true, false, List, [], Option, None, Some, Result, Ok, Err, length}
 use Rattle.dump_pump.specs.Inlets.{Incoming}
 use Rattle.dump_pump.specs.Outlets.{Outgoing}
+use Rattle.session_text.specs.Limits.{session_limits}
 use Rattle.session_text.specs.Writes.{IsTextWritten}
 use Rattle.heap_server.specs.Blanks.{Maker}
 use Rattle.heap_server.specs.Reports.{report_of}
@@ -58,6 +59,7 @@ terms_of s service secret =
       secret = secret;
       idle = service.idle;
       stays = service.stays;
+      limits = session_limits s.wide;
     }
 
 -- a heap was made of these settings with a seat for each of the service's sessions, and clients were served from its seats, from fewer

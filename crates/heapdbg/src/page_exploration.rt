@@ -18,7 +18,7 @@ use crate::watched_seat::WatchedSeat;
 use dump_pump::Outlet;
 use heap_server::{Blank, Heap, PagePort, Seat, Seats, serve_beside_page, users};
 use heapdbg_options::settings::{Settings, config};
-use session_text::Inlet;
+use session_text::{Inlet, session_limits};
 use std::alloc::Global;
 use std::fs::Files;
 use std::marker::Brand;
@@ -90,7 +90,11 @@ where
     let mut seat = WatchedSeat::new(rt, &shared, only_seat(seats), screen.watch);
     run_first(rt, request, from, screen.is_terminal, &mut seat)?;
     let (alloc, time) = (rt.alloc(), request.settings.time);
-    match serve_beside_page(rt, alloc, &shared, page, reader, writer, &mut seat, time) {
+    let limits = session_limits(request.settings.wide);
+    let served = serve_beside_page(
+        rt, alloc, &shared, page, reader, writer, &mut seat, time, limits,
+    );
+    match served {
         Ok(ended) => outcome(ended),
         Err(_) => Err(Fault::Memory),
     }

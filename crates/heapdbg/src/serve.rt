@@ -17,7 +17,7 @@ use heap_server::{
 };
 use heapdbg_options::settings::{Service, Settings, config};
 use secret_word::Secret;
-use session_text::write_all;
+use session_text::{session_limits, write_all};
 use std::alloc::Global;
 use std::net::{Net, TcpListener, TcpStream};
 use std::random::RandomSource;
@@ -257,6 +257,7 @@ fn terms(settings: &Settings, service: Service, secret: Option<Secret>) -> Terms
         secret,
         idle: service.idle,
         stays: service.stays,
+        limits: session_limits(settings.wide),
     }
 }
 

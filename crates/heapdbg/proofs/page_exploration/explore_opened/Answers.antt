@@ -6,13 +6,13 @@ returns-in-Ok g c =
     inl (
       c.in-Ok.ended,
       c.run_first.new.commands,
-      c.serve_beside_page.new.commands,
+      c.serve_beside_page-served.new.commands,
       (
         c.new-seat.result,
         record { made = c.args.blank; is = c.requires.made; only = search rules; legal = c.new-seat.ensures.legal },
         c.in_ok-run_first.ensures.run,
       ),
-      c.in-Ok.ensures.served,
+      rw c.session_limits-limits.ensures at c.in-Ok.ensures.served,
       c.outcome.ensures,
     )
 

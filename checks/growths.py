@@ -49,7 +49,7 @@ WIDE = [
     *(b"class %s%d - next:object v:long" % (b"<" * 200, number) for number in range(40)),
     *(line for number in range(20) for line in (b"newprim 0 0 long 1024", b"new 0 1 %d" % number, b"store 0 1 0 2", b"move 0 2 0 1")),
     *[b"open -"] * 6,
-    *(b"snap,clear 0 1,put 0 0 7 9,mark,mark,clear 0 0,finish,dump 6,sweep 0,sweep 1,close 3,histogram -".split(b",")),
+    *(b"clear 0 1,clear 0 2,snap,put 0 0 7 9,mark,finish,dump 6,sweep 0,sweep 1,sweep 2,sweep 3,close 3".split(b",")),
 ]
 
 # What the first of two clients sends to a heap with workers, whose answers are the same whatever these do; and the second. In the
@@ -577,7 +577,7 @@ def main(heapdbg, verbose=False):
             for line in wrong_sizes(program, library, lines):
                 print(f"{name}, {line}")
                 good = False
-        wide = [program, "run", "--wide", "1", "--questions", "1", "--regions", WIDE_REGIONS]
+        wide = [program, "run", "--wide", "1", "--regions", WIDE_REGIONS]
         good = told("a wide heap", wrong_sessions(wide, library, WIDE), verbose) and good
         for regions, both in BESIDE_WORKERS.items():
             name = f"{regions} regions beside workers and dumps"

@@ -3,6 +3,7 @@ use Rattle.std.proofs.Common.{◌≡◌, ℕ, zero, suc, ◌+◌, ◌<◌, ◌�
 use Rattle.std.specs.Prelude.{count_by}
 use Rattle.std.proofs.lemmas.List.{length-map, length-replicate}
 use Rattle.std.proofs.lemmas.List.Sums.{sum_by-cons, sum_by-set, count_by-le-length}
+use Rattle.heap_region.specs.Layout.{header_live}
 use Rattle.heap_region.specs.TurnedHeaders.{turned_header, turned_back_header, header_unmarked, header_dead, one_if, IsCounted}
 use Rattle.heap_region.specs.declared.cell.Header.{Header}
 use Rattle.heap_region.specs.declared.counts.Counts.{Counts}
@@ -91,10 +92,6 @@ split p q no_p no_q is (x ∷ hs) =
     go None = rw (no_p, no_q) refl
     go (Some h) = both (p (Some h)) (q (Some h)) (is h)
 
-abbrev is_live : Option Header → Bool
-is_live None = false
-is_live (Some h) = h.live
-
 abbrev is_marked : Option Header → Bool
 is_marked None = false
 is_marked (Some h) = h.mark
@@ -104,7 +101,10 @@ twice true = refl
 twice false = refl
 
 pub dead_among : (hs : List (Option Header)) (c : Counts) → IsCounted hs c → c.dead ≤ c.objects
-dead_among hs c is = omega (arith, is.dead, is.objects, split is_live header_dead refl refl (λ h. twice h.live) hs)
+dead_among hs c is = omega (arith, is.dead, is.objects, split header_live header_dead refl refl (λ h. twice h.live) hs)
+
+pub live_among : (hs : List (Option Header)) (c : Counts) → IsCounted hs c → count_by header_live hs + c.dead ≡ c.objects
+live_among hs c is = omega (arith, is.dead, is.objects, split header_live header_dead refl refl (λ h. twice h.live) hs)
 
 pub unmarked_among : (hs : List (Option Header)) (c : Counts) → IsCounted hs c → c.unmarked ≤ c.objects
 unmarked_among hs c is = omega (arith, is.unmarked, is.objects, split is_marked header_unmarked refl refl (λ h. twice h.mark) hs)
@@ -112,7 +112,7 @@ unmarked_among hs c is = omega (arith, is.unmarked, is.objects, split is_marked 
 pub counted_turned : (hs : List (Option Header)) (c d : Counts) → IsCounted hs c → d.objects ≡ c.objects → d.unmarked + c.dead ≡ c.objects → d.dead ≡ c.unmarked → IsCounted (map (option_map turned_header) hs) d
 counted_turned hs c d is objects unmarked dead = record {
   objects = omega (arith, alike is_some is_some turned_header refl (λ h. refl) hs, objects, is.objects);
-  unmarked = omega (arith, alike header_unmarked is_live turned_header refl (λ h. sym (twice h.live)) hs, split is_live header_dead refl refl (λ h. twice h.live) hs, unmarked, is.dead, is.objects);
+  unmarked = omega (arith, alike header_unmarked header_live turned_header refl (λ h. sym (twice h.live)) hs, split header_live header_dead refl refl (λ h. twice h.live) hs, unmarked, is.dead, is.objects);
   dead = omega (arith, alike header_dead header_unmarked turned_header refl (λ h. refl) hs, dead, is.unmarked);
   few = omega (arith, is.few, length-map hs (option_map turned_header));
 }

@@ -1,8 +1,8 @@
 //! The headers of a region's cells, whose bits are read by turns.
 ghost use Rattle.std.specs.Prelude.{◌≡◌, ◌<◌, ◌≤◌, [], length, map, Some, None, IsSome, option_map, count_by, replicate, slice_index_or, slice_set};
-ghost use Rattle.heap_region.specs.Layout.{with_bit};
+ghost use Rattle.heap_region.specs.Layout.{with_bit, header_live};
 ghost use Rattle.heap_region.specs.Limits.{region_words, cell_limit};
-ghost use Rattle.heap_region.specs.TurnedHeaders.{header_unmarked, turned_header, turned_back_header};
+ghost use Rattle.heap_region.specs.TurnedHeaders.{header_dead, header_unmarked, turned_header, turned_back_header};
 
 use crate::cell::{Bit, Cell, Header};
 use crate::counts::Counts;
@@ -134,6 +134,22 @@ impl Headers {
         ensures limit { result ≤ cell_limit }
     {
         self.counts.unmarked as u64
+    }
+
+    // Returns the number of objects that aren't live.
+    pub(crate) fn dead(&self) -> u64
+        ensures value { result ≡ count_by header_dead self.now }
+        ensures limit { result ≤ cell_limit }
+    {
+        self.counts.dead as u64
+    }
+
+    // Returns the number of objects that are live.
+    pub(crate) fn live(&self) -> u64
+        ensures value { result ≡ count_by header_live self.now }
+        ensures limit { result ≤ cell_limit }
+    {
+        (self.counts.objects - self.counts.dead) as u64
     }
 
     // Writes the header of the object in a free cell.

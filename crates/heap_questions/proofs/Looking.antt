@@ -5,6 +5,7 @@ use Rattle.std.proofs.lemmas.Option.{none-some, same_Some, slice_get_within, sli
 use Rattle.std.proofs.lemmas.Bool.{cases_eq, cases_Bool}
 use Rattle.heap_class.specs.declared.ObjRef.{ObjRef}
 use Rattle.heap_class.specs.Classes.{Class}
+use Rattle.heap_class.specs.Limits.{array_limit}
 use Rattle.heap_class.specs.declared.ObjKind.{ObjKind}
 use Rattle.hprof_text.specs.Image.{Image, DumpedObject, IsDumpable, IsKnown}
 use Rattle.hprof_text.proofs.ViewedObjects.{here}
@@ -66,6 +67,7 @@ pub record IsRead (image : Image) (f : Found) (kind : ObjKind) (words : List ℕ
   pub same_words : words ≡ object.words
   pub many : length words ≡ length object.words
   pub known : IsKnown image.classes kind (length words)
+  pub small : length words ≤ array_limit
 
 pub read : (image : Image) (places : List ObjRef) (nodes : List Node) (f : Found) (at : ObjRef) (kind : ObjKind) (words : List ℕ) → AreNodes image places nodes → node_with nodes f.id ≡ Some f.node → ((n : Node) → slice_get nodes f.node ≡ Some n → at ≡ n.at)
     → IsDumpable image → length places ≡ length image.objects → ((i : ℕ) → slice_get places i ≡ Some at → IfSome (slice_get image.objects i) (λ o. kind ≡ o.kind)) → ((i : ℕ) → slice_get places i ≡ Some at → IfSome (slice_get image.objects i) (λ o. words ≡ o.words))
@@ -73,7 +75,7 @@ pub read : (image : Image) (places : List ObjRef) (nodes : List Node) (f : Found
 read image places nodes f at kind words n e p d many k w =
     let s = stands image places nodes f at n e p in
     let h = here image places f.node at kind words d many s.placed (k f.node s.placed) (w f.node s.placed) in
-    record { object = h.object; there = s.object ∙ h.there; same_kind = h.same_kind; same_words = h.same_words; many = ap length h.same_words; known = h.known }
+    record { object = h.object; there = s.object ∙ h.there; same_kind = h.same_kind; same_words = h.same_words; many = ap length h.same_words; known = h.known; small = h.small }
 
 -- ---- slot by slot
 
@@ -86,9 +88,9 @@ pub record IsLooking (image : Image) (nodes : List Node) (first : List Found) (h
   pub longer : length first ≤ length queue
   pub roots : (n : ℕ) → HasRoots image first n → HasRoots image queue n
   pub all_roots : HasAllRoots image queue
-  pub ordered : IsOrdered image queue (Slot head slot)
+  pub ordered : IsOrdered image queue (Slot slot head)
 
-pub looking_begins : (image : Image) (nodes : List Node) (queue : List Found) (head : ℕ) (f : Found) (seen : List Bool) → IsSearching image nodes seen queue head → IsNear queue head → HasAllRoots image queue → IsOrdered image queue (Slot head 0) → slice_get queue head ≡ Some f → IsLooking image nodes queue head f seen queue 0
+pub looking_begins : (image : Image) (nodes : List Node) (queue : List Found) (head : ℕ) (f : Found) (seen : List Bool) → IsSearching image nodes seen queue head → IsNear queue head → HasAllRoots image queue → IsOrdered image queue (Slot 0 head) → slice_get queue head ≡ Some f → IsLooking image nodes queue head f seen queue 0
 looking_begins image nodes queue head f seen s n r o h =
     record { search = s; within = n f h; here = h; children = λ s y l. absurd (omega (arith, l)); longer = omega arith; roots = λ n r. r; all_roots = r; ordered = o }
 
@@ -106,17 +108,17 @@ looked_past image nodes first head f seen queue slot l n =
       longer = l.longer;
       roots = l.roots;
       all_roots = l.all_roots;
-      ordered = ordered_next image queue (Slot head slot) (Slot head (slot + 1)) (next_slot head slot) l.ordered;
+      ordered = ordered_next image queue (Slot slot head) (Slot (slot + 1) head) (next_slot head slot) l.ordered;
     }
 
 -- a slot that names x, which was offered
 pub looked_at : (image : Image) (places : List ObjRef) (nodes : List Node) (first : List Found) (head : ℕ) (f : Found) (seen : List Bool) (queue : List Found) (slot x : ℕ) (seen_after : List Bool) (new : List Found)
-    → AreNodes image places nodes → IsLooking image nodes first head f seen queue slot → named image f.id slot ≡ Some x → IsOfferedTo nodes x (f.depth + 1) (Slot head slot) seen queue seen_after new → IsLooking image nodes first head f seen_after new (slot + 1)
+    → AreNodes image places nodes → IsLooking image nodes first head f seen queue slot → named image f.id slot ≡ Some x → IsOfferedTo nodes x (f.depth + 1) (Slot slot head) seen queue seen_after new → IsLooking image nodes first head f seen_after new (slot + 1)
 looked_at image places nodes first head f seen queue slot x seen_after new n l e o =
     let w = slice_get_within queue head f l.here in
     let d = l.search.early head f l.here in
     let k : IsKept image nodes seen_after queue new head x (f.depth + 1) =
-    kept image places nodes seen queue head x (f.depth + 1) (Slot head slot) seen_after new n l.search l.within (omega (arith, w)) (omega (arith, w, d)) (f, l.here, refl, e) o in
+    kept image places nodes seen queue head x (f.depth + 1) (Slot slot head) seen_after new n l.search l.within (omega (arith, w)) (omega (arith, w, d)) (f, l.here, refl, e) o in
     record {
       search = k.search;
       within = k.within;
@@ -130,7 +132,7 @@ looked_at image places nodes first head f seen queue slot x seen_after new n l e
       longer = omega (arith, k.longer, l.longer);
       roots = λ m r n y lt q h. k.stays y 0 (l.roots m r n y lt q h);
       all_roots = λ r y lt q h. k.stays y 0 (l.all_roots r y lt q h);
-      ordered = ordered_more image places nodes seen queue head x (f.depth + 1) (Slot head slot) (Slot head (slot + 1)) seen_after new n l.search l.ordered
+      ordered = ordered_more image places nodes seen queue head x (f.depth + 1) (Slot slot head) (Slot (slot + 1) head) seen_after new n l.search l.ordered
           (slots_looked_at image nodes seen queue head slot f l.search l.all_roots l.here l.children) (next_slot head slot) (inr (refl, omega arith)) (f, l.here, refl, e) o;
     }
 

@@ -60,10 +60,10 @@ way_same queue k f g v w h i e m = sym e ∙ ap (λ (f : Found). f.via) (got_sam
 -- what stands at a place has one chain
 one_chain : (queue : List Found) (k r q : ℕ) (b c : List ℕ) → IsWayBack queue k r b → IsWayBack queue k q c → (r ≡ q) × (b ≡ c)
 one_chain queue k r q [] [] h i = let e = way_same queue k h.0 i.0 (Register r) (Register q) h.1 i.1 h.2 i.2 in (cc, refl)
-one_chain queue k r q [] (t ∷ c) h i = let e = way_same queue k h.0 i.0 (Register r) (Slot i.1 t) h.1 i.2 h.2 i.3 in cc
-one_chain queue k r q (s ∷ b) [] h i = let e = way_same queue k h.0 i.0 (Slot h.1 s) (Register q) h.2 i.1 h.3 i.2 in cc
+one_chain queue k r q [] (t ∷ c) h i = let e = way_same queue k h.0 i.0 (Register r) (Slot t i.1) h.1 i.2 h.2 i.3 in cc
+one_chain queue k r q (s ∷ b) [] h i = let e = way_same queue k h.0 i.0 (Slot s h.1) (Register q) h.2 i.1 h.3 i.2 in cc
 one_chain queue k r q (s ∷ b) (t ∷ c) h i =
-    let e : Slot h.1 s ≡ Slot i.1 t = way_same queue k h.0 i.0 (Slot h.1 s) (Slot i.1 t) h.2 i.2 h.3 i.3 in
+    let e : Slot s h.1 ≡ Slot t i.1 = way_same queue k h.0 i.0 (Slot s h.1) (Slot t i.1) h.2 i.2 h.3 i.3 in
     let p : h.1 ≡ i.1 = cc in
     let same : s ≡ t = cc in
     let o = one_chain queue h.1 r q b c h.4 (subst (λ n. IsWayBack queue n q c) (sym p) i.4) in
@@ -74,7 +74,7 @@ chains_rise : (image : Image) (queue : List Found) (next : Via) → IsOrdered im
 chains_rise image queue next o [] [] i j r q l h k = subst (λ (v : Via). Earlier v (Register q)) h.2 (subst (λ (w : Via). Earlier h.0.via w) k.2 (o.sorted i j h.0 k.0 l h.1 k.1))
 chains_rise image queue next o [] (t ∷ c) i j r q l h k = tt
 chains_rise image queue next o (s ∷ b) [] i j r q l h k = subst (λ (v : Via). Earlier v (Register q)) h.3 (subst (λ (w : Via). Earlier h.0.via w) k.2 (o.sorted i j h.0 k.0 l h.2 k.1))
-chains_rise image queue next o (s ∷ b) (t ∷ c) i j r q l h k = elim (subst (λ (v : Via). Earlier v (Slot k.1 t)) h.3 (subst (λ (w : Via). Earlier h.0.via w) k.3 (o.sorted i j h.0 k.0 l h.2 k.2))) [
+chains_rise image queue next o (s ∷ b) (t ∷ c) i j r q l h k = elim (subst (λ (v : Via). Earlier v (Slot t k.1)) h.3 (subst (λ (w : Via). Earlier h.0.via w) k.3 (o.sorted i j h.0 k.0 l h.2 k.2))) [
   | inl m ↦ inl (chains_rise image queue next o b c h.1 k.1 r q m h.4 k.4)
   | inr m ↦
       let e = one_chain queue h.1 r q b c h.4 (subst (λ n. IsWayBack queue n q c) (sym m.0) k.4) in
@@ -87,12 +87,12 @@ chain_there image queue s zero k f h l = go f.via refl (s.reached k f h)
   where
     go : (via : Via) → f.via ≡ via → IsReachedBy image queue f.id f.depth via → (r : ℕ) × (b : List ℕ) × IsWayBack queue k r b
     go (Register r) e m = (r, [], (f, h, e))
-    go (Slot p t) e m = absurd (omega (arith, m.2, l))
+    go (Slot t p) e m = absurd (omega (arith, m.2, l))
 chain_there image queue s (suc d) k f h l = go f.via refl (s.reached k f h) (λ j g i m. chain_there image queue s d j g i m)
   where
     go : (via : Via) → f.via ≡ via → IsReachedBy image queue f.id f.depth via → ((j : ℕ) (g : Found) → slice_get queue j ≡ Some g → g.depth ≤ d → (r : ℕ) × (b : List ℕ) × IsWayBack queue j r b) → (r : ℕ) × (b : List ℕ) × IsWayBack queue k r b
     go (Register r) e m rest = (r, [], (f, h, e))
-    go (Slot p t) e m rest = let c = rest p m.0 m.1 (omega (arith, m.2, l)) in (c.0, t ∷ c.1, (f, p, h, e, c.2))
+    go (Slot t p) e m rest = let c = rest p m.0 m.1 (omega (arith, m.2, l)) in (c.0, t ∷ c.1, (f, p, h, e, c.2))
 
 -- ---- any path
 
@@ -127,9 +127,9 @@ chain_first image queue next s o q (t ∷ c) x h there k f r (u ∷ b) g e i =
     let p = w.0 in
     let chain = chain_there image queue s w.1.depth p w.1 w.2 (omega arith) in
     let most = chain_first image queue next s o q c z h.1 object p w.1 chain.0 chain.1 w.2 w.3 chain.2 in
-    let lead : LeadsBy image queue (Slot p t) i.0.id =
+    let lead : LeadsBy image queue (Slot t p) i.0.id =
     (w.1, w.2, ap (λ y. named image y t) w.3 ∙ h.2 ∙ ap Some (sym (ap (λ (f : Found). f.id) (got_same queue k i.0 f i.2 g) ∙ e))) in
-    let no : ¬ Earlier (Slot p t) (Slot i.1 u) = subst (λ (v : Via). ¬ Earlier (Slot p t) v) i.3 (o.first k i.0 (Slot p t) i.2 lead) in
+    let no : ¬ Earlier (Slot t p) (Slot u i.1) = subst (λ (v : Via). ¬ Earlier (Slot t p) v) i.3 (o.first k i.0 (Slot t p) i.2 lead) in
     elim (cases_lt p i.1) [
       | inl l ↦ absurd (no (inl l))
       | inr l ↦ elim (cases_lt i.1 p) [

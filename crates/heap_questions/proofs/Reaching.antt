@@ -51,12 +51,12 @@ path_there image queue a zero k f h l = go f.via (a k f h)
   where
     go : (via : Via) → IsReachedBy image queue f.id f.depth via → (r : ℕ) × (slots : List ℕ) × Leads image r slots f.id
     go (Register r) e = (r, [], ap (option_and_then (λ y. followed image y [])) e.1)
-    go (Slot parent s) e = absurd (omega (arith, e.2, l))
+    go (Slot s parent) e = absurd (omega (arith, e.2, l))
 path_there image queue a (suc d) k f h l = go f.via (a k f h) (λ j p e m. path_there image queue a d j p e m)
   where
     go : (via : Via) → IsReachedBy image queue f.id f.depth via → ((j : ℕ) (p : Found) → slice_get queue j ≡ Some p → p.depth ≤ d → (r : ℕ) × (slots : List ℕ) × Leads image r slots p.id) → (r : ℕ) × (slots : List ℕ) × Leads image r slots f.id
     go (Register r) e rest = (r, [], ap (option_and_then (λ y. followed image y [])) e.1)
-    go (Slot parent s) e rest =
+    go (Slot s parent) e rest =
         let b = rest parent e.0 e.1 (omega (arith, e.2, l)) in
         (b.0, b.1 ++ s ∷ [], leads_more image b.0 b.1 e.0.id s f.id b.2 e.3)
 

@@ -33,18 +33,18 @@ abbrev pub AreLookedAt : Image → List Found → Via → Type 0
 AreLookedAt image queue via = (u : Via) (y : ℕ) → Earlier u via → LeadsBy image queue u y → HasId image y → (d : ℕ) × IsFound queue y d
 
 -- a way by a slot of the last in the queue is no earlier than one by what was there before
-not_earlier : (image : Image) (queue : List Found) (x d s : ℕ) (via : Via) → IsReachedBy image queue x d via → ¬ Earlier (Slot (length queue) s) via
+not_earlier : (image : Image) (queue : List Found) (x d s : ℕ) (via : Via) → IsReachedBy image queue x d via → ¬ Earlier (Slot s (length queue)) via
 not_earlier image queue x d s (Register r) h e = e
-not_earlier image queue x d s (Slot p t) h e =
+not_earlier image queue x d s (Slot t p) h e =
     let l = slice_get_within queue p h.0 h.1 in
     elim e [ inl a ↦ absurd (omega (arith, a, l)) | inr a ↦ absurd (omega (arith, a.0, l)) ]
 
 -- a way that leads to an object with one more in the queue led there before, or is by a slot of that one
-led_before : (image : Image) (queue : List Found) (g : Found) (via : Via) (y : ℕ) → LeadsBy image (queue ++ g ∷ []) via y → LeadsBy image queue via y ⊎ ((s : ℕ) × (via ≡ Slot (length queue) s))
+led_before : (image : Image) (queue : List Found) (g : Found) (via : Via) (y : ℕ) → LeadsBy image (queue ++ g ∷ []) via y → LeadsBy image queue via y ⊎ ((s : ℕ) × (via ≡ Slot s (length queue)))
 led_before image queue g (Register r) y h = inl h
-led_before image queue g (Slot p s) y h = elim (got_cases queue g p h.0 h.1) [
+led_before image queue g (Slot s p) y h = elim (got_cases queue g p h.0 h.1) [
   | inl e ↦ inl (h.0, e, h.2)
-  | inr e ↦ inr (s, ap (λ q. Slot q s) e.0)
+  | inr e ↦ inr (s, ap (λ q. Slot s q) e.0)
 ]
 
 ordered_added : (image : Image) (places : List ObjRef) (nodes : List Node) (seen : List Bool) (queue : List Found) (head : ℕ) (g : Found) (next : Via) → AreNodes image places nodes → IsSearching image nodes seen queue head → IsOrdered image queue g.via → AreLookedAt image queue g.via
@@ -70,7 +70,7 @@ ordered_added image places nodes seen queue head g next n s o looked a e r there
         let same : k.1.node ≡ g.node = same_Some k.1.node g.node (sym (s.placed k.0 k.1 k.2) ∙ ap (node_with nodes) k.3 ∙ there) in
         true≢false (sym (s.found k.0 k.1 k.2) ∙ ap (λ j. get_or seen j false) same ∙ unseen)
 
-    by_new : (via : Via) (d t : ℕ) (x : ℕ) (u : Via) → IsReachedBy image queue x d via → u ≡ Slot (length queue) t → ¬ Earlier u via
+    by_new : (via : Via) (d t : ℕ) (x : ℕ) (u : Via) → IsReachedBy image queue x d via → u ≡ Slot t (length queue) → ¬ Earlier u via
     by_new via d t x u h q l = not_earlier image queue x d t via h (subst (λ (w : Via). Earlier w via) q l)
 
     first : (k : ℕ) (f : Found) (via : Via) → slice_get (queue ++ g ∷ []) k ≡ Some f → LeadsBy image (queue ++ g ∷ []) via f.id → ¬ Earlier via f.via
@@ -106,30 +106,30 @@ ordered_more image places nodes seen queue head x d via next seen_after new n s 
 
 pub next_register : (r : ℕ) → IsAfter (Register r) (Register (r + 1))
 next_register r (Register q) l = omega (arith, l)
-next_register r (Slot p s) l = absurd l
+next_register r (Slot s p) l = absurd l
 
 pub registers_first : (n : ℕ) → IsAfter (Register n) (Slot 0 0)
 registers_first n (Register q) l = tt
-registers_first n (Slot p s) l = absurd l
+registers_first n (Slot s p) l = absurd l
 
 pub registers_looked_at : (image : Image) (queue : List Found) (r : ℕ) → HasRoots image queue r → AreLookedAt image queue (Register r)
 registers_looked_at image queue r h (Register q) y l e o = (0, h q y l e o)
-registers_looked_at image queue r h (Slot p s) y l e o = absurd l
+registers_looked_at image queue r h (Slot s p) y l e o = absurd l
 
 -- ---- slot by slot
 
-pub next_slot : (head slot : ℕ) → IsAfter (Slot head slot) (Slot head (slot + 1))
+pub next_slot : (head slot : ℕ) → IsAfter (Slot slot head) (Slot (slot + 1) head)
 next_slot head slot (Register q) l = tt
-next_slot head slot (Slot p s) l = elim l [ inl a ↦ inl a | inr a ↦ inr (a.0, omega (arith, a.1)) ]
+next_slot head slot (Slot s p) l = elim l [ inl a ↦ inl a | inr a ↦ inr (a.0, omega (arith, a.1)) ]
 
-pub next_head : (head slot : ℕ) → IsAfter (Slot head slot) (Slot (head + 1) 0)
+pub next_head : (head slot : ℕ) → IsAfter (Slot slot head) (Slot 0 (head + 1))
 next_head head slot (Register q) l = tt
-next_head head slot (Slot p s) l = elim l [ inl a ↦ inl (omega (arith, a)) | inr a ↦ inl (omega (arith, a.0)) ]
+next_head head slot (Slot s p) l = elim l [ inl a ↦ inl (omega (arith, a)) | inr a ↦ inl (omega (arith, a.0)) ]
 
 pub slots_looked_at : (image : Image) (nodes : List Node) (seen : List Bool) (queue : List Found) (head slot : ℕ) (f : Found) → IsSearching image nodes seen queue head → HasAllRoots image queue → slice_get queue head ≡ Some f → HasChildren image queue f.id slot (f.depth + 1)
-    → AreLookedAt image queue (Slot head slot)
+    → AreLookedAt image queue (Slot slot head)
 slots_looked_at image nodes seen queue head slot f s roots here children (Register q) y l e o = (0, roots q y (slice_get_within image.registers q y e) e o)
-slots_looked_at image nodes seen queue head slot f s roots here children (Slot p t) y l e o = elim l [
+slots_looked_at image nodes seen queue head slot f s roots here children (Slot t p) y l e o = elim l [
   | inl a ↦ (e.0.depth + 1, s.closed p e.0 a e.1 t y e.2 o)
   | inr a ↦
       let same : e.0 ≡ f = got_same queue head e.0 f (ap (slice_get queue) (sym a.0) ∙ e.1) here in

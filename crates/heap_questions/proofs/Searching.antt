@@ -23,7 +23,7 @@ found_more queue g x d h = (h.0, h.1, got_before queue g h.0 h.1 h.2, h.3, h.4)
 
 reached_more : (image : Image) (queue : List Found) (g : Found) (x d : ℕ) (via : Via) → IsReachedBy image queue x d via → IsReachedBy image (queue ++ g ∷ []) x d via
 reached_more image queue g x d (Register r) h = h
-reached_more image queue g x d (Slot parent s) h = (h.0, got_before queue g parent h.0 h.1, h.2, h.3)
+reached_more image queue g x d (Slot s parent) h = (h.0, got_before queue g parent h.0 h.1, h.2, h.3)
 
 -- how many are marked, with one more
 count_more : (seen : List Bool) (j : ℕ) → j < length seen → get_or seen j false ≡ false → count_by (λ b. b) (set seen j true) ≡ count_by (λ b. b) seen + 1

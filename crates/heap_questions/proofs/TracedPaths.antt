@@ -101,7 +101,7 @@ GoesOn queue index here slots = (k : ℕ) × (slice_get queue k ≡ Some here) �
 pub goes_on : (queue : List Found) (index : ℕ) (here : Found) → slice_get queue index ≡ Some here → GoesOn queue index here []
 goes_on queue index here h = (index, h, λ r back i. i)
 
-pub goes_on_more : (queue : List Found) (index : ℕ) (here next : Found) (slots : List ℕ) (parent s : ℕ) → GoesOn queue index here slots → here.via ≡ Slot parent s → slice_get queue parent ≡ Some next → GoesOn queue index next (slots ++ s ∷ [])
+pub goes_on_more : (queue : List Found) (index : ℕ) (here next : Found) (slots : List ℕ) (parent s : ℕ) → GoesOn queue index here slots → here.via ≡ Slot s parent → slice_get queue parent ≡ Some next → GoesOn queue index next (slots ++ s ∷ [])
 goes_on_more queue index here next slots parent s g e n = (parent, n, λ r back i. subst (IsWayBack queue index r) (sym (append_assoc slots (s ∷ []) back)) (g.2 r (s ∷ back) (here, parent, g.1, e, i)))
 
 pub goes_on_ends : (queue : List Found) (index : ℕ) (here : Found) (slots turned : List ℕ) (register : ℕ) → GoesOn queue index here slots → here.via ≡ Register register → turned ≡ reverse slots → IsWayBack queue index register (reverse turned)
@@ -109,13 +109,13 @@ goes_on_ends queue index here slots turned register g e v =
     subst (IsWayBack queue index register) (sym (ap reverse v ∙ reverse-reverse slots)) (subst (IsWayBack queue index register) (append-nil slots) (g.2 register [] (here, g.1, e)))
 
 -- it was reached by this slot of the object that stands at `parent`
-by_slot : (image : Image) (queue : List Found) (x d : ℕ) (via : Via) (parent s : ℕ) → via ≡ Slot parent s → IsReachedBy image queue x d via → IsReachedBy image queue x d (Slot parent s)
+by_slot : (image : Image) (queue : List Found) (x d : ℕ) (via : Via) (parent s : ℕ) → via ≡ Slot s parent → IsReachedBy image queue x d via → IsReachedBy image queue x d (Slot s parent)
 by_slot image queue x d via parent s e = subst (IsReachedBy image queue x d) e
 
-pub parent_there : (image : Image) (queue : List Found) (here f : Found) (slots : List ℕ) (parent s : ℕ) → AreReached image queue → IsTracing queue here f slots → here.via ≡ Slot parent s → IsReachedBy image queue here.id here.depth (Slot parent s)
+pub parent_there : (image : Image) (queue : List Found) (here f : Found) (slots : List ℕ) (parent s : ℕ) → AreReached image queue → IsTracing queue here f slots → here.via ≡ Slot s parent → IsReachedBy image queue here.id here.depth (Slot s parent)
 parent_there image queue here f slots parent s r t e = by_slot image queue here.id here.depth here.via parent s e (r t.there.0 here t.there.1)
 
-pub trace_more : (queue : List Found) (here f next : Found) (slots : List ℕ) (parent s : ℕ) → ((image : Image) × AreReached image queue) → IsTracing queue here f slots → here.via ≡ Slot parent s → slice_get queue parent ≡ Some next → IsTracing queue next f (slots ++ s ∷ [])
+pub trace_more : (queue : List Found) (here f next : Found) (slots : List ℕ) (parent s : ℕ) → ((image : Image) × AreReached image queue) → IsTracing queue here f slots → here.via ≡ Slot s parent → slice_get queue parent ≡ Some next → IsTracing queue next f (slots ++ s ∷ [])
 trace_more queue here f next slots parent s a t e n =
     let p = parent_there a.0 queue here f slots parent s a.1 t e in
     let same : p.0 ≡ next = got_same queue parent p.0 next p.1 n in

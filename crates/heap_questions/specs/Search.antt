@@ -45,7 +45,7 @@ IsFound queue x d =
 -- so it was reached: by a register, or by a slot of what was found before
 abbrev pub IsReachedBy : Image → List Found → ℕ → ℕ → Via → Type 0
 IsReachedBy image queue x d (Register r) = (d ≡ 0) × (slice_get image.registers r ≡ Some x)
-IsReachedBy image queue x d (Slot parent s) =
+IsReachedBy image queue x d (Slot s parent) =
     (p : Found) × (slice_get queue parent ≡ Some p) × (d ≡ p.depth + 1)
     × (named image p.id s ≡ Some x)
 
@@ -166,14 +166,14 @@ pub record AreSeen (nodes : List Node) (seen : List Bool) (queue : List Found) :
 -- the first way to an object is looked at before the second
 abbrev pub Earlier : Via → Via → Type 0
 Earlier (Register q) (Register r) = q < r
-Earlier (Register q) (Slot p s) = Unit {0}
-Earlier (Slot p s) (Register r) = ⊥
-Earlier (Slot p s) (Slot q t) = (p < q) ⊎ ((p ≡ q) × (s < t))
+Earlier (Register q) (Slot s p) = Unit {0}
+Earlier (Slot s p) (Register r) = ⊥
+Earlier (Slot s p) (Slot t q) = (p < q) ⊎ ((p ≡ q) × (s < t))
 
 -- this way leads to x: by a register, or by a slot of what stands in the queue
 abbrev pub LeadsBy : Image → List Found → Via → ℕ → Type 0
 LeadsBy image queue (Register r) x = slice_get image.registers r ≡ Some x
-LeadsBy image queue (Slot p s) x =
+LeadsBy image queue (Slot s p) x =
     (g : Found) × (slice_get queue p ≡ Some g) × (named image g.id s ≡ Some x)
 
 -- the queue is in the order of the ways to what was found, each is the first to it, and all are looked at before this one
@@ -192,5 +192,5 @@ HasSearchOrder image queue = (next : Via) × IsOrdered image queue next
 abbrev pub IsWayBack : List Found → ℕ → ℕ → List ℕ → Type 0
 IsWayBack queue k r [] = (f : Found) × (slice_get queue k ≡ Some f) × (f.via ≡ Register r)
 IsWayBack queue k r (s ∷ back) =
-    (f : Found) × (p : ℕ) × (slice_get queue k ≡ Some f) × (f.via ≡ Slot p s)
+    (f : Found) × (p : ℕ) × (slice_get queue k ≡ Some f) × (f.via ≡ Slot s p)
     × IsWayBack queue p r back

@@ -19,6 +19,20 @@ pub struct Path {
     pub slots: Vec<u64>,
 }
 
+// Returns the number of a register or of a place of a queue.
+fn number_of(place: u32) -> u64
+    ensures { result ≡ place }
+{
+    place as u64
+}
+
+// Returns the number of a slot.
+fn slot_number(slot: u16) -> u64
+    ensures { result ≡ slot }
+{
+    slot as u64
+}
+
 // Returns the path on which an object was found. Fails with NoMemory.
 fn trace(alloc: Global, queue: &[Found], index: usize) -> Result<Path, Refusal>
     requires reached { (image : Image) × AreReached image queue.now }
@@ -34,11 +48,14 @@ fn trace(alloc: Global, queue: &[Found], index: usize) -> Result<Path, Refusal>
         match here.via {
             Via::Register(register) => {
                 slots.reverse();
-                return Ok(Path { register, slots });
+                return Ok(Path {
+                    register: number_of(register),
+                    slots,
+                });
             }
             Via::Slot { parent, slot } => {
-                slots.push(slot)?;
-                let next = found_at(queue, parent);
+                slots.push(slot_number(slot))?;
+                let next = found_at(queue, number_of(parent) as usize);
                 here = next;
             }
         }

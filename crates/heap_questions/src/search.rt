@@ -1,6 +1,7 @@
 //! A search for all that the registers reach, breadth first.
 ghost use Rattle.std.specs.Prelude.{◌≡◌, ◌+◌, ◌<◌, ◌≤◌, length, Some, IfOk, IfErr, OnOk, slice_get};
 ghost use Rattle.heap_class.specs.declared.Refusal.TheVariants.{NoMemory};
+ghost use Rattle.hprof_text.specs.Image.{object_limit};
 ghost use Rattle.heap_questions.specs.Search.{AreNodes, AreSeen, HasAllRoots, HasSearchOrder, IsNear, IsOfferedTo, IsOrdered, IsSearched, IsSearching, IsWithin, KeepsRoots};
 ghost use Rattle.heap_questions.specs.declared.search.Via.TheVariants.{Register, Slot};
 
@@ -9,24 +10,28 @@ use crate::references::is_reference_slot;
 use heap_class::Refusal;
 use hprof_text::View;
 use std::alloc::Global;
+use std::mem::size_of;
 
 // How an object was found: by a register, or by a slot of an object that was found before.
 #[derive(Clone, Copy)]
 pub(crate) enum Via {
     // This register held its id.
-    Register(u64),
-    // This slot of this node held its id.
-    Slot { parent: usize, slot: u64 },
+    Register(u32),
+    // This slot of what stands at this place of the queue held its id.
+    Slot { slot: u16, parent: u32 },
 }
 
 // An object that was found: which node it is, its id, how many slots lead to it, and the last of them.
 #[derive(Clone, Copy)]
 pub(crate) struct Found {
-    node: usize,
     pub(crate) id: u64,
-    depth: u64,
+    node: u32,
+    depth: u32,
     pub(crate) via: Via,
 }
+
+// A search has one for each object that it found.
+const _: () = prove!(size_of::<Found>() <= 24);
 
 // What the registers reach: which nodes were found, and how, in the order in which they were.
 #[derive(Drop)]
@@ -44,8 +49,9 @@ pub(crate) fn found_at(queue: &[Found], index: usize) -> Found
 }
 
 // Adds an object to what was found, unless it was found before or there is none with this id. Fails with NoMemory.
-fn offer(nodes: &NodeList, reach: &mut Reach, id: u64, depth: u64, via: Via) -> Result<(), Refusal>
+fn offer(nodes: &NodeList, reach: &mut Reach, id: u64, depth: u32, via: Via) -> Result<(), Refusal>
     requires many { length reach.old.seen.items ≡ length nodes.now }
+    requires few { length nodes.now ≤ object_limit }
     ensures done { OnOk result (IsOfferedTo nodes.now id depth via
         reach.old.seen.items reach.old.queue.items reach.new.seen.items reach.new.queue.items) }
     ensures refused { IfErr result (λ e. e ≡ NoMemory) }
@@ -54,7 +60,7 @@ fn offer(nodes: &NodeList, reach: &mut Reach, id: u64, depth: u64, via: Via) -> 
         if !reach.seen[node] {
             reach.seen[node] = true;
             reach.queue.push(Found {
-                node,
+                node: node as u32,
                 id,
                 depth,
                 via,
@@ -78,9 +84,10 @@ fn find_roots<V: View>(view: &V, nodes: &NodeList, reach: &mut Reach) -> Result<
     ensures ordered { OnOk result (IsOrdered (V.image view.now) reach.new.queue.items (Slot 0 0)) }
     ensures refused { IfErr result (λ e. e ≡ NoMemory) }
 {
+    let _classes = view.classes();
     let registers = view.registers();
     for r in 0..registers.len() {
-        offer(nodes, reach, registers[r], 0, Via::Register(r as u64))?;
+        offer(nodes, reach, registers[r], 0, Via::Register(r as u32))?;
     }
     Ok(())
 }
@@ -98,7 +105,7 @@ fn expand<V: View>(
     requires there { head < length reach.old.queue.items }
     requires near { IsNear reach.old.queue.items head }
     requires roots { HasAllRoots (V.image view.now) reach.old.queue.items }
-    requires ordered { IsOrdered (V.image view.now) reach.old.queue.items (Slot head 0) }
+    requires ordered { IsOrdered (V.image view.now) reach.old.queue.items (Slot 0 head) }
     ensures search { OnOk result (IsSearching (V.image view.now)
         nodes.now reach.new.seen.items reach.new.queue.items (head + 1)) }
     ensures near { OnOk result (IsNear reach.new.queue.items (head + 1)) }
@@ -106,19 +113,19 @@ fn expand<V: View>(
     ensures roots { OnOk result (KeepsRoots (V.image view.now)
         reach.old.queue.items reach.new.queue.items) }
     ensures ordered { OnOk result (IsOrdered (V.image view.now)
-        reach.new.queue.items (Slot (head + 1) 0)) }
+        reach.new.queue.items (Slot 0 (head + 1))) }
     ensures refused { IfErr result (λ e. e ≡ NoMemory) }
 {
     let found = found_at(reach.queue.as_slice(), head);
-    let at = nodes.place(found.node);
+    let at = nodes.place(found.node as usize);
     let classes = view.classes();
     let kind = view.kind(at);
     let words = view.words(at);
     for slot in 0..words.len() {
         if is_reference_slot(&classes, kind, words.len() as u64, slot as u64) {
             let via = Via::Slot {
-                parent: head,
-                slot: slot as u64,
+                parent: head as u32,
+                slot: slot as u16,
             };
             offer(nodes, reach, words[slot], found.depth + 1, via)?;
         }

@@ -39,6 +39,13 @@ is_reference_slot-requires-clause-known g c =
     c.classes-classes.ensures.limits c.classes-classes.ensures.placed c.kind-kind.ensures c.words-words.ensures in
     subst (λ cs. IsKnown cs c.kind-kind.result (length c.words-words.result.now)) (sym c.classes-classes.ensures.value) r.known
 
+pub overflow_cast-via-then-is_reference_slot : goal.overflow_cast-via-then-is_reference_slot
+overflow_cast-via-then-is_reference_slot g c =
+    let f = c.found_at-found.result in
+    let r = read (g.V.View.image c.args.view.now) (g.V.View.places c.args.view.now) c.args.nodes.now f c.place-at.result c.kind-kind.result c.words-words.result.now c.requires.nodes (c.requires.search.placed c.args.head f (found_here _ _ c.args.head f c.as_slice.ensures.value c.found_at-found.ensures)) c.place-at.ensures
+    c.classes-classes.ensures.limits c.classes-classes.ensures.placed c.kind-kind.ensures c.words-words.ensures in
+    omega (arith, r.small, c.loop-slot-test.true, c.loop-slot.auto.slot-end)
+
 pub loop-slot-preserved : goal.loop-slot-preserved
 loop-slot-preserved g c =
     let image = g.V.View.image c.args.view.now in
@@ -75,4 +82,4 @@ pub returns-clause-ordered : goal.returns-clause-ordered
 returns-clause-ordered g c =
     let head = c.args.head in
     let s = c.loop-slot.slot in
-    ordered_next (g.V.View.image c.args.view.now) c.loop-slot.reach.queue.items (Slot head s) (Slot (head + 1) 0) (next_head head s) c.loop-slot.invariant.ordered
+    ordered_next (g.V.View.image c.args.view.now) c.loop-slot.reach.queue.items (Slot s head) (Slot 0 (head + 1)) (next_head head s) c.loop-slot.invariant.ordered

@@ -25,4 +25,4 @@ returns-clause-seen g c =
     are_seen (g.V.View.image c.args.view.now) c.args.nodes.now c.loop-head.reach.seen.items c.loop-head.reach.queue.items c.loop-head.head c.loop-head.invariant.search
 
 pub returns-clause-order : goal.returns-clause-order
-returns-clause-order g c = (Slot c.loop-head.head 0, c.loop-head.invariant.ordered)
+returns-clause-order g c = (Slot 0 c.loop-head.head, c.loop-head.invariant.ordered)

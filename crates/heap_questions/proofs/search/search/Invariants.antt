@@ -9,7 +9,7 @@ invariant-loop-head g l = record {
   near : IsNear l.reach.queue.items l.head;
   roots : HasRoots (g.V.View.image l.view) l.reach.queue.items (length (g.V.View.image l.view).registers);
   within : l.head ≤ length l.reach.queue.items;
-  ordered : IsOrdered (g.V.View.image l.view) l.reach.queue.items (Slot l.head 0);
+  ordered : IsOrdered (g.V.View.image l.view) l.reach.queue.items (Slot 0 l.head);
 }
 
 abbrev pub decreases-loop-head : goal.decreases-loop-head

@@ -1,3 +1,7 @@
 pub mod Readers
 pub mod WholeRecords
+pub mod ReadKinds
+pub mod ReadEntries
+pub mod ReadSubs
+pub mod EntryLoops
 pub mod ReadHeaders

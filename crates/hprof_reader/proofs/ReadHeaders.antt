@@ -1,6 +1,5 @@
 -- Headers are read as they are spelled.
 use Rattle.std.proofs.Common.{◌≡◌, ℕ, ◌+◌, ◌*◌, ◌/◌, ◌%◌, ◌^◌, ◌<◌, Bool, true, false, cond, eqb, List, ◌++◌, length, Option, Some, None, Result, Ok, Err, refl, sym, ap, subst, ◌∙◌, append_assoc, arith, inl, inr}
-use Rattle.std.specs.Prelude.{◌⊎◌}
 use Rattle.std.specs.Int.{w32}
 use Rattle.std.specs.Str.{bytes_eq}
 use Rattle.std.proofs.lemmas.Bool.{eqb-true}
@@ -14,15 +13,8 @@ use Rattle.hprof_reader.specs.declared.fault.Fault.TheVariants as faults
 use Rattle.hprof_reader.specs.declared.header.Header.{Header}
 use Rattle.hprof_reader.specs.Headers.{header_text, format_name, ids_of, times_at, after_name, header_parts}
 use Rattle.hprof_reader.specs.Reading.{◌>>=◌, number_at, taken_at}
-use Rattle.hprof_reader.proofs.Readers.{IsBytes, IsReader, exact_4, number_reader, bytes_reader, bound, same_value}
-
--- which branch was taken
-chosen : {A : Type 0} (b : Bool) (x y z : A) → cond b x y ≡ z → ((b ≡ true) × (x ≡ z)) ⊎ ((b ≡ false) × (y ≡ z))
-chosen true x y z e = inl (refl, e)
-chosen false x y z e = inr (refl, e)
-
-four : IsReader u4 (λ n. n < 2 ^ 32) (number_at w32)
-four = number_reader w32 (2 ^ 32) exact_4
+use Rattle.hprof_reader.proofs.Readers.{IsBytes, IsReader, bytes_reader, bound, same_value}
+use Rattle.hprof_reader.proofs.ReadKinds.{chosen, four}
 
 abbrev size : IdSize → Option IdSize
 size ids = Some ids

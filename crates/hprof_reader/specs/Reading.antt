@@ -1,6 +1,8 @@
 -- Parts of records, read from the front of bytes: a value and the bytes after it, or a fault.
 use Rattle.std.specs.Prelude.{◌≡◌, ℕ, List, length, take, drop, Result, Ok, Err, nat_lt, if◌then◌else◌}
-use Rattle.std.specs.Int.{Width, w8, w32, byte_len, from_be_bytes}
+use Rattle.std.specs.Int.{Width, w8, w16, w32, w64, byte_len, from_be_bytes}
+use Rattle.heap_class.specs.declared.IdSize.{IdSize}
+use Rattle.heap_class.specs.declared.IdSize.TheVariants.{Four, Eight}
 use Rattle.hprof_reader.specs.declared.fault.Fault.{Fault}
 use Rattle.hprof_reader.specs.declared.fault.Fault.TheVariants.{Short}
 use Rattle.hprof_reader.specs.Records.{Told}
@@ -29,6 +31,11 @@ number_at w bytes =
 -- this many bytes
 abbrev pub taken_at : ℕ → List ℕ → Result (List ℕ × List ℕ) Fault
 taken_at n bytes = if nat_lt (length bytes) n then Err Short else Ok (take n bytes, drop n bytes)
+
+-- the width of identifiers
+abbrev pub id_width : IdSize → Width
+id_width Four = w32
+id_width Eight = w64
 
 -- what `first` reads, and then what `second` reads by it
 abbrev pub joined : {A B : Type 0} → (List ℕ → Result (A × List ℕ) Fault)

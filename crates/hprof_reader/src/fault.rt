@@ -7,4 +7,8 @@ pub enum Fault {
     Short,
     /// The file doesn't begin as a dump does, or its identifiers have neither 4 nor 8 bytes.
     Header,
+    /// No sub-record has this tag.
+    Tag,
+    /// No kind of values has this code.
+    Type,
 }

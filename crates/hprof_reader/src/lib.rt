@@ -1,11 +1,16 @@
 //! The records of a dump, read one after another: HPROF, JAVA PROFILE 1.0.2 (the format comment of OpenJDK's heapDumper.cpp).
 #![tactic(auto)]
 
+mod class_dumps;
 mod fault;
 mod header;
+mod kinds;
 mod numbers;
 mod records;
+mod sub_records;
 
+pub use class_dumps::{ClassDump, ClassHead, Entry, Table};
 pub use fault::Fault;
 pub use header::{Header, header_at};
 pub use records::{Record, record_at};
+pub use sub_records::{Instance, ObjectArray, PrimArray, Root, SubRecord, sub_record_at};

@@ -1,8 +1,9 @@
 //! Numbers at the front of bytes.
-ghost use Rattle.std.specs.Int.{w8, w32};
-ghost use Rattle.hprof_reader.specs.Reading.{Gives, number_at, taken_at};
+ghost use Rattle.std.specs.Int.{w8, w16, w32, w64};
+ghost use Rattle.hprof_reader.specs.Reading.{Gives, number_at, taken_at, id_width};
 
 use crate::fault::Fault;
+use heap_class::IdSize;
 
 // Reads a number of 1 byte.
 pub(crate) fn u1_at(bytes: &[u8]) -> Result<(u8, &[u8]), Fault>
@@ -15,6 +16,17 @@ pub(crate) fn u1_at(bytes: &[u8]) -> Result<(u8, &[u8]), Fault>
     Ok((u8::from_be_bytes([front[0]]), rest))
 }
 
+// Reads a number of 2 bytes.
+pub(crate) fn u2_at(bytes: &[u8]) -> Result<(u16, &[u8]), Fault>
+    ensures { Gives (λ x. (x.0, x.1.now)) result (number_at w16 bytes.now) }
+{
+    if bytes.len() < 2 {
+        return Err(Fault::Short);
+    }
+    let (front, rest) = bytes.split_at(2);
+    Ok((u16::from_be_bytes([front[0], front[1]]), rest))
+}
+
 // Reads a number of 4 bytes.
 pub(crate) fn u4_at(bytes: &[u8]) -> Result<(u32, &[u8]), Fault>
     ensures { Gives (λ x. (x.0, x.1.now)) result (number_at w32 bytes.now) }
@@ -25,6 +37,33 @@ pub(crate) fn u4_at(bytes: &[u8]) -> Result<(u32, &[u8]), Fault>
     let (front, rest) = bytes.split_at(4);
     let number = u32::from_be_bytes([front[0], front[1], front[2], front[3]]);
     Ok((number, rest))
+}
+
+// Reads a number of 8 bytes.
+pub(crate) fn u8_at(bytes: &[u8]) -> Result<(u64, &[u8]), Fault>
+    ensures { Gives (λ x. (x.0, x.1.now)) result (number_at w64 bytes.now) }
+{
+    if bytes.len() < 8 {
+        return Err(Fault::Short);
+    }
+    let (front, rest) = bytes.split_at(8);
+    let number = u64::from_be_bytes([
+        front[0], front[1], front[2], front[3], front[4], front[5], front[6], front[7],
+    ]);
+    Ok((number, rest))
+}
+
+// Reads an identifier.
+pub(crate) fn id_at(ids: IdSize, bytes: &[u8]) -> Result<(u64, &[u8]), Fault>
+    ensures { Gives (λ x. (x.0, x.1.now)) result (number_at (id_width ids) bytes.now) }
+{
+    match ids {
+        IdSize::Four => {
+            let (id, rest) = u4_at(bytes)?;
+            Ok((id as u64, rest))
+        }
+        IdSize::Eight => u8_at(bytes),
+    }
 }
 
 // Takes this many bytes from the front.

@@ -9,6 +9,7 @@ pub mod Halving
 pub mod Reaching
 pub mod CutPaths
 pub mod Retained
+pub mod KeptObjects
 pub mod NamedObjects
 pub mod RankedRows
 pub mod SearchOrder
@@ -17,6 +18,7 @@ pub mod ToldObjects
 pub mod Writes
 pub mod Walk
 pub mod ChangedSlots
+pub mod WrittenSlots
 pub mod NewestSteps
 pub mod Sizes
 pub mod ImagePaths
@@ -25,3 +27,4 @@ pub mod PastIds
 pub mod PastLosses
 pub mod ListedObjects
 pub mod GrayMarks
+pub mod CountedCells

@@ -5,11 +5,14 @@ pub mod Referrers
 pub mod Search
 pub mod Garbage
 pub mod Dominators
+pub mod Kept
 pub mod ObjectLists
 pub mod Registers
 pub mod Ranking
 pub mod Changes
 pub mod SlotChanges
+pub mod SlotWrites
 pub mod Newest
 pub mod Losses
 pub mod Cells
+pub mod RegionCounts

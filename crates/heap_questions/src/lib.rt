@@ -6,6 +6,7 @@ mod dominators;
 mod garbage;
 mod growth;
 mod index;
+mod kept;
 mod nodes;
 mod object_list;
 mod objects;
@@ -13,23 +14,26 @@ mod order;
 mod past;
 mod paths;
 mod references;
+mod region_counts;
 mod registers;
 mod rows;
 mod search;
 
 pub use cells::{CellState, CellStates};
-pub use dominators::{count_retained, retained_by_cut};
+pub use dominators::{RetainedObjects, count_retained, retained_by_cut};
 pub use garbage::count_garbage;
 pub use growth::{Change, compare};
 pub use index::ObjectIndex;
+pub use kept::count_kept;
 pub use object_list::{ListedObject, list_objects};
 pub use objects::{ShownObject, object_with, slot_kind};
 pub use order::ranking;
 pub use past::{
-    Loss, PastEvent, PastStep, SlotChange, birth, history, last_write, loss_of, path_is_reach,
-    refers_at, slot_changes, unreached_stays,
+    Loss, PastEvent, PastStep, SlotChange, SlotWrite, birth, history, last_write, loss_of,
+    path_is_reach, refers_at, slot_changes, slot_writes, unreached_stays,
 };
 pub use paths::{Path, shortest_path};
 pub use references::{Referrer, referrers};
+pub use region_counts::{RegionCounts, count_region};
 pub use registers::{NamedObject, named_by_registers};
 pub use rows::{CLASS_ROWS, Histogram, Row, count_by_class, kind_row, value_size};

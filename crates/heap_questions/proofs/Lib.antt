@@ -9,6 +9,7 @@ pub mod Halving
 pub mod Reaching
 pub mod CutPaths
 pub mod Retained
+pub mod KeptObjects
 pub mod NamedObjects
 pub mod RankedRows
 pub mod SearchOrder
@@ -25,3 +26,4 @@ pub mod PastIds
 pub mod PastLosses
 pub mod ListedObjects
 pub mod GrayMarks
+pub mod CountedCells

@@ -5,6 +5,7 @@ pub mod Referrers
 pub mod Search
 pub mod Garbage
 pub mod Dominators
+pub mod Kept
 pub mod ObjectLists
 pub mod Registers
 pub mod Ranking
@@ -13,3 +14,4 @@ pub mod SlotChanges
 pub mod Newest
 pub mod Losses
 pub mod Cells
+pub mod RegionCounts

@@ -7,7 +7,7 @@ use Rattle.heap_trail.specs.Machine.{Machine}
 use Rattle.hprof_text.specs.Image.{Image}
 use Rattle.question_text.specs.declared.answers.StateQuestion.{StateQuestion}
 use Rattle.question_text.specs.declared.question.Question.{Question}
-use Rattle.question_text.specs.declared.question.Question.TheVariants.{Histogram, Garbage, Growth, Registers, Classes, Objects, Referrers, Path, Retained, Show, Born, Wrote, Watch, Dropped, History, Pins, Cells, Status}
+use Rattle.question_text.specs.declared.question.Question.TheVariants.{Histogram, Garbage, Growth, Registers, Classes, Objects, Referrers, Path, Retained, Show, Born, Wrote, Watch, Dropped, History, Pins, Cells, Regions, Status}
 use Rattle.question_text.specs.Births.{IsBornText}
 use Rattle.question_text.specs.CellLists.{IsCellsText}
 use Rattle.question_text.specs.ClassLists.{IsClassesText}
@@ -21,6 +21,7 @@ use Rattle.question_text.specs.ObjectLists.{IsObjectsText}
 use Rattle.question_text.specs.Objects.{IsShowText, shows_mark}
 use Rattle.question_text.specs.Paths.{IsPathText}
 use Rattle.question_text.specs.PinLists.{IsPinsText}
+use Rattle.question_text.specs.RegionLists.{IsRegionsText}
 use Rattle.question_text.specs.Registers.{IsRegistersText}
 use Rattle.question_text.specs.Referrers.{IsReferrersText}
 use Rattle.question_text.specs.Questions.{question_of}
@@ -66,6 +67,7 @@ IsAnswer (Dropped x) m acts text = IsDroppedText x m.trail text
 IsAnswer (History count) m acts text = IsHistoryText count m.trail text
 IsAnswer Pins m acts text = IsPinsText m.pins text
 IsAnswer Cells m acts text = IsCellsText m.trail.current text
+IsAnswer Regions m acts text = IsRegionsText m.trail.current text
 IsAnswer Status m acts text = IsStatusText m acts text
 
 -- the answer of a line that asks this question; or none, and it may be a comment or ask for help

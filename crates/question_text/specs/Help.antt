@@ -34,6 +34,7 @@ question_forms =
     ∷ form_of (codes "history") (codes "history N") (codes "history 10")
     ∷ form_of (codes "pins") (codes "pins") (codes "pins")
     ∷ form_of (codes "cells") (codes "cells") (codes "cells")
+    ∷ form_of (codes "regions") (codes "regions") (codes "regions")
     ∷ form_of (codes "status") (codes "status") (codes "status")
     ∷ form_of (codes "collect") (codes "collect") (codes "collect")
     ∷ form_of (codes "help") (codes "help WORD") (codes "help path")

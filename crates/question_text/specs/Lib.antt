@@ -14,6 +14,7 @@ pub mod ObjectLists
 pub mod Places
 pub mod PinLists
 pub mod CellLists
+pub mod RegionLists
 pub mod Statuses
 pub mod Births
 pub mod Writes

@@ -5,7 +5,7 @@ use Rattle.session_grammar.specs.Grammar.{at_end, next_number, number_of_word, o
 use Rattle.question_text.specs.declared.question.At.{At}
 use Rattle.question_text.specs.declared.question.At.TheVariants.{Current, Pin, Place}
 use Rattle.question_text.specs.declared.question.Question.{Question}
-use Rattle.question_text.specs.declared.question.Question.TheVariants.{Histogram, Garbage, Growth, Registers, Classes, Objects, Referrers, Path, Retained, Show, Born, Wrote, Watch, Dropped, History, Pins, Cells, Status}
+use Rattle.question_text.specs.declared.question.Question.TheVariants.{Histogram, Garbage, Growth, Registers, Classes, Objects, Referrers, Path, Retained, Show, Born, Wrote, Watch, Dropped, History, Pins, Cells, Regions, Status}
 use Rattle.question_text.specs.Ids.{id_of_word}
 
 -- the state that a word names: `-`, `@` and a place, or the number of a pin
@@ -82,6 +82,7 @@ past_rules =
     ∷ (codes "dropped", λ ws. option_map (λ x. Dropped x) (one_id ws))
     ∷ (codes "pins", λ ws. at_end Pins ws)
     ∷ (codes "cells", λ ws. at_end Cells ws)
+    ∷ (codes "regions", λ ws. at_end Regions ws)
     ∷ (codes "status", λ ws. at_end Status ws)
     ∷ (codes "history", λ ws. option_map (λ n. History n) (one_number ws))
     ∷ (codes "wrote", λ ws. option_map (λ a. Wrote a.0 a.1) (id_and_number ws))

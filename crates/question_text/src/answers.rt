@@ -20,6 +20,7 @@ use crate::path::path_answer;
 use crate::pin_list::pins_answer;
 use crate::question::{At, Question, question_of};
 use crate::referrers::referrers_answer;
+use crate::region_list::regions_answer;
 use crate::registers::registers_answer;
 use crate::rows::{Unanswered, reason_line};
 use crate::show::{show_answer, shows_mark};
@@ -185,6 +186,7 @@ pub fn answer(alloc: Global, machine: &Machine, acts: Option<u64>, question: Que
         Question::History(count) => line_answer(history_answer(alloc, machine, count)),
         Question::Pins => line_answer(pins_answer(alloc, machine)),
         Question::Cells => line_answer(cells_answer(alloc, machine)),
+        Question::Regions => line_answer(regions_answer(alloc, machine)),
         Question::Status => line_answer(status_answer(alloc, machine, acts)),
     }
 }

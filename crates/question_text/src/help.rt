@@ -32,6 +32,7 @@ pub fn question_help(word: &[u8]) -> Option<&'static [u8]>
         b"history" => Some(b"row history N\nrow history 10\nok\n"),
         b"pins" => Some(b"row pins\nrow pins\nok\n"),
         b"cells" => Some(b"row cells\nrow cells\nok\n"),
+        b"regions" => Some(b"row regions\nrow regions\nok\n"),
         b"status" => Some(b"row status\nrow status\nok\n"),
         b"collect" => Some(b"row collect\nrow collect\nok\n"),
         b"help" => Some(b"row help WORD\nrow help path\nok\n"),
@@ -91,7 +92,7 @@ pub fn all_help() -> &'static [u8]
         row rewind N\nrow open AT\nrow piece PIN\nrow dump PIN\nrow close PIN\nrow end\n\
         row histogram [AT]\nrow garbage [AT]\nrow growth AT [AT]\nrow registers [AT]\nrow classes [AT]\n\
         row objects [AT]\nrow referrers [AT] ID\nrow path [AT] ID\nrow retained [AT] ID\nrow show [AT] ID\n\
-        row born ID\nrow wrote ID SLOT\nrow watch ID SLOT\nrow dropped ID\nrow history N\nrow pins\nrow cells\nrow status\nrow collect\n\
+        row born ID\nrow wrote ID SLOT\nrow watch ID SLOT\nrow dropped ID\nrow history N\nrow pins\nrow cells\nrow regions\nrow status\nrow collect\n\
         row help WORD\nok\n"
 }
 

@@ -37,6 +37,7 @@ mod pin_list;
 mod place;
 mod question;
 mod referrers;
+mod region_list;
 mod registers;
 mod rows;
 mod session;

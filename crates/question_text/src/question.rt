@@ -57,6 +57,8 @@ pub enum Question {
     Pins,
     /// What each cell of the regions in use holds.
     Cells,
+    /// How many objects each region in use has.
+    Regions,
     /// Where the heap and its collector are.
     Status,
 }
@@ -145,6 +147,9 @@ fn past_question(keyword: &[u8], words: Words) -> Option<Question>
     }
     if is_word(keyword, b"cells") {
         return at_end(Question::Cells, words);
+    }
+    if is_word(keyword, b"regions") {
+        return at_end(Question::Regions, words);
     }
     if is_word(keyword, b"status") {
         return at_end(Question::Status, words);

@@ -23,6 +23,7 @@ WANTED = {
     "history": ("ok",),
     "pins": ("ok",),
     "cells": ("ok",),
+    "regions": ("ok",),
     "status": ("ok",),
     "collect": ("ok",),
     "help": ("ok", "bad"),

@@ -19,6 +19,7 @@ from .rows import (
     PastStep,
     Piece,
     Reader,
+    RegionRow,
     Register,
     RegisterReference,
     RegisterStep,
@@ -45,6 +46,7 @@ from .rows import (
     piece,
     place_or_older,
     reference,
+    region_of,
     register,
     rows_by,
     slot,
@@ -236,6 +238,10 @@ class Calls:
         """Returns `Cells` of each region in use: a letter is `.` for a free cell, `o` for a live object, `m` for a marked one, `g`
         for a gray one, and `x` for one that isn't live."""
         return self.send("cells", rows_by(cells_of))
+
+    def regions(self) -> list[RegionRow]:
+        """Returns a `RegionRow` for each region in use."""
+        return self.send("regions", rows_by(region_of))
 
     def heap_status(self) -> dict[str, Union[int, str]]:
         """Asks `status`, and returns a dict of numbers, but for "phase", which is "idle" or "marking": "place", "retained", "gray",

@@ -8,7 +8,7 @@ from typing import Iterable, NamedTuple, Optional, Union
 LINE = re.compile(r"[ -~]*")
 WORD = re.compile(r"[!-~]+")
 QUESTIONS = """show registers classes objects histogram growth path retained referrers garbage wrote watch born dropped history
-pins cells status collect help""".split()
+pins cells regions status collect help""".split()
 
 
 class NotDoneFacts(NamedTuple):

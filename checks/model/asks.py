@@ -86,7 +86,7 @@ class AskingDraw(Draw):
         draws = {"a": self.moment, "i": self.identifier, "n": lambda: self.lots.near(self.lots.below(8), 70)}
         forms = "" if word == b"help" else QUESTIONS[word]
         forms, may_be_left_out, rest = forms.partition("?")
-        left_out = bool(may_be_left_out) and self.lots.once_in(2)
+        left_out = bool(may_be_left_out) and self.lots.once_in(4)
         forms += rest[left_out:]
         words = self.help_words() if word == b"help" else [draws[form]() for form in forms]
         accepted = self.say(word.decode(), *words)

@@ -20,6 +20,7 @@ question_forms =
     form_of (codes "histogram") (codes "histogram [AT]") (codes "histogram -")
     ∷ form_of (codes "garbage") (codes "garbage [AT]") (codes "garbage 1")
     ∷ form_of (codes "growth") (codes "growth AT [AT]") (codes "growth @120 -")
+    ∷ form_of (codes "kept") (codes "kept AT [AT]") (codes "kept @120 -")
     ∷ form_of (codes "registers") (codes "registers [AT]") (codes "registers -")
     ∷ form_of (codes "classes") (codes "classes [AT]") (codes "classes -")
     ∷ form_of (codes "objects") (codes "objects [AT]") (codes "objects -")

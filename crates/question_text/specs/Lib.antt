@@ -8,6 +8,7 @@ pub mod Referrers
 pub mod Registers
 pub mod ClassLists
 pub mod Growths
+pub mod Kept
 pub mod Paths
 pub mod Objects
 pub mod ObjectLists

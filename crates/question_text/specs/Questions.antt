@@ -5,7 +5,7 @@ use Rattle.session_grammar.specs.Grammar.{at_end, next_number, number_of_word, o
 use Rattle.question_text.specs.declared.question.At.{At}
 use Rattle.question_text.specs.declared.question.At.TheVariants.{Current, Pin, Place}
 use Rattle.question_text.specs.declared.question.Question.{Question}
-use Rattle.question_text.specs.declared.question.Question.TheVariants.{Histogram, Garbage, Growth, Registers, Classes, Objects, Referrers, Path, Retained, Show, Born, Wrote, Watch, Dropped, History, Pins, Cells, Regions, Status}
+use Rattle.question_text.specs.declared.question.Question.TheVariants.{Histogram, Garbage, Growth, Kept, Registers, Classes, Objects, Referrers, Path, Retained, Show, Born, Wrote, Watch, Dropped, History, Pins, Cells, Regions, Status}
 use Rattle.question_text.specs.Ids.{id_of_word}
 
 -- the state that a word names: `-`, `@` and a place, or the number of a pin
@@ -98,6 +98,7 @@ question_rules =
     ∷ (codes "growth", λ ws. option_map (λ a. Growth a.0 a.1) (at_and_optional ws))
     ∷ (codes "classes", λ ws. option_map (λ at. Classes at) (optional_at ws))
     ∷ (codes "objects", λ ws. option_map (λ at. Objects at) (optional_at ws))
+    ∷ (codes "kept", λ ws. option_map (λ a. Kept a.0 a.1) (at_and_optional ws))
     ∷ (codes "referrers", λ ws. option_map (λ a. Referrers a.0 a.1) (optional_at_and_id ws))
     ∷ (codes "path", λ ws. option_map (λ a. Path a.0 a.1) (optional_at_and_id ws))
     ∷ (codes "retained", λ ws. option_map (λ a. Retained a.0 a.1) (optional_at_and_id ws))

@@ -29,6 +29,7 @@ mod help;
 mod histogram;
 mod history;
 mod id;
+mod kept;
 mod loss;
 mod names;
 mod object_list;

@@ -29,6 +29,8 @@ pub enum Question {
     Garbage(At),
     /// The rows of a histogram that differ between two states.
     Growth { older: At, newer: At },
+    /// What is reached in the newer state and isn't in the older, as a histogram has it.
+    Kept { older: At, newer: At },
     /// What each register names.
     Registers(At),
     /// The classes.
@@ -179,6 +181,10 @@ fn later_question(keyword: &[u8], words: Words) -> Option<Question>
     }
     if is_word(keyword, b"objects") {
         return Some(Question::Objects(optional_at(words)?));
+    }
+    if is_word(keyword, b"kept") {
+        let (older, newer) = at_and_optional(words)?;
+        return Some(Question::Kept { older, newer });
     }
     if is_word(keyword, b"referrers") {
         let (at, id) = optional_at_and_id(words)?;

@@ -9,6 +9,7 @@ WANTED = {
     "histogram": ABOUT_A_MOMENT,
     "garbage": ABOUT_A_MOMENT,
     "growth": ABOUT_A_MOMENT,
+    "kept": ("ok nothing", "ok some", *ABOUT_A_MOMENT[1:]),
     "path": (*ABOUT_A_MOMENT, "no 27", "no 28"),
     "retained": ("ok nothing", "ok itself", "ok more", "ok without AT", "no 22", "no 23", "no 24", "no 28"),
     "referrers": (*ABOUT_A_MOMENT, "no 28"),
@@ -38,7 +39,7 @@ def sorts(word, left_out, last):
         yield "ok without AT"
     if word == b"retained" and last[0] == "ok":
         yield "ok " + {"0": "nothing", "1": "itself"}.get(last[1], "more")
-    elif word == b"watch" and last[0] == "ok":
+    elif word in (b"watch", b"kept") and last[0] == "ok":
         yield "ok nothing" if last[1] == "0" else "ok some"
     else:
         yield " ".join(last[:2]) if last[0] == "no" or last[1:2] in (["place"], ["older"], ["reached"]) else last[0]

@@ -162,6 +162,18 @@ class Replies(unittest.TestCase):
         self.assertEqual(heap.objects(), [])
         self.assertEqual(heap.writer.getvalue(), b"objects 2\ncells\nstatus\nobjects -\n")
 
+    def test_kept(self):
+        heap = canned("row 3 48 Node", "ok 3 48", "ok 0 0")
+        self.assertEqual((heap.kept(Place(7)), heap.kept(1, PinAt(2, 9))), ([(3, 48, "Node")], []))
+        self.assertEqual(heap.writer.getvalue(), b"kept @7 -\nkept 1 2\n")
+
+    def test_kept_of_a_heap(self):
+        with session("--questions", "1") as heap:
+            heap.define_class("Node", NODE)
+            heap.new(0, 0, 0)
+            self.assertEqual([(row.objects, row.class_name) for row in heap.kept("@1")], [(1, "Node")])
+            self.assertEqual((heap.kept("@2"), heap.kept("@1", "@1")), ([], []))
+
     def test_regions(self):
         heap = canned("row 0 4 5 3 2 waits", "row 7 64 1 1 0 -", "ok 2", "ok 0")
         rows = heap.regions()

@@ -192,6 +192,11 @@ class Calls:
         """Returns a `ClassGrowth` for each class that differs between two moments."""
         return self.send(f"growth {word_of_moment(older)} {word_of_moment(newer)}", rows_by(grown))
 
+    def kept(self, older: Moment, newer: Moment = None) -> list[ClassCount]:
+        """Returns a `ClassCount` for each class of the objects that registers reach at the newer moment and that weren't there at
+        the older one."""
+        return self.send(f"kept {word_of_moment(older)} {word_of_moment(newer)}", rows_by(counted))
+
     def path(self, moment: Moment, to: int) -> list[Union[RegisterStep, SlotStep]]:
         """Returns a shortest path to an object: a `RegisterStep`, then a `SlotStep` for each slot."""
         return self.send(f"path {word_of_moment(moment)} {ObjectId(to)}", rows_by(path_step))

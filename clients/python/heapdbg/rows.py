@@ -37,7 +37,7 @@ class Piece(NamedTuple):
 
 
 class ClassCount(NamedTuple):
-    """How many objects a class has, and how many bytes: a row of `histogram`, `garbage` and `retained`."""
+    """How many objects a class has, and how many bytes: a row of `histogram`, `garbage`, `kept` and `retained`."""
 
     objects: int
     bytes: int

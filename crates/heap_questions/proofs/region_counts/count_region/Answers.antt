@@ -1,8 +1,4 @@
-use Rattle.std.proofs.Common.{◌≡◌, ◌∙◌, ◌<◌, Option, None, Some, arith, false, get_or, length, sym, true}
-use Rattle.std.specs.Prelude.{count_by, option_map}
-use Rattle.heap_region.specs.Live.{is_live}
-use Rattle.heap_region.specs.Regions.{Object}
-use Rattle.heap_questions.specs.RegionCounts.{is_dead}
+use Rattle.std.proofs.Common.{◌≡◌, ◌∙◌, ◌<◌, None, Some, arith, false, length, sym, true}
 use Rattle.heap_questions.proofs.CountedCells.{no_object, one_dead, one_live}
 use Rattle.heap_questions.proofs.region_counts.count_region.Goals as goal
 use Rattle.heap_questions.proofs.region_counts.count_region.Goals.{in-Some-true, in-Some-false, in-None}

@@ -1,5 +1,5 @@
 -- A search along references, breadth first.
-use Rattle.std.specs.Prelude.{◌≡◌, ◌⊎◌, ◌+◌, ◌*◌, ◌≤◌, ◌<◌, ℕ, Bool, true, false, ◌==◌, List, [], ◌∷◌, ◌++◌, length, map, slice_get, slice_index_or, slice_set, Option, Some, count_by, option_and_then}
+use Rattle.std.specs.Prelude.{◌≡◌, ◌⊎◌, ◌+◌, ◌*◌, ◌/◌, ◌≤◌, ◌<◌, ℕ, Bool, true, false, ◌==◌, List, [], ◌∷◌, ◌++◌, length, map, slice_get, slice_index_or, slice_set, Option, Some, count_by, option_and_then}
 use Rattle.std.specs.List.{position}
 use Rattle.heap_class.specs.declared.ObjRef.{ObjRef}
 use Rattle.heap_region.specs.Limits.{region_limit, region_words}
@@ -15,9 +15,9 @@ pub record AreNodes (image : Image) (places : List ObjRef) (nodes : List Node) :
   pub ids : map (λ n. n.id) nodes ≡ map (λ o. o.id) image.objects
   pub placed : map (λ n. n.at) nodes ≡ places
 
--- the most hints: one for the first id, and one for each step from it, up to the number of words of the largest heap
+-- the most hints: one for each 64 steps from the first id on, up to the number of words of the largest heap
 abbrev pub hint_limit : ℕ
-hint_limit = region_limit * region_words + 1
+hint_limit = region_limit * region_words / 64 + 1
 
 -- no node has a smaller id than one before it
 abbrev pub AreRising : List Node → Type 0

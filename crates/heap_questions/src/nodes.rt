@@ -16,11 +16,22 @@ const ID_STEP: u64 = 8;
 // The number of words of a heap: 1,024 for each of 65,536 regions.
 const HEAP_WORDS: u64 = 67_108_864;
 
+// The steps of a hint: one for each bit of a word.
+const HINT_STEPS: u64 = 64;
+
 // An object of a view: its place and its id.
 #[derive(Clone, Copy)]
 pub(crate) struct Node {
     pub(crate) at: ObjRef,
     pub(crate) id: u64,
+}
+
+// Where nodes stand at 64 steps, of nodes whose ids rise: the number of nodes before these, and for each step whether one stands
+// there, as bits.
+#[derive(Clone, Copy)]
+struct Hint {
+    before: u32,
+    bits: u64,
 }
 
 // The objects of a view with their places, in order. If ids rise, as those of a heap do, hints tell where an id stands.
@@ -30,7 +41,7 @@ pub(crate) struct NodeList {
     nodes: Vec<Node>,
     rising: bool,
     first: u64,
-    hints: Vec<u32>,
+    hints: Vec<Hint>,
 }
 
 impl Model for NodeList {
@@ -150,12 +161,16 @@ fn steps_between(first: u64, id: u64) -> u64
     id.wrapping_sub(first) / ID_STEP
 }
 
-// Returns how many hints the nodes need: one for each step from the first id to the last, but not more than a heap has words.
+// Returns how many hints the nodes need: one for each 64 steps from the first id to the last, but not for more than a heap has
+// words.
 fn hint_count(nodes: &[Node]) -> usize
     ensures { result ≤ hint_limit }
 {
     match (nodes.first(), nodes.last()) {
-        (Some(first), Some(last)) => steps_between(first.id, last.id).min(HEAP_WORDS) as usize + 1,
+        (Some(first), Some(last)) => {
+            let steps = steps_between(first.id, last.id).min(HEAP_WORDS);
+            (steps / HINT_STEPS) as usize + 1
+        }
         _ => 0,
     }
 }
@@ -168,25 +183,48 @@ fn first_id(nodes: &[Node]) -> u64 {
     }
 }
 
-// Returns the hint for an id that is `steps` steps from the first.
-fn hint_at(hints: &[u32], steps: u64) -> usize {
-    if steps < hints.len() as u64 {
-        hints[steps as usize] as usize
+// Returns how many nodes stand at the first `steps` steps of a hint.
+fn nodes_below(hint: Hint, steps: u32) -> usize
+    requires { steps < 64 }
+    ensures { result ≤ 64 }
+{
+    let below = (1u64 << steps) - 1;
+    (hint.bits & below).count_ones() as usize
+}
+
+// Returns the node that the hints tell for an id that is `steps` steps from the first.
+fn hint_at(hints: &[Hint], steps: u64) -> usize {
+    let place = steps / HINT_STEPS;
+    if place < hints.len() as u64 {
+        let hint = hints[place as usize];
+        hint.before as usize + nodes_below(hint, (steps % HINT_STEPS) as u32)
     } else {
         0
     }
 }
 
-// Returns for each step from the first id on the node that stands there, or any. Fails with NoMemory.
-fn hints_of(alloc: Global, nodes: &[Node], first: u64) -> Result<Vec<u32>, Refusal>
+// Adds a node that stands at one of the steps of a hint.
+fn hint_with(hint: Hint, node: u32, step: u32) -> Hint
+    requires { step < 64 }
+{
+    let before = if hint.bits == 0 { node } else { hint.before };
+    let bits = hint.bits | 1u64 << step;
+    Hint { before, bits }
+}
+
+// Returns the hints of nodes of which the first has this id. Fails with NoMemory.
+fn hints_of(alloc: Global, nodes: &[Node], first: u64) -> Result<Vec<Hint>, Refusal>
     requires { length nodes.now ≤ object_limit }
     ensures { IfErr result (λ e. e ≡ NoMemory) }
 {
-    let mut hints = vec![in alloc; 0u32; hint_count(nodes)]?;
+    let none = Hint { before: 0, bits: 0 };
+    let mut hints = vec![in alloc; none; hint_count(nodes)]?;
     for node in 0..nodes.len() {
         let steps = steps_between(first, nodes[node].id);
-        if steps < hints.len() as u64 {
-            hints[steps as usize] = node as u32;
+        let place = steps / HINT_STEPS;
+        if place < hints.len() as u64 {
+            let hint = hints[place as usize];
+            hints[place as usize] = hint_with(hint, node as u32, (steps % HINT_STEPS) as u32);
         }
     }
     Ok(hints)

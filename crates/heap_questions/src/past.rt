@@ -4,6 +4,7 @@ mod events;
 mod losses;
 mod slots;
 mod steps;
+mod suspects;
 
 pub use changes::{birth, last_write};
 pub use events::PastEvent;

@@ -35,8 +35,8 @@ fn loss_line_at(alloc: Global, machine: &Machine, at: ObjRef) -> LineAnswer
     }
 }
 
-// Returns the answer of `dropped`, or the refusal NoMemory if an allocation fails. Searches the heap once for each halving of
-// the retained states.
+// Returns the answer of `dropped`, or the refusal NoMemory if an allocation fails. Searches the heap twice, or if a first guess
+// is wrong once more for each halving of the retained states.
 pub(crate) fn dropped_answer(alloc: Global, machine: &Machine, id: u64) -> LineAnswer
     ensures { IsDroppedText id machine.now.trail (line_answer_text result) }
 {

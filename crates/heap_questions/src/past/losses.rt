@@ -9,6 +9,7 @@ ghost use Rattle.heap_trail.specs.Trail.{retained, state_ago};
 ghost use Rattle.heap_questions.specs.Losses.{HasStood, IsLossOf, IsNewest, PathIsReach, StaysUnreached};
 
 use crate::past::changes::birth;
+use crate::past::suspects::suspect;
 use crate::paths::shortest_path;
 use heap_class::{ObjRef, Refusal};
 use heap_trail::Machine;
@@ -60,9 +61,24 @@ fn oldest_state(machine: &Machine, at: ObjRef) -> u64
     }
 }
 
+// Returns the state to look at next, of those from `low` to `last` steps ago: the guess if it is among them, the last if that
+// came after the guess, and else the middle.
+fn next_look(low: u64, last: u64, guess: u64) -> u64
+    requires { low ≤ last }
+    ensures { (low ≤ result) × (result ≤ last) }
+{
+    if low <= guess && guess <= last {
+        guess
+    } else if guess > last && guess - last == 1 {
+        last
+    } else {
+        low + (last - low) / 2
+    }
+}
+
 // Returns how many steps ago the newest state was in which a register reached the object at `at`, which has stood there since
-// `oldest` steps ago, or None if no register has reached it since then. Halves the states, since an object that isn't reached is
-// never reached again. Fails with NoMemory.
+// `oldest` steps ago, or None if no register has reached it since then. Begins with a guess, and halves the states then, since an
+// object that isn't reached is never reached again. Fails with NoMemory.
 fn newest_reached(
     alloc: Global,
     machine: &Machine,
@@ -76,11 +92,12 @@ fn newest_reached(
     // Its contract says that each retained state came from the one before it.
     let _place = machine.place();
     let id = machine.world().regions().id(at);
+    let guess = suspect(alloc, machine, id, oldest)?;
     let mut newest = None;
     let mut low = 0;
     let mut last = oldest;
     loop {
-        let middle = low + (last - low) / 2;
+        let middle = next_look(low, last, guess);
         if was_reached(alloc, machine, id, middle)? {
             newest = Some(middle);
             if middle == low {
@@ -97,7 +114,8 @@ fn newest_reached(
 }
 
 /// Tells whether a register reaches the object at `at`, or which retained step took the last path from it. Fails with NoMemory
-/// if an allocation fails. Searches the heap once for each halving of the retained states: 17 times for 65,536 steps.
+/// if an allocation fails. Searches the heap twice if a guess by the references of the current state is right, and if it isn't,
+/// once more for each halving of the retained states: 17 times for 65,536 steps.
 pub fn loss_of(alloc: Global, machine: &Machine, at: ObjRef) -> Result<Loss, Refusal>
     requires { IsSome (object_at machine.now.trail.current.regions at) }
     ensures loss { IfOk result (λ loss. IsLossOf machine.now.trail at loss) }

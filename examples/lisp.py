@@ -210,7 +210,7 @@ def main(words):
     path = words[0] if words and not port else "lisp.session"
     with Recorder.to_port(int(port)) if port else Recorder.to_file(path) as record:
         rounds(record)
-    explore = f"heapdbg explore --port {port}" if port else f"heapdbg explore --regions 64 --keep 65536 --from {path}"
+    explore = f"heapdbg explore --port {port}" if port else f"heapdbg explore --regions 64 --from {path}"
     operations = sum(cost.times for cost in record.costs.values())
     print(NEXT.format(where="The heap" if port else path, lines=record.said, operations=operations, explore=explore))
 

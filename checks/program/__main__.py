@@ -22,7 +22,7 @@ from serve_cases import (
     tended,
     worked,
 )
-from settings_cases import options_without_values, settings_shown, sizes_by_names
+from settings_cases import kept_by_default, options_without_values, settings_shown, sizes_by_names
 from terminal_cases import at_a_terminal
 from wide_cases import wide_heaps
 
@@ -34,7 +34,7 @@ def differences(program):
     serves = (served_sessions, served_on_terminals, pins_of_ended_sessions, worked, tended, served_questions, asking, served_faults)
     serves += (refused_files, guarded)
     explores = (questions, at_a_terminal, pictures, wide_heaps)
-    for cases in (sessions, *explores, settings_shown, sizes_by_names, options_without_values, lines_at_the_limits, faults, would_block, bad_lines, reasons, *saves, *serves):
+    for cases in (sessions, *explores, settings_shown, sizes_by_names, kept_by_default, options_without_values, lines_at_the_limits, faults, would_block, bad_lines, reasons, *saves, *serves):
         for name, happened, wanted in cases(program):
             if not len(happened) == len(wanted) <= len(parts):
                 yield f"{program}, {name}: {len(happened)} facts, and must be {len(wanted)}, at most {len(parts)}"

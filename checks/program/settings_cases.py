@@ -72,6 +72,13 @@ def sizes_by_names(program):
     yield "--regions 64k", run(program, ["run", "--wide", "1", "--regions=64k"], b"clear 0 0\n"), (0, b"ok\n", b"")
 
 
+def kept_by_default(program):
+    """Yields sessions without `--keep`: of so many steps as are kept one more can't be undone."""
+    for words, kept in ((["run"], 1024), (["run", "--wide"], 1024), (["explore"], 65_536)):
+        ran = run(program, words, b"clear 0 0\n" * (kept + 1) + b"rewind %d\n" % (kept + 1))
+        yield f"{' '.join(words)} without --keep", ran, (0, b"ok\n" * (kept + 1) + b"no 21 TooFar %d %d\n" % (kept + 1, kept), b"")
+
+
 def options_without_values(program):
     """Yields command lines of which an option has no value, at their end or before another option, as (name, what happened, what must
     happen)."""

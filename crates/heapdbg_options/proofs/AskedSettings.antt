@@ -96,7 +96,7 @@ pub record AreRead (rows : List Row) (s : Settings) : Type 0 where
   pub wide : wide_in rows ≡ Some s.wide
   pub regions : regions_in s.wide rows ≡ Some s.regions
   pub mutators : option_value (codes "mutators") 2 1 mutator_limit rows ≡ Some s.mutators
-  pub keep : keep_in s.wide rows ≡ Some s.keep
+  pub keep : keep_in s.task s.wide rows ≡ Some s.keep
   pub time : option_value (codes "time") 0 0 time_limit rows ≡ Some s.time
   pub ids : id_size_in rows ≡ Some s.ids
   pub questions : questions_in rows ≡ Some s.questions
@@ -116,14 +116,14 @@ all_there task w (Some r) (Some m) (Some k) (Some t) (Some i) (Some q) (Some o) 
 -- the settings over a heap that is wide, or isn't, are those of the rows
 are_read : (task : Task) (rows : List Row) (w : Bool) (s : Settings) → wide_in rows ≡ Some w → settings_over task rows w ≡ Some s → (s.task ≡ task) × AreRead rows s
 are_read task rows w s wide found =
-    let there = all_there task w (regions_in w rows) (option_value (codes "mutators") 2 1 mutator_limit rows) (keep_in w rows) (option_value (codes "time") 0 0 time_limit rows) (id_size_in rows) (questions_in rows) (rolls_in rows) s found in
+    let there = all_there task w (regions_in w rows) (option_value (codes "mutators") 2 1 mutator_limit rows) (keep_in task w rows) (option_value (codes "time") 0 0 time_limit rows) (id_size_in rows) (questions_in rows) (rolls_in rows) s found in
     let same : w ≡ s.wide = there.1 in (
       there.0,
       record {
         wide = wide ∙ ap (λ b. Some b) same;
         regions = ap (λ b. regions_in b rows) (sym same) ∙ there.2;
         mutators = there.3;
-        keep = ap (λ b. keep_in b rows) (sym same) ∙ there.4;
+        keep = ap (λ t. keep_in t s.wide rows) there.0 ∙ (ap (λ b. keep_in task b rows) (sym same) ∙ there.4);
         time = there.5;
         ids = there.6;
         questions = there.7;
@@ -171,18 +171,35 @@ are_asked (Some f) s e = go (task_in f.0 f.1) refl e
           read = there.1;
         }
 
-numbers_within : (w : Bool) (rows : List Row) (r m k : ℕ) → regions_in w rows ≡ Some r → option_value (codes "mutators") 2 1 mutator_limit rows ≡ Some m → keep_in w rows ≡ Some k → AreNumbersOf w r m k
-numbers_within false rows r m k regions mutators keep =
+-- as many steps as can be undone by default may be undone
+default_within : (task : Task) (w : Bool) → (1 ≤ keep_default task w) × (keep_default task w ≤ most_kept w)
+default_within (Explore from page) false = (omega arith, omega arith)
+default_within (Explore from page) true = (omega arith, omega arith)
+default_within Run false = (omega arith, omega arith)
+default_within Run true = (omega arith, omega arith)
+default_within Draw false = (omega arith, omega arith)
+default_within Draw true = (omega arith, omega arith)
+default_within (Save target) false = (omega arith, omega arith)
+default_within (Save target) true = (omega arith, omega arith)
+default_within (Serve service) false = (omega arith, omega arith)
+default_within (Serve service) true = (omega arith, omega arith)
+default_within (Ask port secret) false = (omega arith, omega arith)
+default_within (Ask port secret) true = (omega arith, omega arith)
+default_within (Fetch port secret) false = (omega arith, omega arith)
+default_within (Fetch port secret) true = (omega arith, omega arith)
+
+numbers_within : (task : Task) (w : Bool) (rows : List Row) (r m k : ℕ) → regions_in w rows ≡ Some r → option_value (codes "mutators") 2 1 mutator_limit rows ≡ Some m → keep_in task w rows ≡ Some k → AreNumbersOf w r m k
+numbers_within task false rows r m k regions mutators keep =
     record {
       regions_within = sized_within 16 1 (most_regions false) (first_of (codes "regions") rows) r (omega arith) (omega arith) regions;
       mutators_within = value_within 2 1 mutator_limit (first_of (codes "mutators") rows) m (omega arith) (omega arith) mutators;
-      keep_within = sized_within keep_default 1 (most_kept false) (first_of (codes "keep") rows) k (omega arith) (omega arith) keep;
+      keep_within = sized_within (keep_default task false) 1 (most_kept false) (first_of (codes "keep") rows) k (default_within task false).0 (default_within task false).1 keep;
     }
-numbers_within true rows r m k regions mutators keep =
+numbers_within task true rows r m k regions mutators keep =
     record {
       regions_within = sized_within 16 1 (most_regions true) (first_of (codes "regions") rows) r (omega arith) (omega arith) regions;
       mutators_within = value_within 2 1 mutator_limit (first_of (codes "mutators") rows) m (omega arith) (omega arith) mutators;
-      keep_within = sized_within keep_default 1 (most_kept true) (first_of (codes "keep") rows) k (omega arith) (omega arith) keep;
+      keep_within = sized_within (keep_default task true) 1 (most_kept true) (first_of (codes "keep") rows) k (default_within task true).0 (default_within task true).1 keep;
     }
 
 port_within : (given : Option Text) (port : ℕ) → option_and_then (number_in 1 port_limit) given ≡ Some port → (1 ≤ port) × (port ≤ port_limit)
@@ -370,7 +387,7 @@ pub settings_within : (o : Option (Text × List Row)) (s : Settings) → option_
 settings_within o s e =
     let asked = are_asked o s e in
     let name = asked.found.0 in (
-      numbers_within s.wide asked.found.1 s.regions s.mutators s.keep asked.read.regions asked.read.mutators asked.read.keep,
+      numbers_within s.task s.wide asked.found.1 s.regions s.mutators s.keep asked.read.regions asked.read.mutators asked.read.keep,
       task_within (bytes_eq name (codes "run")) (bytes_eq name (codes "explore")) (bytes_eq name (codes "draw")) (bytes_eq name (codes "save")) (bytes_eq name (codes "serve")) (bytes_eq name (codes "ask")) (bytes_eq name (codes "fetch")) asked.found.1 s.task asked.task,
     )
 
@@ -533,7 +550,7 @@ defaults_of words s e =
     record {
       regions = default_sized (codes "regions") 16 1 (most_regions s.wide) words asked.found s.regions refl asked.is asked.named asked.read.regions;
       mutators = default_of (codes "mutators") 2 1 mutator_limit words asked.found s.mutators refl asked.is asked.named asked.read.mutators;
-      keep = default_sized (codes "keep") keep_default 1 (most_kept s.wide) words asked.found s.keep refl asked.is asked.named asked.read.keep;
+      keep = default_sized (codes "keep") (keep_default s.task s.wide) 1 (most_kept s.wide) words asked.found s.keep refl asked.is asked.named asked.read.keep;
       time = default_of (codes "time") 0 0 time_limit words asked.found s.time refl asked.is asked.named asked.read.time;
       ids = default_size words asked.found s.ids asked.is asked.named asked.read.ids;
       questions = default_flag (codes "questions") words asked.found s.questions refl asked.is asked.named asked.read.questions;

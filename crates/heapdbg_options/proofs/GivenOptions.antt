@@ -1,5 +1,5 @@
 -- What the options tell, and the words.
-use Rattle.std.proofs.Common.{◌≡◌, ℕ, Bool, inl, inr, refl, ap, sym, ◌∙◌, subst, true, List, Option, Some, None, Result, Ok, Err, IfOk, codes}
+use Rattle.std.proofs.Common.{◌≡◌, ℕ, Bool, false, inl, inr, refl, ap, sym, ◌∙◌, subst, true, List, Option, Some, None, Result, Ok, Err, IfOk, codes}
 use Rattle.std.specs.Borrow.{Bor}
 use Rattle.std.specs.Prelude.{IfSome, is_some, option_and_then, option_map}
 use Rattle.clap.proofs.WalkLemmas.{first_value-rows}
@@ -8,8 +8,10 @@ use Rattle.clap.specs.Words.{App, FailsBy, HasMatchesOf, Row, Text, fault_of, fi
 use Rattle.clap.specs.declared.error.Error.{Error}
 use Rattle.clap.specs.declared.parser.matches.ArgMatches.{ArgMatches}
 use Rattle.clap.specs.declared.parser.matches.Found.{Found}
-use Rattle.heapdbg_options.specs.CommandLine.{explore_in, has_secret, heapdbg_line, number_in, path_of, port_limit}
-use Rattle.heapdbg_options.specs.Refusals.{IsExploreMistake, IsExploreOrMistake, IsMistakeIn, IsOutside, IsTargetMistake, IsTaskOrMistake}
+use Rattle.heapdbg_options.specs.CommandLine.{explore_in, has_secret, heapdbg_line, id_size_in, keep_default, keep_in, most_kept, number_in, option_value, path_of, port_limit, questions_in, regions_in, rolls_in, settings_over, settings_with, size_or, time_limit, wide_in}
+use Rattle.heap_class.specs.declared.IdSize.{IdSize}
+use Rattle.heap_world.specs.Limits.{mutator_limit}
+use Rattle.heapdbg_options.specs.Refusals.{IsExploreMistake, IsExploreOrMistake, IsMistakeIn, IsNoSize, IsOutside, keep_mistake, IsTargetMistake, IsTaskOrMistake}
 use Rattle.heapdbg_options.specs.declared.refusal.Mistake.{Mistake}
 use Rattle.heapdbg_options.specs.declared.settings.Task.{Task}
 
@@ -96,3 +98,25 @@ pub path_is : (name : Text) (o : Option (Text × List Row)) (found : Found) (r :
 path_is name o found None words rows is text = tt
 path_is name o found (Some path) words rows is text =
     ap (option_and_then (λ f. first_of name f.1)) (sym is) ∙ rows_alone name o ∙ ap (option_and_then (first_of name)) (sym rows) ∙ sym (first_value-rows found name) ∙ sym text
+
+-- ---- steps that can be undone
+
+no_size : (default least most : ℕ) (given : Option Text) → size_or default least most given ≡ None → IsNoSize least most given
+no_size default least most None e = cc
+no_size default least most (Some text) e = e
+
+without_keep : (task : Task) (w : Bool) (r m t : Option ℕ) (i : Option IdSize) (q o : Option Bool) → settings_with task w r m None t i q o ≡ None
+without_keep task w None m t i q o = refl
+without_keep task w (Some r) None t i q o = refl
+without_keep task w (Some r) (Some m) t i q o = refl
+
+mistake_of_keep : (w : Bool) (rows : List Row) → wide_in rows ≡ Some w → IsNoSize 1 (most_kept w) (first_of (codes "keep") rows) → IsMistakeIn (keep_mistake w) rows
+mistake_of_keep false rows wide h = (wide, h)
+mistake_of_keep true rows wide h = (wide, h)
+
+-- an option `--keep` that is out of its range is the mistake of its command
+pub of_unkept : (task : Task) (w : Bool) (rows : List Row) → wide_in rows ≡ Some w → keep_in task w rows ≡ None → (settings_over task rows w ≡ None) × IsMistakeIn (keep_mistake w) rows
+of_unkept task w rows wide e = (
+  rw e (without_keep task w (regions_in w rows) (option_value (codes "mutators") 2 1 mutator_limit rows) (option_value (codes "time") 0 0 time_limit rows) (id_size_in rows) (questions_in rows) (rolls_in rows)),
+  mistake_of_keep w rows wide (no_size (keep_default task w) 1 (most_kept w) (first_of (codes "keep") rows) e),
+)

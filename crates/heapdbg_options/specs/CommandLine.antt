@@ -228,10 +228,6 @@ settings_with task wide (Some regions) (Some mutators) (Some keep) (Some time) (
     })
 settings_with task wide _ _ _ _ _ _ _ = None
 
--- the number of steps that can be undone, if the option is not given
-abbrev pub keep_default : ℕ
-keep_default = 1024
-
 -- the largest time
 abbrev pub time_limit : ℕ
 time_limit = 18446744073709551615
@@ -260,18 +256,24 @@ most_regions wide = if wide then region_limit else narrow_regions
 abbrev pub most_kept : Bool → ℕ
 most_kept wide = if wide then keep_limit else narrow_keep
 
+-- the number of steps that can be undone, if the option is not given: for `explore` the most that there may be
+abbrev pub keep_default : Task → Bool → ℕ
+keep_default (Explore from page) wide = most_kept wide
+keep_default _ wide = 1024
+
 -- the regions of a heap that is wide, or isn't
 abbrev pub regions_in : Bool → List Row → Option ℕ
 regions_in wide rows = option_size (codes "regions") 16 1 (most_regions wide) rows
 
--- the steps that can be undone in a heap that is wide, or isn't
-abbrev pub keep_in : Bool → List Row → Option ℕ
-keep_in wide rows = option_size (codes "keep") keep_default 1 (most_kept wide) rows
+-- the steps of a task that can be undone in a heap that is wide, or isn't
+abbrev pub keep_in : Task → Bool → List Row → Option ℕ
+keep_in task wide rows =
+    option_size (codes "keep") (keep_default task wide) 1 (most_kept wide) rows
 
 -- the settings of a task and its options over a heap that is wide, or isn't
 abbrev pub settings_over : Task → List Row → Bool → Option Settings
 settings_over task rows wide = settings_with task wide (regions_in wide rows)
-    (option_value (codes "mutators") 2 1 mutator_limit rows) (keep_in wide rows)
+    (option_value (codes "mutators") 2 1 mutator_limit rows) (keep_in task wide rows)
     (option_value (codes "time") 0 0 time_limit rows)
     (id_size_in rows) (questions_in rows) (rolls_in rows)
 
@@ -557,7 +559,7 @@ reads_file (Fetch port secret) = false
 pub record HasDefaults (words : List Text) (s : Settings) : Type 0 where
   pub regions : is_given (codes "regions") words ≡ false → s.regions ≡ 16
   pub mutators : is_given (codes "mutators") words ≡ false → s.mutators ≡ 2
-  pub keep : is_given (codes "keep") words ≡ false → s.keep ≡ keep_default
+  pub keep : is_given (codes "keep") words ≡ false → s.keep ≡ keep_default s.task s.wide
   pub time : is_given (codes "time") words ≡ false → s.time ≡ 0
   pub ids : is_given (codes "ids") words ≡ false → s.ids ≡ Eight
   pub questions : is_given (codes "questions") words ≡ false → s.questions ≡ false

@@ -6,7 +6,7 @@ use Rattle.clap.specs.Words.{IsAmong, Row, Text, fault_of, first_of, subcommand_
 use Rattle.clap.specs.declared.error.kind.ErrorKind.{ErrorKind}
 use Rattle.clap.specs.declared.error.kind.ErrorKind.TheVariants.{DisplayHelp, DisplayVersion, OutOfMemory}
 use Rattle.heap_world.specs.Limits.{mutator_limit}
-use Rattle.heapdbg_options.specs.CommandLine.{dumps_with, explore_with, has_secret, heapdbg_line, id_size_in, idle_in, is_task, keep_in, number_in, page_with, port_in, port_limit, questions_in, regions_in, rolls_in, sessions_in, settings_of, stays_in, option_value, time_limit, wide_in, workers_in}
+use Rattle.heapdbg_options.specs.CommandLine.{dumps_with, explore_with, has_secret, heapdbg_line, id_size_in, idle_in, is_task, most_kept, number_in, page_with, port_in, port_limit, questions_in, regions_in, rolls_in, sessions_in, settings_of, stays_in, option_value, size_in, time_limit, wide_in, workers_in}
 use Rattle.heapdbg_options.specs.declared.refusal.Mistake.{Mistake}
 use Rattle.heapdbg_options.specs.declared.refusal.Mistake.TheVariants.{Command, Wide, Regions, WideRegions, Mutators, Keep, WideKeep, Time, Ids, Port, Sessions, Workers, Questions, Roll, Dumps, Page, Idle, Stay, To, Place, Source, OwnPage, Secret}
 use Rattle.heapdbg_options.specs.declared.settings.LineFault.{LineFault}
@@ -17,6 +17,11 @@ use Rattle.heapdbg_options.specs.declared.settings.Task.{Task}
 abbrev pub IsOutside : ℕ → ℕ → Option Text → Type 0
 IsOutside least most None = ⊥
 IsOutside least most (Some text) = number_in least most text ≡ None
+
+-- a value is given that is no size in this range
+abbrev pub IsNoSize : ℕ → ℕ → Option Text → Type 0
+IsNoSize least most None = ⊥
+IsNoSize least most (Some text) = size_in least most text ≡ None
 
 -- a path and a port have this mistake, of which one has to be given
 abbrev pub IsTargetMistake : Mistake → Option Text → Option Text → Type 0
@@ -39,8 +44,10 @@ IsMistakeIn Wide rows = wide_in rows ≡ None
 IsMistakeIn Regions rows = (wide_in rows ≡ Some false) × (regions_in false rows ≡ None)
 IsMistakeIn WideRegions rows = (wide_in rows ≡ Some true) × (regions_in true rows ≡ None)
 IsMistakeIn Mutators rows = option_value (codes "mutators") 2 1 mutator_limit rows ≡ None
-IsMistakeIn Keep rows = (wide_in rows ≡ Some false) × (keep_in false rows ≡ None)
-IsMistakeIn WideKeep rows = (wide_in rows ≡ Some true) × (keep_in true rows ≡ None)
+IsMistakeIn Keep rows =
+    (wide_in rows ≡ Some false) × IsNoSize 1 (most_kept false) (first_of (codes "keep") rows)
+IsMistakeIn WideKeep rows =
+    (wide_in rows ≡ Some true) × IsNoSize 1 (most_kept true) (first_of (codes "keep") rows)
 IsMistakeIn Time rows = option_value (codes "time") 0 0 time_limit rows ≡ None
 IsMistakeIn Ids rows = id_size_in rows ≡ None
 IsMistakeIn Port rows = port_in rows ≡ None

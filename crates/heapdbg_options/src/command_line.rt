@@ -8,7 +8,7 @@ ghost use Rattle.clap.specs.declared.builder.Command.TheViews.{out-Command};
 ghost use Rattle.heapdbg_options.specs.Parsers.{IsParserOf};
 ghost use Rattle.heapdbg_options.specs.CommandLine.{AreSettingsWithin, HasDefaults, heapdbg_line, named_line, number_in};
 ghost use Rattle.heapdbg_options.specs.CommandLine.{settings_in, settings_of, settings_over, settings_under, texts, option_size, option_value, counted_in, size_in, text_before};
-ghost use Rattle.heapdbg_options.specs.CommandLine.{id_size_in, id_size_of, flag_in, most_kept, most_regions, path_of, task_in, wide_in};
+ghost use Rattle.heapdbg_options.specs.CommandLine.{id_size_in, id_size_of, flag_in, keep_default, most_kept, most_regions, path_of, task_in, wide_in};
 ghost use Rattle.heapdbg_options.specs.Refusals.{IsMistake, IsMistakeIn, IsRefusalOf, keep_mistake, regions_mistake, IsSaidOf, IsValueOrMistake, is_help};
 
 use crate::line_words::{is_help, is_version};
@@ -157,7 +157,8 @@ fn settings_over(task: Task, options: &ArgMatches<'_>, wide: bool) -> Result<Set
     let Some(mutators) = option_value(options, "mutators", 2, 1, MUTATOR_LIMIT) else {
         return Err(Mistake::Mutators);
     };
-    let Some(keep) = option_size(options, "keep", 1024, 1, most_kept(wide)) else {
+    let kept = keep_default(task, wide);
+    let Some(keep) = option_size(options, "keep", kept, 1, most_kept(wide)) else {
         return Err(keep_mistake(wide));
     };
     let Some(time) = option_value(options, "time", 0, 0, u64::MAX) else {
@@ -197,6 +198,16 @@ fn most_kept(wide: bool) -> u64
     ensures { result ≡ most_kept wide }
 {
     if wide { KEEP_LIMIT } else { NARROW_KEEP }
+}
+
+// Returns how many steps can be undone if the option isn't given: for `explore` the most that there may be.
+fn keep_default(task: Task, wide: bool) -> u64
+    ensures { result ≡ keep_default task wide }
+{
+    match task {
+        Task::Explore { .. } => most_kept(wide),
+        _ => 1024,
+    }
 }
 
 // Returns the mistake of regions that are out of the range of a heap that is wide, or isn't.

@@ -7,7 +7,7 @@ ghost use Rattle.heapdbg_options.specs.declared.refusal.Mistake.TheVariants.{Own
 ghost use Rattle.heapdbg_options.specs.declared.settings.Task.TheVariants.{Explore};
 
 use crate::option_rows::{
-    CommandRow, IDS, KEEP, MUTATORS, OptionRow, PAGE, QUESTIONS, REGIONS, TIME, WIDE,
+    CommandRow, IDS, KEEP, KEEP_MOST, MUTATORS, OptionRow, PAGE, QUESTIONS, REGIONS, TIME, WIDE,
 };
 use crate::refusal::Mistake;
 use crate::settings::Task;
@@ -30,7 +30,7 @@ pub(crate) const EXPLORE: CommandRow = CommandRow {
     options: &[
         REGIONS,
         MUTATORS,
-        KEEP,
+        KEEP_MOST,
         WIDE,
         TIME,
         IDS,

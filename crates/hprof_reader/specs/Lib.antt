@@ -1,0 +1,3 @@
+pub mod Records
+pub mod Reading
+pub mod Headers

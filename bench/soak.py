@@ -63,14 +63,16 @@ ANSWERS = {
     "dump": f"ok dump {NUMBER}", "piece": f"ok (piece|last) {NUMBER}", "close": "ok", "what": "bad command",
     "histogram": f"ok {NUMBER} {NUMBER}", "garbage": f"ok {NUMBER} {NUMBER}", "registers": f"ok {NUMBER}", "path": f"ok {NUMBER}",
     "history": f"ok {NUMBER}", "pins": f"ok {NUMBER}", "objects": f"ok {NUMBER}", "cells": f"ok {NUMBER}", "status": "ok 8",
+    "regions": f"ok {NUMBER}", "kept": f"ok {NUMBER} {NUMBER}",
     "retained": f"ok {NUMBER} {NUMBER}", "watch": f"ok {NUMBER}", "collect": f"ok condemned {NUMBER} swept {NUMBER}",
 }
 # A row of the answer to a question, by its first word.
 ROWS = {
     "histogram": f"{NUMBER} {NUMBER} {NAMED}", "garbage": f"{NUMBER} {NUMBER} {NAMED}", "registers": f"[0-3] [0-7] (null|{ID} {NAMED})",
     "objects": f"{ID} {NAMED} {NUMBER}( unreached)?", "cells": f"{NUMBER} (4|16|64|256|1024) (-|sweep) [.omgx]+",
+    "regions": f"{NUMBER} (4|16|64|256|1024) {NUMBER} {NUMBER} {NUMBER} (-|waits)",
     "status": f"(phase (idle|marking)|(place|retained|gray|undrained|unswept|regions|acts) {NUMBER})",
-    "retained": f"{NUMBER} {NUMBER} {NAMED}", "watch": f"{NUMBER} ({NUMBER} {NUMBER}|(null|{ID}) (null|{ID}))",
+    "retained": f"{NUMBER} {NUMBER} {NAMED}", "kept": f"{NUMBER} {NUMBER} {NAMED}", "watch": f"{NUMBER} ({NUMBER} {NUMBER}|(null|{ID}) (null|{ID}))",
     "path": f"([0-3] [0-7] {ID}|{ID} {NUMBER} {ID})", "history": f"{NUMBER} [a-z]+.*", "pins": f"{NUMBER} {NUMBER} (held {NUMBER}|lost Rewound)",
 }
 # What standard error may tell of dumps.
@@ -100,8 +102,8 @@ def line_by_lot(lot):
         (6, f"clear {mutator} {register}"),
         (3, "snap"), (12, "mark"), (8, "drain"), (3, "finish"), (6, f"sweep {lot.randrange(16)}"),
         (1, f"rewind {lot.randrange(1, 30) if lot.randrange(4) == 0 else 2000}"),
-        (1, "what is this"), (0.1, "collect"), (1, "histogram -"), (1, "garbage -"), (1, "registers -"), (1, "pins"),
-        (1, "objects -"), (1, "cells"), (1, "status"),
+        (1, "what is this"), (0.1, "collect"), (1, "histogram -"), (1, "garbage -"), (1, f"kept @{lot.randrange(3000)}"), (1, "registers -"), (1, "pins"),
+        (1, "objects -"), (1, "cells"), (1, "regions"), (1, "status"),
         (1, f"path - 0x{0x10000000 + lot.randrange(1 << 12) * 8:08x}"),
         (1, f"retained {lot.choice(['', '- '])}0x{0x10000000 + lot.randrange(1 << 12) * 8:08x}"),
         (1, f"watch 0x{0x10000000 + lot.randrange(1 << 8) * 32:08x} {slot}"), (1, f"history {lot.randrange(30)}"),

@@ -4,11 +4,12 @@ from heap import FIRST_OBJECT, REGION_WORDS
 from questions import FORMS, QUESTIONS, Asking
 
 # What questions have to be answered, and how often at least: refusals by number, others by the words after `ok`.
-ABOUT_A_MOMENT = ("ok", "no 22", "no 23", "no 24")
+ABOUT_A_MOMENT = ("ok", "ok without AT", "no 22", "no 23", "no 24")
 WANTED = {
     "histogram": ABOUT_A_MOMENT,
     "garbage": ABOUT_A_MOMENT,
     "growth": ABOUT_A_MOMENT,
+    "kept": ("ok nothing", "ok some", *ABOUT_A_MOMENT[1:]),
     "path": (*ABOUT_A_MOMENT, "no 27", "no 28"),
     "retained": ("ok nothing", "ok itself", "ok more", "ok without AT", "no 22", "no 23", "no 24", "no 28"),
     "referrers": (*ABOUT_A_MOMENT, "no 28"),
@@ -23,6 +24,7 @@ WANTED = {
     "history": ("ok",),
     "pins": ("ok",),
     "cells": ("ok",),
+    "regions": ("ok",),
     "status": ("ok",),
     "collect": ("ok",),
     "help": ("ok", "bad"),
@@ -31,13 +33,13 @@ WANTED = {
 LEAST = 3
 
 
-def sorts(word, forms, last):
-    """Yields of what sorts an answer is, by its question and the words of its last line."""
+def sorts(word, left_out, last):
+    """Yields of what sorts an answer is, by its question, whether a moment was left out, and the words of its last line."""
+    if left_out and last[0] == "ok":
+        yield "ok without AT"
     if word == b"retained" and last[0] == "ok":
         yield "ok " + {"0": "nothing", "1": "itself"}.get(last[1], "more")
-        if forms == "i":
-            yield "ok without AT"
-    elif word == b"watch" and last[0] == "ok":
+    elif word in (b"watch", b"kept") and last[0] == "ok":
         yield "ok nothing" if last[1] == "0" else "ok some"
     else:
         yield " ".join(last[:2]) if last[0] == "no" or last[1:2] in (["place"], ["older"], ["reached"]) else last[0]
@@ -84,12 +86,13 @@ class AskingDraw(Draw):
         word = self.lots.pick([*QUESTIONS, b"help"])
         draws = {"a": self.moment, "i": self.identifier, "n": lambda: self.lots.near(self.lots.below(8), 70)}
         forms = "" if word == b"help" else QUESTIONS[word]
-        if forms.startswith("?"):
-            forms = self.lots.pick([forms[1:], forms[2:]])
+        forms, may_be_left_out, rest = forms.partition("?")
+        left_out = bool(may_be_left_out) and self.lots.once_in(4)
+        forms += rest[left_out:]
         words = self.help_words() if word == b"help" else [draws[form]() for form in forms]
         accepted = self.say(word.decode(), *words)
         last = self.lines[-1][1].split(b"\n")[-2].decode().split()
-        for sort in sorts(word, forms, last):
+        for sort in sorts(word, left_out, last):
             self.machine.sights.met[f"{word.decode()}: {sort}"] += 1
         return accepted
 

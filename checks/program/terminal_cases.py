@@ -62,7 +62,7 @@ TYPED = [
     b"show - 0x10000020\n",
     b"collect\n",
     b"histgram -\n",
-    b"histogram\n",
+    b"histogram x\n",
     b"frobnicate\n",
     b"# a comment\n",
     b"rewind 1\n",
@@ -81,9 +81,9 @@ heapdbg 4> |  0  i            int      0
 ok object Other 3
 heapdbg 4> |ok condemned 1 swept 1
 heapdbg 8> |bad command
-did you mean: histogram AT
+did you mean: histogram [AT]
 heapdbg 8> |bad command
-the form of this line is: histogram AT
+the form of this line is: histogram [AT]
 AT is - for the current state, the number of an open pin, or @P for the state at place P
 heapdbg 8> |bad command
 help lists all lines
@@ -94,7 +94,7 @@ heapdbg 7> |
 
 # The forms of all lines, in the order of `help`, and the keywords of those that change nothing.
 FORMS = [row[4:] for row in (TOP / "examples/questions/help.expected").read_bytes().split(b"ok\n")[0].splitlines()]
-HARMLESS = b"histogram garbage growth registers classes objects referrers path retained show born wrote watch dropped history pins cells status help".split()
+HARMLESS = b"histogram garbage growth kept registers classes objects referrers path retained show born wrote watch dropped history pins cells regions status help".split()
 # Words that people type at other prompts, and words that are as near to two keywords.
 WORDS = b"undo find back exitt list info hist goto step print HISTOGRAM rewing reiwnd classs pars endd edn hlep".split()
 
@@ -147,7 +147,7 @@ heapdbg 3> |no 22 NoPin
 heapdbg 3> |no 24 NotRetained
 %(forms)sthe oldest retained place is @1
 heapdbg 3> |bad command
-the form of this line is: classes AT
+the form of this line is: classes [AT]
 %(forms)sheapdbg 3> |bad command
 the form of this line is: retained [AT] ID
 %(forms)sheapdbg 3> |no 24 NotRetained

@@ -17,7 +17,7 @@ import time
 import unittest
 
 import heapdbg
-from heapdbg import BadCommand, Cells, Collected, Ended, Field, Now, ObjectId, Piece, Pin, PinAt, Place, Refused, Session, Swept, fetch
+from heapdbg import BadCommand, Cells, Collected, Ended, Field, Now, ObjectId, Piece, Pin, PinAt, Place, Refused, RegionRow, Session, Swept, fetch
 
 PROGRAM = os.path.abspath(sys.argv[1]) if len(sys.argv) > 1 else "heapdbg"
 NODE = [("next", "object"), ("v", "long")]
@@ -161,6 +161,33 @@ class Replies(unittest.TestCase):
         self.assertEqual(told, numbers)
         self.assertEqual(heap.objects(), [])
         self.assertEqual(heap.writer.getvalue(), b"objects 2\ncells\nstatus\nobjects -\n")
+
+    def test_kept(self):
+        heap = canned("row 3 48 Node", "ok 3 48", "ok 0 0")
+        self.assertEqual((heap.kept(Place(7)), heap.kept(1, PinAt(2, 9))), ([(3, 48, "Node")], []))
+        self.assertEqual(heap.writer.getvalue(), b"kept @7 -\nkept 1 2\n")
+
+    def test_kept_of_a_heap(self):
+        with session("--questions", "1") as heap:
+            heap.define_class("Node", NODE)
+            heap.new(0, 0, 0)
+            self.assertEqual([(row.objects, row.class_name) for row in heap.kept("@1")], [(1, "Node")])
+            self.assertEqual((heap.kept("@2"), heap.kept("@1", "@1")), ([], []))
+
+    def test_regions(self):
+        heap = canned("row 0 4 5 3 2 waits", "row 7 64 1 1 0 -", "ok 2", "ok 0")
+        rows = heap.regions()
+        self.assertEqual(rows, [RegionRow(0, 4, 5, 3, 2, True), RegionRow(7, 64, 1, 1, 0, False)])
+        self.assertEqual((rows[0].dead, rows[1].waits, heap.regions()), (2, False, []))
+        self.assertEqual(heap.writer.getvalue(), b"regions\nregions\n")
+
+    def test_regions_of_a_heap(self):
+        with session("--questions", "1") as heap:
+            heap.define_class("Node", NODE)
+            heap.new(0, 0, 0)
+            heap.new(0, 0, 0)
+            heap.new_values(0, 1, "byte", 20)
+            self.assertEqual(heap.regions(), [RegionRow(0, 4, 2, 2, 0, False), RegionRow(1, 64, 1, 1, 0, False)])
 
     def test_objects_cells_and_status_of_a_heap(self):
         with session("--questions", "1", "--regions", "2") as heap:

@@ -19,6 +19,7 @@ from .rows import (
     PastStep,
     Piece,
     Reader,
+    RegionRow,
     Register,
     RegisterReference,
     RegisterStep,
@@ -45,6 +46,7 @@ from .rows import (
     piece,
     place_or_older,
     reference,
+    region_of,
     register,
     rows_by,
     slot,
@@ -190,6 +192,11 @@ class Calls:
         """Returns a `ClassGrowth` for each class that differs between two moments."""
         return self.send(f"growth {word_of_moment(older)} {word_of_moment(newer)}", rows_by(grown))
 
+    def kept(self, older: Moment, newer: Moment = None) -> list[ClassCount]:
+        """Returns a `ClassCount` for each class of the objects that registers reach at the newer moment and that weren't there at
+        the older one."""
+        return self.send(f"kept {word_of_moment(older)} {word_of_moment(newer)}", rows_by(counted))
+
     def path(self, moment: Moment, to: int) -> list[Union[RegisterStep, SlotStep]]:
         """Returns a shortest path to an object: a `RegisterStep`, then a `SlotStep` for each slot."""
         return self.send(f"path {word_of_moment(moment)} {ObjectId(to)}", rows_by(path_step))
@@ -236,6 +243,10 @@ class Calls:
         """Returns `Cells` of each region in use: a letter is `.` for a free cell, `o` for a live object, `m` for a marked one, `g`
         for a gray one, and `x` for one that isn't live."""
         return self.send("cells", rows_by(cells_of))
+
+    def regions(self) -> list[RegionRow]:
+        """Returns a `RegionRow` for each region in use."""
+        return self.send("regions", rows_by(region_of))
 
     def heap_status(self) -> dict[str, Union[int, str]]:
         """Asks `status`, and returns a dict of numbers, but for "phase", which is "idle" or "marking": "place", "retained", "gray",

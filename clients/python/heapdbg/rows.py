@@ -37,7 +37,7 @@ class Piece(NamedTuple):
 
 
 class ClassCount(NamedTuple):
-    """How many objects a class has, and how many bytes: a row of `histogram`, `garbage` and `retained`."""
+    """How many objects a class has, and how many bytes: a row of `histogram`, `garbage`, `kept` and `retained`."""
 
     objects: int
     bytes: int
@@ -223,6 +223,18 @@ class Cells(NamedTuple):
     letters: str
 
 
+class RegionRow(NamedTuple):
+    """A region in use: its number, the words of a cell, its objects, those that are live, those that aren't, and whether it waits
+    to be swept."""
+
+    region: int
+    size: int
+    used: int
+    live: int
+    dead: int
+    waits: bool
+
+
 # What turns the words after `ok` and the lines before them into a value, and the words of a row into its values.
 Reader = Callable[[list, list], Any]
 Row = Callable[[list], tuple]
@@ -320,6 +332,12 @@ def cells_of(row: list) -> Cells:
     """Reads REGION SIZE - LETTERS, or REGION SIZE sweep LETTERS."""
     region, size, waits, letters = row
     return Cells(int(region), int(size), waits == "sweep", letters)
+
+
+def region_of(row: list) -> RegionRow:
+    """Reads REGION CELL USED LIVE DEAD -, or REGION CELL USED LIVE DEAD waits."""
+    region, size, used, live, dead = map(int, row[:5])
+    return RegionRow(region, size, used, live, dead, row[5] == "waits")
 
 
 def facts_by_name(_words: list, lines: list) -> dict[str, Union[int, str]]:

@@ -13,6 +13,7 @@ pub mod FieldRows
 pub mod NamedObjects
 pub mod PinRows
 pub mod UsedRegions
+pub mod CountedRegions
 pub mod StatusRows
 pub mod WaitingRegions
 pub mod CycleSteps

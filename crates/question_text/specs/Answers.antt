@@ -5,9 +5,10 @@ use Rattle.heap_class.specs.declared.IdSize.{IdSize}
 use Rattle.heap_class.specs.declared.Refusal.{Refusal}
 use Rattle.heap_trail.specs.Machine.{Machine}
 use Rattle.hprof_text.specs.Image.{Image}
+use Rattle.question_text.specs.declared.answers.PairQuestion.{PairQuestion}
 use Rattle.question_text.specs.declared.answers.StateQuestion.{StateQuestion}
 use Rattle.question_text.specs.declared.question.Question.{Question}
-use Rattle.question_text.specs.declared.question.Question.TheVariants.{Histogram, Garbage, Growth, Registers, Classes, Objects, Referrers, Path, Retained, Show, Born, Wrote, Watch, Dropped, History, Pins, Cells, Status}
+use Rattle.question_text.specs.declared.question.Question.TheVariants.{Histogram, Garbage, Growth, Kept, Registers, Classes, Objects, Referrers, Path, Retained, Show, Born, Wrote, Watch, Dropped, History, Pins, Cells, Regions, Status}
 use Rattle.question_text.specs.Births.{IsBornText}
 use Rattle.question_text.specs.CellLists.{IsCellsText}
 use Rattle.question_text.specs.ClassLists.{IsClassesText}
@@ -16,11 +17,13 @@ use Rattle.question_text.specs.Moments.{IsAnswerAbout, IsAnswerBetween, image_at
 use Rattle.question_text.specs.Growths.{IsGrowthText}
 use Rattle.question_text.specs.Comments.{unasked_text}
 use Rattle.question_text.specs.Histories.{IsHistoryText}
+use Rattle.question_text.specs.Kept.{IsKeptText}
 use Rattle.question_text.specs.Losses.{IsDroppedText}
 use Rattle.question_text.specs.ObjectLists.{IsObjectsText}
 use Rattle.question_text.specs.Objects.{IsShowText, shows_mark}
 use Rattle.question_text.specs.Paths.{IsPathText}
 use Rattle.question_text.specs.PinLists.{IsPinsText}
+use Rattle.question_text.specs.RegionLists.{IsRegionsText}
 use Rattle.question_text.specs.Registers.{IsRegistersText}
 use Rattle.question_text.specs.Referrers.{IsReferrersText}
 use Rattle.question_text.specs.Questions.{question_of}
@@ -40,6 +43,11 @@ IsStateText (StateQuestion.Path x) ids = IsPathText x
 IsStateText (StateQuestion.Retained x) ids = IsRetainedText x ids
 IsStateText (StateQuestion.Show x marked) ids = IsShowText x marked
 
+-- the text of the answer about two images
+abbrev pub IsPairText : PairQuestion → IdSize → Image → Image → List ℕ → Type 0
+IsPairText PairQuestion.Growth ids = IsGrowthText ids
+IsPairText PairQuestion.Kept ids = IsKeptText ids
+
 -- what is printed: the lines, or the refusal
 abbrev pub lines_text : Result (Vec ℕ) Refusal → List ℕ
 lines_text (Ok text) = text.items
@@ -51,6 +59,8 @@ IsAnswer (Histogram at) m acts text = IsAnswerAbout (IsHistogramText m.ids) (ima
 IsAnswer (Garbage at) m acts text = IsAnswerAbout (IsGarbageText m.ids) (image_at at m) text
 IsAnswer (Growth older newer) m acts text =
     IsAnswerBetween (IsGrowthText m.ids) (image_at older m) (image_at newer m) text
+IsAnswer (Kept older newer) m acts text =
+    IsAnswerBetween (IsKeptText m.ids) (image_at older m) (image_at newer m) text
 IsAnswer (Registers at) m acts text = IsAnswerAbout IsRegistersText (image_at at m) text
 IsAnswer (Classes at) m acts text = IsAnswerAbout IsClassesText (image_at at m) text
 IsAnswer (Objects at) m acts text = IsAnswerAbout IsObjectsText (image_at at m) text
@@ -66,6 +76,7 @@ IsAnswer (Dropped x) m acts text = IsDroppedText x m.trail text
 IsAnswer (History count) m acts text = IsHistoryText count m.trail text
 IsAnswer Pins m acts text = IsPinsText m.pins text
 IsAnswer Cells m acts text = IsCellsText m.trail.current text
+IsAnswer Regions m acts text = IsRegionsText m.trail.current text
 IsAnswer Status m acts text = IsStatusText m acts text
 
 -- the answer of a line that asks this question; or none, and it may be a comment or ask for help

@@ -8,12 +8,14 @@ pub mod Referrers
 pub mod Registers
 pub mod ClassLists
 pub mod Growths
+pub mod Kept
 pub mod Paths
 pub mod Objects
 pub mod ObjectLists
 pub mod Places
 pub mod PinLists
 pub mod CellLists
+pub mod RegionLists
 pub mod Statuses
 pub mod Births
 pub mod Writes

@@ -5,7 +5,7 @@ use Rattle.session_grammar.specs.Grammar.{at_end, next_number, number_of_word, o
 use Rattle.question_text.specs.declared.question.At.{At}
 use Rattle.question_text.specs.declared.question.At.TheVariants.{Current, Pin, Place}
 use Rattle.question_text.specs.declared.question.Question.{Question}
-use Rattle.question_text.specs.declared.question.Question.TheVariants.{Histogram, Garbage, Growth, Registers, Classes, Objects, Referrers, Path, Retained, Show, Born, Wrote, Watch, Dropped, History, Pins, Cells, Status}
+use Rattle.question_text.specs.declared.question.Question.TheVariants.{Histogram, Garbage, Growth, Kept, Registers, Classes, Objects, Referrers, Path, Retained, Show, Born, Wrote, Watch, Dropped, History, Pins, Cells, Regions, Status}
 use Rattle.question_text.specs.Ids.{id_of_word}
 
 -- the state that a word names: `-`, `@` and a place, or the number of a pin
@@ -27,10 +27,21 @@ next_at (w ∷ ws) = option_map (λ at. (at, ws)) (at_of_word w)
 abbrev pub one_at : List (List ℕ) → Option At
 one_at ws = option_and_then (λ a. at_end a.0 a.1) (next_at ws)
 
+-- the same; without a word it is the current one
+abbrev pub optional_at : List (List ℕ) → Option At
+optional_at [] = Some Current
+optional_at (w ∷ ws) = one_at (w ∷ ws)
+
 -- the two states that the words name
 abbrev pub two_ats : List (List ℕ) → Option (At × At)
 two_ats ws =
     option_and_then (λ a. option_and_then (λ b. at_end (a.0, b.0) b.1) (next_at a.1)) (next_at ws)
+
+-- the same; without the second it is the current one
+abbrev pub at_and_optional : List (List ℕ) → Option (At × At)
+at_and_optional [] = None
+at_and_optional (w ∷ []) = option_map (λ at. (at, Current)) (at_of_word w)
+at_and_optional (w ∷ v ∷ ws) = two_ats (w ∷ v ∷ ws)
 
 -- the id that the first word is, and the other words
 abbrev pub next_id : List (List ℕ) → Option (ℕ × List (List ℕ))
@@ -71,6 +82,7 @@ past_rules =
     ∷ (codes "dropped", λ ws. option_map (λ x. Dropped x) (one_id ws))
     ∷ (codes "pins", λ ws. at_end Pins ws)
     ∷ (codes "cells", λ ws. at_end Cells ws)
+    ∷ (codes "regions", λ ws. at_end Regions ws)
     ∷ (codes "status", λ ws. at_end Status ws)
     ∷ (codes "history", λ ws. option_map (λ n. History n) (one_number ws))
     ∷ (codes "wrote", λ ws. option_map (λ a. Wrote a.0 a.1) (id_and_number ws))
@@ -80,16 +92,17 @@ past_rules =
 -- all questions: those about a state first
 unfoldable pub question_rules : List QuestionRule
 question_rules =
-    (codes "histogram", λ ws. option_map (λ at. Histogram at) (one_at ws))
-    ∷ (codes "garbage", λ ws. option_map (λ at. Garbage at) (one_at ws))
-    ∷ (codes "registers", λ ws. option_map (λ at. Registers at) (one_at ws))
-    ∷ (codes "growth", λ ws. option_map (λ a. Growth a.0 a.1) (two_ats ws))
-    ∷ (codes "classes", λ ws. option_map (λ at. Classes at) (one_at ws))
-    ∷ (codes "objects", λ ws. option_map (λ at. Objects at) (one_at ws))
-    ∷ (codes "referrers", λ ws. option_map (λ a. Referrers a.0 a.1) (at_and_id ws))
-    ∷ (codes "path", λ ws. option_map (λ a. Path a.0 a.1) (at_and_id ws))
+    (codes "histogram", λ ws. option_map (λ at. Histogram at) (optional_at ws))
+    ∷ (codes "garbage", λ ws. option_map (λ at. Garbage at) (optional_at ws))
+    ∷ (codes "registers", λ ws. option_map (λ at. Registers at) (optional_at ws))
+    ∷ (codes "growth", λ ws. option_map (λ a. Growth a.0 a.1) (at_and_optional ws))
+    ∷ (codes "classes", λ ws. option_map (λ at. Classes at) (optional_at ws))
+    ∷ (codes "objects", λ ws. option_map (λ at. Objects at) (optional_at ws))
+    ∷ (codes "kept", λ ws. option_map (λ a. Kept a.0 a.1) (at_and_optional ws))
+    ∷ (codes "referrers", λ ws. option_map (λ a. Referrers a.0 a.1) (optional_at_and_id ws))
+    ∷ (codes "path", λ ws. option_map (λ a. Path a.0 a.1) (optional_at_and_id ws))
     ∷ (codes "retained", λ ws. option_map (λ a. Retained a.0 a.1) (optional_at_and_id ws))
-    ∷ (codes "show", λ ws. option_map (λ a. Show a.0 a.1) (at_and_id ws))
+    ∷ (codes "show", λ ws. option_map (λ a. Show a.0 a.1) (optional_at_and_id ws))
     ∷ past_rules
 
 -- what the words after a keyword ask, by the first of these rules that has it

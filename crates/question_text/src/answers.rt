@@ -2,8 +2,7 @@
 ghost use Rattle.std.specs.Prelude.{◌≡◌};
 ghost use Rattle.heap_pins.specs.Pin.{pin_image};
 ghost use Rattle.session_text.specs.Replies.{line_answer_text};
-ghost use Rattle.question_text.specs.Answers.{IsAnswer, IsAnswerOfLine, IsStateText, lines_text};
-ghost use Rattle.question_text.specs.Growths.{IsGrowthText};
+ghost use Rattle.question_text.specs.Answers.{IsAnswer, IsAnswerOfLine, IsPairText, IsStateText, lines_text};
 ghost use Rattle.question_text.specs.Moments.{IsAnswerAbout, IsAnswerBesides, IsAnswerBetween, IsToldOf, image_at, told_text};
 
 use crate::at::{moment_at, view_of};
@@ -14,12 +13,14 @@ use crate::comment::unasked_answer;
 use crate::growth::growth_answer;
 use crate::histogram::{garbage_text, histogram_text, retained_answer};
 use crate::history::history_answer;
+use crate::kept::kept_text;
 use crate::loss::dropped_answer;
 use crate::object_list::objects_answer;
 use crate::path::path_answer;
 use crate::pin_list::pins_answer;
 use crate::question::{At, Question, question_of};
 use crate::referrers::referrers_answer;
+use crate::region_list::regions_answer;
 use crate::registers::registers_answer;
 use crate::rows::{Unanswered, reason_line};
 use crate::show::{show_answer, shows_mark};
@@ -53,6 +54,15 @@ enum StateQuestion {
     Retained(u64),
     // The slots of an object, and whether it is marked.
     Show { id: u64, marked: bool },
+}
+
+// What a question asks about two states.
+#[derive(Clone, Copy)]
+enum PairQuestion {
+    // The rows of a histogram that differ.
+    Growth,
+    // What is reached in the newer state and isn't in the older, as a histogram has it.
+    Kept,
 }
 
 // Returns what is printed of the lines of an answer, or if there is none.
@@ -116,43 +126,68 @@ fn state_answer(alloc: Global, machine: &Machine, at: At, asked: StateQuestion) 
     line_answer(state_lines(alloc, machine, at, asked))
 }
 
-// Returns the lines of `growth` from one view to another.
-fn growth_lines(
+// Returns the lines of a question about two states, which two views show.
+fn pair_lines(
     alloc: Global,
     older: &PinView<'_>,
     newer: &PinView<'_>,
+    asked: PairQuestion,
 ) -> Result<Vec<u8>, Unanswered>
     requires { older.now.ids ≡ newer.now.ids }
     ensures { IsToldOf
-        (IsGrowthText newer.now.ids (pin_image older.now.pin older.now.state))
+        (IsPairText asked newer.now.ids (pin_image older.now.pin older.now.state))
         (pin_image newer.now.pin newer.now.state) (told_text result) }
 {
-    or_refused(growth_answer(alloc, older, newer))
+    match asked {
+        PairQuestion::Growth => or_refused(growth_answer(alloc, older, newer)),
+        PairQuestion::Kept => or_refused(kept_text(alloc, older, newer)),
+    }
 }
 
-// Returns the lines of `growth` from a view of the machine to a newer state.
-fn growth_since(
+// Returns the lines of a question about the state that a view of the machine shows and a newer state.
+fn lines_since(
     alloc: Global,
     machine: &Machine,
     older: &PinView<'_>,
     newer: At,
+    asked: PairQuestion,
 ) -> Result<Vec<u8>, Unanswered>
     requires { older.now.ids ≡ machine.now.ids }
     ensures { IsAnswerBesides
-        (IsGrowthText machine.now.ids (pin_image older.now.pin older.now.state))
+        (IsPairText asked machine.now.ids (pin_image older.now.pin older.now.state))
         (image_at newer machine.now) (told_text result) }
 {
     let moment = moment_at(machine, newer)?;
-    growth_lines(alloc, older, &view_of(machine, &moment)?)
+    pair_lines(alloc, older, &view_of(machine, &moment)?, asked)
 }
 
-// Returns the lines of `growth AT AT`. Both states are held before either is looked at.
-fn growth(alloc: Global, machine: &Machine, older: At, newer: At) -> Result<Vec<u8>, Unanswered>
-    ensures { IsAnswerBetween (IsGrowthText machine.now.ids) (image_at older machine.now)
+// Returns the lines of a question about two states. Both are held before either is looked at.
+fn lines_between(
+    alloc: Global,
+    machine: &Machine,
+    older: At,
+    newer: At,
+    asked: PairQuestion,
+) -> Result<Vec<u8>, Unanswered>
+    ensures { IsAnswerBetween (IsPairText asked machine.now.ids) (image_at older machine.now)
         (image_at newer machine.now) (told_text result) }
 {
     let moment = moment_at(machine, older)?;
-    growth_since(alloc, machine, &view_of(machine, &moment)?, newer)
+    lines_since(alloc, machine, &view_of(machine, &moment)?, newer, asked)
+}
+
+// Returns what is printed of a question about two states.
+fn pair_answer(
+    alloc: Global,
+    machine: &Machine,
+    older: At,
+    newer: At,
+    asked: PairQuestion,
+) -> LineAnswer
+    ensures { IsAnswerBetween (IsPairText asked machine.now.ids) (image_at older machine.now)
+        (image_at newer machine.now) (line_answer_text result) }
+{
+    line_answer(lines_between(alloc, machine, older, newer, asked))
 }
 
 /// Returns the answer of a question about a machine, which may have a chronicle of this length, or the refusal NoMemory if an
@@ -163,7 +198,12 @@ pub fn answer(alloc: Global, machine: &Machine, acts: Option<u64>, question: Que
     match question {
         Question::Histogram(at) => state_answer(alloc, machine, at, StateQuestion::Histogram),
         Question::Garbage(at) => state_answer(alloc, machine, at, StateQuestion::Garbage),
-        Question::Growth { older, newer } => line_answer(growth(alloc, machine, older, newer)),
+        Question::Growth { older, newer } => {
+            pair_answer(alloc, machine, older, newer, PairQuestion::Growth)
+        }
+        Question::Kept { older, newer } => {
+            pair_answer(alloc, machine, older, newer, PairQuestion::Kept)
+        }
         Question::Registers(at) => state_answer(alloc, machine, at, StateQuestion::Registers),
         Question::Classes(at) => state_answer(alloc, machine, at, StateQuestion::Classes),
         Question::Objects(at) => state_answer(alloc, machine, at, StateQuestion::Objects),
@@ -185,6 +225,7 @@ pub fn answer(alloc: Global, machine: &Machine, acts: Option<u64>, question: Que
         Question::History(count) => line_answer(history_answer(alloc, machine, count)),
         Question::Pins => line_answer(pins_answer(alloc, machine)),
         Question::Cells => line_answer(cells_answer(alloc, machine)),
+        Question::Regions => line_answer(regions_answer(alloc, machine)),
         Question::Status => line_answer(status_answer(alloc, machine, acts)),
     }
 }

@@ -15,16 +15,17 @@ pub fn question_help(word: &[u8]) -> Option<&'static [u8]>
     ensures { option_map (λ t. t.now) result ≡ form_with question_forms word.now }
 {
     by_word!(word;
-        b"histogram" => Some(b"row histogram AT\nrow histogram -\nok\n"),
-        b"garbage" => Some(b"row garbage AT\nrow garbage 1\nok\n"),
-        b"growth" => Some(b"row growth AT AT\nrow growth @120 -\nok\n"),
-        b"registers" => Some(b"row registers AT\nrow registers -\nok\n"),
-        b"classes" => Some(b"row classes AT\nrow classes -\nok\n"),
-        b"objects" => Some(b"row objects AT\nrow objects -\nok\n"),
-        b"referrers" => Some(b"row referrers AT ID\nrow referrers - 0x10000020\nok\n"),
-        b"path" => Some(b"row path AT ID\nrow path @120 0x10000020\nok\n"),
+        b"histogram" => Some(b"row histogram [AT]\nrow histogram -\nok\n"),
+        b"garbage" => Some(b"row garbage [AT]\nrow garbage 1\nok\n"),
+        b"growth" => Some(b"row growth AT [AT]\nrow growth @120 -\nok\n"),
+        b"kept" => Some(b"row kept AT [AT]\nrow kept @120 -\nok\n"),
+        b"registers" => Some(b"row registers [AT]\nrow registers -\nok\n"),
+        b"classes" => Some(b"row classes [AT]\nrow classes -\nok\n"),
+        b"objects" => Some(b"row objects [AT]\nrow objects -\nok\n"),
+        b"referrers" => Some(b"row referrers [AT] ID\nrow referrers - 0x10000020\nok\n"),
+        b"path" => Some(b"row path [AT] ID\nrow path @120 0x10000020\nok\n"),
         b"retained" => Some(b"row retained [AT] ID\nrow retained 0x10000020\nok\n"),
-        b"show" => Some(b"row show AT ID\nrow show - 0x10000020\nok\n"),
+        b"show" => Some(b"row show [AT] ID\nrow show - 0x10000020\nok\n"),
         b"born" => Some(b"row born ID\nrow born 0x10000020\nok\n"),
         b"wrote" => Some(b"row wrote ID SLOT\nrow wrote 0x10000020 1\nok\n"),
         b"watch" => Some(b"row watch ID SLOT\nrow watch 0x10000020 1\nok\n"),
@@ -32,6 +33,7 @@ pub fn question_help(word: &[u8]) -> Option<&'static [u8]>
         b"history" => Some(b"row history N\nrow history 10\nok\n"),
         b"pins" => Some(b"row pins\nrow pins\nok\n"),
         b"cells" => Some(b"row cells\nrow cells\nok\n"),
+        b"regions" => Some(b"row regions\nrow regions\nok\n"),
         b"status" => Some(b"row status\nrow status\nok\n"),
         b"collect" => Some(b"row collect\nrow collect\nok\n"),
         b"help" => Some(b"row help WORD\nrow help path\nok\n"),
@@ -89,9 +91,9 @@ pub fn all_help() -> &'static [u8]
         row load M TO FROM SLOT\nrow store M TARGET SLOT SOURCE\nrow put M TARGET SLOT VALUE\nrow move M TO FROM_M FROM\nrow clear M R\n\
         row snap\nrow mark\nrow drain\nrow finish\nrow sweep REGION\n\
         row rewind N\nrow open AT\nrow piece PIN\nrow dump PIN\nrow close PIN\nrow end\n\
-        row histogram AT\nrow garbage AT\nrow growth AT AT\nrow registers AT\nrow classes AT\n\
-        row objects AT\nrow referrers AT ID\nrow path AT ID\nrow retained [AT] ID\nrow show AT ID\n\
-        row born ID\nrow wrote ID SLOT\nrow watch ID SLOT\nrow dropped ID\nrow history N\nrow pins\nrow cells\nrow status\nrow collect\n\
+        row histogram [AT]\nrow garbage [AT]\nrow growth AT [AT]\nrow kept AT [AT]\nrow registers [AT]\nrow classes [AT]\n\
+        row objects [AT]\nrow referrers [AT] ID\nrow path [AT] ID\nrow retained [AT] ID\nrow show [AT] ID\n\
+        row born ID\nrow wrote ID SLOT\nrow watch ID SLOT\nrow dropped ID\nrow history N\nrow pins\nrow cells\nrow regions\nrow status\nrow collect\n\
         row help WORD\nok\n"
 }
 

@@ -2,7 +2,7 @@
 ghost use Rattle.std.specs.Prelude.{◌≡◌, drop};
 ghost use Rattle.session_grammar.specs.Grammar.{words_of_line};
 ghost use Rattle.session_grammar.specs.Reads.{IsNextWord};
-ghost use Rattle.question_text.specs.Questions.{at_and_id, at_of_word, id_and_number, next_at, next_id, one_at, one_id, optional_at_and_id, past_rules, question_by, question_of, question_rules, two_ats};
+ghost use Rattle.question_text.specs.Questions.{at_and_optional, at_of_word, id_and_number, next_id, one_id, optional_at, optional_at_and_id, past_rules, question_by, question_of, question_rules};
 
 use crate::id::id_of;
 use session_grammar::command::{at_end, next_number, one_number};
@@ -29,6 +29,8 @@ pub enum Question {
     Garbage(At),
     /// The rows of a histogram that differ between two states.
     Growth { older: At, newer: At },
+    /// What is reached in the newer state and isn't in the older, as a histogram has it.
+    Kept { older: At, newer: At },
     /// What each register names.
     Registers(At),
     /// The classes.
@@ -57,6 +59,8 @@ pub enum Question {
     Pins,
     /// What each cell of the regions in use holds.
     Cells,
+    /// How many objects each region in use has.
+    Regions,
     /// Where the heap and its collector are.
     Status,
 }
@@ -75,19 +79,14 @@ pub fn at_of(word: &[u8]) -> Option<At>
     }
 }
 
-// Reads the state that the next word names. Returns None if it names none.
-fn next_at(words: &mut Words) -> Option<At>
-    ensures { IsNextWord (next_at (words_of_line words.old)) (words_of_line words.new) result }
+// Returns the one state that the words name. If there are no words, it is the current one.
+fn optional_at(mut words: Words) -> Option<At>
+    ensures { result ≡ optional_at (words_of_line words.entry) }
 {
-    let word = words.next_word()?;
-    at_of(word)
-}
-
-// Returns the one state that the words name.
-fn one_at(mut words: Words) -> Option<At>
-    ensures { result ≡ one_at (words_of_line words.entry) }
-{
-    at_end(next_at(&mut words)?, words)
+    let Some(word) = words.next_word() else {
+        return Some(At::Current);
+    };
+    at_end(at_of(word)?, words)
 }
 
 // Reads the id that the next word is. Returns None if it is none.
@@ -96,13 +95,6 @@ fn next_id(words: &mut Words) -> Option<u64>
 {
     let word = words.next_word()?;
     id_of(word)
-}
-
-// Returns the state and the id that the words name.
-fn at_and_id(mut words: Words) -> Option<(At, u64)>
-    ensures { result ≡ at_and_id (words_of_line words.entry) }
-{
-    at_end((next_at(&mut words)?, next_id(&mut words)?), words)
 }
 
 // Returns the state and the id that the words name. If they are only an id, the state is the current one.
@@ -116,11 +108,15 @@ fn optional_at_and_id(mut words: Words) -> Option<(At, u64)>
     at_end((at_of(word)?, id_of(second)?), words)
 }
 
-// Returns the two states that the words name.
-fn two_ats(mut words: Words) -> Option<(At, At)>
-    ensures { result ≡ two_ats (words_of_line words.entry) }
+// Returns the two states that the words name. If they name only one, the second is the current one.
+fn at_and_optional(mut words: Words) -> Option<(At, At)>
+    ensures { result ≡ at_and_optional (words_of_line words.entry) }
 {
-    at_end((next_at(&mut words)?, next_at(&mut words)?), words)
+    let word = words.next_word()?;
+    let Some(second) = words.next_word() else {
+        return Some((at_of(word)?, At::Current));
+    };
+    at_end((at_of(word)?, at_of(second)?), words)
 }
 
 // Returns the one id that the words name.
@@ -154,6 +150,9 @@ fn past_question(keyword: &[u8], words: Words) -> Option<Question>
     if is_word(keyword, b"cells") {
         return at_end(Question::Cells, words);
     }
+    if is_word(keyword, b"regions") {
+        return at_end(Question::Regions, words);
+    }
     if is_word(keyword, b"status") {
         return at_end(Question::Status, words);
     }
@@ -178,17 +177,21 @@ fn later_question(keyword: &[u8], words: Words) -> Option<Question>
         ≡ question_by (drop 4 question_rules) keyword.now (words_of_line words.entry) }
 {
     if is_word(keyword, b"classes") {
-        return Some(Question::Classes(one_at(words)?));
+        return Some(Question::Classes(optional_at(words)?));
     }
     if is_word(keyword, b"objects") {
-        return Some(Question::Objects(one_at(words)?));
+        return Some(Question::Objects(optional_at(words)?));
+    }
+    if is_word(keyword, b"kept") {
+        let (older, newer) = at_and_optional(words)?;
+        return Some(Question::Kept { older, newer });
     }
     if is_word(keyword, b"referrers") {
-        let (at, id) = at_and_id(words)?;
+        let (at, id) = optional_at_and_id(words)?;
         return Some(Question::Referrers { at, id });
     }
     if is_word(keyword, b"path") {
-        let (at, id) = at_and_id(words)?;
+        let (at, id) = optional_at_and_id(words)?;
         return Some(Question::Path { at, id });
     }
     if is_word(keyword, b"retained") {
@@ -196,7 +199,7 @@ fn later_question(keyword: &[u8], words: Words) -> Option<Question>
         return Some(Question::Retained { at, id });
     }
     if is_word(keyword, b"show") {
-        let (at, id) = at_and_id(words)?;
+        let (at, id) = optional_at_and_id(words)?;
         return Some(Question::Show { at, id });
     }
     past_question(keyword, words)
@@ -210,16 +213,16 @@ pub fn question_of(line: &[u8]) -> Option<Question>
     let mut words = Words::new(line);
     let keyword = words.next_word()?;
     if is_word(keyword, b"histogram") {
-        return Some(Question::Histogram(one_at(words)?));
+        return Some(Question::Histogram(optional_at(words)?));
     }
     if is_word(keyword, b"garbage") {
-        return Some(Question::Garbage(one_at(words)?));
+        return Some(Question::Garbage(optional_at(words)?));
     }
     if is_word(keyword, b"registers") {
-        return Some(Question::Registers(one_at(words)?));
+        return Some(Question::Registers(optional_at(words)?));
     }
     if is_word(keyword, b"growth") {
-        let (older, newer) = two_ats(words)?;
+        let (older, newer) = at_and_optional(words)?;
         return Some(Question::Growth { older, newer });
     }
     later_question(keyword, words)

@@ -20,6 +20,7 @@ WANTED = {
     "born": ("ok place", "ok older", "no 28"),
     "wrote": ("ok place", "ok older", "no 9", "no 28"),
     "watch": ("ok nothing", "ok some", "no 9", "no 28"),
+    "writes": ("ok nothing", "ok some", "no 2", "no 9"),
     "dropped": ("ok place", "ok older", "ok reached", "no 28"),
     "history": ("ok",),
     "pins": ("ok",),
@@ -39,7 +40,7 @@ def sorts(word, left_out, last):
         yield "ok without AT"
     if word == b"retained" and last[0] == "ok":
         yield "ok " + {"0": "nothing", "1": "itself"}.get(last[1], "more")
-    elif word in (b"watch", b"kept") and last[0] == "ok":
+    elif word in (b"watch", b"writes", b"kept") and last[0] == "ok":
         yield "ok nothing" if last[1] == "0" else "ok some"
     else:
         yield " ".join(last[:2]) if last[0] == "no" or last[1:2] in (["place"], ["older"], ["reached"]) else last[0]
@@ -77,6 +78,10 @@ class AskingDraw(Draw):
             word = lots.pick([0, 8, word + 8, FIRST_OBJECT + 8 * REGION_WORDS * len(self.state.regions), (1 << 32) - 8])
         return f"0x{word:08x}" if lots.below(24) else lots.pick([word, f"0x{word:x}0", f"0x{word:08X}", f"{word:08x}"])
 
+    def asked_class(self):
+        """Returns a word for the number of a class, mostly of one that is there."""
+        return self.lots.near(self.lots.below(len(self.state.classes) or 1), 70)
+
     def help_words(self):
         """Returns the words after `help`: none, the word of a line, or words that name no line."""
         return self.lots.pick([[], [self.lots.pick(list(FORMS))], ["helping"], ["path", "-"]])
@@ -84,7 +89,8 @@ class AskingDraw(Draw):
     def ask(self):
         """Asks a question, or for help."""
         word = self.lots.pick([*QUESTIONS, b"help"])
-        draws = {"a": self.moment, "i": self.identifier, "n": lambda: self.lots.near(self.lots.below(8), 70)}
+        draws = {"a": self.moment, "i": self.identifier, "c": self.asked_class}
+        draws["n"] = lambda: self.lots.near(self.lots.below(8), 70)
         forms = "" if word == b"help" else QUESTIONS[word]
         forms, may_be_left_out, rest = forms.partition("?")
         left_out = bool(may_be_left_out) and self.lots.once_in(4)

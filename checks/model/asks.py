@@ -11,6 +11,8 @@ WANTED = {
     "growth": ABOUT_A_MOMENT,
     "path": (*ABOUT_A_MOMENT, "no 27", "no 28"),
     "retained": ("ok nothing", "ok itself", "ok more", "ok without AT", "no 22", "no 23", "no 24", "no 28"),
+    "dominators": ("ok nothing", "ok some", "ok some of them", "ok without AT", "no 22", "no 23"),
+    "dominator": ("ok nothing", "ok some", "ok without AT", "no 23", "no 27", "no 28"),
     "referrers": (*ABOUT_A_MOMENT, "no 28"),
     "registers": ABOUT_A_MOMENT,
     "classes": ABOUT_A_MOMENT,
@@ -37,8 +39,12 @@ def sorts(word, forms, last):
         yield "ok " + {"0": "nothing", "1": "itself"}.get(last[1], "more")
         if forms == "i":
             yield "ok without AT"
-    elif word == b"watch" and last[0] == "ok":
+    elif word in (b"watch", b"dominators", b"dominator") and last[0] == "ok":
         yield "ok nothing" if last[1] == "0" else "ok some"
+        if forms in ("", "n", "i"):
+            yield "ok without AT"
+        if word == b"dominators" and forms.endswith("n") and last[1] != "0":
+            yield "ok some of them"
     else:
         yield " ".join(last[:2]) if last[0] == "no" or last[1:2] in (["place"], ["older"], ["reached"]) else last[0]
 
@@ -84,7 +90,9 @@ class AskingDraw(Draw):
         word = self.lots.pick([*QUESTIONS, b"help"])
         draws = {"a": self.moment, "i": self.identifier, "n": lambda: self.lots.near(self.lots.below(8), 70)}
         forms = "" if word == b"help" else QUESTIONS[word]
-        if forms.startswith("?"):
+        if forms == "?a?n":
+            forms = self.lots.pick(["", "a", "n", "an"])
+        elif forms.startswith("?"):
             forms = self.lots.pick([forms[1:], forms[2:]])
         words = self.help_words() if word == b"help" else [draws[form]() for form in forms]
         accepted = self.say(word.decode(), *words)

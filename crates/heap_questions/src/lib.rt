@@ -18,7 +18,7 @@ mod rows;
 mod search;
 
 pub use cells::{CellState, CellStates};
-pub use dominators::{count_retained, retained_by_cut};
+pub use dominators::{RetainedObjects, count_retained, retained_by_cut};
 pub use garbage::count_garbage;
 pub use growth::{Change, compare};
 pub use index::ObjectIndex;

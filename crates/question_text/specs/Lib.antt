@@ -7,6 +7,7 @@ pub mod Histograms
 pub mod Referrers
 pub mod Registers
 pub mod ClassLists
+pub mod DominatorRows
 pub mod Growths
 pub mod Paths
 pub mod Objects

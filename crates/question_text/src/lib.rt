@@ -24,6 +24,7 @@ mod cell_list;
 mod class_list;
 mod comment;
 mod cycle;
+mod dominator_rows;
 mod growth;
 mod help;
 mod histogram;

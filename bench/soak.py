@@ -63,7 +63,8 @@ ANSWERS = {
     "dump": f"ok dump {NUMBER}", "piece": f"ok (piece|last) {NUMBER}", "close": "ok", "what": "bad command",
     "histogram": f"ok {NUMBER} {NUMBER}", "garbage": f"ok {NUMBER} {NUMBER}", "registers": f"ok {NUMBER}", "path": f"ok {NUMBER}",
     "history": f"ok {NUMBER}", "pins": f"ok {NUMBER}", "objects": f"ok {NUMBER}", "cells": f"ok {NUMBER}", "status": "ok 8",
-    "retained": f"ok {NUMBER} {NUMBER}", "watch": f"ok {NUMBER}", "collect": f"ok condemned {NUMBER} swept {NUMBER}",
+    "retained": f"ok {NUMBER} {NUMBER}", "watch": f"ok {NUMBER}", "writes": f"ok {NUMBER}",
+    "collect": f"ok condemned {NUMBER} swept {NUMBER}",
 }
 # A row of the answer to a question, by its first word.
 ROWS = {
@@ -71,6 +72,7 @@ ROWS = {
     "objects": f"{ID} {NAMED} {NUMBER}( unreached)?", "cells": f"{NUMBER} (4|16|64|256|1024) (-|sweep) [.omgx]+",
     "status": f"(phase (idle|marking)|(place|retained|gray|undrained|unswept|regions|acts) {NUMBER})",
     "retained": f"{NUMBER} {NUMBER} {NAMED}", "watch": f"{NUMBER} ({NUMBER} {NUMBER}|(null|{ID}) (null|{ID}))",
+    "writes": f"{NUMBER} {ID} ({NUMBER} {NUMBER}|(null|{ID}) (null|{ID}))",
     "path": f"([0-3] [0-7] {ID}|{ID} {NUMBER} {ID})", "history": f"{NUMBER} [a-z]+.*", "pins": f"{NUMBER} {NUMBER} (held {NUMBER}|lost Rewound)",
 }
 # What standard error may tell of dumps.
@@ -104,7 +106,8 @@ def line_by_lot(lot):
         (1, "objects -"), (1, "cells"), (1, "status"),
         (1, f"path - 0x{0x10000000 + lot.randrange(1 << 12) * 8:08x}"),
         (1, f"retained {lot.choice(['', '- '])}0x{0x10000000 + lot.randrange(1 << 12) * 8:08x}"),
-        (1, f"watch 0x{0x10000000 + lot.randrange(1 << 8) * 32:08x} {slot}"), (1, f"history {lot.randrange(30)}"),
+        (1, f"watch 0x{0x10000000 + lot.randrange(1 << 8) * 32:08x} {slot}"), (0.3, f"writes {lot.randrange(3)} {slot}"),
+        (1, f"history {lot.randrange(30)}"),
     )
     return lot.choices([text for _, text in lines], [weight for weight, _ in lines])[0]
 

@@ -19,6 +19,7 @@ WANTED = {
     "born": ("ok place", "ok older", "no 28"),
     "wrote": ("ok place", "ok older", "no 9", "no 28"),
     "watch": ("ok nothing", "ok some", "no 9", "no 28"),
+    "writes": ("ok nothing", "ok some", "no 2", "no 9"),
     "dropped": ("ok place", "ok older", "ok reached", "no 28"),
     "history": ("ok",),
     "pins": ("ok",),
@@ -37,7 +38,7 @@ def sorts(word, forms, last):
         yield "ok " + {"0": "nothing", "1": "itself"}.get(last[1], "more")
         if forms == "i":
             yield "ok without AT"
-    elif word == b"watch" and last[0] == "ok":
+    elif word in (b"watch", b"writes") and last[0] == "ok":
         yield "ok nothing" if last[1] == "0" else "ok some"
     else:
         yield " ".join(last[:2]) if last[0] == "no" or last[1:2] in (["place"], ["older"], ["reached"]) else last[0]

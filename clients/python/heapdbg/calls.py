@@ -26,6 +26,7 @@ from .rows import (
     SlotReference,
     SlotRow,
     SlotStep,
+    SlotWrite,
     Swept,
     When,
     bytes_of,
@@ -49,6 +50,7 @@ from .rows import (
     rows_by,
     slot,
     swept,
+    written,
 )
 
 
@@ -214,6 +216,10 @@ class Calls:
     def watch(self, of: int, slot: int) -> list[SlotChange]:
         """Returns a `SlotChange` for each retained step that changed a slot since its object was made, the oldest first."""
         return self.send(f"watch {ObjectId(of)} {slot}", rows_by(changed))
+
+    def writes(self, of_class: int, slot: int) -> list[SlotWrite]:
+        """Returns a `SlotWrite` for each retained step that changed a slot of some object of a class, the oldest first."""
+        return self.send(f"writes {of_class} {slot}", rows_by(written))
 
     def born(self, of: int) -> When:
         """Returns the `When` of the step that made an object: ("place", P), or ("older", P)."""

@@ -7,8 +7,8 @@ from typing import Iterable, NamedTuple, Optional, Union
 # What a line may hold, and a word of it. A line feed in a line would make it two, and shift all later replies.
 LINE = re.compile(r"[ -~]*")
 WORD = re.compile(r"[!-~]+")
-QUESTIONS = """show registers classes objects histogram growth path retained referrers garbage wrote watch born dropped history
-pins cells status collect help""".split()
+QUESTIONS = """show registers classes objects histogram growth path retained referrers garbage wrote watch writes born dropped
+history pins cells status collect help""".split()
 
 
 class NotDoneFacts(NamedTuple):

@@ -163,6 +163,15 @@ class SlotChange(NamedTuple):
     new: Union[ObjectId, int, None]
 
 
+class SlotWrite(NamedTuple):
+    """A step that changed a slot of an object: the place that it led to, the object, and what the slot held before and after it."""
+
+    place: int
+    id: ObjectId
+    old: Union[ObjectId, int, None]
+    new: Union[ObjectId, int, None]
+
+
 class When(tuple):
     """When something happened: ("place", P), ("older", P) or ("reached",). `place` is P, or None."""
 
@@ -336,6 +345,11 @@ def slot(row: list) -> SlotRow:
 def changed(row: list) -> SlotChange:
     """Reads PLACE OLD NEW, of which OLD and NEW are numbers, ids and null."""
     return SlotChange(int(row[0]), number_or_id(row[1]), number_or_id(row[2]))
+
+
+def written(row: list) -> SlotWrite:
+    """Reads PLACE ID OLD NEW, of which OLD and NEW are numbers, ids and null."""
+    return SlotWrite(int(row[0]), ObjectId(row[1], 16), number_or_id(row[2]), number_or_id(row[3]))
 
 
 def past(row: list) -> PastStep:

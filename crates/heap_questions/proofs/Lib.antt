@@ -17,6 +17,7 @@ pub mod ToldObjects
 pub mod Writes
 pub mod Walk
 pub mod ChangedSlots
+pub mod WrittenSlots
 pub mod NewestSteps
 pub mod Sizes
 pub mod ImagePaths

@@ -10,6 +10,7 @@ pub mod Registers
 pub mod Ranking
 pub mod Changes
 pub mod SlotChanges
+pub mod SlotWrites
 pub mod Newest
 pub mod Losses
 pub mod Cells

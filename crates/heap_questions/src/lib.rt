@@ -26,8 +26,8 @@ pub use object_list::{ListedObject, list_objects};
 pub use objects::{ShownObject, object_with, slot_kind};
 pub use order::ranking;
 pub use past::{
-    Loss, PastEvent, PastStep, SlotChange, birth, history, last_write, loss_of, path_is_reach,
-    refers_at, slot_changes, unreached_stays,
+    Loss, PastEvent, PastStep, SlotChange, SlotWrite, birth, history, last_write, loss_of,
+    path_is_reach, refers_at, slot_changes, slot_writes, unreached_stays,
 };
 pub use paths::{Path, shortest_path};
 pub use references::{Referrer, referrers};

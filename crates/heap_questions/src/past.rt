@@ -5,9 +5,11 @@ mod losses;
 mod slots;
 mod steps;
 mod suspects;
+mod writes;
 
 pub use changes::{birth, last_write};
 pub use events::PastEvent;
 pub use losses::{Loss, loss_of, path_is_reach, unreached_stays};
 pub use slots::{SlotChange, refers_at, slot_changes};
 pub use steps::{PastStep, history};
+pub use writes::{SlotWrite, slot_writes};

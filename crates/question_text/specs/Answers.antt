@@ -7,7 +7,7 @@ use Rattle.heap_trail.specs.Machine.{Machine}
 use Rattle.hprof_text.specs.Image.{Image}
 use Rattle.question_text.specs.declared.answers.StateQuestion.{StateQuestion}
 use Rattle.question_text.specs.declared.question.Question.{Question}
-use Rattle.question_text.specs.declared.question.Question.TheVariants.{Histogram, Garbage, Growth, Registers, Classes, Objects, Referrers, Path, Retained, Show, Born, Wrote, Watch, Dropped, History, Pins, Cells, Status}
+use Rattle.question_text.specs.declared.question.Question.TheVariants.{Histogram, Garbage, Growth, Registers, Classes, Objects, Referrers, Path, Retained, Show, Born, Wrote, Watch, Writes, Dropped, History, Pins, Cells, Status}
 use Rattle.question_text.specs.Births.{IsBornText}
 use Rattle.question_text.specs.CellLists.{IsCellsText}
 use Rattle.question_text.specs.ClassLists.{IsClassesText}
@@ -25,6 +25,7 @@ use Rattle.question_text.specs.Registers.{IsRegistersText}
 use Rattle.question_text.specs.Referrers.{IsReferrersText}
 use Rattle.question_text.specs.Questions.{question_of}
 use Rattle.question_text.specs.SlotChanges.{IsWatchText}
+use Rattle.question_text.specs.SlotWrites.{IsWritesText}
 use Rattle.question_text.specs.Statuses.{IsStatusText}
 use Rattle.question_text.specs.Writes.{IsWroteText}
 
@@ -62,6 +63,7 @@ IsAnswer (Show at x) m acts text =
 IsAnswer (Born x) m acts text = IsBornText x m.trail text
 IsAnswer (Wrote x s) m acts text = IsWroteText x s m.trail text
 IsAnswer (Watch x s) m acts text = IsWatchText x s m.trail text
+IsAnswer (Writes k s) m acts text = IsWritesText k s m.trail text
 IsAnswer (Dropped x) m acts text = IsDroppedText x m.trail text
 IsAnswer (History count) m acts text = IsHistoryText count m.trail text
 IsAnswer Pins m acts text = IsPinsText m.pins text

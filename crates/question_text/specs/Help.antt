@@ -30,6 +30,7 @@ question_forms =
     ∷ form_of (codes "born") (codes "born ID") (codes "born 0x10000020")
     ∷ form_of (codes "wrote") (codes "wrote ID SLOT") (codes "wrote 0x10000020 1")
     ∷ form_of (codes "watch") (codes "watch ID SLOT") (codes "watch 0x10000020 1")
+    ∷ form_of (codes "writes") (codes "writes CLASS SLOT") (codes "writes 0 1")
     ∷ form_of (codes "dropped") (codes "dropped ID") (codes "dropped 0x10000020")
     ∷ form_of (codes "history") (codes "history N") (codes "history 10")
     ∷ form_of (codes "pins") (codes "pins") (codes "pins")

@@ -7,6 +7,7 @@ pub mod Histograms
 pub mod Referrers
 pub mod Registers
 pub mod ClassLists
+pub mod ClassSlots
 pub mod Growths
 pub mod Paths
 pub mod Objects
@@ -18,6 +19,7 @@ pub mod Statuses
 pub mod Births
 pub mod Writes
 pub mod SlotChanges
+pub mod SlotWrites
 pub mod Losses
 pub mod Histories
 pub mod Help

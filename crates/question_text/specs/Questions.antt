@@ -5,7 +5,7 @@ use Rattle.session_grammar.specs.Grammar.{at_end, next_number, number_of_word, o
 use Rattle.question_text.specs.declared.question.At.{At}
 use Rattle.question_text.specs.declared.question.At.TheVariants.{Current, Pin, Place}
 use Rattle.question_text.specs.declared.question.Question.{Question}
-use Rattle.question_text.specs.declared.question.Question.TheVariants.{Histogram, Garbage, Growth, Registers, Classes, Objects, Referrers, Path, Retained, Show, Born, Wrote, Watch, Dropped, History, Pins, Cells, Status}
+use Rattle.question_text.specs.declared.question.Question.TheVariants.{Histogram, Garbage, Growth, Registers, Classes, Objects, Referrers, Path, Retained, Show, Born, Wrote, Watch, Writes, Dropped, History, Pins, Cells, Status}
 use Rattle.question_text.specs.Ids.{id_of_word}
 
 -- the state that a word names: `-`, `@` and a place, or the number of a pin
@@ -58,6 +58,12 @@ id_and_number ws =
     option_and_then (λ x. option_and_then (λ n. at_end (x.0, n.0) n.1) (next_number x.1))
     (next_id ws)
 
+-- the two numbers that the words are
+abbrev pub two_numbers : List (List ℕ) → Option (ℕ × ℕ)
+two_numbers ws =
+    option_and_then (λ a. option_and_then (λ b. at_end (a.0, b.0) b.1) (next_number a.1))
+    (next_number ws)
+
 -- ---- the table of questions
 
 -- a keyword, and what the words after it ask
@@ -75,6 +81,7 @@ past_rules =
     ∷ (codes "history", λ ws. option_map (λ n. History n) (one_number ws))
     ∷ (codes "wrote", λ ws. option_map (λ a. Wrote a.0 a.1) (id_and_number ws))
     ∷ (codes "watch", λ ws. option_map (λ a. Watch a.0 a.1) (id_and_number ws))
+    ∷ (codes "writes", λ ws. option_map (λ a. Writes a.0 a.1) (two_numbers ws))
     ∷ []
 
 -- all questions: those about a state first

@@ -24,6 +24,7 @@ use crate::registers::registers_answer;
 use crate::rows::{Unanswered, reason_line};
 use crate::show::{show_answer, shows_mark};
 use crate::slot_changes::watch_answer;
+use crate::slot_writes::writes_answer;
 use crate::status::status_answer;
 use crate::write::wrote_answer;
 use heap_class::Refusal;
@@ -181,6 +182,7 @@ pub fn answer(alloc: Global, machine: &Machine, acts: Option<u64>, question: Que
         Question::Born(id) => born_answer(machine, id),
         Question::Wrote { id, slot } => wrote_answer(machine, id, slot),
         Question::Watch { id, slot } => line_answer(watch_answer(alloc, machine, id, slot)),
+        Question::Writes { class, slot } => line_answer(writes_answer(alloc, machine, class, slot)),
         Question::Dropped(id) => dropped_answer(alloc, machine, id),
         Question::History(count) => line_answer(history_answer(alloc, machine, count)),
         Question::Pins => line_answer(pins_answer(alloc, machine)),

@@ -2,7 +2,7 @@
 ghost use Rattle.std.specs.Prelude.{◌≡◌, drop};
 ghost use Rattle.session_grammar.specs.Grammar.{words_of_line};
 ghost use Rattle.session_grammar.specs.Reads.{IsNextWord};
-ghost use Rattle.question_text.specs.Questions.{at_and_id, at_of_word, id_and_number, next_at, next_id, one_at, one_id, optional_at_and_id, past_rules, question_by, question_of, question_rules, two_ats};
+ghost use Rattle.question_text.specs.Questions.{at_and_id, at_of_word, id_and_number, next_at, next_id, one_at, one_id, optional_at_and_id, past_rules, question_by, question_of, question_rules, two_ats, two_numbers};
 
 use crate::id::id_of;
 use session_grammar::command::{at_end, next_number, one_number};
@@ -49,6 +49,8 @@ pub enum Question {
     Wrote { id: u64, slot: u64 },
     /// The changes of a slot of an object.
     Watch { id: u64, slot: u64 },
+    /// The changes of a slot of all objects of a class.
+    Writes { class: u64, slot: u64 },
     /// When registers lost an object.
     Dropped(u64),
     /// What the newest retained steps did: how many of them.
@@ -137,6 +139,13 @@ fn id_and_number(mut words: Words) -> Option<(u64, u64)>
     at_end((next_id(&mut words)?, next_number(&mut words)?), words)
 }
 
+// Returns the two numbers that the words are.
+fn two_numbers(mut words: Words) -> Option<(u64, u64)>
+    ensures { result ≡ two_numbers (words_of_line words.entry) }
+{
+    at_end((next_number(&mut words)?, next_number(&mut words)?), words)
+}
+
 // Reads the words behind a keyword of a question about what retained steps did, about pins, or about the current state.
 #[tactic(auto, unfolding(crate::specs::Questions::past_rules))]
 fn past_question(keyword: &[u8], words: Words) -> Option<Question>
@@ -167,6 +176,10 @@ fn past_question(keyword: &[u8], words: Words) -> Option<Question>
     if is_word(keyword, b"watch") {
         let (id, slot) = id_and_number(words)?;
         return Some(Question::Watch { id, slot });
+    }
+    if is_word(keyword, b"writes") {
+        let (class, slot) = two_numbers(words)?;
+        return Some(Question::Writes { class, slot });
     }
     None
 }

@@ -16,7 +16,7 @@ use heap_trail::Machine;
 use std::alloc::{AllocError, Global};
 
 // Appends a word: an id or `null` if it is a reference, else a number. Fails if an allocation fails.
-fn push_word(text: &mut Vec<u8>, refers: bool, word: u64) -> Result<(), AllocError>
+pub(crate) fn push_word(text: &mut Vec<u8>, refers: bool, word: u64) -> Result<(), AllocError>
     ensures { Appends (and_word refers word) text.old.items text.new.items result }
 {
     if refers {

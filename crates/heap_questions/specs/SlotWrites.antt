@@ -1,0 +1,99 @@
+-- The writes of one slot of all objects of a class.
+use Rattle.std.specs.Prelude.{◌≡◌, ◌≢◌, ℕ, zero, suc, ◌+◌, ◌-◌, ◌<◌, ◌==◌, ◌&&◌, not, Bool, true, false, List, [], ◌∷◌, ◌++◌, length, reverse, Option, Some, None, option_and_then, slice_index_or, IfSome, if◌then◌else◌}
+use Rattle.heap_class.specs.declared.ObjKind.{ObjKind}
+use Rattle.heap_class.specs.declared.ObjKind.TheVariants.{Instance, Array, Prim}
+use Rattle.heap_class.specs.declared.ObjRef.{ObjRef}
+use Rattle.heap_region.specs.Regions.{Object, id_of, object_at}
+use Rattle.heap_world.specs.State.{HeapState}
+use Rattle.heap_step.specs.declared.Undo.{Undo}
+use Rattle.heap_step.specs.declared.Undo.TheVariants.{Put, Store}
+use Rattle.hprof_text.specs.Image.{DumpedObject}
+use Rattle.heap_pins.specs.Pin.{PinContents, object_seen}
+use Rattle.heap_pins.specs.Shows.{IsSeen}
+use Rattle.heap_trail.specs.Trail.{Trail, retained, state_ago}
+use Rattle.heap_questions.specs.declared.past.writes.SlotWrite.{SlotWrite}
+use Rattle.heap_questions.specs.Changes.{slot_word}
+
+-- an object of this kind is one of class k, an instance or an array
+abbrev pub is_of_class : ObjKind → ℕ → Bool
+is_of_class (Instance own) k = own == k
+is_of_class (Array own) k = own == k
+is_of_class (Prim kind) k = false
+
+-- an object of class k stands at a place
+abbrev pub HasClass : HeapState → ObjRef → ℕ → Type 0
+HasClass w at k =
+    (o : Object) × (object_at w.regions at ≡ Some o) × (is_of_class o.kind k ≡ true)
+
+-- the step to the state of n steps ago changed slot s of the object of class k at a place: these are the place of the step, the
+-- id of the object, and the words before and after it
+pub record IsSlotWrite (t : Trail) (k s n : ℕ) (at : ObjRef) (w : SlotWrite) : Type 0 where
+  pub place : w.place ≡ t.place - n
+  pub id : w.id ≡ id_of (state_ago n t).regions at
+  pub class : HasClass (state_ago n t) at k
+  pub old : slot_word (state_ago (n + 1) t) at s ≡ Some w.old
+  pub new : slot_word (state_ago n t) at s ≡ Some w.new
+  pub differ : w.old ≢ w.new
+
+-- that step made these writes, one or none, and no others
+abbrev pub AreWritesAgo : Trail → ℕ → ℕ → ℕ → Option SlotWrite → Type 0
+AreWritesAgo t k s n None = (at : ObjRef) (w : SlotWrite) → ¬ IsSlotWrite t k s n at w
+AreWritesAgo t k s n (Some x) =
+    ((at : ObjRef) × IsSlotWrite t k s n at x)
+    × ((at : ObjRef) (w : SlotWrite) → IsSlotWrite t k s n at w → w ≡ x)
+
+-- a write, if there is one, before others
+abbrev pub before_others : Option SlotWrite → List SlotWrite → List SlotWrite
+before_others None ws = ws
+before_others (Some w) ws = w ∷ ws
+
+-- the last n steps made these writes, the oldest first
+abbrev pub AreLastWrites : Trail → ℕ → ℕ → ℕ → List SlotWrite → Type 0
+AreLastWrites t k s zero writes = writes ≡ []
+AreLastWrites t k s (suc n) writes =
+    (first : Option SlotWrite) × (later : List SlotWrite) × AreWritesAgo t k s n first
+    × AreLastWrites t k s n later × (writes ≡ before_others first later)
+
+-- the retained steps made these
+abbrev pub AreSlotWrites : Trail → ℕ → ℕ → List SlotWrite → Type 0
+AreSlotWrites t k s writes = AreLastWrites t k s (retained t) writes
+
+-- ---- what a record tells, and a pin that shows the state after its step
+
+-- the same, the newest first
+abbrev pub AreSlotWritesBack : Trail → ℕ → ℕ → List SlotWrite → Type 0
+AreSlotWritesBack t k s writes = AreSlotWrites t k s (reverse writes)
+
+-- the place of the object of which a step with this record wrote slot s, and the old word
+abbrev pub overwritten : Undo → ℕ → Option (ObjRef × ℕ)
+overwritten (Put at slot old) s = if slot == s then Some (at, old) else None
+overwritten (Store at slot old logged) s = if slot == s then Some (at, old) else None
+overwritten left s = None
+
+-- the write of slot s of an object, which held `old` before the step to a place
+abbrev pub write_of : ℕ → ℕ → ℕ → DumpedObject → SlotWrite
+write_of s old place o =
+    record { place = place; id = o.id; old = old; new = slice_index_or o.words s 0 }
+
+-- the same, if the object is one of class k and the word differs
+abbrev pub changing_write : ℕ → ℕ → ℕ → ℕ → DumpedObject → Option SlotWrite
+changing_write k s old place o =
+    let w = write_of s old place o in
+    if is_of_class o.kind k && not (w.old == w.new) then Some w else None
+
+-- the same of the object that the step with this record wrote, as a pin shows it after the step
+abbrev pub write_by : PinContents → HeapState → Undo → ℕ → ℕ → ℕ → Option SlotWrite
+write_by p w left k s place =
+    option_and_then
+    (λ a. option_and_then (changing_write k s a.1 place) (object_seen p w.regions a.0))
+    (overwritten left s)
+
+-- the pin shows an object at a place, which has slot s
+abbrev pub SeesSlotOf : PinContents → HeapState → ObjRef → ℕ → Type 0
+SeesSlotOf p w at s =
+    IsSeen p w.regions at × IfSome (object_seen p w.regions at) (λ o. s < length o.words)
+
+-- it shows the object of which the step with this record wrote slot s, if there is one
+abbrev pub SeesOverwritten : PinContents → HeapState → Undo → ℕ → Type 0
+SeesOverwritten p w left s =
+    (at : ObjRef) (old : ℕ) → overwritten left s ≡ Some (at, old) → SeesSlotOf p w at s

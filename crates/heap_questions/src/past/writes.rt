@@ -1,0 +1,152 @@
+//! The writes of one slot of all objects of a class in the retained steps: a walk over the records, the newest first, with a pin
+//! that shows the state after each step.
+ghost use Rattle.std.specs.Prelude.{◌≡◌, ◌++◌, [], IfSome, IfOk, IfErr, OnOk};
+ghost use Rattle.heap_class.specs.declared.Refusal.TheVariants.{NoMemory};
+ghost use Rattle.heap_pins.specs.Pin.{object_seen};
+ghost use Rattle.heap_questions.specs.SlotWrites.{AreSlotWrites, AreSlotWritesBack, SeesOverwritten, SeesSlotOf, before_others, is_of_class, overwritten, write_by, write_of};
+
+use heap_class::{ClassNo, ObjKind, ObjRef, Refusal};
+use heap_pins::Pin;
+use heap_step::Undo;
+use heap_trail::Machine;
+use heap_world::World;
+use std::alloc::Global;
+
+/// A change of a slot of some object: the place that the step led to, the id of the object, and the words before and after the
+/// step.
+#[derive(Clone, Copy)]
+pub struct SlotWrite {
+    pub place: u64,
+    pub id: u64,
+    pub old: u64,
+    pub new: u64,
+}
+
+// Tells whether an object of this kind is one of a class.
+fn is_of_class(kind: ObjKind, class: ClassNo) -> bool
+    ensures { result ≡ is_of_class kind class }
+{
+    match kind {
+        ObjKind::Instance(own) | ObjKind::Array(own) => own == class,
+        ObjKind::Prim(_) => false,
+    }
+}
+
+// Returns the place of the object of which the step with this record wrote the slot, and the old word, or None if the step wrote
+// no such slot.
+fn overwritten(left: &Undo, slot: u64) -> Option<(ObjRef, u64)>
+    ensures { result ≡ overwritten left.now slot }
+{
+    match left {
+        Undo::Put {
+            at,
+            slot: written,
+            old,
+        }
+        | Undo::Store {
+            at,
+            slot: written,
+            old,
+            ..
+        } => {
+            if *written as u64 == slot {
+                Some((*at, *old))
+            } else {
+                None
+            }
+        }
+        _ => None,
+    }
+}
+
+// Returns the write of a slot of the object at `at`, which held `old` before the step to `place`, as a pin shows the object after it.
+fn write_at(pin: &Pin, world: &World, at: ObjRef, slot: u64, old: u64, place: u64) -> SlotWrite
+    requires { SeesSlotOf pin.now world.now at slot }
+    ensures { IfSome (object_seen pin.now world.now.regions at)
+        (λ o. result ≡ write_of slot old place o) }
+{
+    let id = pin.id(world, at);
+    let new = pin.words(world, at)[slot as usize];
+    SlotWrite {
+        place,
+        id,
+        old,
+        new,
+    }
+}
+
+// Returns the write of a slot by the step that left this record and led to `place`, if it changed an object of a class. The pin must
+// show the state after the step.
+fn write_by(
+    pin: &Pin,
+    world: &World,
+    left: &Undo,
+    class: ClassNo,
+    slot: u64,
+    place: u64,
+) -> Option<SlotWrite>
+    requires { SeesOverwritten pin.now world.now left.now slot }
+    ensures { result ≡ write_by pin.now world.now left.now class slot place }
+{
+    let (at, old) = overwritten(left, slot)?;
+    let write = write_at(pin, world, at, slot, old, place);
+    if is_of_class(pin.kind(world, at), class) && write.old != write.new {
+        Some(write)
+    } else {
+        None
+    }
+}
+
+// Adds a write, if there is one. Fails with NoMemory.
+fn push_write(writes: &mut Vec<SlotWrite>, write: Option<SlotWrite>) -> Result<(), Refusal>
+    ensures added { OnOk result (writes.new.items ≡ writes.old.items ++ before_others write []) }
+    ensures refused { IfErr result (λ e. e ≡ NoMemory) }
+{
+    if let Some(write) = write {
+        writes.push(write)?;
+    }
+    Ok(())
+}
+
+// Returns the writes of a slot of the objects of a class by the retained steps, the newest first. Fails with NoMemory.
+fn newest_writes(
+    alloc: Global,
+    machine: &Machine,
+    class: ClassNo,
+    slot: u64,
+) -> Result<Vec<SlotWrite>, Refusal>
+    ensures writes { IfOk result
+        (λ writes. AreSlotWritesBack machine.now.trail class slot writes.items) }
+    ensures refused { IfErr result (λ e. e ≡ NoMemory) }
+{
+    let place = machine.place();
+    let world = machine.world();
+    let mut pin = Pin::open(alloc, world)?;
+    let mut writes = Vec::new(alloc);
+    for n in 0..machine.retained_count() {
+        let left = machine.record_ago(n);
+        push_write(
+            &mut writes,
+            write_by(&pin, world, left, class, slot, place - n),
+        )?;
+        pin.walk_back(world, left)?;
+    }
+    Ok(writes)
+}
+
+/// Returns the changes of a slot of all objects of a class by the retained steps, the oldest first: also of objects that aren't there
+/// any more. A class that isn't there has none. Fails with NoMemory if an allocation fails. Reads each record once.
+pub fn slot_writes(
+    alloc: Global,
+    machine: &Machine,
+    class: ClassNo,
+    slot: u64,
+) -> Result<Vec<SlotWrite>, Refusal>
+    ensures writes { IfOk result
+        (λ writes. AreSlotWrites machine.now.trail class slot writes.items) }
+    ensures refused { IfErr result (λ e. e ≡ NoMemory) }
+{
+    let mut writes = newest_writes(alloc, machine, class, slot)?;
+    writes.reverse();
+    Ok(writes)
+}

@@ -1,0 +1,27 @@
+//! A slot of the objects of a class.
+ghost use Rattle.std.specs.Prelude.{◌≡◌};
+ghost use Rattle.question_text.specs.ClassSlots.{class_slot};
+
+use heap_class::{ClassNo, FirstClasses, Refusal};
+
+// Tells whether a slot of the objects of a class holds a reference: an array of references may have any slot. Fails with NoClass if
+// the class isn't there, and with BadSlot if its objects have no such slot.
+#[tactic(auto, unfolding(crate::specs::ClassSlots::class_slot))]
+pub(crate) fn class_slot(
+    classes: &FirstClasses<'_>,
+    class: ClassNo,
+    slot: u64,
+) -> Result<bool, Refusal>
+    ensures { result ≡ class_slot classes.now class slot }
+{
+    if class >= classes.len() {
+        return Err(Refusal::NoClass);
+    }
+    if classes.is_array(class) {
+        return Ok(true);
+    }
+    match classes.slots(class).get(slot as usize) {
+        Some(kind) => Ok(kind.is_reference()),
+        None => Err(Refusal::BadSlot),
+    }
+}

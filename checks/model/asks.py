@@ -76,6 +76,10 @@ class AskingDraw(Draw):
             word = lots.pick([0, 8, word + 8, FIRST_OBJECT + 8 * REGION_WORDS * len(self.state.regions), (1 << 32) - 8])
         return f"0x{word:08x}" if lots.below(24) else lots.pick([word, f"0x{word:x}0", f"0x{word:08X}", f"{word:08x}"])
 
+    def asked_class(self):
+        """Returns a word for the number of a class, mostly of one that is there."""
+        return self.lots.near(self.lots.below(len(self.state.classes) or 1), 70)
+
     def help_words(self):
         """Returns the words after `help`: none, the word of a line, or words that name no line."""
         return self.lots.pick([[], [self.lots.pick(list(FORMS))], ["helping"], ["path", "-"]])
@@ -83,7 +87,8 @@ class AskingDraw(Draw):
     def ask(self):
         """Asks a question, or for help."""
         word = self.lots.pick([*QUESTIONS, b"help"])
-        draws = {"a": self.moment, "i": self.identifier, "n": lambda: self.lots.near(self.lots.below(8), 70)}
+        draws = {"a": self.moment, "i": self.identifier, "c": self.asked_class}
+        draws["n"] = lambda: self.lots.near(self.lots.below(8), 70)
         forms = "" if word == b"help" else QUESTIONS[word]
         if forms.startswith("?"):
             forms = self.lots.pick([forms[1:], forms[2:]])

@@ -1,10 +1,11 @@
 -- The writes of a slot of all objects of a class, one retained step more at a time.
 use Rattle.std.proofs.Common.{◌≡◌, ◌≢◌, ℕ, zero, suc, ◌+◌, ◌-◌, ◌<◌, Bool, true, false, cond, List, [], ◌∷◌, ◌++◌, length, Option, Some, None, refl, sym, ap, ap₂, ◌∙◌, subst, inl, inr, arith, add-one}
-use Rattle.std.specs.Prelude.{IsSome, IfSome, is_some, not, reverse, ◌==◌, ◌&&◌, option_and_then, slice_get, slice_index_or}
+use Rattle.std.specs.Prelude.{IsSome, IfSome, is_some, not, reverse, ◌==◌, ◌&&◌, option_and_then, slice_get, slice_index_or, unwrap_or}
 use Rattle.std.proofs.lemmas.Bool.{cases_Bool, cases_eq, eq-eqb, eqb-true, ne_eqb, and_parts, false≢true, true≢false}
 use Rattle.std.proofs.lemmas.Bool.Decides.{when_true}
 use Rattle.std.proofs.lemmas.List.{reverse-append}
 use Rattle.std.proofs.lemmas.Option.{none-some, same_Some, slice_get-get_or}
+use Rattle.heap_class.specs.declared.ObjKind.TheVariants.{Instance}
 use Rattle.heap_class.specs.declared.ObjRef.{ObjRef}
 use Rattle.heap_region.specs.Regions.{Object, Region, id_of, object_at, with_word}
 use Rattle.heap_world.specs.State.{HeapState}
@@ -29,7 +30,7 @@ use Rattle.heap_trail.proofs.RetainedRecords.{HasRecord}
 use Rattle.heap_questions.specs.declared.past.writes.SlotWrite.{SlotWrite}
 use Rattle.heap_questions.specs.Changes.{made_by, slot_word}
 use Rattle.heap_questions.specs.SlotChanges.{word_before}
-use Rattle.heap_questions.specs.SlotWrites.{AreLastWrites, AreWritesAgo, IsSlotWrite, SeesOverwritten, before_others, changing_write, is_of_class, overwritten, write_by, write_of}
+use Rattle.heap_questions.specs.SlotWrites.{AreLastWrites, AreWritesAgo, IsSlotWrite, SeesObject, SeesOverwritten, before_others, changing_write, is_of_class, overwritten, seen_object, write_by}
 use Rattle.heap_questions.proofs.ChangedSlots.{before_is}
 use Rattle.heap_questions.proofs.Walk.{slot_there}
 use Rattle.heap_questions.proofs.Writes.{record_makes, same_place, written_here}
@@ -161,23 +162,36 @@ change_is t n left k s at w r i = change_named r.0 (state_ago (n + 1) t) (state_
 
 -- ---- the write of one step
 
+-- the object that is seen
+abbrev pub seen_or : Option DumpedObject → DumpedObject
+seen_or d = unwrap_or d (record { id = 0; kind = Instance 0; words = [] })
+
 pub sees_written : (t : Trail) (n s : ℕ) (left : Undo) (w : HeapState) (p : PinContents) → w ≡ t.current → IsAgo p t n → HasRecord t n left → SeesOverwritten p w left s
-sees_written t n s left w p now h r at old e =
-    let o = written_there r.0 (state_ago (n + 1) t) (state_ago n t) left s at old r.1 e in (
-      seen_ago t n w p at o.0 now h o.1,
-      subst (λ (d : Option DumpedObject). IfSome d (λ d. s < length d.words)) (sym (shown_ago t n w p at o.0 now h o.1)) o.2,
+sees_written t n s left w p now h r a e =
+    let o = written_there r.0 (state_ago (n + 1) t) (state_ago n t) left s a.0 a.1 r.1 e in
+    let seen = sym (shown_ago t n w p a.0 o.0 now h o.1) in (
+      (seen_ago t n w p a.0 o.0 now h o.1, subst (λ (d : Option DumpedObject). IsSome d) seen refl),
+      subst (λ (d : Option DumpedObject). s < length (seen_or d).words) seen o.2,
     )
+
+-- what a pin tells of an object that it shows
+pub of_seen : (P : DumpedObject → Type 0) (p : PinContents) (w : HeapState) (at : ObjRef) → SeesObject p w at → IfSome (object_seen p w.regions at) P → P (seen_object p w at)
+of_seen P p w at s h = go (object_seen p w.regions at) s.1 h
+  where
+    go : (x : Option DumpedObject) → IsSome x → IfSome x P → P (seen_or x)
+    go None s h = absurd (false≢true s)
+    go (Some o) s h = h
 
 both_true : (a b : Bool) → a ≡ true → b ≡ true → (a && b) ≡ true
 both_true a b p q = ap₂ (λ (x y : Bool). x && y) p q
 
 -- the test of a write tells whether it is one
 tested : (t : Trail) (n k s : ℕ) (left : Undo) (at : ObjRef) (o : Object) (old place : ℕ) → place ≡ t.place - n → HasRecord t n left → overwritten left s ≡ Some (at, old) → object_at (state_ago n t).regions at ≡ Some o → s < length o.words
-    → AreWritesAgo t k s n (changing_write k s old place (shown (state_ago n t).regions (at, o)))
+    → AreWritesAgo t k s n (changing_write k s place old (shown (state_ago n t).regions (at, o)))
 tested t n k s left at o old place is r named here l = go (is_of_class o.kind k && not (x.old == x.new)) refl
   where
     x : SlotWrite
-    x = write_of s old place (shown (state_ago n t).regions (at, o))
+    x = record { place = place; id = id_of (state_ago n t).regions at; old = old; new = slice_index_or o.words s 0 }
 
     now : slot_word (state_ago n t) at s ≡ Some x.new
     now = word_here (state_ago n t) at s o here l
@@ -229,11 +243,11 @@ tested t n k s left at o old place is r named here l = go (is_of_class o.kind k 
 pub writes_ago : (t : Trail) (n k s : ℕ) (left : Undo) (w : HeapState) (p : PinContents) (place : ℕ) → w ≡ t.current → place ≡ t.place - n → IsAgo p t n → HasRecord t n left → AreWritesAgo t k s n (write_by p w left k s place)
 writes_ago t n k s left w p place now is h r = go (overwritten left s) refl
   where
-    go : (a : Option (ObjRef × ℕ)) → overwritten left s ≡ a → AreWritesAgo t k s n (option_and_then (λ a. option_and_then (changing_write k s a.1 place) (object_seen p w.regions a.0)) a)
+    go : (a : Option (ObjRef × ℕ)) → overwritten left s ≡ a → AreWritesAgo t k s n (option_and_then (λ a. changing_write k s place a.1 (seen_object p w a.0)) a)
     go None e = λ at x i. none-some (at, x.old) (sym e ∙ change_is t n left k s at x r i)
     go (Some a) e =
         let o = written_there r.0 (state_ago (n + 1) t) (state_ago n t) left s a.0 a.1 r.1 e in
-        subst (λ (d : Option DumpedObject). AreWritesAgo t k s n (option_and_then (changing_write k s a.1 place) d)) (sym (shown_ago t n w p a.0 o.0 now h o.1))
+        subst (λ (d : Option DumpedObject). AreWritesAgo t k s n (changing_write k s place a.1 (seen_or d))) (sym (shown_ago t n w p a.0 o.0 now h o.1))
         (tested t n k s left a.0 o.0 a.1 place is r e o.1 o.2)
 
 -- ---- step by step

@@ -1,5 +1,5 @@
 -- The writes of one slot of all objects of a class.
-use Rattle.std.specs.Prelude.{◌≡◌, ◌≢◌, ℕ, zero, suc, ◌+◌, ◌-◌, ◌<◌, ◌==◌, ◌&&◌, not, Bool, true, false, List, [], ◌∷◌, ◌++◌, length, reverse, Option, Some, None, option_and_then, slice_index_or, IfSome, if◌then◌else◌}
+use Rattle.std.specs.Prelude.{◌≡◌, ◌≢◌, ℕ, zero, suc, ◌+◌, ◌-◌, ◌<◌, ◌==◌, ◌&&◌, not, Bool, true, false, List, [], ◌∷◌, ◌++◌, length, reverse, Option, Some, None, option_and_then, slice_index_or, unwrap_or, IsSome, if◌then◌else◌}
 use Rattle.heap_class.specs.declared.ObjKind.{ObjKind}
 use Rattle.heap_class.specs.declared.ObjKind.TheVariants.{Instance, Array, Prim}
 use Rattle.heap_class.specs.declared.ObjRef.{ObjRef}
@@ -70,30 +70,32 @@ overwritten (Put at slot old) s = if slot == s then Some (at, old) else None
 overwritten (Store at slot old logged) s = if slot == s then Some (at, old) else None
 overwritten left s = None
 
--- the write of slot s of an object, which held `old` before the step to a place
-abbrev pub write_of : ℕ → ℕ → ℕ → DumpedObject → SlotWrite
-write_of s old place o =
-    record { place = place; id = o.id; old = old; new = slice_index_or o.words s 0 }
-
--- the same, if the object is one of class k and the word differs
+-- the write of slot s of an object, which held `old` before the step to a place, if the object is one of class k and the word differs
 abbrev pub changing_write : ℕ → ℕ → ℕ → ℕ → DumpedObject → Option SlotWrite
-changing_write k s old place o =
-    let w = write_of s old place o in
-    if is_of_class o.kind k && not (w.old == w.new) then Some w else None
+changing_write k s place old o =
+    let new = slice_index_or o.words s 0 in
+    if is_of_class o.kind k && not (old == new)
+    then Some (record { place = place; id = o.id; old = old; new = new }) else None
 
--- the same of the object that the step with this record wrote, as a pin shows it after the step
+-- the object at a place, as a pin shows it
+abbrev pub seen_object : PinContents → HeapState → ObjRef → DumpedObject
+seen_object p w at =
+    unwrap_or (object_seen p w.regions at) (record { id = 0; kind = Instance 0; words = [] })
+
+-- the write of the object that the step with this record wrote, as a pin shows it after the step
 abbrev pub write_by : PinContents → HeapState → Undo → ℕ → ℕ → ℕ → Option SlotWrite
 write_by p w left k s place =
-    option_and_then
-    (λ a. option_and_then (changing_write k s a.1 place) (object_seen p w.regions a.0))
-    (overwritten left s)
+    option_and_then (λ a. changing_write k s place a.1 (seen_object p w a.0)) (overwritten left s)
 
--- the pin shows an object at a place, which has slot s
+-- the pin shows an object at a place
+abbrev pub SeesObject : PinContents → HeapState → ObjRef → Type 0
+SeesObject p w at = IsSeen p w.regions at × IsSome (object_seen p w.regions at)
+
+-- the object has slot s
 abbrev pub SeesSlotOf : PinContents → HeapState → ObjRef → ℕ → Type 0
-SeesSlotOf p w at s =
-    IsSeen p w.regions at × IfSome (object_seen p w.regions at) (λ o. s < length o.words)
+SeesSlotOf p w at s = SeesObject p w at × (s < length (seen_object p w at).words)
 
 -- it shows the object of which the step with this record wrote slot s, if there is one
 abbrev pub SeesOverwritten : PinContents → HeapState → Undo → ℕ → Type 0
 SeesOverwritten p w left s =
-    (at : ObjRef) (old : ℕ) → overwritten left s ≡ Some (at, old) → SeesSlotOf p w at s
+    (a : ObjRef × ℕ) → overwritten left s ≡ Some a → SeesSlotOf p w a.0 s

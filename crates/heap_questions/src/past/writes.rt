@@ -1,9 +1,8 @@
 //! The writes of one slot of all objects of a class in the retained steps: a walk over the records, the newest first, with a pin
 //! that shows the state after each step.
-ghost use Rattle.std.specs.Prelude.{◌≡◌, ◌++◌, [], IfSome, IfOk, IfErr, OnOk};
+ghost use Rattle.std.specs.Prelude.{◌≡◌, ◌++◌, [], IfOk, IfErr, OnOk};
 ghost use Rattle.heap_class.specs.declared.Refusal.TheVariants.{NoMemory};
-ghost use Rattle.heap_pins.specs.Pin.{object_seen};
-ghost use Rattle.heap_questions.specs.SlotWrites.{AreSlotWrites, AreSlotWritesBack, SeesOverwritten, SeesSlotOf, before_others, is_of_class, overwritten, write_by, write_of};
+ghost use Rattle.heap_questions.specs.SlotWrites.{AreSlotWrites, AreSlotWritesBack, SeesObject, SeesOverwritten, SeesSlotOf, before_others, changing_write, is_of_class, overwritten, seen_object, write_by};
 
 use heap_class::{ClassNo, ObjKind, ObjRef, Refusal};
 use heap_pins::Pin;
@@ -59,19 +58,56 @@ fn overwritten(left: &Undo, slot: u64) -> Option<(ObjRef, u64)>
     }
 }
 
-// Returns the write of a slot of the object at `at`, which held `old` before the step to `place`, as a pin shows the object after it.
-fn write_at(pin: &Pin, world: &World, at: ObjRef, slot: u64, old: u64, place: u64) -> SlotWrite
-    requires { SeesSlotOf pin.now world.now at slot }
-    ensures { IfSome (object_seen pin.now world.now.regions at)
-        (λ o. result ≡ write_of slot old place o) }
+// Returns the kind of the object at `at`, as a pin shows it.
+fn kind_at(pin: &Pin, world: &World, at: ObjRef) -> ObjKind
+    requires { SeesObject pin.now world.now at }
+    ensures { result ≡ (seen_object pin.now world.now at).kind }
 {
-    let id = pin.id(world, at);
-    let new = pin.words(world, at)[slot as usize];
-    SlotWrite {
-        place,
-        id,
-        old,
-        new,
+    pin.kind(world, at)
+}
+
+// Returns the id of the object at `at`, as a pin shows it.
+fn id_at(pin: &Pin, world: &World, at: ObjRef) -> u64
+    requires { SeesObject pin.now world.now at }
+    ensures { result ≡ (seen_object pin.now world.now at).id }
+{
+    pin.id(world, at)
+}
+
+// Returns the words of the object at `at`, as a pin shows it.
+fn words_at<'a>(pin: &'a Pin, world: &'a World, at: ObjRef) -> &'a [u64]
+    requires { SeesObject pin.now world.now at }
+    ensures { result.now ≡ (seen_object pin.now world.now at).words }
+{
+    pin.words(world, at)
+}
+
+// Returns the write of a slot of an object by the step that led to `place`, if the object is one of a class and its word changed. The
+// object's place and its old word are given, and a pin shows the object after the step.
+fn changing_write(
+    pin: &Pin,
+    world: &World,
+    written: (ObjRef, u64),
+    class: ClassNo,
+    slot: u64,
+    place: u64,
+) -> Option<SlotWrite>
+    requires { SeesSlotOf pin.now world.now written.0 slot }
+    ensures { result
+        ≡ changing_write class slot place written.1 (seen_object pin.now world.now written.0) }
+{
+    let (at, old) = written;
+    let new = words_at(pin, world, at)[slot as usize];
+    if is_of_class(kind_at(pin, world, at), class) && old != new {
+        let id = id_at(pin, world, at);
+        Some(SlotWrite {
+            place,
+            id,
+            old,
+            new,
+        })
+    } else {
+        None
     }
 }
 
@@ -88,12 +124,9 @@ fn write_by(
     requires { SeesOverwritten pin.now world.now left.now slot }
     ensures { result ≡ write_by pin.now world.now left.now class slot place }
 {
-    let (at, old) = overwritten(left, slot)?;
-    let write = write_at(pin, world, at, slot, old, place);
-    if is_of_class(pin.kind(world, at), class) && write.old != write.new {
-        Some(write)
-    } else {
-        None
+    match overwritten(left, slot) {
+        Some(written) => changing_write(pin, world, written, class, slot, place),
+        None => None,
     }
 }
 

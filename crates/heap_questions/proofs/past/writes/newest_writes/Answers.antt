@@ -10,7 +10,7 @@ use Rattle.heap_questions.proofs.past.writes.newest_writes.Goals as goal
 pub loop-n-init : goal.loop-n-init
 loop-n-init c =
     record {
-      pin = opened c.args.machine.now.trail c.world-world.result.now c.in_ok-pin.result c.world-world.ensures.value c.in_ok-pin.ensures.opened;
+      pin = opened c.args.machine.now.trail c.world-world.result.now c.in_ok-pin.pin c.world-world.ensures.value c.in_ok-pin.ensures.opened;
       told = ap reverse c.new-writes.ensures.items;
     }
 

@@ -487,7 +487,7 @@ class Names(unittest.TestCase):
             self.assertEqual(heap.referrers(heap.open(), node), [(0, 1), (array, 1)])
             self.assertEqual((heap.born(node), heap.wrote(array, 1)), (("place", 5), ("place", 6)))
             self.assertEqual((heap.watch(array, 1), heap.watch(array, 0)), ([(6, None, node)], []))
-            self.assertEqual((heap.writes(1, 1), heap.writes(1, 0)), ([(6, array, None, node)], []))
+            self.assertEqual((heap.writes(2, 1), heap.writes(2, 0)), ([(6, array, None, node)], []))
             self.assertEqual((heap.retained(None, array), heap.retained(None, node)), ([(1, 16, "[null;")], [(1, 8, "2024")]))
             heap.clear(0, 1)
             self.assertEqual(heap.path(None, node), [(0, 0, array), (array, 1, node)])

@@ -14,7 +14,7 @@ WANTED = {
     "referrers": (*ABOUT_A_MOMENT, "no 28"),
     "registers": ABOUT_A_MOMENT,
     "classes": ABOUT_A_MOMENT,
-    "objects": ABOUT_A_MOMENT,
+    "objects": (*ABOUT_A_MOMENT, "ok of class", "ok by value", "no 2", "no 9"),
     "show": (*ABOUT_A_MOMENT, "no 28"),
     "born": ("ok place", "ok older", "no 28"),
     "wrote": ("ok place", "ok older", "no 9", "no 28"),
@@ -38,6 +38,8 @@ def sorts(word, forms, last):
         yield "ok " + {"0": "nothing", "1": "itself"}.get(last[1], "more")
         if forms == "i":
             yield "ok without AT"
+    elif word == b"objects" and len(forms) > 1 and last[0] == "ok" and last[1] != "0":
+        yield "ok of class" if forms == "ac" else "ok by value"
     elif word in (b"watch", b"writes") and last[0] == "ok":
         yield "ok nothing" if last[1] == "0" else "ok some"
     else:
@@ -76,6 +78,11 @@ class AskingDraw(Draw):
             word = lots.pick([0, 8, word + 8, FIRST_OBJECT + 8 * REGION_WORDS * len(self.state.regions), (1 << 32) - 8])
         return f"0x{word:08x}" if lots.below(24) else lots.pick([word, f"0x{word:x}0", f"0x{word:08X}", f"{word:08x}"])
 
+    def held_word(self):
+        """Returns a word for a value of a slot."""
+        held = [str(word) for _, thing in self.state.objects() for word in thing.words[-1:]]
+        return self.lots.pick(["null", "0", "7", self.identifier(), *held[-9:]])
+
     def asked_class(self):
         """Returns a word for the number of a class, mostly of one that is there."""
         return self.lots.near(self.lots.below(len(self.state.classes) or 1), 70)
@@ -87,9 +94,10 @@ class AskingDraw(Draw):
     def ask(self):
         """Asks a question, or for help."""
         word = self.lots.pick([*QUESTIONS, b"help"])
-        draws = {"a": self.moment, "i": self.identifier, "c": self.asked_class}
+        draws = {"a": self.moment, "i": self.identifier, "c": self.asked_class, "v": self.held_word}
         draws["n"] = lambda: self.lots.near(self.lots.below(8), 70)
         forms = "" if word == b"help" else QUESTIONS[word]
+        forms = self.lots.pick(forms.split("|"))
         if forms.startswith("?"):
             forms = self.lots.pick([forms[1:], forms[2:]])
         words = self.help_words() if word == b"help" else [draws[form]() for form in forms]

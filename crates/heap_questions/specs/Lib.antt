@@ -5,6 +5,7 @@ pub mod Referrers
 pub mod Search
 pub mod Garbage
 pub mod Dominators
+pub mod Wanted
 pub mod ObjectLists
 pub mod Registers
 pub mod Ranking

@@ -16,6 +16,7 @@ mod references;
 mod registers;
 mod rows;
 mod search;
+mod wanted;
 
 pub use cells::{CellState, CellStates};
 pub use dominators::{count_retained, retained_by_cut};
@@ -33,3 +34,4 @@ pub use paths::{Path, shortest_path};
 pub use references::{Referrer, referrers};
 pub use registers::{NamedObject, named_by_registers};
 pub use rows::{CLASS_ROWS, Histogram, Row, count_by_class, kind_row, value_size};
+pub use wanted::Wanted;

@@ -1,11 +1,14 @@
 -- The lines of questions.
 use Rattle.std.specs.Prelude.{ℕ, List, [], ◌∷◌, take, drop, find, codes, Option, Some, None, option_map, option_and_then, if◌then◌else◌}
+use Rattle.std.specs.Option.{option_or}
 use Rattle.std.specs.Str.{bytes_eq}
 use Rattle.session_grammar.specs.Grammar.{at_end, next_number, number_of_word, one_number, words_of_line}
 use Rattle.question_text.specs.declared.question.At.{At}
 use Rattle.question_text.specs.declared.question.At.TheVariants.{Current, Pin, Place}
 use Rattle.question_text.specs.declared.question.Question.{Question}
 use Rattle.question_text.specs.declared.question.Question.TheVariants.{Histogram, Garbage, Growth, Registers, Classes, Objects, Referrers, Path, Retained, Show, Born, Wrote, Watch, Writes, Dropped, History, Pins, Cells, Status}
+use Rattle.heap_questions.specs.declared.wanted.Wanted.{Wanted}
+use Rattle.heap_questions.specs.declared.wanted.Wanted.TheVariants.{All, OfClass, Holding}
 use Rattle.question_text.specs.Ids.{id_of_word}
 
 -- the state that a word names: `-`, `@` and a place, or the number of a pin
@@ -58,6 +61,26 @@ id_and_number ws =
     option_and_then (λ x. option_and_then (λ n. at_end (x.0, n.0) n.1) (next_number x.1))
     (next_id ws)
 
+-- the word of a slot that a word tells: an id, `null` or a number
+unfoldable pub value_of_word : List ℕ → Option ℕ
+value_of_word w =
+    if bytes_eq w (codes "null") then Some 0 else option_or (id_of_word w) (number_of_word w)
+
+-- the objects that the words name: all, those of a class, or those of a class with a value in a slot
+abbrev pub wanted_of : List (List ℕ) → Option Wanted
+wanted_of [] = Some All
+wanted_of (k ∷ []) = option_map (λ k. OfClass k) (number_of_word k)
+wanted_of (k ∷ s ∷ []) = None
+wanted_of (k ∷ s ∷ v ∷ []) =
+    option_and_then
+    (λ k. option_and_then (λ s. option_map (λ v. Holding k s v) (value_of_word v)) (number_of_word s))
+    (number_of_word k)
+wanted_of (k ∷ s ∷ v ∷ w ∷ ws) = None
+
+-- the state and the objects that the words name
+abbrev pub at_and_wanted : List (List ℕ) → Option (At × Wanted)
+at_and_wanted ws = option_and_then (λ a. option_map (λ w. (a.0, w)) (wanted_of a.1)) (next_at ws)
+
 -- the two numbers that the words are
 abbrev pub two_numbers : List (List ℕ) → Option (ℕ × ℕ)
 two_numbers ws =
@@ -92,7 +115,7 @@ question_rules =
     ∷ (codes "registers", λ ws. option_map (λ at. Registers at) (one_at ws))
     ∷ (codes "growth", λ ws. option_map (λ a. Growth a.0 a.1) (two_ats ws))
     ∷ (codes "classes", λ ws. option_map (λ at. Classes at) (one_at ws))
-    ∷ (codes "objects", λ ws. option_map (λ at. Objects at) (one_at ws))
+    ∷ (codes "objects", λ ws. option_map (λ a. Objects a.0 a.1) (at_and_wanted ws))
     ∷ (codes "referrers", λ ws. option_map (λ a. Referrers a.0 a.1) (at_and_id ws))
     ∷ (codes "path", λ ws. option_map (λ a. Path a.0 a.1) (at_and_id ws))
     ∷ (codes "retained", λ ws. option_map (λ a. Retained a.0 a.1) (optional_at_and_id ws))

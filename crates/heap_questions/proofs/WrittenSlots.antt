@@ -1,5 +1,5 @@
 -- The writes of a slot of all objects of a class, one retained step more at a time.
-use Rattle.std.proofs.Common.{◌≡◌, ◌≢◌, ℕ, zero, suc, ◌+◌, ◌-◌, ◌<◌, Bool, true, false, cond, List, [], ◌∷◌, ◌++◌, length, Option, Some, None, refl, sym, ap, ap₂, ◌∙◌, subst, inl, inr, arith, add-one}
+use Rattle.std.proofs.Common.{◌≡◌, ◌≢◌, ℕ, ◌+◌, ◌-◌, ◌<◌, Bool, true, false, cond, List, [], ◌∷◌, ◌++◌, length, Option, Some, None, refl, sym, ap, ap₂, ◌∙◌, subst, inl, inr, arith, add-one}
 use Rattle.std.specs.Prelude.{IsSome, IfSome, is_some, not, reverse, ◌==◌, ◌&&◌, option_and_then, slice_get, slice_index_or, unwrap_or}
 use Rattle.std.proofs.lemmas.Bool.{cases_Bool, cases_eq, eq-eqb, eqb-true, ne_eqb, and_parts, false≢true, true≢false}
 use Rattle.std.proofs.lemmas.Bool.Decides.{when_true}
@@ -30,8 +30,8 @@ use Rattle.heap_trail.proofs.RetainedRecords.{HasRecord}
 use Rattle.heap_questions.specs.declared.past.writes.SlotWrite.{SlotWrite}
 use Rattle.heap_questions.specs.Changes.{made_by, slot_word}
 use Rattle.heap_questions.specs.SlotChanges.{word_before}
-use Rattle.heap_questions.specs.Wanted.{is_of_class}
 use Rattle.heap_questions.specs.SlotWrites.{AreLastWrites, AreWritesAgo, IsSlotWrite, SeesObject, SeesOverwritten, before_others, changing_write, overwritten, seen_object, write_by}
+use Rattle.heap_questions.specs.Wanted.{is_of_class}
 use Rattle.heap_questions.proofs.ChangedSlots.{before_is}
 use Rattle.heap_questions.proofs.Walk.{slot_there}
 use Rattle.heap_questions.proofs.Writes.{record_makes, same_place, written_here}
@@ -136,10 +136,10 @@ named_by false at x old now n e = absurd (n (sym e))
 write_named : (a at : ObjRef) (slot s x old now : ℕ) → old ≢ now → cond ((a.region == at.region) && (a.cell == at.cell) && (slot == s)) x now ≡ old → ◌≡◌ {A = Option (ObjRef × ℕ)} (cond (slot == s) (Some (a, x)) None) (Some (at, old))
 write_named a at slot s x old now n e =
     let p = named_by ((a.region == at.region) && (a.cell == at.cell) && (slot == s)) at x old now n e in
-    let q = and_parts (a.region == at.region) ((a.cell == at.cell) && (slot == s)) p.0 in
-    let r = and_parts (a.cell == at.cell) (slot == s) q.1 in
-    let place : a ≡ at = same_place a at (eqb-true a.region at.region q.0) (eqb-true a.cell at.cell r.0) in
-    ap (λ (b : Bool). cond b (Some (a, x)) None) r.1 ∙ ap₂ (λ (b : ObjRef) (y : ℕ). Some (b, y)) place p.1
+    let q = and_parts ((a.region == at.region) && (a.cell == at.cell)) (slot == s) p.0 in
+    let r = and_parts (a.region == at.region) (a.cell == at.cell) q.0 in
+    let place : a ≡ at = same_place a at (eqb-true a.region at.region r.0) (eqb-true a.cell at.cell r.1) in
+    ap (λ (b : Bool). cond b (Some (a, x)) None) q.1 ∙ ap₂ (λ (b : ObjRef) (y : ℕ). Some (b, y)) place p.1
 
 change_named : (e : Event) (before after : HeapState) (left : Undo) (s : ℕ) (at : ObjRef) (old now : ℕ) → IsStep e before after left → slot_word before at s ≡ Some old → slot_word after at s ≡ Some now → old ≢ now → overwritten left s ≡ Some (at, old)
 change_named e before after (Put a slot x) s at old now st b h n =

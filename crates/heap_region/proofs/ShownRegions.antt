@@ -7,6 +7,7 @@ use Rattle.heap_region.specs.Regions.{Object, UsedRegion, Region, used_part, use
 use Rattle.heap_region.specs.Changes.{with_pending}
 use Rattle.heap_region.specs.Pool.{RegionPool, taken, freed, released, restored, cell_freed}
 use Rattle.heap_region.specs.Layout.{words_of, changed_at, cell_filled, pending_set}
+use Rattle.heap_region.specs.Live.{cells_of}
 use Rattle.heap_region.specs.Table.{shown_region}
 use Rattle.heap_region.proofs.Tables.{used_of_object}
 
@@ -74,6 +75,10 @@ updated_cells (suc cell) f (x ∷ cells) = ap (λ xs. x ∷ xs) (updated_cells c
 -- no region in use, no object
 pub none_unused : (regions : List Region) (at : ObjRef) → used_at regions at.region ≡ None → object_at regions at ≡ None
 none_unused regions at unused = object_of_used regions at ∙ ap (λ s. slot_object s at.cell) unused
+
+-- the cells of a region that is known
+pub cells_here : (regions : List Region) (r : ℕ) (u : UsedRegion) → used_at regions r ≡ Some u → cells_of (used_at regions r) ≡ u.cells
+cells_here regions r u used = ap cells_of used
 
 -- ---- an object that is known to be there
 

@@ -1,6 +1,6 @@
 -- What a change of the headers that are kept leaves of those that are shown.
-use Rattle.std.proofs.Common.{◌≡◌, ℕ, zero, suc, Bool, List, [], ◌∷◌, map, Option, Some, None, IsSome, option_map, get_or, set, refl, sym, ap, ◌∙◌, replicate}
-use Rattle.std.proofs.lemmas.List.{map-set}
+use Rattle.std.proofs.Common.{◌≡◌, ℕ, zero, suc, ◌<◌, Bool, List, [], ◌∷◌, length, map, Option, Some, None, IsSome, option_map, get_or, set, refl, sym, ap, ◌∙◌, replicate}
+use Rattle.std.proofs.lemmas.List.{map-set, length-map}
 use Rattle.heap_region.specs.declared.cell.Bit.{Bit}
 use Rattle.heap_region.specs.declared.cell.Header.{Header}
 use Rattle.heap_region.specs.declared.turn.Turn.{Turn}
@@ -34,6 +34,18 @@ kept_there t hs cell some = go (get_or hs cell None) (rw (shown_at t hs cell) at
     go : (x : Option Header) → IsSome (option_map (shown_header t) x) → IsSome x
     go None none = none
     go (Some h) is = refl
+
+-- no header is kept in a cell where none is shown
+pub vacant_kept : (t : Turn) (hs : List (Option Header)) (cell : ℕ) → get_or (shown_headers t hs) cell None ≡ None → get_or hs cell None ≡ None
+vacant_kept t hs cell none = go (get_or hs cell None) (sym (shown_at t hs cell) ∙ none)
+  where
+    go : (x : Option Header) → option_map (shown_header t) x ≡ None → x ≡ None
+    go None is = refl
+    go (Some h) is = cc
+
+-- a cell that is shown is kept
+pub within_kept : (t : Turn) (hs : List (Option Header)) (cell : ℕ) → cell < length (shown_headers t hs) → cell < length hs
+within_kept t hs cell lt = rw (length-map hs (option_map (shown_header t))) at lt
 
 -- each header is shown at another turn
 pub all_turned : (t u : Turn) (f : Header → Header) → ((h : Header) → shown_header u h ≡ f (shown_header t h)) → (hs : List (Option Header)) → shown_headers u hs ≡ map (option_map f) (shown_headers t hs)

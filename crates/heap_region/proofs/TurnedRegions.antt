@@ -4,9 +4,10 @@ use Rattle.std.specs.Prelude.{count_by}
 use Rattle.std.proofs.lemmas.List.{length-map}
 use Rattle.std.proofs.lemmas.List.Sums.{sum_by-cons}
 use Rattle.heap_region.specs.Regions.{Object}
-use Rattle.heap_region.specs.Layout.{cells_from, walk, header_object, CellHeaderFits, IsSound}
+use Rattle.heap_region.specs.Layout.{cells_from, walk, header_object, header_live, CellHeaderFits, IsSound}
+use Rattle.heap_region.specs.Live.{is_dead, is_live}
 use Rattle.heap_region.specs.Turns.{turned_region, turned_back_region, turned_object, turned_back_object, is_unmarked}
-use Rattle.heap_region.specs.TurnedHeaders.{turned_header, turned_back_header, header_unmarked}
+use Rattle.heap_region.specs.TurnedHeaders.{turned_header, turned_back_header, header_dead, header_unmarked}
 use Rattle.heap_region.specs.declared.cell.Header.{Header}
 use Rattle.heap_region.proofs.Sound.{shown}
 
@@ -77,15 +78,32 @@ turned_back_shown size pending ws hs link = λ i. record {
   free = walk (length-map hs (option_map turned_back_header) i) size ws link;
 }
 
--- the unmarked objects that headers show
-pub unmarked_shown : (size : ℕ) (ws : List ℕ) (base : ℕ) (hs : List (Option Header)) → count_by header_unmarked hs ≡ count_by is_unmarked (cells_from size ws base hs)
+-- objects that are counted by their headers
+counted_shown : (p : Option Header → Bool) (q : Option Object → Bool) → ((ws : List ℕ) (h : Option Header) → p h ≡ q (header_object ws h)) → (size : ℕ) (ws : List ℕ) (base : ℕ) (hs : List (Option Header)) → count_by p hs ≡ count_by q (cells_from size ws base hs)
 unfolding cells_from
-unmarked_shown size ws base [] = refl
-unmarked_shown size ws base (h ∷ hs) =
-    sum_by-cons (λ x. cond (header_unmarked x) 1 0) h hs
-    ∙ (ap₂ (λ (b : Bool) (n : ℕ). cond b 1 0 + n) (go h) (unmarked_shown size ws (base + size) hs)
-    ∙ sym (sum_by-cons (λ x. cond (is_unmarked x) 1 0) _ (cells_from size ws (base + size) hs)))
+counted_shown p q is size ws base [] = refl
+counted_shown p q is size ws base (h ∷ hs) =
+    sum_by-cons (λ x. cond (p x) 1 0) h hs
+    ∙ (ap₂ (λ (b : Bool) (n : ℕ). cond b 1 0 + n) (is (drop base ws) h) (counted_shown p q is size ws (base + size) hs)
+    ∙ sym (sum_by-cons (λ x. cond (q x) 1 0) _ (cells_from size ws (base + size) hs)))
+
+pub unmarked_shown : (size : ℕ) (ws : List ℕ) (base : ℕ) (hs : List (Option Header)) → count_by header_unmarked hs ≡ count_by is_unmarked (cells_from size ws base hs)
+unmarked_shown = counted_shown header_unmarked is_unmarked go
   where
-    go : (h : Option Header) → header_unmarked h ≡ is_unmarked (header_object (drop base ws) h)
-    go None = refl
-    go (Some h) = refl
+    go : (ws : List ℕ) (h : Option Header) → header_unmarked h ≡ is_unmarked (header_object ws h)
+    go ws None = refl
+    go ws (Some h) = refl
+
+pub live_shown : (size : ℕ) (ws : List ℕ) (base : ℕ) (hs : List (Option Header)) → count_by header_live hs ≡ count_by is_live (cells_from size ws base hs)
+live_shown = counted_shown header_live is_live go
+  where
+    go : (ws : List ℕ) (h : Option Header) → header_live h ≡ is_live (header_object ws h)
+    go ws None = refl
+    go ws (Some h) = refl
+
+pub dead_shown : (size : ℕ) (ws : List ℕ) (base : ℕ) (hs : List (Option Header)) → count_by header_dead hs ≡ count_by is_dead (cells_from size ws base hs)
+dead_shown = counted_shown header_dead is_dead go
+  where
+    go : (ws : List ℕ) (h : Option Header) → header_dead h ≡ is_dead (header_object ws h)
+    go ws None = refl
+    go ws (Some h) = refl

@@ -1,7 +1,8 @@
 //! Headers of cells, in sixteen bytes each.
 ghost use Rattle.std.specs.Prelude.{◌≡◌, ◌≤◌, Some, None, IsSome, option_map};
-ghost use Rattle.heap_region.specs.Layout.{header_live, with_bit};
+ghost use Rattle.heap_region.specs.Layout.{with_bit};
 ghost use Rattle.heap_region.specs.Limits.{region_words};
+ghost use Rattle.heap_region.specs.TurnedHeaders.{header_set};
 
 use heap_class::{ClassNo, Kind, ObjKind};
 use std::marker::Model;
@@ -140,11 +141,14 @@ impl Cell {
         }
     }
 
-    // Tells whether the object in the cell is live. False if the cell is free.
+    // Tells whether a bit of the object in the cell is set. False if the cell is free.
     #[inline(always)]
-    pub(crate) fn is_live(&self) -> bool
-        ensures { result ≡ header_live self.now }
+    pub(crate) fn is_set(&self, bit: Bit) -> bool
+        ensures { result ≡ header_set bit self.now }
     {
-        self.live
+        match bit {
+            Bit::Live => self.live,
+            Bit::Mark => self.mark,
+        }
     }
 }

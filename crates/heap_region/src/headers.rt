@@ -1,8 +1,8 @@
 //! The headers of a region's cells, whose bits are read by turns.
 ghost use Rattle.std.specs.Prelude.{◌≡◌, ◌<◌, ◌≤◌, [], length, map, Some, None, IsSome, option_map, count_by, replicate, slice_index_or, slice_set};
-ghost use Rattle.heap_region.specs.Layout.{with_bit};
+ghost use Rattle.heap_region.specs.Layout.{with_bit, header_live};
 ghost use Rattle.heap_region.specs.Limits.{region_words, cell_limit};
-ghost use Rattle.heap_region.specs.TurnedHeaders.{header_unmarked, turned_header, turned_back_header};
+ghost use Rattle.heap_region.specs.TurnedHeaders.{header_dead, header_set, header_unmarked, turned_header, turned_back_header};
 
 use crate::cell::{Bit, Cell, Header};
 use crate::counts::Counts;
@@ -27,22 +27,25 @@ impl Model for Headers {
 
     ghost view = { λ h. shown_headers h.turn h.kept.items };
 
-    ghost invariant = { λ h. IsCounted (shown_headers h.turn h.kept.items) h.counts };
+    ghost invariant = { λ h. IsCounted h.kept.items h.counts };
 }
 
-// Returns the header in a cell after a bit was written. There must be one.
+// Returns the header that is kept in a cell.
 #[inline(always)]
-fn header_with(header: Option<Header>, bit: Bit, on: bool) -> Header
-    requires { IsSome header }
-    ensures { option_map (with_bit bit on) header ≡ Some result }
+fn kept_at(kept: &ArrayVec<Cell, 256>, cell: usize) -> Option<Header>
+    requires { cell < length kept.now.items }
+    ensures { result ≡ slice_index_or kept.now.items cell None }
 {
-    match header {
-        Some(header) => match bit {
-            Bit::Live => Header { live: on, ..header },
-            Bit::Mark => Header { mark: on, ..header },
-        },
-        None => unreachable!(),
-    }
+    kept[cell].header()
+}
+
+// Tells whether a bit is kept as set in a cell.
+#[inline(always)]
+fn is_set_at(kept: &ArrayVec<Cell, 256>, cell: usize, bit: Bit) -> bool
+    requires { cell < length kept.now.items }
+    ensures { result ≡ header_set bit (slice_index_or kept.now.items cell None) }
+{
+    kept[cell].is_set(bit)
 }
 
 // Writes the header of the object in a cell.
@@ -133,7 +136,23 @@ impl Headers {
         ensures value { result ≡ count_by header_unmarked self.now }
         ensures limit { result ≤ cell_limit }
     {
-        self.counts.unmarked as u64
+        (self.counts.objects - self.turn.count(Bit::Mark, self.counts)) as u64
+    }
+
+    // Returns the number of objects that aren't live.
+    pub(crate) fn dead(&self) -> u64
+        ensures value { result ≡ count_by header_dead self.now }
+        ensures limit { result ≤ cell_limit }
+    {
+        (self.counts.objects - self.turn.count(Bit::Live, self.counts)) as u64
+    }
+
+    // Returns the number of objects that are live.
+    pub(crate) fn live(&self) -> u64
+        ensures value { result ≡ count_by header_live self.now }
+        ensures limit { result ≤ cell_limit }
+    {
+        self.turn.count(Bit::Live, self.counts) as u64
     }
 
     // Writes the header of the object in a free cell.
@@ -144,8 +163,9 @@ impl Headers {
         requires fits { header.len ≤ region_words }
         ensures { self.new ≡ slice_set self.old cell (Some header) }
     {
-        self.counts = self.counts.with(header);
-        set_header(&mut self.kept, cell, self.turn.kept(header));
+        let kept = self.turn.kept(header);
+        self.counts = self.counts.with(kept);
+        set_header(&mut self.kept, cell, kept);
     }
 
     // Writes the header of the object in a cell.
@@ -154,9 +174,10 @@ impl Headers {
         requires fits { header.len ≤ region_words }
         ensures { self.new ≡ slice_set self.old cell (Some header) }
     {
-        let was = self.at(cell);
-        self.counts = self.counts.without(was).with(header);
-        set_header(&mut self.kept, cell, self.turn.kept(header));
+        let kept = self.turn.kept(header);
+        let was = kept_at(&self.kept, cell);
+        self.counts = self.counts.without(was).with(kept);
+        set_header(&mut self.kept, cell, kept);
     }
 
     // Writes a bit of the object in a cell, which must have one.
@@ -167,10 +188,10 @@ impl Headers {
             ≡ slice_set self.old cell
             (option_map (with_bit bit on) (slice_index_or self.old cell None)) }
     {
-        let was = self.at(cell);
-        self.counts = self.counts.without(was).with(header_with(was, bit, on));
-        let (kept_bit, kept_on) = self.turn.kept_bit(bit, on);
-        set_bit_at(&mut self.kept, cell, kept_bit, kept_on);
+        let (place, kept) = self.turn.kept_bit(bit, on);
+        let was = is_set_at(&self.kept, cell, place);
+        self.counts = self.counts.with_bit(place, was, kept);
+        set_bit_at(&mut self.kept, cell, place, kept);
     }
 
     // Makes a cell free.
@@ -178,7 +199,7 @@ impl Headers {
         requires { cell < length self.old }
         ensures { self.new ≡ slice_set self.old cell None }
     {
-        let was = self.at(cell);
+        let was = kept_at(&self.kept, cell);
         self.counts = self.counts.without(was);
         set_free(&mut self.kept, cell);
     }
@@ -188,7 +209,6 @@ impl Headers {
         ensures { self.new ≡ map (option_map turned_header) self.old }
     {
         self.turn = self.turn.next();
-        self.counts = self.counts.next();
     }
 
     // Undoes `turn`.
@@ -196,7 +216,6 @@ impl Headers {
         ensures { self.new ≡ map (option_map turned_back_header) self.old }
     {
         self.turn = self.turn.prior();
-        self.counts = self.counts.prior();
     }
 
     // Returns a copy of the headers.

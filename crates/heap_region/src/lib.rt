@@ -1,7 +1,7 @@
 //! Regions of equal size, the objects in their cells, free lists and the pool.
 #![tactic(auto)]
 
-ghost use Rattle.std.specs.Prelude.{◌≡◌, ◌≢◌, ◌+◌, ◌<◌, ◌≤◌, ℕ, length, Some, None, true, false, IsSome, IfSome, IfOk, IfErr, OnErr, is_some, option_map, slice_get, slice_index, reverse, MatchOption, IsSomeAnd};
+ghost use Rattle.std.specs.Prelude.{◌≡◌, ◌≢◌, ◌+◌, ◌<◌, ◌≤◌, ℕ, length, Some, None, true, false, IsSome, IfSome, IfOk, IfErr, OnErr, is_some, option_map, slice_get, slice_index, reverse, MatchOption, IsSomeAnd, count_by};
 ghost use Rattle.std.specs.List.{enumerate_from, filter_map};
 ghost use Rattle.std.specs.Option.{option_map_or};
 ghost use Rattle.heap_class.specs.Refusals.{IsAnswered};
@@ -14,7 +14,7 @@ ghost use Rattle.heap_region.specs.Pool.{RegionPool, opening_pool, alloc_refusal
 ghost use Rattle.heap_region.specs.Legal.{IsCellTable, IsRegionPool};
 ghost use Rattle.heap_region.specs.Layout.{IsCellSize, bit_set};
 ghost use Rattle.heap_region.specs.Changes.{WritesLive, WritesMark, WritesPending};
-ghost use Rattle.heap_region.specs.Live.{cells_of};
+ghost use Rattle.heap_region.specs.Live.{cells_of, is_dead, is_live};
 ghost use Rattle.heap_region.specs.Turns.{turned_region, turned_back_region, unmarked_in};
 
 mod cell;
@@ -260,6 +260,26 @@ impl Regions {
         ensures limit { result ≤ cell_limit }
     {
         self.storage(region as usize).cells() as u16
+    }
+
+    /// Returns the number of live objects of a region, which must be in use. Takes constant time.
+    #[tactic(auto, using(crate::proofs::ShownRegions::cells_here))]
+    pub fn live_objects(&self, region: u64) -> u64
+        requires { IsSome (used_at self.now.regions region) }
+        ensures value { result ≡ count_by is_live (cells_of (used_at self.now.regions region)) }
+        ensures limit { result ≤ cell_limit }
+    {
+        self.storage(region as usize).live_objects()
+    }
+
+    /// Returns the number of objects of a region, which must be in use, that aren't live. Takes constant time.
+    #[tactic(auto, using(crate::proofs::ShownRegions::cells_here))]
+    pub fn dead_objects(&self, region: u64) -> u64
+        requires { IsSome (used_at self.now.regions region) }
+        ensures value { result ≡ count_by is_dead (cells_of (used_at self.now.regions region)) }
+        ensures limit { result ≤ cell_limit }
+    {
+        self.storage(region as usize).dead_objects()
     }
 
     /// Returns the number of a region in use, as the places of its cells have it.

@@ -3,7 +3,7 @@ ghost use Rattle.std.specs.Prelude.{◌≡◌, ℕ, ◌+◌, ◌-◌, ◌*◌, �
 ghost use Rattle.heap_region.specs.Regions.{FitsWords, cell_object};
 ghost use Rattle.heap_region.specs.Pool.{blank_object, cell_freed, fresh_region};
 ghost use Rattle.heap_region.specs.Layout.{next_link, IsCellSize, IsWholeRegion, words_at, changed_at, word_set, bit_set, with_bit, cell_filled, Heads, overwritten, header_live, header_of};
-ghost use Rattle.heap_region.specs.Live.{IsNextLive};
+ghost use Rattle.heap_region.specs.Live.{IsNextLive, is_dead, is_live};
 ghost use Rattle.heap_region.specs.Turns.{is_unmarked, turned_region, turned_back_region};
 ghost use Rattle.heap_region.specs.Limits.{region_words, cell_limit};
 
@@ -301,6 +301,22 @@ impl Storage {
         ensures limit { result ≤ cell_limit }
     {
         self.block.headers.unmarked()
+    }
+
+    // Returns the number of objects that are live.
+    pub(crate) fn live_objects(&self) -> u64
+        ensures value { result ≡ count_by is_live self.now.cells }
+        ensures limit { result ≤ cell_limit }
+    {
+        self.block.headers.live()
+    }
+
+    // Returns the number of objects that aren't live.
+    pub(crate) fn dead_objects(&self) -> u64
+        ensures value { result ≡ count_by is_dead self.now.cells }
+        ensures limit { result ≤ cell_limit }
+    {
+        self.block.headers.dead()
     }
 
     // Returns the cell that heads the free list.

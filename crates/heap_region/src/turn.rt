@@ -1,10 +1,11 @@
 //! Quarter turns: how the two bits that are kept of each object of a region are read.
-ghost use Rattle.std.specs.Prelude.{◌≡◌, not, if◌then◌else◌};
+ghost use Rattle.std.specs.Prelude.{◌≡◌, ◌≤◌, not, if◌then◌else◌};
 ghost use Rattle.heap_region.specs.Layout.{with_bit};
-ghost use Rattle.heap_region.specs.TurnedHeaders.{flipped, shown_header, turned_header, turned_back_header};
+ghost use Rattle.heap_region.specs.TurnedHeaders.{flipped, flipped_count, shown_count, shown_header, turned_header, turned_back_header};
 ghost use Rattle.heap_region.specs.declared.cell.Header.{Header};
 
 use crate::cell::{Bit, Header};
+use crate::counts::Counts;
 
 // How the two bits that are kept of each object are read as `live` and `mark`: each where it is kept or where the other is, and
 // as it is kept or as its opposite. So all objects of a region are changed at once.
@@ -24,6 +25,15 @@ fn flipped(is_flipped: bool, bit: bool) -> bool
     ensures { result ≡ flipped is_flipped bit }
 {
     if is_flipped { !bit } else { bit }
+}
+
+// Returns a number of objects, or that of the others.
+#[inline(always)]
+fn flipped_count(is_flipped: bool, objects: u16, count: u16) -> u16
+    requires { count ≤ objects }
+    ensures { result ≡ flipped_count is_flipped objects count }
+{
+    if is_flipped { objects - count } else { count }
 }
 
 impl Turn {
@@ -96,6 +106,24 @@ impl Turn {
             len: shown.len,
             live,
             mark,
+        }
+    }
+
+    // Returns the number of objects whose bit is shown as set, given the counts of what is kept.
+    #[inline(always)]
+    pub(crate) fn count(self, bit: Bit, counts: Counts) -> u16
+        requires live { counts.live ≤ counts.objects }
+        requires mark { counts.mark ≤ counts.objects }
+        ensures { result ≡ shown_count self bit counts }
+    {
+        let (live, mark) = if self.swapped {
+            (counts.mark, counts.live)
+        } else {
+            (counts.live, counts.mark)
+        };
+        match bit {
+            Bit::Live => flipped_count(self.live_flipped, counts.objects, live),
+            Bit::Mark => flipped_count(self.mark_flipped, counts.objects, mark),
         }
     }
 

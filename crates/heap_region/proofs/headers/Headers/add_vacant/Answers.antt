@@ -6,7 +6,9 @@ pub add_vacant-requires : goal.add_vacant-requires
 add_vacant-requires c = record { none = none_kept c.self.inside.turn c.self.inside.kept.items (rw (← c.self.view_is) at c.requires.none); few = c.requires.few }
 
 pub invariant_of-self : goal.invariant_of-self
-invariant_of-self c = rw (c.add_vacant.ensures, vacant_shown c.self.inside.turn c.args.count) (vacant_counted c.args.count _ (rw (c.self.view_is, c.requires.none) at c.self.invariant) c.requires.few)
+invariant_of-self c =
+    let none = none_kept c.self.inside.turn c.self.inside.kept.items (rw (← c.self.view_is) at c.requires.none) in
+    rw c.add_vacant.ensures (vacant_counted c.args.count _ (rw none at c.self.invariant) c.requires.few)
 
 pub returns : goal.returns
 returns c = rw c.add_vacant.ensures (vacant_shown c.self.inside.turn c.args.count)

@@ -1,31 +1,28 @@
-use Rattle.std.proofs.Common.{arith}
 use Rattle.heap_region.proofs.TurnedHeaders.{bit_shown, kept_there}
-use Rattle.heap_region.proofs.CountedHeaders.{counted_few, counted_set}
+use Rattle.heap_region.proofs.CountedHeaders.{bit_few, bit_here, counted_bit, counted_few}
 use Rattle.heap_region.proofs.Cells.{there_within}
 use Rattle.heap_region.proofs.headers.Headers.set_bit.Goals as goal
+
+pub is_set_at-was-requires : goal.is_set_at-was-requires
+is_set_at-was-requires c = there_within _ c.args.cell (kept_there c.self.inside.turn c.self.inside.kept.items c.args.cell (rw (← c.self.view_is) at c.requires))
+
+pub with_bit-self-inside-requires-clause-was : goal.with_bit-self-inside-requires-clause-was
+with_bit-self-inside-requires-clause-was c = bit_here _ _ _ c.args.cell _ (there_within _ c.args.cell (kept_there c.self.inside.turn c.self.inside.kept.items c.args.cell (rw (← c.self.view_is) at c.requires))) c.is_set_at-was.ensures c.self.invariant
+
+pub with_bit-self-inside-requires-clause-few : goal.with_bit-self-inside-requires-clause-few
+with_bit-self-inside-requires-clause-few c = bit_few _ _ (counted_few _ _ c.self.invariant)
 
 pub set_bit_at-requires : goal.set_bit_at-requires
 set_bit_at-requires c = kept_there c.self.inside.turn c.self.inside.kept.items c.args.cell (rw (← c.self.view_is) at c.requires)
 
-pub with-self-inside-requires-clause-objects : goal.with-self-inside-requires-clause-objects
-with-self-inside-requires-clause-objects c = omega (arith, (counted_few _ _ c.self.invariant).objects, c.without.ensures.objects)
-
-pub with-self-inside-requires-clause-unmarked : goal.with-self-inside-requires-clause-unmarked
-with-self-inside-requires-clause-unmarked c = omega (arith, (counted_few _ _ c.self.invariant).unmarked, c.without.ensures.unmarked)
-
-pub with-self-inside-requires-clause-dead : goal.with-self-inside-requires-clause-dead
-with-self-inside-requires-clause-dead c = omega (arith, (counted_few _ _ c.self.invariant).dead, c.without.ensures.dead)
-
 pub invariant_of-self : goal.invariant_of-self
 invariant_of-self c =
     let i = c.self.inside in
-    let e = c.without.ensures in
-    let f = c.with-self-inside.ensures in
-    let was = rw (← c.self.view_is) at c.at-was.ensures in
-    let k = c.kept_bit-kept_bit in
-    rw (c.set_bit_at.ensures, bit_shown i.turn i.kept.items c.args.cell k.result.0 c.args.bit k.result.1 c.args.on k.ensures, ← was, c.header_with.ensures)
-    (counted_set _ i.counts _ c.args.cell c.at-was.result _ (there_within _ c.args.cell (rw (← c.self.view_is) at c.requires)) was c.self.invariant
-    (record { objects = omega (arith, e.objects, f.objects); unmarked = omega (arith, e.unmarked, f.unmarked); dead = omega (arith, e.dead, f.dead) }))
+    let f = c.with_bit-self-inside.ensures in
+    let there = kept_there i.turn i.kept.items c.args.cell (rw (← c.self.view_is) at c.requires) in
+    rw c.set_bit_at.ensures
+    (counted_bit _ i.counts _ c.args.cell _ _ _ (there_within _ c.args.cell there) there c.is_set_at-was.ensures c.self.invariant
+    (record { objects = f.objects; live = f.live; mark = f.mark }))
 
 pub returns : goal.returns
 returns c = rw (← c.self.view_is, c.set_bit_at.ensures) (bit_shown c.self.inside.turn c.self.inside.kept.items c.args.cell c.kept_bit-kept_bit.result.0 c.args.bit c.kept_bit-kept_bit.result.1 c.args.on c.kept_bit-kept_bit.ensures)

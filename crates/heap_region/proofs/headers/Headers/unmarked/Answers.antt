@@ -1,5 +1,18 @@
-use Rattle.heap_region.proofs.CountedHeaders.{counted_few}
+use Rattle.std.proofs.Common.{arith}
+use Rattle.heap_region.proofs.CountedHeaders.{counted_few, live_among, marked_among, unmarked_shown}
 use Rattle.heap_region.proofs.headers.Headers.unmarked.Goals as goal
 
+pub count-requires-clause-live : goal.count-requires-clause-live
+count-requires-clause-live c = live_among _ _ c.self.invariant
+
+pub count-requires-clause-mark : goal.count-requires-clause-mark
+count-requires-clause-mark c = marked_among _ _ c.self.invariant
+
+pub overflow_sub-result : goal.overflow_sub-result
+overflow_sub-result c = omega (arith, unmarked_shown c.self.inside.turn _ _ c.self.invariant, c.count.ensures)
+
+pub returns-clause-value : goal.returns-clause-value
+returns-clause-value c = rw (← c.self.view_is) (omega (arith, unmarked_shown c.self.inside.turn _ _ c.self.invariant, c.count.ensures))
+
 pub returns-clause-limit : goal.returns-clause-limit
-returns-clause-limit c = (counted_few _ _ c.self.invariant).unmarked
+returns-clause-limit c = omega (arith, (counted_few _ _ c.self.invariant).objects)

@@ -406,13 +406,13 @@ def wrong_saves(program, library, lines):
 # ---- how much is asked for
 
 # The most bytes that a session asks for at once, by what the documents say, and by how much a request may be larger. What comes
-# is read by up to 65,536 bytes, also what is read ahead of a served session, to know its first line; a line of 4,096 bytes has
-# at most 1,024 fields, and where one stands takes 24 bytes; parts of a saved dump are joined to 64 KiB; a record of the ring
+# is read by up to 65,536 bytes, also what is read ahead of a served session, to know its first line; a line of 32,768 bytes has
+# at most 8,192 fields, and where one stands takes 6 bytes; parts of a saved dump are joined to 64 KiB; a record of the ring
 # takes at most 32 bytes, and it has room for up to 64 records more than are kept; the parser of the command line asks up to
 # three times for a list of the options of `serve`, with room for 32 of 608 bytes. Nothing else is larger than a region's box,
 # which has 1,024 words and room for 256 headers of 16 bytes: not a part of a dump of these heaps, a page of answers, the gray
 # stack (8 bytes for each of 256 cells of a region), or lists of at most 256 regions or 3 sessions.
-READ, FIELDS, PAGE, RECORD, BOX = 65_536, 1024 * 24, 65_536, 32, 8192 + 4096
+READ, FIELDS, PAGE, RECORD, BOX = 65_536, 8192 * 6, 65_536, 32, 8192 + 4096
 OPTIONS = [32 * 608] * 3
 MARGIN = 1.25
 

@@ -42,12 +42,13 @@ SESSIONS = {
 NAMES = [f"{name}-{number}" for name, (_, _, count, _) in SESSIONS.items() for number in range(1, count + 1)]
 # The sessions with questions, which go to `explore`.
 ASKED = ("asked", "asked-short", "asked-wide")
-# How sessions end: what stands behind the last line, what it is answered, and the status and standard error of the program.
+# How sessions end: what stands behind the last line, what it is answered, and the status and standard error of the program. The last
+# one is by as many of its letters as make a line too long.
 ENDS = (
     (b"", b"", 0, b""),
     (b"end\nclear 0 0\nmark", b"", 0, b""),
     (b"clear 0 0", b"bad cut\n", 1, b"heapdbg: cut\n"),
-    (b"a" * 4097, b"bad long\n", 1, b"heapdbg: long\n"),
+    (b"a", b"bad long\n", 1, b"heapdbg: long\n"),
 )
 
 
@@ -83,6 +84,8 @@ def checked(name, programs):
     """Returns a line for each program that answers a session otherwise, and what the session met."""
     draw = drawn(name)
     end, last, *wanted = ENDS[NAMES.index(name) % len(ENDS)]
+    if last == b"bad long\n":
+        end *= draw.machine.limits.longest_line + 1
     lines = [*draw.lines, (end, last)]
     words = [f"--{option}={value}" for option, value in draw.settings.items()]
     found = []

@@ -1,7 +1,7 @@
 """Sessions at random, each line drawn with an eye on the state that the model is in."""
 from heap import KINDS, MOST_ELEMENTS, REGISTERS
 from lots import Lots
-from session import FORMS, LONGEST_LINE, Bad, Session, command_of
+from session import FORMS, Bad, Session, command_of
 from sights import WatchedMachine
 
 NODE, ARRAY, FORK = "class Node - next:object v:long", "array [Node;", "class Fork 0 left:object size:int right:object"
@@ -91,7 +91,7 @@ class Draw:
             ends = command_of(line) == ("end",)
         except Bad:
             ends = False
-        if not ends and len(line) <= LONGEST_LINE:
+        if not ends and len(line) <= self.machine.limits.longest_line:
             self.say_bytes(line)
 
     # ---- numbers
@@ -384,6 +384,11 @@ class Draw:
         for count in (63, 64, 65, 72):
             self.say("class", f"wide{count}", "-", *names[:count])
         self.say("class", "one", "-", "x:int")
+        if self.machine.limits.longest_line > 20_000:
+            for count in (64, 65):
+                self.say("class", f"long{count}", "-", *(f"{number:n>255}:int" for number in range(count)))
+            self.say_bytes(b"a" * 32_768)
+            self.say_bytes(b"clear 0 0" + b" " * 32_759)
         for more in (62, 63, 64):
             self.say("class", f"below{more}", 2, *names[:more])
         for name in ("y" * 64, "y" * 65, "z" * 255, "z" * 256, "<a>", "b|c", '"-"', "~!", "-"):

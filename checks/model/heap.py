@@ -52,16 +52,17 @@ REFUSALS = {
 
 
 class Limits(NamedTuple):
-    """What a heap allows: how many classes, how many bytes of a name and which, and how many pins."""
+    """What a heap allows: how many classes, how many bytes of a name and which, how many pins, and how many bytes of a line."""
 
     classes: int
     longest_name: int
     name_bytes: bytes
     pins: int
+    longest_line: int
 
 
-NARROW = Limits(256, 64, NAME_BYTES, 4)
-WIDE = Limits(4096, 255, SIGNS, 64)
+NARROW = Limits(256, 64, NAME_BYTES, 4, 4096)
+WIDE = Limits(4096, 255, SIGNS, 64, 32768)
 
 
 class Refused(Exception):

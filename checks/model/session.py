@@ -2,7 +2,6 @@
 from heap import KINDS, REFUSALS, Refused
 from machine import Machine
 
-LONGEST_LINE = 4096
 MOST_DIGITS = 20
 DATA_BYTES = 64
 
@@ -168,11 +167,12 @@ class Session:
 def answers_of(text, **settings):
     """Returns what each line of a session is answered with, the last answer being that of its end, and how it ends."""
     session = Session(Machine(**settings))
+    most = session.machine.limits.longest_line
     answers, at = [], 0
     while not session.ended:
-        end = text.find(b"\n", at, at + LONGEST_LINE + 1)
+        end = text.find(b"\n", at, at + most + 1)
         if end < 0:
-            if len(text) - at > LONGEST_LINE:
+            if len(text) - at > most:
                 return [*answers, b"bad long\n"], "long"
             return ([*answers, b"bad cut\n"], "cut") if at < len(text) else (answers, "eof")
         answers.append(session.answer(text[at:end]))

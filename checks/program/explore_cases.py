@@ -1,8 +1,11 @@
 """Cases of `explore` and of `run` with questions: examples/questions/NAME.session with what it must be answered in NAME.expected."""
+import os
 import pathlib
 import tempfile
+import threading
+import time
 
-from runs import EXAMPLE, EXAMPLE_REPLIES, TOP, run
+from runs import EXAMPLE, EXAMPLE_REPLIES, TOP, run, run_by_terminal
 
 # A file of lines to run first: of its lines the fourth, the fifth and the seventh are refused.
 FIRST_LINES = b"""class Point - x:int y:int
@@ -51,6 +54,37 @@ def run_after(program, lines, given, *words):
         return status, out, error.replace(str(path).encode(), b"PATH")
 
 
+def slowly(path):
+    """Writes lines to a pipe with a name: so many that the clock is looked at, as many when it is time for a count, and a few that are
+    refused or cut."""
+    with open(path, "wb", buffering=0) as pipe:
+        pipe.write(b"snap\n" + b"\n" * 1023)
+        time.sleep(1.3)
+        pipe.write(b"\n" * 1024 + b"snap\n\nmar")
+
+
+def counted(program, by):
+    """Returns what `explore` shows of a file that comes slowly, with PATH for its name, by one of two ways to run it."""
+    with tempfile.TemporaryDirectory() as folder:
+        path = os.path.join(folder, "pipe")
+        os.mkfifo(path)
+        writer = threading.Thread(target=slowly, args=(path,))
+        writer.start()
+        ran = by(program, ["explore", "--from", path], b"mark\n")
+        writer.join()
+        return (*ran[:2], ran[2].replace(path.encode(), b"PATH"))
+
+
+def counts_of_lines(program):
+    """Yields what a file that takes longer than a second shows on a terminal, and elsewhere, as (name, what happened, what must
+    happen)."""
+    refused = b"heapdbg: PATH:2049: no 14 AlreadyMarking: snap\n"
+    cut = b"heapdbg: PATH:2051: the last line has no end\n"
+    said = b"no 16 NothingToMark\n"
+    yield "a slow file", counted(program, run), (0, said, refused + cut)
+    yield "a slow file at a terminal", counted(program, run_by_terminal), (0, said, b"\r2048 lines\n" + refused + cut)
+
+
 def files_first(program):
     """Yields sessions after a file of lines as (name, what happened, what must happen)."""
     yield "lines first", run_after(program, FIRST_LINES, ASKED), (0, ANSWERED, SAID)
@@ -81,3 +115,4 @@ def questions(program):
         asked = run(program, ["run", *words], b"histogram -\ncollect\nhelp\n# x\n")
         yield "no questions in run", asked, (0, b"bad command\n" * 4, b"")
     yield from files_first(program)
+    yield from counts_of_lines(program)

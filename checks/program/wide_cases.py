@@ -2,7 +2,7 @@
 import os
 import tempfile
 
-from clients import free_port, served, told_all
+from clients import ended, free_port, served, told_all
 from explore_cases import run_after
 from run_cases import read_by_one
 from runs import run
@@ -87,11 +87,47 @@ def reads(program):
     yield "1,000,001 lines first in a wide heap", run_after(program, b"\n" * 1_000_000 + b"q\n", b"", *wide), (0, b"", said)
 
 
+def long_lines(program):
+    """Yields sessions with lines as long as each heap allows, and longer by one byte, by each command that reads lines."""
+    long = (1, b"bad long\n", b"heapdbg: long\n")
+    for words, most in (([], 4096), (["--wide", "0"], 4096), (["--wide", "1"], 32_768)):
+        at, over = b"a" * most + b"\nsnap\n", b"a" * (most + 1)
+        said = b"bad command\nok pushed 0\n"
+        for more in ([], ["--questions", "1"]):
+            yield f"{most} bytes {words} {more}", run(program, ["run", *more, *words], at), (0, said, b"")
+            yield f"{most + 1} bytes {words} {more}", run(program, ["run", *more, *words], over), long
+        spaces = b"snap" + b" " * (most - 5) + b"\r\n"
+        yield f"{most} bytes with a CR {words}", run(program, ["run", *words], spaces), (0, b"ok pushed 0\n", b"")
+        yield f"{most + 1} bytes and an LF {words}", run(program, ["run", *words], b" " + spaces), long
+        first = run_after(program, spaces, b"mark\n", *words)
+        yield f"{most} bytes first {words}", first, (0, b"no 16 NothingToMark\n", b"")
+        first = run_after(program, b"clear 0 0\n " + spaces, b"mark\n", *words)
+        error = b"heapdbg: PATH:2: the line is too long\n"
+        yield f"{most + 1} bytes first {words}", first, (0, b"no 15 NotMarking\n", error)
+        quits, too_long = (0, b"session 1 quit\n", b"", said), (0, b"session 1 long\n", b"", b"bad long\n")
+        yield f"{most} bytes served {words}", served(program, told_all(at), words), quits
+        yield f"{most + 1} bytes served {words}", served(program, ended(over), words), too_long
+        later = (0, b"session 1 long\n", b"", b"ok pushed 0\nbad long\n")
+        yield f"{most + 1} bytes served later {words}", served(program, ended(b"snap\n" + over), words), later
+        asks = b"a" * (most - 9) + b" HTTP/1.1\n"
+        yield f"HTTP in {most} bytes {words}", served(program, ended(asks), words), (0, b"session 1 http\n", b"", b"")
+        yield f"HTTP in {most + 1} bytes {words}", served(program, ended(b"a" + asks), words), too_long
+    fields = b" ".join(b"%s:int" % (b"%d" % number).rjust(255, b"n") for number in range(64))
+    ran = run(program, ["run", "--wide", "1"], b"class L - %s\nclass M 0 x:int\n" % fields)
+    yield "a class of 64 long names", ran, (0, b"ok class 0\nno 6 FieldLimit\n", b"")
+    many = b" ".join(b"%x:int" % number for number in range(3600))
+    ran = run(program, ["run", "--wide", "1"], b"class L - %s\nclass M - %s a:int\n" % (many, many))
+    yield "a line of 3,600 fields", ran, (0, b"no 6 FieldLimit\nno 5 DuplicateName\n", b"")
+    nameless = b"class L -" + b" :int" * 6551 + b"\n"
+    yield "a line of 6,551 fields", run(program, ["run", "--wide", "1"], nameless), (0, b"no 4 BadName\n", b"")
+
+
 def wide_heaps(program):
     """Yields sessions of wide heaps, by each command that opens one, and of others, as (name, what happened, what must happen)."""
     yield from limits_of_a_wide_heap(program)
     yield from limits_of_other_heaps(program)
     yield from reads(program)
+    yield from long_lines(program)
     lines, answers = classes(257)
     wanted = (0, answers, b"")
     yield "explore --wide 1", run(program, ["explore", "--wide", "1"], lines), wanted

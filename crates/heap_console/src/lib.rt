@@ -6,6 +6,7 @@ mod advice;
 mod columns;
 mod discard;
 mod given;
+mod line_count;
 mod line_inlet;
 mod load;
 mod meant;

@@ -4,11 +4,13 @@ ghost use Rattle.heap_console.specs.Lines.{IsLineGiven};
 
 use crate::columns::LINE_END;
 use crate::given::Given;
+use crate::line_count::LineCount;
 use crate::newest::NewestLine;
 use session_text::{Inlet, Take};
 use std::alloc::{AllocError, Global};
 use std::io::{BufRead, BufReader, Read};
 use std::str;
+use std::time::Clock;
 
 /// An inlet over a file, which gives at most a line at a read. So all lines before were answered when it is asked again, and it
 /// reports the last of them on standard error if that was refused or no command. Contracts see the bytes that it gave.
@@ -20,6 +22,7 @@ pub struct LineInlet<'a, F: Read + Drop, R> {
     reader: BufReader<F>,
     line: Vec<u8>,
     number: u64,
+    count: LineCount<'a, R>,
     given: Given,
 }
 
@@ -63,19 +66,33 @@ impl<'a, F: Read + Drop, R> LineInlet<'a, F, R> {
             reader,
             line: Vec::new(alloc),
             number: 0,
+            count: LineCount::new(rt),
             given: Given::new(),
         })
     }
 }
 
-impl<F: Read + Drop, R: Eprint> LineInlet<'_, F, R> {
+impl<F: Read + Drop, R: Clock + Eprint> LineInlet<'_, F, R> {
+    // Begins to show how many lines were read.
+    pub(crate) fn begin_count(&mut self) {
+        self.count.begin();
+    }
+
+    // Ends what shows how many lines were read.
+    pub(crate) fn end_count(&mut self) {
+        self.count.end(self.number);
+    }
+
     // Reports the newest line, with its answer, if it was refused or no command.
-    fn report(&self) {
+    fn report(&mut self)
+        ensures { self.new.given ≡ self.old.given }
+    {
         let answers = self.answers.take();
         let answer = text_of(answers.as_slice());
         if !answer.starts_with("no ") && answer != "bad command" {
             return;
         }
+        self.count.leave();
         let (name, number) = (self.name, self.number);
         let text = text_of(self.line.as_slice());
         let _ = eprintln!(self.rt; "heapdbg: {name}:{number}: {answer}: {text}");
@@ -137,11 +154,12 @@ impl<F: Read + Drop, R: Eprint> LineInlet<'_, F, R> {
     }
 }
 
-impl<F: Read + Drop, R: Eprint> Inlet for LineInlet<'_, F, R> {
+impl<F: Read + Drop, R: Clock + Eprint> Inlet for LineInlet<'_, F, R> {
     ghost seen = { λ i. i.given };
 
     fn take(&mut self, room: &mut [u8]) -> Take {
         self.report();
+        self.count.show(self.number);
         let took = self.read_line(room);
         self.keep_read(room, took);
         self.given.note(room, took);

@@ -9,9 +9,10 @@ use crate::newest::{NewestLine, NotingOutlet};
 use session_text::{Commands, Ended, SessionLimits, serve};
 use std::alloc::{AllocError, Global};
 use std::io::Read;
+use std::time::Clock;
 
 // Reports why no line was read after the newest, unless the file was read to its end or to a line `end`.
-fn report_ending<F: Read + Drop, R: Eprint>(
+fn report_ending<F: Read + Drop, R: Clock + Eprint>(
     lines: &LineInlet<'_, F, R>,
     ended: Ended,
     limits: SessionLimits,
@@ -29,8 +30,9 @@ fn report_ending<F: Read + Drop, R: Eprint>(
 
 /// Serves the lines of a file as a session of these commands, within these limits, whose answers go nowhere. Reports on
 /// standard error, by the file's name and the line's number, answer and text, each line that is no command or is refused, and
-/// why reading ended early. Fails if an allocation for reading the file fails, and reads nothing.
-pub fn load_lines<F: Read + Drop, R: Eprint, C: Commands>(
+/// why reading ended early; and, if that is a terminal, about once a second how many lines were read. Fails if an allocation for
+/// reading the file fails, and reads nothing.
+pub fn load_lines<F: Read + Drop, R: Clock + Eprint, C: Commands>(
     rt: &R,
     alloc: Global,
     name: &str,
@@ -38,6 +40,7 @@ pub fn load_lines<F: Read + Drop, R: Eprint, C: Commands>(
     commands: &mut C,
     time: u64,
     limits: SessionLimits,
+    is_terminal: bool,
 ) -> Result<Ended, AllocError>
     ensures { IfOk result
         (IsLoaded limits (AnswersCommand C.acts C.unknown time) (Begins C.acts C.unknown time)
@@ -45,8 +48,12 @@ pub fn load_lines<F: Read + Drop, R: Eprint, C: Commands>(
 {
     let newest = NewestLine::new(alloc);
     let mut lines = LineInlet::new(rt, alloc, &newest, name, file)?;
+    if is_terminal {
+        lines.begin_count();
+    }
     let mut answers = NotingOutlet::new(Discard::new(), &newest);
     let ended = serve(alloc, &mut lines, &mut answers, commands, time, limits);
+    lines.end_count();
     report_ending(&lines, ended, limits);
     Ok(ended)
 }

@@ -23,7 +23,7 @@ saved_so makes first time left m' between w' outlet talked ended r written whole
 
 -- a session, and what was done after it
 pub saved_whole : (limits : SessionLimits) (makes : Option Outgoing → Type 0) (first own time : ℕ) (m left m' : Machine) (a b : Incoming) (w between w' : Outgoing) (outlet : Option Outgoing) (talked ended : Ended) (pumped : Option Pumped)
-    → own ≡ first → IsSession m time a b w between left talked → EndsSession limits a b w between talked
+    → own ≡ first → IsSession limits m time a b w between left talked → EndsSession limits a b w between talked
     → EndsSave makes own time left m' between w' outlet talked ended pumped (is_whole_session talked) → IsSaved limits makes first time m m' a b w w' outlet ended pumped
 saved_whole limits makes first own time m left m' a b w between w' outlet talked ended pumped same session ends goes = record {
   talked = talked;

@@ -96,7 +96,7 @@ pub record IsSaved (limits : SessionLimits) (makes : Option Outgoing → Type 0)
   pub talked : Ended
   pub left : Machine
   pub between : Outgoing
-  pub session : IsSession m time a b w between left talked
+  pub session : IsSession limits m time a b w between left talked
   pub ends : EndsSession limits a b w between talked
   pub goes : EndsSave makes first time left m' between w' outlet talked ended pumped
       (is_whole_session talked)

@@ -8,7 +8,6 @@ use Rattle.dump_pump.specs.declared.inlet.Take.{Take}
 use Rattle.dump_pump.specs.Inlets.{Incoming, IsTake, IsTriedRead, whole}
 use Rattle.session_text.specs.Buffers.{IsInletRead}
 use Rattle.session_grammar.specs.Lines.{IsLineAt, NoLf}
-use Rattle.session_grammar.specs.declared.TheConstants.{LINE_LIMIT}
 use Rattle.heap_server.specs.Ahead.{IsAhead, IsDecided}
 
 -- ---- known bytes
@@ -30,16 +29,16 @@ kept_on a b b' bs more p is h = kept_by a.left b.left b'.left bs more p (consume
 
 -- ---- reading ahead
 
--- bytes that were read, and aren't too many
-pub record IsReading (bytes : List ℕ) (end i : ℕ) (a b : Incoming) : Type 0 where
+-- bytes that were read, at most this many
+pub record IsReading (limit : ℕ) (bytes : List ℕ) (end i : ℕ) (a b : Incoming) : Type 0 where
   pub taken : b.taken ≡ a.taken ++ bytes
   pub kept : Keeps a.left (prepend_known bytes b.left)
   pub failures : b.failures ≡ a.failures
-  pub most : end ≤ LINE_LIMIT
+  pub most : end ≤ limit
   pub reads : i ≤ end
 
-pub reading_begins : (room : List ℕ) (a : Incoming) → IsReading (take 0 room) 0 0 a a
-reading_begins room a = record {
+pub reading_begins : (limit : ℕ) (room : List ℕ) (a : Incoming) → IsReading limit (take 0 room) 0 0 a a
+reading_begins limit room a = record {
   taken = sym (append-nil a.taken);
   kept = subst (λ (o : Option (List ℕ)). Keeps a.left o) (sym (prepend_known-nil a.left)) (Keeps-refl a.left);
   failures = refl;
@@ -50,15 +49,15 @@ reading_begins room a = record {
 taken_on : (bytes bytes' more t t' t'' : List ℕ) → t' ≡ t ++ bytes → t'' ≡ t' ++ more → bytes' ≡ bytes ++ more → t'' ≡ t ++ bytes'
 taken_on bytes bytes' more t t' t'' was on is = on ∙ ap (λ l. l ++ more) was ∙ append_assoc t bytes more ∙ ap (λ l. t ++ l) (sym is)
 
-came : (bytes bytes' : List ℕ) (end i n : ℕ) (a b b' : Incoming) → IsReading bytes end i a b → IsInletRead bytes bytes' b b' (Take.Got n) → Keeps a.left (prepend_known bytes' b'.left)
-came bytes bytes' end i n a b b' h (more, some, is, taken, reads, failures, keeps) =
+came : (limit : ℕ) (bytes bytes' : List ℕ) (end i n : ℕ) (a b b' : Incoming) → IsReading limit bytes end i a b → IsInletRead bytes bytes' b b' (Take.Got n) → Keeps a.left (prepend_known bytes' b'.left)
+came limit bytes bytes' end i n a b b' h (more, some, is, taken, reads, failures, keeps) =
     subst (λ l. Keeps a.left (prepend_known l b'.left)) (sym is) (kept_on a b b' bytes more h.kept taken keeps)
 
 -- a read more, and no LF yet
-pub reading_goes : (bytes bytes' : List ℕ) (end i n : ℕ) (a b b' : Incoming) → IsReading bytes end i a b → IsInletRead bytes bytes' b b' (Take.Got n) → 0 < n → end + n ≤ LINE_LIMIT → IsReading bytes' (end + n) (i + 1) a b'
-reading_goes bytes bytes' end i n a b b' h r some most = record {
+pub reading_goes : (limit : ℕ) (bytes bytes' : List ℕ) (end i n : ℕ) (a b b' : Incoming) → IsReading limit bytes end i a b → IsInletRead bytes bytes' b b' (Take.Got n) → 0 < n → end + n ≤ limit → IsReading limit bytes' (end + n) (i + 1) a b'
+reading_goes limit bytes bytes' end i n a b b' h r some most = record {
   taken = taken_on bytes bytes' r.0 a.taken b.taken b'.taken h.taken r.3 r.2;
-  kept = came bytes bytes' end i n a b b' h r;
+  kept = came limit bytes bytes' end i n a b b' h r;
   failures = r.5 ∙ h.failures;
   most = most;
   reads = omega (arith, h.reads, some);
@@ -68,29 +67,29 @@ reading_goes bytes bytes' end i n a b b' h r some most = record {
 pub grew : (bytes bytes' : List ℕ) (end n : ℕ) (b b' : Incoming) → IsInletRead bytes bytes' b b' (Take.Got n) → length bytes ≡ end → length bytes' ≡ end + n → 0 < n
 grew bytes bytes' end n b b' r was is = omega (arith, r.1, was, is, ap length r.2, length-append bytes r.0)
 
-decided : (o : Option ℕ) (bytes : List ℕ) → MatchOption o (NoLf bytes) (λ n. IsLineAt n bytes) → (is_some o ≡ true) ⊎ (LINE_LIMIT < length bytes) → IsDecided bytes
-decided None bytes none (inl e) = absurd (cc e)
-decided None bytes none (inr lt) = inr (lt, none)
-decided (Some n) bytes at why = inl (n, at)
+decided : (limit : ℕ) (o : Option ℕ) (bytes : List ℕ) → MatchOption o (NoLf bytes) (λ n. IsLineAt n bytes) → (is_some o ≡ true) ⊎ (limit < length bytes) → IsDecided limit bytes
+decided limit None bytes none (inl e) = absurd (cc e)
+decided limit None bytes none (inr lt) = inr (lt, none)
+decided limit (Some n) bytes at why = inl (n, at)
 
-pub line_came : (o : Option ℕ) (bytes bytes' : List ℕ) (end i n : ℕ) (a b b' : Incoming) → IsReading bytes end i a b → IsInletRead bytes bytes' b b' (Take.Got n) → MatchOption o (NoLf bytes') (λ n. IsLineAt n bytes') → (is_some o ≡ true) ⊎ (LINE_LIMIT < length bytes') → IsAhead bytes' false a b'
-line_came o bytes bytes' end i n a b b' h r found why = record {
+pub line_came : (limit : ℕ) (o : Option ℕ) (bytes bytes' : List ℕ) (end i n : ℕ) (a b b' : Incoming) → IsReading limit bytes end i a b → IsInletRead bytes bytes' b b' (Take.Got n) → MatchOption o (NoLf bytes') (λ n. IsLineAt n bytes') → (is_some o ≡ true) ⊎ (limit < length bytes') → IsAhead limit bytes' false a b'
+line_came limit o bytes bytes' end i n a b b' h r found why = record {
   taken = taken_on bytes bytes' r.0 a.taken b.taken b'.taken h.taken r.3 r.2;
-  kept = came bytes bytes' end i n a b b' h r;
-  ends = λ e. inl (decided o bytes' found why);
+  kept = came limit bytes bytes' end i n a b b' h r;
+  ends = λ e. inl (decided limit o bytes' found why);
   fails = λ e. absurd (cc e);
 }
 
-pub end_came : (bytes bytes' : List ℕ) (end i : ℕ) (a b b' : Incoming) → IsReading bytes end i a b → IsInletRead bytes bytes' b b' Take.End → IsAhead bytes' false a b'
-end_came bytes bytes' end i a b b' h (is, nothing, taken, reads, failures, keeps) = record {
+pub end_came : (limit : ℕ) (bytes bytes' : List ℕ) (end i : ℕ) (a b b' : Incoming) → IsReading limit bytes end i a b → IsInletRead bytes bytes' b b' Take.End → IsAhead limit bytes' false a b'
+end_came limit bytes bytes' end i a b b' h (is, nothing, taken, reads, failures, keeps) = record {
   taken = taken ∙ h.taken ∙ ap (λ l. a.taken ++ l) (sym is);
   kept = subst (λ l. Keeps a.left (prepend_known l b'.left)) (append-nil bytes ∙ sym is) (kept_on a b b' bytes [] h.kept (taken ∙ sym (append-nil b.taken)) keeps);
   ends = λ e. inr nothing;
   fails = λ e. absurd (cc e);
 }
 
-pub fault_came : (bytes bytes' : List ℕ) (end i : ℕ) (a b b' : Incoming) → IsReading bytes end i a b → IsInletRead bytes bytes' b b' Take.Failed → IsAhead bytes' true a b'
-fault_came bytes bytes' end i a b b' h (is, taken, reads, failures, keeps) = record {
+pub fault_came : (limit : ℕ) (bytes bytes' : List ℕ) (end i : ℕ) (a b b' : Incoming) → IsReading limit bytes end i a b → IsInletRead bytes bytes' b b' Take.Failed → IsAhead limit bytes' true a b'
+fault_came limit bytes bytes' end i a b b' h (is, taken, reads, failures, keeps) = record {
   taken = taken ∙ h.taken ∙ ap (λ l. a.taken ++ l) (sym is);
   kept = subst (λ l. Keeps a.left (prepend_known l b'.left)) (append-nil bytes ∙ sym is) (kept_on a b b' bytes [] h.kept (taken ∙ sym (append-nil b.taken)) keeps);
   ends = λ e. absurd (cc e);

@@ -7,6 +7,7 @@ use Rattle.session_text.specs.Answers.{AnswerRelation, AnswersCommand, Begins}
 use Rattle.session_text.specs.declared.Ended.{Ended}
 use Rattle.session_text.specs.declared.Ended.TheVariants.{ReadFault}
 use Rattle.session_text.specs.declared.limits.SessionLimits.{SessionLimits}
+use Rattle.session_text.specs.Limits.{longest_line}
 use Rattle.heap_lock.specs.HeapLimits.{HeapSettings}
 use Rattle.heap_lock.specs.Calls.{Call, IsLegalLedger}
 use Rattle.heap_lock.specs.LockStates.{Chair}
@@ -24,7 +25,7 @@ ServesSeat limits config questions time secret bytes failed b b' c w c' w' end =
     ServesClient limits (AnswersCommand (seat_acts config) (seat_answers config questions) time) (Begins (seat_acts config) (seat_answers config questions) time) secret bytes failed b b' c w c' w' end
 
 -- a session on these terms is one that answers questions, if they say so
-pub attended : (config : HeapSettings) (terms : Terms) (questions failed : Bool) (bytes : List ℕ) (a b b' : Incoming) (s s' : Chair) (seen : List Call) (c c' : Station) (w w' : Outgoing) (end : SessionEnd) → terms.questions ≡ questions → IsAhead bytes failed a b → IsLegalLedger config seen
+pub attended : (config : HeapSettings) (terms : Terms) (questions failed : Bool) (bytes : List ℕ) (a b b' : Incoming) (s s' : Chair) (seen : List Call) (c c' : Station) (w w' : Outgoing) (end : SessionEnd) → terms.questions ≡ questions → IsAhead (longest_line terms.limits) bytes failed a b → IsLegalLedger config seen
     → c ≡ record { seat = s; seen = seen } → s' ≡ c'.seat → ServesSeat terms.limits config questions terms.time terms.secret bytes failed b b' c w c' w' end → IsAttended config terms s a b' w w' s' end
 attended config terms questions failed bytes a b b' s s' seen c c' w w' end is ahead legal first last serves =
     let from : Station = record { seat = s; seen = seen } in
@@ -42,7 +43,7 @@ attended config terms questions failed bytes a b b' s s' seen c c' w w' end is a
     })
 
 -- a session of a heap that stays, and the closings at its end
-pub stayed : (config : HeapSettings) (terms : Terms) (failed : Bool) (bytes : List ℕ) (a b b' : Incoming) (s s' : Chair) (seen seen' : List Call) (c c' : StayingStation) (w w' : Outgoing) (end : SessionEnd) → IsAhead bytes failed a b → IsLegalLedger config seen
+pub stayed : (config : HeapSettings) (terms : Terms) (failed : Bool) (bytes : List ℕ) (a b b' : Incoming) (s s' : Chair) (seen seen' : List Call) (c c' : StayingStation) (w w' : Outgoing) (end : SessionEnd) → IsAhead (longest_line terms.limits) bytes failed a b → IsLegalLedger config seen
     → c ≡ record { seat = s; seen = seen; pins = []; questions = terms.questions } → s' ≡ c'.seat → ClosesEach config c'.pins c'.seen seen' → ServesClient terms.limits (staying_says config terms) (staying_begins config terms) terms.secret bytes failed b b' c w c' w' end → IsAttendedStaying config terms s a b' w w' s' end
 stayed config terms failed bytes a b b' s s' seen seen' c c' w w' end ahead legal first last closes serves =
     inl (record {
@@ -62,15 +63,15 @@ stayed config terms failed bytes a b b' s s' seen seen' c c' w w' end ahead lega
 -- ---- sessions that are told as idle
 
 -- nobody is turned away so
-not_away : (secret : Option (List ℕ)) (bytes : List ℕ) → TurnsAway secret bytes Idle → ⊥
-not_away (Some word) bytes away = cc away.1
-not_away None bytes away = cc away.1
+not_away : (limits : SessionLimits) (secret : Option (List ℕ)) (bytes : List ℕ) → TurnsAway limits secret bytes Idle → ⊥
+not_away limits (Some word) bytes away = cc away.1
+not_away limits None bytes away = cc away.1
 
 -- no session ends so by itself
 never_idle : (config : HeapSettings) (terms : Terms) (stays : Bool) (a b : Incoming) (s s' : Chair) (w w' : Outgoing) → IsAttendedOn stays config terms s a b w w' s' Idle → ⊥
-never_idle config terms false a b s s' w w' (inl served) = not_away terms.secret served.bytes served.serves.0
+never_idle config terms false a b s s' w w' (inl served) = not_away terms.limits terms.secret served.bytes served.serves.0
 never_idle config terms false a b s s' w w' (inr none) = cc none.0
-never_idle config terms true a b s s' w w' (inl served) = not_away terms.secret served.bytes served.serves.0
+never_idle config terms true a b s s' w w' (inl served) = not_away terms.limits terms.secret served.bytes served.serves.0
 never_idle config terms true a b s s' w w' (inr none) = cc none.0
 
 plain : (config : HeapSettings) (terms : Terms) (stays : Bool) (a b : Incoming) (s s' : Chair) (w w' : Outgoing) (end : SessionEnd) → IsAttendedOn stays config terms s a b w w' s' end → IsAttendedOn stays config terms s a b w w' s' (plain_end end)

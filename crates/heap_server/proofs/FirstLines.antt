@@ -4,7 +4,6 @@ use Rattle.std.specs.Prelude.{◌==◌, ◌&&◌, nat_le, option_map, if◌then�
 use Rattle.std.proofs.lemmas.Bool.{le-leb, lt-leb}
 use Rattle.std.proofs.lemmas.List.{length-take-le}
 use Rattle.session_grammar.specs.Grammar.{without_cr}
-use Rattle.session_grammar.specs.declared.TheConstants.{LINE_LIMIT}
 use Rattle.std.specs.Option.{option_map_or}
 use Rattle.std.proofs.lemmas.List.Elements.{All-head, All-tail}
 use Rattle.session_grammar.specs.Lines.{IsLineAt, NoLf}
@@ -25,24 +24,24 @@ no_line (b ∷ l) none =
     ap (λ (c : Bool). if c then Some [] else option_map (λ l. b ∷ l) (first_line l)) isnt
     ∙ ap (λ (o : Option (List ℕ)). option_map (λ l. b ∷ l) o) (no_line l (All-tail (λ x. (x == 10) ≡ false) b l none))
 
-pub asks_none : (l : List ℕ) → NoLf l → asks_http l ≡ false
-asks_none l none = ap (λ (o : Option (List ℕ)). option_map_or is_request o false) (no_line l none)
+pub asks_none : (most : ℕ) (l : List ℕ) → NoLf l → asks_http most l ≡ false
+asks_none most l none = ap (λ (o : Option (List ℕ)). option_map_or (is_request most) o false) (no_line l none)
 
 pub line_at : (n : ℕ) (bytes : List ℕ) → IsLineAt n bytes → first_line bytes ≡ Some (take n bytes)
 line_at n bytes at = ap first_line at.2 ∙ line_before (take n bytes) (drop (n + 1) bytes) at.1
 
-pub asks_at : (n : ℕ) (bytes : List ℕ) → IsLineAt n bytes → asks_http bytes ≡ is_request (take n bytes)
-asks_at n bytes at = ap (λ (o : Option (List ℕ)). option_map_or is_request o false) (line_at n bytes at)
+pub asks_at : (most n : ℕ) (bytes : List ℕ) → IsLineAt n bytes → asks_http most bytes ≡ is_request most (take n bytes)
+asks_at most n bytes at = ap (λ (o : Option (List ℕ)). option_map_or (is_request most) o false) (line_at n bytes at)
 
 -- a line that isn't too long, and one that is
-pub asks_line : (n : ℕ) (bytes : List ℕ) → IsLineAt n bytes → n ≤ LINE_LIMIT → asks_http bytes ≡ is_request_line (without_cr (take n bytes))
-asks_line n bytes at le =
+pub asks_line : (most n : ℕ) (bytes : List ℕ) → IsLineAt n bytes → n ≤ most → asks_http most bytes ≡ is_request_line (without_cr (take n bytes))
+asks_line most n bytes at le =
     let size : length (take n bytes) ≡ n = length-take-le n bytes (omega (arith, at.0)) in
-    let fits : nat_le (length (take n bytes)) LINE_LIMIT ≡ true = le-leb (length (take n bytes)) LINE_LIMIT (omega (arith, size, le)) in
-    asks_at n bytes at ∙ ap (λ c. c && is_request_line (without_cr (take n bytes))) fits
+    let fits : nat_le (length (take n bytes)) most ≡ true = le-leb (length (take n bytes)) most (omega (arith, size, le)) in
+    asks_at most n bytes at ∙ ap (λ c. c && is_request_line (without_cr (take n bytes))) fits
 
-pub asks_long : (n : ℕ) (bytes : List ℕ) → IsLineAt n bytes → LINE_LIMIT < n → asks_http bytes ≡ false
-asks_long n bytes at lt =
+pub asks_long : (most n : ℕ) (bytes : List ℕ) → IsLineAt n bytes → most < n → asks_http most bytes ≡ false
+asks_long most n bytes at lt =
     let size : length (take n bytes) ≡ n = length-take-le n bytes (omega (arith, at.0)) in
-    let over : nat_le (length (take n bytes)) LINE_LIMIT ≡ false = lt-leb (length (take n bytes)) LINE_LIMIT (omega (arith, size, lt)) in
-    asks_at n bytes at ∙ ap (λ c. c && is_request_line (without_cr (take n bytes))) over
+    let over : nat_le (length (take n bytes)) most ≡ false = lt-leb (length (take n bytes)) most (omega (arith, size, lt)) in
+    asks_at most n bytes at ∙ ap (λ c. c && is_request_line (without_cr (take n bytes))) over

@@ -6,19 +6,19 @@ use Rattle.dump_pump.specs.declared.inlet.Take.{Take}
 use Rattle.dump_pump.specs.declared.inlet.Take.TheVariants.{Got, Failed}
 use Rattle.session_text.specs.Buffers.{IsLastEmpty}
 use Rattle.session_grammar.specs.Lines.{IsLineAt, NoLf}
-use Rattle.session_grammar.specs.declared.TheConstants.{LINE_LIMIT}
 
--- the first line is whole, or too long
-abbrev pub IsDecided : List ℕ → Type 0
-IsDecided bytes =
-    ((n : ℕ) × IsLineAt n bytes) ⊎ ((LINE_LIMIT < length bytes) × NoLf bytes)
+-- the first line is whole, or has more than `most` bytes
+abbrev pub IsDecided : ℕ → List ℕ → Type 0
+IsDecided most bytes =
+    ((n : ℕ) × IsLineAt n bytes) ⊎ ((most < length bytes) × NoLf bytes)
 
--- these bytes came, the first of those that were left: up to the end of the first line at least, or until it is too long, or all;
+-- these bytes came, the first of those that were left: up to the end of the first line at least, or until it has more than
+-- `most` bytes, or all;
 -- or the last read failed
-pub record IsAhead (bytes : List ℕ) (failed : Bool) (a b : Incoming) : Type 0 where
+pub record IsAhead (most : ℕ) (bytes : List ℕ) (failed : Bool) (a b : Incoming) : Type 0 where
   pub taken : b.taken ≡ a.taken ++ bytes
   pub kept : Keeps a.left (prepend_known bytes b.left)
-  pub ends : failed ≡ false → IsDecided bytes ⊎ NothingLeft b
+  pub ends : failed ≡ false → IsDecided most bytes ⊎ NothingLeft b
   pub fails : failed ≡ true → b.failures ≡ a.failures + 1
 
 -- what a session saw of bytes that were read ahead and of the inlet behind them, which went on from `b` to `b'`: a beginning of the

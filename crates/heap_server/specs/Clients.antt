@@ -6,6 +6,7 @@ use Rattle.dump_pump.specs.Outlets.{Outgoing}
 use Rattle.secret_word.specs.Words.{IsBehindWord}
 use Rattle.session_text.specs.Answers.{AnswerRelation}
 use Rattle.session_text.specs.declared.limits.SessionLimits.{SessionLimits}
+use Rattle.session_text.specs.Limits.{longest_line}
 use Rattle.session_text.specs.Talks.{Serves}
 use Rattle.session_text.specs.declared.Ended.{Ended}
 use Rattle.session_text.specs.declared.Ended.TheVariants.{ReadFault}
@@ -14,17 +15,17 @@ use Rattle.heap_server.specs.Http.{asks_http}
 use Rattle.heap_server.specs.declared.client_session.SessionEnd.{SessionEnd}
 use Rattle.heap_server.specs.declared.client_session.SessionEnd.TheVariants.{Ran, Http, Stranger, Idle}
 
--- the client of these first bytes is served over the rest of them: those behind the line that is the secret word; or all of them, if
+-- the client of these first bytes is served, in a session that may have at most this, over the rest of them: those behind the line that is the secret word; or all of them, if
 -- no word is asked for and they begin no HTTP request
-abbrev pub Admits : Option (List ℕ) → List ℕ → List ℕ → Type 0
-Admits (Some word) bytes rest = IsBehindWord word bytes rest
-Admits None bytes rest = (asks_http bytes ≡ false) × (rest ≡ bytes)
+abbrev pub Admits : SessionLimits → Option (List ℕ) → List ℕ → List ℕ → Type 0
+Admits limits (Some word) bytes rest = IsBehindWord word bytes rest
+Admits limits None bytes rest = (asks_http (longest_line limits) bytes ≡ false) × (rest ≡ bytes)
 
 -- the client of these first bytes is turned away, and its session ends so
-abbrev pub TurnsAway : Option (List ℕ) → List ℕ → SessionEnd → Type 0
-TurnsAway (Some word) bytes end =
+abbrev pub TurnsAway : SessionLimits → Option (List ℕ) → List ℕ → SessionEnd → Type 0
+TurnsAway limits (Some word) bytes end =
     ((rest : List ℕ) → IsBehindWord word bytes rest → ⊥) × (end ≡ Stranger)
-TurnsAway None bytes end = (asks_http bytes ≡ true) × (end ≡ Http)
+TurnsAway limits None bytes end = (asks_http (longest_line limits) bytes ≡ true) × (end ≡ Http)
 
 -- a session with these limits was served over these bytes, which were read ahead and left the inlet as `b`, and what the inlet
 -- gave behind them, up to `b'`
@@ -42,10 +43,10 @@ abbrev pub ServesClient : {S : Type 0} → SessionLimits → AnswerRelation S �
     → Option (List ℕ) → List ℕ → Bool → Incoming → Incoming → S
     → Outgoing → S → Outgoing → SessionEnd → Type 0
 ServesClient limits says begins secret bytes failed b b' c w c' w' (Ran ended) =
-    (rest : List ℕ) × Admits secret bytes rest
+    (rest : List ℕ) × Admits limits secret bytes rest
     × ServesBehind limits says begins rest failed b b' c w c' w' ended
 ServesClient limits says begins secret bytes failed b b' c w c' w' end =
-    TurnsAway secret bytes end × (b' ≡ b) × (c' ≡ c) × (w' ≡ w)
+    TurnsAway limits secret bytes end × (b' ≡ b) × (c' ≡ c) × (w' ≡ w)
 
 -- the end of a session, whatever the reason of a read that failed
 abbrev pub plain_end : SessionEnd → SessionEnd

@@ -3,7 +3,6 @@ use Rattle.std.specs.Prelude.{◌≡◌, ℕ, ◌-◌, ◌==◌, ◌&&◌, Bool,
 use Rattle.std.specs.Option.{option_map_or}
 use Rattle.std.specs.Str.{bytes_eq}
 use Rattle.session_grammar.specs.Grammar.{without_cr}
-use Rattle.session_grammar.specs.declared.TheConstants.{LINE_LIMIT}
 
 -- the number of bytes of ` HTTP/1.` and a digit
 abbrev pub version_size : ℕ
@@ -26,10 +25,10 @@ first_line [] = None
 first_line (b ∷ bytes) =
     if b == 10 then Some [] else option_map (λ l. b ∷ l) (first_line bytes)
 
--- the line, without its LF, isn't too long and begins an HTTP request
-abbrev pub is_request : List ℕ → Bool
-is_request l = nat_le (length l) LINE_LIMIT && is_request_line (without_cr l)
+-- the line, without its LF, has at most `most` bytes and begins an HTTP request
+abbrev pub is_request : ℕ → List ℕ → Bool
+is_request most l = nat_le (length l) most && is_request_line (without_cr l)
 
--- the first line, if it is whole, begins an HTTP request
-abbrev pub asks_http : List ℕ → Bool
-asks_http bytes = option_map_or is_request (first_line bytes) false
+-- the first line, if it is whole and has at most `most` bytes, begins an HTTP request
+abbrev pub asks_http : ℕ → List ℕ → Bool
+asks_http most bytes = option_map_or (is_request most) (first_line bytes) false

@@ -11,6 +11,7 @@ use Rattle.heap_lock.specs.declared.stub.Stub.{Stub}
 use Rattle.question_text.specs.Collections.{is_collect}
 use Rattle.session_text.specs.Answers.{AnswerRelation, AnswersCommand, Begins, all_bad}
 use Rattle.session_text.specs.Dumps.{Acts}
+use Rattle.session_text.specs.Limits.{longest_line}
 use Rattle.session_text.specs.declared.Ended.TheVariants.{NoMemory}
 use Rattle.heap_server.specs.Ahead.{IsAhead}
 use Rattle.heap_server.specs.Clients.{ServesClient, plain_end}
@@ -57,7 +58,7 @@ pub record IsServedFrom (config : HeapSettings) (terms : Terms) (s : Chair) (a a
   pub left : Incoming
   pub seen : List Call
   pub seen' : List Call
-  pub ahead : IsAhead bytes failed a left
+  pub ahead : IsAhead (longest_line terms.limits) bytes failed a left
   pub legal : IsLegalLedger config seen
   pub serves : ServesClient terms.limits (seat_says config terms) (seat_begins config terms)
       terms.secret bytes failed left a'
@@ -89,7 +90,7 @@ pub record IsServedStaying (config : HeapSettings) (terms : Terms) (s : Chair) (
   pub seen : List Call
   pub last : StayingStation
   pub seen' : List Call
-  pub ahead : IsAhead bytes failed a left
+  pub ahead : IsAhead (longest_line terms.limits) bytes failed a left
   pub legal : IsLegalLedger config seen
   pub serves : ServesClient terms.limits (staying_says config terms) (staying_begins config terms)
       terms.secret bytes failed left a'

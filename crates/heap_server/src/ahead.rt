@@ -4,6 +4,7 @@ ghost use Rattle.std.specs.Io.KnownBytes.{prepend_known};
 ghost use Rattle.dump_pump.specs.Inlets.{IsTriedRead, count_of};
 ghost use Rattle.dump_pump.specs.Outlets.{log_bytes};
 ghost use Rattle.session_text.specs.Buffers.{IsInletRead};
+ghost use Rattle.session_text.specs.Limits.{longest_line};
 ghost use Rattle.heap_server.specs.Ahead.{BeginsAhead, GoesOn, IsAhead, IsSeenBehind};
 ghost use Rattle.session_grammar.specs.declared.TheConstants.{LINE_LIMIT};
 
@@ -12,19 +13,16 @@ use dump_pump::Log;
 use dump_pump::inlet::count_of;
 use dump_pump::ledger::note_bytes;
 use session_grammar::LINE_LIMIT;
-use session_text::{Inlet, Take};
+use session_text::{Inlet, SessionLimits, Take};
 use std::alloc::{AllocError, Global};
 use std::marker::{Brand, Model, PhantomData};
 
-// The most bytes that are read ahead: more than a line has, and few, since each session that waits for its first line has them. They
-// are a little more than a session's page has, which takes their place when the first line has come.
-const ROOM: usize = 8_704;
+// How many more bytes are read ahead than a line may have. They are few, since each session that waits for its first line has room for
+// them. If the heap isn't wide, that room is a little more than a session's page, which takes its place when the first line has come.
+const MORE_ROOM: usize = 4_608;
 
 // One less than the largest size of a read.
-const LAST_SIZE: usize = ROOM - 1;
-
-// The most reads that are made ahead, each of at least one byte, until a line is too long.
-const READS_LIMIT: usize = LINE_LIMIT + 1;
+const LAST_SIZE: usize = LINE_LIMIT + MORE_ROOM - 1;
 
 /// What was read ahead: bytes, the size of each read, and whether the last one failed.
 #[derive(Drop)]
@@ -45,21 +43,27 @@ fn read_more<I: Inlet>(inlet: &mut I, room: &mut [u8], end: usize) -> Take
     inlet.take(&mut room[end..])
 }
 
-// Reads into a room until the first line is whole or too long, the end comes, or a read fails. Returns the number of bytes that
-// came, and whether the last read failed.
-fn fill<I: Inlet>(inlet: &mut I, room: &mut [u8], sizes: &mut Vec<u16>) -> (usize, bool)
-    requires room { LINE_LIMIT < length room.old }
-    requires sizes { (sizes.old.items ≡ []) × (LINE_LIMIT < vec_capacity sizes.old) }
-    ensures ahead { IsAhead (take result.0 room.new) result.1 (I.seen inlet.old)
+// Reads into a room until the first line is whole or has more than `most` bytes, the end comes, or a read fails. Returns the number of
+// bytes that came, and whether the last read failed.
+fn fill<I: Inlet>(
+    inlet: &mut I,
+    room: &mut [u8],
+    sizes: &mut Vec<u16>,
+    most: usize,
+) -> (usize, bool)
+    requires most { most ≤ LINE_LIMIT }
+    requires room { most < length room.old }
+    requires sizes { (sizes.old.items ≡ []) × (most < vec_capacity sizes.old) }
+    ensures ahead { IsAhead most (take result.0 room.new) result.1 (I.seen inlet.old)
         (I.seen inlet.new) }
 {
     let mut end = 0;
-    while sizes.len() < READS_LIMIT {
+    while sizes.len() <= most {
         match read_more(inlet, room, end) {
             Take::Got(n) => {
                 sizes.push_reserved(n.saturating_sub(1).min(LAST_SIZE) as u16);
                 end += n;
-                if line_end(&room[..end]).is_some() || end > LINE_LIMIT {
+                if line_end(&room[..end]).is_some() || end > most {
                     return (end, false);
                 }
             }
@@ -70,15 +74,21 @@ fn fill<I: Inlet>(inlet: &mut I, room: &mut [u8], sizes: &mut Vec<u16>) -> (usiz
     unreachable!()
 }
 
-/// Reads until the first line is whole or too long, the end comes, or a read fails. Fails if an allocation fails, and has read
-/// nothing then.
-pub(crate) fn read_line<I: Inlet>(alloc: Global, inlet: &mut I) -> Result<Ahead, AllocError>
+/// Reads until the first line is whole or too long for the session, the end comes, or a read fails. Fails if an allocation fails,
+/// and has read nothing then.
+pub(crate) fn read_line<I: Inlet>(
+    alloc: Global,
+    inlet: &mut I,
+    limits: SessionLimits,
+) -> Result<Ahead, AllocError>
     ensures { IfOk result
-        (λ a. IsAhead a.bytes.items a.failed (I.seen inlet.old) (I.seen inlet.new)) }
+        (λ a. IsAhead (longest_line limits) a.bytes.items a.failed (I.seen inlet.old)
+        (I.seen inlet.new)) }
 {
-    let mut bytes = vec![in alloc; 0; ROOM]?;
-    let mut sizes = Vec::with_capacity(alloc, READS_LIMIT)?;
-    let (end, failed) = fill(inlet, bytes.as_mut_slice(), &mut sizes);
+    let most = limits.longest_line();
+    let mut bytes = vec![in alloc; 0; most + MORE_ROOM]?;
+    let mut sizes = Vec::with_capacity(alloc, most + 1)?;
+    let (end, failed) = fill(inlet, bytes.as_mut_slice(), &mut sizes, most);
     bytes.truncate(end);
     bytes.shrink_to_fit();
     sizes.shrink_to_fit();

@@ -26,10 +26,10 @@ pub enum SessionEnd {
 
 // Returns what is left of the bytes that were read ahead of a client that is served. Fails with how its session ends if the client is
 // turned away: if the first line isn't the secret word, or, without one, begins an HTTP request.
-fn admit(ahead: Ahead, secret: Option<Secret>) -> Result<Ahead, SessionEnd>
+fn admit(ahead: Ahead, secret: Option<Secret>, limits: SessionLimits) -> Result<Ahead, SessionEnd>
     ensures { MatchResult result
-        (λ a. Admits secret ahead.bytes.items a.bytes.items × (a.failed ≡ ahead.failed))
-        (λ end. TurnsAway secret ahead.bytes.items end) }
+        (λ a. Admits limits secret ahead.bytes.items a.bytes.items × (a.failed ≡ ahead.failed))
+        (λ end. TurnsAway limits secret ahead.bytes.items end) }
 {
     match secret {
         Some(word) => match word.line_size(ahead.bytes.as_slice()) {
@@ -37,7 +37,7 @@ fn admit(ahead: Ahead, secret: Option<Secret>) -> Result<Ahead, SessionEnd>
             None => Err(SessionEnd::Stranger),
         },
         None => {
-            if asks_http(ahead.bytes.as_slice()) {
+            if asks_http(ahead.bytes.as_slice(), limits.longest_line()) {
                 Err(SessionEnd::Http)
             } else {
                 Ok(ahead)
@@ -63,7 +63,7 @@ pub(crate) fn serve_client<I: Inlet + Drop, O: Outlet, C: Commands>(
         (I.seen inlet) (I.seen result.1) commands.old (O.seen outlet.old) commands.new
         (O.seen outlet.new) result.0 }
 {
-    let ahead = match admit(ahead, terms.secret) {
+    let ahead = match admit(ahead, terms.secret, terms.limits) {
         Ok(ahead) => ahead,
         Err(end) => return (end, inlet),
     };

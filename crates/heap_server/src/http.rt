@@ -4,7 +4,6 @@ ghost use Rattle.session_grammar.specs.Lines.{IsLineAt, NoLf};
 ghost use Rattle.heap_server.specs.Http.{asks_http, is_request_line};
 
 use memchr::memchr;
-use session_grammar::LINE_LIMIT;
 use session_grammar::command::without_cr;
 use session_grammar::words::is_word;
 
@@ -33,12 +32,12 @@ pub(crate) fn line_end(bytes: &[u8]) -> Option<usize>
     memchr(LF, bytes)
 }
 
-/// Tells whether the first line, if it is whole and not too long, begins an HTTP request.
-pub(crate) fn asks_http(bytes: &[u8]) -> bool
-    ensures { result ≡ asks_http bytes.now }
+/// Tells whether the first line, if it is whole and has at most `most` bytes, begins an HTTP request.
+pub(crate) fn asks_http(bytes: &[u8], most: usize) -> bool
+    ensures { result ≡ asks_http most bytes.now }
 {
     let Some(end) = line_end(bytes) else {
         return false;
     };
-    end <= LINE_LIMIT && is_request_line(without_cr(&bytes[..end]))
+    end <= most && is_request_line(without_cr(&bytes[..end]))
 }

@@ -151,7 +151,7 @@ fn attend<L: Heap, R: Wait, I: Inlet + Drop, O: Outlet>(
     ensures role { result.seat.role ≡ User }
 {
     let mut inlet = inlet;
-    let Ok(ahead) = read_line(alloc, &mut inlet) else {
+    let Ok(ahead) = read_line(alloc, &mut inlet, terms.limits) else {
         let end = SessionEnd::Ran(Ended::NoMemory);
         return Attended { end, inlet, seat };
     };
@@ -186,7 +186,7 @@ fn attend_staying<L: Heap, R: Wait, I: Inlet + Drop, O: Outlet>(
     ensures role { result.seat.role ≡ User }
 {
     let mut inlet = inlet;
-    let Ok(ahead) = read_line(alloc, &mut inlet) else {
+    let Ok(ahead) = read_line(alloc, &mut inlet, terms.limits) else {
         let end = SessionEnd::Ran(Ended::NoMemory);
         return Attended { end, inlet, seat };
     };

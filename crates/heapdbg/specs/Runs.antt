@@ -35,7 +35,8 @@ abbrev pub IsRun : Settings → Incoming → Incoming → Outgoing → Outgoing 
     → Type 0
 IsRun s a b w w' result =
     ((ended : Ended) × (left : Machine)
-    × IsSession (opening_machine (limits_of s) s.ids s.regions s.mutators s.keep) s.time a b w w' left ended
+    × IsSession (session_limits s.wide)
+    (opening_machine (limits_of s) s.ids s.regions s.mutators s.keep) s.time a b w w' left ended
     × EndsSession (session_limits s.wide) a b w w' ended × (result ≡ outcome_of ended))
     ⊎ ((result ≡ Err Memory) × (b ≡ a) × (w' ≡ w))
 

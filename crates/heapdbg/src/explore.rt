@@ -14,12 +14,13 @@ use question_text::{Asking, Watch, serve_asking};
 use session_text::{Inlet, session_limits};
 use std::alloc::Global;
 use std::fs::Files;
+use std::time::Clock;
 
 /// Runs one session, in which questions are answered, over a heap of its own. If `from` says so, the lines of the file of the
 /// path are run first; their answers are not shown, and each line that is refused is reported on standard error. Fails as a
 /// session does, with Memory if the heap can't be allocated, and with From if the file can't be opened or is a folder; why, it
 /// says on standard error, if that is a terminal.
-pub fn explore<R: AllocGlobal + Eprint + Files, I: Inlet, O: Outlet>(
+pub fn explore<R: AllocGlobal + Clock + Eprint + Files, I: Inlet, O: Outlet>(
     rt: &R,
     request: Request<'_>,
     from: bool,
@@ -39,7 +40,7 @@ pub fn explore<R: AllocGlobal + Eprint + Files, I: Inlet, O: Outlet>(
 }
 
 // Runs one session over a heap as it begins, after the lines of the file of the path if `from` says so.
-fn explore_on<R: AllocGlobal + Eprint + Files, I: Inlet, O: Outlet>(
+fn explore_on<R: AllocGlobal + Clock + Eprint + Files, I: Inlet, O: Outlet>(
     rt: &R,
     request: Request<'_>,
     from: bool,

@@ -13,11 +13,12 @@ use session_text::{Commands, session_limits};
 use std::fs;
 use std::fs::Files;
 use std::io::Error;
+use std::time::Clock;
 
 /// Runs the lines of the file of the path by these commands, if `from` says so. Their answers are not shown, and each line that
-/// is refused is reported on standard error. Fails with Memory, and with From if the file can't be opened or is a folder; why,
+/// is refused is reported on standard error, and how many lines were read, if that is a terminal. Fails with Memory, and with From if the file can't be opened or is a folder; why,
 /// it says on standard error, if that is a terminal.
-pub(crate) fn run_first<R: AllocGlobal + Eprint + Files, C: Commands>(
+pub(crate) fn run_first<R: AllocGlobal + Clock + Eprint + Files, C: Commands>(
     rt: &R,
     request: Request<'_>,
     from: bool,
@@ -37,7 +38,7 @@ pub(crate) fn run_first<R: AllocGlobal + Eprint + Files, C: Commands>(
 }
 
 // Runs the lines of the file of the path.
-fn load<R: AllocGlobal + Eprint + Files, C: Commands>(
+fn load<R: AllocGlobal + Clock + Eprint + Files, C: Commands>(
     rt: &R,
     request: Request<'_>,
     is_terminal: bool,
@@ -61,7 +62,7 @@ fn load<R: AllocGlobal + Eprint + Files, C: Commands>(
     };
     let (alloc, time) = (rt.alloc(), request.settings.time);
     let limits = session_limits(request.settings.wide);
-    match load_lines(rt, alloc, path, file, commands, time, limits) {
+    match load_lines(rt, alloc, path, file, commands, time, limits, is_terminal) {
         Ok(_) => Ok(()),
         Err(_) => Err(Fault::Memory),
     }

@@ -368,7 +368,7 @@ fn settings_of_words(alloc: Global, words: &[String]) -> Result<Settings, LineFa
 }
 
 // Runs one session over a private heap, in which questions are answered if the settings say so.
-fn run<R: AllocGlobal + Eprint + Files, I: Inlet, O: Outlet>(
+fn run<R: AllocGlobal + Clock + Eprint + Files, I: Inlet, O: Outlet>(
     rt: &R,
     request: Request<'_>,
     screen: Screen<'_>,

@@ -12,12 +12,13 @@ use Rattle.session_grammar.specs.declared.command.Command.TheVariants.{Bad}
 use Rattle.session_grammar.specs.Grammar.{command_of, without_cr}
 use Rattle.session_text.specs.declared.ReadEnd.TheVariants.{Over}
 use Rattle.session_text.specs.declared.commands.Local.{Local}
+use Rattle.session_text.specs.declared.limits.SessionLimits.{SessionLimits}
 use Rattle.session_text.specs.Answers.{AnswerRelation, AnswersCommand, AnswersTo, all_bad}
 use Rattle.session_text.specs.Session.{FitLines, session_of, talked}
 use Rattle.session_text.specs.Talks.{AnswersAll, IsLine, stream}
 use Rattle.session_text.proofs.OtherCommands.{IsKnown, answer_keeps, answer_stands}
 use Rattle.session_text.proofs.SessionCommands.{acts, parts, talk}
-use Rattle.session_text.proofs.SessionLines.{passes}
+use Rattle.session_text.proofs.SessionLines.{none_left, passes}
 use Rattle.question_text.specs.declared.asking.Asking.{Asking}
 use Rattle.question_text.specs.declared.cycle.CycleCounts.{CycleCounts}
 use Rattle.question_text.specs.Collections.{AreNext, NoneDenies, RunsCycle, TakenStep, ends_cycle, is_collect}
@@ -25,11 +26,11 @@ use Rattle.question_text.specs.Sessions.{AnswersEach, AnswersLine, AskingActs, A
 
 -- ---- the text of each line
 
-pub each_of : {S : Type 0} (says : AnswerRelation S) (ls : List (List ℕ)) (c : S) (text : List ℕ) (d : S) → AnswersAll says ls c text d
-    → (answered : List (List ℕ × List ℕ)) × (lines_of answered ≡ ls) × (texts_of answered ≡ text) × AnswersEach says answered c d
-each_of says [] c text d t = ([], refl, sym t.0, t.1)
-each_of says (l ∷ ls) c text d t =
-    let e = each_of says ls t.1 t.2 d t.5 in
+pub each_of : {S : Type 0} (limits : SessionLimits) (says : AnswerRelation S) (ls : List (List ℕ)) (c : S) (text : List ℕ) (d : S) → AnswersAll limits says ls c text d
+    → (answered : List (List ℕ × List ℕ)) × (lines_of answered ≡ ls) × (texts_of answered ≡ text) × AnswersEach limits says answered c d
+each_of limits says [] c text d t = ([], refl, sym t.0, t.1)
+each_of limits says (l ∷ ls) c text d t =
+    let e = each_of limits says ls t.1 t.2 d t.5 in
     ((l, t.0) ∷ e.0, ap (λ (x : List (List ℕ)). l ∷ x) e.1, ap (λ (x : List ℕ). t.0 ++ x) e.2 ∙ sym t.6, (t.1, t.3, t.4, e.3))
 
 -- ---- known commands
@@ -55,10 +56,10 @@ Says time = AnswersCommand AskingActs AskingAnswers time
 abbrev pub Alone : ℕ → AnswerRelation Local
 Alone time = AnswersCommand acts all_bad time
 
-one_known : (time : ℕ) (a : List ℕ × List ℕ) (c between : Asking) (d : Local) (known : List (List ℕ × List ℕ)) → IsLine a.0 → is_collect (without_cr a.0) ≡ false → Says time a.0 c a.1 between
-    → AnswersAll (Alone time) (lines_of known) between.local (texts_of known) d → (b : Bool) → is_known (command_of a.0) ≡ b
-    → AnswersAll (Alone time) (lines_of (cond b (a ∷ known) known)) c.local (texts_of (cond b (a ∷ known) known)) d
-one_known time a c between d known line none says rest true h = (
+one_known : (limits : SessionLimits) (time : ℕ) (a : List ℕ × List ℕ) (c between : Asking) (d : Local) (known : List (List ℕ × List ℕ)) → IsLine limits a.0 → is_collect (without_cr a.0) ≡ false → Says time a.0 c a.1 between
+    → AnswersAll limits (Alone time) (lines_of known) between.local (texts_of known) d → (b : Bool) → is_known (command_of a.0) ≡ b
+    → AnswersAll limits (Alone time) (lines_of (cond b (a ∷ known) known)) c.local (texts_of (cond b (a ∷ known) known)) d
+one_known limits time a c between d known line none says rest true h = (
   a.1,
   between.local,
   texts_of known,
@@ -67,33 +68,33 @@ one_known time a c between d known line none says rest true h = (
   rest,
   refl,
 )
-one_known time a c between d known line none says rest false h =
+one_known limits time a c between d known line none says rest false h =
     let unknown : AskingAnswers (without_cr a.0) c a.1 between = subst (λ (k : Command). AnswersTo AskingActs (AskingAnswers (without_cr a.0)) time k c a.1 between) (unknown_is (command_of a.0) h) says in
     let same = question_leaves (is_collect (without_cr a.0)) (without_cr a.0) a.1 c.local between.local none unknown.0 in
-    subst (λ (x : Local). AnswersAll (Alone time) (lines_of known) x (texts_of known) d) same rest
+    subst (λ (x : Local). AnswersAll limits (Alone time) (lines_of known) x (texts_of known) d) same rest
 
-known_answers : (time : ℕ) (answered : List (List ℕ × List ℕ)) (c d : Asking) → NoneCollects (lines_of answered) → AnswersEach (Says time) answered c d
-    → AnswersAll (Alone time) (lines_of (known_of answered)) c.local (texts_of (known_of answered)) d.local
-known_answers time [] c d none t = (refl, ap (λ (x : Asking). x.local) t)
-known_answers time (a ∷ answered) c d none t =
-    one_known time a c t.0 d.local (known_of answered) t.1 none.0 t.2 (known_answers time answered t.0 d none.1 t.3) (is_known (command_of a.0)) refl
+known_answers : (limits : SessionLimits) (time : ℕ) (answered : List (List ℕ × List ℕ)) (c d : Asking) → NoneCollects (lines_of answered) → AnswersEach limits (Says time) answered c d
+    → AnswersAll limits (Alone time) (lines_of (known_of answered)) c.local (texts_of (known_of answered)) d.local
+known_answers limits time [] c d none t = (refl, ap (λ (x : Asking). x.local) t)
+known_answers limits time (a ∷ answered) c d none t =
+    one_known limits time a c t.0 d.local (known_of answered) t.1 none.0 t.2 (known_answers limits time answered t.0 d none.1 t.3) (is_known (command_of a.0)) refl
 
-session_alone : (time : ℕ) (answered : List (List ℕ × List ℕ)) (c d : Local) → AnswersAll (Alone time) (lines_of answered) c (texts_of answered) d → IsSessionOf time c.machine answered d.machine
+session_alone : (limits : SessionLimits) (time : ℕ) (answered : List (List ℕ × List ℕ)) (c d : Local) → AnswersAll limits (Alone time) (lines_of answered) c (texts_of answered) d → IsSessionOf limits time c.machine answered d.machine
 unfolding session_of
-session_alone time answered c d t =
+session_alone limits time answered c d t =
     let ls = lines_of answered in
-    let g = passes time ls c (texts_of answered) d t in
+    let g = passes limits time ls c (texts_of answered) d t in
     let all = append-nil (stream ls) in (
       g.found ++ [],
       subst (λ (bytes : List ℕ). FitLines time (parts bytes) (talk c.machine (g.found ++ []) [])) all (g.fit [] [] [] tt),
-      ap (λ (bytes : List ℕ). talked time Over (parts bytes) (talk c.machine (g.found ++ []) [])) (sym all) ∙ g.so Over [] [] [],
+      ap (λ (bytes : List ℕ). talked limits time Over (parts bytes) (talk c.machine (g.found ++ []) [])) (sym all) ∙ g.so Over [] [] [] ∙ none_left limits time (talk d.machine [] (texts_of answered)),
     )
 
-pub left_out : (time : ℕ) (lines : List (List ℕ)) (text : List ℕ) (c d : Asking) → NoneCollects lines → AnswersAll (Says time) lines c text d → AnswersAlone time c.local.machine lines text d.local.machine
-left_out time lines text c d none t =
-    let e = each_of (Says time) lines c text d t in
+pub left_out : (limits : SessionLimits) (time : ℕ) (lines : List (List ℕ)) (text : List ℕ) (c d : Asking) → NoneCollects lines → AnswersAll limits (Says time) lines c text d → AnswersAlone limits time c.local.machine lines text d.local.machine
+left_out limits time lines text c d none t =
+    let e = each_of limits (Says time) lines c text d t in
     let few = subst NoneCollects (sym e.1) none in
-    (e.0, e.1, e.2, session_alone time (known_of e.0) c.local d.local (known_answers time e.0 c d few e.3))
+    (e.0, e.1, e.2, session_alone limits time (known_of e.0) c.local d.local (known_answers limits time e.0 c d few e.3))
 
 -- ---- a list of actions
 
@@ -117,9 +118,9 @@ line_driven m time l c text d false h says p =
     let unknown : AskingAnswers (without_cr l) c text d = subst (λ (k : Command). AnswersTo AskingActs (AskingAnswers (without_cr l)) time k c text d) (unknown_is (command_of l) h) says in
     unknown_driven m (is_collect (without_cr l)) (without_cr l) text c.local d.local unknown.0 p
 
-lines_driven : (m : Machine) (time : ℕ) (lines : List (List ℕ)) (c : Asking) (text : List ℕ) (d : Asking) → AnswersAll (Says time) lines c text d → IsDriven m c.local.machine → IsDriven m d.local.machine
-lines_driven m time [] c text d t p = subst (λ (x : Asking). IsDriven m x.local.machine) (sym t.1) p
-lines_driven m time (l ∷ ls) c text d t p = lines_driven m time ls t.1 t.2 d t.5 (line_driven m time l c t.0 t.1 (is_known (command_of l)) refl t.4 p)
+lines_driven : (limits : SessionLimits) (m : Machine) (time : ℕ) (lines : List (List ℕ)) (c : Asking) (text : List ℕ) (d : Asking) → AnswersAll limits (Says time) lines c text d → IsDriven m c.local.machine → IsDriven m d.local.machine
+lines_driven limits m time [] c text d t p = subst (λ (x : Asking). IsDriven m x.local.machine) (sym t.1) p
+lines_driven limits m time (l ∷ ls) c text d t p = lines_driven limits m time ls t.1 t.2 d t.5 (line_driven m time l c t.0 t.1 (is_known (command_of l)) refl t.4 p)
 
-pub all_driven : (time : ℕ) (lines : List (List ℕ)) (text : List ℕ) (c d : Asking) → AnswersAll (Says time) lines c text d → IsDriven c.local.machine d.local.machine
-all_driven time lines text c d t = lines_driven c.local.machine time lines c text d t ([], [], driven_none c.local.machine)
+pub all_driven : (limits : SessionLimits) (time : ℕ) (lines : List (List ℕ)) (text : List ℕ) (c d : Asking) → AnswersAll limits (Says time) lines c text d → IsDriven c.local.machine d.local.machine
+all_driven limits time lines text c d t = lines_driven limits c.local.machine time lines c text d t ([], [], driven_none c.local.machine)

@@ -55,10 +55,10 @@ is_known Bad = false
 is_known k = true
 
 -- lines with the texts of their answers, one after another
-abbrev pub AnswersEach : {S : Type 0} → AnswerRelation S → List (List ℕ × List ℕ) → S → S → Type 0
-AnswersEach says [] c d = d ≡ c
-AnswersEach {S} says (a ∷ answered) c d =
-    (between : S) × IsLine a.0 × says a.0 c a.1 between × AnswersEach says answered between d
+abbrev pub AnswersEach : {S : Type 0} → SessionLimits → AnswerRelation S → List (List ℕ × List ℕ) → S → S → Type 0
+AnswersEach limits says [] c d = d ≡ c
+AnswersEach {S} limits says (a ∷ answered) c d =
+    (between : S) × IsLine limits a.0 × says a.0 c a.1 between × AnswersEach limits says answered between d
 
 -- the lines
 abbrev pub lines_of : List (List ℕ × List ℕ) → List (List ℕ)
@@ -77,17 +77,17 @@ abbrev pub NoneCollects : List (List ℕ) → Type 0
 NoneCollects lines = AllByRecursion (λ (l : List ℕ). is_collect (without_cr l) ≡ false) lines
 
 -- these lines alone, under some marks of failed allocations, make the session that leads from m to n and has these answers
-abbrev pub IsSessionOf : ℕ → Machine → List (List ℕ × List ℕ) → Machine → Type 0
-IsSessionOf time m answered n =
+abbrev pub IsSessionOf : SessionLimits → ℕ → Machine → List (List ℕ × List ℕ) → Machine → Type 0
+IsSessionOf limits time m answered n =
     (marks : List Allocation) × AllocationsFit m marks time (stream (lines_of answered))
-    × (session_of m marks time (stream (lines_of answered)) Over
+    × (session_of limits m marks time (stream (lines_of answered)) Over
     ≡ (record { machine = n; marks = []; written = texts_of answered }, Eof))
 
 -- the lines were answered with this text, and those of the grammar of sessions as they are in a session of their own
-abbrev pub AnswersAlone : ℕ → Machine → List (List ℕ) → List ℕ → Machine → Type 0
-AnswersAlone time m lines text n =
+abbrev pub AnswersAlone : SessionLimits → ℕ → Machine → List (List ℕ) → List ℕ → Machine → Type 0
+AnswersAlone limits time m lines text n =
     (answered : List (List ℕ × List ℕ)) × (lines_of answered ≡ lines) × (texts_of answered ≡ text)
-    × IsSessionOf time m (known_of answered) n
+    × IsSessionOf limits time m (known_of answered) n
 
 -- some actions lead from m to n
 abbrev pub IsDriven : Machine → Machine → Type 0

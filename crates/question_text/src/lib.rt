@@ -14,6 +14,7 @@ ghost use Rattle.question_text.specs.Help.{HasForm, help_of};
 ghost use Rattle.question_text.specs.Questions.{QuestionRule, question_of, question_rules};
 ghost use Rattle.question_text.specs.Sessions.{AnswersAlone, AskingActs, AskingAnswers, IsDriven, NoneCollects};
 ghost use Rattle.session_text.specs.Answers.{AnswersCommand};
+ghost use Rattle.session_text.specs.declared.limits.SessionLimits.{SessionLimits};
 ghost use Rattle.session_text.specs.Talks.{AnswersAll};
 
 mod answers;
@@ -110,16 +111,16 @@ pub fn collect_is_determined()
 /// States that the lines of a session with questions that the grammar of sessions knows are answered, and leave the machine, as
 /// a session of these lines alone does, if none is `collect`.
 pub fn questions_can_be_left_out()
-    ensures { (time : ℕ) (lines : List (List ℕ)) (text : List ℕ) (c d : Asking)
-        → NoneCollects lines
-        → AnswersAll (AnswersCommand AskingActs AskingAnswers time) lines c text d
-        → AnswersAlone time c.local.machine lines text d.local.machine }
+    ensures { (limits : SessionLimits) (time : ℕ) (lines : List (List ℕ)) (text : List ℕ)
+        (c d : Asking) → NoneCollects lines
+        → AnswersAll limits (AnswersCommand AskingActs AskingAnswers time) lines c text d
+        → AnswersAlone limits time c.local.machine lines text d.local.machine }
 {}
 
 /// States that some list of actions leads to the machine that a session with questions leaves, `collect` included.
 pub fn asking_session_is_list()
-    ensures { (time : ℕ) (lines : List (List ℕ)) (text : List ℕ) (c d : Asking)
-        → AnswersAll (AnswersCommand AskingActs AskingAnswers time) lines c text d
+    ensures { (limits : SessionLimits) (time : ℕ) (lines : List (List ℕ)) (text : List ℕ)
+        (c d : Asking) → AnswersAll limits (AnswersCommand AskingActs AskingAnswers time) lines c text d
         → IsDriven c.local.machine d.local.machine }
 {}
 

@@ -119,8 +119,8 @@ pub fn read_fields(mut words: Words, marks: &mut FieldSpans) -> bool
             return false;
         };
         marks.push(FieldSpan {
-            start: size - rest.len(),
-            size: field.name,
+            start: (size - rest.len()) as u16,
+            size: field.name as u16,
             kind: field.kind,
         });
         words.pass(field.whole);
@@ -133,7 +133,8 @@ fn copy_field(alloc: Global, text: &[u8], mark: &FieldSpan) -> Result<Field, All
     requires { mark.now.start + mark.now.size ≤ length text.now }
     ensures { IfOk result (λ f. f ≡ field_of_span text.now mark.now) }
 {
-    let name = &text[mark.start..mark.start + mark.size];
+    let (start, size) = (mark.start as usize, mark.size as usize);
+    let name = &text[start..start + size];
     Ok(Field {
         name: Name::new(alloc, name)?,
         kind: mark.kind,

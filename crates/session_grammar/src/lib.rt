@@ -7,5 +7,5 @@ pub mod number;
 pub mod spans;
 pub mod words;
 
-/// The largest number of bytes of a line, without its LF.
-pub const LINE_LIMIT: usize = 4096;
+/// The largest number of bytes of any line, without its LF: that of a wide heap.
+pub const LINE_LIMIT: usize = 32_768;

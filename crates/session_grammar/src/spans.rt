@@ -6,14 +6,14 @@ use heap_class::Kind;
 use std::alloc::{AllocError, Global};
 use std::marker::Model;
 
-// The largest number of fields of a line: a field has 4 bytes or more, a line at most 4,096.
-const SPAN_ROOM: usize = 1024;
+// The largest number of fields of a line: a field has 4 bytes or more, a line at most 32,768.
+const SPAN_ROOM: usize = 8192;
 
-/// The place of a field's name, its size, and the field's kind.
+/// The place of a field's name, its size, and the field's kind. It is small, since each session has room for many.
 #[derive(Clone, Copy)]
 pub struct FieldSpan {
-    pub start: usize,
-    pub size: usize,
+    pub start: u16,
+    pub size: u16,
     pub kind: Kind,
 }
 

@@ -16,6 +16,8 @@ use Rattle.dump_pump.specs.Piece.{Piece as GivenPiece}
 use Rattle.session_text.specs.declared.Ended.{Ended}
 use Rattle.session_text.specs.declared.Ended.TheVariants.{Quit, Eof, CutLine, TooLong, ReadFault, TooManyReads, WriteFault, NoMemory as NoRoom}
 use Rattle.session_text.specs.declared.ReadEnd.{ReadEnd}
+use Rattle.session_text.specs.declared.limits.SessionLimits.{SessionLimits}
+use Rattle.session_text.specs.Limits.{longest_line}
 use Rattle.session_text.specs.declared.ReadEnd.TheVariants.{Over, Failed, Spent}
 use Rattle.session_grammar.specs.declared.command.Command.{Command}
 use Rattle.session_grammar.specs.declared.command.Command.TheVariants.{Blank, Bad, Ask, Piece, Dump, DumpNow, End}
@@ -229,11 +231,11 @@ begun_listed pieces time End m before t le l h = record { after = before; begun 
 is_lf : (b : ℕ) → (b == 10) ≡ true → b ≡ 10
 is_lf b h = grind (arith, nat_tests)
 
-is_long : (n : ℕ) → nat_lt 4096 n ≡ true → 4096 < n
-is_long n h = grind (arith, nat_tests)
+is_long : (most n : ℕ) → nat_lt most n ≡ true → most < n
+is_long most n h = grind (arith, nat_tests)
 
-is_short : (n : ℕ) → nat_lt 4096 n ≡ false → n ≤ 4096
-is_short n h = grind (arith, nat_tests)
+is_short : (most n : ℕ) → nat_lt most n ≡ false → n ≤ most
+is_short most n h = grind (arith, nat_tests)
 
 -- bytes are lines without LF, and a rest without LF
 record Unsplit (bytes : List ℕ) : Type 0 where
@@ -271,12 +273,12 @@ unsplit (b ∷ bytes) = more_unsplit b bytes (b == 10) refl (unsplit bytes)
 apart : (l : List ℕ) (ls : List (List ℕ)) (rest : List ℕ) → stream (l ∷ ls) ++ rest ≡ l ++ 10 ∷ (stream ls ++ rest)
 apart l ls rest = append_assoc (l ++ 10 ∷ []) (stream ls) rest ∙ append_assoc l (10 ∷ []) (stream ls ++ rest)
 
-long_rest : (rest : List ℕ) → 4096 < length rest → NoLf rest → IsLong rest
-long_rest rest h none = (h, All-take (λ b. (b == 10) ≡ false) 4097 rest none)
+long_rest : (limits : SessionLimits) (rest : List ℕ) → longest_line limits < length rest → NoLf rest → IsLong limits rest
+long_rest limits rest h none = (h, All-take (λ b. (b == 10) ≡ false) (longest_line limits + 1) rest none)
 
-long_line : (l ys : List ℕ) → 4096 < length l → NoLf l → IsLong (l ++ 10 ∷ ys)
-long_line l ys h none =
-    (omega (arith, h, length-append l (10 ∷ ys)), subst (λ x. NoLf x) (sym (take-append-le 4097 l (10 ∷ ys) (omega (arith, h)))) (All-take (λ b. (b == 10) ≡ false) 4097 l none))
+long_line : (limits : SessionLimits) (l ys : List ℕ) → longest_line limits < length l → NoLf l → IsLong limits (l ++ 10 ∷ ys)
+long_line limits l ys h none =
+    (omega (arith, h, length-append l (10 ∷ ys)), subst (λ x. NoLf x) (sym (take-append-le (longest_line limits + 1) l (10 ∷ ys) (omega (arith, h)))) (All-take (λ b. (b == 10) ≡ false) (longest_line limits + 1) l none))
 
 ends : (k : Command) → is_end k ≡ true → k ≡ End
 ends End h = refl
@@ -296,24 +298,24 @@ line_fits : (time : ℕ) (l ys : List ℕ) (t : Talk) → NoLf l → FitLines ti
 line_fits time l ys t none h = more_fits time l (parts ys) t (omega (arith, length-slice_split (λ b. b == 10) ys)) (subst (λ ls. FitLines time ls t) (slice_split_at (λ b. b == 10) l 10 ys none refl) h)
 
 -- a line that doesn't end the session
-goes_on : (time : ℕ) (e : ReadEnd) (l ys : List ℕ) (t : Talk) → IsLine l → is_end (command_of l) ≡ false → talked time e (parts (l ++ 10 ∷ ys)) t ≡ talked time e (parts ys) (after_command time (command_of l) t)
-goes_on time e l ys t line isnt = line_then time e l ys t line ∙ ap (λ b. if b then (t, Quit) else talked time e (parts ys) (after_command time (command_of l) t)) isnt
+goes_on : (limits : SessionLimits) (time : ℕ) (e : ReadEnd) (l ys : List ℕ) (t : Talk) → IsLine limits l → is_end (command_of l) ≡ false → talked limits time e (parts (l ++ 10 ∷ ys)) t ≡ talked limits time e (parts ys) (after_command time (command_of l) t)
+goes_on limits time e l ys t line isnt = line_then limits time e l ys t line ∙ ap (λ b. if b then (t, Quit) else talked limits time e (parts ys) (after_command time (command_of l) t)) isnt
 
 -- ---- lines
 
-record LinesListed (time : ℕ) (bytes : List ℕ) (m : Machine) (before : List (Action × Allocation)) (t : Talk) (s : Talk × Ended) : Type 0 where
+record LinesListed (limits : SessionLimits) (time : ℕ) (bytes : List ℕ) (m : Machine) (before : List (Action × Allocation)) (t : Talk) (s : Talk × Ended) : Type 0 where
   lines : List (List ℕ)
   rest : List ℕ
   text : List ℕ
   after : List (Action × Allocation)
   are : bytes ≡ stream lines ++ rest
-  talks : AnswersAll (AnswersCommand (InTurn m) all_bad time) lines before text after
-  stop : IsStop rest
+  talks : AnswersAll limits (AnswersCommand (InTurn m) all_bad time) lines before text after
+  stop : IsStop limits rest
   leads : Leads m s.0.machine after
   written : s.0.written ≡ t.written ++ (text ++ ending_line s.1)
 
-stop_listed : (time : ℕ) (bytes : List ℕ) (m : Machine) (before : List (Action × Allocation)) (t : Talk) (s : Talk × Ended) → IsStop bytes → Leads m t.machine before → s.0.machine ≡ t.machine → s.0.written ≡ t.written ++ ending_line s.1 → LinesListed time bytes m before t s
-stop_listed time bytes m before t s stop l same is = record {
+stop_listed : (limits : SessionLimits) (time : ℕ) (bytes : List ℕ) (m : Machine) (before : List (Action × Allocation)) (t : Talk) (s : Talk × Ended) → IsStop limits bytes → Leads m t.machine before → s.0.machine ≡ t.machine → s.0.written ≡ t.written ++ ending_line s.1 → LinesListed limits time bytes m before t s
+stop_listed limits time bytes m before t s stop l same is = record {
   lines = [];
   rest = bytes;
   text = [];
@@ -331,20 +333,20 @@ at_read_end_text Over false t = (refl, refl)
 at_read_end_text Failed b t = (refl, refl)
 at_read_end_text Spent b t = (refl, refl)
 
-rest_stops : (time : ℕ) (e : ReadEnd) (rest : List ℕ) (m : Machine) (before : List (Action × Allocation)) (t : Talk) → NoLf rest → Leads m t.machine before → (b : Bool) → nat_lt 4096 (length rest) ≡ b → LinesListed time rest m before t (talked time e (parts rest) t)
-rest_stops time e rest m before t none l true h =
-    let long = long_rest rest (is_long (length rest) h) none in
-    subst (λ s. LinesListed time rest m before t s) (sym (too_long time e rest t long)) (stop_listed time rest m before t (at_long t) (inr (inr long)) l refl refl)
-rest_stops time e rest m before t none l false h =
-    let line : IsLine rest = record { most = is_short (length rest) h; no_lf = none } in
+rest_stops : (limits : SessionLimits) (time : ℕ) (e : ReadEnd) (rest : List ℕ) (m : Machine) (before : List (Action × Allocation)) (t : Talk) → NoLf rest → Leads m t.machine before → (b : Bool) → nat_lt (longest_line limits) (length rest) ≡ b → LinesListed limits time rest m before t (talked limits time e (parts rest) t)
+rest_stops limits time e rest m before t none l true h =
+    let long = long_rest limits rest (is_long (longest_line limits) (length rest) h) none in
+    subst (λ s. LinesListed limits time rest m before t s) (sym (too_long limits time e rest t long)) (stop_listed limits time rest m before t (at_long t) (inr (inr long)) l refl refl)
+rest_stops limits time e rest m before t none l false h =
+    let line : IsLine limits rest = record { most = is_short (longest_line limits) (length rest) h; no_lf = none } in
     let s = at_read_end e (length rest == 0) t in
     let is = at_read_end_text e (length rest == 0) t in
-    subst (λ s. LinesListed time rest m before t s) (sym (alone time e rest t line)) (stop_listed time rest m before t s (inl line) l is.0 is.1)
+    subst (λ s. LinesListed limits time rest m before t s) (sym (alone limits time e rest t line)) (stop_listed limits time rest m before t s (inl line) l is.0 is.1)
 
 -- the first line is answered, and then the others
-then_listed : (time : ℕ) (l ys : List ℕ) (m : Machine) (before : List (Action × Allocation)) (t : Talk) (s : Talk × Ended) → IsLine l → (a : AnswerListed time (command_of l) m before t) → LinesListed time ys m a.after (after_command time (command_of l) t) s
-    → LinesListed time (l ++ 10 ∷ ys) m before t s
-then_listed time l ys m before t s line a g = record {
+then_listed : (limits : SessionLimits) (time : ℕ) (l ys : List ℕ) (m : Machine) (before : List (Action × Allocation)) (t : Talk) (s : Talk × Ended) → IsLine limits l → (a : AnswerListed time (command_of l) m before t) → LinesListed limits time ys m a.after (after_command time (command_of l) t) s
+    → LinesListed limits time (l ++ 10 ∷ ys) m before t s
+then_listed limits time l ys m before t s line a g = record {
   lines = l ∷ g.lines;
   rest = g.rest;
   text = a.text ++ g.text;
@@ -357,41 +359,41 @@ then_listed time l ys m before t s line a g = record {
 }
 
 -- a line that isn't too long, which ends the session or is answered
-line_listed : (time : ℕ) (e : ReadEnd) (l ys : List ℕ) (m : Machine) (before : List (Action × Allocation)) (t : Talk) → IsLine l → Leads m t.machine before → FitLines time (parts (l ++ 10 ∷ ys)) t
-    → ((after : List (Action × Allocation)) (u : Talk) → Leads m u.machine after → FitLines time (parts ys) u → LinesListed time ys m after u (talked time e (parts ys) u))
-    → (b : Bool) → is_end (command_of l) ≡ b → LinesListed time (l ++ 10 ∷ ys) m before t (talked time e (parts (l ++ 10 ∷ ys)) t)
-line_listed time e l ys m before t line lead h ih true end =
-    let quit : IsQuit (l ++ 10 ∷ ys) = (l, (line, ys, refl), ends (command_of l) end) in
-    subst (λ s. LinesListed time (l ++ 10 ∷ ys) m before t s) (sym (quits time e (l ++ 10 ∷ ys) t quit)) (stop_listed time (l ++ 10 ∷ ys) m before t (t, Quit) (inr (inl quit)) lead refl (sym (append-nil t.written)))
-line_listed time e l ys m before t line lead h ih false isnt =
+line_listed : (limits : SessionLimits) (time : ℕ) (e : ReadEnd) (l ys : List ℕ) (m : Machine) (before : List (Action × Allocation)) (t : Talk) → IsLine limits l → Leads m t.machine before → FitLines time (parts (l ++ 10 ∷ ys)) t
+    → ((after : List (Action × Allocation)) (u : Talk) → Leads m u.machine after → FitLines time (parts ys) u → LinesListed limits time ys m after u (talked limits time e (parts ys) u))
+    → (b : Bool) → is_end (command_of l) ≡ b → LinesListed limits time (l ++ 10 ∷ ys) m before t (talked limits time e (parts (l ++ 10 ∷ ys)) t)
+line_listed limits time e l ys m before t line lead h ih true end =
+    let quit : IsQuit limits (l ++ 10 ∷ ys) = (l, (line, ys, refl), ends (command_of l) end) in
+    subst (λ s. LinesListed limits time (l ++ 10 ∷ ys) m before t s) (sym (quits limits time e (l ++ 10 ∷ ys) t quit)) (stop_listed limits time (l ++ 10 ∷ ys) m before t (t, Quit) (inr (inl quit)) lead refl (sym (append-nil t.written)))
+line_listed limits time e l ys m before t line lead h ih false isnt =
     let fit = line_fits time l ys t line.no_lf h in
     let a = answer_listed time (command_of l) m before t isnt lead fit.0 in
     let u = after_command time (command_of l) t in
-    subst (λ s. LinesListed time (l ++ 10 ∷ ys) m before t s) (sym (goes_on time e l ys t line isnt)) (then_listed time l ys m before t (talked time e (parts ys) u) line a (ih a.after u a.leads fit.1))
+    subst (λ s. LinesListed limits time (l ++ 10 ∷ ys) m before t s) (sym (goes_on limits time e l ys t line isnt)) (then_listed limits time l ys m before t (talked limits time e (parts ys) u) line a (ih a.after u a.leads fit.1))
 
-any_line_listed : (time : ℕ) (e : ReadEnd) (l ys : List ℕ) (m : Machine) (before : List (Action × Allocation)) (t : Talk) → NoLf l → Leads m t.machine before → FitLines time (parts (l ++ 10 ∷ ys)) t
-    → ((after : List (Action × Allocation)) (u : Talk) → Leads m u.machine after → FitLines time (parts ys) u → LinesListed time ys m after u (talked time e (parts ys) u))
-    → (b : Bool) → nat_lt 4096 (length l) ≡ b → LinesListed time (l ++ 10 ∷ ys) m before t (talked time e (parts (l ++ 10 ∷ ys)) t)
-any_line_listed time e l ys m before t none lead h ih true is =
-    let long = long_line l ys (is_long (length l) is) none in
-    subst (λ s. LinesListed time (l ++ 10 ∷ ys) m before t s) (sym (too_long time e (l ++ 10 ∷ ys) t long)) (stop_listed time (l ++ 10 ∷ ys) m before t (at_long t) (inr (inr long)) lead refl refl)
-any_line_listed time e l ys m before t none lead h ih false is = line_listed time e l ys m before t (record { most = is_short (length l) is; no_lf = none }) lead h ih (is_end (command_of l)) refl
+any_line_listed : (limits : SessionLimits) (time : ℕ) (e : ReadEnd) (l ys : List ℕ) (m : Machine) (before : List (Action × Allocation)) (t : Talk) → NoLf l → Leads m t.machine before → FitLines time (parts (l ++ 10 ∷ ys)) t
+    → ((after : List (Action × Allocation)) (u : Talk) → Leads m u.machine after → FitLines time (parts ys) u → LinesListed limits time ys m after u (talked limits time e (parts ys) u))
+    → (b : Bool) → nat_lt (longest_line limits) (length l) ≡ b → LinesListed limits time (l ++ 10 ∷ ys) m before t (talked limits time e (parts (l ++ 10 ∷ ys)) t)
+any_line_listed limits time e l ys m before t none lead h ih true is =
+    let long = long_line limits l ys (is_long (longest_line limits) (length l) is) none in
+    subst (λ s. LinesListed limits time (l ++ 10 ∷ ys) m before t s) (sym (too_long limits time e (l ++ 10 ∷ ys) t long)) (stop_listed limits time (l ++ 10 ∷ ys) m before t (at_long t) (inr (inr long)) lead refl refl)
+any_line_listed limits time e l ys m before t none lead h ih false is = line_listed limits time e l ys m before t (record { most = is_short (longest_line limits) (length l) is; no_lf = none }) lead h ih (is_end (command_of l)) refl
 
-lines_listed : (time : ℕ) (e : ReadEnd) (ls : List (List ℕ)) (rest : List ℕ) → All NoLf ls → NoLf rest → (m : Machine) (before : List (Action × Allocation)) (t : Talk) → Leads m t.machine before → FitLines time (parts (stream ls ++ rest)) t
-    → LinesListed time (stream ls ++ rest) m before t (talked time e (parts (stream ls ++ rest)) t)
-lines_listed time e [] rest each none m before t lead h = rest_stops time e rest m before t none lead (nat_lt 4096 (length rest)) refl
-lines_listed time e (l ∷ ls) rest each none m before t lead h =
+lines_listed : (limits : SessionLimits) (time : ℕ) (e : ReadEnd) (ls : List (List ℕ)) (rest : List ℕ) → All NoLf ls → NoLf rest → (m : Machine) (before : List (Action × Allocation)) (t : Talk) → Leads m t.machine before → FitLines time (parts (stream ls ++ rest)) t
+    → LinesListed limits time (stream ls ++ rest) m before t (talked limits time e (parts (stream ls ++ rest)) t)
+lines_listed limits time e [] rest each none m before t lead h = rest_stops limits time e rest m before t none lead (nat_lt (longest_line limits) (length rest)) refl
+lines_listed limits time e (l ∷ ls) rest each none m before t lead h =
     let ys = stream ls ++ rest in
     let is = apart l ls rest in
-    subst (λ x. LinesListed time x m before t (talked time e (parts x) t)) (sym is)
-    (any_line_listed time e l ys m before t (All-head NoLf l ls each) lead (subst (λ x. FitLines time (parts x) t) is h) (λ after u s f. lines_listed time e ls rest (All-tail NoLf l ls each) none m after u s f) (nat_lt 4096 (length l)) refl)
+    subst (λ x. LinesListed limits time x m before t (talked limits time e (parts x) t)) (sym is)
+    (any_line_listed limits time e l ys m before t (All-head NoLf l ls each) lead (subst (λ x. FitLines time (parts x) t) is h) (λ after u s f. lines_listed limits time e ls rest (All-tail NoLf l ls each) none m after u s f) (nat_lt (longest_line limits) (length l)) refl)
 
-pub session_listed : (m : Machine) (marks : List Allocation) (time : ℕ) (bytes : List ℕ) (e : ReadEnd) → IsListed m marks time bytes e
+pub session_listed : (limits : SessionLimits) (m : Machine) (marks : List Allocation) (time : ℕ) (bytes : List ℕ) (e : ReadEnd) → IsListed limits m marks time bytes e
 unfolding session_of
-session_listed m marks time bytes e fit =
+session_listed limits m marks time bytes e fit =
     let u = unsplit bytes in
     let t = talk m marks [] in
-    let g : LinesListed time bytes m [] t (talked time e (parts bytes) t) = subst (λ x. LinesListed time x m [] t (talked time e (parts x) t)) (sym u.are) (lines_listed time e u.lines u.rest u.each u.none m [] t (none_lead m) (subst (λ x. FitLines time (parts x) t) u.are fit)) in
+    let g : LinesListed limits time bytes m [] t (talked limits time e (parts bytes) t) = subst (λ x. LinesListed limits time x m [] t (talked limits time e (parts x) t)) (sym u.are) (lines_listed limits time e u.lines u.rest u.each u.none m [] t (none_lead m) (subst (λ x. FitLines time (parts x) t) u.are fit)) in
     (g.text, record { actions = g.after; marks = g.leads.1; rest = g.rest; talk = record { lines = g.lines; are = g.are; talks = g.talks }; stop = g.stop; machine = g.leads.0 }, g.written)
 
 -- ---- if a write failed
@@ -411,36 +413,36 @@ other_end : {A : Type 0} (t : Talk) (s : Talk × Ended) → s ≡ (t, Eof) → i
 other_end t s eof other = absurd (true≢false (sym (ap (λ (x : Talk × Ended). is_eof x.1) eof) ∙ other))
 
 -- all lines were answered, and left t
-record WholeListed (time : ℕ) (bytes rest : List ℕ) (m : Machine) (before : List (Action × Allocation)) (t : Talk) : Type 0 where
+record WholeListed (limits : SessionLimits) (time : ℕ) (bytes rest : List ℕ) (m : Machine) (before : List (Action × Allocation)) (t : Talk) : Type 0 where
   lines : List (List ℕ)
   text : List ℕ
   after : List (Action × Allocation)
   are : bytes ≡ stream lines
-  talks : AnswersAll (AnswersCommand (InTurn m) all_bad time) lines before text after
+  talks : AnswersAll limits (AnswersCommand (InTurn m) all_bad time) lines before text after
   leads : Leads m t.machine after
   fit : FitLines time (parts rest) t
 
 -- nothing is left before the rest
-end_whole : (time : ℕ) (left rest : List ℕ) (m : Machine) (before : List (Action × Allocation)) (u t : Talk) → Leads m u.machine before → FitLines time (parts (left ++ rest)) u → at_read_end Over (length left == 0) u ≡ (t, Eof) → WholeListed time left rest m before t
-end_whole time [] rest m before u t lead h eof =
+end_whole : (limits : SessionLimits) (time : ℕ) (left rest : List ℕ) (m : Machine) (before : List (Action × Allocation)) (u t : Talk) → Leads m u.machine before → FitLines time (parts (left ++ rest)) u → at_read_end Over (length left == 0) u ≡ (t, Eof) → WholeListed limits time left rest m before t
+end_whole limits time [] rest m before u t lead h eof =
     let same : u ≡ t = ap (λ (x : Talk × Ended). x.0) eof in
     record { lines = []; text = []; after = before; are = refl; talks = (refl, refl); leads = subst (λ (x : Talk). Leads m x.machine before) same lead; fit = subst (λ x. FitLines time (parts rest) x) same h }
-end_whole time (b ∷ bs) rest m before u t lead h eof = other_end t (at_read_end Over (length (b ∷ bs) == 0) u) eof (ap (λ x. is_eof (at_read_end Over x u).1) (not_zero (length (b ∷ bs)) (omega arith)))
+end_whole limits time (b ∷ bs) rest m before u t lead h eof = other_end t (at_read_end Over (length (b ∷ bs) == 0) u) eof (ap (λ x. is_eof (at_read_end Over x u).1) (not_zero (length (b ∷ bs)) (omega arith)))
 
-rest_whole : (time : ℕ) (left rest : List ℕ) (m : Machine) (before : List (Action × Allocation)) (u t : Talk) → NoLf left → Leads m u.machine before → FitLines time (parts (left ++ rest)) u → talked time Over (parts left) u ≡ (t, Eof) → (b : Bool) → nat_lt 4096 (length left) ≡ b
-    → WholeListed time left rest m before t
-rest_whole time left rest m before u t none lead h eof true is = other_end t (at_long u) (sym (too_long time Over left u (long_rest left (is_long (length left) is) none)) ∙ eof) refl
-rest_whole time left rest m before u t none lead h eof false is = end_whole time left rest m before u t lead h (sym (alone time Over left u (record { most = is_short (length left) is; no_lf = none })) ∙ eof)
+rest_whole : (limits : SessionLimits) (time : ℕ) (left rest : List ℕ) (m : Machine) (before : List (Action × Allocation)) (u t : Talk) → NoLf left → Leads m u.machine before → FitLines time (parts (left ++ rest)) u → talked limits time Over (parts left) u ≡ (t, Eof) → (b : Bool) → nat_lt (longest_line limits) (length left) ≡ b
+    → WholeListed limits time left rest m before t
+rest_whole limits time left rest m before u t none lead h eof true is = other_end t (at_long u) (sym (too_long limits time Over left u (long_rest limits left (is_long (longest_line limits) (length left) is) none)) ∙ eof) refl
+rest_whole limits time left rest m before u t none lead h eof false is = end_whole limits time left rest m before u t lead h (sym (alone limits time Over left u (record { most = is_short (longest_line limits) (length left) is; no_lf = none })) ∙ eof)
 
-line_whole : (time : ℕ) (l ys rest : List ℕ) (m : Machine) (before : List (Action × Allocation)) (u t : Talk) → IsLine l → Leads m u.machine before → FitLines time (parts (l ++ 10 ∷ (ys ++ rest))) u → talked time Over (parts (l ++ 10 ∷ ys)) u ≡ (t, Eof)
-    → ((after : List (Action × Allocation)) (v : Talk) → Leads m v.machine after → FitLines time (parts (ys ++ rest)) v → talked time Over (parts ys) v ≡ (t, Eof) → WholeListed time ys rest m after t)
-    → (b : Bool) → is_end (command_of l) ≡ b → WholeListed time (l ++ 10 ∷ ys) rest m before t
-line_whole time l ys rest m before u t line lead h eof ih true end =
-    other_end t (u, Quit) (sym (quits time Over (l ++ 10 ∷ ys) u (l, (line, ys, refl), ends (command_of l) end)) ∙ eof) refl
-line_whole time l ys rest m before u t line lead h eof ih false isnt =
+line_whole : (limits : SessionLimits) (time : ℕ) (l ys rest : List ℕ) (m : Machine) (before : List (Action × Allocation)) (u t : Talk) → IsLine limits l → Leads m u.machine before → FitLines time (parts (l ++ 10 ∷ (ys ++ rest))) u → talked limits time Over (parts (l ++ 10 ∷ ys)) u ≡ (t, Eof)
+    → ((after : List (Action × Allocation)) (v : Talk) → Leads m v.machine after → FitLines time (parts (ys ++ rest)) v → talked limits time Over (parts ys) v ≡ (t, Eof) → WholeListed limits time ys rest m after t)
+    → (b : Bool) → is_end (command_of l) ≡ b → WholeListed limits time (l ++ 10 ∷ ys) rest m before t
+line_whole limits time l ys rest m before u t line lead h eof ih true end =
+    other_end t (u, Quit) (sym (quits limits time Over (l ++ 10 ∷ ys) u (l, (line, ys, refl), ends (command_of l) end)) ∙ eof) refl
+line_whole limits time l ys rest m before u t line lead h eof ih false isnt =
     let fit = line_fits time l (ys ++ rest) u line.no_lf h in
     let a = answer_listed time (command_of l) m before u isnt lead fit.0 in
-    let g = ih a.after (after_command time (command_of l) u) a.leads fit.1 (sym (goes_on time Over l ys u line isnt) ∙ eof) in
+    let g = ih a.after (after_command time (command_of l) u) a.leads fit.1 (sym (goes_on limits time Over l ys u line isnt) ∙ eof) in
     record {
       lines = l ∷ g.lines;
       text = a.text ++ g.text;
@@ -451,51 +453,51 @@ line_whole time l ys rest m before u t line lead h eof ih false isnt =
       fit = g.fit;
     }
 
-any_line_whole : (time : ℕ) (l ys rest : List ℕ) (m : Machine) (before : List (Action × Allocation)) (u t : Talk) → NoLf l → Leads m u.machine before → FitLines time (parts (l ++ 10 ∷ (ys ++ rest))) u → talked time Over (parts (l ++ 10 ∷ ys)) u ≡ (t, Eof)
-    → ((after : List (Action × Allocation)) (v : Talk) → Leads m v.machine after → FitLines time (parts (ys ++ rest)) v → talked time Over (parts ys) v ≡ (t, Eof) → WholeListed time ys rest m after t)
-    → (b : Bool) → nat_lt 4096 (length l) ≡ b → WholeListed time (l ++ 10 ∷ ys) rest m before t
-any_line_whole time l ys rest m before u t none lead h eof ih true is = other_end t (at_long u) (sym (too_long time Over (l ++ 10 ∷ ys) u (long_line l ys (is_long (length l) is) none)) ∙ eof) refl
-any_line_whole time l ys rest m before u t none lead h eof ih false is = line_whole time l ys rest m before u t (record { most = is_short (length l) is; no_lf = none }) lead h eof ih (is_end (command_of l)) refl
+any_line_whole : (limits : SessionLimits) (time : ℕ) (l ys rest : List ℕ) (m : Machine) (before : List (Action × Allocation)) (u t : Talk) → NoLf l → Leads m u.machine before → FitLines time (parts (l ++ 10 ∷ (ys ++ rest))) u → talked limits time Over (parts (l ++ 10 ∷ ys)) u ≡ (t, Eof)
+    → ((after : List (Action × Allocation)) (v : Talk) → Leads m v.machine after → FitLines time (parts (ys ++ rest)) v → talked limits time Over (parts ys) v ≡ (t, Eof) → WholeListed limits time ys rest m after t)
+    → (b : Bool) → nat_lt (longest_line limits) (length l) ≡ b → WholeListed limits time (l ++ 10 ∷ ys) rest m before t
+any_line_whole limits time l ys rest m before u t none lead h eof ih true is = other_end t (at_long u) (sym (too_long limits time Over (l ++ 10 ∷ ys) u (long_line limits l ys (is_long (longest_line limits) (length l) is) none)) ∙ eof) refl
+any_line_whole limits time l ys rest m before u t none lead h eof ih false is = line_whole limits time l ys rest m before u t (record { most = is_short (longest_line limits) (length l) is; no_lf = none }) lead h eof ih (is_end (command_of l)) refl
 
-whole_listed : (time : ℕ) (ls : List (List ℕ)) (left rest : List ℕ) → All NoLf ls → NoLf left → (m : Machine) (before : List (Action × Allocation)) (u t : Talk) → Leads m u.machine before → FitLines time (parts ((stream ls ++ left) ++ rest)) u
-    → talked time Over (parts (stream ls ++ left)) u ≡ (t, Eof) → WholeListed time (stream ls ++ left) rest m before t
-whole_listed time [] left rest each none m before u t lead h eof = rest_whole time left rest m before u t none lead h eof (nat_lt 4096 (length left)) refl
-whole_listed time (l ∷ ls) left rest each none m before u t lead h eof =
+whole_listed : (limits : SessionLimits) (time : ℕ) (ls : List (List ℕ)) (left rest : List ℕ) → All NoLf ls → NoLf left → (m : Machine) (before : List (Action × Allocation)) (u t : Talk) → Leads m u.machine before → FitLines time (parts ((stream ls ++ left) ++ rest)) u
+    → talked limits time Over (parts (stream ls ++ left)) u ≡ (t, Eof) → WholeListed limits time (stream ls ++ left) rest m before t
+whole_listed limits time [] left rest each none m before u t lead h eof = rest_whole limits time left rest m before u t none lead h eof (nat_lt (longest_line limits) (length left)) refl
+whole_listed limits time (l ∷ ls) left rest each none m before u t lead h eof =
     let ys = stream ls ++ left in
     let is = apart l ls left in
     let all : (stream (l ∷ ls) ++ left) ++ rest ≡ l ++ 10 ∷ (ys ++ rest) = ap (λ x. x ++ rest) is ∙ append_assoc l (10 ∷ ys) rest in
-    subst (λ x. WholeListed time x rest m before t) (sym is)
-    (any_line_whole time l ys rest m before u t (All-head NoLf l ls each) lead (subst (λ x. FitLines time (parts x) u) all h) (subst (λ x. talked time Over (parts x) u ≡ (t, Eof)) is eof)
-    (λ after v s f g. whole_listed time ls left rest (All-tail NoLf l ls each) none m after v t s f g) (nat_lt 4096 (length l)) refl)
+    subst (λ x. WholeListed limits time x rest m before t) (sym is)
+    (any_line_whole limits time l ys rest m before u t (All-head NoLf l ls each) lead (subst (λ x. FitLines time (parts x) u) all h) (subst (λ x. talked limits time Over (parts x) u ≡ (t, Eof)) is eof)
+    (λ after v s f g. whole_listed limits time ls left rest (All-tail NoLf l ls each) none m after v t s f g) (nat_lt (longest_line limits) (length l)) refl)
 
 -- the machine after the lines that were answered, and after one that was begun
-record StopListed (time : ℕ) (rest : List ℕ) (m : Machine) (before : List (Action × Allocation)) (m' : Machine) : Type 0 where
+record StopListed (limits : SessionLimits) (time : ℕ) (rest : List ℕ) (m : Machine) (before : List (Action × Allocation)) (m' : Machine) : Type 0 where
   after : List (Action × Allocation)
-  begun : IsBegun m time rest before after
+  begun : IsBegun limits m time rest before after
   leads : Leads m m' after
 
-line_begun : (time : ℕ) (l rest : List ℕ) (m : Machine) (before after : List (Action × Allocation)) → BeginsWith l rest → (after ≡ before) ⊎ ((tail : List ℕ) × BeginsTo (InTurn m) IsBadCommand time (command_of l) before tail after)
-    → IsBegun m time rest before after
-line_begun time l rest m before after starts (inl same) = inl same
-line_begun time l rest m before after starts (inr (tail, begins)) = inr (l, tail, starts, begins)
+line_begun : (limits : SessionLimits) (time : ℕ) (l rest : List ℕ) (m : Machine) (before after : List (Action × Allocation)) → BeginsWith limits l rest → (after ≡ before) ⊎ ((tail : List ℕ) × BeginsTo (InTurn m) IsBadCommand time (command_of l) before tail after)
+    → IsBegun limits m time rest before after
+line_begun limits time l rest m before after starts (inl same) = inl same
+line_begun limits time l rest m before after starts (inr (tail, begins)) = inr (l, tail, starts, begins)
 
-cut_listed : (time : ℕ) (rest : List ℕ) (m start : Machine) (marks : List Allocation) (bytes : List ℕ) (e : ReadEnd) (before : List (Action × Allocation)) (t : Talk) (out : List ℕ) (m' : Machine) → Leads m t.machine before → FitLines time (parts rest) t
-    → CutsLine time rest t out m' ⊎ (CutsEnd start marks time bytes e t out m' ⊎ CutsPage rest t out m') → StopListed time rest m before m'
-cut_listed time rest m start marks bytes e before t out m' lead h (inl (l, starts, pieces, le, is, cut)) =
+cut_listed : (limits : SessionLimits) (time : ℕ) (rest : List ℕ) (m start : Machine) (marks : List Allocation) (bytes : List ℕ) (e : ReadEnd) (before : List (Action × Allocation)) (t : Talk) (out : List ℕ) (m' : Machine) → Leads m t.machine before → FitLines time (parts rest) t
+    → CutsLine limits time rest t out m' ⊎ (CutsEnd limits start marks time bytes e t out m' ⊎ CutsPage limits rest t out m') → StopListed limits time rest m before m'
+cut_listed limits time rest m start marks bytes e before t out m' lead h (inl (l, starts, pieces, le, is, cut)) =
     let fit = line_fits time l starts.1 t starts.0.no_lf (subst (λ x. FitLines time (parts x) t) starts.2 h) in
     let g = begun_listed pieces time (command_of l) m before t le lead fit.0 in
-    record { after = g.after; begun = line_begun time l rest m before g.after starts g.begun; leads = subst (λ (x : Machine). Leads m x g.after) (sym is) g.leads }
-cut_listed time rest m start marks bytes e before t out m' lead h (inr (inl (whole, ended, shows, is, cut))) = record { after = before; begun = inl refl; leads = subst (λ (x : Machine). Leads m x before) (sym is) lead }
-cut_listed time rest m start marks bytes e before t out m' lead h (inr (inr (line, is, cut))) = record { after = before; begun = inl refl; leads = subst (λ (x : Machine). Leads m x before) (sym is) lead }
+    record { after = g.after; begun = line_begun limits time l rest m before g.after starts g.begun; leads = subst (λ (x : Machine). Leads m x g.after) (sym is) g.leads }
+cut_listed limits time rest m start marks bytes e before t out m' lead h (inr (inl (whole, ended, shows, is, cut))) = record { after = before; begun = inl refl; leads = subst (λ (x : Machine). Leads m x before) (sym is) lead }
+cut_listed limits time rest m start marks bytes e before t out m' lead h (inr (inr (line, is, cut))) = record { after = before; begun = inl refl; leads = subst (λ (x : Machine). Leads m x before) (sym is) lead }
 
-pub cut_session_listed : (m : Machine) (marks : List Allocation) (time : ℕ) (bytes : List ℕ) (e : ReadEnd) → IsCutListed m marks time bytes e
+pub cut_session_listed : (limits : SessionLimits) (m : Machine) (marks : List Allocation) (time : ℕ) (bytes : List ℕ) (e : ReadEnd) → IsCutListed limits m marks time bytes e
 unfolding session_of
-cut_session_listed m marks time bytes e fit out m' (lines, rest, t, are, eof, stops) =
+cut_session_listed limits m marks time bytes e fit out m' (lines, rest, t, are, eof, stops) =
     let u = unsplit lines in
     let start = talk m marks [] in
     let h = subst (λ x. FitLines time (parts (x ++ rest)) start) u.are (subst (λ x. FitLines time (parts x) start) are fit) in
-    let g = whole_listed time u.lines u.rest rest u.each u.none m [] start t (none_lead m) h (subst (λ x. talked time Over (parts x) start ≡ (t, Eof)) u.are eof) in
-    let c = cut_listed time rest m m marks bytes e g.after t out m' g.leads g.fit stops in
+    let g = whole_listed limits time u.lines u.rest rest u.each u.none m [] start t (none_lead m) h (subst (λ x. talked limits time Over (parts x) start ≡ (t, Eof)) u.are eof) in
+    let c = cut_listed limits time rest m m marks bytes e g.after t out m' g.leads g.fit stops in
     record {
       actions = c.after;
       marks = c.leads.1;

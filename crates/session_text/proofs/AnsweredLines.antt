@@ -15,7 +15,8 @@ use Rattle.session_text.specs.declared.answer.Flow.{Flow}
 use Rattle.session_text.specs.declared.answer.Flow.TheVariants.{Next, Quit as Stop, Long, Fault}
 use Rattle.session_text.specs.declared.limits.SessionLimits.{SessionLimits}
 use Rattle.session_text.specs.declared.limits.SessionLimits.TheVariants.{Narrow, Wide}
-use Rattle.session_text.specs.Limits.{most_reads}
+use Rattle.session_text.specs.declared.limits.TheConstants.{NARROW_LINE}
+use Rattle.session_text.specs.Limits.{longest_line, most_reads}
 use Rattle.session_grammar.specs.declared.command.Command.{Command}
 use Rattle.session_grammar.specs.declared.command.Command.TheVariants.{Blank, Bad, Ask, Piece, Dump, DumpNow, End}
 use Rattle.session_text.specs.Answers.{Reaction, AnswerRelation, AnswersTo, BeginsTo}
@@ -82,120 +83,125 @@ flow_unread acts unknown time k c page w page' w' r h added =
 
 -- ---- lines
 
-talks_append : {S : Type 0} (says : AnswerRelation S) (ls ms : List (List ℕ)) (c : S) (xs : List ℕ) (between : S) (ys : List ℕ) (c' : S) → AnswersAll says ls c xs between → AnswersAll says ms between ys c' → AnswersAll says (ls ++ ms) c (xs ++ ys) c'
-talks_append says [] ms c xs between ys c' t u = subst (λ l. AnswersAll says ms c (l ++ ys) c') (sym t.0) (subst (λ x. AnswersAll says ms x ys c') t.1 u)
-talks_append says (l ∷ ls) ms c xs between ys c' t u =
-    (t.0, t.1, t.2 ++ ys, t.3, t.4, talks_append says ls ms t.1 t.2 between ys c' t.5 u, ap (λ x. x ++ ys) t.6 ∙ append_assoc t.0 t.2 ys)
+talks_append : {S : Type 0} (limits : SessionLimits) (says : AnswerRelation S) (ls ms : List (List ℕ)) (c : S) (xs : List ℕ) (between : S) (ys : List ℕ) (c' : S) → AnswersAll limits says ls c xs between → AnswersAll limits says ms between ys c' → AnswersAll limits says (ls ++ ms) c (xs ++ ys) c'
+talks_append limits says [] ms c xs between ys c' t u = subst (λ l. AnswersAll limits says ms c (l ++ ys) c') (sym t.0) (subst (λ x. AnswersAll limits says ms x ys c') t.1 u)
+talks_append limits says (l ∷ ls) ms c xs between ys c' t u =
+    (t.0, t.1, t.2 ++ ys, t.3, t.4, talks_append limits says ls ms t.1 t.2 between ys c' t.5 u, ap (λ x. x ++ ys) t.6 ∙ append_assoc t.0 t.2 ys)
 
-pub talk_none : {S : Type 0} (says : AnswerRelation S) (bytes : List ℕ) (c : S) → IsTalk says bytes c bytes [] c
-talk_none says bytes c = record { lines = []; are = refl; talks = (refl, refl) }
+pub talk_none : {S : Type 0} (limits : SessionLimits) (says : AnswerRelation S) (bytes : List ℕ) (c : S) → IsTalk limits says bytes c bytes [] c
+talk_none limits says bytes c = record { lines = []; are = refl; talks = (refl, refl) }
 
-pub talk_read : {S : Type 0} (says : AnswerRelation S) (bytes : List ℕ) (c : S) (rest text : List ℕ) (c' : S) (more : List ℕ) → IsTalk says bytes c rest text c' → IsTalk says (bytes ++ more) c (rest ++ more) text c'
-talk_read says bytes c rest text c' more t = record {
+pub talk_read : {S : Type 0} (limits : SessionLimits) (says : AnswerRelation S) (bytes : List ℕ) (c : S) (rest text : List ℕ) (c' : S) (more : List ℕ) → IsTalk limits says bytes c rest text c' → IsTalk limits says (bytes ++ more) c (rest ++ more) text c'
+talk_read limits says bytes c rest text c' more t = record {
   lines = t.lines;
   are = ap (λ l. l ++ more) t.are ∙ append_assoc (stream t.lines) rest more;
   talks = t.talks;
 }
 
-pub talk_then : {S : Type 0} (says : AnswerRelation S) (bytes : List ℕ) (c : S) (rest xs : List ℕ) (between : S) (rest' ys : List ℕ) (c' : S) → IsTalk says bytes c rest xs between → IsTalk says rest between rest' ys c' → IsTalk says bytes c rest' (xs ++ ys) c'
-talk_then says bytes c rest xs between rest' ys c' t u = record {
+pub talk_then : {S : Type 0} (limits : SessionLimits) (says : AnswerRelation S) (bytes : List ℕ) (c : S) (rest xs : List ℕ) (between : S) (rest' ys : List ℕ) (c' : S) → IsTalk limits says bytes c rest xs between → IsTalk limits says rest between rest' ys c' → IsTalk limits says bytes c rest' (xs ++ ys) c'
+talk_then limits says bytes c rest xs between rest' ys c' t u = record {
   lines = t.lines ++ u.lines;
   are = t.are ∙ ap (λ l. stream t.lines ++ l) u.are ∙ sym (append_assoc (stream t.lines) (stream u.lines) rest') ∙ ap (λ l. l ++ rest') (sym (flat_map-append (λ l. l ++ 10 ∷ []) t.lines u.lines));
-  talks = talks_append says t.lines u.lines c xs between ys c' t.talks u.talks;
+  talks = talks_append limits says t.lines u.lines c xs between ys c' t.talks u.talks;
 }
 
-one_line : {S : Type 0} (says : AnswerRelation S) (bytes l rest : List ℕ) (c : S) (text : List ℕ) (c' : S) → bytes ≡ l ++ 10 ∷ rest → IsLine l → says l c text c' → IsTalk says bytes c rest text c'
-one_line says bytes l rest c text c' is line h = record {
+one_line : {S : Type 0} (limits : SessionLimits) (says : AnswerRelation S) (bytes l rest : List ℕ) (c : S) (text : List ℕ) (c' : S) → bytes ≡ l ++ 10 ∷ rest → IsLine limits l → says l c text c' → IsTalk limits says bytes c rest text c'
+one_line limits says bytes l rest c text c' is line h = record {
   lines = l ∷ [];
   are = is ∙ sym (append_assoc l (10 ∷ []) rest) ∙ ap (λ x. x ++ rest) (sym (append-nil (l ++ 10 ∷ [])));
   talks = (text, c', [], line, h, (refl, refl), sym (append-nil text));
 }
 
-line_is : (bytes : List ℕ) (n : ℕ) → n ≤ 4096 → IsLineAt n bytes → IsLine (take n bytes)
-line_is bytes n most at = record { most = omega (arith, length-take-le n bytes (omega (arith, at.0)), most); no_lf = at.1 }
+line_is : (limits : SessionLimits) (bytes : List ℕ) (n : ℕ) → n ≤ longest_line limits → IsLineAt n bytes → IsLine limits (take n bytes)
+line_is limits bytes n most at = record { most = omega (arith, length-take-le n bytes (omega (arith, at.0)), most); no_lf = at.1 }
+
+-- a line that isn't too long where a heap isn't wide is so nowhere
+pub short_fits : (limits : SessionLimits) (n : ℕ) → n ≤ NARROW_LINE → n ≤ longest_line limits
+short_fits Narrow n most = most
+short_fits Wide n most = omega (arith, most)
 
 -- the buffer's first line is answered; s is the buffer
-pub line_answered : {S : Type 0} (says : AnswerRelation S) (bytes s rest : List ℕ) (n : ℕ) (c : S) (text : List ℕ) (c' : S) → s ≡ bytes → rest ≡ drop (n + 1) bytes → n ≤ 4096 → IsLineAt n bytes → says (take n s) c text c' → IsTalk says bytes c rest text c'
-line_answered says bytes s rest n c text c' e f most at h =
-    subst (λ r. IsTalk says bytes c r text c') (sym f) (one_line says bytes (take n bytes) (drop (n + 1) bytes) c text c' at.2 (line_is bytes n most at) (subst (λ l. says (take n l) c text c') e h))
+pub line_answered : {S : Type 0} (limits : SessionLimits) (says : AnswerRelation S) (bytes s rest : List ℕ) (n : ℕ) (c : S) (text : List ℕ) (c' : S) → s ≡ bytes → rest ≡ drop (n + 1) bytes → n ≤ longest_line limits → IsLineAt n bytes → says (take n s) c text c' → IsTalk limits says bytes c rest text c'
+line_answered limits says bytes s rest n c text c' e f most at h =
+    subst (λ r. IsTalk limits says bytes c r text c') (sym f) (one_line limits says bytes (take n bytes) (drop (n + 1) bytes) c text c' at.2 (line_is limits bytes n most at) (subst (λ l. says (take n l) c text c') e h))
 
-begins_with : (bytes : List ℕ) (n : ℕ) → n ≤ 4096 → IsLineAt n bytes → BeginsWith (take n bytes) bytes
-begins_with bytes n most at = (line_is bytes n most at, drop (n + 1) bytes, at.2)
+begins_with : (limits : SessionLimits) (bytes : List ℕ) (n : ℕ) → n ≤ longest_line limits → IsLineAt n bytes → BeginsWith limits (take n bytes) bytes
+begins_with limits bytes n most at = (line_is limits bytes n most at, drop (n + 1) bytes, at.2)
 
-pub line_quits : (bytes s : List ℕ) (n : ℕ) → s ≡ bytes → n ≤ 4096 → IsLineAt n bytes → command_of (take n s) ≡ End → IsQuit bytes
-line_quits bytes s n e most at is = (take n bytes, begins_with bytes n most at, subst (λ l. command_of (take n l) ≡ End) e is)
+pub line_quits : (limits : SessionLimits) (bytes s : List ℕ) (n : ℕ) → s ≡ bytes → n ≤ longest_line limits → IsLineAt n bytes → command_of (take n s) ≡ End → IsQuit limits bytes
+line_quits limits bytes s n e most at is = (take n bytes, begins_with limits bytes n most at, subst (λ l. command_of (take n l) ≡ End) e is)
 
 -- a text begins with the line whose answer was cut short
-pub line_cut : {S : Type 0} (begins : AnswerRelation S) (bytes s : List ℕ) (n : ℕ) (c : S) (tail : List ℕ) (c' : S) → s ≡ bytes → n ≤ 4096 → IsLineAt n s → begins (take n s) c tail c' → (l : List ℕ) × BeginsWith l bytes × begins l c tail c'
-line_cut begins bytes s n c tail c' e most at h = (take n s, subst (λ l. BeginsWith (take n s) l) e (begins_with s n most at), h)
+pub line_cut : {S : Type 0} (limits : SessionLimits) (begins : AnswerRelation S) (bytes s : List ℕ) (n : ℕ) (c : S) (tail : List ℕ) (c' : S) → s ≡ bytes → n ≤ longest_line limits → IsLineAt n s → begins (take n s) c tail c' → (l : List ℕ) × BeginsWith limits l bytes × begins l c tail c'
+line_cut limits begins bytes s n c tail c' e most at h = (take n s, subst (λ l. BeginsWith limits (take n s) l) e (begins_with limits s n most at), h)
 
 -- nothing has changed since lines were answered
-pub answered_left : {S : Type 0} (says : AnswerRelation S) (bytes : List ℕ) (c : S) (page : List ℕ) (w : Outgoing) (rest : List ℕ) (c1 : S) (page1 : List ℕ) (w1 : Outgoing) (c2 : S) (page2 : List ℕ) (w2 : Outgoing)
-    → (c2 ≡ c1) × (page2 ≡ page1) × (w2 ≡ w1) → AreFirstAnswered says bytes c page w rest c1 page1 w1 → AreFirstAnswered says bytes c page w rest c2 page2 w2
-answered_left says bytes c page w rest c1 page1 w1 c2 page2 w2 same h =
-    let a = subst (λ x. AreFirstAnswered says bytes c page w rest x page1 w1) (sym same.0) h in
-    let b = subst (λ x. AreFirstAnswered says bytes c page w rest c2 x w1) (sym same.1) a in
-    subst (λ x. AreFirstAnswered says bytes c page w rest c2 page2 x) (sym same.2) b
+pub answered_left : {S : Type 0} (limits : SessionLimits) (says : AnswerRelation S) (bytes : List ℕ) (c : S) (page : List ℕ) (w : Outgoing) (rest : List ℕ) (c1 : S) (page1 : List ℕ) (w1 : Outgoing) (c2 : S) (page2 : List ℕ) (w2 : Outgoing)
+    → (c2 ≡ c1) × (page2 ≡ page1) × (w2 ≡ w1) → AreFirstAnswered limits says bytes c page w rest c1 page1 w1 → AreFirstAnswered limits says bytes c page w rest c2 page2 w2
+answered_left limits says bytes c page w rest c1 page1 w1 c2 page2 w2 same h =
+    let a = subst (λ x. AreFirstAnswered limits says bytes c page w rest x page1 w1) (sym same.0) h in
+    let b = subst (λ x. AreFirstAnswered limits says bytes c page w rest c2 x w1) (sym same.1) a in
+    subst (λ x. AreFirstAnswered limits says bytes c page w rest c2 page2 x) (sym same.2) b
 
 -- ---- lines that are too long
 
 none_first : (n k : ℕ) (xs : List ℕ) → n ≤ k → NoLf (take k xs) → NoLf (take n xs)
 none_first n k xs le none = subst (λ l. NoLf l) (take-take n k xs le) (All-take (λ b. (b == 10) ≡ false) n (take k xs) none)
 
-pub long_line : (bytes : List ℕ) (n : ℕ) → 4096 < n → IsLineAt n bytes → IsLong bytes
-long_line bytes n more at = (omega (arith, more, at.0), none_first 4097 n bytes (omega (arith, more)) at.1)
+pub long_line : (limits : SessionLimits) (bytes : List ℕ) (n : ℕ) → longest_line limits < n → IsLineAt n bytes → IsLong limits bytes
+long_line limits bytes n more at = (omega (arith, more, at.0), none_first (longest_line limits + 1) n bytes (omega (arith, more)) at.1)
 
-pub long_rest : (bytes : List ℕ) → 4096 < length bytes → NoLf bytes → IsLong bytes
-long_rest bytes more none = (more, All-take (λ b. (b == 10) ≡ false) 4097 bytes none)
+pub long_rest : (limits : SessionLimits) (bytes : List ℕ) → longest_line limits < length bytes → NoLf bytes → IsLong limits bytes
+long_rest limits bytes more none = (more, All-take (λ b. (b == 10) ≡ false) (longest_line limits + 1) bytes none)
 
 -- ---- the lines of a buffer so far
 
 -- whole lines were answered, and their answers added to an empty page
-abbrev pub IsSoFar : {S : Type 0} → AnswerRelation S → List ℕ → S → Outgoing → List ℕ → S → List ℕ → Outgoing → Type 0
-IsSoFar says bytes c w rest c' page' w' = (text : List ℕ) × IsTalk says bytes c rest text c' × IsTextAdded text [] w page' w' true
+abbrev pub IsSoFar : {S : Type 0} → SessionLimits → AnswerRelation S → List ℕ → S → Outgoing → List ℕ → S → List ℕ → Outgoing → Type 0
+IsSoFar limits says bytes c w rest c' page' w' = (text : List ℕ) × IsTalk limits says bytes c rest text c' × IsTextAdded text [] w page' w' true
 
-pub so_far_more : {S : Type 0} (says : AnswerRelation S) (bytes : List ℕ) (c : S) (w : Outgoing) (rest : List ℕ) (c1 : S) (page1 : List ℕ) (w1 : Outgoing) (rest2 : List ℕ) (c2 : S) (page2 : List ℕ) (w2 : Outgoing) → IsSoFar says bytes c w rest c1 page1 w1 → AreFirstAnswered says rest c1 page1 w1 rest2 c2 page2 w2 → IsSoFar says bytes c w rest2 c2 page2 w2
-so_far_more says bytes c w rest c1 page1 w1 rest2 c2 page2 w2 i h = (i.0 ++ h.0, talk_then says bytes c rest i.0 c1 rest2 h.0 c2 i.1 h.1, added_more i.0 h.0 [] w page1 w1 page2 w2 true i.2 h.2)
+pub so_far_more : {S : Type 0} (limits : SessionLimits) (says : AnswerRelation S) (bytes : List ℕ) (c : S) (w : Outgoing) (rest : List ℕ) (c1 : S) (page1 : List ℕ) (w1 : Outgoing) (rest2 : List ℕ) (c2 : S) (page2 : List ℕ) (w2 : Outgoing) → IsSoFar limits says bytes c w rest c1 page1 w1 → AreFirstAnswered limits says rest c1 page1 w1 rest2 c2 page2 w2 → IsSoFar limits says bytes c w rest2 c2 page2 w2
+so_far_more limits says bytes c w rest c1 page1 w1 rest2 c2 page2 w2 i h = (i.0 ++ h.0, talk_then limits says bytes c rest i.0 c1 rest2 h.0 c2 i.1 h.1, added_more i.0 h.0 [] w page1 w1 page2 w2 true i.2 h.2)
 
-so_far_left : {S : Type 0} (says : AnswerRelation S) (bytes : List ℕ) (c : S) (w : Outgoing) (rest : List ℕ) (c1 : S) (page1 : List ℕ) (w1 : Outgoing) (rest2 : List ℕ) (c2 : S) (page2 : List ℕ) (w2 : Outgoing)
-    → IsSoFar says bytes c w rest c1 page1 w1 → rest2 ≡ rest → c2 ≡ c1 → page2 ≡ page1 → w2 ≡ w1 → IsSoFar says bytes c w rest2 c2 page2 w2
-so_far_left says bytes c w rest c1 page1 w1 rest2 c2 page2 w2 i er ec ep ew =
-    let a = subst (λ x. IsSoFar says bytes c w x c1 page1 w1) (sym er) i in
-    let b = subst (λ x. IsSoFar says bytes c w rest2 x page1 w1) (sym ec) a in
-    let d = subst (λ x. IsSoFar says bytes c w rest2 c2 x w1) (sym ep) b in
-    subst (λ x. IsSoFar says bytes c w rest2 c2 page2 x) (sym ew) d
+so_far_left : {S : Type 0} (limits : SessionLimits) (says : AnswerRelation S) (bytes : List ℕ) (c : S) (w : Outgoing) (rest : List ℕ) (c1 : S) (page1 : List ℕ) (w1 : Outgoing) (rest2 : List ℕ) (c2 : S) (page2 : List ℕ) (w2 : Outgoing)
+    → IsSoFar limits says bytes c w rest c1 page1 w1 → rest2 ≡ rest → c2 ≡ c1 → page2 ≡ page1 → w2 ≡ w1 → IsSoFar limits says bytes c w rest2 c2 page2 w2
+so_far_left limits says bytes c w rest c1 page1 w1 rest2 c2 page2 w2 i er ec ep ew =
+    let a = subst (λ x. IsSoFar limits says bytes c w x c1 page1 w1) (sym er) i in
+    let b = subst (λ x. IsSoFar limits says bytes c w rest2 x page1 w1) (sym ec) a in
+    let d = subst (λ x. IsSoFar limits says bytes c w rest2 c2 x w1) (sym ep) b in
+    subst (λ x. IsSoFar limits says bytes c w rest2 c2 page2 x) (sym ew) d
 
 -- what came of the lines so far and of the first of the rest
-abbrev pub IsSoFarThen : {S : Type 0} → AnswerRelation S → AnswerRelation S → List ℕ → S → Outgoing → List ℕ → S → List ℕ → Outgoing → Option Flow → Type 0
-IsSoFarThen says begins bytes c w rest c' page' w' None = AreLinesAnswered says begins bytes c w rest c' page' w' Next
-IsSoFarThen says begins bytes c w rest c' page' w' (Some Next) = IsSoFar says bytes c w rest c' page' w'
-IsSoFarThen says begins bytes c w rest c' page' w' (Some Stop) = AreLinesAnswered says begins bytes c w rest c' page' w' Stop
-IsSoFarThen says begins bytes c w rest c' page' w' (Some Long) = AreLinesAnswered says begins bytes c w rest c' page' w' Long
-IsSoFarThen says begins bytes c w rest c' page' w' (Some Fault) = AreLinesAnswered says begins bytes c w rest c' page' w' Fault
+abbrev pub IsSoFarThen : {S : Type 0} → SessionLimits → AnswerRelation S → AnswerRelation S → List ℕ → S → Outgoing → List ℕ → S → List ℕ → Outgoing → Option Flow → Type 0
+IsSoFarThen limits says begins bytes c w rest c' page' w' None = AreLinesAnswered limits says begins bytes c w rest c' page' w' Next
+IsSoFarThen limits says begins bytes c w rest c' page' w' (Some Next) = IsSoFar limits says bytes c w rest c' page' w'
+IsSoFarThen limits says begins bytes c w rest c' page' w' (Some Stop) = AreLinesAnswered limits says begins bytes c w rest c' page' w' Stop
+IsSoFarThen limits says begins bytes c w rest c' page' w' (Some Long) = AreLinesAnswered limits says begins bytes c w rest c' page' w' Long
+IsSoFarThen limits says begins bytes c w rest c' page' w' (Some Fault) = AreLinesAnswered limits says begins bytes c w rest c' page' w' Fault
 
-pub so_far_then : {S : Type 0} (says begins : AnswerRelation S) (bytes : List ℕ) (c : S) (w : Outgoing) (rest : List ℕ) (c1 : S) (page1 : List ℕ) (w1 : Outgoing) (rest2 : List ℕ) (c2 : S) (page2 : List ℕ) (w2 : Outgoing) (flow : Option Flow)
-    → IsSoFar says bytes c w rest c1 page1 w1 → IsFirst says begins rest c1 page1 w1 rest2 c2 page2 w2 flow → IsSoFarThen says begins bytes c w rest2 c2 page2 w2 flow
-so_far_then says begins bytes c w rest c1 page1 w1 rest2 c2 page2 w2 None i h =
-    let l = so_far_left says bytes c w rest c1 page1 w1 rest2 c2 page2 w2 i h.0 h.2 h.3 h.4 in
+pub so_far_then : {S : Type 0} (limits : SessionLimits) (says begins : AnswerRelation S) (bytes : List ℕ) (c : S) (w : Outgoing) (rest : List ℕ) (c1 : S) (page1 : List ℕ) (w1 : Outgoing) (rest2 : List ℕ) (c2 : S) (page2 : List ℕ) (w2 : Outgoing) (flow : Option Flow)
+    → IsSoFar limits says bytes c w rest c1 page1 w1 → IsFirst limits says begins rest c1 page1 w1 rest2 c2 page2 w2 flow → IsSoFarThen limits says begins bytes c w rest2 c2 page2 w2 flow
+so_far_then limits says begins bytes c w rest c1 page1 w1 rest2 c2 page2 w2 None i h =
+    let l = so_far_left limits says bytes c w rest c1 page1 w1 rest2 c2 page2 w2 i h.0 h.2 h.3 h.4 in
     (l.0, l.1, h.1, l.2)
-so_far_then says begins bytes c w rest c1 page1 w1 rest2 c2 page2 w2 (Some Next) i h =
-    (i.0 ++ h.1, talk_then says bytes c rest i.0 c1 rest2 h.1 c2 i.1 h.2, added_more i.0 h.1 [] w page1 w1 page2 w2 true i.2 h.3)
-so_far_then says begins bytes c w rest c1 page1 w1 rest2 c2 page2 w2 (Some Stop) i h =
-    let l = so_far_left says bytes c w rest c1 page1 w1 rest2 c2 page2 w2 i h.0 h.2 h.3 h.4 in
+so_far_then limits says begins bytes c w rest c1 page1 w1 rest2 c2 page2 w2 (Some Next) i h =
+    (i.0 ++ h.1, talk_then limits says bytes c rest i.0 c1 rest2 h.1 c2 i.1 h.2, added_more i.0 h.1 [] w page1 w1 page2 w2 true i.2 h.3)
+so_far_then limits says begins bytes c w rest c1 page1 w1 rest2 c2 page2 w2 (Some Stop) i h =
+    let l = so_far_left limits says bytes c w rest c1 page1 w1 rest2 c2 page2 w2 i h.0 h.2 h.3 h.4 in
     (l.0, l.1, h.1, l.2)
-so_far_then says begins bytes c w rest c1 page1 w1 rest2 c2 page2 w2 (Some Long) i h =
-    let l = so_far_left says bytes c w rest c1 page1 w1 rest2 c2 page2 w2 i h.0 h.2 h.3 h.4 in
+so_far_then limits says begins bytes c w rest c1 page1 w1 rest2 c2 page2 w2 (Some Long) i h =
+    let l = so_far_left limits says bytes c w rest c1 page1 w1 rest2 c2 page2 w2 i h.0 h.2 h.3 h.4 in
     (l.0, l.1, h.1, l.2)
-so_far_then says begins bytes c w rest c1 page1 w1 rest2 c2 page2 w2 (Some Fault) i h =
+so_far_then limits says begins bytes c w rest c1 page1 w1 rest2 c2 page2 w2 (Some Fault) i h =
     (rest, i.0, c1, i.1, (h.0, h.1, h.2, h.3, added_more i.0 h.1 [] w page1 w1 page2 w2 false i.2 h.4))
 
 -- the answer of a line behind these was cut short
-pub so_far_cut : {S : Type 0} (says begins : AnswerRelation S) (bytes : List ℕ) (c : S) (w : Outgoing) (rest : List ℕ) (c1 : S) (page1 : List ℕ) (w1 : Outgoing) (after : List ℕ) (c2 : S) (page2 : List ℕ) (w2 : Outgoing)
-    → IsSoFar says bytes c w rest c1 page1 w1 → IsFirstCut says begins rest c1 page1 w1 c2 page2 w2 → AreLinesAnswered says begins bytes c w after c2 page2 w2 Fault
-so_far_cut says begins bytes c w rest c1 page1 w1 after c2 page2 w2 i h =
+pub so_far_cut : {S : Type 0} (limits : SessionLimits) (says begins : AnswerRelation S) (bytes : List ℕ) (c : S) (w : Outgoing) (rest : List ℕ) (c1 : S) (page1 : List ℕ) (w1 : Outgoing) (after : List ℕ) (c2 : S) (page2 : List ℕ) (w2 : Outgoing)
+    → IsSoFar limits says bytes c w rest c1 page1 w1 → IsFirstCut limits says begins rest c1 page1 w1 c2 page2 w2 → AreLinesAnswered limits says begins bytes c w after c2 page2 w2 Fault
+so_far_cut limits says begins bytes c w rest c1 page1 w1 after c2 page2 w2 i h =
     let cut = added_more i.0 (h.1 ++ h.5) [] w page1 w1 page2 w2 false i.2 h.8 in
     let all = subst (λ t. IsTextWritten t w w2 false) (sym (append_assoc i.0 h.1 h.5)) cut in
-    (h.0, i.0 ++ h.1, h.2, talk_then says bytes c rest i.0 c1 h.0 h.1 h.2 i.1 h.3, (h.4, h.5, h.6, h.7, all))
+    (h.0, i.0 ++ h.1, h.2, talk_then limits says bytes c rest i.0 c1 h.0 h.1 h.2 i.1 h.3, (h.4, h.5, h.6, h.7, all))
 
 -- ---- sessions
 
@@ -210,12 +216,12 @@ keeps_then (Some a) (Some b) None h k = absurd k
 keeps_then (Some a) (Some b) (Some d) h k = k ∙ h
 
 -- a session between two reads
-pub record IsOpen {S : Type 0} (says : AnswerRelation S) (a : Incoming) (c : S) (w : Outgoing) (b : Incoming) (rest : List ℕ) (c' : S) (w' : Outgoing) (reads : ℕ) : Type 0 where
+pub record IsOpen {S : Type 0} (limits : SessionLimits) (says : AnswerRelation S) (a : Incoming) (c : S) (w : Outgoing) (b : Incoming) (rest : List ℕ) (c' : S) (w' : Outgoing) (reads : ℕ) : Type 0 where
   pub bytes : List ℕ
   pub text : List ℕ
   pub earlier : List ℕ
   pub taken : b.taken ≡ a.taken ++ bytes
-  pub talk : IsTalk says bytes c rest text c'
+  pub talk : IsTalk limits says bytes c rest text c'
   pub written : IsTextWritten text w w' true
   pub keeps : Keeps (whole a) (whole b)
   pub reads_are : b.reads ≡ a.reads ++ earlier
@@ -223,13 +229,13 @@ pub record IsOpen {S : Type 0} (says : AnswerRelation S) (a : Incoming) (c : S) 
   pub count : length earlier ≡ reads
   pub no_fault : b.failures ≡ a.failures
 
-pub open_none : {S : Type 0} (says : AnswerRelation S) (a : Incoming) (rest : List ℕ) (c : S) (w : Outgoing) → rest ≡ [] → IsOpen says a c w a rest c w 0
-open_none says a rest c w is = record {
+pub open_none : {S : Type 0} (limits : SessionLimits) (says : AnswerRelation S) (a : Incoming) (rest : List ℕ) (c : S) (w : Outgoing) → rest ≡ [] → IsOpen limits says a c w a rest c w 0
+open_none limits says a rest c w is = record {
   bytes = [];
   text = [];
   earlier = [];
   taken = sym (append-nil a.taken);
-  talk = subst (λ r. IsTalk says [] c r [] c) (sym is) (talk_none says [] c);
+  talk = subst (λ r. IsTalk limits says [] c r [] c) (sym is) (talk_none limits says [] c);
   written = written_none w;
   keeps = keeps_same (whole a);
   reads_are = sym (append-nil a.reads);
@@ -239,14 +245,14 @@ open_none says a rest c w is = record {
 }
 
 -- after the lines of the buffer
-pub open_answered : {S : Type 0} (says : AnswerRelation S) (a : Incoming) (c : S) (w : Outgoing) (b : Incoming) (rest : List ℕ) (c1 : S) (w1 : Outgoing) (reads : ℕ) (rest' text : List ℕ) (c2 : S) (w2 : Outgoing)
-    → IsOpen says a c w b rest c1 w1 reads → IsTalk says rest c1 rest' text c2 → IsTextWritten text w1 w2 true → IsOpen says a c w b rest' c2 w2 reads
-open_answered says a c w b rest c1 w1 reads rest' text c2 w2 o t h = record {
+pub open_answered : {S : Type 0} (limits : SessionLimits) (says : AnswerRelation S) (a : Incoming) (c : S) (w : Outgoing) (b : Incoming) (rest : List ℕ) (c1 : S) (w1 : Outgoing) (reads : ℕ) (rest' text : List ℕ) (c2 : S) (w2 : Outgoing)
+    → IsOpen limits says a c w b rest c1 w1 reads → IsTalk limits says rest c1 rest' text c2 → IsTextWritten text w1 w2 true → IsOpen limits says a c w b rest' c2 w2 reads
+open_answered limits says a c w b rest c1 w1 reads rest' text c2 w2 o t h = record {
   bytes = o.bytes;
   text = o.text ++ text;
   earlier = o.earlier;
   taken = o.taken;
-  talk = talk_then says o.bytes c rest o.text c1 rest' text c2 o.talk t;
+  talk = talk_then limits says o.bytes c rest o.text c1 rest' text c2 o.talk t;
   written = written_more o.text text w w1 w2 true o.written h;
   keeps = o.keeps;
   reads_are = o.reads_are;
@@ -256,14 +262,14 @@ open_answered says a c w b rest c1 w1 reads rest' text c2 w2 o t h = record {
 }
 
 -- after a read that gave something
-pub open_read : {S : Type 0} (says : AnswerRelation S) (a : Incoming) (c : S) (w : Outgoing) (b : Incoming) (rest : List ℕ) (c' : S) (w' : Outgoing) (reads : ℕ) (b' : Incoming) (rest' more : List ℕ)
-    → IsOpen says a c w b rest c' w' reads → 0 < length more → rest' ≡ rest ++ more → b'.taken ≡ b.taken ++ more → b'.reads ≡ b.reads ++ length more ∷ [] → b'.failures ≡ b.failures → Keeps (whole b) (whole b') → IsOpen says a c w b' rest' c' w' (reads + 1)
-open_read says a c w b rest c' w' reads b' rest' more o some is taken read kept same = record {
+pub open_read : {S : Type 0} (limits : SessionLimits) (says : AnswerRelation S) (a : Incoming) (c : S) (w : Outgoing) (b : Incoming) (rest : List ℕ) (c' : S) (w' : Outgoing) (reads : ℕ) (b' : Incoming) (rest' more : List ℕ)
+    → IsOpen limits says a c w b rest c' w' reads → 0 < length more → rest' ≡ rest ++ more → b'.taken ≡ b.taken ++ more → b'.reads ≡ b.reads ++ length more ∷ [] → b'.failures ≡ b.failures → Keeps (whole b) (whole b') → IsOpen limits says a c w b' rest' c' w' (reads + 1)
+open_read limits says a c w b rest c' w' reads b' rest' more o some is taken read kept same = record {
   bytes = o.bytes ++ more;
   text = o.text;
   earlier = o.earlier ++ length more ∷ [];
   taken = taken ∙ ap (λ l. l ++ more) o.taken ∙ append_assoc a.taken o.bytes more;
-  talk = subst (λ r. IsTalk says (o.bytes ++ more) c r o.text c') (sym is) (talk_read says o.bytes c rest o.text c' more o.talk);
+  talk = subst (λ r. IsTalk limits says (o.bytes ++ more) c r o.text c') (sym is) (talk_read limits says o.bytes c rest o.text c' more o.talk);
   written = o.written;
   keeps = keeps_then (whole a) (whole b) (whole b') o.keeps same;
   reads_are = read ∙ ap (λ l. l ++ length more ∷ []) o.reads_are ∙ append_assoc a.reads o.earlier (length more ∷ []);
@@ -273,9 +279,9 @@ open_read says a c w b rest c' w' reads b' rest' more o some is taken read kept 
 }
 
 -- the read by which these bytes came, or no bytes
-pub last_read : {S : Type 0} (says : AnswerRelation S) (a : Incoming) (c : S) (w : Outgoing) (b : Incoming) (rest : List ℕ) (c' : S) (w' : Outgoing) (reads : ℕ) (b' : Incoming) (last : List ℕ)
-    → (o : IsOpen says a c w b rest c' w' reads) → IsLine rest → b'.reads ≡ b.reads ++ length last ∷ [] → IsLastRead says o.bytes last a b' c w rest c' w'
-last_read says a c w b rest c' w' reads b' last o line read = record {
+pub last_read : {S : Type 0} (limits : SessionLimits) (says : AnswerRelation S) (a : Incoming) (c : S) (w : Outgoing) (b : Incoming) (rest : List ℕ) (c' : S) (w' : Outgoing) (reads : ℕ) (b' : Incoming) (last : List ℕ)
+    → (o : IsOpen limits says a c w b rest c' w' reads) → IsLine limits rest → b'.reads ≡ b.reads ++ length last ∷ [] → IsLastRead limits says o.bytes last a b' c w rest c' w'
+last_read limits says a c w b rest c' w' reads b' last o line read = record {
   earlier = o.earlier;
   text = o.text;
   reads = read ∙ ap (λ l. l ++ length last ∷ []) o.reads_are ∙ append_assoc a.reads o.earlier (length last ∷ []);
@@ -286,18 +292,18 @@ last_read says a c w b rest c' w' reads b' last o line read = record {
 }
 
 -- how a buffer came to its bytes: nothing was read yet, or by the last read
-abbrev pub Came : {S : Type 0} → AnswerRelation S → Incoming → S → Outgoing → Incoming → List ℕ → S → Outgoing → ℕ → Type 0
-Came says a c w b buffer c' w' reads =
+abbrev pub Came : {S : Type 0} → SessionLimits → AnswerRelation S → Incoming → S → Outgoing → Incoming → List ℕ → S → Outgoing → ℕ → Type 0
+Came limits says a c w b buffer c' w' reads =
     ((buffer ≡ []) × (reads ≡ 0))
-    ⊎ ((before : List ℕ) × (last : List ℕ) × (rest : List ℕ) × (b.taken ≡ a.taken ++ (before ++ last)) × (buffer ≡ rest ++ last) × IsLastRead says before last a b c w rest c' w')
+    ⊎ ((before : List ℕ) × (last : List ℕ) × (rest : List ℕ) × (b.taken ≡ a.taken ++ (before ++ last)) × (buffer ≡ rest ++ last) × IsLastRead limits says before last a b c w rest c' w')
 
-pub came_read : {S : Type 0} (says : AnswerRelation S) (a : Incoming) (c : S) (w : Outgoing) (b : Incoming) (rest : List ℕ) (c' : S) (w' : Outgoing) (reads : ℕ) (b' : Incoming) (rest' more : List ℕ) (reads' : ℕ)
-    → IsOpen says a c w b rest c' w' reads → IsLine rest → rest' ≡ rest ++ more → b'.taken ≡ b.taken ++ more → b'.reads ≡ b.reads ++ length more ∷ [] → Came says a c w b' rest' c' w' reads'
-came_read says a c w b rest c' w' reads b' rest' more reads' o line is taken read =
-    inr (o.bytes, more, rest, taken ∙ ap (λ l. l ++ more) o.taken ∙ append_assoc a.taken o.bytes more, is, last_read says a c w b rest c' w' reads b' more o line read)
+pub came_read : {S : Type 0} (limits : SessionLimits) (says : AnswerRelation S) (a : Incoming) (c : S) (w : Outgoing) (b : Incoming) (rest : List ℕ) (c' : S) (w' : Outgoing) (reads : ℕ) (b' : Incoming) (rest' more : List ℕ) (reads' : ℕ)
+    → IsOpen limits says a c w b rest c' w' reads → IsLine limits rest → rest' ≡ rest ++ more → b'.taken ≡ b.taken ++ more → b'.reads ≡ b.reads ++ length more ∷ [] → Came limits says a c w b' rest' c' w' reads'
+came_read limits says a c w b rest c' w' reads b' rest' more reads' o line is taken read =
+    inr (o.bytes, more, rest, taken ∙ ap (λ l. l ++ more) o.taken ∙ append_assoc a.taken o.bytes more, is, last_read limits says a c w b rest c' w' reads b' more o line read)
 
 -- the session was served up to an ending that no failed write made
-served : {S : Type 0} (limits : SessionLimits) (says begins : AnswerRelation S) (bytes : List ℕ) (a b : Incoming) (c : S) (w : Outgoing) (c' : S) (w' : Outgoing) (ended : Ended) (rest text tail : List ℕ) → IsTalk says bytes c rest text c' → EndsCleanly limits rest a b ended tail → IsTextWritten (text ++ tail) w w' true → IsSessionServed limits says begins bytes a b c w c' w' ended
+served : {S : Type 0} (limits : SessionLimits) (says begins : AnswerRelation S) (bytes : List ℕ) (a b : Incoming) (c : S) (w : Outgoing) (c' : S) (w' : Outgoing) (ended : Ended) (rest text tail : List ℕ) → IsTalk limits says bytes c rest text c' → EndsCleanly limits rest a b ended tail → IsTextWritten (text ++ tail) w w' true → IsSessionServed limits says begins bytes a b c w c' w' ended
 served limits says begins bytes a b c w c' w' Quit rest text tail t h out = (rest, text, tail, t, h, out)
 served limits says begins bytes a b c w c' w' Eof rest text tail t h out = (rest, text, tail, t, h, out)
 served limits says begins bytes a b c w c' w' CutLine rest text tail t h out = (rest, text, tail, t, h, out)
@@ -309,32 +315,32 @@ served limits says begins bytes a b c w c' w' NoMemory rest text tail t h out = 
 
 -- the lines of the buffer, and what an ending prints, unless a write fails
 pub ends_saying : {S : Type 0} (limits : SessionLimits) (says begins : AnswerRelation S) (a : Incoming) (c : S) (w : Outgoing) (b : Incoming) (rest : List ℕ) (c1 : S) (w1 : Outgoing) (reads : ℕ) (rest' text : List ℕ) (c' : S) (b' : Incoming) (w2 : Outgoing) (ended : Ended) (tail : List ℕ) (r : Bool)
-    → IsOpen says a c w b rest c1 w1 reads → IsTalk says rest c1 rest' text c' → b'.taken ≡ b.taken → Keeps (whole b) (whole b') → EndsCleanly limits rest' a b' ended tail → IsTextWritten (text ++ tail) w1 w2 r
+    → IsOpen limits says a c w b rest c1 w1 reads → IsTalk limits says rest c1 rest' text c' → b'.taken ≡ b.taken → Keeps (whole b) (whole b') → EndsCleanly limits rest' a b' ended tail → IsTextWritten (text ++ tail) w1 w2 r
     → (IsTextWritten (text ++ tail) w1 w2 false → Serves limits says begins a b' c w c' w2 WriteFault) → Serves limits says begins a b' c w c' w2 (ended_of ended r)
 ends_saying limits says begins a c w b rest c1 w1 reads rest' text c' b' w2 ended tail true o t taken same closes h fault =
     let all = subst (λ l. IsTextWritten l w w2 true) (sym (append_assoc o.text text tail)) (written_more o.text (text ++ tail) w w1 w2 true o.written h) in
-    (o.bytes, taken ∙ o.taken, keeps_then (whole a) (whole b) (whole b') o.keeps same, served limits says begins o.bytes a b' c w c' w2 ended rest' (o.text ++ text) tail (talk_then says o.bytes c rest o.text c1 rest' text c' o.talk t) closes all)
+    (o.bytes, taken ∙ o.taken, keeps_then (whole a) (whole b) (whole b') o.keeps same, served limits says begins o.bytes a b' c w c' w2 ended rest' (o.text ++ text) tail (talk_then limits says o.bytes c rest o.text c1 rest' text c' o.talk t) closes all)
 ends_saying limits says begins a c w b rest c1 w1 reads rest' text c' b' w2 ended tail false o t taken same closes h fault = fault h
 
 -- the session ends, and prints nothing more
 pub ends_plainly : {S : Type 0} (limits : SessionLimits) (says begins : AnswerRelation S) (a : Incoming) (c : S) (w : Outgoing) (b : Incoming) (rest : List ℕ) (c' : S) (w1 : Outgoing) (reads : ℕ) (b' : Incoming) (ended : Ended)
-    → IsOpen says a c w b rest c' w1 reads → b'.taken ≡ b.taken → Keeps (whole b) (whole b') → EndsCleanly limits rest a b' ended []
+    → IsOpen limits says a c w b rest c' w1 reads → b'.taken ≡ b.taken → Keeps (whole b) (whole b') → EndsCleanly limits rest a b' ended []
     → Serves limits says begins a b' c w c' w1 ended
 ends_plainly limits says begins a c w b rest c' w1 reads b' ended o taken same closes =
     (o.bytes, taken ∙ o.taken, keeps_then (whole a) (whole b) (whole b') o.keeps same, served limits says begins o.bytes a b' c w c' w1 ended rest o.text [] o.talk closes (written_more o.text [] w w1 w1 true o.written (written_none w1)))
 
 -- ---- failed writes
 
-no_line : (rest l : List ℕ) → length rest ≡ 0 → BeginsWith l rest → ⊥
-no_line rest l none h = omega (arith, none, ap (λ x. length x) h.2, length-append l (10 ∷ h.1))
+no_line : (limits : SessionLimits) (rest l : List ℕ) → length rest ≡ 0 → BeginsWith limits l rest → ⊥
+no_line limits rest l none h = omega (arith, none, ap (λ x. length x) h.2, length-append l (10 ∷ h.1))
 
 no_cut : (text : List ℕ) (a b : List ℕ) → text ≡ [] → IsCutShort text a b → ⊥
 no_cut text a b none h = omega (arith, h.some, ap (λ x. length x) (sym none ∙ h.lacks), length-append h.part h.rest)
 
 -- if nothing was read, no line is answered
-no_talk : {S : Type 0} (says : AnswerRelation S) (lines : List (List ℕ)) (rest : List ℕ) (c : S) (text : List ℕ) (c' : S) → length (stream lines ++ rest) ≡ 0 → AnswersAll says lines c text c' → (text ≡ []) × (length rest ≡ 0)
-no_talk says [] rest c text c' none t = (t.0, none)
-no_talk says (l ∷ ls) rest c text c' none t = absurd (omega (arith, none, length-append (stream (l ∷ ls)) rest, length-append (l ++ 10 ∷ []) (stream ls), length-append l (10 ∷ [])))
+no_talk : {S : Type 0} (limits : SessionLimits) (says : AnswerRelation S) (lines : List (List ℕ)) (rest : List ℕ) (c : S) (text : List ℕ) (c' : S) → length (stream lines ++ rest) ≡ 0 → AnswersAll limits says lines c text c' → (text ≡ []) × (length rest ≡ 0)
+no_talk limits says [] rest c text c' none t = (t.0, none)
+no_talk limits says (l ∷ ls) rest c text c' none t = absurd (omega (arith, none, length-append (stream (l ∷ ls)) rest, length-append (l ++ 10 ∷ []) (stream ls), length-append l (10 ∷ [])))
 
 -- a session may have a read
 some_reads : (limits : SessionLimits) → 0 < most_reads limits
@@ -343,7 +349,7 @@ some_reads Wide = omega arith
 
 -- if nothing was read, no ending's line can fail
 closes_none : (limits : SessionLimits) (rest text tail : List ℕ) (a b : Incoming) (w w' : Outgoing) (ended : Ended) → length rest ≡ 0 → text ≡ [] → length b.reads ≡ length a.reads → b.failures ≡ a.failures → EndsCleanly limits rest a b ended tail → IsTextWritten (text ++ tail) w w' false → ⊥
-closes_none limits rest text tail a b w w' Quit none empty same fine h k = no_line rest h.0.0 none h.0.1
+closes_none limits rest text tail a b w w' Quit none empty same fine h k = no_line limits rest h.0.0 none h.0.1
 closes_none limits rest text tail a b w w' Eof none empty same fine h k = no_cut (text ++ tail) w.out w'.out (ap (λ l. l ++ tail) empty ∙ h.2) k.0
 closes_none limits rest text tail a b w w' CutLine none empty same fine h k = omega (arith, none, h.1)
 closes_none limits rest text tail a b w w' TooLong none empty same fine h k = omega (arith, none, h.0.0)
@@ -353,18 +359,18 @@ closes_none limits rest text tail a b w w' WriteFault none empty same fine h k =
 closes_none limits rest text tail a b w w' NoMemory none empty same fine h k = h
 
 breaks_none : {S : Type 0} (limits : SessionLimits) (begins : AnswerRelation S) (text rest : List ℕ) (a b : Incoming) (c : S) (w : Outgoing) (c' : S) (w' : Outgoing) → length rest ≡ 0 → text ≡ [] → length b.reads ≡ length a.reads → b.failures ≡ a.failures → FailsWhileWriting limits begins text rest a b c w c' w' → ⊥
-breaks_none limits begins text rest a b c w c' w' none empty same fine (inl (h, k)) = no_line rest h.0 none h.2
+breaks_none limits begins text rest a b c w c' w' none empty same fine (inl (h, k)) = no_line limits rest h.0 none h.2
 breaks_none limits begins text rest a b c w c' w' none empty same fine (inr (inl h)) = closes_none limits rest text h.1 a b w w' h.0 none empty same fine h.2 h.4
 breaks_none limits begins text rest a b c w c' w' none empty same fine (inr (inr h)) = no_cut text w.out w'.out empty h.3.0
 
 fails_none : {S : Type 0} (limits : SessionLimits) (says begins : AnswerRelation S) (bytes : List ℕ) (a b : Incoming) (c : S) (w : Outgoing) (c' : S) (w' : Outgoing) → bytes ≡ [] → length b.reads ≡ length a.reads → b.failures ≡ a.failures → IsTruncatedRun limits says begins bytes a b c w c' w' → ⊥
 fails_none limits says begins bytes a b c w c' w' none same fine f =
-    let n = no_talk says f.3.lines f.0 c f.1 f.2 (ap (λ x. length x) (sym f.3.are ∙ none)) f.3.talks in
+    let n = no_talk limits says f.3.lines f.0 c f.1 f.2 (ap (λ x. length x) (sym f.3.are ∙ none)) f.3.talks in
     breaks_none limits begins f.1 f.0 a b f.2 w c' w' n.1 n.0 same fine f.4
 
 -- a write failed in the answers of the buffer's lines, or behind them
 pub ends_failing : {S : Type 0} (limits : SessionLimits) (says begins : AnswerRelation S) (a : Incoming) (c : S) (w : Outgoing) (b : Incoming) (buffer : List ℕ) (c1 : S) (w1 : Outgoing) (reads : ℕ) (c2 : S) (w2 : Outgoing)
-    → IsOpen says a c w b buffer c1 w1 reads → Came says a c w b buffer c1 w1 reads → IsTruncatedRun limits says begins buffer a b c1 w1 c2 w2 → Serves limits says begins a b c w c2 w2 WriteFault
+    → IsOpen limits says a c w b buffer c1 w1 reads → Came limits says a c w b buffer c1 w1 reads → IsTruncatedRun limits says begins buffer a b c1 w1 c2 w2 → Serves limits says begins a b c w c2 w2 WriteFault
 ends_failing limits says begins a c w b buffer c1 w1 reads c2 w2 o (inl (none, zero)) f =
     absurd (fails_none limits says begins buffer a b c1 w1 c2 w2 none (omega (arith, zero, o.count, ap (λ x. length x) o.reads_are, length-append a.reads o.earlier)) o.no_fault f)
 ends_failing limits says begins a c w b buffer c1 w1 reads c2 w2 o (inr (before, last, rest, taken, is, h)) f =
@@ -372,7 +378,7 @@ ends_failing limits says begins a c w b buffer c1 w1 reads c2 w2 o (inr (before,
 
 -- an ending's line failed after a read that took nothing
 pub ends_silent : {S : Type 0} (limits : SessionLimits) (says begins : AnswerRelation S) (a : Incoming) (c : S) (w : Outgoing) (b : Incoming) (rest : List ℕ) (c' : S) (w1 : Outgoing) (reads : ℕ) (b' : Incoming) (w2 : Outgoing) (ended : Ended) (tail : List ℕ)
-    → IsOpen says a c w b rest c' w1 reads → IsLine rest → b'.taken ≡ b.taken → b'.reads ≡ b.reads ++ 0 ∷ [] → Keeps (whole b) (whole b') → EndsCleanly limits rest a b' ended tail → IsTextWritten tail w1 w2 false → Serves limits says begins a b' c w c' w2 WriteFault
+    → IsOpen limits says a c w b rest c' w1 reads → IsLine limits rest → b'.taken ≡ b.taken → b'.reads ≡ b.reads ++ 0 ∷ [] → Keeps (whole b) (whole b') → EndsCleanly limits rest a b' ended tail → IsTextWritten tail w1 w2 false → Serves limits says begins a b' c w c' w2 WriteFault
 ends_silent limits says begins a c w b rest c' w1 reads b' w2 ended tail o line taken read same closes h = (
   o.bytes ++ [],
   taken ∙ o.taken ∙ ap (λ l. a.taken ++ l) (sym (append-nil o.bytes)),
@@ -384,8 +390,8 @@ ends_silent limits says begins a c w b rest c' w1 reads b' w2 ended tail o line 
     c',
     w1,
     refl,
-    last_read says a c w b rest c' w1 reads b' [] o line read,
-    (rest, [], c', subst (λ l. IsTalk says l c' rest [] c') (sym (append-nil rest)) (talk_none says rest c'), inr (inl (ended, tail, closes, refl, h))),
+    last_read limits says a c w b rest c' w1 reads b' [] o line read,
+    (rest, [], c', subst (λ l. IsTalk limits says l c' rest [] c') (sym (append-nil rest)) (talk_none limits says rest c'), inr (inl (ended, tail, closes, refl, h))),
   ),
 )
 
@@ -400,8 +406,8 @@ breaks_more limits begins out text rest a b c w m c' w' o (inr (inr (line, fine,
 -- all the lines from the beginning, and then the write that failed
 pub served_fails : {S : Type 0} (limits : SessionLimits) (says begins : AnswerRelation S) (bytes : List ℕ) (a b : Incoming) (c : S) (w : Outgoing) (c' : S) (w' : Outgoing) → IsSessionServed limits says begins bytes a b c w c' w' WriteFault → IsTruncatedRun limits says begins bytes a b c w c' w'
 served_fails limits says begins bytes a b c w c' w' (before, last, rest, c1, w1, is, h, (left, text, between, talk, breaks)) =
-    let all = talk_then says (before ++ last) c (rest ++ last) h.text c1 left text between (talk_read says before c rest h.text c1 last h.talk) talk in
-    (left, h.text ++ text, between, subst (λ l. IsTalk says l c left (h.text ++ text) between) (sym is) all, breaks_more limits begins h.text text left a b between w w1 c' w' h.written breaks)
+    let all = talk_then limits says (before ++ last) c (rest ++ last) h.text c1 left text between (talk_read limits says before c rest h.text c1 last h.talk) talk in
+    (left, h.text ++ text, between, subst (λ l. IsTalk limits says l c left (h.text ++ text) between) (sym is) all, breaks_more limits begins h.text text left a b between w w1 c' w' h.written breaks)
 
 -- ---- what a session says of its ends alone
 

@@ -13,6 +13,7 @@ use Rattle.heap_trail.specs.Functions.{trail_functions as open_heap_trail}
 use Rattle.session_grammar.specs.Grammar.{words_of_line, number_of_word, kind_of_word, class_rules, making_rules, access_rules, marking_rules, session_rules, by_rule, command_of}
 use Rattle.session_text.specs.declared.Ended.TheVariants.{Eof}
 use Rattle.session_text.specs.declared.ReadEnd.TheVariants.{Over}
+use Rattle.session_text.specs.declared.limits.SessionLimits.TheVariants.{Narrow}
 use Rattle.session_text.specs.Replies.{chunks_of_64, data_lines}
 use Rattle.session_text.specs.Session.{pieces_dumped, session_of}
 use Rattle.session_text.specs.Examples.{default_machine, point_lines, point_answers}
@@ -32,10 +33,10 @@ unfoldable open_session : Unit {0}
 unfolding words_of_line number_of_word kind_of_word class_rules making_rules access_rules marking_rules session_rules by_rule command_of digits encode_with chunks_of_64 data_lines pieces_dumped session_of
 open_session = tt
 
-pub ended : (session_of default_machine [] 0 point_lines Over).1 ≡ Eof
+pub ended : (session_of Narrow default_machine [] 0 point_lines Over).1 ≡ Eof
 unfolding open_heap_class open_heap_region open_heap_world open_heap_step open_hprof_text open_heap_trail open_session
 ended = refl
 
-pub answers : (session_of default_machine [] 0 point_lines Over).0.written ≡ point_answers
+pub answers : (session_of Narrow default_machine [] 0 point_lines Over).0.written ≡ point_answers
 unfolding open_heap_class open_heap_region open_heap_world open_heap_step open_hprof_text open_heap_trail open_session
 answers = refl

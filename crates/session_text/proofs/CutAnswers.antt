@@ -15,6 +15,8 @@ use Rattle.session_text.specs.declared.ReadEnd.TheVariants.{Over, Failed, Spent}
 use Rattle.session_grammar.specs.declared.command.Command.{Command}
 use Rattle.session_grammar.specs.declared.command.Command.TheVariants.{Blank, Bad, Ask, Piece, Dump, DumpNow, End}
 use Rattle.session_text.specs.declared.commands.Local.{Local}
+use Rattle.session_text.specs.declared.limits.SessionLimits.{SessionLimits}
+use Rattle.session_text.specs.Limits.{longest_line}
 use Rattle.session_text.specs.Answers.{AnswersTo, BeginsTo, IsBadCommand}
 use Rattle.session_text.specs.Dumps.{Dumps, ClosesAfter, total_line}
 use Rattle.dump_pump.specs.Sources.{part_limit}
@@ -135,10 +137,10 @@ on_stays more ih time (Dump pin) t = begins_then t.written _ _ (dump_stays part_
 on_stays more ih time DumpNow t = let r = done_quietly (OpenPin None) t in begins_then t.written _ _ (open_stays time r.1 (pin_in r.1) r.0) (ih (after_open_reply part_limit time r.1 (pin_in r.1) r.0))
 on_stays more ih time End t = begins_itself t.written
 
-pub stays : (time : ℕ) (e : ReadEnd) (ls : List (List ℕ)) (t : Talk) → IsPrefix t.written (talked time e ls t).0.written
-stays time e [] t = end_stays e true t
-stays time e (l ∷ []) t = either_stays (nat_lt 4096 (length l)) t (at_read_end e (length l == 0) t) (end_stays e (length l == 0) t)
-stays time e (l ∷ m ∷ ms) t = either_stays (nat_lt 4096 (length l)) t (go_on (talked time e (m ∷ ms)) time (command_of l) t) (on_stays (talked time e (m ∷ ms)) (λ u. stays time e (m ∷ ms) u) time (command_of l) t)
+pub stays : (limits : SessionLimits) (time : ℕ) (e : ReadEnd) (ls : List (List ℕ)) (t : Talk) → IsPrefix t.written (talked limits time e ls t).0.written
+stays limits time e [] t = end_stays e true t
+stays limits time e (l ∷ []) t = either_stays (nat_lt (longest_line limits) (length l)) t (at_read_end e (length l == 0) t) (end_stays e (length l == 0) t)
+stays limits time e (l ∷ m ∷ ms) t = either_stays (nat_lt (longest_line limits) (length l)) t (go_on (talked limits time e (m ∷ ms)) time (command_of l) t) (on_stays (talked limits time e (m ∷ ms)) (λ u. stays limits time e (m ∷ ms) u) time (command_of l) t)
 
 -- ---- a dump of fewer pieces
 

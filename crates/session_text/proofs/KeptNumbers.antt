@@ -74,10 +74,10 @@ begin_same f does bad keep also time (Dump pin) c text d (pieces, le, h) = dumps
 begin_same f does bad keep also time DumpNow c text d (pieces, le, (r, opened, did, closes)) = open_same f does keep pieces time r (pin_in r) opened text d closes ∙ keep c _ r opened did
 begin_same f does bad keep also time End c text d h = absurd h
 
-talks_same : {S : Type 0} (f : S → ℕ) (does : Acts S) (unknown : AnswerRelation S) (keep : ActsKeep f does) (also : LinesKeep f unknown) (time : ℕ) (ls : List (List ℕ)) (c : S) (text : List ℕ) (d : S) → AnswersAll (AnswersCommand does unknown time) ls c text d → Same f c d
-talks_same f does unknown keep also time [] c text d h = of_same f c d h.1
-talks_same f does unknown keep also time (l ∷ ls) c text d (first, between, more, line, says, rest, is) =
-    talks_same f does unknown keep also time ls between more d rest ∙ answer_same f does _ keep (also _) time _ c first between says
+talks_same : {S : Type 0} (limits : SessionLimits) (f : S → ℕ) (does : Acts S) (unknown : AnswerRelation S) (keep : ActsKeep f does) (also : LinesKeep f unknown) (time : ℕ) (ls : List (List ℕ)) (c : S) (text : List ℕ) (d : S) → AnswersAll limits (AnswersCommand does unknown time) ls c text d → Same f c d
+talks_same limits f does unknown keep also time [] c text d h = of_same f c d h.1
+talks_same limits f does unknown keep also time (l ∷ ls) c text d (first, between, more, line, says, rest, is) =
+    talks_same limits f does unknown keep also time ls between more d rest ∙ answer_same f does _ keep (also _) time _ c first between says
 
 -- ---- sessions
 
@@ -88,17 +88,17 @@ breaks_same limits f does unknown keep also time text rest a b c w d w' (inr (in
 
 fails_same : {S : Type 0} (limits : SessionLimits) (f : S → ℕ) (does : Acts S) (unknown : AnswerRelation S) (keep : ActsKeep f does) (also : LinesKeep f unknown) (time : ℕ) (bytes : List ℕ) (a b : Incoming) (c : S) (w : Outgoing) (d : S) (w' : Outgoing) → IsTruncatedRun limits (AnswersCommand does unknown time) (Begins does unknown time) bytes a b c w d w' → Same f c d
 fails_same limits f does unknown keep also time bytes a b c w d w' (rest, text, between, k, breaks) =
-    breaks_same limits f does unknown keep also time text rest a b between w d w' breaks ∙ talks_same f does unknown keep also time k.lines c text between k.talks
+    breaks_same limits f does unknown keep also time text rest a b between w d w' breaks ∙ talks_same limits f does unknown keep also time k.lines c text between k.talks
 
 served_same : {S : Type 0} (limits : SessionLimits) (f : S → ℕ) (does : Acts S) (unknown : AnswerRelation S) (keep : ActsKeep f does) (also : LinesKeep f unknown) (time : ℕ) (bytes : List ℕ) (a b : Incoming) (c : S) (w : Outgoing) (d : S) (w' : Outgoing) (ended : Ended) → IsSessionServed limits (AnswersCommand does unknown time) (Begins does unknown time) bytes a b c w d w' ended → Same f c d
-served_same limits f does unknown keep also time bytes a b c w d w' Quit (rest, text, tail, k, closes, out) = talks_same f does unknown keep also time k.lines c text d k.talks
-served_same limits f does unknown keep also time bytes a b c w d w' Eof (rest, text, tail, k, closes, out) = talks_same f does unknown keep also time k.lines c text d k.talks
-served_same limits f does unknown keep also time bytes a b c w d w' CutLine (rest, text, tail, k, closes, out) = talks_same f does unknown keep also time k.lines c text d k.talks
-served_same limits f does unknown keep also time bytes a b c w d w' TooLong (rest, text, tail, k, closes, out) = talks_same f does unknown keep also time k.lines c text d k.talks
-served_same limits f does unknown keep also time bytes a b c w d w' ReadFault (rest, text, tail, k, closes, out) = talks_same f does unknown keep also time k.lines c text d k.talks
-served_same limits f does unknown keep also time bytes a b c w d w' TooManyReads (rest, text, tail, k, closes, out) = talks_same f does unknown keep also time k.lines c text d k.talks
+served_same limits f does unknown keep also time bytes a b c w d w' Quit (rest, text, tail, k, closes, out) = talks_same limits f does unknown keep also time k.lines c text d k.talks
+served_same limits f does unknown keep also time bytes a b c w d w' Eof (rest, text, tail, k, closes, out) = talks_same limits f does unknown keep also time k.lines c text d k.talks
+served_same limits f does unknown keep also time bytes a b c w d w' CutLine (rest, text, tail, k, closes, out) = talks_same limits f does unknown keep also time k.lines c text d k.talks
+served_same limits f does unknown keep also time bytes a b c w d w' TooLong (rest, text, tail, k, closes, out) = talks_same limits f does unknown keep also time k.lines c text d k.talks
+served_same limits f does unknown keep also time bytes a b c w d w' ReadFault (rest, text, tail, k, closes, out) = talks_same limits f does unknown keep also time k.lines c text d k.talks
+served_same limits f does unknown keep also time bytes a b c w d w' TooManyReads (rest, text, tail, k, closes, out) = talks_same limits f does unknown keep also time k.lines c text d k.talks
 served_same limits f does unknown keep also time bytes a b c w d w' WriteFault (before, last, rest, c1, w1, are, read, fails) =
-    fails_same limits f does unknown keep also time _ a b c1 w1 d w' fails ∙ talks_same f does unknown keep also time read.talk.lines c read.text c1 read.talk.talks
+    fails_same limits f does unknown keep also time _ a b c1 w1 d w' fails ∙ talks_same limits f does unknown keep also time read.talk.lines c read.text c1 read.talk.talks
 served_same limits f does unknown keep also time bytes a b c w d w' NoMemory h = of_same f c d h.2
 
 pub number_stays : {S : Type 0} (limits : SessionLimits) (f : S → ℕ) (does : Acts S) (unknown : AnswerRelation S) → ActsKeep f does → LinesKeep f unknown

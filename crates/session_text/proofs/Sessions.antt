@@ -19,25 +19,25 @@ use Rattle.session_text.specs.Talks.{stream, IsTalk, EndsCleanly, FailsWhileWrit
 use Rattle.session_text.specs.Writes.{IsCutShort, IsTextWritten}
 use Rattle.session_text.proofs.AnsweredLines.{served_fails}
 use Rattle.session_text.proofs.SessionCommands.{parts, talk, acts}
-use Rattle.session_text.proofs.SessionLines.{line_then, line_fit, passes, FitsEnd, closes_so}
+use Rattle.session_text.proofs.SessionLines.{line_then, line_fit, none_left, passes, FitsEnd, closes_so}
 use Rattle.session_text.proofs.CutAnswers.{fine, begins_itself, stays, begins_so}
 
-session_lines : (time : ℕ) (e : ReadEnd) (bytes rest : List ℕ) (c : Local) (text : List ℕ) (d : Local) (k : IsTalk (AnswersCommand acts all_bad time) bytes c rest text d) (ms : List Allocation)
-    → session_of c.machine ((passes time k.lines c text d k.talks).found ++ ms) time bytes e ≡ talked time e (parts rest) (talk d.machine ms text)
+session_lines : (limits : SessionLimits) (time : ℕ) (e : ReadEnd) (bytes rest : List ℕ) (c : Local) (text : List ℕ) (d : Local) (k : IsTalk limits (AnswersCommand acts all_bad time) bytes c rest text d) (ms : List Allocation)
+    → session_of limits c.machine ((passes limits time k.lines c text d k.talks).found ++ ms) time bytes e ≡ talked limits time e (parts rest) (talk d.machine ms text)
 unfolding session_of
-session_lines time e bytes rest c text d k ms =
-    let g = passes time k.lines c text d k.talks in
-    ap (λ bs. talked time e (parts bs) (talk c.machine (g.found ++ ms) [])) k.are ∙ g.so e rest ms []
+session_lines limits time e bytes rest c text d k ms =
+    let g = passes limits time k.lines c text d k.talks in
+    ap (λ bs. talked limits time e (parts bs) (talk c.machine (g.found ++ ms) [])) k.are ∙ g.so e rest ms []
 
-session_fit : (time : ℕ) (bytes rest : List ℕ) (c : Local) (text : List ℕ) (d : Local) (k : IsTalk (AnswersCommand acts all_bad time) bytes c rest text d) (ms : List Allocation) → FitLines time (parts rest) (talk d.machine ms text)
-    → AllocationsFit c.machine ((passes time k.lines c text d k.talks).found ++ ms) time bytes
-session_fit time bytes rest c text d k ms h =
-    let g = passes time k.lines c text d k.talks in
+session_fit : (limits : SessionLimits) (time : ℕ) (bytes rest : List ℕ) (c : Local) (text : List ℕ) (d : Local) (k : IsTalk limits (AnswersCommand acts all_bad time) bytes c rest text d) (ms : List Allocation) → FitLines time (parts rest) (talk d.machine ms text)
+    → AllocationsFit c.machine ((passes limits time k.lines c text d k.talks).found ++ ms) time bytes
+session_fit limits time bytes rest c text d k ms h =
+    let g = passes limits time k.lines c text d k.talks in
     subst (λ bs. FitLines time (parts bs) (talk c.machine (g.found ++ ms) [])) (sym k.are) (g.fit rest ms [] h)
 
 -- all lines are answered, and no marks are left
-all_fit : (time : ℕ) (bytes rest : List ℕ) (c : Local) (text : List ℕ) (d : Local) (k : IsTalk (AnswersCommand acts all_bad time) bytes c rest text d) → AllocationsFit c.machine ((passes time k.lines c text d k.talks).found ++ []) time bytes
-all_fit time bytes rest c text d k = session_fit time bytes rest c text d k [] (fine time (parts rest) (talk d.machine [] text) refl)
+all_fit : (limits : SessionLimits) (time : ℕ) (bytes rest : List ℕ) (c : Local) (text : List ℕ) (d : Local) (k : IsTalk limits (AnswersCommand acts all_bad time) bytes c rest text d) → AllocationsFit c.machine ((passes limits time k.lines c text d k.talks).found ++ []) time bytes
+all_fit limits time bytes rest c text d k = session_fit limits time bytes rest c text d k [] (fine time (parts rest) (talk d.machine [] text) refl)
 
 abbrev end_for : Ended → ReadEnd
 end_for ReadFault = Failed
@@ -55,17 +55,17 @@ fits WriteFault = tt
 fits NoRoom = tt
 
 -- the lines and what an ending prints
-closed_so : (limits : SessionLimits) (time : ℕ) (a b : Incoming) (c d : Local) (ended : Ended) (bytes rest text tail : List ℕ) (k : IsTalk (AnswersCommand acts all_bad time) bytes c rest text d) → EndsCleanly limits rest a b ended tail → (e : ReadEnd) → FitsEnd e ended
-    → ShowsSession c.machine ((passes time k.lines c text d k.talks).found ++ []) time bytes e (text ++ tail) d.machine ended
-closed_so limits time a b c d ended bytes rest text tail k closes e f = session_lines time e bytes rest c text d k [] ∙ closes_so limits time e rest a b ended tail d.machine [] text f closes
+closed_so : (limits : SessionLimits) (time : ℕ) (a b : Incoming) (c d : Local) (ended : Ended) (bytes rest text tail : List ℕ) (k : IsTalk limits (AnswersCommand acts all_bad time) bytes c rest text d) → EndsCleanly limits rest a b ended tail → (e : ReadEnd) → FitsEnd e ended
+    → ShowsSession limits c.machine ((passes limits time k.lines c text d k.talks).found ++ []) time bytes e (text ++ tail) d.machine ended
+closed_so limits time a b c d ended bytes rest text tail k closes e f = session_lines limits time e bytes rest c text d k [] ∙ closes_so limits time e rest a b ended tail d.machine [] text f closes
 
 -- all lines are answered, and nothing follows
-session_done : (time : ℕ) (bytes rest : List ℕ) (c : Local) (text : List ℕ) (d : Local) (k : IsTalk (AnswersCommand acts all_bad time) bytes c rest text d) (ms : List Allocation)
-    → session_of c.machine ((passes time k.lines c text d k.talks).found ++ ms) time (stream k.lines) Over ≡ (talk d.machine ms text, Eof)
+session_done : (limits : SessionLimits) (time : ℕ) (bytes rest : List ℕ) (c : Local) (text : List ℕ) (d : Local) (k : IsTalk limits (AnswersCommand acts all_bad time) bytes c rest text d) (ms : List Allocation)
+    → session_of limits c.machine ((passes limits time k.lines c text d k.talks).found ++ ms) time (stream k.lines) Over ≡ (talk d.machine ms text, Eof)
 unfolding session_of
-session_done time bytes rest c text d k ms =
-    let g = passes time k.lines c text d k.talks in
-    ap (λ bs. talked time Over (parts bs) (talk c.machine (g.found ++ ms) [])) (sym (append-nil (stream k.lines))) ∙ g.so Over [] ms []
+session_done limits time bytes rest c text d k ms =
+    let g = passes limits time k.lines c text d k.talks in
+    ap (λ bs. talked limits time Over (parts bs) (talk c.machine (g.found ++ ms) [])) (sym (append-nil (stream k.lines))) ∙ g.so Over [] ms [] ∙ none_left limits time (talk d.machine ms text)
 
 -- what was cut short in a beginning of a text
 cut_in : (text full a b : List ℕ) (h : IsCutShort text a b) → IsPrefix text full → IsCutShort full [] h.part
@@ -78,30 +78,30 @@ cut_in text full a b h p = record {
 }
 
 -- the place at which the text was cut short, told of the rest of a session
-abbrev Stops : ℕ → ReadEnd → List ℕ → Talk → List ℕ → List ℕ → Machine → Type 0
-Stops time e rest t full out left =
-    CutsLine time rest t out left ⊎ (((ended : Ended) × (talked time e (parts rest) t ≡ (talk t.machine [] full, ended)) × (left ≡ t.machine)) ⊎ CutsPage rest t out left)
+abbrev Stops : SessionLimits → ℕ → ReadEnd → List ℕ → Talk → List ℕ → List ℕ → Machine → Type 0
+Stops limits time e rest t full out left =
+    CutsLine limits time rest t out left ⊎ (((ended : Ended) × (talked limits time e (parts rest) t ≡ (talk t.machine [] full, ended)) × (left ≡ t.machine)) ⊎ CutsPage limits rest t out left)
 
 -- the marks and the text of what was cut short
-record CutTail (time : ℕ) (rest : List ℕ) (c : Local) (text : List ℕ) (d : Local) (w w' : Outgoing) : Type 0 where
+record CutTail (limits : SessionLimits) (time : ℕ) (rest : List ℕ) (c : Local) (text : List ℕ) (d : Local) (w w' : Outgoing) : Type 0 where
   end : ReadEnd
   found : List Allocation
   tail : List ℕ
-  so : IsPrefix (text ++ tail) (talked time end (parts rest) (talk c.machine found text)).0.written
+  so : IsPrefix (text ++ tail) (talked limits time end (parts rest) (talk c.machine found text)).0.written
   fit : FitLines time (parts rest) (talk c.machine found text)
   cut : IsTextWritten (text ++ tail) w w' false
-  stops : Stops time end rest (talk c.machine found text) (text ++ tail) cut.0.part d.machine
+  stops : Stops limits time end rest (talk c.machine found text) (text ++ tail) cut.0.part d.machine
 
-broken_tail : (limits : SessionLimits) (time : ℕ) (a b : Incoming) (rest : List ℕ) (c : Local) (text : List ℕ) (d : Local) (w w' : Outgoing) → FailsWhileWriting limits (Begins acts all_bad time) text rest a b c w d w' → CutTail time rest c text d w w'
+broken_tail : (limits : SessionLimits) (time : ℕ) (a b : Incoming) (rest : List ℕ) (c : Local) (text : List ℕ) (d : Local) (w w' : Outgoing) → FailsWhileWriting limits (Begins acts all_bad time) text rest a b c w d w' → CutTail limits time rest c text d w w'
 broken_tail limits time a b rest c text d w w' (inl ((l, tail, starts, h, cut), same)) =
-    let g = begins_so time (command_of l) c tail d text (talked time Over (parts starts.1)) (λ u. stays time Over (parts starts.1) u) h in
+    let g = begins_so time (command_of l) c tail d text (talked limits time Over (parts starts.1)) (λ u. stays limits time Over (parts starts.1) u) h in
     let t = talk c.machine g.found text in
     record {
       end = Over;
       found = g.found;
       tail = tail;
-      so = subst (λ r. IsPrefix (text ++ tail) r.0.written) (sym (ap (λ bs. talked time Over (parts bs) t) starts.2 ∙ line_then time Over l starts.1 t starts.0)) g.so;
-      fit = subst (λ bs. FitLines time (parts bs) t) (sym starts.2) (line_fit time l starts.1 t starts.0 g.fit (fine time (parts starts.1) (after_command time (command_of l) t) g.spent));
+      so = subst (λ r. IsPrefix (text ++ tail) r.0.written) (sym (ap (λ bs. talked limits time Over (parts bs) t) starts.2 ∙ line_then limits time Over l starts.1 t starts.0)) g.so;
+      fit = subst (λ bs. FitLines time (parts bs) t) (sym starts.2) (line_fit limits time l starts.1 t starts.0 g.fit (fine time (parts starts.1) (after_command time (command_of l) t) g.spent));
       cut = cut;
       stops = inl (l, starts, g.pieces, g.most, g.machine, cut_in (text ++ tail) (after_up_to g.pieces time (command_of l) t).written w.out w'.out cut.0 g.here);
     }
@@ -123,48 +123,48 @@ broken_tail limits time a b rest c text d w w' (inr (inr (line, none, same, cut)
       end = Over;
       found = [];
       tail = [];
-      so = subst (λ l. IsPrefix l (talked time Over (parts rest) t).0.written) (sym (append-nil text)) (stays time Over (parts rest) t);
+      so = subst (λ l. IsPrefix l (talked limits time Over (parts rest) t).0.written) (sym (append-nil text)) (stays limits time Over (parts rest) t);
       fit = fine time (parts rest) t refl;
       cut = all;
       stops = inr (inr (line, ap (λ (x : Local). x.machine) same, cut_in (text ++ []) text w.out w'.out all.0 (subst (λ l. IsPrefix l text) (sym (append-nil text)) (begins_itself text))));
     }
 
 -- the place at which the text of a whole session was cut
-stops_so : (time : ℕ) (bytes rest : List ℕ) (start : Machine) (marks : List Allocation) (e : ReadEnd) (t : Talk) (full out : List ℕ) (left : Machine) → session_of start marks time bytes e ≡ talked time e (parts rest) t → IsCutShort full [] out
-    → Stops time e rest t full out left → CutsLine time rest t out left ⊎ (CutsEnd start marks time bytes e t out left ⊎ CutsPage rest t out left)
-stops_so time bytes rest start marks e t full out left lines cut (inl h) = inl h
-stops_so time bytes rest start marks e t full out left lines cut (inr (inl (ended, shows, same))) = inr (inl (full, ended, lines ∙ shows ∙ ap (λ m. (talk m [] full, ended)) (sym same), same, cut))
-stops_so time bytes rest start marks e t full out left lines cut (inr (inr h)) = inr (inr h)
+stops_so : (limits : SessionLimits) (time : ℕ) (bytes rest : List ℕ) (start : Machine) (marks : List Allocation) (e : ReadEnd) (t : Talk) (full out : List ℕ) (left : Machine) → session_of limits start marks time bytes e ≡ talked limits time e (parts rest) t → IsCutShort full [] out
+    → Stops limits time e rest t full out left → CutsLine limits time rest t out left ⊎ (CutsEnd limits start marks time bytes e t out left ⊎ CutsPage limits rest t out left)
+stops_so limits time bytes rest start marks e t full out left lines cut (inl h) = inl h
+stops_so limits time bytes rest start marks e t full out left lines cut (inr (inl (ended, shows, same))) = inr (inl (full, ended, lines ∙ shows ∙ ap (λ m. (talk m [] full, ended)) (sym same), same, cut))
+stops_so limits time bytes rest start marks e t full out left lines cut (inr (inr h)) = inr (inr h)
 
-failed_session : (limits : SessionLimits) (time : ℕ) (bytes : List ℕ) (a b : Incoming) (c : Local) (w : Outgoing) (d : Local) (w' : Outgoing) → b.taken ≡ a.taken ++ bytes → Keeps (whole a) (whole b) → IsTruncatedRun limits (AnswersCommand acts all_bad time) (Begins acts all_bad time) bytes a b c w d w' → IsSession c.machine time a b w w' d.machine WriteFault
+failed_session : (limits : SessionLimits) (time : ℕ) (bytes : List ℕ) (a b : Incoming) (c : Local) (w : Outgoing) (d : Local) (w' : Outgoing) → b.taken ≡ a.taken ++ bytes → Keeps (whole a) (whole b) → IsTruncatedRun limits (AnswersCommand acts all_bad time) (Begins acts all_bad time) bytes a b c w d w' → IsSession limits c.machine time a b w w' d.machine WriteFault
 failed_session limits time bytes a b c w d w' taken keeps (rest, text, between, k, breaks) =
     let g = broken_tail limits time a b rest between text d w w' breaks in
     let h = g.cut.0 in
-    let marks = (passes time k.lines c text between k.talks).found ++ g.found in
-    let lines = session_lines time g.end bytes rest c text between k g.found in
+    let marks = (passes limits time k.lines c text between k.talks).found ++ g.found in
+    let lines = session_lines limits time g.end bytes rest c text between k g.found in
     let alone = cut_in (text ++ g.tail) (text ++ g.tail) w.out w'.out h (begins_itself (text ++ g.tail)) in
-    let stops = stops_so time bytes rest c.machine marks g.end (talk between.machine g.found text) (text ++ g.tail) h.part d.machine lines alone g.stops in
-    let cut = cut_in (text ++ g.tail) (talked time g.end (parts rest) (talk between.machine g.found text)).0.written w.out w'.out h g.so in (
+    let stops = stops_so limits time bytes rest c.machine marks g.end (talk between.machine g.found text) (text ++ g.tail) h.part d.machine lines alone g.stops in
+    let cut = cut_in (text ++ g.tail) (talked limits time g.end (parts rest) (talk between.machine g.found text)).0.written w.out w'.out h g.so in (
       bytes,
       h.part,
       marks,
-      session_fit time bytes rest c text between k g.found g.fit,
+      session_fit limits time bytes rest c text between k g.found g.fit,
       taken,
       keeps,
       h.has,
       (
         g.end,
         subst (λ r. IsCutShort r.0.written [] h.part) (sym lines) cut,
-        (stream k.lines, rest, talk between.machine g.found text, k.are, session_done time bytes rest c text between k g.found, stops),
+        (stream k.lines, rest, talk between.machine g.found text, k.are, session_done limits time bytes rest c text between k g.found, stops),
       ),
     )
 
-pub local_session : (limits : SessionLimits) (time : ℕ) (a b : Incoming) (c : Local) (w : Outgoing) (d : Local) (w' : Outgoing) (ended : Ended) → Serves limits (AnswersCommand acts all_bad time) (Begins acts all_bad time) a b c w d w' ended → IsSession c.machine time a b w w' d.machine ended
-local_session limits time a b c w d w' Quit (bytes, taken, keeps, (rest, text, tail, k, closes, h)) = (bytes, text ++ tail, (passes time k.lines c text d k.talks).found ++ [], all_fit time bytes rest c text d k, taken, keeps, h.0, λ e. closed_so limits time a b c d Quit bytes rest text tail k closes e tt)
-local_session limits time a b c w d w' Eof (bytes, taken, keeps, (rest, text, tail, k, closes, h)) = (bytes, text ++ tail, (passes time k.lines c text d k.talks).found ++ [], all_fit time bytes rest c text d k, taken, keeps, h.0, closed_so limits time a b c d Eof bytes rest text tail k closes Over refl)
-local_session limits time a b c w d w' CutLine (bytes, taken, keeps, (rest, text, tail, k, closes, h)) = (bytes, text ++ tail, (passes time k.lines c text d k.talks).found ++ [], all_fit time bytes rest c text d k, taken, keeps, h.0, closed_so limits time a b c d CutLine bytes rest text tail k closes Over refl)
-local_session limits time a b c w d w' TooLong (bytes, taken, keeps, (rest, text, tail, k, closes, h)) = (bytes, text ++ tail, (passes time k.lines c text d k.talks).found ++ [], all_fit time bytes rest c text d k, taken, keeps, h.0, λ e. closed_so limits time a b c d TooLong bytes rest text tail k closes e tt)
-local_session limits time a b c w d w' ReadFault (bytes, taken, keeps, (rest, text, tail, k, closes, h)) = (bytes, text ++ tail, (passes time k.lines c text d k.talks).found ++ [], all_fit time bytes rest c text d k, taken, keeps, h.0, closed_so limits time a b c d ReadFault bytes rest text tail k closes Failed refl)
-local_session limits time a b c w d w' TooManyReads (bytes, taken, keeps, (rest, text, tail, k, closes, h)) = (bytes, text ++ tail, (passes time k.lines c text d k.talks).found ++ [], all_fit time bytes rest c text d k, taken, keeps, h.0, closed_so limits time a b c d TooManyReads bytes rest text tail k closes Spent refl)
+pub local_session : (limits : SessionLimits) (time : ℕ) (a b : Incoming) (c : Local) (w : Outgoing) (d : Local) (w' : Outgoing) (ended : Ended) → Serves limits (AnswersCommand acts all_bad time) (Begins acts all_bad time) a b c w d w' ended → IsSession limits c.machine time a b w w' d.machine ended
+local_session limits time a b c w d w' Quit (bytes, taken, keeps, (rest, text, tail, k, closes, h)) = (bytes, text ++ tail, (passes limits time k.lines c text d k.talks).found ++ [], all_fit limits time bytes rest c text d k, taken, keeps, h.0, λ e. closed_so limits time a b c d Quit bytes rest text tail k closes e tt)
+local_session limits time a b c w d w' Eof (bytes, taken, keeps, (rest, text, tail, k, closes, h)) = (bytes, text ++ tail, (passes limits time k.lines c text d k.talks).found ++ [], all_fit limits time bytes rest c text d k, taken, keeps, h.0, closed_so limits time a b c d Eof bytes rest text tail k closes Over refl)
+local_session limits time a b c w d w' CutLine (bytes, taken, keeps, (rest, text, tail, k, closes, h)) = (bytes, text ++ tail, (passes limits time k.lines c text d k.talks).found ++ [], all_fit limits time bytes rest c text d k, taken, keeps, h.0, closed_so limits time a b c d CutLine bytes rest text tail k closes Over refl)
+local_session limits time a b c w d w' TooLong (bytes, taken, keeps, (rest, text, tail, k, closes, h)) = (bytes, text ++ tail, (passes limits time k.lines c text d k.talks).found ++ [], all_fit limits time bytes rest c text d k, taken, keeps, h.0, λ e. closed_so limits time a b c d TooLong bytes rest text tail k closes e tt)
+local_session limits time a b c w d w' ReadFault (bytes, taken, keeps, (rest, text, tail, k, closes, h)) = (bytes, text ++ tail, (passes limits time k.lines c text d k.talks).found ++ [], all_fit limits time bytes rest c text d k, taken, keeps, h.0, closed_so limits time a b c d ReadFault bytes rest text tail k closes Failed refl)
+local_session limits time a b c w d w' TooManyReads (bytes, taken, keeps, (rest, text, tail, k, closes, h)) = (bytes, text ++ tail, (passes limits time k.lines c text d k.talks).found ++ [], all_fit limits time bytes rest c text d k, taken, keeps, h.0, closed_so limits time a b c d TooManyReads bytes rest text tail k closes Spent refl)
 local_session limits time a b c w d w' WriteFault (bytes, taken, keeps, h) = failed_session limits time bytes a b c w d w' taken keeps (served_fails limits (AnswersCommand acts all_bad time) (Begins acts all_bad time) bytes a b c w d w' h)
 local_session limits time a b c w d w' NoRoom (bytes, taken, keeps, h) = (bytes, [], [], fine time (parts bytes) (talk c.machine [] []) refl, taken, keeps, ap (λ (x : Outgoing). x.out) h.3 ∙ sym (append-nil w.out), (h.0, refl, ap (λ (x : Local). x.machine) h.2))

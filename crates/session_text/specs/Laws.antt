@@ -5,6 +5,7 @@ use Rattle.heap_trail.specs.Machine.{Machine, Allocation, MayStand, AreAllocatio
 use Rattle.session_text.specs.declared.Ended.{Ended}
 use Rattle.session_text.specs.declared.Ended.TheVariants.{Quit, Eof, CutLine, TooLong, ReadFault, TooManyReads, WriteFault, NoMemory as NoRoom}
 use Rattle.session_text.specs.declared.ReadEnd.{ReadEnd}
+use Rattle.session_text.specs.declared.limits.SessionLimits.{SessionLimits}
 use Rattle.session_text.specs.Answers.{AnswersCommand, Begins, all_bad}
 use Rattle.session_text.specs.Dumps.{Acts}
 use Rattle.session_text.specs.Session.{AllocationsFit, StopsAfter, session_of}
@@ -18,8 +19,8 @@ InTurn m before a r after =
     × (replies_of m after ≡ replies_of m before ++ r ∷ [])
 
 -- no whole line is left, or `end` comes next, or a line that is too long
-abbrev pub IsStop : List ℕ → Type 0
-IsStop rest = IsLine rest ⊎ (IsQuit rest ⊎ IsLong rest)
+abbrev pub IsStop : SessionLimits → List ℕ → Type 0
+IsStop limits rest = IsLine limits rest ⊎ (IsQuit limits rest ⊎ IsLong limits rest)
 
 -- the line of an ending
 abbrev pub ending_line : Ended → List ℕ
@@ -34,43 +35,43 @@ ending_line NoRoom = []
 
 -- the lines of the bytes asked for these actions, in order, and the text is that of their replies; they lead to the machine
 -- m'
-pub record IsList (m : Machine) (time : ℕ) (bytes text : List ℕ) (m' : Machine) : Type 0 where
+pub record IsList (limits : SessionLimits) (m : Machine) (time : ℕ) (bytes text : List ℕ) (m' : Machine) : Type 0 where
   pub actions : List (Action × Allocation)
   pub marks : AreAllocations m actions
   pub rest : List ℕ
-  pub talk : IsTalk (AnswersCommand (InTurn m) all_bad time) bytes [] rest text actions
-  pub stop : IsStop rest
+  pub talk : IsTalk limits (AnswersCommand (InTurn m) all_bad time) bytes [] rest text actions
+  pub stop : IsStop limits rest
   pub machine : m' ≡ machine_after m actions
 
 -- a session is a list of actions: it leaves their machine, and writes their replies and the line of its ending
-abbrev pub IsListed : Machine → List Allocation → ℕ → List ℕ → ReadEnd → Type 0
-IsListed m marks time bytes e =
-    let s = session_of m marks time bytes e in
-    AllocationsFit m marks time bytes → (text : List ℕ) × IsList m time bytes text s.0.machine
+abbrev pub IsListed : SessionLimits → Machine → List Allocation → ℕ → List ℕ → ReadEnd → Type 0
+IsListed limits m marks time bytes e =
+    let s = session_of limits m marks time bytes e in
+    AllocationsFit m marks time bytes → (text : List ℕ) × IsList limits m time bytes text s.0.machine
     × (s.0.written ≡ text ++ ending_line s.1)
 
 -- no line of the rest was acted on, or the first one was, a dump up to some piece
-abbrev pub IsBegun : Machine → ℕ → List ℕ → List (Action × Allocation) → List (Action × Allocation)
+abbrev pub IsBegun : SessionLimits → Machine → ℕ → List ℕ → List (Action × Allocation) → List (Action × Allocation)
     → Type 0
-IsBegun m time rest before after =
+IsBegun limits m time rest before after =
     (after ≡ before)
-    ⊎ ((l : List ℕ) × (tail : List ℕ) × BeginsWith l rest
+    ⊎ ((l : List ℕ) × (tail : List ℕ) × BeginsWith limits l rest
     × Begins (InTurn m) all_bad time l before tail after)
 
 -- the lines before the rest asked for the actions that were answered, in order, and all actions lead to the machine m'
-pub record IsCutList (m : Machine) (time : ℕ) (bytes : List ℕ) (m' : Machine) : Type 0 where
+pub record IsCutList (limits : SessionLimits) (m : Machine) (time : ℕ) (bytes : List ℕ) (m' : Machine) : Type 0 where
   pub actions : List (Action × Allocation)
   pub marks : AreAllocations m actions
   pub answered : List (Action × Allocation)
   pub rest : List ℕ
   pub text : List ℕ
-  pub talk : IsTalk (AnswersCommand (InTurn m) all_bad time) bytes [] rest text answered
-  pub begun : IsBegun m time rest answered actions
+  pub talk : IsTalk limits (AnswersCommand (InTurn m) all_bad time) bytes [] rest text answered
+  pub begun : IsBegun limits m time rest answered actions
   pub machine : m' ≡ machine_after m actions
 
 -- a session in which a write failed leaves the machine of a list of actions
-abbrev pub IsCutListed : Machine → List Allocation → ℕ → List ℕ → ReadEnd → Type 0
-IsCutListed m marks time bytes e =
+abbrev pub IsCutListed : SessionLimits → Machine → List Allocation → ℕ → List ℕ → ReadEnd → Type 0
+IsCutListed limits m marks time bytes e =
     AllocationsFit m marks time bytes → (out : List ℕ) (m' : Machine)
-    → StopsAfter m marks time bytes e out m'
-    → IsCutList m time bytes m'
+    → StopsAfter limits m marks time bytes e out m'
+    → IsCutList limits m time bytes m'

@@ -3,7 +3,7 @@ use Rattle.std.specs.Prelude.{◌≡◌, ℕ, ◌+◌, ◌<◌, ◌≤◌, Bool,
 use Rattle.dump_pump.specs.Outlets.{Outgoing}
 use Rattle.heap_trail.specs.declared.Action.{Action}
 use Rattle.heap_trail.specs.declared.Reply.{Reply}
-use Rattle.session_grammar.specs.declared.TheConstants.{LINE_LIMIT}
+use Rattle.session_text.specs.declared.limits.TheConstants.{NARROW_LINE}
 use Rattle.session_grammar.specs.declared.command.Command.{Command}
 use Rattle.session_grammar.specs.declared.command.Command.TheVariants.{Ask}
 use Rattle.session_text.specs.declared.mutator.Quick.{Quick}
@@ -27,9 +27,9 @@ FollowsIn key text at =
     (at ≤ length text) × NoLf (take at text)
     × ((n : ℕ) → at ≤ n → n ≤ length text → Follows key (take n text) at)
 
--- the text's first line ends here, it isn't too long, and no CR ends it
+-- the text's first line ends here, it isn't too long in any session, and no CR ends it
 abbrev pub IsShortLine : ℕ → List ℕ → Type 0
-IsShortLine n text = IsLineAt n text × (n ≤ LINE_LIMIT) × (take n text ≡ without_cr (take n text))
+IsShortLine n text = IsLineAt n text × (n ≤ NARROW_LINE) × (take n text ≡ without_cr (take n text))
 
 -- a digit with this value stands at a place of a text, and this byte behind it
 abbrev pub IsDigitThen : List ℕ → ℕ → ℕ → ℕ → Type 0

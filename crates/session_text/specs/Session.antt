@@ -12,7 +12,8 @@ use Rattle.session_text.specs.declared.Ended.{Ended}
 use Rattle.session_text.specs.declared.Ended.TheVariants.{Quit, Eof, CutLine, TooLong, ReadFault, TooManyReads, WriteFault, NoMemory as NoRoom}
 use Rattle.session_text.specs.declared.ReadEnd.{ReadEnd}
 use Rattle.session_text.specs.declared.ReadEnd.TheVariants.{Over, Failed, Spent}
-use Rattle.session_grammar.specs.declared.TheConstants.{LINE_LIMIT}
+use Rattle.session_text.specs.declared.limits.SessionLimits.{SessionLimits}
+use Rattle.session_text.specs.Limits.{longest_line}
 use Rattle.session_grammar.specs.declared.command.Command.{Command}
 use Rattle.session_grammar.specs.declared.command.Command.TheVariants.{Blank, Bad, Ask, Piece, Dump, DumpNow, End}
 use Rattle.session_text.specs.Dumps.{total_line}
@@ -125,18 +126,18 @@ abbrev pub at_long : Talk → Talk × Ended
 at_long t = (wrote (codes "bad long\n") t, TooLong)
 
 -- the lines, of which the last has no LF
-abbrev pub talked : ℕ → ReadEnd → List (List ℕ) → Talk → Talk × Ended
-talked time e [] t = at_read_end e true t
-talked time e (rest ∷ []) t =
-    if nat_lt LINE_LIMIT (length rest) then at_long t else at_read_end e (length rest == 0) t
-talked time e (l ∷ m ∷ more) t =
-    if nat_lt LINE_LIMIT (length l) then at_long t
-    else go_on (talked time e (m ∷ more)) time (command_of l) t
+abbrev pub talked : SessionLimits → ℕ → ReadEnd → List (List ℕ) → Talk → Talk × Ended
+talked limits time e [] t = at_read_end e true t
+talked limits time e (rest ∷ []) t =
+    if nat_lt (longest_line limits) (length rest) then at_long t else at_read_end e (length rest == 0) t
+talked limits time e (l ∷ m ∷ more) t =
+    if nat_lt (longest_line limits) (length l) then at_long t
+    else go_on (talked limits time e (m ∷ more)) time (command_of l) t
 
 -- the session's end, from the machine at its start, the marks, the bytes read and how reading ended
-unfoldable pub session_of : Machine → List Allocation → ℕ → List ℕ → ReadEnd → Talk × Ended
-session_of m marks time bytes e =
-    talked time e (slice_split (λ b. b == 10) bytes)
+unfoldable pub session_of : SessionLimits → Machine → List Allocation → ℕ → List ℕ → ReadEnd → Talk × Ended
+session_of limits m marks time bytes e =
+    talked limits time e (slice_split (λ b. b == 10) bytes)
     (record { machine = m; marks = marks; written = [] })
 
 -- ---- which marks may stand
@@ -194,62 +195,62 @@ AllocationsFit m marks time bytes =
 -- ---- the output of a session
 
 -- all marks are used up, this was written, and the machine is so
-abbrev pub ShowsSession : Machine → List Allocation → ℕ → List ℕ → ReadEnd → List ℕ → Machine
+abbrev pub ShowsSession : SessionLimits → Machine → List Allocation → ℕ → List ℕ → ReadEnd → List ℕ → Machine
     → Ended → Type 0
-ShowsSession m marks time bytes e out m' ended =
-    session_of m marks time bytes e ≡ (record { machine = m'; marks = []; written = out }, ended)
+ShowsSession limits m marks time bytes e out m' ended =
+    session_of limits m marks time bytes e ≡ (record { machine = m'; marks = []; written = out }, ended)
 
 -- the next line was acted on, a dump up to some piece, and the text with its answer was cut short
-abbrev pub CutsLine : ℕ → List ℕ → Talk → List ℕ → Machine → Type 0
-CutsLine time rest t out m' =
-    (l : List ℕ) × BeginsWith l rest × (pieces : ℕ) × (pieces ≤ part_limit)
+abbrev pub CutsLine : SessionLimits → ℕ → List ℕ → Talk → List ℕ → Machine → Type 0
+CutsLine limits time rest t out m' =
+    (l : List ℕ) × BeginsWith limits l rest × (pieces : ℕ) × (pieces ≤ part_limit)
     × (m' ≡ (after_up_to pieces time (command_of l) t).machine)
     × IsCutShort (after_up_to pieces time (command_of l) t).written [] out
 
 -- all lines were answered, and the text with what the ending prints was cut short
-abbrev pub CutsEnd : Machine → List Allocation → ℕ → List ℕ → ReadEnd → Talk → List ℕ → Machine
+abbrev pub CutsEnd : SessionLimits → Machine → List Allocation → ℕ → List ℕ → ReadEnd → Talk → List ℕ → Machine
     → Type 0
-CutsEnd m marks time bytes e t out m' =
-    (whole : List ℕ) × (ended : Ended) × ShowsSession m marks time bytes e whole m' ended
+CutsEnd limits m marks time bytes e t out m' =
+    (whole : List ℕ) × (ended : Ended) × ShowsSession limits m marks time bytes e whole m' ended
     × (m' ≡ t.machine) × IsCutShort whole [] out
 
 -- no whole line was left, and the text was cut short before a read
-abbrev pub CutsPage : List ℕ → Talk → List ℕ → Machine → Type 0
-CutsPage rest t out m' = IsLine rest × (m' ≡ t.machine) × IsCutShort t.written [] out
+abbrev pub CutsPage : SessionLimits → List ℕ → Talk → List ℕ → Machine → Type 0
+CutsPage limits rest t out m' = IsLine limits rest × (m' ≡ t.machine) × IsCutShort t.written [] out
 
 -- the lines at the front of the bytes were acted on and left t, and the text was cut in their answers or behind them
-abbrev pub StopsAfter : Machine → List Allocation → ℕ → List ℕ → ReadEnd → List ℕ → Machine → Type 0
-StopsAfter m marks time bytes e out m' =
+abbrev pub StopsAfter : SessionLimits → Machine → List Allocation → ℕ → List ℕ → ReadEnd → List ℕ → Machine → Type 0
+StopsAfter limits m marks time bytes e out m' =
     (lines : List ℕ) × (rest : List ℕ) × (t : Talk) × (bytes ≡ lines ++ rest)
-    × (session_of m marks time lines Over ≡ (t, Eof))
-    × (CutsLine time rest t out m'
-    ⊎ (CutsEnd m marks time bytes e t out m' ⊎ CutsPage rest t out m'))
+    × (session_of limits m marks time lines Over ≡ (t, Eof))
+    × (CutsLine limits time rest t out m'
+    ⊎ (CutsEnd limits m marks time bytes e t out m' ⊎ CutsPage limits rest t out m'))
 
 -- the output and the machine are those of the session, or a beginning of the output if a write failed
-abbrev pub IsSessionShown : Machine → List Allocation → ℕ → List ℕ → List ℕ → Machine → Ended
+abbrev pub IsSessionShown : SessionLimits → Machine → List Allocation → ℕ → List ℕ → List ℕ → Machine → Ended
     → Type 0
-IsSessionShown m marks time bytes out m' Quit =
-    (e : ReadEnd) → ShowsSession m marks time bytes e out m' Quit
-IsSessionShown m marks time bytes out m' Eof = ShowsSession m marks time bytes Over out m' Eof
-IsSessionShown m marks time bytes out m' CutLine =
-    ShowsSession m marks time bytes Over out m' CutLine
-IsSessionShown m marks time bytes out m' TooLong =
-    (e : ReadEnd) → ShowsSession m marks time bytes e out m' TooLong
-IsSessionShown m marks time bytes out m' ReadFault =
-    ShowsSession m marks time bytes Failed out m' ReadFault
-IsSessionShown m marks time bytes out m' TooManyReads =
-    ShowsSession m marks time bytes Spent out m' TooManyReads
-IsSessionShown m marks time bytes out m' WriteFault =
-    (e : ReadEnd) × IsCutShort (session_of m marks time bytes e).0.written [] out
-    × StopsAfter m marks time bytes e out m'
-IsSessionShown m marks time bytes out m' NoRoom = (bytes ≡ []) × (out ≡ []) × (m' ≡ m)
+IsSessionShown limits m marks time bytes out m' Quit =
+    (e : ReadEnd) → ShowsSession limits m marks time bytes e out m' Quit
+IsSessionShown limits m marks time bytes out m' Eof = ShowsSession limits m marks time bytes Over out m' Eof
+IsSessionShown limits m marks time bytes out m' CutLine =
+    ShowsSession limits m marks time bytes Over out m' CutLine
+IsSessionShown limits m marks time bytes out m' TooLong =
+    (e : ReadEnd) → ShowsSession limits m marks time bytes e out m' TooLong
+IsSessionShown limits m marks time bytes out m' ReadFault =
+    ShowsSession limits m marks time bytes Failed out m' ReadFault
+IsSessionShown limits m marks time bytes out m' TooManyReads =
+    ShowsSession limits m marks time bytes Spent out m' TooManyReads
+IsSessionShown limits m marks time bytes out m' WriteFault =
+    (e : ReadEnd) × IsCutShort (session_of limits m marks time bytes e).0.written [] out
+    × StopsAfter limits m marks time bytes e out m'
+IsSessionShown limits m marks time bytes out m' NoRoom = (bytes ≡ []) × (out ≡ []) × (m' ≡ m)
 
 -- the bytes taken (those that the reader tells, if it tells them) and the bytes put out, for some marks of failed allocations
 -- that may stand there
-abbrev pub IsSession : Machine → ℕ → Incoming → Incoming → Outgoing → Outgoing → Machine → Ended
+abbrev pub IsSession : SessionLimits → Machine → ℕ → Incoming → Incoming → Outgoing → Outgoing → Machine → Ended
     → Type 0
-IsSession m time a b w w' m' ended =
+IsSession limits m time a b w w' m' ended =
     (bytes : List ℕ) × (out : List ℕ) × (marks : List Allocation)
     × AllocationsFit m marks time bytes
     × (b.taken ≡ a.taken ++ bytes) × Keeps (whole a) (whole b) × (w'.out ≡ w.out ++ out)
-    × IsSessionShown m marks time bytes out m' ended
+    × IsSessionShown limits m marks time bytes out m' ended

@@ -7,6 +7,7 @@ ghost use Rattle.session_text.specs.Replies.{line_answer_text};
 ghost use Rattle.session_text.specs.Talks.{AreFirstAnswered, IsFirst, IsFirstCut, IsLineFlow, AreLinesAnswered};
 ghost use Rattle.session_text.specs.Writes.{IsTextAdded};
 ghost use Rattle.session_grammar.specs.declared.TheConstants.{LINE_LIMIT};
+ghost use Rattle.session_text.specs.declared.limits.SessionLimits.{SessionLimits};
 
 use crate::act::answer_action;
 use crate::commands::{Commands, LineAnswer};
@@ -19,7 +20,6 @@ use crate::write::{write_long, write_number_line, write_text};
 use dump_pump::Outlet;
 use heap_class::Refusal;
 use heap_trail::{Action, Reply};
-use session_grammar::LINE_LIMIT;
 use session_grammar::command::{Command, command_of_text, without_cr};
 use session_grammar::spans::FieldSpans;
 use std::alloc::Global;
@@ -124,7 +124,7 @@ fn answer_first<O: Outlet, C: Commands>(
     writer: &mut O,
     commands: &mut C,
 ) -> Option<Flow>
-    ensures { IsFirst (AnswersCommand C.acts C.unknown context.time)
+    ensures { IsFirst context.limits (AnswersCommand C.acts C.unknown context.time)
         (Begins C.acts C.unknown context.time)
         session.old.buffer commands.old session.old.page (O.seen writer.old) session.new.buffer
         commands.new session.new.page (O.seen writer.new) result }
@@ -134,13 +134,14 @@ fn answer_first<O: Outlet, C: Commands>(
         page,
         spans,
     } = session;
+    let most = context.limits.longest_line();
     let Some(n) = buffer.line_end() else {
-        if buffer.as_slice().len() > LINE_LIMIT {
+        if buffer.as_slice().len() > most {
             return Some(Flow::Long);
         }
         return None;
     };
-    if n > LINE_LIMIT {
+    if n > most {
         return Some(Flow::Long);
     }
     let line = without_cr(&buffer.as_slice()[..n]);
@@ -161,12 +162,12 @@ fn answer_mutators<O: Outlet, C: Commands>(
     writer: &mut O,
     commands: &mut C,
 ) -> bool
-    ensures answered { result ≡ true → (time : ℕ)
-        → AreFirstAnswered (AnswersCommand C.acts C.unknown time) session.old.buffer commands.old
+    ensures answered { result ≡ true → (limits : SessionLimits)
+        → (time : ℕ) → AreFirstAnswered limits (AnswersCommand C.acts C.unknown time) session.old.buffer commands.old
         session.old.page (O.seen writer.old) session.new.buffer commands.new session.new.page
         (O.seen writer.new) }
-    ensures cut { result ≡ false → (time : ℕ)
-        → IsFirstCut (AnswersCommand C.acts C.unknown time) (Begins C.acts C.unknown time)
+    ensures cut { result ≡ false → (limits : SessionLimits)
+        → (time : ℕ) → IsFirstCut limits (AnswersCommand C.acts C.unknown time) (Begins C.acts C.unknown time)
         session.old.buffer commands.old session.old.page (O.seen writer.old) commands.new
         session.new.page (O.seen writer.new) }
 {
@@ -197,7 +198,7 @@ pub fn answer_lines<O: Outlet, C: Commands>(
     commands: &mut C,
 ) -> Flow
     requires { session.old.page ≡ [] }
-    ensures { AreLinesAnswered (AnswersCommand C.acts C.unknown context.time)
+    ensures { AreLinesAnswered context.limits (AnswersCommand C.acts C.unknown context.time)
         (Begins C.acts C.unknown context.time)
         session.old.buffer commands.old (O.seen writer.old) session.new.buffer commands.new
         session.new.page (O.seen writer.new) result }

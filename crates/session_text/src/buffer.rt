@@ -1,5 +1,5 @@
 //! The bytes that were read and aren't answered yet.
-ghost use Rattle.std.specs.Prelude.{◌≡◌, ◌+◌, ◌-◌, ◌≤◌, ◌<◌, [], take, drop, length, IfOk, MatchOption};
+ghost use Rattle.std.specs.Prelude.{◌≡◌, ◌+◌, ◌-◌, ◌≤◌, ◌<◌, ◌⊎◌, [], take, drop, length, vec_capacity, IfOk, MatchOption};
 ghost use Rattle.dump_pump.specs.Inlets.{count_of};
 ghost use Rattle.session_text.specs.Buffers.{IsInletRead};
 ghost use Rattle.session_text.specs.Limits.{buffer_limit};
@@ -31,17 +31,16 @@ pub struct Buffer {
 }
 
 impl Model for Buffer {
-    ghost use Rattle.std.specs.Prelude.{◌≡◌, ℕ, ◌+◌, ◌-◌, ◌<◌, ◌≤◌, List, take, drop, length};
+    ghost use Rattle.std.specs.Prelude.{◌≡◌, ◌+◌, ◌-◌, ◌≤◌, List, take, drop, length, vec_capacity};
     ghost use Rattle.session_text.specs.Limits.{buffer_limit};
     ghost use Rattle.session_grammar.specs.Lines.{NoLf};
-    ghost use Rattle.session_grammar.specs.declared.TheConstants.{LINE_LIMIT};
 
     ghost Value = { List ℕ };
 
     ghost view = { λ b. take (b.end - b.start) (drop b.start b.bytes.items) };
 
     ghost invariant = { λ b. (b.start + b.scanned ≤ b.end) × (b.end ≤ length b.bytes.items)
-        × (LINE_LIMIT < length b.bytes.items) × (length b.bytes.items ≤ buffer_limit)
+        × (length b.bytes.items ≤ buffer_limit) × (buffer_limit ≤ vec_capacity b.bytes)
         × NoLf (take b.scanned (drop b.start b.bytes.items)) };
 }
 
@@ -94,30 +93,8 @@ impl Buffer {
         found
     }
 
-    // Puts all memory to use, if a read has filled what was.
-    fn widen(&mut self)
-        ensures { self.new ≡ self.old }
-    {
-        if self.end < self.bytes.len() {
-            return;
-        }
-        match self.bytes.resize(BUFFER_LIMIT, 0) {
-            Ok(()) => (),
-            Err(_) => (),
-        }
-    }
-
     /// Reads once, and appends the bytes.
     pub fn read<I: Inlet>(&mut self, inlet: &mut I) -> Take
-        requires { length self.old ≤ LINE_LIMIT }
-        ensures { IsInletRead self.old self.new (I.seen inlet.old) (I.seen inlet.new) result }
-    {
-        self.widen();
-        self.read_on(inlet)
-    }
-
-    // Reads once into what is in use, and appends the bytes.
-    fn read_on<I: Inlet>(&mut self, inlet: &mut I) -> Take
         requires { length self.old ≤ LINE_LIMIT }
         ensures { IsInletRead self.old self.new (I.seen inlet.old) (I.seen inlet.new) result }
     {
@@ -128,11 +105,46 @@ impl Buffer {
             scanned: _,
         } = self;
         let used = *end - *start;
-        let took = refill(bytes, *start, *end, inlet);
+        let took = read_behind(bytes, *start, *end, inlet);
         *start = 0;
         *end = used + count_of(took);
         took
     }
+}
+
+// Puts all memory to use, if a read has filled what was: then `end` is the end of what is in use. A range up to there stays.
+fn widen(bytes: &mut Vec<u8>, start: usize, end: usize)
+    requires range { (start ≤ end) × (end ≤ length bytes.old.items) }
+    requires room { (length bytes.old.items ≤ buffer_limit) × (buffer_limit ≤ vec_capacity bytes.old) }
+    ensures kept { take (end - start) (drop start bytes.new.items)
+        ≡ take (end - start) (drop start bytes.old.items) }
+    ensures range { (end ≤ length bytes.new.items) × (length bytes.new.items ≤ buffer_limit) }
+    ensures wide { (end < length bytes.new.items) ⊎ (length bytes.new.items ≡ buffer_limit) }
+    ensures room { buffer_limit ≤ vec_capacity bytes.new }
+{
+    if end < bytes.len() {
+        return;
+    }
+    match bytes.resize(BUFFER_LIMIT, 0) {
+        Ok(()) => {}
+        Err(_) => unreachable!(),
+    }
+}
+
+// Moves a range of a buffer to the front and reads once behind it.
+fn read_behind<I: Inlet>(bytes: &mut Vec<u8>, start: usize, end: usize, inlet: &mut I) -> Take
+    requires range { (start ≤ end) × (end ≤ length bytes.old.items) × (end - start ≤ LINE_LIMIT) }
+    requires room { (length bytes.old.items ≤ buffer_limit) × (buffer_limit ≤ vec_capacity bytes.old) }
+    ensures read { IsInletRead (take (end - start) (drop start bytes.old.items))
+        (take (end - start + count_of result) bytes.new.items) (I.seen inlet.old)
+        (I.seen inlet.new) result }
+    ensures kept { take (end - start) bytes.new.items
+        ≡ take (end - start) (drop start bytes.old.items) }
+    ensures fits { end - start + count_of result ≤ length bytes.new.items }
+    ensures room { (length bytes.new.items ≤ buffer_limit) × (buffer_limit ≤ vec_capacity bytes.new) }
+{
+    widen(bytes, start, end);
+    refill(bytes, start, end, inlet)
 }
 
 // Moves a range to the front and reads once behind it.

@@ -4,6 +4,7 @@
 ghost use Rattle.std.specs.Prelude.{◌≡◌, ℕ, List};
 ghost use Rattle.heap_trail.specs.Machine.{Machine, Allocation};
 ghost use Rattle.session_text.specs.declared.ReadEnd.{ReadEnd};
+ghost use Rattle.session_text.specs.declared.limits.SessionLimits.{SessionLimits};
 ghost use Rattle.session_text.specs.Laws.{IsListed, IsCutListed};
 ghost use Rattle.session_text.specs.Limits.{is_whole_session};
 
@@ -44,7 +45,7 @@ pub enum Ended {
     Eof,
     /// At the end of input, in a line, which was not run.
     CutLine,
-    /// At a line of more than 4,096 bytes.
+    /// At a line of more bytes than it may have.
     TooLong,
     /// By a read that failed.
     ReadFault,
@@ -79,14 +80,14 @@ impl Ended {
 /// States that a session of a private machine is a list of actions: those that its lines ask for, in order. It leaves the
 /// machine that they lead to, and writes their replies and the line of its ending.
 pub fn session_is_list()
-    ensures { (m : Machine) (marks : List Allocation) (time : ℕ) (bytes : List ℕ) (e : ReadEnd)
-        → IsListed m marks time bytes e }
+    ensures { (limits : SessionLimits) (m : Machine) (marks : List Allocation) (time : ℕ)
+        (bytes : List ℕ) (e : ReadEnd) → IsListed limits m marks time bytes e }
 {}
 
 /// States that such a session, if a write failed in it, leaves the machine of a list of actions too: those of the lines
 /// before one, and some of that one's, in the order in which it asks for them. A dump of the current state has closed its
 /// pin.
 pub fn cut_session_is_list()
-    ensures { (m : Machine) (marks : List Allocation) (time : ℕ) (bytes : List ℕ) (e : ReadEnd)
-        → IsCutListed m marks time bytes e }
+    ensures { (limits : SessionLimits) (m : Machine) (marks : List Allocation) (time : ℕ)
+        (bytes : List ℕ) (e : ReadEnd) → IsCutListed limits m marks time bytes e }
 {}

@@ -119,7 +119,7 @@ pub fn serve_local<I: Inlet, O: Outlet>(
     ensures ends { EndsSession limits (I.seen reader.old) (I.seen reader.new) (O.seen writer.old)
         (O.seen writer.new) result }
     ensures first { local.new.first_pin ≡ local.old.first_pin }
-    ensures session { IsSession local.old.machine time (I.seen reader.old) (I.seen reader.new)
+    ensures session { IsSession limits local.old.machine time (I.seen reader.old) (I.seen reader.new)
         (O.seen writer.old) (O.seen writer.new) local.new.machine result }
 {
     serve(alloc, reader, writer, local, time, limits)

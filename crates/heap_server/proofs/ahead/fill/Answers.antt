@@ -3,18 +3,18 @@ use Rattle.std.proofs.lemmas.List.{length-take-le}
 use Rattle.dump_pump.specs.declared.inlet.Take.TheVariants.{End, Failed}
 use Rattle.session_text.specs.Buffers.{IsInletRead}
 use Rattle.heap_server.proofs.AheadReads.{IsReading, end_came, fault_came, grew, line_came, reading_goes}
-use Rattle.heap_server.proofs.ahead.fill.Goals.{then-is_some-via-then-is_some, then-is_some-via-else-is_some+then-end-gt-LINE_LIMIT}
+use Rattle.heap_server.proofs.ahead.fill.Goals.{then-is_some-via-then-is_some, then-is_some-via-else-is_some+then-end-most}
 use Rattle.heap_server.proofs.ahead.fill.Goals as goal
 
 pub returns-then-is_some : goal.returns-then-is_some
 returns-then-is_some g c =
     let size : length (take (c.loop-end.end + c.in-Got.n) c.read_more.new.room) ≡ c.loop-end.end + c.in-Got.n = length-take-le (c.loop-end.end + c.in-Got.n) c.read_more.new.room c.in-Got.ensures.fits in
     record {
-      ahead = line_came c.line_end.result (take c.loop-end.end c.loop-end.room) (take (c.loop-end.end + c.in-Got.n) c.read_more.new.room) c.loop-end.end (vec_len c.loop-end.sizes) c.in-Got.n
+      ahead = line_came c.args.most c.line_end.result (take c.loop-end.end c.loop-end.room) (take (c.loop-end.end + c.in-Got.n) c.read_more.new.room) c.loop-end.end (vec_len c.loop-end.sizes) c.in-Got.n
           (g.I.Inlet.seen c.args.inlet.now) (g.I.Inlet.seen c.loop-end.inlet) (g.I.Inlet.seen c.read_more.new.inlet) c.loop-end.invariant.0 c.in-Got.ensures.read c.line_end.ensures
           (elim c.then-is_some.branch [
             | then-is_some-via-then-is_some w ↦ inl (sym c.is_some.ensures ∙ w.if-is_some.true)
-            | then-is_some-via-else-is_some+then-end-gt-LINE_LIMIT w ↦ inr (omega (arith, size, w.if-end-gt-LINE_LIMIT.true))
+            | then-is_some-via-else-is_some+then-end-most w ↦ inr (omega (arith, size, w.if-end-most.true))
           ]);
     }
 
@@ -22,7 +22,7 @@ pub returns-in-End : goal.returns-in-End
 returns-in-End g c =
     let none : c.loop-end.end + 0 ≡ c.loop-end.end = omega arith in
     record {
-      ahead = end_came (take c.loop-end.end c.loop-end.room) (take c.loop-end.end c.read_more.new.room) c.loop-end.end (vec_len c.loop-end.sizes)
+      ahead = end_came c.args.most (take c.loop-end.end c.loop-end.room) (take c.loop-end.end c.read_more.new.room) c.loop-end.end (vec_len c.loop-end.sizes)
           (g.I.Inlet.seen c.args.inlet.now) (g.I.Inlet.seen c.loop-end.inlet) (g.I.Inlet.seen c.read_more.new.inlet) c.loop-end.invariant.0
           (subst (λ k. IsInletRead (take c.loop-end.end c.loop-end.room) (take k c.read_more.new.room) (g.I.Inlet.seen c.loop-end.inlet) (g.I.Inlet.seen c.read_more.new.inlet) End) none c.in-End.ensures.read);
     }
@@ -31,7 +31,7 @@ pub returns-in-Failed : goal.returns-in-Failed
 returns-in-Failed g c =
     let none : c.loop-end.end + 0 ≡ c.loop-end.end = omega arith in
     record {
-      ahead = fault_came (take c.loop-end.end c.loop-end.room) (take c.loop-end.end c.read_more.new.room) c.loop-end.end (vec_len c.loop-end.sizes)
+      ahead = fault_came c.args.most (take c.loop-end.end c.loop-end.room) (take c.loop-end.end c.read_more.new.room) c.loop-end.end (vec_len c.loop-end.sizes)
           (g.I.Inlet.seen c.args.inlet.now) (g.I.Inlet.seen c.loop-end.inlet) (g.I.Inlet.seen c.read_more.new.inlet) c.loop-end.invariant.0
           (subst (λ k. IsInletRead (take c.loop-end.end c.loop-end.room) (take k c.read_more.new.room) (g.I.Inlet.seen c.loop-end.inlet) (g.I.Inlet.seen c.read_more.new.inlet) Failed) none c.in-Failed.ensures.read);
     }
@@ -41,8 +41,8 @@ loop-end-preserved g c =
     let was : length (take c.loop-end.end c.loop-end.room) ≡ c.loop-end.end = length-take-le c.loop-end.end c.loop-end.room (omega (arith, c.loop-end.invariant.0.most, c.requires.room, c.loop-end.auto.room)) in
     let size : length (take (c.loop-end.end + c.in-Got.n) c.read_more.new.room) ≡ c.loop-end.end + c.in-Got.n = length-take-le (c.loop-end.end + c.in-Got.n) c.read_more.new.room c.in-Got.ensures.fits in
     let n : vec_len c.push_reserved.new.self ≡ vec_len c.loop-end.sizes + 1 = omega (arith, c.push_reserved.ensures.len) in
-    let goes = reading_goes (take c.loop-end.end c.loop-end.room) (take (c.loop-end.end + c.in-Got.n) c.read_more.new.room) c.loop-end.end (vec_len c.loop-end.sizes) c.in-Got.n
+    let goes = reading_goes c.args.most (take c.loop-end.end c.loop-end.room) (take (c.loop-end.end + c.in-Got.n) c.read_more.new.room) c.loop-end.end (vec_len c.loop-end.sizes) c.in-Got.n
     (g.I.Inlet.seen c.args.inlet.now) (g.I.Inlet.seen c.loop-end.inlet) (g.I.Inlet.seen c.read_more.new.inlet) c.loop-end.invariant.0 c.in-Got.ensures.read
     (grew (take c.loop-end.end c.loop-end.room) (take (c.loop-end.end + c.in-Got.n) c.read_more.new.room) c.loop-end.end c.in-Got.n (g.I.Inlet.seen c.loop-end.inlet) (g.I.Inlet.seen c.read_more.new.inlet) c.in-Got.ensures.read was size)
-    (omega (arith, c.if-end-gt-LINE_LIMIT.false)) in
-    (subst (λ k. IsReading (take (c.loop-end.end + c.in-Got.n) c.read_more.new.room) (c.loop-end.end + c.in-Got.n) k (g.I.Inlet.seen c.args.inlet.now) (g.I.Inlet.seen c.read_more.new.inlet)) (sym n) goes, search rules)
+    (omega (arith, c.if-end-most.false)) in
+    (subst (λ k. IsReading c.args.most (take (c.loop-end.end + c.in-Got.n) c.read_more.new.room) (c.loop-end.end + c.in-Got.n) k (g.I.Inlet.seen c.args.inlet.now) (g.I.Inlet.seen c.read_more.new.inlet)) (sym n) goes, search rules)

@@ -1,12 +1,11 @@
 use Rattle.std.proofs.Common.{◌<◌, ◌+◌, ◌-◌, take, vec_capacity, vec_len}
-use Rattle.session_grammar.specs.declared.TheConstants.{LINE_LIMIT}
 use Rattle.heap_server.proofs.AheadReads.{IsReading}
 use Rattle.heap_server.proofs.ahead.fill.Given as goal
 
 abbrev pub invariant-loop-end : goal.invariant-loop-end
 invariant-loop-end g l =
-    IsReading (take l.end l.room) l.end (vec_len l.sizes) (g.I.Inlet.seen l.initial.inlet) (g.I.Inlet.seen l.inlet)
-    × (LINE_LIMIT < vec_capacity l.sizes)
+    IsReading l.most (take l.end l.room) l.end (vec_len l.sizes) (g.I.Inlet.seen l.initial.inlet) (g.I.Inlet.seen l.inlet)
+    × (l.most < vec_capacity l.sizes)
 
 abbrev pub decreases-loop-end : goal.decreases-loop-end
-decreases-loop-end g l = LINE_LIMIT + 1 - vec_len l.sizes
+decreases-loop-end g l = l.most + 1 - vec_len l.sizes

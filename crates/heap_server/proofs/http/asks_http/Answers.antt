@@ -8,14 +8,14 @@ use Rattle.heap_server.proofs.http.asks_http.Goals as goal
 
 pub returns-in_default : goal.returns-in_default
 returns-in_default c =
-    sym (asks_none c.args.bytes.now (subst (λ o. MatchOption o (NoLf c.args.bytes.now) (λ n. IsLineAt n c.args.bytes.now)) c.in_default.is c.line_end.ensures))
+    sym (asks_none c.args.most c.args.bytes.now (subst (λ o. MatchOption o (NoLf c.args.bytes.now) (λ n. IsLineAt n c.args.bytes.now)) c.in_default.is c.line_end.ensures))
 
-pub returns-then-end-le-LINE_LIMIT : goal.returns-then-end-le-LINE_LIMIT
-returns-then-end-le-LINE_LIMIT c =
+pub returns-then-end-most : goal.returns-then-end-most
+returns-then-end-most c =
     let at = subst (λ o. MatchOption o (NoLf c.args.bytes.now) (λ n. IsLineAt n c.args.bytes.now)) c.in-Some.is c.line_end.ensures in
-    c.is_request_line.ensures ∙ ap is_request_line c.without_cr.ensures ∙ sym (asks_line c.in-Some.end c.args.bytes.now at c.if-end-le-LINE_LIMIT.true)
+    c.is_request_line.ensures ∙ ap is_request_line c.without_cr.ensures ∙ sym (asks_line c.args.most c.in-Some.end c.args.bytes.now at c.if-end-most.true)
 
-pub returns-else-end-le-LINE_LIMIT : goal.returns-else-end-le-LINE_LIMIT
-returns-else-end-le-LINE_LIMIT c =
+pub returns-else-end-most : goal.returns-else-end-most
+returns-else-end-most c =
     let at = subst (λ o. MatchOption o (NoLf c.args.bytes.now) (λ n. IsLineAt n c.args.bytes.now)) c.in-Some.is c.line_end.ensures in
-    lt-leb c.in-Some.end 4096 c.if-end-le-LINE_LIMIT.false ∙ sym (asks_long c.in-Some.end c.args.bytes.now at c.if-end-le-LINE_LIMIT.false)
+    lt-leb c.in-Some.end c.args.most c.if-end-most.false ∙ sym (asks_long c.args.most c.in-Some.end c.args.bytes.now at c.if-end-most.false)

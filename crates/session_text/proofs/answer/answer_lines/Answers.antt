@@ -10,7 +10,7 @@ use Rattle.session_text.proofs.answer.answer_lines.Goals.{After-answer_first}
 use Rattle.session_text.proofs.answer.answer_lines.Goals as goal
 
 -- what came of the lines so far and of the first of the rest
-came : (g : Over) (c : After-answer_first g) (flow : Option Flow) → c.answer_first.result ≡ flow → IsSoFarThen (AnswersCommand g.C.Commands.acts g.C.Commands.unknown c.args.context.time) (Begins g.C.Commands.acts g.C.Commands.unknown c.args.context.time) c.args.session.now.buffer c.args.commands.now (g.O.Outlet.seen c.args.writer.now) c.answer_first.new.session.buffer c.answer_first.new.commands c.answer_first.new.session.page (g.O.Outlet.seen c.answer_first.new.writer) flow
+came : (g : Over) (c : After-answer_first g) (flow : Option Flow) → c.answer_first.result ≡ flow → IsSoFarThen c.args.context.limits (AnswersCommand g.C.Commands.acts g.C.Commands.unknown c.args.context.time) (Begins g.C.Commands.acts g.C.Commands.unknown c.args.context.time) c.args.session.now.buffer c.args.commands.now (g.O.Outlet.seen c.args.writer.now) c.answer_first.new.session.buffer c.answer_first.new.commands c.answer_first.new.session.page (g.O.Outlet.seen c.answer_first.new.writer) flow
 came g c flow is =
     let says = AnswersCommand g.C.Commands.acts g.C.Commands.unknown c.args.context.time in
     let begins = Begins g.C.Commands.acts g.C.Commands.unknown c.args.context.time in
@@ -19,13 +19,13 @@ came g c flow is =
     let w1 = g.O.Outlet.seen c.loop-context.writer in
     let w2 = g.O.Outlet.seen m.new.writer in
     let w3 = g.O.Outlet.seen c.answer_first.new.writer in
-    let k = so_far_more says c.args.session.now.buffer c.args.commands.now w0 c.loop-context.session.buffer c.loop-context.commands c.loop-context.session.page w1 m.new.session.buffer m.new.commands m.new.session.page w2 c.loop-context.invariant (m.ensures.answered c.if-not-answer_mutators.false c.args.context.time) in
-    let h = subst (λ (o : Option Flow). IsFirst says begins m.new.session.buffer m.new.commands m.new.session.page w2 c.answer_first.new.session.buffer c.answer_first.new.commands c.answer_first.new.session.page w3 o) is c.answer_first.ensures in
-    so_far_then says begins c.args.session.now.buffer c.args.commands.now w0 m.new.session.buffer m.new.commands m.new.session.page w2 c.answer_first.new.session.buffer c.answer_first.new.commands c.answer_first.new.session.page w3 flow k h
+    let k = so_far_more c.args.context.limits says c.args.session.now.buffer c.args.commands.now w0 c.loop-context.session.buffer c.loop-context.commands c.loop-context.session.page w1 m.new.session.buffer m.new.commands m.new.session.page w2 c.loop-context.invariant (m.ensures.answered c.if-not-answer_mutators.false c.args.context.limits c.args.context.time) in
+    let h = subst (λ (o : Option Flow). IsFirst c.args.context.limits says begins m.new.session.buffer m.new.commands m.new.session.page w2 c.answer_first.new.session.buffer c.answer_first.new.commands c.answer_first.new.session.page w3 o) is c.answer_first.ensures in
+    so_far_then c.args.context.limits says begins c.args.session.now.buffer c.args.commands.now w0 m.new.session.buffer m.new.commands m.new.session.page w2 c.answer_first.new.session.buffer c.answer_first.new.commands c.answer_first.new.session.page w3 flow k h
 
 pub loop-context-init : goal.loop-context-init
 loop-context-init g c =
-    ([], talk_none (AnswersCommand g.C.Commands.acts g.C.Commands.unknown c.args.context.time) c.args.session.now.buffer c.args.commands.now, added_here [] [] (g.O.Outlet.seen c.args.writer.now) c.args.session.now.page c.requires)
+    ([], talk_none c.args.context.limits (AnswersCommand g.C.Commands.acts g.C.Commands.unknown c.args.context.time) c.args.session.now.buffer c.args.commands.now, added_here [] [] (g.O.Outlet.seen c.args.writer.now) c.args.session.now.page c.requires)
 
 pub returns-then-not-answer_mutators : goal.returns-then-not-answer_mutators
 returns-then-not-answer_mutators g c =
@@ -35,7 +35,7 @@ returns-then-not-answer_mutators g c =
     let w0 = g.O.Outlet.seen c.args.writer.now in
     let w1 = g.O.Outlet.seen c.loop-context.writer in
     let w2 = g.O.Outlet.seen m.new.writer in
-    so_far_cut says begins c.args.session.now.buffer c.args.commands.now w0 c.loop-context.session.buffer c.loop-context.commands c.loop-context.session.page w1 m.new.session.buffer m.new.commands m.new.session.page w2 c.loop-context.invariant (m.ensures.cut c.if-not-answer_mutators.true c.args.context.time)
+    so_far_cut c.args.context.limits says begins c.args.session.now.buffer c.args.commands.now w0 c.loop-context.session.buffer c.loop-context.commands c.loop-context.session.page w1 m.new.session.buffer m.new.commands m.new.session.page w2 c.loop-context.invariant (m.ensures.cut c.if-not-answer_mutators.true c.args.context.limits c.args.context.time)
 
 pub loop-context-preserved : goal.loop-context-preserved
 loop-context-preserved g c = came g (goal.at.loop-context-preserved g c).After-answer_first (Some Next) (c.in-Some-Next.is ∙ ap Some c.in-Some-Next.field-0-is)
@@ -57,6 +57,6 @@ loop-context-smaller g c =
     let says = AnswersCommand g.C.Commands.acts g.C.Commands.unknown c.args.context.time in
     let begins = Begins g.C.Commands.acts g.C.Commands.unknown c.args.context.time in
     let m = c.answer_mutators in
-    let h = subst (λ (o : Flow). IsFirst says begins m.new.session.buffer m.new.commands m.new.session.page (g.O.Outlet.seen m.new.writer) c.answer_first.new.session.buffer c.answer_first.new.commands c.answer_first.new.session.page (g.O.Outlet.seen c.answer_first.new.writer) (Some o)) c.in-Some-Next.field-0-is c.in-Some-Next.ensures in
-    let a = (m.ensures.answered c.if-not-answer_mutators.false c.args.context.time).1 in
+    let h = subst (λ (o : Flow). IsFirst c.args.context.limits says begins m.new.session.buffer m.new.commands m.new.session.page (g.O.Outlet.seen m.new.writer) c.answer_first.new.session.buffer c.answer_first.new.commands c.answer_first.new.session.page (g.O.Outlet.seen c.answer_first.new.writer) (Some o)) c.in-Some-Next.field-0-is c.in-Some-Next.ensures in
+    let a = (m.ensures.answered c.if-not-answer_mutators.false c.args.context.limits c.args.context.time).1 in
     omega (arith, h.0, ap length a.are, length-append (stream a.lines) m.new.session.buffer)

@@ -8,13 +8,13 @@ use Rattle.session_text.specs.Mutators.{IsQuickIn}
 use Rattle.session_text.specs.Talks.{AreFirstAnswered, IsFirstCut}
 use Rattle.session_text.specs.declared.mutator.Quick.{Quick}
 use Rattle.session_text.proofs.QuickLines.{quick_flow, quick_left}
-use Rattle.session_text.proofs.AnsweredLines.{talk_none, talk_then, line_answered, line_cut, answered_left}
+use Rattle.session_text.proofs.AnsweredLines.{talk_none, talk_then, short_fits, line_answered, line_cut, answered_left}
 use Rattle.session_text.proofs.PageTexts.{added_here, added_more}
 use Rattle.session_text.proofs.answer.answer_mutators.Goals as goal
 
 pub loop-n-init : goal.loop-n-init
 loop-n-init g c =
-    (omega arith, λ time. ([], talk_none (AnswersCommand g.C.Commands.acts g.C.Commands.unknown time) c.as_slice-text.result.now c.args.commands.now, added_here [] c.args.session.now.page (g.O.Outlet.seen c.args.writer.now) c.args.session.now.page (sym (append-nil c.args.session.now.page))))
+    (omega arith, λ limits time. ([], talk_none limits (AnswersCommand g.C.Commands.acts g.C.Commands.unknown time) c.as_slice-text.result.now c.args.commands.now, added_here [] c.args.session.now.page (g.O.Outlet.seen c.args.writer.now) c.args.session.now.page (sym (append-nil c.args.session.now.page))))
 
 pub loop-n-preserved : goal.loop-n-preserved
 loop-n-preserved g c =
@@ -27,17 +27,17 @@ loop-n-preserved g c =
     let h = subst (λ (q : Quick). IsQuickIn g.C.Commands.acts s c.loop-n.commands c.loop-n.page (g.O.Outlet.seen c.loop-n.writer) c.answer_mutator.new.commands c.answer_mutator.new.page (g.O.Outlet.seen c.answer_mutator.new.writer) (q, n)) c.in-Next-default.is-0 c.answer_mutator.ensures in
     let line : IsLineAt n (drop at t) = subst (λ l. IsLineAt n l) rest h.0.0 in (
       omega (arith, line.0, length-drop at t, i.0),
-      λ time.
+      λ limits time.
           let says = AnswersCommand g.C.Commands.acts g.C.Commands.unknown time in
           let w0 = g.O.Outlet.seen c.args.writer.now in
           let w1 = g.O.Outlet.seen c.loop-n.writer in
           let w2 = g.O.Outlet.seen c.answer_mutator.new.writer in
           let q = quick_flow g.C.Commands.acts g.C.Commands.unknown time s true n c.loop-n.commands c.loop-n.page w1 c.answer_mutator.new.commands c.answer_mutator.new.page w2 h in
           let e = q.1 in
-          let a = i.1 time in
-          let more = line_answered says (drop at t) s (drop (at + (n + 1)) t) n c.loop-n.commands e.0 c.answer_mutator.new.commands rest (sym (drop-drop (n + 1) at t)) q.0.1 line e.1 in (
+          let a = i.1 limits time in
+          let more = line_answered limits says (drop at t) s (drop (at + (n + 1)) t) n c.loop-n.commands e.0 c.answer_mutator.new.commands rest (sym (drop-drop (n + 1) at t)) (short_fits limits n q.0.1) line e.1 in (
             a.0 ++ e.0,
-            talk_then says t c.args.commands.now (drop at t) a.0 c.loop-n.commands (drop (at + (n + 1)) t) e.0 c.answer_mutator.new.commands a.1 more,
+            talk_then limits says t c.args.commands.now (drop at t) a.0 c.loop-n.commands (drop (at + (n + 1)) t) e.0 c.answer_mutator.new.commands a.1 more,
             added_more a.0 e.0 c.args.session.now.page w0 c.loop-n.page w1 c.answer_mutator.new.page w2 true a.2 e.2,
           ),
     )
@@ -46,7 +46,7 @@ pub pass-requires : goal.pass-requires
 pass-requires g c = omega (arith, c.loop-n.invariant.0, ap length c.as_slice-text.ensures)
 
 pub returns-clause-answered : goal.returns-clause-answered
-returns-clause-answered g c = λ _ time.
+returns-clause-answered g c = λ _ limits time.
     let says = AnswersCommand g.C.Commands.acts g.C.Commands.unknown time in
     let t = c.as_slice-text.result.now in
     let at = c.loop-n.passed in
@@ -55,13 +55,13 @@ returns-clause-answered g c = λ _ time.
     let m = c.answer_mutator.new in
     let w2 = g.O.Outlet.seen m.writer in
     let same = quick_left g.C.Commands.acts (take (length t - at) (drop at t)) c.answer_mutator.result.0 c.answer_mutator.result.1 c.loop-n.commands c.loop-n.page w1 m.commands m.page w2 c.in-No-default.is-0 c.answer_mutator.ensures in
-    let h = answered_left says t c.args.commands.now c.args.session.now.page w0 (drop at t) c.loop-n.commands c.loop-n.page w1 m.commands m.page w2 same (c.loop-n.invariant.1 time) in
+    let h = answered_left limits says t c.args.commands.now c.args.session.now.page w0 (drop at t) c.loop-n.commands c.loop-n.page w1 m.commands m.page w2 same (c.loop-n.invariant.1 limits time) in
     let rest = c.pass.ensures ∙ ap (λ l. drop at l) (sym c.as_slice-text.ensures) in
-    let k = subst (λ l. AreFirstAnswered says t c.args.commands.now c.args.session.now.page w0 l m.commands m.page w2) (sym rest) h in
-    subst (λ l. AreFirstAnswered says l c.args.commands.now c.args.session.now.page w0 c.pass.new.self m.commands m.page w2) c.as_slice-text.ensures k
+    let k = subst (λ l. AreFirstAnswered limits says t c.args.commands.now c.args.session.now.page w0 l m.commands m.page w2) (sym rest) h in
+    subst (λ l. AreFirstAnswered limits says l c.args.commands.now c.args.session.now.page w0 c.pass.new.self m.commands m.page w2) c.as_slice-text.ensures k
 
 pub returns-in-Fault-default-clause-cut : goal.returns-in-Fault-default-clause-cut
-returns-in-Fault-default-clause-cut g c = λ _ time.
+returns-in-Fault-default-clause-cut g c = λ _ limits time.
     let t = c.as_slice-text.result.now in
     let at = c.loop-n.passed in
     let n = c.answer_mutator.result.1 in
@@ -74,7 +74,7 @@ returns-in-Fault-default-clause-cut g c = λ _ time.
     let h = subst (λ (q : Quick). IsQuickIn g.C.Commands.acts s c.loop-n.commands c.loop-n.page w1 c.answer_mutator.new.commands c.answer_mutator.new.page w2 (q, n)) c.in-Fault-default.is-0 c.answer_mutator.ensures in
     let q = quick_flow g.C.Commands.acts g.C.Commands.unknown time s false n c.loop-n.commands c.loop-n.page w1 c.answer_mutator.new.commands c.answer_mutator.new.page w2 h in
     let e = q.1 in
-    let a = c.loop-n.invariant.1 time in
-    let b = line_cut begins (drop at t) s n c.loop-n.commands e.0 c.answer_mutator.new.commands (behind t at) q.0.1 q.0.0 e.1 in
-    subst (λ l. IsFirstCut says begins l c.args.commands.now c.args.session.now.page w0 c.answer_mutator.new.commands c.answer_mutator.new.page w2) c.as_slice-text.ensures
+    let a = c.loop-n.invariant.1 limits time in
+    let b = line_cut limits begins (drop at t) s n c.loop-n.commands e.0 c.answer_mutator.new.commands (behind t at) (short_fits limits n q.0.1) q.0.0 e.1 in
+    subst (λ l. IsFirstCut limits says begins l c.args.commands.now c.args.session.now.page w0 c.answer_mutator.new.commands c.answer_mutator.new.page w2) c.as_slice-text.ensures
     (drop at t, a.0, c.loop-n.commands, a.1, b.0, e.0, b.1, b.2, added_more a.0 e.0 c.args.session.now.page w0 c.loop-n.page w1 c.answer_mutator.new.page w2 false a.2 e.2)

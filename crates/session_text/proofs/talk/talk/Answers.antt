@@ -18,7 +18,7 @@ use Rattle.session_text.proofs.talk.talk.Goals.{After-answer_lines, After-read}
 use Rattle.session_text.proofs.talk.talk.Goals as goal
 
 -- the line of an ending, behind the answers of the buffer's lines
-closed : (g : Over) (c : After-answer_lines g) (text : List ℕ) (ended : Ended) (line : List ℕ) (w2 : Outgoing) (result : Ended) → IsTalk (AnswersCommand g.C.Commands.acts g.C.Commands.unknown c.args.context.time) c.loop-session.session.buffer c.loop-session.commands c.answer_lines.new.session.buffer text c.answer_lines.new.commands → IsTextAdded text [] (g.O.Outlet.seen c.loop-session.writer) c.answer_lines.new.session.page (g.O.Outlet.seen c.answer_lines.new.writer) true
+closed : (g : Over) (c : After-answer_lines g) (text : List ℕ) (ended : Ended) (line : List ℕ) (w2 : Outgoing) (result : Ended) → IsTalk c.args.context.limits (AnswersCommand g.C.Commands.acts g.C.Commands.unknown c.args.context.time) c.loop-session.session.buffer c.loop-session.commands c.answer_lines.new.session.buffer text c.answer_lines.new.commands → IsTextAdded text [] (g.O.Outlet.seen c.loop-session.writer) c.answer_lines.new.session.page (g.O.Outlet.seen c.answer_lines.new.writer) true
     → EndsCleanly c.args.context.limits c.answer_lines.new.session.buffer (g.I.Inlet.seen c.args.reader.now) (g.I.Inlet.seen c.loop-session.reader) ended line → EndsWith line c.answer_lines.new.session.page (g.O.Outlet.seen c.answer_lines.new.writer) w2 ended result → Serves c.args.context.limits (AnswersCommand g.C.Commands.acts g.C.Commands.unknown c.args.context.time) (Begins g.C.Commands.acts g.C.Commands.unknown c.args.context.time) (g.I.Inlet.seen c.args.reader.now) (g.I.Inlet.seen c.loop-session.reader) c.args.commands.now (g.O.Outlet.seen c.args.writer.now) c.answer_lines.new.commands w2 result
 closed g c text ended line w2 result talk added closes out =
     let says = AnswersCommand g.C.Commands.acts g.C.Commands.unknown c.args.context.time in
@@ -33,13 +33,13 @@ closed g c text ended line w2 result talk added closes out =
     (λ h. ends_failing c.args.context.limits says begins _ _ _ _ _ _ _ _ last w2 i.1 i.2 (left, text, last, talk, inr (inl (ended, line, closes, refl, h)))))
 
 -- the buffer's lines, whose answers were put out
-opened : (g : Over) (c : After-read g) → IsOpen (AnswersCommand g.C.Commands.acts g.C.Commands.unknown c.args.context.time) (g.I.Inlet.seen c.args.reader.now) c.args.commands.now (g.O.Outlet.seen c.args.writer.now) (g.I.Inlet.seen c.loop-session.reader) c.answer_lines.new.session.buffer c.answer_lines.new.commands (g.O.Outlet.seen c.flush.new.outlet) c.loop-session.reads
+opened : (g : Over) (c : After-read g) → IsOpen c.args.context.limits (AnswersCommand g.C.Commands.acts g.C.Commands.unknown c.args.context.time) (g.I.Inlet.seen c.args.reader.now) c.args.commands.now (g.O.Outlet.seen c.args.writer.now) (g.I.Inlet.seen c.loop-session.reader) c.answer_lines.new.session.buffer c.answer_lines.new.commands (g.O.Outlet.seen c.flush.new.outlet) c.loop-session.reads
 opened g c =
     let e = c.in-Next.ensures in
     let f = c.if-not-flush.ensures in
     let w1 = g.O.Outlet.seen c.flush.new.outlet in
     let out = paged_flushed e.0 c.answer_lines.new.session.page (g.O.Outlet.seen c.loop-session.writer) (g.O.Outlet.seen c.answer_lines.new.writer) c.flush.new.page w1 true e.3 f.added f.empty in
-    open_answered (AnswersCommand g.C.Commands.acts g.C.Commands.unknown c.args.context.time) _ _ _ _ _ _ _ _ c.answer_lines.new.session.buffer e.0 c.answer_lines.new.commands w1 c.loop-session.invariant.1 e.1 out
+    open_answered c.args.context.limits (AnswersCommand g.C.Commands.acts g.C.Commands.unknown c.args.context.time) _ _ _ _ _ _ _ _ c.answer_lines.new.session.buffer e.0 c.answer_lines.new.commands w1 c.loop-session.invariant.1 e.1 out
 
 -- the line of an ending, behind a read that gave nothing
 unread : (g : Over) (c : After-read g) (ended : Ended) (line : List ℕ) (w2 : Outgoing) (result : Ended) → (g.I.Inlet.seen c.read.new.inlet).taken ≡ (g.I.Inlet.seen c.loop-session.reader).taken → (g.I.Inlet.seen c.read.new.inlet).reads ≡ (g.I.Inlet.seen c.loop-session.reader).reads ++ 0 ∷ [] → Keeps (whole (g.I.Inlet.seen c.loop-session.reader)) (whole (g.I.Inlet.seen c.read.new.inlet))
@@ -53,13 +53,13 @@ unread g c ended line w2 result taken reads same closes out =
     let left = c.answer_lines.new.session.buffer in
     let last = c.answer_lines.new.commands in
     let said = subst (λ l. IsTextWritten (l ++ line) w1 w2 out.0) c.if-not-flush.ensures.empty out.1 in
-    rw out.2 (ends_saying c.args.context.limits says begins _ _ _ _ _ _ w1 _ left [] last b w2 ended line out.0 o (talk_none says left last) taken same closes said
+    rw out.2 (ends_saying c.args.context.limits says begins _ _ _ _ _ _ w1 _ left [] last b w2 ended line out.0 o (talk_none c.args.context.limits says left last) taken same closes said
     (λ h. ends_silent c.args.context.limits says begins _ _ _ _ _ _ _ _ b w2 ended line o c.in-Next.ensures.2 taken reads same closes h))
 
 pub loop-session-init : goal.loop-session-init
 loop-session-init g c = (
   c.requires.1,
-  open_none (AnswersCommand g.C.Commands.acts g.C.Commands.unknown c.args.context.time) (g.I.Inlet.seen c.args.reader.now) c.args.session.now.buffer c.args.commands.now (g.O.Outlet.seen c.args.writer.now) c.requires.0,
+  open_none c.args.context.limits (AnswersCommand g.C.Commands.acts g.C.Commands.unknown c.args.context.time) (g.I.Inlet.seen c.args.reader.now) c.args.session.now.buffer c.args.commands.now (g.O.Outlet.seen c.args.writer.now) c.requires.0,
   inl (c.requires.0, refl),
   c.reads-most.ensures,
   omega arith,
@@ -107,8 +107,8 @@ loop-session-preserved g c =
     let o = opened g (goal.at.loop-session-preserved g c).After-read in
     let b = g.I.Inlet.seen c.read.new.inlet in (
       c.if-not-flush.ensures.empty,
-      open_read says _ _ _ _ _ _ _ _ b c.read.new.self r.0 o r.1 r.2 r.3 r.4 r.5 r.6,
-      came_read says _ _ _ _ _ _ _ _ b c.read.new.self r.0 (c.loop-session.reads + 1) o c.in-Next.ensures.2 r.2 r.3 r.4,
+      open_read c.args.context.limits says _ _ _ _ _ _ _ _ b c.read.new.self r.0 o r.1 r.2 r.3 r.4 r.5 r.6,
+      came_read c.args.context.limits says _ _ _ _ _ _ _ _ b c.read.new.self r.0 (c.loop-session.reads + 1) o c.in-Next.ensures.2 r.2 r.3 r.4,
       c.loop-session.invariant.3,
       omega (arith, c.loop-session.invariant.4, c.if-reads-most.false),
     )

@@ -9,8 +9,8 @@ invariant-loop-session g l =
     let s = l.initial in
     let says = AnswersCommand g.C.Commands.acts g.C.Commands.unknown l.context.time in
     (l.session.page ≡ [])
-    × IsOpen says (g.I.Inlet.seen s.reader) s.commands (g.O.Outlet.seen s.writer) (g.I.Inlet.seen l.reader) l.session.buffer l.commands (g.O.Outlet.seen l.writer) l.reads
-    × Came says (g.I.Inlet.seen s.reader) s.commands (g.O.Outlet.seen s.writer) (g.I.Inlet.seen l.reader) l.session.buffer l.commands (g.O.Outlet.seen l.writer) l.reads
+    × IsOpen l.context.limits says (g.I.Inlet.seen s.reader) s.commands (g.O.Outlet.seen s.writer) (g.I.Inlet.seen l.reader) l.session.buffer l.commands (g.O.Outlet.seen l.writer) l.reads
+    × Came l.context.limits says (g.I.Inlet.seen s.reader) s.commands (g.O.Outlet.seen s.writer) (g.I.Inlet.seen l.reader) l.session.buffer l.commands (g.O.Outlet.seen l.writer) l.reads
     × (l.most ≡ most_reads l.context.limits) × (l.reads ≤ l.most)
 
 abbrev pub decreases-loop-session : goal.decreases-loop-session

@@ -1,0 +1,17 @@
+use Rattle.std.proofs.Common.{◌≡◌, ◌∙◌, ap, sym, subst, arith, ◌-◌, length, take, drop}
+use Rattle.session_grammar.specs.Lines.{NoLf}
+use Rattle.session_text.proofs.Lists.{moved_none}
+use Rattle.session_text.proofs.buffer.Buffer.read.Goals as goal
+
+pub invariant_of-self : goal.invariant_of-self
+invariant_of-self g c =
+    let i = c.self.inside in
+    let v = c.self.invariant in
+    let r = c.read_behind-took.ensures in
+    let now = c.read_behind-took.new.bytes.items in (
+      omega (arith, v.0),
+      omega (arith, r.fits, c.count_of.ensures),
+      r.room.0,
+      r.room.1,
+      moved_none i.bytes.items now i.start (i.end - i.start) i.scanned (omega (arith, v.0)) v.4 r.kept,
+    )

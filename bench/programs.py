@@ -4,7 +4,7 @@ import shutil
 import subprocess
 
 TOP = pathlib.Path(__file__).resolve().parent.parent
-HEAP = """heap_lock heap_chronicle heap_trail heap_pins heap_step heap_world hprof_text heap_mark heap_sweep heap_region heap_class
+HEAP = """heap_lock heap_history heap_trail heap_pins heap_step heap_world hprof_text heap_mark heap_sweep heap_region heap_class
 atomic_table"""
 # Picks the heap's ghost members, for the function that opens a heap.
 PICKS = """use Rattle.{name}.proofs.done.Given as goal

@@ -12,7 +12,7 @@ import tempfile
 from programs import built
 
 RUNS = 7
-LIBRARIES = "live_dump dump_pipe dump_pump crossbeam_channel"
+LIBRARIES = "shared_dump dump_pipe dump_pump crossbeam_channel"
 
 
 def times(program, count, streams):

@@ -7,7 +7,7 @@ ghost use denote.Param.Send.{IsSend, IsSync};
 
 mod mutator;
 
-use heap::{
+use heap_runtime::{
     Actor, Actors, Blank, Config, Dumped, Dumper, Event, Heap, Kind, LastSeen, Machine, Pace,
     Pumped, Refusal, Role, Totals, WriteOutlet, audit_all, define_array_class, define_class, dump,
 };

@@ -1,6 +1,6 @@
 //! A mutator: it builds a list and a map of nodes and drops both, round after round.
 use crate::{MAP, NODE, ROUNDS};
-use heap::{Actor, Denial, Heap, Pace};
+use heap_runtime::{Actor, Denial, Heap, Pace};
 use std::sync::Wait;
 
 // The number of nodes in a list, and of keys in a map.

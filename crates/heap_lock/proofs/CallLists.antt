@@ -7,8 +7,8 @@ use Rattle.heap_trail.specs.declared.Action.{Action}
 use Rattle.heap_trail.specs.declared.Reply.{Reply}
 use Rattle.heap_trail.specs.Machine.{Machine, MayStand, AreAllocations, MayDrive, MayReply, opening_machine, acted_under, machine_after, replies_of, is_dump_action}
 use Rattle.heap_trail.proofs.ActionLists.{driven_none, driven_more}
-use Rattle.heap_chronicle.specs.declared.entry.Entry.{Entry}
-use Rattle.heap_chronicle.specs.History.{reply_of}
+use Rattle.heap_history.specs.declared.entry.Entry.{Entry}
+use Rattle.heap_history.specs.History.{reply_of}
 use Rattle.heap_lock.specs.Calls.{Call, call_of, acts_in, LeadsTo, IsLedger}
 
 pub actions_push : (cs : List Call) (c : Call) → map (λ (x : Call). x.0) (cs ++ c ∷ []) ≡ map (λ (x : Call). x.0) cs ++ c.0 ∷ []

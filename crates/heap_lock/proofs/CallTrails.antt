@@ -7,8 +7,8 @@ use Rattle.heap_trail.specs.declared.Action.{Action}
 use Rattle.heap_trail.specs.Trail.{Trail}
 use Rattle.heap_trail.specs.Machine.{Machine, Granted, MayReply, acted, acted_under, opening_machine, machine_after, is_dump_action}
 use Rattle.heap_trail.proofs.ByTrail.{dumps_leave}
-use Rattle.heap_chronicle.specs.declared.entry.Entry.{Entry}
-use Rattle.heap_chronicle.specs.History.{opening, machine_at, trail_after, MayEnter, IsLegalHistory}
+use Rattle.heap_history.specs.declared.entry.Entry.{Entry}
+use Rattle.heap_history.specs.History.{opening, machine_at, trail_after, MayEnter, IsLegalHistory}
 use Rattle.heap_lock.specs.Calls.{Call, call_of, acts_in, LeadsTo, IsLedger}
 use Rattle.heap_lock.specs.Laws.{trail_by}
 use Rattle.heap_lock.proofs.Histories.{by_trail}

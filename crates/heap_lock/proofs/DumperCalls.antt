@@ -7,16 +7,16 @@ use Rattle.heap_trail.specs.declared.Action.{Action}
 use Rattle.heap_trail.specs.declared.Reply.{Reply}
 use Rattle.heap_trail.specs.declared.Reply.TheVariants.{Refused}
 use Rattle.heap_trail.specs.Machine.{MayFail, MayReply, Machine, Granted, Denied, acted, acted_under, is_dump_action}
-use Rattle.heap_lock.specs.TableSeats.{Desk, Ledger, table_of}
-use Rattle.heap_chronicle.specs.declared.entry.Entry.{Entry}
+use Rattle.heap_lock.specs.HomeTables.{SeatTable, Ledger, table_of}
+use Rattle.heap_history.specs.declared.entry.Entry.{Entry}
 use Rattle.atomic_table.specs.declared.badge.Badge.{Badge}
-use Rattle.heap_lock.specs.declared.sight.Sight.{Sight}
-use Rattle.heap_lock.specs.declared.sight.Sight.TheVariants.{Full, Seen}
+use Rattle.heap_lock.specs.declared.ledger_view.LedgerView.{LedgerView}
+use Rattle.heap_lock.specs.declared.ledger_view.LedgerView.TheVariants.{Full, Seen}
 use Rattle.heap_lock.specs.Calls.{Call, call_of, IsHeapLedger, IsLedger, IsLegalLedger}
-use Rattle.heap_chronicle.specs.History.{reply_of}
-use Rattle.heap_lock.specs.Sights.{calls_of}
-use Rattle.heap_lock.specs.Ledgers.{all_in, calls_in, HasCalls, HasLedger, IsSight, CallsAs}
-use Rattle.heap_chronicle.specs.Chronicles.{ChronicleState}
+use Rattle.heap_history.specs.History.{reply_of}
+use Rattle.heap_lock.specs.LedgerViews.{calls_of}
+use Rattle.heap_lock.specs.Ledgers.{all_in, calls_in, HasCalls, HasLedger, IsLedgerView, CallsAs}
+use Rattle.heap_history.specs.Chronicles.{ChronicleState}
 use Rattle.heap_lock.specs.LockStates.{LockState, IsDumperAct, IsUnderLock, lock_state}
 use Rattle.heap_lock.proofs.CallLists.{acted_more, dumped_more}
 
@@ -79,16 +79,16 @@ plainly m m' a (Ok p) refused = tt
 plainly m m' a (Err e) refused = inl refused
 
 -- all calls of a heap under its lock are a legal ledger
-pub legal_of : (config : HeapSettings) (tables : List TableId) (table : TableId) (m : Machine) (es : List Entry) (desks : List Desk) (l : Ledger) → IsUnderLock config tables m es desks → HasLedger config table m es l → IsLegalLedger config (all_in l)
-legal_of config tables table m es desks l k has = (m, es, has.1, k.legal)
+pub legal_of : (config : HeapSettings) (tables : List TableId) (table : TableId) (m : Machine) (es : List Entry) (seat_tables : List SeatTable) (l : Ledger) → IsUnderLock config tables m es seat_tables → HasLedger config table m es l → IsLegalLedger config (all_in l)
+legal_of config tables table m es seat_tables l k has = (m, es, has.1, k.legal)
 
 -- one who has seen all calls of the ledger has seen a legal ledger
-pub sighted : (config : HeapSettings) (tables : List TableId) (table : TableId) (m : Machine) (es : List Entry) (desks : List Desk) (l : Ledger) (b : Badge Sight) → IsUnderLock config tables m es desks → HasLedger config table m es l → IsSight (table_of l) (all_in l) b
-    → IsSight table (calls_in b.views) b × IsLegalLedger config (calls_in b.views)
-sighted config tables table m es desks l b k has s =
+pub viewed : (config : HeapSettings) (tables : List TableId) (table : TableId) (m : Machine) (es : List Entry) (seat_tables : List SeatTable) (l : Ledger) (b : Badge LedgerView) → IsUnderLock config tables m es seat_tables → HasLedger config table m es l → IsLedgerView (table_of l) (all_in l) b
+    → IsLedgerView table (calls_in b.views) b × IsLegalLedger config (calls_in b.views)
+viewed config tables table m es seat_tables l b k has s =
     let here : calls_in b.views ≡ all_in l = ap calls_in s.1 in
-    ((s.0 ∙ has.0.1, s.1 ∙ ap (λ (cs : List Call). Seen cs ∷ []) (sym here)), subst (IsLegalLedger config) (sym here) (legal_of config tables table m es desks l k has))
+    ((s.0 ∙ has.0.1, s.1 ∙ ap (λ (cs : List Call). Seen cs ∷ []) (sym here)), subst (IsLegalLedger config) (sym here) (legal_of config tables table m es seat_tables l k has))
 
 -- they are those of its machine and its chronicle
-pub heap_of : (config : HeapSettings) (tables : List TableId) (table : TableId) (m : Machine) (es : List Entry) (desks : List Desk) (l : Ledger) → IsUnderLock config tables m es desks → HasLedger config table m es l → IsHeapLedger config m es (all_in l)
-heap_of config tables table m es desks l k has = (has.1, k.legal)
+pub heap_of : (config : HeapSettings) (tables : List TableId) (table : TableId) (m : Machine) (es : List Entry) (seat_tables : List SeatTable) (l : Ledger) → IsUnderLock config tables m es seat_tables → HasLedger config table m es l → IsHeapLedger config m es (all_in l)
+heap_of config tables table m es seat_tables l k has = (has.1, k.legal)

@@ -15,11 +15,11 @@ use Rattle.heap_trail.specs.Trail.{Trail}
 use Rattle.heap_class.specs.declared.IdSize.TheVariants.{Eight}
 use Rattle.heap_trail.specs.declared.Reply.{Reply}
 use Rattle.heap_trail.specs.Machine.{MayReply, Machine, is_dump_action}
-use Rattle.heap_lock.specs.TableSeats.{Desk}
-use Rattle.heap_chronicle.specs.declared.entry.Entry.{Entry}
-use Rattle.heap_chronicle.specs.declared.entry.Outcome.{Outcome}
-use Rattle.heap_chronicle.specs.History.{entry, reply_of, opening, machine_at, trail_after, reply_at, MayEnter, IsDue, IsLegalHistory, history_trail, tally}
-use Rattle.heap_lock.specs.LockStates.{AllSeated, table_at, IsDesk, IsUnderLock}
+use Rattle.heap_lock.specs.HomeTables.{SeatTable}
+use Rattle.heap_history.specs.declared.entry.Entry.{Entry}
+use Rattle.heap_history.specs.declared.entry.Outcome.{Outcome}
+use Rattle.heap_history.specs.History.{entry, reply_of, opening, machine_at, trail_after, reply_at, MayEnter, IsDue, IsLegalHistory, history_trail, entries_by}
+use Rattle.heap_lock.specs.LockStates.{AllSeated, table_at, IsSeatTable, IsUnderLock}
 use Rattle.heap_trail.proofs.ByTrail.{acts_alike, dumps_leave, place_after}
 
 -- an act that is entered leaves the trail and is answered by the trail alone
@@ -61,79 +61,79 @@ enumerate_push : (n : ℕ) (es : List Entry) (e : Entry) → enumerate_from n (e
 enumerate_push n [] e = ap (λ k. (k, e) ∷ []) (omega arith)
 enumerate_push n (x ∷ es) e = ap (λ l. (n, x) ∷ l) (enumerate_push (n + 1) es e ∙ ap (λ k. enumerate_from (n + 1) es ++ (k, e) ∷ []) (omega arith))
 
-pub tally_here : (n : ℕ) (es : List Entry) (e : Entry) → e.seat ≡ n → tally n (es ++ e ∷ []) ≡ tally n es ++ (1 + length es, e) ∷ []
-unfolding tally
-tally_here n es e is =
+pub entries_here : (n : ℕ) (es : List Entry) (e : Entry) → e.seat ≡ n → entries_by n (es ++ e ∷ []) ≡ entries_by n es ++ (1 + length es, e) ∷ []
+unfolding entries_by
+entries_here n es e is =
     ap (filter (λ (p : ℕ × Entry). p.1.seat == n)) (enumerate_push 1 es e)
     ∙ filter-append (λ (p : ℕ × Entry). p.1.seat == n) (enumerate_from 1 es) ((1 + length es, e) ∷ [])
     ∙ ap (λ (l : List (ℕ × Entry)). filter (λ (p : ℕ × Entry). p.1.seat == n) (enumerate_from 1 es) ++ l) (ap (λ (b : Bool). if b then (1 + length es, e) ∷ [] else []) (eq-eqb e.seat n is))
 
-pub tally_other : (n : ℕ) (es : List Entry) (e : Entry) → e.seat ≢ n → tally n (es ++ e ∷ []) ≡ tally n es
-unfolding tally
-tally_other n es e ne =
+pub entries_other : (n : ℕ) (es : List Entry) (e : Entry) → e.seat ≢ n → entries_by n (es ++ e ∷ []) ≡ entries_by n es
+unfolding entries_by
+entries_other n es e ne =
     ap (filter (λ (p : ℕ × Entry). p.1.seat == n)) (enumerate_push 1 es e)
     ∙ filter-append (λ (p : ℕ × Entry). p.1.seat == n) (enumerate_from 1 es) ((1 + length es, e) ∷ [])
     ∙ ap (λ (l : List (ℕ × Entry)). filter (λ (p : ℕ × Entry). p.1.seat == n) (enumerate_from 1 es) ++ l) (ap (λ (b : Bool). if b then (1 + length es, e) ∷ [] else []) (ne_eqb e.seat n ne))
     ∙ append-nil _
 
-pub desk_of : (config : HeapSettings) (tables : List TableId) (m : Machine) (es : List Entry) (desks : List Desk) (n : ℕ) (d : Desk) → IsUnderLock config tables m es desks → n < length tables → d ≡ get_or desks n d → IsDesk (table_at tables n) (tally n es) d
-desk_of config tables m es desks n d k lt is = k.booked n d (at_index desks n d (omega (arith, k.count, lt)) is)
+pub seat_table_of : (config : HeapSettings) (tables : List TableId) (m : Machine) (es : List Entry) (seat_tables : List SeatTable) (n : ℕ) (d : SeatTable) → IsUnderLock config tables m es seat_tables → n < length tables → d ≡ get_or seat_tables n d → IsSeatTable (table_at tables n) (entries_by n es) d
+seat_table_of config tables m es seat_tables n d k lt is = k.booked n d (at_index seat_tables n d (omega (arith, k.count, lt)) is)
 
 -- the place of a machine under its chronicle is the number of entries at most
-pub within_entries : (config : HeapSettings) (tables : List TableId) (m : Machine) (es : List Entry) (desks : List Desk) → IsUnderLock config tables m es desks → m.trail.place ≤ length es
-within_entries config tables m es desks k = omega (arith, place_within config.keep (opening config) es, ap (λ (t : Trail). t.place) k.folds)
+pub within_entries : (config : HeapSettings) (tables : List TableId) (m : Machine) (es : List Entry) (seat_tables : List SeatTable) → IsUnderLock config tables m es seat_tables → m.trail.place ≤ length es
+within_entries config tables m es seat_tables k = omega (arith, place_within config.keep (opening config) es, ap (λ (t : Trail). t.place) k.folds)
 
 -- an entry with the machine's reply is due
-pub is_due : (config : HeapSettings) (tables : List TableId) (m m' : Machine) (es : List Entry) (desks : List Desk) (e : Entry) → IsUnderLock config tables m es desks → is_dump_action e.action ≡ false → MayReply m e.action m' (reply_of e.answer) → MayEnter (reply_of e.answer)
+pub is_due : (config : HeapSettings) (tables : List TableId) (m m' : Machine) (es : List Entry) (seat_tables : List SeatTable) (e : Entry) → IsUnderLock config tables m es seat_tables → is_dump_action e.action ≡ false → MayReply m e.action m' (reply_of e.answer) → MayEnter (reply_of e.answer)
     → IsDue config.keep (history_trail config.keep (opening config) es) e
-is_due config tables m m' es desks e k deed move enters = record {
+is_due config tables m m' es seat_tables e k deed move enters = record {
   deed = deed;
   answer = (by_trail m m' e.action (reply_of e.answer) deed move enters).1 ∙ (λ i. reply_at (k.keep i) (k.folds i) e.action);
   enters = enters;
 }
 
--- one entry more, with the seat's desk
-pub kept_more : (config : HeapSettings) (tables : List TableId) (m m' : Machine) (es : List Entry) (desks : List Desk) (e : Entry) (d' : Desk) → IsUnderLock config tables m es desks → e.seat < length tables
-    → is_dump_action e.action ≡ false → MayReply m e.action m' (reply_of e.answer) → MayEnter (reply_of e.answer) → IsDesk (table_at tables e.seat) (tally e.seat (es ++ e ∷ [])) d' → IsUnderLock config tables m' (es ++ e ∷ []) (set desks e.seat d')
-kept_more config tables m m' es desks e d' k lt deed move enters desk =
+-- one entry more, with the seat's seat_table
+pub kept_more : (config : HeapSettings) (tables : List TableId) (m m' : Machine) (es : List Entry) (seat_tables : List SeatTable) (e : Entry) (d' : SeatTable) → IsUnderLock config tables m es seat_tables → e.seat < length tables
+    → is_dump_action e.action ≡ false → MayReply m e.action m' (reply_of e.answer) → MayEnter (reply_of e.answer) → IsSeatTable (table_at tables e.seat) (entries_by e.seat (es ++ e ∷ [])) d' → IsUnderLock config tables m' (es ++ e ∷ []) (set seat_tables e.seat d')
+kept_more config tables m m' es seat_tables e d' k lt deed move enters seat_table =
     let alike = by_trail m m' e.action (reply_of e.answer) deed move enters in record {
-      legal = goes_on config.keep (opening config) es e k.legal (is_due config tables m m' es desks e k deed move enters);
+      legal = goes_on config.keep (opening config) es e k.legal (is_due config tables m m' es seat_tables e k deed move enters);
       keep = alike.2 ∙ k.keep;
       ids = alike.3 ∙ k.ids;
       folds = alike.0 ∙ (λ i. trail_after (k.keep i) (k.folds i) e.action) ∙ sym (ends_at config.keep (opening config) es e);
       seated = seated_push (length tables) es e k.seated lt;
-      count = length-set desks e.seat d' ∙ k.count;
+      count = length-set seat_tables e.seat d' ∙ k.count;
       booked = λ n d at. ⊎_elim
-          (λ (u : (n ≡ e.seat) × (d' ≡ d)). subst (λ (x : ℕ × Desk). IsDesk (table_at tables x.0) (tally x.0 (es ++ e ∷ [])) x.1) (λ i. (sym u.0 i, u.1 i)) desk)
-          (λ (u : (n ≢ e.seat) × (get_elem? desks n ≡ some d)). subst (λ l. IsDesk (table_at tables n) l d) (sym (tally_other n es e (λ q. u.0 (sym q)))) (k.booked n d u.1))
-          (at_set desks e.seat n d' d at);
+          (λ (u : (n ≡ e.seat) × (d' ≡ d)). subst (λ (x : ℕ × SeatTable). IsSeatTable (table_at tables x.0) (entries_by x.0 (es ++ e ∷ [])) x.1) (λ i. (sym u.0 i, u.1 i)) seat_table)
+          (λ (u : (n ≢ e.seat) × (get_elem? seat_tables n ≡ some d)). subst (λ l. IsSeatTable (table_at tables n) l d) (sym (entries_other n es e (λ q. u.0 (sym q)))) (k.booked n d u.1))
+          (at_set seat_tables e.seat n d' d at);
     }
 
 -- what a move of the kept machine makes of its trail, and that its answer is due there
-pub moved_as : (config : HeapSettings) (tables : List TableId) (m m' : Machine) (es : List Entry) (desks : List Desk) (seat : ℕ) (a : Action) (o : Outcome) → IsUnderLock config tables m es desks → is_dump_action a ≡ false → MayReply m a m' (reply_of o) → MayEnter (reply_of o)
+pub moved_as : (config : HeapSettings) (tables : List TableId) (m m' : Machine) (es : List Entry) (seat_tables : List SeatTable) (seat : ℕ) (a : Action) (o : Outcome) → IsUnderLock config tables m es seat_tables → is_dump_action a ≡ false → MayReply m a m' (reply_of o) → MayEnter (reply_of o)
     → (m'.trail ≡ trail_after config.keep m.trail a) × IsDue config.keep m.trail (entry seat a o)
-moved_as config tables m m' es desks seat a o k deed move enters =
+moved_as config tables m m' es seat_tables seat a o k deed move enters =
     let alike = by_trail m m' a (reply_of o) deed move enters in
     (alike.0 ∙ ap (λ n. trail_after n m.trail a) k.keep, record { deed = deed; answer = alike.1 ∙ ap (λ n. reply_at n m.trail a) k.keep; enters = enters })
 
 -- the machine after a dumper's action may be kept in the place of the one before
-pub kept_dumped : (config : HeapSettings) (tables : List TableId) (m m' : Machine) (es : List Entry) (desks : List Desk) (a : Action) (r : Reply) → IsUnderLock config tables m es desks → is_dump_action a ≡ true → MayReply m a m' r → IsUnderLock config tables m' es desks
-kept_dumped config tables m m' es desks a r k dump (mark, stands, is) =
+pub kept_dumped : (config : HeapSettings) (tables : List TableId) (m m' : Machine) (es : List Entry) (seat_tables : List SeatTable) (a : Action) (r : Reply) → IsUnderLock config tables m es seat_tables → is_dump_action a ≡ true → MayReply m a m' r → IsUnderLock config tables m' es seat_tables
+kept_dumped config tables m m' es seat_tables a r k dump (mark, stands, is) =
     let left = dumps_leave m m' a mark r dump is in
     record { legal = k.legal; keep = left.1 ∙ k.keep; ids = left.2 ∙ k.ids; folds = left.0 ∙ k.folds; seated = k.seated; count = k.count; booked = k.booked }
 
--- a desk that has the same book again
-pub kept_as : (config : HeapSettings) (tables : List TableId) (m : Machine) (es : List Entry) (desks : List Desk) (seat : ℕ) (d' : Desk) → IsUnderLock config tables m es desks → IsDesk (table_at tables seat) (tally seat es) d' → IsUnderLock config tables m es (set desks seat d')
-kept_as config tables m es desks seat d' k desk =
+-- a seat_table that has the same book again
+pub kept_as : (config : HeapSettings) (tables : List TableId) (m : Machine) (es : List Entry) (seat_tables : List SeatTable) (seat : ℕ) (d' : SeatTable) → IsUnderLock config tables m es seat_tables → IsSeatTable (table_at tables seat) (entries_by seat es) d' → IsUnderLock config tables m es (set seat_tables seat d')
+kept_as config tables m es seat_tables seat d' k seat_table =
     record {
       legal = k.legal;
       keep = k.keep;
       ids = k.ids;
       folds = k.folds;
       seated = k.seated;
-      count = length-set desks seat d' ∙ k.count;
+      count = length-set seat_tables seat d' ∙ k.count;
       booked = λ n d at. ⊎_elim
-          (λ (u : (n ≡ seat) × (d' ≡ d)). subst (λ (x : ℕ × Desk). IsDesk (table_at tables x.0) (tally x.0 es) x.1) (λ i. (sym u.0 i, u.1 i)) desk)
-          (λ (u : (n ≢ seat) × (get_elem? desks n ≡ some d)). k.booked n d u.1)
-          (at_set desks seat n d' d at);
+          (λ (u : (n ≡ seat) × (d' ≡ d)). subst (λ (x : ℕ × SeatTable). IsSeatTable (table_at tables x.0) (entries_by x.0 es) x.1) (λ i. (sym u.0 i, u.1 i)) seat_table)
+          (λ (u : (n ≢ seat) × (get_elem? seat_tables n ≡ some d)). k.booked n d u.1)
+          (at_set seat_tables seat n d' d at);
     }

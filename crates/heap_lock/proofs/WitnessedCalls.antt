@@ -10,10 +10,10 @@ use Rattle.heap_trail.specs.declared.Reply.TheVariants.{Refused}
 use Rattle.heap_world.specs.State.{HeapState}
 use Rattle.heap_trail.specs.Trail.{Trail}
 use Rattle.heap_trail.specs.Machine.{Machine}
-use Rattle.heap_chronicle.specs.History.{tally}
+use Rattle.heap_history.specs.History.{entries_by}
 use Rattle.heap_lock.specs.Calls.{Call, IsHeapLedger, IsLegalLedger, IsWitnessed, Witnesses}
 use Rattle.heap_lock.specs.Collector.{SeesState, state_of_calls}
-use Rattle.heap_lock.specs.LockStates.{AreMet, Chair, AreAllCalls, LockState, IsDumperAct}
+use Rattle.heap_lock.specs.LockStates.{AreMet, SeatModel, AreAllCalls, LockState, IsDumperAct}
 use Rattle.heap_lock.proofs.CallTrails.{ledger_trail}
 
 last_of_all : (config : HeapSettings) (before after : List Call) (action : Action) (r : Reply) (k k1 k2 : LockState) → IsPrefix before k.ledger → k1 ≡ k → IsDumperAct action k1 r k2 → after ≡ k2.ledger → IsLegalLedger config k2.ledger → Witnesses config before action r after
@@ -37,9 +37,9 @@ seen_state config before after k m is begins heap same here now =
     )
 
 -- a seat whose share is just what the history of these calls has of it
-pub known : (config : HeapSettings) (s : Chair) (k k1 : LockState) → tally s.number k.chronicle ≡ s.share → k1 ≡ k → IsHeapLedger config k1.machine k1.chronicle k1.ledger → AreAllCalls config k.machine s k.ledger
+pub known : (config : HeapSettings) (s : SeatModel) (k k1 : LockState) → entries_by s.number k.chronicle ≡ s.share → k1 ≡ k → IsHeapLedger config k1.machine k1.chronicle k1.ledger → AreAllCalls config k.machine s k.ledger
 known config s k k1 share same heap = (k.chronicle, subst (λ (x : LockState). IsHeapLedger config x.machine x.chronicle x.ledger) same heap, share)
 
 -- and one that was shown these calls under the lock
-pub met : (config : HeapSettings) (s : Chair) (after : List Call) (k : LockState) → AreAllCalls config k.machine s k.ledger → after ≡ k.ledger → AreMet config s after
+pub met : (config : HeapSettings) (s : SeatModel) (after : List Call) (k : LockState) → AreAllCalls config k.machine s k.ledger → after ≡ k.ledger → AreMet config s after
 met config s after k is same = (k.machine, subst (AreAllCalls config k.machine s) (sym same) is)

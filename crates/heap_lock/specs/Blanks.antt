@@ -6,10 +6,10 @@ use Rattle.atomic_table.specs.Seated.{TableId}
 use Rattle.heap_world.specs.Limits.{HeapSettings}
 use Rattle.heap_trail.specs.Machine.{Machine, opening_machine}
 use Rattle.heap_lock.specs.declared.role.Role.{Role}
-use Rattle.heap_lock.specs.declared.stub.Stub.{Stub}
-use Rattle.heap_lock.specs.Tally.{tally_in}
-use Rattle.heap_lock.specs.TableSeats.{Desk, Ledger, table_of}
-use Rattle.heap_lock.specs.LockStates.{Chair, table_at, IsChair, IsDesk}
+use Rattle.heap_lock.specs.declared.unnamed_seat.UnnamedSeat.{UnnamedSeat}
+use Rattle.heap_lock.specs.SeatEntries.{entries_in}
+use Rattle.heap_lock.specs.HomeTables.{SeatTable, Ledger, table_of}
+use Rattle.heap_lock.specs.LockStates.{SeatModel, table_at, IsSeatModel, IsSeatTable}
 use Rattle.heap_lock.specs.Ledgers.{HasCalls}
 
 -- a heap that isn't open yet: its settings, whether old entries are dropped in place of refusing new ones, the table of each seat
@@ -19,7 +19,7 @@ pub record Maker : Type 0 where
   pub rolls : Bool
   pub tables : List TableId
   pub ledger : TableId
-  pub seats : List Chair
+  pub seats : List SeatModel
 
 -- a heap of these settings, with these tables and this ledger, that drops old entries or doesn't
 abbrev pub IsNamed : HeapSettings → List TableId → TableId → Bool → Maker → Type 0
@@ -27,43 +27,43 @@ IsNamed config tables ledger rolls b =
     (b.config ≡ config) × (b.tables ≡ tables) × (b.ledger ≡ ledger) × (b.rolls ≡ rolls)
 
 -- seats of these roles, numbered from n, that have done nothing
-abbrev pub chairs : ℕ → List Role → List Chair
-chairs n [] = []
-chairs n (r ∷ rs) = record { number = n; role = r; share = [] } ∷ chairs (n + 1) rs
+abbrev pub seat_models : ℕ → List Role → List SeatModel
+seat_models n [] = []
+seat_models n (r ∷ rs) = record { number = n; role = r; share = [] } ∷ seat_models (n + 1) rs
 
 -- a seat as contracts see it
-abbrev pub chair_of : Stub → Chair
-chair_of s = record { number = s.number; role = s.role; share = tally_in s.share.views }
+abbrev pub seat_model_of : UnnamedSeat → SeatModel
+seat_model_of s = record { number = s.number; role = s.role; share = entries_in s.share.views }
 
--- the tables of all desks, in order
-abbrev pub tables_of : List Desk → List TableId
-tables_of desks = map table_of desks
+-- the tables of all seats, in order
+abbrev pub tables_of : List SeatTable → List TableId
+tables_of seat_tables = map table_of seat_tables
 
--- a heap that is made of these settings, desks, ledger and seats
-abbrev pub maker_of : HeapSettings → Bool → List Desk → Ledger → List Stub → Maker
-maker_of config rolls desks ledger stubs =
+-- a heap that is made of these settings, tables of seats, ledger and seats
+abbrev pub maker_of : HeapSettings → Bool → List SeatTable → Ledger → List UnnamedSeat → Maker
+maker_of config rolls seat_tables ledger unnamed_seats =
     record {
       config = config;
       rolls = rolls;
-      tables = tables_of desks;
+      tables = tables_of seat_tables;
       ledger = table_of ledger;
-      seats = map chair_of stubs;
+      seats = map seat_model_of unnamed_seats;
     }
 
 -- each half of a seat fits its table
-abbrev pub AllStubs : List TableId → List Stub → Type 0
-AllStubs tables [] = Unit {0}
-AllStubs tables (s ∷ ss) = IsChair tables s.number s.share × AllStubs tables ss
+abbrev pub AllUnnamed : List TableId → List UnnamedSeat → Type 0
+AllUnnamed tables [] = Unit {0}
+AllUnnamed tables (s ∷ ss) = IsSeatModel tables s.number s.share × AllUnnamed tables ss
 
--- each desk has its own table, and its book is empty
-abbrev pub AllFresh : List Desk → Type 0
-AllFresh desks =
-    (n : ℕ) (d : Desk) → get_elem? desks n ≡ some d → IsDesk (table_at (tables_of desks) n) [] d
+-- each seat has its own table, and no entry
+abbrev pub AllFresh : List SeatTable → Type 0
+AllFresh seat_tables =
+    (n : ℕ) (d : SeatTable) → get_elem? seat_tables n ≡ some d → IsSeatTable (table_at (tables_of seat_tables) n) [] d
 
--- a lock that nobody has used: an opening machine, empty books, no call seen
-pub record IsBlank (config : HeapSettings) (machine : Machine) (desks : List Desk)
-    (stubs : List Stub) (ledger : Ledger) : Type 0 where
+-- a lock that nobody has used: an opening machine, no entry of a seat, no call seen
+pub record IsBlank (config : HeapSettings) (machine : Machine) (seat_tables : List SeatTable)
+    (unnamed_seats : List UnnamedSeat) (ledger : Ledger) : Type 0 where
   pub machine_is : machine ≡ opening_machine config.limits config.ids config.regions config.mutators config.keep
-  pub desks_are : AllFresh desks
-  pub stubs_are : AllStubs (tables_of desks) stubs
+  pub tables_are : AllFresh seat_tables
+  pub unnamed_are : AllUnnamed (tables_of seat_tables) unnamed_seats
   pub ledger_is : HasCalls (table_of ledger) [] ledger

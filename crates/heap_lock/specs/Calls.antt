@@ -7,8 +7,8 @@ use Rattle.heap_trail.specs.declared.Action.TheVariants.{Rewind}
 use Rattle.heap_trail.specs.declared.Reply.{Reply}
 use Rattle.heap_trail.specs.declared.Reply.TheVariants.{Place, Refused}
 use Rattle.heap_trail.specs.Machine.{Machine, MayDrive, opening_machine, is_dump_action}
-use Rattle.heap_chronicle.specs.declared.entry.Entry.{Entry}
-use Rattle.heap_chronicle.specs.History.{reply_of, opening, IsLegalHistory}
+use Rattle.heap_history.specs.declared.entry.Entry.{Entry}
+use Rattle.heap_history.specs.History.{reply_of, opening, IsLegalHistory}
 
 -- an action and its reply
 abbrev pub Call : Type 0

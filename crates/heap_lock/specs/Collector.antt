@@ -4,7 +4,7 @@ use mathlib.Core.List.{IsPrefix}
 use Rattle.heap_mark.specs.MarkSteps.{pending_regions}
 use Rattle.heap_world.specs.Limits.{HeapSettings}
 use Rattle.heap_world.specs.State.{HeapState}
-use Rattle.heap_chronicle.specs.History.{opening}
+use Rattle.heap_history.specs.History.{opening}
 use Rattle.heap_lock.specs.Calls.{Call, IsLegalLedger}
 use Rattle.heap_lock.specs.Laws.{trail_by}
 

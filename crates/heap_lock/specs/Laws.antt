@@ -11,7 +11,7 @@ use Rattle.heap_trail.specs.declared.Reply.TheVariants.{Part, Pinned}
 use Rattle.heap_trail.specs.Laws.{AsksAt}
 use Rattle.heap_trail.specs.Trail.{Trail, state_ago}
 use Rattle.dump_pump.specs.Pumps.{joined}
-use Rattle.heap_chronicle.specs.History.{opening, trail_after}
+use Rattle.heap_history.specs.History.{opening, trail_after}
 use Rattle.heap_lock.specs.Calls.{Call, IsLegalLedger}
 
 -- the piece of the pin that a call was replied, if it was

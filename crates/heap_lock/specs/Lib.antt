@@ -1,11 +1,11 @@
 pub mod Limits
-pub mod Tally
-pub mod TableSeats
+pub mod SeatEntries
+pub mod HomeTables
 pub mod Calls
 pub mod Dumpers
-pub mod Sights
+pub mod LedgerViews
 pub mod Ledgers
-pub mod Desks
+pub mod SeatTables
 pub mod Roles
 pub mod Collector
 pub mod LockStates
@@ -32,10 +32,10 @@ pub use Rattle.heap_trail.specs.Limits as TrailLimits
 pub use Rattle.heap_trail.specs.Machine
 pub use Rattle.heap_trail.specs.declared.Action
 pub use Rattle.heap_trail.specs.declared.Reply
-pub use Rattle.heap_chronicle.specs.Audits
-pub use Rattle.heap_chronicle.specs.History
-pub use Rattle.heap_chronicle.specs.Limits as ChronicleLimits
-pub use Rattle.heap_chronicle.specs.declared.audits.Verdict
-pub use Rattle.heap_chronicle.specs.declared.entry.Entry
-pub use Rattle.heap_chronicle.specs.declared.entry.Outcome
-pub use Rattle.heap_chronicle.specs.declared.receipt.Receipt
+pub use Rattle.heap_history.specs.Audits
+pub use Rattle.heap_history.specs.History
+pub use Rattle.heap_history.specs.Limits as ChronicleLimits
+pub use Rattle.heap_history.specs.declared.audits.Verdict
+pub use Rattle.heap_history.specs.declared.entry.Entry
+pub use Rattle.heap_history.specs.declared.entry.Outcome
+pub use Rattle.heap_history.specs.declared.receipt.Receipt

@@ -10,21 +10,21 @@ use Rattle.heap_world.specs.Limits.{HeapSettings}
 use Rattle.heap_trail.specs.declared.Action.{Action}
 use Rattle.heap_trail.specs.declared.Reply.{Reply}
 use Rattle.heap_trail.specs.Machine.{MayReply, Machine}
-use Rattle.heap_lock.specs.TableSeats.{Desk}
-use Rattle.heap_chronicle.specs.declared.entry.Entry.{Entry}
-use Rattle.heap_chronicle.specs.declared.entry.Outcome.{Outcome}
-use Rattle.heap_chronicle.specs.declared.receipt.Receipt.{Receipt}
+use Rattle.heap_lock.specs.HomeTables.{SeatTable}
+use Rattle.heap_history.specs.declared.entry.Entry.{Entry}
+use Rattle.heap_history.specs.declared.entry.Outcome.{Outcome}
+use Rattle.heap_history.specs.declared.receipt.Receipt.{Receipt}
 use Rattle.heap_lock.specs.declared.role.Role.{Role}
-use Rattle.heap_lock.specs.declared.view.SeatView.{SeatView}
-use Rattle.heap_lock.specs.declared.view.SeatView.TheVariants.{Book, Share}
-use Rattle.heap_chronicle.specs.Limits.{entry_limit}
-use Rattle.heap_chronicle.specs.Chronicles.{ChronicleState}
-use Rattle.heap_chronicle.specs.History.{entry, reply_of, opening, trail_after, IsDue, IsLegalHistory, history_trail, tally}
-use Rattle.heap_lock.specs.Tally.{tally_in}
+use Rattle.heap_lock.specs.declared.table_side.TableSide.{TableSide}
+use Rattle.heap_lock.specs.declared.table_side.TableSide.TheVariants.{UnderLock, WithSeat}
+use Rattle.heap_history.specs.Limits.{entry_limit}
+use Rattle.heap_history.specs.Chronicles.{ChronicleState}
+use Rattle.heap_history.specs.History.{entry, reply_of, opening, trail_after, IsDue, IsLegalHistory, history_trail, entries_by}
+use Rattle.heap_lock.specs.SeatEntries.{entries_in}
 use Rattle.heap_lock.specs.Calls.{Call, IsHeapLedger}
 
 -- a seat: its number, its role, and its share of the chronicle, each entry with its turn
-pub record Chair : Type 0 where
+pub record SeatModel : Type 0 where
   pub number : ℕ
   pub role : Role
   pub share : List (ℕ × Entry)
@@ -70,36 +70,36 @@ abbrev pub table_at : List TableId → ℕ → TableId
 table_at tables n = slice_index_or tables n no_table
 
 -- a badge of seat n's table that holds a share
-abbrev pub IsChair : List TableId → ℕ → Badge SeatView → Type 0
-IsChair tables n b =
+abbrev pub IsSeatModel : List TableId → ℕ → Badge TableSide → Type 0
+IsSeatModel tables n b =
     (n < length tables) × (b.table_id ≡ table_at tables n)
-    × (b.views ≡ Share (tally_in b.views) ∷ [])
+    × (b.views ≡ WithSeat (entries_in b.views) ∷ [])
 
--- a desk with this table, whose book has these marks
-abbrev pub IsDesk : TableId → List (ℕ × Entry) → Desk → Type 0
-IsDesk table marks d =
+-- this table of a seat, whose copy under the lock has these entries
+abbrev pub IsSeatTable : TableId → List (ℕ × Entry) → SeatTable → Type 0
+IsSeatTable table marks d =
     (d.table.shared.table_id.words ≡ 1) × (d.table.shared.table_id ≡ table)
-    × (d.own.table_id ≡ table) × (d.own.me ≡ (Book marks, []))
+    × (d.own.table_id ≡ table) × (d.own.me ≡ (UnderLock marks, []))
 
 -- what holds under the lock: the chronicle is a legal history of the heap's seats, the machine's trail is what it leaves,
--- and each seat's book has its tally
+-- and each seat's copy under the lock has its entries
 pub record IsUnderLock (config : HeapSettings) (tables : List TableId) (machine : Machine)
-    (chronicle : List Entry) (desks : List Desk) : Type 0 where
+    (chronicle : List Entry) (seat_tables : List SeatTable) : Type 0 where
   pub legal : IsLegalHistory config.keep (opening config) chronicle
   pub keep : machine.keep ≡ config.keep
   pub ids : machine.ids ≡ config.ids
   pub folds : machine.trail ≡ history_trail config.keep (opening config) chronicle
   pub seated : AllSeated (length tables) chronicle
-  pub count : length desks ≡ length tables
-  pub booked : (n : ℕ) (d : Desk) → get_elem? desks n ≡ some d
-      → IsDesk (table_at tables n) (tally n chronicle) d
+  pub count : length seat_tables ≡ length tables
+  pub booked : (n : ℕ) (d : SeatTable) → get_elem? seat_tables n ≡ some d
+      → IsSeatTable (table_at tables n) (entries_by n chronicle) d
 
 -- the machine's trail is what the chronicle leaves
 abbrev pub Folds : HeapSettings → LockState → Type 0
 Folds config k = k.machine.trail ≡ history_trail config.keep (opening config) k.chronicle
 
 -- the seat with an entry more
-abbrev pub with_entry : ℕ → Action → Outcome → Chair → Chair
+abbrev pub with_entry : ℕ → Action → Outcome → SeatModel → SeatModel
 with_entry turn action answer s =
     record s { share = s.share ++ (turn, entry s.number action answer) ∷ [] }
 
@@ -110,8 +110,8 @@ IsMoved config action k r k' =
     × (k'.machine.trail ≡ trail_after config.keep k.machine.trail action)
     × IsDue config.keep k.machine.trail (entry r.seat action r.answer)
 
--- what it does to the rest: chronicle and share gain the entry with this answer, and the ledger gains the call
-abbrev pub IsAct : Action → LockState → Chair → Receipt → LockState → Chair → Type 0
+-- what it does to the rest: chronicle and share add_entry the entry with this answer, and the ledger gains the call
+abbrev pub IsAct : Action → LockState → SeatModel → Receipt → LockState → SeatModel → Type 0
 IsAct action k s r k' s' =
     (k'.chronicle ≡ k.chronicle ++ entry s.number action r.answer ∷ [])
     × (k'.ledger ≡ k.ledger ++ (action, reply_of r.answer) ∷ [])
@@ -120,7 +120,7 @@ IsAct action k s r k' s' =
     × (k'.rolls ≡ k.rolls)
 
 -- what the receipt of an act says of its seat
-abbrev pub IsReceived : Action → Chair → Receipt → Chair → Type 0
+abbrev pub IsReceived : Action → SeatModel → Receipt → SeatModel → Type 0
 IsReceived action s r s' = (r.seat ≡ s.number) × (s' ≡ with_entry r.turn action r.answer s)
 
 -- a refusal of an act that has no entry
@@ -134,16 +134,16 @@ IsRefused k e =
     ⊎ ((e ≡ ChronicleFull) × (entry_limit k.rolls ≤ length k.chronicle))
 
 -- some legal history of `turn` turns ends with this entry, and has of the seat just the share
-abbrev pub Stands : HeapSettings → Chair → ℕ → Action → Outcome → Type 0
+abbrev pub Stands : HeapSettings → SeatModel → ℕ → Action → Outcome → Type 0
 Stands config s turn action answer =
     (before : List Entry)
     × IsLegalHistory config.keep (opening config) (before ++ entry s.number action answer ∷ [])
     × (length before + 1 ≡ turn)
-    × (tally s.number (before ++ entry s.number action answer ∷ []) ≡ s.share)
+    × (entries_by s.number (before ++ entry s.number action answer ∷ []) ≡ s.share)
 
 -- what an act had as its result: it is done, has its entry and a receipt that stands, or nothing has changed
-pub record IsHeldAct (config : HeapSettings) (action : Action) (k : LockState) (s : Chair)
-    (result : Result Receipt Refusal) (k' : LockState) (s' : Chair) : Type 0 where
+pub record IsHeldAct (config : HeapSettings) (action : Action) (k : LockState) (s : SeatModel)
+    (result : Result Receipt Refusal) (k' : LockState) (s' : SeatModel) : Type 0 where
   pub moves : IfOk result (λ r. IsMoved config action k r k')
   pub act : IfOk result (λ r. IsAct action k s r k' s')
   pub stands : IfOk result (λ r. Stands config s' r.turn action r.answer)
@@ -158,13 +158,13 @@ IsDumperAct action k r k' =
     × (k'.ledger ≡ k.ledger ++ (action, r) ∷ []) × (k'.rolls ≡ k.rolls)
 
 -- these are all calls of a heap with this machine, whose history is legal and has of the seat just the share
-abbrev pub AreAllCalls : HeapSettings → Machine → Chair → List Call → Type 0
+abbrev pub AreAllCalls : HeapSettings → Machine → SeatModel → List Call → Type 0
 AreAllCalls config m s calls =
     (chronicle : List Entry) × IsHeapLedger config m chronicle calls
-    × (tally s.number chronicle ≡ s.share)
+    × (entries_by s.number chronicle ≡ s.share)
 
 -- a caller's seat and what its witness has seen are of one moment of the heap
-abbrev pub AreMet : HeapSettings → Chair → List Call → Type 0
+abbrev pub AreMet : HeapSettings → SeatModel → List Call → Type 0
 AreMet config s calls = (m : Machine) × AreAllCalls config m s calls
 
 -- what lies under the lock is what the calls so far leave: they lead to the machine, and their acts are a legal history, which
@@ -174,8 +174,8 @@ IsHeap config rolls k =
     IsHeapLedger config k.machine k.chronicle k.ledger × Folds config k × (k.rolls ≡ rolls)
 
 -- when the lock was got the heap had a history of which the seat has just its share, and then the act had this result
-abbrev pub IsSharedAct : HeapSettings → Bool → Action → Chair → Result Receipt Refusal → Chair
+abbrev pub IsSharedAct : HeapSettings → Bool → Action → SeatModel → Result Receipt Refusal → SeatModel
     → Type 0
 IsSharedAct config rolls action s result s' =
-    (k k' : LockState) × IsHeap config rolls k × (tally s.number k.chronicle ≡ s.share)
+    (k k' : LockState) × IsHeap config rolls k × (entries_by s.number k.chronicle ≡ s.share)
     × IsHeldAct config action k s result k' s'

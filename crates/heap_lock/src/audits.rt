@@ -1,10 +1,10 @@
 //! Receipts against the chronicle of a heap.
 ghost use Rattle.std.specs.Prelude.{length};
-ghost use Rattle.heap_chronicle.specs.Audits.{IsVerdict};
-ghost use Rattle.heap_chronicle.specs.Chronicles.{dropped_of};
+ghost use Rattle.heap_history.specs.Audits.{IsVerdict};
+ghost use Rattle.heap_history.specs.Chronicles.{dropped_of};
 
 use crate::heap::{Heap, Kept};
-use heap_chronicle::{Receipt, Verdict};
+use heap_history::{Receipt, Verdict};
 use heap_trail::Action;
 
 /// Returns whether the turns rise along the list and each names an entry with the seat and the answer of its receipt and

@@ -2,15 +2,15 @@
 ghost use Rattle.std.specs.Prelude.{◌≡◌, ◌∷◌, ◌≤◌, [], false, map, length, IfOk, IfErr, IfSome, IfNone};
 ghost use Rattle.heap_class.specs.declared.Refusal.TheVariants.{NoMemory};
 ghost use Rattle.heap_lock.specs.Limits.{seat_limit};
-ghost use Rattle.heap_lock.specs.Blanks.{chairs, chair_of, tables_of, AllFresh, AllStubs, IsNamed};
+ghost use Rattle.heap_lock.specs.Blanks.{seat_models, seat_model_of, tables_of, AllFresh, AllUnnamed, IsNamed};
 
-use crate::desk::Desk;
 use crate::heap::{Heap, Kept, Seat, Shared};
 use crate::ledger::Ledger;
 use crate::role::Role;
-use crate::stub::Stub;
-use heap_chronicle::Chronicle;
+use crate::seat_table::SeatTable;
+use crate::unnamed_seat::UnnamedSeat;
 use heap_class::Refusal;
+use heap_history::Chronicle;
 use heap_trail::Machine;
 use heap_world::Config;
 use std::alloc::{AllocError, Global};
@@ -22,8 +22,8 @@ use std::marker::{Model, PhantomData};
 pub struct Blank {
     config: Config,
     machine: Machine,
-    desks: Vec<Desk>,
-    stubs: Vec<Stub>,
+    seat_tables: Vec<SeatTable>,
+    unnamed_seats: Vec<UnnamedSeat>,
     ledger: Ledger,
     rolls: bool,
     alloc: Global,
@@ -34,28 +34,28 @@ impl Model for Blank {
 
     ghost Value = { Maker };
 
-    ghost view = { λ b. maker_of b.config b.rolls b.desks.items b.ledger b.stubs.items };
+    ghost view = { λ b. maker_of b.config b.rolls b.seat_tables.items b.ledger b.unnamed_seats.items };
 
-    ghost invariant = { λ b. IsBlank b.config b.machine b.desks.items b.stubs.items b.ledger };
+    ghost invariant = { λ b. IsBlank b.config b.machine b.seat_tables.items b.unnamed_seats.items b.ledger };
 }
 
 /// The seats that nobody has taken yet, the next one first.
 #[derive(Drop)]
 pub struct Seats<L: Heap> {
-    stubs: VecDeque<Stub>,
+    unnamed_seats: VecDeque<UnnamedSeat>,
     heap: PhantomData<L>,
 }
 
 impl<L: Heap> Model for Seats<L> {
     ghost use Rattle.std.specs.Prelude.{List, map};
-    ghost use Rattle.heap_lock.specs.LockStates.{Chair};
-    ghost use Rattle.heap_lock.specs.Blanks.{chair_of, AllStubs};
+    ghost use Rattle.heap_lock.specs.LockStates.{SeatModel};
+    ghost use Rattle.heap_lock.specs.Blanks.{seat_model_of, AllUnnamed};
 
-    ghost Value = { List Chair };
+    ghost Value = { List SeatModel };
 
-    ghost view = { λ s. map chair_of s.stubs.items };
+    ghost view = { λ s. map seat_model_of s.unnamed_seats.items };
 
-    ghost invariant = { λ s. AllStubs L.tables s.stubs.items };
+    ghost invariant = { λ s. AllUnnamed L.tables s.unnamed_seats.items };
 }
 
 impl<L: Heap> Seats<L> {
@@ -64,11 +64,11 @@ impl<L: Heap> Seats<L> {
         ensures some { IfSome result (λ s. self.old ≡ s ∷ self.new) }
         ensures none { IfNone result (self.old ≡ []) }
     {
-        let Stub {
+        let UnnamedSeat {
             number,
             role,
             share,
-        } = self.stubs.pop_front()?;
+        } = self.unnamed_seats.pop_front()?;
         Some(Seat::of(number, role, share))
     }
 
@@ -76,31 +76,34 @@ impl<L: Heap> Seats<L> {
     pub fn count(&self) -> usize
         ensures { result ≡ length self.now }
     {
-        self.stubs.len()
+        self.unnamed_seats.len()
     }
 }
 
-// Creates a desk and a stub for each role.
-fn make_seats(alloc: Global, roles: &[Role]) -> Result<(Vec<Desk>, Vec<Stub>), AllocError>
+// Creates a table and a seat for each role.
+fn make_seats(
+    alloc: Global,
+    roles: &[Role],
+) -> Result<(Vec<SeatTable>, Vec<UnnamedSeat>), AllocError>
     requires { length roles.now ≤ seat_limit }
-    ensures seats { IfOk result (λ p. map chair_of p.1.items ≡ chairs 0 roles.now) }
-    ensures desks { IfOk result (λ p. AllFresh p.0.items) }
+    ensures seats { IfOk result (λ p. map seat_model_of p.1.items ≡ seat_models 0 roles.now) }
+    ensures seat_tables { IfOk result (λ p. AllFresh p.0.items) }
     ensures count { IfOk result (λ p. length (tables_of p.0.items) ≡ length roles.now) }
-    ensures stubs { IfOk result (λ p. AllStubs (tables_of p.0.items) p.1.items) }
+    ensures unnamed_seats { IfOk result (λ p. AllUnnamed (tables_of p.0.items) p.1.items) }
 {
-    let mut desks = Vec::new(alloc);
-    let mut stubs = Vec::new(alloc);
+    let mut seat_tables = Vec::new(alloc);
+    let mut unnamed_seats = Vec::new(alloc);
     for i in 0..roles.len() {
-        let mut desk = Desk::new(alloc)?;
-        let share = desk.open();
-        desks.push(desk)?;
-        stubs.push(Stub {
+        let mut seat_table = SeatTable::new(alloc)?;
+        let share = seat_table.open();
+        seat_tables.push(seat_table)?;
+        unnamed_seats.push(UnnamedSeat {
             number: i as u64,
             role: roles[i],
             share,
         })?;
     }
-    Ok((desks, stubs))
+    Ok((seat_tables, unnamed_seats))
 }
 
 impl Blank {
@@ -109,11 +112,11 @@ impl Blank {
         requires { (1 ≤ length roles.now) × (length roles.now ≤ seat_limit) }
         ensures settings { IfOk result (λ b. b.config ≡ config) }
         ensures rolls { IfOk result (λ b. b.rolls ≡ false) }
-        ensures seats { IfOk result (λ b. b.seats ≡ chairs 0 roles.now) }
+        ensures seats { IfOk result (λ b. b.seats ≡ seat_models 0 roles.now) }
         ensures tables { IfOk result (λ b. length b.tables ≡ length roles.now) }
         ensures refused { IfErr result (λ e. e ≡ NoMemory) }
     {
-        let Ok((desks, stubs)) = make_seats(alloc, roles) else {
+        let Ok((seat_tables, unnamed_seats)) = make_seats(alloc, roles) else {
             return Err(Refusal::NoMemory);
         };
         let Ok(ledger) = Ledger::new(alloc) else {
@@ -123,8 +126,8 @@ impl Blank {
         Ok(Blank {
             config,
             machine,
-            desks,
-            stubs,
+            seat_tables,
+            unnamed_seats,
             ledger,
             rolls: false,
             alloc,
@@ -147,18 +150,18 @@ impl Blank {
         let Blank {
             config,
             machine,
-            desks,
-            stubs,
+            seat_tables,
+            unnamed_seats,
             ledger,
             rolls,
             alloc,
         } = self;
-        let kept = Kept::of(machine, Chronicle::new(alloc, rolls), desks, ledger);
-        let stubs = VecDeque::from_vec(stubs);
+        let kept = Kept::of(machine, Chronicle::new(alloc, rolls), seat_tables, ledger);
+        let unnamed_seats = VecDeque::from_vec(unnamed_seats);
         (
             Shared::of(config, kept),
             Seats {
-                stubs,
+                unnamed_seats,
                 heap: PhantomData,
             },
         )

@@ -3,21 +3,21 @@ ghost use Rattle.std.specs.Prelude.{◌≡◌, true, false, length, IfOk, IfErr,
 ghost use Rattle.heap_trail.specs.declared.Action.TheVariants.{Step, Rewind};
 ghost use Rattle.heap_trail.specs.Machine.{is_dump_action};
 ghost use Rattle.heap_lock.specs.declared.role.Role.TheVariants.{User};
-ghost use Rattle.heap_lock.specs.Tally.{tally_in};
-ghost use Rattle.heap_chronicle.specs.History.{opening, tally, IsLegalHistory};
-ghost use Rattle.heap_lock.specs.Blanks.{chair_of};
+ghost use Rattle.heap_lock.specs.SeatEntries.{entries_in};
+ghost use Rattle.heap_history.specs.History.{opening, entries_by, IsLegalHistory};
+ghost use Rattle.heap_lock.specs.Blanks.{seat_model_of};
 ghost use Rattle.heap_lock.specs.Roles.{may};
 ghost use Rattle.heap_lock.specs.Ledgers.{all_in, HasLedger};
-ghost use Rattle.heap_lock.specs.LockStates.{AllSeated, Folds, Stands, IsMoved, IsAct, IsHeldAct, IsReceived, IsRefused, IsNoEntry, IsHeap, IsSharedAct, IsChair, IsUnderLock, lock_state};
+ghost use Rattle.heap_lock.specs.LockStates.{AllSeated, Folds, Stands, IsMoved, IsAct, IsHeldAct, IsReceived, IsRefused, IsNoEntry, IsHeap, IsSharedAct, IsSeatModel, IsUnderLock, lock_state};
 
-use crate::desk::Desk;
 use crate::ledger::Ledger;
 use crate::role::{Role, may_for, owner_of};
-use crate::stub::Stub;
-use crate::view::SeatView;
+use crate::seat_table::SeatTable;
+use crate::table_side::TableSide;
+use crate::unnamed_seat::UnnamedSeat;
 use atomic_table::Badge;
-use heap_chronicle::{Chronicle, Entry, Receipt};
 use heap_class::Refusal;
+use heap_history::{Chronicle, Entry, Receipt};
 use heap_step::Event;
 use heap_trail::{Action, Machine};
 use heap_world::Config;
@@ -26,7 +26,7 @@ use std::mem::replace;
 use std::snapshot::Snapshot;
 use std::sync::{Mutex, MutexGuard, Wait};
 
-/// Which heap it is: what it was made with, whether its chronicle rolls, the table of each seat's tally, and that of the ledger.
+/// Which heap it is: what it was made with, whether its chronicle rolls, the table of each seat's entries_by, and that of the ledger.
 pub trait Heap {
     ghost use Rattle.std.specs.Prelude.{Bool, List};
     ghost use Rattle.atomic_table.specs.Seated.{TableId};
@@ -61,20 +61,20 @@ impl Heap for Brand {
 pub struct Seat<L: Heap> {
     number: u64,
     role: Role,
-    share: Badge<SeatView>,
+    share: Badge<TableSide>,
     heap: PhantomData<L>,
 }
 
 impl<L: Heap> Model for Seat<L> {
-    ghost use Rattle.heap_lock.specs.Tally.{tally_in};
-    ghost use Rattle.heap_lock.specs.LockStates.{Chair, IsChair};
+    ghost use Rattle.heap_lock.specs.SeatEntries.{entries_in};
+    ghost use Rattle.heap_lock.specs.LockStates.{SeatModel, IsSeatModel};
 
-    ghost Value = { Chair };
+    ghost Value = { SeatModel };
 
     ghost view = { λ s.
-        record { number = s.number; role = s.role; share = tally_in s.share.views } };
+        record { number = s.number; role = s.role; share = entries_in s.share.views } };
 
-    ghost invariant = { λ s. IsChair L.tables s.number s.share };
+    ghost invariant = { λ s. IsSeatModel L.tables s.number s.share };
 }
 
 /// What lies under the lock. Contracts see the machine, the chronicle and the ledger.
@@ -82,7 +82,7 @@ impl<L: Heap> Model for Seat<L> {
 pub struct Kept<L: Heap> {
     pub(crate) machine: Machine,
     chronicle: Chronicle,
-    desks: Vec<Desk>,
+    seat_tables: Vec<SeatTable>,
     pub(crate) ledger: Ledger,
     heap: PhantomData<L>,
 }
@@ -98,15 +98,15 @@ impl<L: Heap> Model for Kept<L> {
         lock_state k.machine k.chronicle (all_in k.ledger) };
 
     ghost invariant = { λ k. IsUnderLock L.config L.tables k.machine k.chronicle.entries
-        k.desks.items × HasLedger L.config L.ledger k.machine k.chronicle.entries k.ledger
+        k.seat_tables.items × HasLedger L.config L.ledger k.machine k.chronicle.entries k.ledger
         × (k.chronicle.rolls ≡ L.rolls) };
 }
 
 impl<L: Heap> Seat<L> {
     // Makes a seat of its parts.
-    pub(crate) fn of(number: u64, role: Role, share: Badge<SeatView>) -> Seat<L>
-        requires { IsChair L.tables number share }
-        ensures { result ≡ record { number = number; role = role; share = tally_in share.views } }
+    pub(crate) fn of(number: u64, role: Role, share: Badge<TableSide>) -> Seat<L>
+        requires { IsSeatModel L.tables number share }
+        ensures { result ≡ record { number = number; role = role; share = entries_in share.views } }
     {
         Seat {
             number,
@@ -133,11 +133,11 @@ impl<L: Heap> Seat<L> {
 
     /// Gives this seat up, and returns what it is made of, of a type that names no heap. It is one of the seats of the heap with
     /// these tables.
-    pub fn into_stub(self) -> Stub
-        ensures chair { chair_of result ≡ self }
-        ensures seat { IsChair L.tables result.number result.share }
+    pub fn into_unnamed(self) -> UnnamedSeat
+        ensures seat_model { seat_model_of result ≡ self }
+        ensures seat { IsSeatModel L.tables result.number result.share }
     {
-        Stub {
+        UnnamedSeat {
             number: self.number,
             role: self.role,
             share: self.share,
@@ -150,10 +150,10 @@ impl<L: Heap> Kept<L> {
     pub(crate) fn of(
         machine: Machine,
         chronicle: Chronicle,
-        desks: Vec<Desk>,
+        seat_tables: Vec<SeatTable>,
         ledger: Ledger,
     ) -> Kept<L>
-        requires kept { IsUnderLock L.config L.tables machine chronicle.entries desks.items }
+        requires kept { IsUnderLock L.config L.tables machine chronicle.entries seat_tables.items }
         requires ledger { HasLedger L.config L.ledger machine chronicle.entries ledger }
         requires rolls { chronicle.rolls ≡ L.rolls }
         ensures { result ≡ lock_state machine chronicle (all_in ledger) }
@@ -161,7 +161,7 @@ impl<L: Heap> Kept<L> {
         Kept {
             machine,
             chronicle,
-            desks,
+            seat_tables,
             ledger,
             heap: PhantomData,
         }
@@ -189,13 +189,13 @@ impl<L: Heap> Kept<L> {
 
     /// Compares the chronicle with a seat, whose share is just what the chronicle has of it. Changes nothing. Takes no memory.
     pub fn agree(&mut self, seat: &mut Seat<L>)
-        ensures share { tally seat.old.number self.old.chronicle ≡ seat.old.share }
+        ensures share { entries_by seat.old.number self.old.chronicle ≡ seat.old.share }
         ensures same { self.new ≡ self.old }
         ensures seat { seat.new ≡ seat.old }
     {
-        let desk = &mut self.desks[seat.number as usize];
+        let seat_table = &mut self.seat_tables[seat.number as usize];
         let share = replace(&mut seat.share, Badge::blank());
-        seat.share = desk.agree(share);
+        seat.share = seat_table.agree(share);
     }
 
     // Does nothing. Its contract says that what lies under the lock is what the calls so far leave.
@@ -205,30 +205,30 @@ impl<L: Heap> Kept<L> {
         let _ = &self.machine;
     }
 
-    // Does the action, and adds its entry to chronicle, book and share, and the call to the ledger.
+    // Does the action, and adds its entry to the chronicle and to both copies, and the call to the ledger.
     fn do_held(&mut self, seat: &mut Seat<L>, action: Action) -> Result<Receipt, Refusal>
         requires { is_dump_action action ≡ false }
         ensures moves { IfOk result (λ r. IsMoved L.config action self.old r self.new) }
         ensures act { IfOk result (λ r. IsAct action self.old seat.old r self.new seat.new) }
         ensures stands { IfOk result (λ r. Stands L.config seat.new r.turn action r.answer) }
         ensures share { IfOk result
-            (λ _. tally seat.old.number self.old.chronicle ≡ seat.old.share) }
+            (λ _. entries_by seat.old.number self.old.chronicle ≡ seat.old.share) }
         ensures refused { IfErr result (λ e. IsRefused self.old e) }
         ensures unchanged { OnErr result ((self.new ≡ self.old) × (seat.new ≡ seat.old)) }
     {
         let Kept {
             machine,
             chronicle,
-            desks,
+            seat_tables,
             ledger,
             heap: _,
         } = self;
         let number = seat.number;
         let (answer, entry) = chronicle.act(machine, number, action)?;
         let turn = chronicle.len() as u64;
-        let desk = &mut desks[number as usize];
+        let seat_table = &mut seat_tables[number as usize];
         let share = replace(&mut seat.share, Badge::blank());
-        seat.share = desk.gain(share, turn, &entry);
+        seat.share = seat_table.add_entry(share, turn, &entry);
         ledger.note::<Brand, Snapshot<Entry>, ()>(&entry, &());
         Ok(Receipt {
             seat: number,
@@ -255,7 +255,7 @@ impl<L: Heap> Kept<L> {
         }
     }
 
-    /// Does an event for one who holds the lock. The chronicle and the seat's share gain the entry with the answer that
+    /// Does an event for one who holds the lock. The chronicle and the seat's share add_entry the entry with the answer that
     /// the model gives at that point; a refused event is an entry too. Fails with ChronicleFull if the chronicle
     /// takes no more entries, and with NoMemory; then nothing has changed.
     pub fn act_held(&mut self, seat: &mut Seat<L>, event: Event) -> Result<Receipt, Refusal>

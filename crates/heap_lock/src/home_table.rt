@@ -1,6 +1,6 @@
 //! Tables of one word, each with the seat that stays with it. A view is cut in two, and two are made one.
 ghost use Rattle.std.specs.Prelude.{◌≡◌, [], ◌∷◌, IfOk};
-ghost use Rattle.heap_lock.specs.TableSeats.{IsSeatOf, table_of};
+ghost use Rattle.heap_lock.specs.HomeTables.{IsSeatOf, table_of};
 
 use atomic_table::{Join, Seat, Split, Table, TableRule};
 use std::alloc::{AllocError, Global};
@@ -28,37 +28,37 @@ pub trait TableView {
 }
 
 /// The rule of a table, with the cut of its views and their join.
-pub struct Halves<V: TableView> {
+pub struct ViewRule<V: TableView> {
     of: PhantomData<V>,
 }
 
-impl<V: TableView> TableRule<(), V, ()> for Halves<V> {
+impl<V: TableView> TableRule<(), V, ()> for ViewRule<V> {
     ghost holds = { λ _ s. V.holds s.views };
 
     ghost first = { λ _. V.first };
 }
 
-impl<V: TableView> Split<V> for Halves<V> {
+impl<V: TableView> Split<V> for ViewRule<V> {
     ghost left = { V.left };
 
     ghost right = { V.right };
 }
 
-impl<V: TableView> Join<V> for Halves<V> {
+impl<V: TableView> Join<V> for ViewRule<V> {
     ghost both = { V.both };
 
     ghost spent = { V.spent };
 }
 
 /// The step that adds what `E` says.
-pub struct Notes<E> {
+pub struct AddsEntry<E> {
     of: PhantomData<E>,
 }
 
 /// A table of one word, with its first seat.
 #[derive(Drop)]
 pub struct HomeTable<V: TableView> {
-    pub table: Table<(), V, (), Halves<V>, Global>,
+    pub table: Table<(), V, (), ViewRule<V>, Global>,
     pub own: Seat<(), V>,
 }
 

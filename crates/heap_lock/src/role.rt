@@ -2,8 +2,8 @@
 ghost use Rattle.std.specs.Prelude.{◌≡◌};
 ghost use Rattle.heap_lock.specs.Roles.{may_for, owner, owner_of};
 
-use heap_chronicle::pack::Deed;
-use heap_chronicle::packing::pack_event;
+use heap_history::pack::Deed;
+use heap_history::packing::pack_event;
 use heap_step::Event;
 
 /// Who acts.

@@ -3,7 +3,7 @@ use crate::client::{Client, Turn};
 use crate::service::PageService;
 use crate::terms::PageTerms;
 use heap_lock::{Heap, Shared};
-use live_dump::DumpListener;
+use shared_dump::DumpListener;
 use std::alloc::Global;
 use std::hash::RandomState;
 use std::sync::Wait;

@@ -4,22 +4,22 @@ use Rattle.std.specs.List.{concat}
 use Rattle.std.proofs.lemmas.Bool.Decides.{nat_tests}
 use Rattle.std.proofs.lemmas.List.{append-nil}
 use Rattle.std.specs.Bool.{◌==◌}
-use Rattle.pin_dump.specs.IdSize.{IdSize}
-use Rattle.pin_dump.specs.LostCause.{LostCause}
-use Rattle.pin_dump.specs.LostCause.TheVariants.{Memory, Closed}
-use Rattle.pin_dump.specs.Refusal.{Refusal}
-use Rattle.pin_dump.specs.Image.{Image}
-use Rattle.pin_dump.specs.Segments.{dump_text, segment_records, end_record}
-use Rattle.pin_dump.specs.Text.{opening_records, sub_records}
-use Rattle.pin_dump.proofs.Lengths.{length-record_of}
-use Rattle.pin_dump.specs.Images.{image_of}
-use Rattle.pin_dump.specs.Pins.{open_refusal}
-use Rattle.pin_dump.specs.Machine.{Machine}
+use Rattle.machine_dump.specs.IdSize.{IdSize}
+use Rattle.machine_dump.specs.LostCause.{LostCause}
+use Rattle.machine_dump.specs.LostCause.TheVariants.{Memory, Closed}
+use Rattle.machine_dump.specs.Refusal.{Refusal}
+use Rattle.machine_dump.specs.Image.{Image}
+use Rattle.machine_dump.specs.Segments.{dump_text, segment_records, end_record}
+use Rattle.machine_dump.specs.Text.{opening_records, sub_records}
+use Rattle.machine_dump.proofs.Lengths.{length-record_of}
+use Rattle.machine_dump.specs.Images.{image_of}
+use Rattle.machine_dump.specs.Pins.{open_refusal}
+use Rattle.machine_dump.specs.Machine.{Machine}
 use Rattle.dump_pump.specs.declared.transfer.Pumped.{Pumped}
 use Rattle.dump_pump.specs.declared.transfer.Pumped.TheVariants.{Done, OutletFailed, Lost, Cancelled}
 use Rattle.dump_pump.specs.Outlets.{Outgoing}
 use Rattle.dump_pump.specs.Pumps.{bytes_of}
-use Rattle.pin_dump.specs.PinDumps.{FitsText, PutsText, DumpsUnless, IsPlaceDumped, with_number_used}
+use Rattle.machine_dump.specs.PinDumps.{FitsText, PutsText, DumpsUnless, IsPlaceDumped, with_number_used}
 use Rattle.heap_save.specs.declared.late_outlet.Opening.{Opening}
 use Rattle.heap_save.specs.declared.late_outlet.Opening.TheVariants.{Unasked, Made, Refused}
 use Rattle.heap_save.specs.LateOutlets.{Since, IsLate, outlet_in}

@@ -3,7 +3,7 @@ use Rattle.std.proofs.Common.{◌≡◌, ℕ, Bool, true, false, refl, subst, sy
 use Rattle.dump_pump.specs.declared.transfer.Pumped.{Pumped}
 use Rattle.dump_pump.specs.declared.transfer.Pumped.TheVariants.{Done, OutletFailed, Lost, Cancelled}
 use Rattle.dump_pump.specs.Outlets.{Outgoing}
-use Rattle.pin_dump.specs.Machine.{Machine}
+use Rattle.machine_dump.specs.Machine.{Machine}
 use Rattle.session_text.specs.declared.Ended.{Ended}
 use Rattle.session_text.specs.Endings.{EndsSession, ended_of}
 use Rattle.session_text.specs.declared.limits.SessionLimits.{SessionLimits}

@@ -1,12 +1,12 @@
 -- A session whose last state is dumped.
 use Rattle.std.specs.Prelude.{◌≡◌, ℕ, ◌<◌, ◌==◌, Bool, true, false, List, [], ◌++◌, codes, decimal, Option, Some, None, option_map}
-use Rattle.pin_dump.specs.LostCause.TheVariants.{Rewound, Memory, Closed}
+use Rattle.machine_dump.specs.LostCause.TheVariants.{Rewound, Memory, Closed}
 use Rattle.dump_pump.specs.declared.transfer.Pumped.{Pumped}
 use Rattle.dump_pump.specs.declared.transfer.Pumped.TheVariants.{Done, OutletFailed, Lost, Cancelled}
 use Rattle.dump_pump.specs.Outlets.{Outgoing}
 use Rattle.dump_pump.specs.Pumps.{bytes_of}
-use Rattle.pin_dump.specs.Machine.{Machine}
-use Rattle.pin_dump.specs.PinDumps.{IsPlaceDumped, with_number_used}
+use Rattle.machine_dump.specs.Machine.{Machine}
+use Rattle.machine_dump.specs.PinDumps.{IsPlaceDumped, with_number_used}
 use Rattle.session_text.specs.declared.Ended.{Ended}
 use Rattle.session_text.specs.Endings.{EndsSession, EndsWith}
 use Rattle.session_text.specs.declared.limits.SessionLimits.{SessionLimits}

@@ -5,7 +5,7 @@ ghost use Rattle.session_text.specs.Writes.{IsTextWritten};
 ghost use Rattle.heap_save.specs.Saves.{IsUncancelled, last_line};
 
 use dump_pump::{Outlet, Pumped};
-use pin_dump::LostCause;
+use machine_dump::LostCause;
 use session_text::write_all;
 
 // Puts out a number and the end of its line.

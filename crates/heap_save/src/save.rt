@@ -9,7 +9,7 @@ use crate::late_outlet::{LateOutlet, Origin};
 use crate::line::write_last;
 use crate::outlets::Outlets;
 use dump_pump::{Outlet, Pumped};
-use pin_dump::{Gauge, Machine, stream_place};
+use machine_dump::{Gauge, Machine, stream_place};
 use session_text::{Ended, Inlet, Local, SessionLimits, serve_local};
 use std::alloc::Global;
 use std::marker::Brand;

@@ -10,7 +10,7 @@ use Rattle.session_text.specs.declared.limits.SessionLimits.{SessionLimits}
 use Rattle.session_text.specs.Limits.{longest_line}
 use Rattle.heap_lock.specs.HeapLimits.{HeapSettings}
 use Rattle.heap_lock.specs.Calls.{Call, IsLegalLedger}
-use Rattle.heap_lock.specs.LockStates.{Chair}
+use Rattle.heap_lock.specs.LockStates.{SeatModel}
 use Rattle.heap_server.specs.Ahead.{IsAhead}
 use Rattle.heap_server.specs.declared.client_session.SessionEnd.{SessionEnd}
 use Rattle.heap_server.specs.declared.client_session.SessionEnd.TheVariants.{Ran, Http, Stranger, Idle}
@@ -25,11 +25,11 @@ ServesSeat limits config questions time secret bytes failed b b' c w c' w' end =
     ServesClient limits (AnswersCommand (seat_acts config) (seat_answers config questions) time) (Begins (seat_acts config) (seat_answers config questions) time) secret bytes failed b b' c w c' w' end
 
 -- a session on these terms is one that answers questions, if they say so
-pub attended : (config : HeapSettings) (terms : Terms) (questions failed : Bool) (bytes : List ℕ) (a b b' : Incoming) (s s' : Chair) (seen : List Call) (c c' : Station) (w w' : Outgoing) (end : SessionEnd) → terms.questions ≡ questions → IsAhead (longest_line terms.limits) bytes failed a b → IsLegalLedger config seen
+pub attended : (config : HeapSettings) (terms : Terms) (questions failed : Bool) (bytes : List ℕ) (a b b' : Incoming) (s s' : SeatModel) (seen : List Call) (c c' : Station) (w w' : Outgoing) (end : SessionEnd) → terms.questions ≡ questions → IsAhead (longest_line terms.limits) bytes failed a b → IsLegalLedger config seen
     → c ≡ record { seat = s; seen = seen } → s' ≡ c'.seat → ServesSeat terms.limits config questions terms.time terms.secret bytes failed b b' c w c' w' end → IsAttended config terms s a b' w w' s' end
 attended config terms questions failed bytes a b b' s s' seen c c' w w' end is ahead legal first last serves =
     let from : Station = record { seat = s; seen = seen } in
-    let left : ServesSeat terms.limits config questions terms.time terms.secret bytes failed b b' c w (record { seat = s'; seen = c'.seen }) w' end = subst (λ (x : Chair). ServesSeat terms.limits config questions terms.time terms.secret bytes failed b b' c w (record { seat = x; seen = c'.seen }) w' end) (sym last) serves in
+    let left : ServesSeat terms.limits config questions terms.time terms.secret bytes failed b b' c w (record { seat = s'; seen = c'.seen }) w' end = subst (λ (x : SeatModel). ServesSeat terms.limits config questions terms.time terms.secret bytes failed b b' c w (record { seat = x; seen = c'.seen }) w' end) (sym last) serves in
     let begun : ServesSeat terms.limits config questions terms.time terms.secret bytes failed b b' from w (record { seat = s'; seen = c'.seen }) w' end = subst (λ (x : Station). ServesSeat terms.limits config questions terms.time terms.secret bytes failed b b' x w (record { seat = s'; seen = c'.seen }) w' end) first left in
     inl (record {
       bytes = bytes;
@@ -43,7 +43,7 @@ attended config terms questions failed bytes a b b' s s' seen c c' w w' end is a
     })
 
 -- a session of a heap that stays, and the closings at its end
-pub stayed : (config : HeapSettings) (terms : Terms) (failed : Bool) (bytes : List ℕ) (a b b' : Incoming) (s s' : Chair) (seen seen' : List Call) (c c' : StayingStation) (w w' : Outgoing) (end : SessionEnd) → IsAhead (longest_line terms.limits) bytes failed a b → IsLegalLedger config seen
+pub stayed : (config : HeapSettings) (terms : Terms) (failed : Bool) (bytes : List ℕ) (a b b' : Incoming) (s s' : SeatModel) (seen seen' : List Call) (c c' : StayingStation) (w w' : Outgoing) (end : SessionEnd) → IsAhead (longest_line terms.limits) bytes failed a b → IsLegalLedger config seen
     → c ≡ record { seat = s; seen = seen; pins = []; questions = terms.questions } → s' ≡ c'.seat → ClosesEach config c'.pins c'.seen seen' → ServesClient terms.limits (staying_says config terms) (staying_begins config terms) terms.secret bytes failed b b' c w c' w' end → IsAttendedStaying config terms s a b' w w' s' end
 stayed config terms failed bytes a b b' s s' seen seen' c c' w w' end ahead legal first last closes serves =
     inl (record {
@@ -68,20 +68,20 @@ not_away limits (Some word) bytes away = cc away.1
 not_away limits None bytes away = cc away.1
 
 -- no session ends so by itself
-never_idle : (config : HeapSettings) (terms : Terms) (stays : Bool) (a b : Incoming) (s s' : Chair) (w w' : Outgoing) → IsAttendedOn stays config terms s a b w w' s' Idle → ⊥
+never_idle : (config : HeapSettings) (terms : Terms) (stays : Bool) (a b : Incoming) (s s' : SeatModel) (w w' : Outgoing) → IsAttendedOn stays config terms s a b w w' s' Idle → ⊥
 never_idle config terms false a b s s' w w' (inl served) = not_away terms.limits terms.secret served.bytes served.serves.0
 never_idle config terms false a b s s' w w' (inr none) = cc none.0
 never_idle config terms true a b s s' w w' (inl served) = not_away terms.limits terms.secret served.bytes served.serves.0
 never_idle config terms true a b s s' w w' (inr none) = cc none.0
 
-plain : (config : HeapSettings) (terms : Terms) (stays : Bool) (a b : Incoming) (s s' : Chair) (w w' : Outgoing) (end : SessionEnd) → IsAttendedOn stays config terms s a b w w' s' end → IsAttendedOn stays config terms s a b w w' s' (plain_end end)
+plain : (config : HeapSettings) (terms : Terms) (stays : Bool) (a b : Incoming) (s s' : SeatModel) (w w' : Outgoing) (end : SessionEnd) → IsAttendedOn stays config terms s a b w w' s' end → IsAttendedOn stays config terms s a b w w' s' (plain_end end)
 plain config terms stays a b s s' w w' (Ran ended) h = h
 plain config terms stays a b s s' w w' Http h = h
 plain config terms stays a b s s' w w' Stranger h = h
 plain config terms stays a b s s' w w' Idle h = absurd (never_idle config terms stays a b s s' w w' h)
 
 -- a session is told as it ended, or as idle
-told_so : (config : HeapSettings) (terms : Terms) (stays : Bool) (a b : Incoming) (s s' : Chair) (w w' : Outgoing) (end told : SessionEnd) → IsAttendedOn stays config terms s a b w w' s' end → IsToldAs terms.idle end told
+told_so : (config : HeapSettings) (terms : Terms) (stays : Bool) (a b : Incoming) (s s' : SeatModel) (w w' : Outgoing) (end told : SessionEnd) → IsAttendedOn stays config terms s a b w w' s' end → IsToldAs terms.idle end told
     → IsLimited terms told × IsAttendedOn stays config terms s a b w w' s' (plain_end told)
 told_so config terms stays a b s s' w w' end told h (inl same) = (
   (λ is. absurd (never_idle config terms stays a b s s' w w' (subst (λ e. IsAttendedOn stays config terms s a b w w' s' e) (sym same ∙ is) h))),
@@ -93,7 +93,7 @@ told_so config terms stays a b s s' w w' end told h (inr idle) = (
 )
 
 -- what went through the socket of a client
-pub client_told : (config : HeapSettings) (terms : Terms) (stays : Bool) (s s' : Chair) (end told : SessionEnd) (a b given : Incoming) (w w' sent : Outgoing) → a.taken ≡ [] → w.out ≡ [] → IsAttendedOn stays config terms s a b w w' s' end → IsToldAs terms.idle end told → given ≡ b → sent ≡ w'
+pub client_told : (config : HeapSettings) (terms : Terms) (stays : Bool) (s s' : SeatModel) (end told : SessionEnd) (a b given : Incoming) (w w' sent : Outgoing) → a.taken ≡ [] → w.out ≡ [] → IsAttendedOn stays config terms s a b w w' s' end → IsToldAs terms.idle end told → given ≡ b → sent ≡ w'
     → IsLimited terms told × (x : Incoming) × (y : Outgoing) × (x.taken ≡ []) × (y.out ≡ []) × IsAttendedOn stays config terms s x given y sent s' (plain_end told)
 client_told config terms stays s s' end told a b given w w' sent taken out h so gave put =
     let both = told_so config terms stays a b s s' w w' end told h so in (

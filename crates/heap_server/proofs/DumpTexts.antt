@@ -15,7 +15,7 @@ use Rattle.heap_lock.specs.Reply.TheVariants.{Answered, Place, Pinned, Part, Clo
 use Rattle.dump_pump.specs.Pumps.{joined}
 use Rattle.dump_pump.specs.Sources.{part_limit}
 use Rattle.heap_lock.specs.Calls.{Call, IsLegalLedger, Witnesses}
-use Rattle.heap_lock.specs.LockStates.{Chair}
+use Rattle.heap_lock.specs.LockStates.{SeatModel}
 use Rattle.heap_lock.specs.Laws.{state_at}
 use Rattle.heap_lock.proofs.PinTexts.{give_text}
 use Rattle.session_text.specs.Replies.{data_lines, reply_text, piece_in, pin_in}
@@ -94,7 +94,7 @@ on_tells config seen more r (Some p) next d so_far text is go s =
       | inr e ↦ let t = go (so_far + length p.bytes) s.0 e.1 in (one_piece so_far p s.0 text s.1 t.0, t.1)
     ]
 
-tells : {S : Type 0} (config : HeapSettings) (seat : S → Chair) (seen : S → List Call) (pin time n : ℕ) (c d : S) (so_far : ℕ) (text : List ℕ) → Dumps (ActsJoined config seat seen) pin time n c so_far text d → TellsDump config seen so_far c text d
+tells : {S : Type 0} (config : HeapSettings) (seat : S → SeatModel) (seen : S → List Call) (pin time n : ℕ) (c d : S) (so_far : ℕ) (text : List ℕ) → Dumps (ActsJoined config seat seen) pin time n c so_far text d → TellsDump config seen so_far c text d
 tells config seat seen pin time zero c d so_far text s =
     (([], false, [], s.0, inl refl, λ w. not_whole w), sees_same config seen c d s.1)
 tells config seat seen pin time (suc n) c d so_far text s =
@@ -119,14 +119,14 @@ exact_text config pin time seen text g legal =
           (joins.0, joins.1, λ w. joins.2 (g.5 w));
     }
 
-legal_dump : {S : Type 0} (config : HeapSettings) (seat : S → Chair) (seen : S → List Call) (pin time n : ℕ) (c d : S) (so_far : ℕ) (text : List ℕ) → Dumps (ActsJoined config seat seen) pin time n c so_far text d → 0 < n → IsLegalLedger config (seen d)
+legal_dump : {S : Type 0} (config : HeapSettings) (seat : S → SeatModel) (seen : S → List Call) (pin time n : ℕ) (c d : S) (so_far : ℕ) (text : List ℕ) → Dumps (ActsJoined config seat seen) pin time n c so_far text d → 0 < n → IsLegalLedger config (seen d)
 legal_dump config seat seen pin time zero c d so_far text s some = absurd (omega (arith, some))
 legal_dump config seat seen pin time (suc n) c d so_far text s some =
     let t = on_tells config seen (Dumps (ActsJoined config seat seen) pin time n) s.0 (piece_in s.0) s.1 d so_far text refl (λ k x more. tells config seat seen pin time n s.1 d k x more) s.3 in
     t.1.1 s.2.1.2
 
-pub pin_dump : {S : Type 0} (config : HeapSettings) (seat : S → Chair) (seen : S → List Call) (pin time : ℕ) (c d : S) (text : List ℕ) → AnswersPinDump config seat seen pin time c text d
-pin_dump config seat seen pin time c d text s =
+pub machine_dump : {S : Type 0} (config : HeapSettings) (seat : S → SeatModel) (seen : S → List Call) (pin time : ℕ) (c d : S) (text : List ℕ) → AnswersPinDump config seat seen pin time c text d
+machine_dump config seat seen pin time c d text s =
     exact_text config pin time (seen d) text (tells config seat seen pin time part_limit c d 0 text s).0 (legal_dump config seat seen pin time part_limit c d 0 text s (omega arith))
 
 -- ---- `dump -`
@@ -139,7 +139,7 @@ place_of_pin (Part piece) pin e = absurd (none-some pin e)
 place_of_pin Closed pin e = absurd (none-some pin e)
 place_of_pin (Refused x) pin e = absurd (none-some pin e)
 
-opened_dump : {S : Type 0} (config : HeapSettings) (seat : S → Chair) (seen : S → List Call) (time pin : ℕ) (r : Reply) (c opened d : S) (text : List ℕ) → pin_in r ≡ Some pin → OpensMet config (seat c) (seen c) None r (seen opened) → ClosesAfter (ActsJoined config seat seen) time r (Some pin) part_limit opened text d → IsOpenedDump config (seat c) time (seen c) (seen d) text
+opened_dump : {S : Type 0} (config : HeapSettings) (seat : S → SeatModel) (seen : S → List Call) (time pin : ℕ) (r : Reply) (c opened d : S) (text : List ℕ) → pin_in r ≡ Some pin → OpensMet config (seat c) (seen c) None r (seen opened) → ClosesAfter (ActsJoined config seat seen) time r (Some pin) part_limit opened text d → IsOpenedDump config (seat c) time (seen c) (seen d) text
 opened_dump config seat seen time pin r c opened d text is o s =
     let w = o.3 in
     let place = place_of_pin r pin is in
@@ -159,10 +159,10 @@ opened_dump config seat seen time pin r c opened d text is o s =
       exact_text config pin time (seen d) text t.0 s.3.1.2,
     )
 
-after_open : {S : Type 0} (config : HeapSettings) (seat : S → Chair) (seen : S → List Call) (time : ℕ) (r : Reply) (o : Option ℕ) (c opened d : S) (text : List ℕ) → pin_in r ≡ o → OpensMet config (seat c) (seen c) None r (seen opened) → ClosesAfter (ActsJoined config seat seen) time r o part_limit opened text d → IsUnopened text ⊎ IsOpenedDump config (seat c) time (seen c) (seen d) text
+after_open : {S : Type 0} (config : HeapSettings) (seat : S → SeatModel) (seen : S → List Call) (time : ℕ) (r : Reply) (o : Option ℕ) (c opened d : S) (text : List ℕ) → pin_in r ≡ o → OpensMet config (seat c) (seen c) None r (seen opened) → ClosesAfter (ActsJoined config seat seen) time r o part_limit opened text d → IsUnopened text ⊎ IsOpenedDump config (seat c) time (seen c) (seen d) text
 after_open config seat seen time r None c opened d text is w s = inl (r, is, s.0)
 after_open config seat seen time r (Some pin) c opened d text is w s = inr (opened_dump config seat seen time pin r c opened d text is w s)
 
-pub new_dump : {S : Type 0} (config : HeapSettings) (seat : S → Chair) (seen : S → List Call) (time : ℕ) (c d : S) (text : List ℕ) → AnswersNewDump config seat seen time c text d
+pub new_dump : {S : Type 0} (config : HeapSettings) (seat : S → SeatModel) (seen : S → List Call) (time : ℕ) (c d : S) (text : List ℕ) → AnswersNewDump config seat seen time c text d
 new_dump config seat seen time c d text s =
     after_open config seat seen time s.0 (pin_in s.0) c s.1 d text refl s.2.1 s.3

@@ -21,8 +21,8 @@ use Rattle.heap_lock.specs.Outcome.{Outcome}
 use Rattle.heap_lock.specs.Entry.{Entry}
 use Rattle.heap_lock.specs.Outcome.TheVariants as outcome
 use Rattle.heap_lock.specs.Receipt.{Receipt}
-use Rattle.heap_lock.specs.History.{MayEnter, entry, reply_of, tally}
-use Rattle.heap_lock.specs.LockStates.{Chair, IsAct, IsNoEntry, IsRefused, LockState}
+use Rattle.heap_lock.specs.History.{MayEnter, entry, reply_of, entries_by}
+use Rattle.heap_lock.specs.LockStates.{SeatModel, IsAct, IsNoEntry, IsRefused, LockState}
 use Rattle.heap_lock.proofs.StepReplies.{no_place}
 use Rattle.question_text.specs.declared.cycle.CycleCounts.{CycleCounts}
 use Rattle.question_text.specs.Collections.{IsShortage, RunsCycle, TakenStep}
@@ -99,15 +99,15 @@ enumerate_push : (n : ℕ) (es : List Entry) (e : Entry) → enumerate_from n (e
 enumerate_push n [] e = ap (λ (k : ℕ). (k, e) ∷ []) (omega arith)
 enumerate_push n (x ∷ es) e = ap (λ l. (n, x) ∷ l) (enumerate_push (n + 1) es e ∙ ap (λ k. enumerate_from (n + 1) es ++ (k, e) ∷ []) (omega arith))
 
-pub gains_none : (k : LockState) (s : Chair) → Gains k s [] k s
+pub gains_none : (k : LockState) (s : SeatModel) → Gains k s [] k s
 gains_none k s = record {
   chronicle = sym (append-nil k.chronicle);
   calls = sym (append-nil k.ledger);
-  seat = sym (ap (λ (l : List (ℕ × Entry)). let c : Chair = record s { share = l } in c) (append-nil s.share));
+  seat = sym (ap (λ (l : List (ℕ × Entry)). let c : SeatModel = record s { share = l } in c) (append-nil s.share));
   rolls = refl;
 }
 
-gains_more : (k : LockState) (s : Chair) (es : List Entry) (e : Entry) (turn : ℕ) (l : LockState) (t : Chair) (l' : LockState) (t' : Chair) → Gains k s es l t → l'.chronicle ≡ l.chronicle ++ e ∷ [] → l'.ledger ≡ l.ledger ++ call_of e ∷ [] → turn ≡ length l'.chronicle → t' ≡ record t { share = t.share ++ (turn, e) ∷ [] } → l'.rolls ≡ l.rolls
+gains_more : (k : LockState) (s : SeatModel) (es : List Entry) (e : Entry) (turn : ℕ) (l : LockState) (t : SeatModel) (l' : LockState) (t' : SeatModel) → Gains k s es l t → l'.chronicle ≡ l.chronicle ++ e ∷ [] → l'.ledger ≡ l.ledger ++ call_of e ∷ [] → turn ≡ length l'.chronicle → t' ≡ record t { share = t.share ++ (turn, e) ∷ [] } → l'.rolls ≡ l.rolls
     → Gains k s (es ++ e ∷ []) l' t'
 gains_more k s es e turn l t l' t' g chronicle ledger is share rolls =
     let first = length k.chronicle + 1 in
@@ -117,26 +117,26 @@ gains_more k s es e turn l t l' t' g chronicle ledger is share rolls =
       chronicle = chronicle ∙ ap (λ (x : List Entry). x ++ e ∷ []) g.chronicle ∙ append_assoc k.chronicle es (e ∷ []);
       calls = ledger ∙ ap (λ (x : List Call). x ++ call_of e ∷ []) g.calls ∙ append_assoc k.ledger (map call_of es) (call_of e ∷ []) ∙ ap (λ (x : List Call). k.ledger ++ x) (sym (map-append call_of es (e ∷ [])));
       seat =
-          share ∙ ap (λ (x : Chair). let c : Chair = record x { share = x.share ++ (turn, e) ∷ [] } in c) g.seat
-          ∙ ap (λ (x : List (ℕ × Entry)). let c : Chair = record s { share = x } in c) (append_assoc s.share (enumerate_from first es) ((turn, e) ∷ []) ∙ ap (λ (x : List (ℕ × Entry)). s.share ++ x) turns);
+          share ∙ ap (λ (x : SeatModel). let c : SeatModel = record x { share = x.share ++ (turn, e) ∷ [] } in c) g.seat
+          ∙ ap (λ (x : List (ℕ × Entry)). let c : SeatModel = record s { share = x } in c) (append_assoc s.share (enumerate_from first es) ((turn, e) ∷ []) ∙ ap (λ (x : List (ℕ × Entry)). s.share ++ x) turns);
       rolls = rolls ∙ g.rolls;
     }
 
 -- an act that is answered is a step more
-pub step_gained : (k : LockState) (s : Chair) (steps : List TakenStep) (l : LockState) (t : Chair) (event : Event) (a : Answer) (r : Receipt) (l' : LockState) (t' : Chair) → IsAct (Step event) l t r l' t' → r.answer ≡ outcome.Answered a → Gains k s (entries_of_steps s.number steps) l t → Gains k s (entries_of_steps s.number (steps ++ (event, a) ∷ [])) l' t'
+pub step_gained : (k : LockState) (s : SeatModel) (steps : List TakenStep) (l : LockState) (t : SeatModel) (event : Event) (a : Answer) (r : Receipt) (l' : LockState) (t' : SeatModel) → IsAct (Step event) l t r l' t' → r.answer ≡ outcome.Answered a → Gains k s (entries_of_steps s.number steps) l t → Gains k s (entries_of_steps s.number (steps ++ (event, a) ∷ [])) l' t'
 step_gained k s steps l t event a r l' t' act told g =
     let e = entry t.number (Step event) r.answer in
     let more = gains_more k s (entries_of_steps s.number steps) e r.turn l t l' t' g act.0 act.1 act.4 act.5 act.6 in
-    let number : t.number ≡ s.number = ap (λ (c : Chair). c.number) g.seat in
+    let number : t.number ≡ s.number = ap (λ (c : SeatModel). c.number) g.seat in
     let same : e ≡ entry s.number (Step event) (outcome.Answered a) = ap₂ (λ (n : ℕ) (o : Outcome). entry n (Step event) o) number told in
     let all = map-append (λ (step : TakenStep). entry s.number (Step step.0) (outcome.Answered step.1)) steps ((event, a) ∷ []) in
     subst (λ (es : List Entry). Gains k s es l' t') (ap (λ (x : Entry). entries_of_steps s.number steps ++ x ∷ []) same ∙ sym all) more
 
 -- an act without an entry is none
-pub none_gained : (k : LockState) (s : Chair) (steps : List TakenStep) (l : LockState) (t : Chair) (l' : LockState) (t' : Chair) → l' ≡ l → t' ≡ t → Gains k s (entries_of_steps s.number steps) l t → Gains k s (entries_of_steps s.number (steps ++ [])) l' t'
+pub none_gained : (k : LockState) (s : SeatModel) (steps : List TakenStep) (l : LockState) (t : SeatModel) (l' : LockState) (t' : SeatModel) → l' ≡ l → t' ≡ t → Gains k s (entries_of_steps s.number steps) l t → Gains k s (entries_of_steps s.number (steps ++ [])) l' t'
 none_gained k s steps l t l' t' lock seat g =
     subst (λ (xs : List TakenStep). Gains k s (entries_of_steps s.number xs) l' t') (sym (append-nil steps))
-    (subst (λ (x : LockState). Gains k s (entries_of_steps s.number steps) x t') (sym lock) (subst (λ (x : Chair). Gains k s (entries_of_steps s.number steps) l x) (sym seat) g))
+    (subst (λ (x : LockState). Gains k s (entries_of_steps s.number steps) x t') (sym lock) (subst (λ (x : SeatModel). Gains k s (entries_of_steps s.number steps) l x) (sym seat) g))
 
 -- ---- a cycle
 
@@ -144,8 +144,8 @@ abbrev IsHeap : HeapSettings → LockState → Type 0
 IsHeap config k = IsHeapLedger config k.machine k.chronicle k.ledger
 
 -- a cycle between two moments under one lock, at each of which chronicle and seat were compared and the witness saw all calls
-pub heap_cycle : (config : HeapSettings) (seen seen' : List Call) (cycle : Result CycleCounts Refusal) (steps : List TakenStep) (k k1 k2 l l1 : LockState) (s s1 t t1 : Chair) → tally s.number k.chronicle ≡ s.share → k1 ≡ k → s1 ≡ s → IsHeap config k1 → IsPrefix seen k1.ledger → k2 ≡ k1
-    → RunsCycle IsNoEntry k2.machine steps cycle l.machine → Gains k2 s1 (entries_of_steps s1.number steps) l t → tally t.number l.chronicle ≡ t.share → l1 ≡ l → t1 ≡ t → IsHeap config l1 → seen' ≡ l1.ledger → RunsCycleOfHeap config s seen cycle t1 seen'
+pub heap_cycle : (config : HeapSettings) (seen seen' : List Call) (cycle : Result CycleCounts Refusal) (steps : List TakenStep) (k k1 k2 l l1 : LockState) (s s1 t t1 : SeatModel) → entries_by s.number k.chronicle ≡ s.share → k1 ≡ k → s1 ≡ s → IsHeap config k1 → IsPrefix seen k1.ledger → k2 ≡ k1
+    → RunsCycle IsNoEntry k2.machine steps cycle l.machine → Gains k2 s1 (entries_of_steps s1.number steps) l t → entries_by t.number l.chronicle ≡ t.share → l1 ≡ l → t1 ≡ t → IsHeap config l1 → seen' ≡ l1.ledger → RunsCycleOfHeap config s seen cycle t1 seen'
 heap_cycle config seen seen' cycle steps k k1 k2 l l1 s s1 t t1 share same seat heap begins shown runs gains share' same' seat' heap' sees =
     let es = entries_of_steps s.number steps in
     let to : IsHeapOfSeat config l.machine l.chronicle l.ledger t = (subst (IsHeap config) same' heap', share') in
@@ -156,7 +156,7 @@ heap_cycle config seen seen' cycle steps k k1 k2 l l1 s s1 t t1 share same seat 
       begins = subst (λ (x : LockState). IsPrefix seen x.ledger) same begins;
       from = (subst (IsHeap config) same heap, share);
       runs = subst (λ (x : LockState). RunsCycle IsNoEntry x.machine steps cycle l.machine) (shown ∙ same) runs;
-      gains = subst (λ (x : Chair). Gains k s es l x) (sym seat') (subst (λ (x : LockState). Gains x s es l t) (shown ∙ same) (subst (λ (x : Chair). Gains k2 x (entries_of_steps x.number steps) l t) seat gains));
-      to = subst (λ (x : Chair). IsHeapOfSeat config l.machine l.chronicle l.ledger x) (sym seat') to;
+      gains = subst (λ (x : SeatModel). Gains k s es l x) (sym seat') (subst (λ (x : LockState). Gains x s es l t) (shown ∙ same) (subst (λ (x : SeatModel). Gains k2 x (entries_of_steps x.number steps) l t) seat gains));
+      to = subst (λ (x : SeatModel). IsHeapOfSeat config l.machine l.chronicle l.ledger x) (sym seat') to;
       sees = sees ∙ ap (λ (x : LockState). x.ledger) same';
     }

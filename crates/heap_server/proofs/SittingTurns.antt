@@ -3,14 +3,14 @@ use Rattle.std.proofs.Common.{◌≡◌, ℕ, zero, suc, ◌<◌, ◌∙◌, Lis
 use Rattle.std.specs.Prelude.{IfSome}
 use Rattle.heap_lock.specs.Seated.{TableId}
 use Rattle.heap_lock.specs.HeapLimits.{HeapSettings}
-use Rattle.heap_lock.specs.LockStates.{Chair}
+use Rattle.heap_lock.specs.LockStates.{SeatModel}
 use Rattle.heap_server.specs.SessionSeats.{IsBegun, IsSat, SitOn, SitsOn, SittingState}
 use Rattle.heap_server.specs.Stations.{InTurn, IsSeatEnd}
 use Rattle.heap_server.specs.declared.sessions.Terms.{Terms}
 
 -- what the seats led to, in order, if the thing at one place is another that its seat led to, too
-pub lead_still : {A : Type 0} (Leads : Chair → A → Type 0) (seats rest : List Chair) (xs : List A) (i : ℕ) (x y : A) → i < length xs → x ≡ get_or xs i x
-    → ((s : Chair) → Leads s x → Leads s y) → InTurn Leads seats xs rest → InTurn Leads seats (set xs i y) rest
+pub lead_still : {A : Type 0} (Leads : SeatModel → A → Type 0) (seats rest : List SeatModel) (xs : List A) (i : ℕ) (x y : A) → i < length xs → x ≡ get_or xs i x
+    → ((s : SeatModel) → Leads s x → Leads s y) → InTurn Leads seats xs rest → InTurn Leads seats (set xs i y) rest
 lead_still Leads seats rest [] i x y within at on is = absurd (omega (arith, within))
 lead_still Leads [] rest (z ∷ zs) i x y within at on is = absurd is
 lead_still Leads (s ∷ seats) rest (z ∷ zs) zero x y within at on is = (on s (subst (λ w. Leads s w) (sym at) is.0), is.1)
@@ -21,5 +21,5 @@ pub sits_on : (config : HeapSettings) (tables : List TableId) (xs : List Sitting
 sits_on config tables xs i x y within at on terms seats rest is = lead_still (IsSat config tables terms) seats rest xs i x y within at (λ s. on terms s) is
 
 -- a session that has just begun
-pub sits_begun : (config : HeapSettings) (tables : List TableId) (terms : Terms) (s : Chair) (sitting : SittingState) → IsBegun terms s sitting → IsSat config tables terms s sitting
+pub sits_begun : (config : HeapSettings) (tables : List TableId) (terms : Terms) (s : SeatModel) (sitting : SittingState) → IsBegun terms s sitting → IsSat config tables terms s sitting
 sits_begun config tables terms s sitting begun = (begun.0, subst (λ e. IfSome e (IsSeatEnd config tables terms s)) (sym begun.1) tt)

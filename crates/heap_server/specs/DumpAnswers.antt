@@ -11,14 +11,14 @@ use Rattle.heap_lock.specs.Reply.TheVariants.{Pinned}
 use Rattle.dump_pump.specs.Pumps.{joined}
 use Rattle.dump_pump.specs.Sources.{part_limit}
 use Rattle.heap_lock.specs.Calls.{Call}
-use Rattle.heap_lock.specs.LockStates.{AreMet, Chair}
+use Rattle.heap_lock.specs.LockStates.{AreMet, SeatModel}
 use Rattle.heap_lock.specs.Laws.{IsAlone, state_at}
 use Rattle.session_text.specs.Replies.{data_lines, reply_text, piece_in, pin_in}
 use Rattle.session_text.specs.Dumps.{Acts, DumpsPin, DumpsNow, total_line}
 use Rattle.heap_server.specs.JoinedActs.{IsJoined}
 
 -- what commands with a seat and a witness do, as a seat on the heap does it
-abbrev pub ActsJoined : {S : Type 0} → HeapSettings → (S → Chair) → (S → List Call) → Acts S
+abbrev pub ActsJoined : {S : Type 0} → HeapSettings → (S → SeatModel) → (S → List Call) → Acts S
 ActsJoined config seat seen c a r d = IsJoined config (seat c) (seen c) a r (seat d) (seen d)
 
 -- the data lines of these pieces
@@ -55,7 +55,7 @@ abbrev pub IsUnopened : List ℕ → Type 0
 IsUnopened text = (r : Reply) × (pin_in r ≡ None) × (text ≡ reply_text r)
 
 -- a pin was opened after all that the witness had seen and the seat did, and the answer is that of its dump
-abbrev pub IsOpenedDump : HeapSettings → Chair → ℕ → List Call → List Call → List ℕ → Type 0
+abbrev pub IsOpenedDump : HeapSettings → SeatModel → ℕ → List Call → List Call → List ℕ → Type 0
 IsOpenedDump config s time seen later text =
     (pin place : ℕ) × (met before after : List Call) × IsPrefix seen met × AreMet config s met
     × IsPrefix met before
@@ -63,14 +63,14 @@ IsOpenedDump config s time seen later text =
     × IsDumpAnswer config pin time later text
 
 -- the answer to the line `dump` with a pin's number
-abbrev pub AnswersPinDump : {S : Type 0} → HeapSettings → (S → Chair) → (S → List Call) → ℕ → ℕ → S
+abbrev pub AnswersPinDump : {S : Type 0} → HeapSettings → (S → SeatModel) → (S → List Call) → ℕ → ℕ → S
     → List ℕ → S → Type 0
 AnswersPinDump config seat seen pin time c text d =
     DumpsPin (ActsJoined config seat seen) pin time part_limit c text d
     → IsDumpAnswer config pin time (seen d) text
 
 -- the answer to the line `dump -`
-abbrev pub AnswersNewDump : {S : Type 0} → HeapSettings → (S → Chair) → (S → List Call) → ℕ → S
+abbrev pub AnswersNewDump : {S : Type 0} → HeapSettings → (S → SeatModel) → (S → List Call) → ℕ → S
     → List ℕ → S → Type 0
 AnswersNewDump config seat seen time c text d =
     DumpsNow (ActsJoined config seat seen) time part_limit c text d

@@ -10,7 +10,7 @@ use Rattle.heap_lock.specs.Reply.{Reply}
 use Rattle.heap_lock.specs.Reply.TheVariants.{Answered, Place, Pinned, Part, Closed, Refused}
 use Rattle.heap_lock.specs.TrailLaws.{IsPieceOfLegal}
 use Rattle.heap_lock.specs.Receipt.{Receipt}
-use Rattle.heap_lock.specs.LockStates.{AreMet, Chair, IsReceived, IsNoEntry, Stands}
+use Rattle.heap_lock.specs.LockStates.{AreMet, SeatModel, IsReceived, IsNoEntry, Stands}
 use Rattle.heap_lock.specs.Calls.{Call, Witnesses}
 use Rattle.heap_lock.specs.History.{reply_of}
 
@@ -21,7 +21,7 @@ IsReply (Err e) r = r ≡ Refused e
 
 -- an event or a rewind: the seat's share gained it with this answer, as the entry that ends some legal history; or it was
 -- refused without an entry, and the seat is as before
-abbrev pub IsActed : HeapSettings → Chair → Action → Reply → Chair → Type 0
+abbrev pub IsActed : HeapSettings → SeatModel → Action → Reply → SeatModel → Type 0
 IsActed config s a r s' =
     ((receipt : Receipt) × IsReceived a s receipt s'
     × Stands config s' receipt.turn a receipt.answer × (r ≡ reply_of receipt.answer))
@@ -37,13 +37,13 @@ IsLegalPart ids time Closed = ⊤
 IsLegalPart ids time (Refused e) = ⊤
 
 -- a pin was opened, or not, after calls whose history has of the seat just its share; so on a state with all that the seat did
-abbrev pub OpensMet : HeapSettings → Chair → List Call → Option ℕ → Reply → List Call → Type 0
+abbrev pub OpensMet : HeapSettings → SeatModel → List Call → Option ℕ → Reply → List Call → Type 0
 OpensMet config s seen at r seen' =
     (met : List Call) × IsPrefix seen met × AreMet config s met
     × Witnesses config met (OpenPin at) r seen'
 
 -- the seat before and what its witness had seen, the action, its reply, and the seat and what the witness has seen then
-abbrev pub IsJoined : HeapSettings → Chair → List Call → Action → Reply → Chair → List Call → Type 0
+abbrev pub IsJoined : HeapSettings → SeatModel → List Call → Action → Reply → SeatModel → List Call → Type 0
 IsJoined config s seen (Step event) r s' seen' = IsActed config s (Step event) r s' × (seen' ≡ seen)
 IsJoined config s seen (Rewind n) r s' seen' = IsActed config s (Rewind n) r s' × (seen' ≡ seen)
 IsJoined config s seen (OpenPin at) r s' seen' =

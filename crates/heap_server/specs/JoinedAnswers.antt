@@ -9,20 +9,20 @@ use Rattle.heap_lock.specs.Machine.{Machine}
 use Rattle.heap_lock.specs.Action.TheVariants.{Step}
 use Rattle.heap_lock.specs.Entry.{Entry}
 use Rattle.heap_lock.specs.Outcome.TheVariants.{Answered}
-use Rattle.heap_lock.specs.History.{entry, tally}
-use Rattle.heap_lock.specs.LockStates.{Chair, IsNoEntry, LockState}
+use Rattle.heap_lock.specs.History.{entry, entries_by}
+use Rattle.heap_lock.specs.LockStates.{SeatModel, IsNoEntry, LockState}
 use Rattle.question_text.specs.Answers.{IsAnswerOfLine}
 use Rattle.question_text.specs.declared.cycle.CycleCounts.{CycleCounts}
 use Rattle.question_text.specs.Collections.{IsCycleAnswer, RunsCycle, TakenStep}
 
 -- the calls lead to this machine and are those of this chronicle, which has of the seat just its share
-abbrev pub IsHeapOfSeat : HeapSettings → Machine → List Entry → List Call → Chair → Type 0
+abbrev pub IsHeapOfSeat : HeapSettings → Machine → List Entry → List Call → SeatModel → Type 0
 IsHeapOfSeat config m chronicle calls s =
-    IsHeapLedger config m chronicle calls × (tally s.number chronicle ≡ s.share)
+    IsHeapLedger config m chronicle calls × (entries_by s.number chronicle ≡ s.share)
 
 -- the answer of a question about the heap's machine, and about the length of its chronicle, when all calls were those that the
 -- witness has seen then
-abbrev pub IsAnswerOfHeap : HeapSettings → Chair → List Call → List ℕ → List ℕ → List Call → Type 0
+abbrev pub IsAnswerOfHeap : HeapSettings → SeatModel → List Call → List ℕ → List ℕ → List Call → Type 0
 IsAnswerOfHeap config s seen l text seen' =
     (m : Machine) × (chronicle : List Entry) × IsHeapOfSeat config m chronicle seen' s
     × IsPrefix seen seen' × IsAnswerOfLine l m (Some (length chronicle)) text
@@ -33,11 +33,11 @@ entries_of_steps seat steps =
     map (λ (step : TakenStep). entry seat (Step step.0) (Answered step.1)) steps
 
 -- the seat whose share gained entries, one turn after another from this one on
-abbrev pub with_entries : ℕ → List Entry → Chair → Chair
+abbrev pub with_entries : ℕ → List Entry → SeatModel → SeatModel
 with_entries turn entries s = record s { share = s.share ++ enumerate_from turn entries }
 
 -- chronicle, calls and share each gained these entries, in this order, and nothing else
-pub record Gains (k : LockState) (s : Chair) (entries : List Entry) (k' : LockState) (s' : Chair)
+pub record Gains (k : LockState) (s : SeatModel) (entries : List Entry) (k' : LockState) (s' : SeatModel)
     : Type 0 where
   pub chronicle : k'.chronicle ≡ k.chronicle ++ entries
   pub calls : k'.ledger ≡ k.ledger ++ map call_of entries
@@ -46,8 +46,8 @@ pub record Gains (k : LockState) (s : Chair) (entries : List Entry) (k' : LockSt
 
 -- a cycle that ended so took these steps from the seat under one lock, from when the witness had seen all calls so far, to when it
 -- has seen all again; each is an entry, and there are no others
-pub record RunsCycleOfHeap (config : HeapSettings) (s : Chair) (seen : List Call)
-    (cycle : Result CycleCounts Refusal) (s' : Chair) (seen' : List Call) : Type 0 where
+pub record RunsCycleOfHeap (config : HeapSettings) (s : SeatModel) (seen : List Call)
+    (cycle : Result CycleCounts Refusal) (s' : SeatModel) (seen' : List Call) : Type 0 where
   pub first : LockState
   pub steps : List TakenStep
   pub last : LockState
@@ -59,14 +59,14 @@ pub record RunsCycleOfHeap (config : HeapSettings) (s : Chair) (seen : List Call
   pub sees : seen' ≡ last.ledger
 
 -- the answer of `collect`, about such a cycle
-abbrev pub IsCollectionOfHeap : HeapSettings → Chair → List Call → List ℕ → Chair → List Call
+abbrev pub IsCollectionOfHeap : HeapSettings → SeatModel → List Call → List ℕ → SeatModel → List Call
     → Type 0
 IsCollectionOfHeap config s seen text s' seen' =
     (cycle : Result CycleCounts Refusal) × RunsCycleOfHeap config s seen cycle s' seen'
     × IsCycleAnswer cycle text
 
 -- the answer of a line that the grammar of sessions doesn't know: `collect` acts, and no other
-abbrev pub AnswersForSeat : HeapSettings → Bool → List ℕ → Chair → List Call → List ℕ → Chair
+abbrev pub AnswersForSeat : HeapSettings → Bool → List ℕ → SeatModel → List Call → List ℕ → SeatModel
     → List Call
     → Type 0
 AnswersForSeat config true l s seen text s' seen' = IsCollectionOfHeap config s seen text s' seen'

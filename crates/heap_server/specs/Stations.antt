@@ -4,10 +4,10 @@ use Rattle.heap_lock.specs.Seated.{TableId}
 use Rattle.dump_pump.specs.Inlets.{Incoming}
 use Rattle.dump_pump.specs.Outlets.{Outgoing}
 use Rattle.heap_lock.specs.HeapLimits.{HeapSettings}
-use Rattle.heap_lock.specs.Blanks.{chair_of}
+use Rattle.heap_lock.specs.Blanks.{seat_model_of}
 use Rattle.heap_lock.specs.Calls.{Call, IsLegalLedger}
-use Rattle.heap_lock.specs.LockStates.{Chair, IsChair}
-use Rattle.heap_lock.specs.declared.stub.Stub.{Stub}
+use Rattle.heap_lock.specs.LockStates.{SeatModel, IsSeatModel}
+use Rattle.heap_lock.specs.declared.unnamed_seat.UnnamedSeat.{UnnamedSeat}
 use Rattle.question_text.specs.Collections.{is_collect}
 use Rattle.session_text.specs.Answers.{AnswerRelation, AnswersCommand, Begins, all_bad}
 use Rattle.session_text.specs.Dumps.{Acts}
@@ -26,7 +26,7 @@ use Rattle.heap_server.specs.declared.sessions.Terms.{Terms}
 
 -- a session's seat, and the calls that its witness has seen
 pub record Station : Type 0 where
-  pub seat : Chair
+  pub seat : SeatModel
   pub seen : List Call
 
 -- what an action does from a seat on a heap of these settings
@@ -51,8 +51,8 @@ seat_begins config terms =
 
 -- a client was served from seat `s` over what an inlet gave as it went on from `a` to `a'`, of which `bytes` were read ahead, and left
 -- the seat as `s'`
-pub record IsServedFrom (config : HeapSettings) (terms : Terms) (s : Chair) (a a' : Incoming)
-    (w w' : Outgoing) (s' : Chair) (end : SessionEnd) : Type 0 where
+pub record IsServedFrom (config : HeapSettings) (terms : Terms) (s : SeatModel) (a a' : Incoming)
+    (w w' : Outgoing) (s' : SeatModel) (end : SessionEnd) : Type 0 where
   pub bytes : List ℕ
   pub failed : Bool
   pub left : Incoming
@@ -65,8 +65,8 @@ pub record IsServedFrom (config : HeapSettings) (terms : Terms) (s : Chair) (a a
       (record { seat = s; seen = seen }) w (record { seat = s'; seen = seen' }) w' end
 
 -- so it was; or memory for the first line was refused, and nothing was done or put out
-abbrev pub IsAttended : HeapSettings → Terms → Chair → Incoming → Incoming → Outgoing → Outgoing
-    → Chair
+abbrev pub IsAttended : HeapSettings → Terms → SeatModel → Incoming → Incoming → Outgoing → Outgoing
+    → SeatModel
     → SessionEnd → Type 0
 IsAttended config terms s a a' w w' s' end =
     IsServedFrom config terms s a a' w w' s' end
@@ -82,8 +82,8 @@ abbrev pub staying_begins : HeapSettings → Terms → AnswerRelation StayingSta
 staying_begins config terms = Begins (staying_acts config) (staying_answers config) terms.time
 
 -- a client was served from seat `s` of a heap that stays, as above, and then the pins were closed that were left of those that it opened
-pub record IsServedStaying (config : HeapSettings) (terms : Terms) (s : Chair) (a a' : Incoming)
-    (w w' : Outgoing) (s' : Chair) (end : SessionEnd) : Type 0 where
+pub record IsServedStaying (config : HeapSettings) (terms : Terms) (s : SeatModel) (a a' : Incoming)
+    (w w' : Outgoing) (s' : SeatModel) (end : SessionEnd) : Type 0 where
   pub bytes : List ℕ
   pub failed : Bool
   pub left : Incoming
@@ -99,17 +99,17 @@ pub record IsServedStaying (config : HeapSettings) (terms : Terms) (s : Chair) (
   pub seat : s' ≡ last.seat
 
 -- so it was; or memory for the first line was refused, and nothing was done or put out
-abbrev pub IsAttendedStaying : HeapSettings → Terms → Chair → Incoming → Incoming → Outgoing
+abbrev pub IsAttendedStaying : HeapSettings → Terms → SeatModel → Incoming → Incoming → Outgoing
     → Outgoing
-    → Chair → SessionEnd → Type 0
+    → SeatModel → SessionEnd → Type 0
 IsAttendedStaying config terms s a a' w w' s' end =
     IsServedStaying config terms s a a' w w' s' end
     ⊎ ((end ≡ Ran NoMemory) × (s' ≡ s) × (w' ≡ w))
 
 -- a client was attended from a seat of a heap that stays or doesn't
-abbrev pub IsAttendedOn : Bool → HeapSettings → Terms → Chair → Incoming → Incoming → Outgoing
+abbrev pub IsAttendedOn : Bool → HeapSettings → Terms → SeatModel → Incoming → Incoming → Outgoing
     → Outgoing
-    → Chair → SessionEnd → Type 0
+    → SeatModel → SessionEnd → Type 0
 IsAttendedOn false config terms s a a' w w' s' end = IsAttended config terms s a a' w w' s' end
 IsAttendedOn true config terms s a a' w w' s' end =
     IsAttendedStaying config terms s a a' w w' s' end
@@ -120,26 +120,26 @@ IsLimited terms end = end ≡ Idle → 1 ≤ terms.idle
 
 -- the client of a socket was served, from the first byte that the socket gave to the last that it was sent; or memory for the socket was
 -- refused, and nothing was done
-abbrev pub IsClientOf : HeapSettings → Terms → Chair → Chair → SessionEnd → Option Traffic → Type 0
+abbrev pub IsClientOf : HeapSettings → Terms → SeatModel → SeatModel → SessionEnd → Option Traffic → Type 0
 IsClientOf config terms s s' end (Some traffic) =
     IsLimited terms end × (a : Incoming) × (w : Outgoing) × (a.taken ≡ []) × (w.out ≡ [])
     × IsAttendedOn terms.stays config terms s a traffic.given w traffic.sent s' (plain_end end)
 IsClientOf config terms s s' end None = (end ≡ Ran NoMemory) × (s' ≡ s)
 
 -- a seat of the heap with these tables as its session left it; or there was no thread for the session, which ended by NoMemory
-abbrev pub IsSeatLeft : HeapSettings → List TableId → Terms → Chair → SessionEnd → Option Traffic
-    → Option Stub
+abbrev pub IsSeatLeft : HeapSettings → List TableId → Terms → SeatModel → SessionEnd → Option Traffic
+    → Option UnnamedSeat
     → Type 0
-IsSeatLeft config tables terms s end traffic (Some stub) =
-    IsChair tables stub.number stub.share × IsClientOf config terms s (chair_of stub) end traffic
+IsSeatLeft config tables terms s end traffic (Some unnamed_seat) =
+    IsSeatModel tables unnamed_seat.number unnamed_seat.share × IsClientOf config terms s (seat_model_of unnamed_seat) end traffic
 IsSeatLeft config tables terms s end traffic None = end ≡ Ran NoMemory
 
 -- the same of an ending beside its seat
-abbrev pub IsSeatEnd : HeapSettings → List TableId → Terms → Chair → SeatEnd → Type 0
-IsSeatEnd config tables terms s e = IsSeatLeft config tables terms s e.end e.traffic e.stub
+abbrev pub IsSeatEnd : HeapSettings → List TableId → Terms → SeatModel → SeatEnd → Type 0
+IsSeatEnd config tables terms s e = IsSeatLeft config tables terms s e.end e.traffic e.unnamed_seat
 
 -- what the first of the seats led to, each in turn; the others are `rest`
-abbrev pub InTurn : {A : Type 0} → (Chair → A → Type 0) → List Chair → List A → List Chair
+abbrev pub InTurn : {A : Type 0} → (SeatModel → A → Type 0) → List SeatModel → List A → List SeatModel
     → Type 0
 InTurn Leads seats [] rest = rest ≡ seats
 InTurn Leads (s ∷ seats) (x ∷ xs) rest = Leads s x × InTurn Leads seats xs rest

@@ -11,7 +11,7 @@ use Rattle.heap_lock.specs.Reply.TheVariants.{Refused}
 use Rattle.heap_lock.specs.Refusal.TheVariants.{NoMemory, NoPin}
 use Rattle.heap_lock.specs.Calls.{Call, Witnesses}
 use Rattle.heap_lock.specs.Entry.{Entry}
-use Rattle.heap_lock.specs.LockStates.{Chair}
+use Rattle.heap_lock.specs.LockStates.{SeatModel}
 use Rattle.heap_lock.specs.Machine.{Machine}
 use Rattle.question_text.specs.Collections.{is_collect}
 use Rattle.question_text.specs.Questions.{question_of}
@@ -49,7 +49,7 @@ asks_pins l = is_pins (question_of l)
 -- a session's seat, the calls that its witness has seen, the pins that it opened and neither closed nor kept, and whether questions are
 -- answered
 pub record StayingStation : Type 0 where
-  pub seat : Chair
+  pub seat : SeatModel
   pub seen : List Call
   pub pins : List ℕ
   pub questions : Bool
@@ -68,7 +68,7 @@ with_opened (Some pin) pins = pins ++ pin ∷ []
 with_opened None pins = pins
 
 -- `left` are those of the pins that were open at a moment with all that the seat did; all calls up to then are seen
-abbrev pub AreStillOpen : HeapSettings → Chair → List Call → List ℕ → List Call → List ℕ → Type 0
+abbrev pub AreStillOpen : HeapSettings → SeatModel → List Call → List ℕ → List Call → List ℕ → Type 0
 AreStillOpen config s seen pins seen' left =
     (m : Machine) × (chronicle : List Entry) × IsHeapOfSeat config m chronicle seen' s
     × IsPrefix seen seen' × (left ≡ filter (is_open m) pins)

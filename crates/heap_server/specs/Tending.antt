@@ -9,10 +9,10 @@ use Rattle.heap_lock.specs.Calls.{Call}
 use Rattle.heap_lock.specs.Collector.{SeesState, pending_in}
 use Rattle.heap_lock.specs.declared.role.Role.{Role}
 use Rattle.heap_lock.specs.declared.role.Role.TheVariants.{Marker, Sweeper}
-use Rattle.heap_lock.specs.declared.stub.Stub.{Stub}
+use Rattle.heap_lock.specs.declared.unnamed_seat.UnnamedSeat.{UnnamedSeat}
 use Rattle.heap_lock.specs.ChronicleLimits.{chronicle_limit}
-use Rattle.heap_lock.specs.Blanks.{Maker, chair_of}
-use Rattle.heap_lock.specs.LockStates.{Chair, IsChair}
+use Rattle.heap_lock.specs.Blanks.{Maker, seat_model_of}
+use Rattle.heap_lock.specs.LockStates.{SeatModel, IsSeatModel}
 use Rattle.heap_work.specs.declared.MarkEnd.{MarkEnd}
 use Rattle.heap_work.specs.declared.SweepEnd.{SweepEnd}
 use Rattle.heap_work.specs.Rule.{BeginsNoCycle, IsResumedWork}
@@ -28,29 +28,29 @@ abbrev pub turn_limit : ℕ
 turn_limit = chronicle_limit
 
 -- runs of a worker, one after another, each from the seat that the one before it left, with how it ended
-abbrev pub AreRuns : {E : Type 0} → (Chair → Chair → E → Type 0) → Chair → List (Chair × E) → Chair
+abbrev pub AreRuns : {E : Type 0} → (SeatModel → SeatModel → E → Type 0) → SeatModel → List (SeatModel × E) → SeatModel
     → Type 0
 AreRuns Works s [] s' = s' ≡ s
 AreRuns Works s (run ∷ runs) s' = Works s run.0 run.1 × AreRuns Works run.0 runs s'
 
 -- a run of a worker on a cycle that runs
-abbrev pub MarksOnce : HeapSettings → Chair → Chair → MarkEnd → Type 0
+abbrev pub MarksOnce : HeapSettings → SeatModel → SeatModel → MarkEnd → Type 0
 MarksOnce config s s' end = IsResumedWork config s s' turn_limit end
 
 -- a run of a worker that sweeps only regions that it has seen to wait
-abbrev pub SweepsOnce : HeapSettings → Chair → Chair → SweepEnd → Type 0
+abbrev pub SweepsOnce : HeapSettings → SeatModel → SeatModel → SweepEnd → Type 0
 SweepsOnce config s s' end =
     (seen seen' : List Call) × IsPendingWork config s seen s' seen' turn_limit end
 
 -- the seat's share is what it was and what runs of a worker on cycles that others began gained; no act of theirs begins a cycle
-pub record MarkRuns (config : HeapSettings) (s s' : Chair) : Type 0 where
-  pub runs : List (Chair × MarkEnd)
+pub record MarkRuns (config : HeapSettings) (s s' : SeatModel) : Type 0 where
+  pub runs : List (SeatModel × MarkEnd)
   pub each : AreRuns (MarksOnce config) s runs s'
   pub begins : BeginsNoCycle s s'
 
 -- the seat's share is what it was and what runs of such a worker gained
-abbrev pub SweepRuns : HeapSettings → Chair → Chair → Type 0
-SweepRuns config s s' = (runs : List (Chair × SweepEnd)) × AreRuns (SweepsOnce config) s runs s'
+abbrev pub SweepRuns : HeapSettings → SeatModel → SeatModel → Type 0
+SweepRuns config s s' = (runs : List (SeatModel × SweepEnd)) × AreRuns (SweepsOnce config) s runs s'
 
 -- the role of the seat for this work
 abbrev pub role_for : Duty → Role
@@ -58,7 +58,7 @@ role_for Mark = Marker
 role_for Sweep = Sweeper
 
 -- the seat's share is what it was and what runs of this work's worker gained
-abbrev pub Tends : Duty → HeapSettings → Chair → Chair → Type 0
+abbrev pub Tends : Duty → HeapSettings → SeatModel → SeatModel → Type 0
 Tends Mark config s s' = MarkRuns config s s'
 Tends Sweep config s s' = SweepRuns config s s'
 
@@ -73,31 +73,31 @@ rests_in Mark w = is_idle_phase w.phase
 rests_in Sweep w = is_none (pending_in w)
 
 -- one run of this work's worker, and the calls that were seen before and after it
-abbrev pub WorksOnce : Duty → HeapSettings → Chair → List Call → Chair → List Call → Type 0
+abbrev pub WorksOnce : Duty → HeapSettings → SeatModel → List Call → SeatModel → List Call → Type 0
 WorksOnce Mark config s seen s' seen' =
     (end : MarkEnd) × MarksOnce config s s' end × BeginsNoCycle s s' × (seen' ≡ seen)
 WorksOnce Sweep config s seen s' seen' =
     (end : SweepEnd) × IsPendingWork config s seen s' seen' turn_limit end
 
 -- the heap was seen to have no work of this kind, and nothing was done; or to have some, and the worker ran
-abbrev pub TakesTurn : Duty → HeapSettings → Chair → List Call → Chair → List Call → Type 0
+abbrev pub TakesTurn : Duty → HeapSettings → SeatModel → List Call → SeatModel → List Call → Type 0
 TakesTurn duty config s seen s' seen' =
     (SeesState config seen (λ w. rests_in duty w ≡ true) seen' × (s' ≡ s))
     ⊎ ((now : List Call) × SeesState config seen (λ w. rests_in duty w ≡ false) now
     × WorksOnce duty config s now s' seen')
 
 -- the marker's seat, the sweeper's, and those of `most` users
-abbrev pub AreStaff : ℕ → List Chair → Type 0
+abbrev pub AreStaff : ℕ → List SeatModel → Type 0
 AreStaff most (marker ∷ sweeper ∷ users) =
     (marker.role ≡ Marker) × (sweeper.role ≡ Sweeper) × AreUsers users × (length users ≡ most)
 AreStaff most seats = ⊥
 
 -- a seat of the heap with these tables, as runs of a worker left it
-abbrev pub IsSeatAfterRuns : List TableId → (Chair → Type 0) → Stub → Type 0
-IsSeatAfterRuns tables Runs stub = IsChair tables stub.number stub.share × Runs (chair_of stub)
+abbrev pub IsSeatAfterRuns : List TableId → (SeatModel → Type 0) → UnnamedSeat → Type 0
+IsSeatAfterRuns tables Runs unnamed_seat = IsSeatModel tables unnamed_seat.number unnamed_seat.share × Runs (seat_model_of unnamed_seat)
 
 -- the first two of these seats of a heap, as the runs of their workers left them, and sessions from the others, on these terms
-abbrev pub AreTended : HeapSettings → List TableId → Terms → List Chair → TendedHeap → Type 0
+abbrev pub AreTended : HeapSettings → List TableId → Terms → List SeatModel → TendedHeap → Type 0
 AreTended config tables terms (marker ∷ sweeper ∷ users) h =
     IsSeatAfterRuns tables (MarkRuns config marker) h.marker
     × IsSeatAfterRuns tables (SweepRuns config sweeper) h.sweeper

@@ -1,8 +1,8 @@
 //! The threads beside the sessions over a heap: for the clients of dumps, and for those of the page.
 use heap_lock::{Heap, Shared};
 use heap_page::{PagePort, tend_page};
-use live_dump::{DumpListener, tend_dumps};
 use secret_word::Secret;
+use shared_dump::{DumpListener, tend_dumps};
 use std::alloc::{AllocError, Global};
 use std::sync::Wait;
 use std::sync::atomic::{AtomicBool, Ordering};

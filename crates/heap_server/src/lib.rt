@@ -33,13 +33,13 @@ pub use heap_lock::{Action, Blank, Heap, Refusal, Reply, Seat, Seats, Shared};
 pub use heap_page::{PagePort, PageTerms};
 pub use joined::Joined;
 pub use laws::served_dumps_are_text;
-pub use live_dump::DumpListener;
 pub use page_session::serve_beside_page;
 pub use report::{tell_sessions, word};
 pub use secret_word::Secret;
 pub use sessions::{
     Ports, SeatEnd, Served, ServedHeap, ServicePlan, Terms, serve_clients, serve_heap, users,
 };
+pub use shared_dump::DumpListener;
 pub use socket::{Half, SocketTraffic, halves};
 pub use socket_outlet::SocketOutlet;
 pub use staying::{SeatStay, Stayed, StayedHeap, serve_staying, serve_staying_heap};

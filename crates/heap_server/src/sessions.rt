@@ -18,11 +18,11 @@ use crate::socket::{Half, SocketTraffic};
 use crate::staying_seat::StayingSeat;
 use crate::time_limits::limit_times;
 use dump_pump::Outlet;
-use heap_lock::{Blank, Config, Heap, Refusal, Role, Seat, Seats, Shared, Stub};
+use heap_lock::{Blank, Config, Heap, Refusal, Role, Seat, Seats, Shared, UnnamedSeat};
 use heap_page::PagePort;
-use live_dump::DumpListener;
 use secret_word::Secret;
 use session_text::{Ended, Inlet, SessionLimits};
+use shared_dump::DumpListener;
 use std::alloc::{AllocError, Global};
 use std::marker::Brand;
 use std::net::{TcpListener, TcpStream};
@@ -73,7 +73,7 @@ pub struct ServicePlan {
 pub struct SeatEnd {
     pub end: SessionEnd,
     pub traffic: Option<SocketTraffic>,
-    pub stub: Option<Stub>,
+    pub unnamed_seat: Option<UnnamedSeat>,
 }
 
 /// How the sessions ended, each beside its seat, in order of acceptance, and whether an accept failed.

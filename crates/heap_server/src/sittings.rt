@@ -93,18 +93,22 @@ fn end_of<L: Heap, R: Threads>(
     ensures { IsSeatEnd L.config L.tables thread.promise.terms thread.promise.seat.value result }
 {
     let (SocketEnd { end, traffic }, seat) = thread.join(rt);
-    let stub = Some(seat.into_stub());
-    SeatEnd { end, traffic, stub }
+    let unnamed_seat = Some(seat.into_unnamed());
+    SeatEnd {
+        end,
+        traffic,
+        unnamed_seat,
+    }
 }
 
 // The end of a session whose thread couldn't be started.
 fn unstarted() -> SeatEnd
-    ensures { (result.end ≡ Ran NoMemory) × (result.stub ≡ None) }
+    ensures { (result.end ≡ Ran NoMemory) × (result.unnamed_seat ≡ None) }
 {
     SeatEnd {
         end: SessionEnd::Ran(Ended::NoMemory),
         traffic: None,
-        stub: None,
+        unnamed_seat: None,
     }
 }
 

@@ -15,7 +15,7 @@ use crate::socket::SocketTraffic;
 use core::thread::Stack;
 use crossbeam_channel::{Receiver, Sender, bounded};
 use dump_pump::Log;
-use heap_lock::{Blank, Heap, Seat, Seats, Shared, Stub};
+use heap_lock::{Blank, Heap, Seat, Seats, Shared, UnnamedSeat};
 use std::alloc::{AllocError, Global};
 use std::collections::VecDeque;
 use std::io::ErrorKind;
@@ -165,10 +165,10 @@ pub(crate) struct Standing<L: Heap> {
 
 impl<L: Heap> Model for Standing<L> {
     ghost use Rattle.std.specs.Prelude.{Option, option_map};
-    ghost use Rattle.heap_lock.specs.LockStates.{Chair};
+    ghost use Rattle.heap_lock.specs.LockStates.{SeatModel};
     ghost use Rattle.heap_server.specs.declared.sessions.Terms.{Terms};
 
-    ghost Value = { Option (Chair × Terms) };
+    ghost Value = { Option (SeatModel × Terms) };
 
     ghost view = { λ s. option_map (λ h. (h.promise.seat.value, h.promise.terms)) s.thread };
 }
@@ -221,7 +221,7 @@ fn begin_stays<'s, E, L: Heap + Send + Sync, R: Clock + Threads + Wait + Sync>(
 #[derive(Drop)]
 pub struct SeatStay {
     pub sessions: SeatLog,
-    pub stub: Option<Stub>,
+    pub unnamed_seat: Option<UnnamedSeat>,
 }
 
 // Waits for the thread of a seat, and gives the seat up.
@@ -231,12 +231,15 @@ fn await_stay<L: Heap, R: Threads>(rt: &R, standing: Standing<L>) -> SeatStay
     match standing.thread {
         Some(thread) => {
             let (sessions, seat) = thread.join(rt);
-            let stub = Some(seat.into_stub());
-            SeatStay { sessions, stub }
+            let unnamed_seat = Some(seat.into_unnamed());
+            SeatStay {
+                sessions,
+                unnamed_seat,
+            }
         }
         None => SeatStay {
             sessions: Log::new(),
-            stub: None,
+            unnamed_seat: None,
         },
     }
 }

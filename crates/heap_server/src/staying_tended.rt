@@ -7,7 +7,7 @@ ghost use Rattle.heap_server.specs.Tending.{AreStaff, MarkRuns, SweepRuns};
 use crate::sessions::{Ports, ServicePlan, Terms};
 use crate::staying::{Stayed, StayedHeap, serve_staying};
 use crate::tended::{Staff, begin_workers, staff_of};
-use heap_lock::{Blank, Heap, Seat, Shared, Stub};
+use heap_lock::{Blank, Heap, Seat, Shared, UnnamedSeat};
 use std::alloc::{AllocError, Global};
 use std::marker::Brand;
 use std::snapshot::Snapshot;
@@ -29,8 +29,8 @@ pub struct StayTended<L: Heap> {
 #[derive(Drop)]
 pub struct StayTendedHeap {
     pub heap: StayedHeap,
-    pub marker: Stub,
-    pub sweeper: Stub,
+    pub marker: UnnamedSeat,
+    pub sweeper: UnnamedSeat,
 }
 
 /// Serves clients from all users' seats at a time as `serve_staying` does, while two threads tend the collector. They begin before the
@@ -120,7 +120,7 @@ fn stay_staffed<L: Heap + Send + Sync, R: Clock + Eprint + Print + Threads + Wai
             made,
             terms: *own,
         },
-        marker: marker.into_stub(),
-        sweeper: sweeper.into_stub(),
+        marker: marker.into_unnamed(),
+        sweeper: sweeper.into_unnamed(),
     })
 }

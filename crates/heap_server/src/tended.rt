@@ -8,7 +8,7 @@ ghost use Rattle.heap_server.specs.Tending.{AreStaff, IsTendedOver, MarkRuns, Sw
 
 use crate::sessions::{Ports, Served, ServedHeap, ServicePlan, Terms, serve_clients};
 use crate::tending::{Duty, tend};
-use heap_lock::{Blank, Config, Heap, Refusal, Role, Seat, Seats, Shared, Stub};
+use heap_lock::{Blank, Config, Heap, Refusal, Role, Seat, Seats, Shared, UnnamedSeat};
 use std::alloc::{AllocError, Global};
 use std::marker::Brand;
 use std::snapshot::Snapshot;
@@ -22,8 +22,8 @@ use std::time::Clock;
 #[derive(Drop)]
 pub struct TendedHeap {
     pub heap: ServedHeap,
-    pub marker: Stub,
-    pub sweeper: Stub,
+    pub marker: UnnamedSeat,
+    pub sweeper: UnnamedSeat,
 }
 
 /// The seats of a heap whose collector is tended.
@@ -228,7 +228,7 @@ fn serve_staffed<L: Heap + Send + Sync, R: Clock + Eprint + Threads + Wait + Syn
             made,
             terms: *own,
         },
-        marker: marker.into_stub(),
-        sweeper: sweeper.into_stub(),
+        marker: marker.into_unnamed(),
+        sweeper: sweeper.into_unnamed(),
     })
 }

@@ -12,7 +12,7 @@ use Rattle.heap_lock.specs.Entry.{Entry}
 use Rattle.heap_lock.specs.Outcome.{Outcome}
 use Rattle.heap_lock.specs.Receipt.{Receipt}
 use Rattle.heap_lock.specs.History.{entry}
-use Rattle.heap_lock.specs.LockStates.{Chair, Stands, with_entry}
+use Rattle.heap_lock.specs.LockStates.{SeatModel, Stands, with_entry}
 use Rattle.heap_work.specs.declared.MarkEnd.{MarkEnd}
 use Rattle.heap_work.specs.declared.MarkEnd.TheVariants.{Finished, NotMarking, Pending}
 use Rattle.heap_work.specs.declared.Stage.{Stage}
@@ -23,30 +23,30 @@ use Rattle.heap_work.specs.Gates.{LetsBegin, Gains, AsksForEach, AsksForOneMore,
 use Rattle.std.specs.List.{AllByRecursion}
 
 -- after i acts of a mark worker that began at a stage, none an end
-pub record IsMarking (first : Stage) (s s' : Chair) (stage : Stage) (i : ℕ) : Type 0 where
+pub record IsMarking (first : Stage) (s s' : SeatModel) (stage : Stage) (i : ℕ) : Type 0 where
   pub gained : List (ℕ × Entry)
   pub goes_on : GoesOn first gained stage
   pub count : length gained ≡ i
   pub seat : s' ≡ with_more gained s
 
-pub no_more : (s : Chair) → s ≡ with_more [] s
-no_more s = ap (λ l. let c : Chair = record s { share = l } in c) (sym (append-nil s.share))
+pub no_more : (s : SeatModel) → s ≡ with_more [] s
+no_more s = ap (λ l. let c : SeatModel = record s { share = l } in c) (sym (append-nil s.share))
 
 -- an entry more
-pub one_more : (s s' s'' : Chair) (gained : List (ℕ × Entry)) (turn : ℕ) (action : Action) (answer : Outcome) → s' ≡ with_more gained s → s'' ≡ with_entry turn action answer s' → s'' ≡ with_more (gained ++ (turn, entry s.number action answer) ∷ []) s
+pub one_more : (s s' s'' : SeatModel) (gained : List (ℕ × Entry)) (turn : ℕ) (action : Action) (answer : Outcome) → s' ≡ with_more gained s → s'' ≡ with_entry turn action answer s' → s'' ≡ with_more (gained ++ (turn, entry s.number action answer) ∷ []) s
 one_more s s' s'' gained turn action answer was is =
-    is ∙ ap (with_entry turn action answer) was ∙ ap (λ l. let c : Chair = record s { share = l } in c) (append_assoc s.share gained ((turn, entry s.number action answer) ∷ []))
+    is ∙ ap (with_entry turn action answer) was ∙ ap (λ l. let c : SeatModel = record s { share = l } in c) (append_assoc s.share gained ((turn, entry s.number action answer) ∷ []))
 
-pub marking_begins : (first : Stage) (s : Chair) → IsMarking first s s first 0
+pub marking_begins : (first : Stage) (s : SeatModel) → IsMarking first s s first 0
 marking_begins first s = record { gained = []; goes_on = refl; count = refl; seat = no_more s }
 
 goes_push : (first last : Stage) (ms : List (ℕ × Entry)) (m : ℕ × Entry) → GoesOn first ms last → m.1.action ≡ Step (event_of last) → mark_end_by m.1.answer (record { seat = m.1.seat; turn = m.0; answer = m.1.answer }) ≡ None → GoesOn first (ms ++ m ∷ []) (stage_after m.1.answer)
 goes_push first last [] m h is none = (is ∙ ap (λ k. Step (event_of k)) (sym h), none, refl)
 goes_push first last (x ∷ ms) m h is none = (h.0, h.1, goes_push (stage_after x.1.answer) last ms m h.2 is none)
 
-pub marking_goes : (first : Stage) (s s' s'' : Chair) (stage : Stage) (i : ℕ) (r : Receipt) → IsMarking first s s' stage i → r.seat ≡ s'.number → s'' ≡ with_entry r.turn (Step (event_of stage)) r.answer s' → mark_end_of r ≡ None → IsMarking first s s'' (stage_after r.answer) (i + 1)
+pub marking_goes : (first : Stage) (s s' s'' : SeatModel) (stage : Stage) (i : ℕ) (r : Receipt) → IsMarking first s s' stage i → r.seat ≡ s'.number → s'' ≡ with_entry r.turn (Step (event_of stage)) r.answer s' → mark_end_of r ≡ None → IsMarking first s s'' (stage_after r.answer) (i + 1)
 marking_goes first s s' s'' stage i r h seat is none =
-    let number : r.seat ≡ s.number = seat ∙ ap (λ (c : Chair). c.number) h.seat in
+    let number : r.seat ≡ s.number = seat ∙ ap (λ (c : SeatModel). c.number) h.seat in
     let m : ℕ × Entry = (r.turn, entry s.number (Step (event_of stage)) r.answer) in record {
       gained = h.gained ++ m ∷ [];
       goes_on = goes_push first stage h.gained m h.goes_on refl (ap (λ k. mark_end_by r.answer (record { seat = k; turn = r.turn; answer = r.answer })) (sym number) ∙ none);
@@ -95,10 +95,10 @@ end_shape (Outcome.Refused Refusal.NotRetained) r end P e fin non pen = absurd (
 end_shape (Outcome.Refused Refusal.PinLimit) r end P e fin non pen = absurd (none-some end e)
 end_shape (Outcome.Refused Refusal.ChronicleFull) r end P e fin non pen = absurd (none-some end e)
 
-pub marking_ends : (first : Stage) (config : HeapSettings) (s s' s'' : Chair) (stage : Stage) (i turns : ℕ) (r : Receipt) (end : MarkEnd) → IsMarking first s s' stage i → i < turns → r.seat ≡ s'.number → s'' ≡ with_entry r.turn (Step (event_of stage)) r.answer s' → Stands config s'' r.turn (Step (event_of stage)) r.answer
+pub marking_ends : (first : Stage) (config : HeapSettings) (s s' s'' : SeatModel) (stage : Stage) (i turns : ℕ) (r : Receipt) (end : MarkEnd) → IsMarking first s s' stage i → i < turns → r.seat ≡ s'.number → s'' ≡ with_entry r.turn (Step (event_of stage)) r.answer s' → Stands config s'' r.turn (Step (event_of stage)) r.answer
     → mark_end_of r ≡ Some end → IsMarkWorkFrom first config s s'' turns end
 marking_ends first config s s' s'' stage i turns r end h lt seat is stands ends =
-    let number : r.seat ≡ s.number = seat ∙ ap (λ (c : Chair). c.number) h.seat in
+    let number : r.seat ≡ s.number = seat ∙ ap (λ (c : SeatModel). c.number) h.seat in
     let share = one_more s s' s'' h.gained r.turn (Step (event_of stage)) r.answer h.seat is in
     let under : length h.gained < turns = omega (arith, h.count, lt) in
     record {
@@ -109,32 +109,32 @@ marking_ends first config s s' s'' stage i turns r end h lt seat is stands ends 
           (λ e. (under, e, number, share, stands)) (λ e. (under, e, number, share, stands)) (λ e. (under, e, number, share, stands)) ends;
     }
 
-pub marking_refused : (first : Stage) (config : HeapSettings) (s s' s'' : Chair) (stage : Stage) (i turns : ℕ) (e : Refusal) → IsMarking first s s' stage i → i < turns → s'' ≡ s' → (e ≡ Refusal.NoMemory) ⊎ (e ≡ Refusal.ChronicleFull) → IsMarkWorkFrom first config s s'' turns (MarkEnd.Refused e)
+pub marking_refused : (first : Stage) (config : HeapSettings) (s s' s'' : SeatModel) (stage : Stage) (i turns : ℕ) (e : Refusal) → IsMarking first s s' stage i → i < turns → s'' ≡ s' → (e ≡ Refusal.NoMemory) ⊎ (e ≡ Refusal.ChronicleFull) → IsMarkWorkFrom first config s s'' turns (MarkEnd.Refused e)
 marking_refused first config s s' s'' stage i turns e h lt same why = record { gained = h.gained; next = stage; goes_on = h.goes_on; ends = (omega (arith, h.count, lt), same ∙ h.seat, why) }
 
-pub marking_stopped : (first : Stage) (config : HeapSettings) (s s' : Chair) (stage : Stage) (i turns : ℕ) → IsMarking first s s' stage i → i < turns → IsMarkWorkFrom first config s s' turns MarkEnd.Stopped
+pub marking_stopped : (first : Stage) (config : HeapSettings) (s s' : SeatModel) (stage : Stage) (i turns : ℕ) → IsMarking first s s' stage i → i < turns → IsMarkWorkFrom first config s s' turns MarkEnd.Stopped
 marking_stopped first config s s' stage i turns h lt = record { gained = h.gained; next = stage; goes_on = h.goes_on; ends = (omega (arith, h.count, lt), h.seat) }
 
-pub marking_over : (first : Stage) (config : HeapSettings) (s s' : Chair) (stage : Stage) (turns : ℕ) → IsMarking first s s' stage turns → IsMarkWorkFrom first config s s' turns MarkEnd.TurnsOver
+pub marking_over : (first : Stage) (config : HeapSettings) (s s' : SeatModel) (stage : Stage) (turns : ℕ) → IsMarking first s s' stage turns → IsMarkWorkFrom first config s s' turns MarkEnd.TurnsOver
 marking_over first config s s' stage turns h = record { gained = h.gained; next = stage; goes_on = h.goes_on; ends = (h.count, h.seat) }
 
 -- ---- the sweeper, after i of its acts
 
-pub record IsSweeping (s s' : Chair) (turns i : ℕ) : Type 0 where
+pub record IsSweeping (s s' : SeatModel) (turns i : ℕ) : Type 0 where
   pub gained : List (ℕ × Entry)
   pub sweeps : AreSweeps 0 gained
   pub count : length gained ≡ i
   pub within : i ≤ turns
   pub seat : s' ≡ with_more gained s
 
-pub sweeping_begins : (s : Chair) (turns : ℕ) → IsSweeping s s turns 0
+pub sweeping_begins : (s : SeatModel) (turns : ℕ) → IsSweeping s s turns 0
 sweeping_begins s turns = record { gained = []; sweeps = tt; count = refl; within = omega arith; seat = no_more s }
 
 sweeps_push : (region : ℕ) (ms : List (ℕ × Entry)) (m : ℕ × Entry) → AreSweeps region ms → m.1.action ≡ Step (Event.Sweep (region + length ms)) → AreSweeps region (ms ++ m ∷ [])
 sweeps_push region [] m h is = (is ∙ ap (λ k. Step (Event.Sweep k)) (omega arith), tt)
 sweeps_push region (x ∷ ms) m h is = (h.0, sweeps_push (region + 1) ms m h.1 (is ∙ ap (λ k. Step (Event.Sweep k)) (omega arith)))
 
-pub sweeping_goes : (s s' s'' : Chair) (turns i turn : ℕ) (answer : Outcome) → IsSweeping s s' turns i → i < turns → s'' ≡ with_entry turn (Step (Event.Sweep i)) answer s' → IsSweeping s s'' turns (i + 1)
+pub sweeping_goes : (s s' s'' : SeatModel) (turns i turn : ℕ) (answer : Outcome) → IsSweeping s s' turns i → i < turns → s'' ≡ with_entry turn (Step (Event.Sweep i)) answer s' → IsSweeping s s'' turns (i + 1)
 sweeping_goes s s' s'' turns i turn answer h lt is =
     let m : ℕ × Entry = (turn, entry s.number (Step (Event.Sweep i)) answer) in record {
       gained = h.gained ++ m ∷ [];
@@ -144,70 +144,70 @@ sweeping_goes s s' s'' turns i turn answer h lt is =
       seat = one_more s s' s'' h.gained turn (Step (Event.Sweep i)) answer h.seat is;
     }
 
-pub sweeping_over : (config : HeapSettings) (s s' : Chair) (turns i : ℕ) → IsSweeping s s' turns i → turns ≤ i → IsSweepWork config s s' turns SweepEnd.TurnsOver
+pub sweeping_over : (config : HeapSettings) (s s' : SeatModel) (turns i : ℕ) → IsSweeping s s' turns i → turns ≤ i → IsSweepWork config s s' turns SweepEnd.TurnsOver
 sweeping_over config s s' turns i h over = record { gained = h.gained; sweeps = h.sweeps; seat = h.seat; ends = omega (arith, h.count, h.within, over) }
 
-pub sweeping_done : (config : HeapSettings) (s s' : Chair) (turns i : ℕ) → IsSweeping s s' turns i → i ≡ config.regions → IsSweepWork config s s' turns SweepEnd.Swept
+pub sweeping_done : (config : HeapSettings) (s s' : SeatModel) (turns i : ℕ) → IsSweeping s s' turns i → i ≡ config.regions → IsSweepWork config s s' turns SweepEnd.Swept
 sweeping_done config s s' turns i h whole = record { gained = h.gained; sweeps = h.sweeps; seat = h.seat; ends = (h.count ∙ whole, omega (arith, h.count, h.within)) }
 
-pub sweeping_refused : (config : HeapSettings) (s s' s'' : Chair) (turns i : ℕ) (e : Refusal) → IsSweeping s s' turns i → i < turns → s'' ≡ s' → (e ≡ Refusal.NoMemory) ⊎ (e ≡ Refusal.ChronicleFull) → IsSweepWork config s s'' turns (SweepEnd.Refused e)
+pub sweeping_refused : (config : HeapSettings) (s s' s'' : SeatModel) (turns i : ℕ) (e : Refusal) → IsSweeping s s' turns i → i < turns → s'' ≡ s' → (e ≡ Refusal.NoMemory) ⊎ (e ≡ Refusal.ChronicleFull) → IsSweepWork config s s'' turns (SweepEnd.Refused e)
 sweeping_refused config s s' s'' turns i e h lt same why = record { gained = h.gained; sweeps = h.sweeps; seat = same ∙ h.seat; ends = (omega (arith, h.count, lt), why) }
 
-pub sweeping_stopped : (config : HeapSettings) (s s' : Chair) (turns i : ℕ) → IsSweeping s s' turns i → i < turns → i < config.regions → IsSweepWork config s s' turns SweepEnd.Stopped
+pub sweeping_stopped : (config : HeapSettings) (s s' : SeatModel) (turns i : ℕ) → IsSweeping s s' turns i → i < turns → i < config.regions → IsSweepWork config s s' turns SweepEnd.Stopped
 sweeping_stopped config s s' turns i h lt left = record { gained = h.gained; sweeps = h.sweeps; seat = h.seat; ends = (omega (arith, h.count, lt), omega (arith, h.count, left)) }
 
 -- ---- the gate
 
 -- an end that a receipt stands for is no stop
-pub never_stops : {G : Type 0} (says : G → ℕ → Bool → G → Type 0) (s s' : Chair) (after : G) (r : Receipt) (end : MarkEnd) → mark_end_of r ≡ Some end → MarkStops says s s' after end
+pub never_stops : {G : Type 0} (says : G → ℕ → Bool → G → Type 0) (s s' : SeatModel) (after : G) (r : Receipt) (end : MarkEnd) → mark_end_of r ≡ Some end → MarkStops says s s' after end
 never_stops says s s' after r end is = end_shape r.answer r end (λ z. MarkStops says s s' after z) is tt tt tt
 
 -- a gate that lets no act begin, after this number of acts
-pub marking_halts : {G : Type 0} (says : G → ℕ → Bool → G → Type 0) (first : Stage) (s s' : Chair) (stage : Stage) (i : ℕ) (before after : G) → IsMarking first s s' stage i → says before (i + 1) false after → WasStopped says s s' after
+pub marking_halts : {G : Type 0} (says : G → ℕ → Bool → G → Type 0) (first : Stage) (s s' : SeatModel) (stage : Stage) (i : ℕ) (before after : G) → IsMarking first s s' stage i → says before (i + 1) false after → WasStopped says s s' after
 marking_halts says first s s' stage i before after h said =
-    (before, i, ap (λ (c : Chair). length c.share) h.seat ∙ length-append s.share h.gained ∙ ap (λ n. length s.share + n) h.count, said)
+    (before, i, ap (λ (c : SeatModel). length c.share) h.seat ∙ length-append s.share h.gained ∙ ap (λ n. length s.share + n) h.count, said)
 
-pub sweeping_halts : {G : Type 0} (says : G → ℕ → Bool → G → Type 0) (s s' : Chair) (turns i : ℕ) (before after : G) → IsSweeping s s' turns i → says before (i + 1) false after → WasStopped says s s' after
+pub sweeping_halts : {G : Type 0} (says : G → ℕ → Bool → G → Type 0) (s s' : SeatModel) (turns i : ℕ) (before after : G) → IsSweeping s s' turns i → says before (i + 1) false after → WasStopped says s s' after
 sweeping_halts says s s' turns i before after h said =
-    (before, i, ap (λ (c : Chair). length c.share) h.seat ∙ length-append s.share h.gained ∙ ap (λ n. length s.share + n) h.count, said)
+    (before, i, ap (λ (c : SeatModel). length c.share) h.seat ∙ length-append s.share h.gained ∙ ap (λ n. length s.share + n) h.count, said)
 
 -- ---- how often the gate was asked
 
-pub gains : (s s' : Chair) (gained : List (ℕ × Entry)) → s' ≡ with_more gained s → Gains s s' (length gained)
-gains s s' gained is = ap (λ (c : Chair). length c.share) is ∙ length-append s.share gained
+pub gains : (s s' : SeatModel) (gained : List (ℕ × Entry)) → s' ≡ with_more gained s → Gains s s' (length gained)
+gains s s' gained is = ap (λ (c : SeatModel). length c.share) is ∙ length-append s.share gained
 
 pub lets_more : {G : Type 0} (says : G → ℕ → Bool → G → Type 0) (i : ℕ) (before between after : G) → LetsBegin says before i between → says between (i + 1) true after → LetsBegin says before (i + 1) after
 lets_more says i before between after lets said =
     let one : suc i ≡ i + 1 = omega arith in
     subst (λ n. LetsBegin says before n after) one (between, lets, said)
 
-pub marked_each : {G : Type 0} (says : G → ℕ → Bool → G → Type 0) (first : Stage) (s s' : Chair) (stage : Stage) (i : ℕ) (before after : G) → IsMarking first s s' stage i → LetsBegin says before i after → AsksForEach says before s s' after
+pub marked_each : {G : Type 0} (says : G → ℕ → Bool → G → Type 0) (first : Stage) (s s' : SeatModel) (stage : Stage) (i : ℕ) (before after : G) → IsMarking first s s' stage i → LetsBegin says before i after → AsksForEach says before s s' after
 marked_each says first s s' stage i before after h lets = (i, subst (Gains s s') h.count (gains s s' h.gained h.seat), lets)
 
-pub marked_more : {G : Type 0} (says : G → ℕ → Bool → G → Type 0) (first : Stage) (s s' s'' : Chair) (stage : Stage) (i : ℕ) (before between after : G) → IsMarking first s s' stage i → s'' ≡ s' → LetsBegin says before i between → says between (i + 1) true after → AsksForOneMore says before s s'' after
+pub marked_more : {G : Type 0} (says : G → ℕ → Bool → G → Type 0) (first : Stage) (s s' s'' : SeatModel) (stage : Stage) (i : ℕ) (before between after : G) → IsMarking first s s' stage i → s'' ≡ s' → LetsBegin says before i between → says between (i + 1) true after → AsksForOneMore says before s s'' after
 marked_more says first s s' s'' stage i before between after h same lets said =
-    (i, subst (λ (x : Chair). Gains s x i) (sym same) (subst (Gains s s') h.count (gains s s' h.gained h.seat)), lets_more says i before between after lets said)
+    (i, subst (λ (x : SeatModel). Gains s x i) (sym same) (subst (Gains s s') h.count (gains s s' h.gained h.seat)), lets_more says i before between after lets said)
 
-pub marked_stopped : {G : Type 0} (says : G → ℕ → Bool → G → Type 0) (first : Stage) (s s' : Chair) (stage : Stage) (i : ℕ) (before between after : G) → IsMarking first s s' stage i → LetsBegin says before i between → says between (i + 1) false after → AsksUntilStopped says before s s' after
+pub marked_stopped : {G : Type 0} (says : G → ℕ → Bool → G → Type 0) (first : Stage) (s s' : SeatModel) (stage : Stage) (i : ℕ) (before between after : G) → IsMarking first s s' stage i → LetsBegin says before i between → says between (i + 1) false after → AsksUntilStopped says before s s' after
 marked_stopped says first s s' stage i before between after h lets said =
     (i, subst (Gains s s') h.count (gains s s' h.gained h.seat), between, lets, said)
 
 -- an act whose answer is an end
-pub marked_last : {G : Type 0} (says : G → ℕ → Bool → G → Type 0) (first : Stage) (s s' s'' : Chair) (stage : Stage) (i : ℕ) (before between after : G) (r : Receipt) (end : MarkEnd) → IsMarking first s s' stage i → s'' ≡ with_entry r.turn (Step (event_of stage)) r.answer s' → LetsBegin says before i between → says between (i + 1) true after → mark_end_of r ≡ Some end → MarkAsks says before s s'' after end
+pub marked_last : {G : Type 0} (says : G → ℕ → Bool → G → Type 0) (first : Stage) (s s' s'' : SeatModel) (stage : Stage) (i : ℕ) (before between after : G) (r : Receipt) (end : MarkEnd) → IsMarking first s s' stage i → s'' ≡ with_entry r.turn (Step (event_of stage)) r.answer s' → LetsBegin says before i between → says between (i + 1) true after → mark_end_of r ≡ Some end → MarkAsks says before s s'' after end
 marked_last says first s s' s'' stage i before between after r end h is lets said ends =
     let m : ℕ × Entry = (r.turn, entry s.number (Step (event_of stage)) r.answer) in
     let count : length (h.gained ++ m ∷ []) ≡ i + 1 = omega (arith, length-append h.gained (m ∷ []), h.count) in
     let all : AsksForEach says before s s'' after = (i + 1, subst (Gains s s'') count (gains s s'' (h.gained ++ m ∷ []) (one_more s s' s'' h.gained r.turn (Step (event_of stage)) r.answer h.seat is)), lets_more says i before between after lets said) in
     end_shape r.answer r end (λ z. MarkAsks says before s s'' after z) ends all all all
 
-pub swept_each : {G : Type 0} (says : G → ℕ → Bool → G → Type 0) (s s' : Chair) (turns i : ℕ) (before after : G) → IsSweeping s s' turns i → LetsBegin says before i after → AsksForEach says before s s' after
+pub swept_each : {G : Type 0} (says : G → ℕ → Bool → G → Type 0) (s s' : SeatModel) (turns i : ℕ) (before after : G) → IsSweeping s s' turns i → LetsBegin says before i after → AsksForEach says before s s' after
 swept_each says s s' turns i before after h lets = (i, subst (Gains s s') h.count (gains s s' h.gained h.seat), lets)
 
-pub swept_more : {G : Type 0} (says : G → ℕ → Bool → G → Type 0) (s s' s'' : Chair) (turns i : ℕ) (before between after : G) → IsSweeping s s' turns i → s'' ≡ s' → LetsBegin says before i between → says between (i + 1) true after → AsksForOneMore says before s s'' after
+pub swept_more : {G : Type 0} (says : G → ℕ → Bool → G → Type 0) (s s' s'' : SeatModel) (turns i : ℕ) (before between after : G) → IsSweeping s s' turns i → s'' ≡ s' → LetsBegin says before i between → says between (i + 1) true after → AsksForOneMore says before s s'' after
 swept_more says s s' s'' turns i before between after h same lets said =
-    (i, subst (λ (x : Chair). Gains s x i) (sym same) (subst (Gains s s') h.count (gains s s' h.gained h.seat)), lets_more says i before between after lets said)
+    (i, subst (λ (x : SeatModel). Gains s x i) (sym same) (subst (Gains s s') h.count (gains s s' h.gained h.seat)), lets_more says i before between after lets said)
 
-pub swept_stopped : {G : Type 0} (says : G → ℕ → Bool → G → Type 0) (s s' : Chair) (turns i : ℕ) (before between after : G) → IsSweeping s s' turns i → LetsBegin says before i between → says between (i + 1) false after → AsksUntilStopped says before s s' after
+pub swept_stopped : {G : Type 0} (says : G → ℕ → Bool → G → Type 0) (s s' : SeatModel) (turns i : ℕ) (before between after : G) → IsSweeping s s' turns i → LetsBegin says before i between → says between (i + 1) false after → AsksUntilStopped says before s s' after
 swept_stopped says s s' turns i before between after h lets said =
     (i, subst (Gains s s') h.count (gains s s' h.gained h.seat), between, lets, said)
 
@@ -279,16 +279,16 @@ none_more : (ms : List (ℕ × Entry)) (m : ℕ × Entry) → AllByRecursion IsN
 none_more [] m h none = (none, tt)
 none_more (x ∷ ms) m h none = (h.0, none_more ms m h.1 none)
 
-share_of : (s s' : Chair) (gained : List (ℕ × Entry)) → s' ≡ with_more gained s → s'.share ≡ s.share ++ gained
-share_of s s' gained is = ap (λ (c : Chair). c.share) is
+share_of : (s s' : SeatModel) (gained : List (ℕ × Entry)) → s' ≡ with_more gained s → s'.share ≡ s.share ++ gained
+share_of s s' gained is = ap (λ (c : SeatModel). c.share) is
 
 -- the acts, and one more that is an end
-with_end : (config : HeapSettings) (s s' : Chair) (turns : ℕ) (gained : List (ℕ × Entry)) (next : Stage) (r : Receipt) (end : MarkEnd) → AllByRecursion IsNoSnap gained → IsOn next → IsEnd config s s' turns gained next r end → BeginsNoCycle s s'
+with_end : (config : HeapSettings) (s s' : SeatModel) (turns : ℕ) (gained : List (ℕ × Entry)) (next : Stage) (r : Receipt) (end : MarkEnd) → AllByRecursion IsNoSnap gained → IsOn next → IsEnd config s s' turns gained next r end → BeginsNoCycle s s'
 with_end config s s' turns gained next r end none on e =
     let m : ℕ × Entry = (r.turn, entry s.number (Step (event_of next)) r.answer) in
     (gained ++ m ∷ [], share_of s s' (gained ++ m ∷ []) e.3, none_more gained m none (no_snap next m on refl))
 
-none_by : (config : HeapSettings) (s s' : Chair) (turns : ℕ) (gained : List (ℕ × Entry)) (next : Stage) (end : MarkEnd) → AllByRecursion IsNoSnap gained → IsOn next → EndsMarking config s s' turns gained next end → BeginsNoCycle s s'
+none_by : (config : HeapSettings) (s s' : SeatModel) (turns : ℕ) (gained : List (ℕ × Entry)) (next : Stage) (end : MarkEnd) → AllByRecursion IsNoSnap gained → IsOn next → EndsMarking config s s' turns gained next end → BeginsNoCycle s s'
 none_by config s s' turns gained next (Finished r) none on e = with_end config s s' turns gained next r (Finished r) none on e
 none_by config s s' turns gained next (NotMarking r) none on e = with_end config s s' turns gained next r (NotMarking r) none on e
 none_by config s s' turns gained next (Pending r) none on e = with_end config s s' turns gained next r (Pending r) none on e
@@ -296,7 +296,7 @@ none_by config s s' turns gained next (MarkEnd.Refused f) none on e = (gained, s
 none_by config s s' turns gained next MarkEnd.Stopped none on e = (gained, share_of s s' gained e.1, none)
 none_by config s s' turns gained next MarkEnd.TurnsOver none on e = (gained, share_of s s' gained e.1, none)
 
-pub begins_none : (config : HeapSettings) (s s' : Chair) (turns : ℕ) (end : MarkEnd) → IsResumedWork config s s' turns end → BeginsNoCycle s s'
+pub begins_none : (config : HeapSettings) (s s' : SeatModel) (turns : ℕ) (end : MarkEnd) → IsResumedWork config s s' turns end → BeginsNoCycle s s'
 begins_none config s s' turns end w =
     let none = none_snaps Mark w.next w.gained mark_on w.goes_on in
     none_by config s s' turns w.gained w.next end none.0 none.1 w.ends

@@ -7,7 +7,7 @@ use Rattle.heap_lock.specs.Action.TheVariants.{Step}
 use Rattle.heap_lock.specs.Entry.{Entry}
 use Rattle.heap_lock.specs.Calls.{Call}
 use Rattle.heap_lock.specs.Collector.{SeesState, pending_in}
-use Rattle.heap_lock.specs.LockStates.{Chair}
+use Rattle.heap_lock.specs.LockStates.{SeatModel}
 use Rattle.heap_work.specs.declared.SweepEnd.{SweepEnd}
 use Rattle.heap_work.specs.Rule.{with_more}
 
@@ -36,7 +36,7 @@ PendingEnds config turns gained seen seen' SweepEnd.TurnsOver =
     (length gained ≡ turns) × (seen' ≡ seen)
 
 -- what such a worker does to its seat's share, and the calls that its witness saw
-pub record IsPendingWork (config : HeapSettings) (s : Chair) (seen : List Call) (s' : Chair)
+pub record IsPendingWork (config : HeapSettings) (s : SeatModel) (seen : List Call) (s' : SeatModel)
     (seen' : List Call) (turns : ℕ) (end : SweepEnd) : Type 0 where
   pub gained : List (ℕ × Entry)
   pub until : List Call

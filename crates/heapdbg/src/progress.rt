@@ -1,7 +1,7 @@
 //! The progress of a dump, on a terminal.
 use dump_client::Watcher;
 use heapdbg_options::IdSize;
-use pin_dump::{Gauge, dump_size};
+use machine_dump::{Gauge, dump_size};
 use session_text::Machine;
 use std::alloc::Global;
 use std::time::{Clock, Duration, Instant};

@@ -10,7 +10,7 @@ use crate::reasons::{tell_path, tell_port};
 use dump_pump::{Outlet, Pumped, WriteOutlet};
 use heap_save::{LastDump, Outlets, Saved};
 use heapdbg_options::settings::Settings;
-use pin_dump::Gauge;
+use machine_dump::Gauge;
 use question_text::{Asking, Watch, serve_asking};
 use session_text::{Ended, Inlet, session_limits};
 use std::fs;

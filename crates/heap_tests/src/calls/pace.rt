@@ -1,6 +1,6 @@
 //! The pace of mutators and a collector: nobody begins before the others have done what it waits for.
 use crate::locked::sinks::{Flags, reaches};
-use heap::Pace;
+use heap_runtime::Pace;
 use std::sync::Wait;
 use std::sync::atomic::Ordering;
 use std::test::Fail;

@@ -4,7 +4,7 @@ use crate::scripts::{ONE_POINT, put_x};
 use dump_pump::{LostCause, Pumped, WriteOutlet, pump};
 use heap_lock::Machine;
 use heap_trail::PinAt;
-use pin_dump::PinSource;
+use machine_dump::PinSource;
 use std::alloc::Global;
 use std::test::Fail;
 

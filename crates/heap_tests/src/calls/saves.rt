@@ -4,7 +4,7 @@ use crate::scripts::ONE_POINT;
 use dump_pump::{Inlet, Outlet, ReadInlet, WriteOutlet};
 use heap_lock::Machine;
 use heap_save::{LastDump, Outlets};
-use pin_dump::{Gauge, Silent};
+use machine_dump::{Gauge, Silent};
 use session_text::{Local, SessionLimits};
 use std::alloc::Global;
 use std::sync::Wait;

@@ -6,7 +6,7 @@ use super::sinks::{Flags, Sink};
 use super::sources::AskingSource;
 use dump_pipe::Watched;
 use heap_lock::{Dumper, Heap, LockedSource};
-use live_dump::StreamSeats;
+use shared_dump::StreamSeats;
 use std::sync::Wait;
 use std::test::*;
 

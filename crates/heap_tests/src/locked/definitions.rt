@@ -1,9 +1,9 @@
 //! Audits of definitions of classes: of short ones, and of long ones, which aren't kept whole.
 use super::scenes::{Scene, play_scene};
 use super::shared::{Stage, did};
-use heap::define_class;
 use heap_class::Kind;
 use heap_lock::{Action, Event, Heap, Receipt, Seat, Verdict, audit};
+use heap_runtime::define_class;
 use std::alloc::Global;
 use std::sync::Wait;
 use std::test::*;

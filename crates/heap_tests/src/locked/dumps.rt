@@ -9,7 +9,7 @@ use crate::scripts::ONE_POINT;
 use dump_pipe::{AskSeat, Meter, ReadSeat};
 use dump_pump::Pumped;
 use heap_lock::{Heap, Seat, Shared};
-use live_dump::StreamSeats;
+use shared_dump::StreamSeats;
 use std::alloc::Global;
 use std::sync::Wait;
 use std::thread::Threads;

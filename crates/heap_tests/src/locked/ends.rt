@@ -11,7 +11,7 @@ use super::sources::Counted;
 use dump_pipe::{BothEnds, Counter, End, Knowledge, Receiver, Sender, drain_pipe, feed, pipe};
 use dump_pump::{Ending, WriteOutlet};
 use heap_lock::{Dumper, Heap, LockedSource, Shared};
-use live_dump::StreamSeats;
+use shared_dump::StreamSeats;
 use std::sync::Wait;
 use std::sync::atomic::{AtomicU64, Ordering};
 use std::test::*;

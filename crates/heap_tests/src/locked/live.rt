@@ -9,7 +9,7 @@ use crate::scripts::put_x;
 use dump_pipe::{Progress, ReadSeat};
 use dump_pump::WriteOutlet;
 use heap_lock::{Dumper, Heap, LockedSource, Seat, Shared};
-use live_dump::{LivePin, StreamSeats, stream};
+use shared_dump::{LivePin, StreamSeats, stream};
 use std::sync::Wait;
 use std::sync::atomic::{AtomicU64, Ordering};
 use std::thread;

@@ -1,5 +1,5 @@
 use Rattle.std.proofs.Common.{◌∙◌, ap, sym}
-use Rattle.pin_dump.specs.LostCause.TheVariants.{Rewound, Memory, Closed}
+use Rattle.machine_dump.specs.LostCause.TheVariants.{Rewound, Memory, Closed}
 use Rattle.dump_pump.specs.declared.transfer.Pumped.TheVariants.{Lost}
 use Rattle.heap_save.specs.Saves.{last_line}
 use Rattle.heap_save.proofs.Lines.{written_as}

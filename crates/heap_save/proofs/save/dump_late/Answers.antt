@@ -1,5 +1,5 @@
 use Rattle.std.proofs.Common.{subst}
-use Rattle.pin_dump.specs.PinDumps.{IsPlaceDumped}
+use Rattle.machine_dump.specs.PinDumps.{IsPlaceDumped}
 use Rattle.heap_save.specs.LateOutlets.{outlet_in}
 use Rattle.heap_save.proofs.DumpLandings.{landed, handed_out}
 use Rattle.heap_save.proofs.save.dump_late.Goals as goal

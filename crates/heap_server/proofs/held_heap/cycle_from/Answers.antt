@@ -1,10 +1,10 @@
 use Rattle.std.proofs.Common.{◌∙◌, [], ap}
-use Rattle.heap_lock.specs.LockStates.{Chair}
+use Rattle.heap_lock.specs.LockStates.{SeatModel}
 use Rattle.heap_server.proofs.HeldSteps.{gains_none, heap_cycle}
 use Rattle.heap_server.proofs.held_heap.cycle_from.Goals as goal
 
 pub run_cycle-cycle-requires : goal.run_cycle-cycle-requires
-run_cycle-cycle-requires g c = ap (λ (s : Chair). s.role) c.agree.ensures.seat ∙ c.requires
+run_cycle-cycle-requires g c = ap (λ (s : SeatModel). s.role) c.agree.ensures.seat ∙ c.requires
 
 pub returns-clause-runs : goal.returns-clause-runs
 returns-clause-runs g c =
@@ -21,4 +21,4 @@ returns-clause-runs g c =
     c.agree-2.ensures.share c.agree-2.ensures.same c.agree-2.ensures.seat c.show-2.ensures.heap c.show-2.ensures.witness
 
 pub returns-clause-role : goal.returns-clause-role
-returns-clause-role g c = ap (λ (s : Chair). s.role) c.agree-2.ensures.seat ∙ c.run_cycle-cycle.ensures.still
+returns-clause-role g c = ap (λ (s : SeatModel). s.role) c.agree-2.ensures.seat ∙ c.run_cycle-cycle.ensures.still

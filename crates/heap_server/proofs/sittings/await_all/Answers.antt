@@ -1,5 +1,5 @@
 use Rattle.std.proofs.Common.{rules, List, sym, subst}
-use Rattle.heap_lock.specs.LockStates.{Chair}
+use Rattle.heap_lock.specs.LockStates.{SeatModel}
 use Rattle.heap_server.specs.SessionSeats.{IsSat}
 use Rattle.heap_server.specs.Stations.{IsSeatEnd, InTurn}
 use Rattle.heap_server.specs.declared.sessions.SeatEnd.{SeatEnd}
@@ -16,7 +16,7 @@ loop-sitting-preserved g c = (
       let first = lead_first Sat was.0 c.in-Some.sitting c.pop_front.new.self.items rest (subst (λ l. InTurn Sat was.0 l rest) c.in-Some.ensures.items was.2) in (
         first.1,
         subst (λ (l : List SeatEnd). InTurn Ends seats l first.1) (sym c.push_reserved.ensures.items)
-            (lead_more Ends seats c.loop-sitting.ends.items first.0 first.1 c.into_end.result (subst (λ (l : List Chair). InTurn Ends seats c.loop-sitting.ends.items l) first.2 was.1) (c.into_end.ensures terms first.0 first.3)),
+            (lead_more Ends seats c.loop-sitting.ends.items first.0 first.1 c.into_end.result (subst (λ (l : List SeatModel). InTurn Ends seats c.loop-sitting.ends.items l) first.2 was.1) (c.into_end.ensures terms first.0 first.3)),
         first.4,
       )),
 )

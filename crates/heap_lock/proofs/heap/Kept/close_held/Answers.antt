@@ -12,7 +12,7 @@ pub invariant_of-self : goal.invariant_of-self
 invariant_of-self g c =
     let reply = replied (λ u. Closed) c.close_pin-done.result in
     let may = may_reply c.self.inside.machine c.close_pin-done.new.self (ClosePin c.args.pin) (λ u. Closed) c.close_pin-done.result c.close_pin-done.ensures.done (plainly c.self.inside.machine c.close_pin-done.new.self (ClosePin c.args.pin) c.close_pin-done.result c.close_pin-done.ensures.refused) c.close_pin-done.ensures.unchanged in (
-      kept_dumped g.L.Heap.config g.L.Heap.tables c.self.inside.machine c.close_pin-done.new.self c.self.inside.chronicle.entries c.self.inside.desks.items (ClosePin c.args.pin) reply c.self.invariant.0 refl may,
+      kept_dumped g.L.Heap.config g.L.Heap.tables c.self.inside.machine c.close_pin-done.new.self c.self.inside.chronicle.entries c.self.inside.seat_tables.items (ClosePin c.args.pin) reply c.self.invariant.0 refl may,
       dumped_has g.L.Heap.config g.L.Heap.ledger c.self.inside.machine c.close_pin-done.new.self c.self.inside.chronicle.entries c.self.inside.ledger c.note.new.self (ClosePin c.args.pin, reply) c.self.invariant.1 refl may c.note.ensures,
       c.self.invariant.2,
     )

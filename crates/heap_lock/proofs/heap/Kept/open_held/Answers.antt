@@ -12,7 +12,7 @@ pub invariant_of-self : goal.invariant_of-self
 invariant_of-self g c =
     let reply = replied (λ p. Pinned p.pin p.at) c.open_pin-done.result in
     let may = may_reply c.self.inside.machine c.open_pin-done.new.self (OpenPin c.args.at) (λ p. Pinned p.pin p.at) c.open_pin-done.result c.open_pin-done.ensures.done c.open_pin-done.ensures.refused c.open_pin-done.ensures.unchanged in (
-      kept_dumped g.L.Heap.config g.L.Heap.tables c.self.inside.machine c.open_pin-done.new.self c.self.inside.chronicle.entries c.self.inside.desks.items (OpenPin c.args.at) reply c.self.invariant.0 refl may,
+      kept_dumped g.L.Heap.config g.L.Heap.tables c.self.inside.machine c.open_pin-done.new.self c.self.inside.chronicle.entries c.self.inside.seat_tables.items (OpenPin c.args.at) reply c.self.invariant.0 refl may,
       dumped_has g.L.Heap.config g.L.Heap.ledger c.self.inside.machine c.open_pin-done.new.self c.self.inside.chronicle.entries c.self.inside.ledger c.note.new.self (OpenPin c.args.at, reply) c.self.invariant.1 refl may c.note.ensures,
       c.self.invariant.2,
     )

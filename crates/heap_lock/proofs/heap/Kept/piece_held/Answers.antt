@@ -13,7 +13,7 @@ pub invariant_of-self : goal.invariant_of-self
 invariant_of-self g c =
     let reply = replied (λ p. Part p) c.piece-done.result in
     let may = may_reply c.self.inside.machine c.piece-done.new.self (NextPiece c.args.pin c.args.time) (λ p. Part p) c.piece-done.result c.piece-done.ensures.done c.piece-done.ensures.refused c.piece-done.ensures.unchanged in (
-      kept_dumped g.L.Heap.config g.L.Heap.tables c.self.inside.machine c.piece-done.new.self c.self.inside.chronicle.entries c.self.inside.desks.items (NextPiece c.args.pin c.args.time) reply c.self.invariant.0 refl may,
+      kept_dumped g.L.Heap.config g.L.Heap.tables c.self.inside.machine c.piece-done.new.self c.self.inside.chronicle.entries c.self.inside.seat_tables.items (NextPiece c.args.pin c.args.time) reply c.self.invariant.0 refl may,
       dumped_has g.L.Heap.config g.L.Heap.ledger c.self.inside.machine c.piece-done.new.self c.self.inside.chronicle.entries c.self.inside.ledger c.note.new.self (NextPiece c.args.pin c.args.time, reply) c.self.invariant.1 refl may c.note.ensures,
       c.self.invariant.2,
     )

@@ -1,5 +1,5 @@
 use Rattle.std.proofs.Common.{◌∙◌, ap, inr}
-use Rattle.heap_lock.specs.LockStates.{Chair, LockState}
+use Rattle.heap_lock.specs.LockStates.{SeatModel, LockState}
 use Rattle.heap_server.proofs.HeldSteps.{answered_as, never_placed, never_refused, no_entry, none_gained, step_gained}
 use Rattle.heap_server.proofs.held_heap.HeldHeapSteps.take.Goals as goal
 
@@ -15,14 +15,14 @@ pub returns-in-Answered-clause-done : goal.returns-in-Answered-clause-done
 returns-in-Answered-clause-done g c = answered_as _ _ c.args.event _ _ c.in-Ok.ensures.moves.0 c.in-Answered.is
 
 pub returns-in-Answered-clause-still : goal.returns-in-Answered-clause-still
-returns-in-Answered-clause-still g c = ap (λ (s : Chair). s.role) c.in-Ok.ensures.act.5 ∙ c.requires.may
+returns-in-Answered-clause-still g c = ap (λ (s : SeatModel). s.role) c.in-Ok.ensures.act.5 ∙ c.requires.may
 
 pub returns-in-Answered-clause-taken : goal.returns-in-Answered-clause-taken
 returns-in-Answered-clause-taken g c = λ h b before p.
     step_gained h.kept.now b before c.args.self.now.kept.now c.args.by.now c.args.event c.in-Answered.answer c.in-Ok.receipt _ _ c.in-Ok.ensures.act c.in-Answered.is p
 
 pub returns-in-Err-clause-still : goal.returns-in-Err-clause-still
-returns-in-Err-clause-still g c = ap (λ (s : Chair). s.role) c.in-Err.ensures.unchanged.1 ∙ c.requires.may
+returns-in-Err-clause-still g c = ap (λ (s : SeatModel). s.role) c.in-Err.ensures.unchanged.1 ∙ c.requires.may
 
 pub returns-in-Err-clause-refused : goal.returns-in-Err-clause-refused
 returns-in-Err-clause-refused g c = inr (no_entry c.args.self.now.kept.now _ c.in-Err.ensures.refused)

@@ -1,6 +1,6 @@
 use Rattle.std.proofs.Common.{◌∙◌, ap, subst, inl}
 use Rattle.heap_lock.specs.Action.TheVariants.{OpenPin}
-use Rattle.heap_lock.specs.LockStates.{Chair}
+use Rattle.heap_lock.specs.LockStates.{SeatModel}
 use Rattle.session_text.specs.Replies.{pin_in}
 use Rattle.heap_server.specs.JoinedActs.{IsJoined}
 use Rattle.heap_server.specs.StayingSeats.{AreStillOpen, StayingStation, with_opened}
@@ -18,7 +18,7 @@ returns-clause-done g c =
       left,
       subst (λ (x : StayingStation). AreStillOpen config x.seat x.seen x.pins seen left) c.self.view_is c.forget_closed.ensures.open,
       inl (
-        subst (λ (s : Chair). IsJoined config s seen (OpenPin c.args.at) r d.seat d.seen) seat c.act-reply.ensures.acts,
+        subst (λ (s : SeatModel). IsJoined config s seen (OpenPin c.args.at) r d.seat d.seen) seat c.act-reply.ensures.acts,
         c.note.ensures ∙ ap (λ o. with_opened o c.reserve.new.self.items) c.pin_in.ensures ∙ ap (λ l. with_opened (pin_in r) l) c.reserve.ensures.items,
       ),
     )

@@ -1,5 +1,0 @@
-use Rattle.heap.specs.Cycles.{StepsInTurn, MarksCycle}
-use Rattle.heap.proofs.actor.Actor.mark_cycles.Given as goal
-
-abbrev pub invariant-loop-cycle : goal.invariant-loop-cycle
-invariant-loop-cycle g l = StepsInTurn (MarksCycle g.L.Heap.config) l.cycle l.initial.self l.self

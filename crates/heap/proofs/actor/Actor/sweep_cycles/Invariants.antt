@@ -1,5 +1,0 @@
-use Rattle.heap.specs.Cycles.{StepsInTurn, SweepsCycle}
-use Rattle.heap.proofs.actor.Actor.sweep_cycles.Given as goal
-
-abbrev pub invariant-loop-cycle : goal.invariant-loop-cycle
-invariant-loop-cycle g l = StepsInTurn (SweepsCycle g.L.Heap.config) l.cycle l.initial.self l.self

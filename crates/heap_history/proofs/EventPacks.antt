@@ -1,0 +1,34 @@
+-- An event without lists is known by its numbers.
+use Rattle.std.proofs.Common.{◌≡◌, ℕ, List, Option, Some, None, refl, sym, subst, ◌∙◌}
+use Rattle.std.specs.Prelude.{IfSome}
+use Rattle.heap_class.specs.declared.Field.{Field}
+use Rattle.heap_class.specs.declared.Name.{Name}
+use Rattle.heap_step.specs.declared.Event.{Event}
+use Rattle.heap_step.specs.declared.Event.TheVariants.{Class, ArrayClass}
+use Rattle.heap_trail.specs.declared.Action.TheVariants.{Step}
+use Rattle.heap_history.specs.declared.pack.DeedPack.{DeedPack}
+use Rattle.heap_history.specs.Packs.{action_by, action_in, event_pack}
+
+-- only definitions of classes have none
+pub numbers_there : (e : Event) → event_pack e ≡ None
+    → ((name : Name) (sup : Option ℕ) (fields : List Field) → e ≡ Class name sup fields → ⊥) → ((name : Name) → e ≡ ArrayClass name → ⊥) → ⊥
+numbers_there (Class name sup fields) is one other = one name sup fields refl
+numbers_there (ArrayClass name) is one other = other name refl
+numbers_there e is one other = cc
+
+-- the numbers tell the event
+pub pack_tells : (e : Event) → IfSome (event_pack e) (λ d. action_by d ≡ Step e)
+unfolding action_in
+pack_tells (Class name sup fields) = tt
+pack_tells (ArrayClass name) = tt
+pack_tells e = refl
+
+pub told_by : (e : Event) (d : DeedPack) → event_pack e ≡ Some d → action_by d ≡ Step e
+told_by e d is = subst (λ (o : Option DeedPack). IfSome o (λ d. action_by d ≡ Step e)) is (pack_tells e)
+
+same_step : (a b : Event) → Step a ≡ Step b → a ≡ b
+same_step a b e = cc
+
+-- so two events with the same numbers are one
+pub one_event : (a b : Event) (d : DeedPack) → event_pack a ≡ Some d → event_pack b ≡ Some d → a ≡ b
+one_event a b d one other = same_step a b (sym (told_by a d one) ∙ told_by b d other)

@@ -1,8 +1,0 @@
-use Rattle.std.proofs.Common.{arith}
-use Rattle.heap_lock.proofs.SightSteps.{adds_as}
-use Rattle.heap_lock.proofs.ledger.HomeTable+Sight.note.Goals as goal
-
-pub load-requires : goal.load-requires
-load-requires g c =
-    let d = c.requires in
-    (d.2.0, omega (arith, d.0), adds_as _ _ _ _ _ d.2.1)

@@ -1,5 +1,0 @@
-use Rattle.pin_dump.proofs.Texts.{are_text}
-use Rattle.pin_dump.proofs.text.pieces_are_text.Goals as goal
-
-pub returns : goal.returns
-returns c = are_text

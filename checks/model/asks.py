@@ -15,7 +15,7 @@ WANTED = {
     "referrers": (*ABOUT_A_MOMENT, "no 28"),
     "registers": ABOUT_A_MOMENT,
     "classes": ABOUT_A_MOMENT,
-    "objects": ABOUT_A_MOMENT,
+    "objects": (*ABOUT_A_MOMENT, "ok of class", "ok by value", "no 2", "no 9"),
     "show": (*ABOUT_A_MOMENT, "no 28"),
     "born": ("ok place", "ok older", "no 28"),
     "wrote": ("ok place", "ok older", "no 9", "no 28"),
@@ -34,12 +34,14 @@ WANTED = {
 LEAST = 3
 
 
-def sorts(word, left_out, last):
-    """Yields of what sorts an answer is, by its question, whether a moment was left out, and the words of its last line."""
+def sorts(word, form, left_out, last):
+    """Yields of what sorts an answer is, by its question and form, whether a moment was left out, and the words of its last line."""
     if left_out and last[0] == "ok":
         yield "ok without AT"
     if word == b"retained" and last[0] == "ok":
         yield "ok " + {"0": "nothing", "1": "itself"}.get(last[1], "more")
+    elif word == b"objects" and form in ("ac", "acnv") and last[0] == "ok" and last[1] != "0":
+        yield "ok of class" if form == "ac" else "ok by value"
     elif word in (b"watch", b"writes", b"kept") and last[0] == "ok":
         yield "ok nothing" if last[1] == "0" else "ok some"
     else:
@@ -86,19 +88,23 @@ class AskingDraw(Draw):
         """Returns the words after `help`: none, the word of a line, or words that name no line."""
         return self.lots.pick([[], [self.lots.pick(list(FORMS))], ["helping"], ["path", "-"]])
 
+    def held_word(self):
+        """Returns a word for a value of a slot."""
+        held = [str(word) for _, thing in self.state.objects() for word in thing.words[-1:]]
+        return self.lots.pick(["null", "0", "7", self.identifier(), *held[-9:]])
+
     def ask(self):
         """Asks a question, or for help."""
         word = self.lots.pick([*QUESTIONS, b"help"])
-        draws = {"a": self.moment, "i": self.identifier, "c": self.asked_class}
+        draws = {"a": self.moment, "i": self.identifier, "c": self.asked_class, "v": self.held_word}
         draws["n"] = lambda: self.lots.near(self.lots.below(8), 70)
-        forms = "" if word == b"help" else QUESTIONS[word]
-        forms, may_be_left_out, rest = forms.partition("?")
+        form = "" if word == b"help" else self.lots.pick(QUESTIONS[word].split("|"))
+        begin, may_be_left_out, rest = form.partition("?")
         left_out = bool(may_be_left_out) and self.lots.once_in(4)
-        forms += rest[left_out:]
-        words = self.help_words() if word == b"help" else [draws[form]() for form in forms]
+        words = self.help_words() if word == b"help" else [draws[sort]() for sort in begin + rest[left_out:]]
         accepted = self.say(word.decode(), *words)
         last = self.lines[-1][1].split(b"\n")[-2].decode().split()
-        for sort in sorts(word, left_out, last):
+        for sort in sorts(word, form, left_out, last):
             self.machine.sights.met[f"{word.decode()}: {sort}"] += 1
         return accepted
 

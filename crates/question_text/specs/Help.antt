@@ -33,7 +33,7 @@ question_forms =
     ∷ form_of (codes "watch") (codes "watch ID SLOT") (codes "watch 0x10000020 1")
     ∷ form_of (codes "writes") (codes "writes CLASS SLOT") (codes "writes 0 1")
     ∷ form_of (codes "dropped") (codes "dropped ID") (codes "dropped 0x10000020")
-    ∷ form_of (codes "history") (codes "history N") (codes "history 10")
+    ∷ form_of (codes "history") (codes "history [@PLACE] N") (codes "history 10")
     ∷ form_of (codes "pins") (codes "pins") (codes "pins")
     ∷ form_of (codes "cells") (codes "cells") (codes "cells")
     ∷ form_of (codes "regions") (codes "regions") (codes "regions")

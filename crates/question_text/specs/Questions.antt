@@ -72,6 +72,21 @@ id_and_number ws =
     option_and_then (λ x. option_and_then (λ n. at_end (x.0, n.0) n.1) (next_number x.1))
     (next_id ws)
 
+-- the place of a state: none for the current one; a pin may keep a state that the retained steps don't lead to
+abbrev pub place_of : At → Option (Option ℕ)
+place_of Current = Some None
+place_of (Place place) = Some (Some place)
+place_of (Pin pin) = None
+
+-- the place and the number that the words name; without a place it is that of the current state
+abbrev pub place_and_number : List (List ℕ) → Option (Option ℕ × ℕ)
+place_and_number [] = None
+place_and_number (w ∷ []) = option_map (λ n. (None, n)) (number_of_word w)
+place_and_number (w ∷ v ∷ ws) =
+    option_and_then
+    (λ at. option_and_then (λ to. option_and_then (λ n. at_end (to, n) ws) (number_of_word v)) (place_of at))
+    (at_of_word w)
+
 -- the word of a slot that a word tells: an id, `null` or a number
 unfoldable pub value_of_word : List ℕ → Option ℕ
 value_of_word w =
@@ -115,7 +130,7 @@ past_rules =
     ∷ (codes "cells", λ ws. at_end Cells ws)
     ∷ (codes "regions", λ ws. at_end Regions ws)
     ∷ (codes "status", λ ws. at_end Status ws)
-    ∷ (codes "history", λ ws. option_map (λ n. History n) (one_number ws))
+    ∷ (codes "history", λ ws. option_map (λ a. History a.0 a.1) (place_and_number ws))
     ∷ (codes "wrote", λ ws. option_map (λ a. Wrote a.0 a.1) (id_and_number ws))
     ∷ (codes "watch", λ ws. option_map (λ a. Watch a.0 a.1) (id_and_number ws))
     ∷ (codes "writes", λ ws. option_map (λ a. Writes a.0 a.1) (two_numbers ws))

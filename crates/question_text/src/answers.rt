@@ -227,7 +227,7 @@ pub fn answer(alloc: Global, machine: &Machine, acts: Option<u64>, question: Que
         Question::Watch { id, slot } => line_answer(watch_answer(alloc, machine, id, slot)),
         Question::Writes { class, slot } => line_answer(writes_answer(alloc, machine, class, slot)),
         Question::Dropped(id) => dropped_answer(alloc, machine, id),
-        Question::History(count) => line_answer(history_answer(alloc, machine, count)),
+        Question::History { to, count } => line_answer(history_answer(alloc, machine, to, count)),
         Question::Pins => line_answer(pins_answer(alloc, machine)),
         Question::Cells => line_answer(cells_answer(alloc, machine)),
         Question::Regions => line_answer(regions_answer(alloc, machine)),

@@ -88,11 +88,12 @@ audit: ## has 18 threads act for SECONDS seconds, and audits their receipts
 	SECONDS=$(SECONDS) python3 bench/audit.py
 
 # Where `make install` puts things: below DESTDIR if that is given. Documents, examples and the clients lie in DOCDIR as they
-# do here, so that the documents' commands work there; `bin/heapdbg` is then `heapdbg`. examples/leak.py needs the checks.
+# do here, so that the documents' commands work there; `bin/heapdbg` is then `heapdbg`. The scripts of HUNT's files need the checks.
 PREFIX ?= /usr/local
 VERSION := $(shell sed -n 's/.*VERSION: &str = "\(.*\)";/\1/p' crates/heapdbg_options/src/refusal.rt)
 PAGES := README.md CHANGES.md $(wildcard docs/*.md) clients/python/README.md clients/c/README.md
-EXAMPLES := $(filter-out examples/leak.py,$(wildcard examples/*.*))
+STORIES := $(patsubst %,examples/%.py,leak orders services)
+EXAMPLES := $(filter-out $(STORIES),$(wildcard examples/*.*))
 CLIENT := $(wildcard clients/python/*.py clients/python/*.toml clients/python/heapdbg/*.py) clients/python/heapdbg/py.typed $(wildcard clients/c/*.h clients/c/*.c)
 BINDIR = $(DESTDIR)$(PREFIX)/bin
 MANDIR = $(DESTDIR)$(PREFIX)/share/man/man1

@@ -18,7 +18,7 @@ undo_size-requires c =
     let t = c.args.machine.now.trail in
     let n = c.loop-n.n in
     let left = c.record_ago.result.now in
-    let r = has_record c.args.machine.now.keep t n left c.place.ensures.trail c.record_ago.ensures in
+    let r = has_record c.args.machine.now.keep t n left c.place-place.ensures.trail c.record_ago.ensures in
     reclaimed_within left r.0 (state_ago (n + 1) t) (state_ago n t) c.loop-n.sizes.items r.1 c.loop-n.invariant
 
 pub loop-n-preserved : goal.loop-n-preserved
@@ -26,5 +26,5 @@ loop-n-preserved c =
     let t = c.args.machine.now.trail in
     let n = c.loop-n.n in
     let left = c.record_ago.result.now in
-    let r = has_record c.args.machine.now.keep t n left c.place.ensures.trail c.record_ago.ensures in
+    let r = has_record c.args.machine.now.keep t n left c.place-place.ensures.trail c.record_ago.ensures in
     subst (AreCellSizes (state_ago (n + 1) t)) (sym c.undo_size.ensures) (sizes_step left r.0 (state_ago (n + 1) t) (state_ago n t) c.loop-n.sizes.items r.1 c.loop-n.invariant)

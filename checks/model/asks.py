@@ -1,4 +1,6 @@
 """Sessions at random with questions among their lines."""
+from re import findall
+
 from draws import Draw
 from heap import FIRST_OBJECT, REGION_WORDS
 from questions import FORMS, QUESTIONS, Asking
@@ -12,6 +14,8 @@ WANTED = {
     "kept": ("ok nothing", "ok some", *ABOUT_A_MOMENT[1:]),
     "path": (*ABOUT_A_MOMENT, "no 27", "no 28"),
     "retained": ("ok nothing", "ok itself", "ok more", "ok without AT", "no 22", "no 23", "no 24", "no 28"),
+    "dominators": ("ok nothing", "ok some", "ok some of them", "ok without AT", "no 22", "no 23"),
+    "dominator": ("ok nothing", "ok some", "ok without AT", "no 23", "no 27", "no 28"),
     "referrers": (*ABOUT_A_MOMENT, "no 28"),
     "registers": ABOUT_A_MOMENT,
     "classes": ABOUT_A_MOMENT,
@@ -34,14 +38,16 @@ WANTED = {
 LEAST = 3
 
 
-def sorts(word, left_out, last):
-    """Yields of what sorts an answer is, by its question, whether a moment was left out, and the words of its last line."""
+def sorts(word, left_out, has_number, last):
+    """Yields of what sorts an answer is, by its question, whether a moment was left out and a number wasn't, and its last line."""
     if left_out and last[0] == "ok":
         yield "ok without AT"
     if word == b"retained" and last[0] == "ok":
         yield "ok " + {"0": "nothing", "1": "itself"}.get(last[1], "more")
-    elif word in (b"watch", b"writes", b"kept") and last[0] == "ok":
+    elif word in (b"watch", b"writes", b"kept", b"dominators", b"dominator") and last[0] == "ok":
         yield "ok nothing" if last[1] == "0" else "ok some"
+        if has_number and last[1] != "0":
+            yield "ok some of them"
     else:
         yield " ".join(last[:2]) if last[0] == "no" or last[1:2] in (["place"], ["older"], ["reached"]) else last[0]
 
@@ -92,13 +98,14 @@ class AskingDraw(Draw):
         draws = {"a": self.moment, "i": self.identifier, "c": self.asked_class}
         draws["n"] = lambda: self.lots.near(self.lots.below(8), 70)
         forms = "" if word == b"help" else QUESTIONS[word]
-        forms, may_be_left_out, rest = forms.partition("?")
-        left_out = bool(may_be_left_out) and self.lots.once_in(4)
-        forms += rest[left_out:]
+        parts = findall(r"\??.", forms)
+        forms = [part[-1] for part in parts if part[0] != "?" or not self.lots.once_in(4)]
+        left_out = "?a" in parts and forms.count("a") < sum("a" in part for part in parts)
+        has_number = "?n" in parts and "n" in forms
         words = self.help_words() if word == b"help" else [draws[form]() for form in forms]
         accepted = self.say(word.decode(), *words)
         last = self.lines[-1][1].split(b"\n")[-2].decode().split()
-        for sort in sorts(word, left_out, last):
+        for sort in sorts(word, left_out, has_number, last):
             self.machine.sights.met[f"{word.decode()}: {sort}"] += 1
         return accepted
 

@@ -216,6 +216,10 @@ class Columns(unittest.TestCase):
         self.assertEqual((row.objects, row.bytes, row.class_name), (3, 48, "Node"))
         (row,) = self.asked(lambda heap: heap.retained(None, 16), "row 3 48 Node", "ok 3 48")
         self.assertEqual((row.objects, row.bytes, row.class_name), (3, 48, "Node"))
+        (row,) = self.asked(lambda heap: heap.dominators(Pin(1), 5), "row 0x00000010 3 48 0x7", "ok 1")
+        self.assertEqual((row.id, row.objects, row.bytes, row.class_name), (16, 3, 48, "0x7"))
+        (row,) = self.asked(lambda heap: heap.dominator(None, 32), "row 0x00000010 null", "ok 1")
+        self.assertEqual((row.id, row.class_name), (16, "null"))
         (row,) = self.asked(lambda heap: heap.growth(Place(1)), "row Node 1 16 2 32", "ok 1")
         self.assertEqual((row.class_name, row.old_objects, row.old_bytes, row.new_objects, row.new_bytes), ("Node", 1, 16, 2, 32))
 

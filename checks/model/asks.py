@@ -45,7 +45,7 @@ def sorts(word, form, words, left_out, last):
         yield "ok without AT"
     if word == b"retained" and last[0] == "ok":
         yield "ok " + {"0": "nothing", "1": "itself"}.get(last[1], "more")
-    elif word == b"history" and words[0].startswith("@") and last[0] == "ok":
+    elif word == b"history" and str(words[0]).startswith("@") and last[0] == "ok":
         yield "ok up to a place"
     elif word == b"objects" and "".join(form) in ("ac", "acnv") and last[0] == "ok" and last[1] != "0":
         yield "ok of class" if len(form) == 2 else "ok by value"

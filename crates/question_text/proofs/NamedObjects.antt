@@ -10,6 +10,7 @@ use Rattle.hprof_text.specs.Image.{DumpedObject, Image, IsDumpable, IsKnown}
 use Rattle.heap_questions.specs.Graph.{object_with}
 use Rattle.heap_questions.specs.ObjectLists.{AreObjectsWanted, listed_object, objects_wanted}
 use Rattle.heap_questions.specs.Registers.{object_named}
+use Rattle.heap_questions.specs.Wanted.{is_wanted}
 use Rattle.heap_questions.specs.declared.wanted.Wanted.{Wanted}
 use Rattle.heap_questions.specs.declared.object_list.ListedObject.{ListedObject}
 use Rattle.question_text.specs.Names.{IsClassThere}
@@ -60,4 +61,4 @@ pub all_listed_there : (wanted : Wanted) (image : Image) (all : List ListedObjec
 all_listed_there wanted image all d is =
     let these = objects_wanted wanted image in
     All-from_recursion (IsListedThere image.classes) all
-    (subst (λ (l : List ListedObject). AllByRecursion (IsListedThere image.classes) l) (sym is.2) (listed_there image.classes is.0 these (recursion_from_All (IsThere image.classes) these (All-filter (IsThere image.classes) image.objects d.known))))
+    (subst (λ (l : List ListedObject). AllByRecursion (IsListedThere image.classes) l) (sym is.2) (listed_there image.classes is.0 these (recursion_from_All (IsThere image.classes) these (All-filter (λ o. is_wanted wanted o.kind o.words) (IsThere image.classes) image.objects d.known))))

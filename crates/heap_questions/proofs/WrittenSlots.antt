@@ -1,13 +1,13 @@
 -- The writes of a slot of all objects of a class, one retained step more at a time.
-use Rattle.std.proofs.Common.{◌≡◌, ◌≢◌, ℕ, zero, suc, ◌+◌, ◌-◌, ◌<◌, Bool, true, false, cond, List, [], ◌∷◌, ◌++◌, length, Option, Some, None, refl, sym, ap, ap₂, ◌∙◌, subst, inl, inr, arith, add-one}
+use Rattle.std.proofs.Common.{◌≡◌, ◌≢◌, ℕ, ◌+◌, ◌-◌, ◌<◌, Bool, true, false, cond, List, [], ◌∷◌, ◌++◌, length, Option, Some, None, refl, sym, ap, ap₂, ◌∙◌, subst, inl, inr, arith, add-one}
 use Rattle.std.specs.Prelude.{IsSome, IfSome, is_some, not, reverse, ◌==◌, ◌&&◌, option_and_then, slice_get, slice_index_or, unwrap_or}
-use Rattle.std.proofs.lemmas.Bool.{cases_Bool, cases_eq, eq-eqb, eqb-true, ne_eqb, and_parts, false≢true, true≢false}
+use Rattle.std.proofs.lemmas.Bool.{cases_Bool, eq-eqb, eqb-true, ne_eqb, and_parts, false≢true, true≢false}
 use Rattle.std.proofs.lemmas.Bool.Decides.{when_true}
 use Rattle.std.proofs.lemmas.List.{reverse-append}
 use Rattle.std.proofs.lemmas.Option.{none-some, same_Some, slice_get-get_or}
 use Rattle.heap_class.specs.declared.ObjKind.TheVariants.{Instance}
 use Rattle.heap_class.specs.declared.ObjRef.{ObjRef}
-use Rattle.heap_region.specs.Regions.{Object, Region, id_of, object_at, with_word}
+use Rattle.heap_region.specs.Regions.{Object, id_of, object_at, with_word}
 use Rattle.heap_world.specs.State.{HeapState}
 use Rattle.heap_step.specs.declared.Event.{Event}
 use Rattle.heap_step.specs.declared.Undo.{Undo}
@@ -30,7 +30,8 @@ use Rattle.heap_trail.proofs.RetainedRecords.{HasRecord}
 use Rattle.heap_questions.specs.declared.past.writes.SlotWrite.{SlotWrite}
 use Rattle.heap_questions.specs.Changes.{made_by, slot_word}
 use Rattle.heap_questions.specs.SlotChanges.{word_before}
-use Rattle.heap_questions.specs.SlotWrites.{AreLastWrites, AreWritesAgo, IsSlotWrite, SeesObject, SeesOverwritten, before_others, changing_write, is_of_class, overwritten, seen_object, write_by}
+use Rattle.heap_questions.specs.Wanted.{is_of_class}
+use Rattle.heap_questions.specs.SlotWrites.{AreLastWrites, AreWritesAgo, IsSlotWrite, SeesObject, SeesOverwritten, before_others, changing_write, overwritten, seen_object, write_by}
 use Rattle.heap_questions.proofs.ChangedSlots.{before_is}
 use Rattle.heap_questions.proofs.Walk.{slot_there}
 use Rattle.heap_questions.proofs.Writes.{record_makes, same_place, written_here}

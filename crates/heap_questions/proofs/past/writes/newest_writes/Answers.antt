@@ -1,10 +1,9 @@
-use Rattle.std.proofs.Common.{◌≡◌, ℕ, ◌+◌, ◌-◌, ◌<◌, List, ◌++◌, [], length, refl, sym, ap, ◌∙◌, subst, arith}
+use Rattle.std.proofs.Common.{◌≡◌, ℕ, ◌-◌, ◌<◌, sym, ap, subst, arith}
 use Rattle.std.specs.Prelude.{reverse}
 use Rattle.heap_trail.specs.Trail.{retained}
 use Rattle.heap_trail.proofs.RetainedRecords.{has_record}
-use Rattle.heap_questions.specs.declared.past.writes.SlotWrite.{SlotWrite}
 use Rattle.heap_questions.specs.SlotWrites.{AreLastWrites, AreWritesAgo}
-use Rattle.heap_questions.proofs.WrittenSlots.{AreNewest, can_walk, one_write_more, opened, sees_written, walked_one, writes_ago}
+use Rattle.heap_questions.proofs.WrittenSlots.{can_walk, one_write_more, opened, sees_written, walked_one, writes_ago}
 use Rattle.heap_questions.proofs.past.writes.newest_writes.Goals as goal
 
 pub loop-n-init : goal.loop-n-init

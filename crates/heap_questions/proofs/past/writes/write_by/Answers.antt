@@ -1,4 +1,4 @@
-use Rattle.std.proofs.Common.{◌≡◌, sym, ◌∙◌}
+use Rattle.std.proofs.Common.{sym, ◌∙◌}
 use Rattle.heap_questions.proofs.past.writes.write_by.Goals as goal
 
 pub changing_write-requires : goal.changing_write-requires

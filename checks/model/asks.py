@@ -45,7 +45,7 @@ def sorts(word, form, words, left_out, last):
         yield "ok without AT"
     if word == b"retained" and last[0] == "ok":
         yield "ok " + {"0": "nothing", "1": "itself"}.get(last[1], "more")
-    elif word == b"history" and words[0].startswith("@") and last[0] == "ok":
+    elif word == b"history" and str(words[0]).startswith("@") and last[0] == "ok":
         yield "ok up to a place"
     elif word == b"objects" and form in ("ac", "acnv") and last[0] == "ok" and last[1] != "0":
         yield "ok of class" if form == "ac" else "ok by value"
@@ -115,8 +115,9 @@ class AskingDraw(Draw):
         draws["n"] = lambda: self.lots.near(self.lots.below(8), 70)
         form = "" if word == b"help" else self.lots.pick(QUESTIONS[word].split("|"))
         parts = findall(r"\??.", form)
-        form = "".join(part[-1] for part in parts if part[0] != "?" or not self.lots.once_in(4))
-        left_out = "?a" in parts and form.count("a") < sum("a" in part for part in parts)
+        kept = [part for part in parts if part[0] != "?" or not self.lots.once_in(4)]
+        form = "".join(part[-1] for part in kept)
+        left_out = any(part in ("?a", "?p") for part in parts if part not in kept)
         words = self.help_words() if word == b"help" else [draws[sort]() for sort in form]
         accepted = self.say(word.decode(), *words)
         last = self.lines[-1][1].split(b"\n")[-2].decode().split()

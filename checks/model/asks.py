@@ -47,11 +47,11 @@ def sorts(word, form, words, left_out, last):
         yield "ok " + {"0": "nothing", "1": "itself"}.get(last[1], "more")
     elif word == b"history" and str(words[0]).startswith("@") and last[0] == "ok":
         yield "ok up to a place"
-    elif word == b"objects" and "".join(form) in ("ac", "acnv") and last[0] == "ok" and last[1] != "0":
-        yield "ok of class" if len(form) == 2 else "ok by value"
+    elif word == b"objects" and form in ("ac", "acnv") and last[0] == "ok" and last[1] != "0":
+        yield "ok of class" if form == "ac" else "ok by value"
     elif word in (b"watch", b"writes", b"kept", b"dominators", b"dominator") and last[0] == "ok":
         yield "ok nothing" if last[1] == "0" else "ok some"
-        if word == b"dominators" and "n" in form and last[1] != "0":
+        if word == b"dominators" and form.endswith("n") and last[1] != "0":
             yield "ok some of them"
     else:
         yield " ".join(last[:2]) if last[0] == "no" or last[1:2] in (["place"], ["older"], ["reached"]) else last[0]
@@ -115,12 +115,13 @@ class AskingDraw(Draw):
         draws["n"] = lambda: self.lots.near(self.lots.below(8), 70)
         form = "" if word == b"help" else self.lots.pick(QUESTIONS[word].split("|"))
         parts = findall(r"\??.", form)
-        sent = [part[-1] for part in parts if part[0] != "?" or not self.lots.once_in(4)]
-        left_out = "?a" in parts and sent.count("a") < sum("a" in part for part in parts) or "?p" in parts and "p" not in sent
-        words = self.help_words() if word == b"help" else [draws[sort]() for sort in sent]
+        kept = [part for part in parts if part[0] != "?" or not self.lots.once_in(4)]
+        form = "".join(part[-1] for part in kept)
+        left_out = any(part in ("?a", "?p") for part in parts if part not in kept)
+        words = self.help_words() if word == b"help" else [draws[sort]() for sort in form]
         accepted = self.say(word.decode(), *words)
         last = self.lines[-1][1].split(b"\n")[-2].decode().split()
-        for sort in sorts(word, sent, words, left_out, last):
+        for sort in sorts(word, form, words, left_out, last):
             self.machine.sights.met[f"{word.decode()}: {sort}"] += 1
         return accepted
 

@@ -498,6 +498,10 @@ class Names(unittest.TestCase):
             self.assertEqual(heap.garbage(), [(1, 12, "0xyz")])
             self.assertEqual((heap.retained(None, ids[2]), heap.retained("@16", ids[2])), ([], [(1, 12, "0xyz")]))
             self.assertEqual(heap.history(1), [(17, "reg", 0, 2, ids[2])])
+            self.assertEqual(heap.history(1, Place(16)), [(16, "new", ids[7], 0, 7, None)])
+            self.assertEqual(heap.objects(None, 2), [(ids[2], "0xyz", 2, True)])
+            self.assertEqual(heap.objects(Place(16), 2, 0, 0), [(ids[2], "0xyz", 2, False)])
+            self.assertEqual([heap.objects(None, 2, 0, value) for value in (1, ids[3])], [[], []])
             self.assertEqual(heap.path(None, ids[3]), [(0, 3, ids[3])])
             self.assertEqual(heap.referrers(None, ids[3]), [(0, 3)])
             with self.assertRaises(Refused) as caught:

@@ -265,9 +265,10 @@ class Calls:
         ("older", P)."""
         return self.send(f"dropped {ObjectId(of)}", place_or_older)
 
-    def history(self, count: int, place: Optional[int] = None) -> list[PastStep]:
-        """Returns a `PastStep` for each of the newest retained steps, the newest first."""
-        return self.send(f"history {count}" if place is None else f"history @{place} {count}", rows_by(past))
+    def history(self, count: int, moment: Moment = None) -> list[PastStep]:
+        """Returns a `PastStep` for each of the newest retained steps, or of those that led to a `Place`, the newest first. A pin has
+        no history."""
+        return self.send(f"history {word_of_moment(moment)} {count}", rows_by(past))
 
     def pins(self) -> list[Union[HeldPin, LostPin]]:
         """Returns a `HeldPin` or a `LostPin` for each open pin."""

@@ -8,10 +8,10 @@ use Rattle.heap_server.proofs.ahead.fill.Goals as goal
 
 pub returns-then-is_some : goal.returns-then-is_some
 returns-then-is_some g c =
-    let size : length (take (c.loop-end.end + c.in-Got.n) c.read_more.new.room) ≡ c.loop-end.end + c.in-Got.n = length-take-le (c.loop-end.end + c.in-Got.n) c.read_more.new.room c.in-Got.ensures.fits in
+    let size : length (take (c.loop-most.end + c.in-Got.n) c.read_more.new.room) ≡ c.loop-most.end + c.in-Got.n = length-take-le (c.loop-most.end + c.in-Got.n) c.read_more.new.room c.in-Got.ensures.fits in
     record {
-      ahead = line_came c.args.most c.line_end.result (take c.loop-end.end c.loop-end.room) (take (c.loop-end.end + c.in-Got.n) c.read_more.new.room) c.loop-end.end (vec_len c.loop-end.sizes) c.in-Got.n
-          (g.I.Inlet.seen c.args.inlet.now) (g.I.Inlet.seen c.loop-end.inlet) (g.I.Inlet.seen c.read_more.new.inlet) c.loop-end.invariant.0 c.in-Got.ensures.read c.line_end.ensures
+      ahead = line_came c.args.most c.line_end.result (take c.loop-most.end c.loop-most.room) (take (c.loop-most.end + c.in-Got.n) c.read_more.new.room) c.loop-most.end (vec_len c.loop-most.sizes) c.in-Got.n
+          (g.I.Inlet.seen c.args.inlet.now) (g.I.Inlet.seen c.loop-most.inlet) (g.I.Inlet.seen c.read_more.new.inlet) c.loop-most.invariant.0 c.in-Got.ensures.read c.line_end.ensures
           (elim c.then-is_some.branch [
             | then-is_some-via-then-is_some w ↦ inl (sym c.is_some.ensures ∙ w.if-is_some.true)
             | then-is_some-via-else-is_some+then-end-most w ↦ inr (omega (arith, size, w.if-end-most.true))
@@ -20,29 +20,29 @@ returns-then-is_some g c =
 
 pub returns-in-End : goal.returns-in-End
 returns-in-End g c =
-    let none : c.loop-end.end + 0 ≡ c.loop-end.end = omega arith in
+    let none : c.loop-most.end + 0 ≡ c.loop-most.end = omega arith in
     record {
-      ahead = end_came c.args.most (take c.loop-end.end c.loop-end.room) (take c.loop-end.end c.read_more.new.room) c.loop-end.end (vec_len c.loop-end.sizes)
-          (g.I.Inlet.seen c.args.inlet.now) (g.I.Inlet.seen c.loop-end.inlet) (g.I.Inlet.seen c.read_more.new.inlet) c.loop-end.invariant.0
-          (subst (λ k. IsInletRead (take c.loop-end.end c.loop-end.room) (take k c.read_more.new.room) (g.I.Inlet.seen c.loop-end.inlet) (g.I.Inlet.seen c.read_more.new.inlet) End) none c.in-End.ensures.read);
+      ahead = end_came c.args.most (take c.loop-most.end c.loop-most.room) (take c.loop-most.end c.read_more.new.room) c.loop-most.end (vec_len c.loop-most.sizes)
+          (g.I.Inlet.seen c.args.inlet.now) (g.I.Inlet.seen c.loop-most.inlet) (g.I.Inlet.seen c.read_more.new.inlet) c.loop-most.invariant.0
+          (subst (λ k. IsInletRead (take c.loop-most.end c.loop-most.room) (take k c.read_more.new.room) (g.I.Inlet.seen c.loop-most.inlet) (g.I.Inlet.seen c.read_more.new.inlet) End) none c.in-End.ensures.read);
     }
 
 pub returns-in-Failed : goal.returns-in-Failed
 returns-in-Failed g c =
-    let none : c.loop-end.end + 0 ≡ c.loop-end.end = omega arith in
+    let none : c.loop-most.end + 0 ≡ c.loop-most.end = omega arith in
     record {
-      ahead = fault_came c.args.most (take c.loop-end.end c.loop-end.room) (take c.loop-end.end c.read_more.new.room) c.loop-end.end (vec_len c.loop-end.sizes)
-          (g.I.Inlet.seen c.args.inlet.now) (g.I.Inlet.seen c.loop-end.inlet) (g.I.Inlet.seen c.read_more.new.inlet) c.loop-end.invariant.0
-          (subst (λ k. IsInletRead (take c.loop-end.end c.loop-end.room) (take k c.read_more.new.room) (g.I.Inlet.seen c.loop-end.inlet) (g.I.Inlet.seen c.read_more.new.inlet) Failed) none c.in-Failed.ensures.read);
+      ahead = fault_came c.args.most (take c.loop-most.end c.loop-most.room) (take c.loop-most.end c.read_more.new.room) c.loop-most.end (vec_len c.loop-most.sizes)
+          (g.I.Inlet.seen c.args.inlet.now) (g.I.Inlet.seen c.loop-most.inlet) (g.I.Inlet.seen c.read_more.new.inlet) c.loop-most.invariant.0
+          (subst (λ k. IsInletRead (take c.loop-most.end c.loop-most.room) (take k c.read_more.new.room) (g.I.Inlet.seen c.loop-most.inlet) (g.I.Inlet.seen c.read_more.new.inlet) Failed) none c.in-Failed.ensures.read);
     }
 
-pub loop-end-preserved : goal.loop-end-preserved
-loop-end-preserved g c =
-    let was : length (take c.loop-end.end c.loop-end.room) ≡ c.loop-end.end = length-take-le c.loop-end.end c.loop-end.room (omega (arith, c.loop-end.invariant.0.most, c.requires.room, c.loop-end.auto.room)) in
-    let size : length (take (c.loop-end.end + c.in-Got.n) c.read_more.new.room) ≡ c.loop-end.end + c.in-Got.n = length-take-le (c.loop-end.end + c.in-Got.n) c.read_more.new.room c.in-Got.ensures.fits in
-    let n : vec_len c.push_reserved.new.self ≡ vec_len c.loop-end.sizes + 1 = omega (arith, c.push_reserved.ensures.len) in
-    let goes = reading_goes c.args.most (take c.loop-end.end c.loop-end.room) (take (c.loop-end.end + c.in-Got.n) c.read_more.new.room) c.loop-end.end (vec_len c.loop-end.sizes) c.in-Got.n
-    (g.I.Inlet.seen c.args.inlet.now) (g.I.Inlet.seen c.loop-end.inlet) (g.I.Inlet.seen c.read_more.new.inlet) c.loop-end.invariant.0 c.in-Got.ensures.read
-    (grew (take c.loop-end.end c.loop-end.room) (take (c.loop-end.end + c.in-Got.n) c.read_more.new.room) c.loop-end.end c.in-Got.n (g.I.Inlet.seen c.loop-end.inlet) (g.I.Inlet.seen c.read_more.new.inlet) c.in-Got.ensures.read was size)
+pub loop-most-preserved : goal.loop-most-preserved
+loop-most-preserved g c =
+    let was : length (take c.loop-most.end c.loop-most.room) ≡ c.loop-most.end = length-take-le c.loop-most.end c.loop-most.room (omega (arith, c.loop-most.invariant.0.most, c.requires.room, c.loop-most.auto.room)) in
+    let size : length (take (c.loop-most.end + c.in-Got.n) c.read_more.new.room) ≡ c.loop-most.end + c.in-Got.n = length-take-le (c.loop-most.end + c.in-Got.n) c.read_more.new.room c.in-Got.ensures.fits in
+    let n : vec_len c.push_reserved.new.self ≡ vec_len c.loop-most.sizes + 1 = omega (arith, c.push_reserved.ensures.len) in
+    let goes = reading_goes c.args.most (take c.loop-most.end c.loop-most.room) (take (c.loop-most.end + c.in-Got.n) c.read_more.new.room) c.loop-most.end (vec_len c.loop-most.sizes) c.in-Got.n
+    (g.I.Inlet.seen c.args.inlet.now) (g.I.Inlet.seen c.loop-most.inlet) (g.I.Inlet.seen c.read_more.new.inlet) c.loop-most.invariant.0 c.in-Got.ensures.read
+    (grew (take c.loop-most.end c.loop-most.room) (take (c.loop-most.end + c.in-Got.n) c.read_more.new.room) c.loop-most.end c.in-Got.n (g.I.Inlet.seen c.loop-most.inlet) (g.I.Inlet.seen c.read_more.new.inlet) c.in-Got.ensures.read was size)
     (omega (arith, c.if-end-most.false)) in
-    (subst (λ k. IsReading c.args.most (take (c.loop-end.end + c.in-Got.n) c.read_more.new.room) (c.loop-end.end + c.in-Got.n) k (g.I.Inlet.seen c.args.inlet.now) (g.I.Inlet.seen c.read_more.new.inlet)) (sym n) goes, search rules)
+    (subst (λ k. IsReading c.args.most (take (c.loop-most.end + c.in-Got.n) c.read_more.new.room) (c.loop-most.end + c.in-Got.n) k (g.I.Inlet.seen c.args.inlet.now) (g.I.Inlet.seen c.read_more.new.inlet)) (sym n) goes, search rules)

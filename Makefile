@@ -1,24 +1,27 @@
-# The commands of this repository. README says what each is for.
-.PHONY: run build prove test edits bench bench-lock page-test soak audit install uninstall dist
+# The commands of this repository. `make help` lists them.
+.PHONY: help run build prove test edits bench bench-lock page-test soak audit install uninstall dist
 
 # How many crates `make prove` checks side by side. Each takes up to 6 GB of memory.
 JOBS ?= 3
 
-run:
+run: ## runs the worked example, with nothing proved
 	@echo "The example runs as it stands, with nothing proved: make test proves it."
 	cd crates/heapdbg && rt try -- run < stdin
 
+help:
+	@sed -n 's/^\([a-z-]*\):[^#]*## \(.*\)/\1\t\2/p' Makefile | expand -t 12
+
 # Leaves the proved program in bin/.
-build: prove
+build: prove ## proves the program, and leaves it as bin/heapdbg
 	cd crates/heapdbg && rt run -- run < /dev/null
 	install -D crates/heapdbg/out/heapdbg bin/heapdbg
 
-prove:
+prove: ## proves all crates, JOBS at a time
 	rt all check --jobs $(JOBS)
 
 # The gate. What stands after `rt ci` prints nothing where all is well, and looks at the programs that it left. The first of them
 # becomes bin/heapdbg.
-test:
+test: ## runs the gate: proofs, wrong bodies, tests and checks of the program
 	@bash bench/dist.sh begin
 	cmp examples/point.session crates/heapdbg/stdin
 	python3 checks/edits.py fit
@@ -51,10 +54,10 @@ test:
 	@bash bench/dist.sh passed crates/heapdbg/out/heapdbg
 
 # Tries the edits that are not in the gate: of all crates, or of those that CRATE names.
-edits:
+edits: ## tries the wrong bodies that are not in the gate (CRATE=NAME: of one crate)
 	python3 checks/edits.py try $(CRATE)
 
-bench: build
+bench: build ## measures times
 	bash bench/lines.sh
 	python3 bench/page.py bin/heapdbg
 	python3 bench/large.py bin/heapdbg
@@ -62,13 +65,13 @@ bench: build
 
 # Looks at the page in Chromium, which it installs where it is missing and apt-get is there. PROGRAM is the program that serves it.
 PROGRAM ?= bin/heapdbg
-page-test:
+page-test: ## looks at the page in Chromium
 	@for each in chromium chromium-browser google-chrome google-chrome-stable; do command -v $$each > /dev/null && exit; done; \
 	    if command -v apt-get > /dev/null; then apt-get update > /dev/null && DEBIAN_FRONTEND=noninteractive apt-get install -y chromium > /dev/null; fi
 	python3 checks/page $(PROGRAM)
 
 # What acts under the lock cost. Builds a program of its own in a temporary folder.
-bench-lock:
+bench-lock: ## measures acts under the lock
 	python3 bench/lock.py
 
 # How many clients `make soak` has, and how many seconds each of its parts takes.
@@ -76,20 +79,21 @@ CLIENTS ?= 8
 SECONDS ?= 600
 
 # Has clients work on one served heap, and then honest clients beside hostile ones. It needs bin/heapdbg.
-soak:
+soak: ## has CLIENTS clients work for SECONDS seconds, and hostile ones beside them
 	CLIENTS=$(CLIENTS) SECONDS=$(SECONDS) python3 bench/soak.py bin/heapdbg
 	SECONDS=$(SECONDS) python3 bench/hostile.py bin/heapdbg
 
 # Has 16 threads, a marker and a sweeper act on a heap under its lock, and their receipts audited. Builds a program of its own in a temporary folder.
-audit:
+audit: ## has 18 threads act for SECONDS seconds, and audits their receipts
 	SECONDS=$(SECONDS) python3 bench/audit.py
 
 # Where `make install` puts things: below DESTDIR if that is given. Documents, examples and the clients lie in DOCDIR as they
-# do here, so that the documents' commands work there; `bin/heapdbg` is then `heapdbg`. examples/leak.py needs the checks.
+# do here, so that the documents' commands work there; `bin/heapdbg` is then `heapdbg`. The scripts of HUNT's files need the checks.
 PREFIX ?= /usr/local
 VERSION := $(shell sed -n 's/.*VERSION: &str = "\(.*\)";/\1/p' crates/heapdbg_options/src/refusal.rt)
 PAGES := README.md CHANGES.md $(wildcard docs/*.md) clients/python/README.md clients/c/README.md
-EXAMPLES := $(filter-out examples/leak.py,$(wildcard examples/*.*))
+STORIES := $(patsubst %,examples/%.py,leak orders services)
+EXAMPLES := $(filter-out $(STORIES),$(wildcard examples/*.*))
 CLIENT := $(wildcard clients/python/*.py clients/python/*.toml clients/python/heapdbg/*.py) clients/python/heapdbg/py.typed $(wildcard clients/c/*.h clients/c/*.c)
 BINDIR = $(DESTDIR)$(PREFIX)/bin
 MANDIR = $(DESTDIR)$(PREFIX)/share/man/man1
@@ -98,7 +102,7 @@ DOCDIR = $(DESTDIR)$(PREFIX)/share/doc/heapdbg
 
 # Installs what `make build` or `make test` left: the program, the script beside it, its manual page, completions for bash, the
 # documents, the examples and the clients in Python and C.
-install:
+install: ## installs the program and all that belongs to it below PREFIX
 	install -D bin/heapdbg $(BINDIR)/heapdbg
 	install scripts/heapdbg-explore $(BINDIR)/heapdbg-explore
 	install -D -m 644 man/heapdbg.1 $(MANDIR)/heapdbg.1
@@ -106,10 +110,10 @@ install:
 	for each in $(PAGES) $(EXAMPLES) $(CLIENT); do install -D -m 644 $$each $(DOCDIR)/$$each || exit 1; done
 	cd $(DOCDIR) && sed -i 's:bin/heapdbg \([a-z]\):heapdbg \1:g' $(PAGES)
 
-uninstall:
+uninstall: ## removes what was installed
 	rm -f $(BINDIR)/heapdbg $(BINDIR)/heapdbg-explore $(MANDIR)/heapdbg.1 $(BASHDIR)/heapdbg
 	rm -rf $(DOCDIR)
 
 # Packs the same into dist/, with an account of the gate: only the program that passed it at this commit.
-dist:
+dist: ## packs the program that passed the gate
 	@bash bench/dist.sh pack $(VERSION)

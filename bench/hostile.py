@@ -26,6 +26,10 @@ import threading
 import time
 
 TOP = pathlib.Path(__file__).resolve().parent.parent
+sys.path.append(str(TOP / "checks"))
+
+from ports import free_port  # noqa: E402
+
 LIMIT = 20
 SEATS, HONEST, OBJECTS = 60, 2, 1000
 OPTIONS = ("--sessions", str(SEATS), "--stay", "1", "--idle", "2", "--questions", "1", "--workers", "1", "--mutators", str(HONEST + 1))
@@ -241,12 +245,6 @@ def memory(child):
     """Returns how many bytes of memory the program has."""
     found = re.search(r"VmRSS:\s+(\d+) kB", pathlib.Path(f"/proc/{child.pid}/status").read_text())
     return 1024 * int(found[1]) if found else 0
-
-
-def free_port():
-    """Returns a port that nobody listens on."""
-    with socket.create_server(("127.0.0.1", 0)) as server:
-        return server.getsockname()[1]
 
 
 def is_free(port):

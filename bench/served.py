@@ -17,6 +17,10 @@ import threading
 import time
 
 TOP = pathlib.Path(__file__).resolve().parent.parent
+sys.path.append(str(TOP / "checks"))
+
+from ports import free_ports  # noqa: E402
+
 NODES, MANY_NODES, PUTS, RUNS = 20_000, 60_000, 150_000, 5
 OPTIONS = ["--regions", "256", "--keep", "1"]
 
@@ -24,12 +28,6 @@ OPTIONS = ["--regions", "256", "--keep", "1"]
 def made(nodes):
     """Returns the lines that make a list of nodes."""
     return b"class Node - next:object v:long\n" + b"new 0 0 0\nstore 0 0 0 1\nmove 0 1 0 0\n" * nodes
-
-
-def free_ports():
-    """Returns two ports that nobody listens on."""
-    with socket.create_server(("127.0.0.1", 0)) as one, socket.create_server(("127.0.0.1", 0)) as other:
-        return one.getsockname()[1], other.getsockname()[1]
 
 
 def told(port, lines):
@@ -45,7 +43,7 @@ def told(port, lines):
 @contextlib.contextmanager
 def served(program, sessions, nodes):
     """Serves a heap with workers and dumps, on which one session has made the nodes. Gives its two ports."""
-    port, dumps = free_ports()
+    port, dumps = free_ports(2)
     words = [program, "serve", "--port", str(port), "--dumps", str(dumps), "--workers", "1", "--sessions", str(sessions), *OPTIONS]
     server = subprocess.Popen(words, stdout=subprocess.DEVNULL)
     while True:

@@ -29,9 +29,10 @@ import time
 import segments
 
 TOP = pathlib.Path(__file__).resolve().parent.parent
-sys.path.append(str(TOP / "clients/python"))
+sys.path += [str(TOP / "clients/python"), str(TOP / "checks")]
 
 from heapdbg import Ended, Refused, Session  # noqa: E402
+from ports import free_port  # noqa: E402
 
 CLIENTS = int(os.environ.get("CLIENTS") or 8)
 DUMPERS = int(os.environ.get("DUMPERS") or 2)
@@ -222,12 +223,6 @@ def memory(child):
     """Returns how many KiB of memory the program has."""
     found = re.search(r"VmRSS:\s+(\d+) kB", pathlib.Path(f"/proc/{child.pid}/status").read_text())
     return int(found[1]) if found else 0
-
-
-def free_port():
-    """Returns a port that nobody listens on."""
-    with socket.create_server(("127.0.0.1", 0)) as server:
-        return server.getsockname()[1]
 
 
 def connected(port):

@@ -21,6 +21,8 @@ import sys
 import tempfile
 import time
 
+from ports import free_port, free_ports
+
 ADDRESS = re.compile(rb"heapdbg: page http://\S+\n")
 SOURCE = pathlib.Path(__file__).resolve().parent / "refuse.c"
 LIMIT = 2000
@@ -192,8 +194,7 @@ def served(program, library, number, clients, tries=3):
     before the first sends its lines, and each of the others sends its own once the one before was answered. Returns status,
     the words of the sessions, what each client was answered, and standard error; no words and no answers if nothing was
     listened to."""
-    with socket.create_server(("127.0.0.1", 0)) as found:
-        port = found.getsockname()[1]
+    port = free_port()
     words = [program, "serve", "--port", str(port), "--sessions", str(len(clients)), "--regions", "2"]
     variables = {"LD_PRELOAD": library, "REFUSED": str(number)}
     answers = []
@@ -214,13 +215,6 @@ def served(program, library, number, clients, tries=3):
 def joined(answers):
     """Returns the replies to several clients, in order."""
     return [reply for client in answers for reply in client]
-
-
-def free_ports(count):
-    """Returns ports that nobody listens on."""
-    with contextlib.ExitStack() as opened:
-        found = [opened.enter_context(socket.create_server(("127.0.0.1", 0))) for _ in range(count)]
-        return [server.getsockname()[1] for server in found]
 
 
 def tended(program, library, number, clients, regions, tries=3):
@@ -432,8 +426,7 @@ def sizes_of_run(command, library, given):
 
 def sizes_of_server(program, library, words, clients):
     """Returns the sizes of the requests that a server of these clients makes, one after another."""
-    with socket.create_server(("127.0.0.1", 0)) as found:
-        port = found.getsockname()[1]
+    port = free_port()
     with tempfile.NamedTemporaryFile() as sizes:
         variables = {"LD_PRELOAD": library, "SIZES": sizes.name}
         command = [program, "serve", "--port", str(port), "--sessions", str(len(clients)), *words]
@@ -570,7 +563,7 @@ def main(heapdbg, verbose=False):
         for name, text in SESSIONS.items():
             lines = words_of(text)
             good = told(name, wrong_sessions(command, library, lines), verbose) and good
-            good = told(f"{name}, beside a page", wrong_sessions([*beside, str(free_ports(1)[0])], library, lines, 6), verbose) and good
+            good = told(f"{name}, beside a page", wrong_sessions([*beside, str(free_port())], library, lines, 6), verbose) and good
             good = told(f"{name}, saved", wrong_saves(program, library, lines), verbose) and good
             good = told(f"{name}, acts", wrong_acts(program, library, lines), verbose) and good
             good = told(f"{name}, served", wrong_servers(program, library, lines, SECOND), verbose) and good

@@ -1,9 +1,9 @@
 #!/usr/bin/env python3
-"""Runs the leak hunt of docs/HUNT.md on the built program and on the model, and compares what comes with what the page says.
+"""Runs the hunts of docs/HUNT.md on the built program and on the model, and compares what comes with what the page says.
 
 Usage: checks/hunt.py [PROGRAM ..]
-In the page's blocks a line behind `> ` is given to `heapdbg explore`; the lines after it are what it must be answered, where
-`..` stands for any lines. Prints a line for each difference and ends with status 1 if there is one."""
+Each hunt explores a file. In its blocks a line behind `> ` is given to `heapdbg explore`; the lines after it are what it must be
+answered, where `..` stands for any lines. A hunt has at most ten questions. Prints a line for each difference and ends with status 1 if there is one."""
 import os
 import pathlib
 import re
@@ -18,6 +18,7 @@ from questions import Asking  # noqa: E402
 
 SECONDS = 20
 KEEP = 4096
+QUESTIONS = 10
 
 
 def asked_of(text):
@@ -34,9 +35,13 @@ def asked_of(text):
     return asked
 
 
-def page():
-    """Returns the page's lines to give, each with the lines that it must be answered: those of its first half, the questions."""
-    return asked_of((TOP / "docs/HUNT.md").read_text().split("\n## ")[0])
+def hunts():
+    """Returns for each hunt of the page the name of its file, and the lines to give, each with the lines that it must be answered."""
+    found = []
+    for part in (TOP / "docs/HUNT.md").read_text().split("\n## "):
+        if asked := asked_of(part):
+            found.append((re.search(r"^    bin/heapdbg explore --from examples/(\w+)\.session$", part, re.MULTILINE)[1], asked))
+    return found
 
 
 def fits(came, wanted):
@@ -66,13 +71,15 @@ def of_program(program, lines, answers, *words):
     return came
 
 
-def differences(programs):
-    """Yields a line for each answer that isn't what it must be."""
-    story = [line for line in (TOP / "examples/leak.session").read_bytes().split(b"\n") if line]
-    asked = page()
+def differences(programs, name, asked):
+    """Yields a line for each answer in a hunt that isn't what it must be."""
+    path = TOP / f"examples/{name}.session"
+    story = [line for line in path.read_bytes().split(b"\n") if line]
     lines = [*story, *(line for line, _ in asked)]
     answers = of_model(lines)
-    first = ("--from", str(TOP / "examples/leak.session"))
+    first = ("--from", str(path))
+    if len(asked) > QUESTIONS:
+        yield f"{name}: {len(asked)} questions"
     for each in programs:
         if of_program(each, lines[len(story) :], answers[len(story) :], *first) != answers[len(story) :]:
             yield f"{each}: another answer after --from"
@@ -87,10 +94,12 @@ def differences(programs):
 
 def main(programs):
     """Returns the exit status: 0 if every answer is that of the page."""
-    found = list(differences([os.path.abspath(program) for program in programs]))
-    ran = subprocess.run([sys.executable, TOP / "examples/leak.py"], capture_output=True, timeout=SECONDS)
-    if ran.stdout != (TOP / "examples/leak.session").read_bytes():
-        found.append("examples/leak.py prints another session than examples/leak.session")
+    found = []
+    for name, asked in hunts():
+        found += differences([os.path.abspath(program) for program in programs], name, asked)
+        ran = subprocess.run([sys.executable, TOP / f"examples/{name}.py"], capture_output=True, timeout=SECONDS)
+        if ran.stdout != (TOP / f"examples/{name}.session").read_bytes():
+            found.append(f"examples/{name}.py prints another session than examples/{name}.session")
     print("\n".join(found), end="\n" if found else "")
     return 1 if found else 0
 

@@ -10,24 +10,19 @@ TOP = pathlib.Path(__file__).resolve().parent.parent
 sys.path.append(str(TOP / "clients/python"))
 
 from heapdbg import Session  # noqa: E402
+from ports import free_port  # noqa: E402
 
 # The seconds that a wait may take.
 LIMIT = 20
 
 
-def free_port():
-    """Returns a port that was free."""
-    with socket.create_server(("127.0.0.1", 0)) as found:
-        return found.getsockname()[1]
-
-
 class Server:
-    """A `serve` of the program, of `sessions` sessions, on a port that was free."""
+    """A `serve` of the program, of `sessions` sessions, on a port that nobody listened on. `how` goes to `Popen`."""
 
-    def __init__(self, program, sessions, *options):
+    def __init__(self, program, sessions, *options, **how):
         self.port = free_port()
         words = ["heapdbg", "serve", "--port", str(self.port), "--sessions", str(sessions), *options]
-        self.run = subprocess.Popen(words, executable=program, stdout=subprocess.PIPE, stderr=subprocess.PIPE)
+        self.run = subprocess.Popen(words, executable=program, stdout=subprocess.PIPE, stderr=subprocess.PIPE, **how)
 
     def client(self):
         """Returns a connection, once the server listens."""

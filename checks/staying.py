@@ -217,13 +217,7 @@ def tended(program):
 
 def limited(program, sessions):
     """Returns a server under a limit of address space."""
-    server = Server.__new__(Server)
-    with socket.create_server(("127.0.0.1", 0)) as found:
-        server.port = found.getsockname()[1]
-    words = ["heapdbg", "serve", "--port", str(server.port), "--sessions", str(sessions)]
-    limit = lambda: resource.setrlimit(resource.RLIMIT_AS, (ADDRESSES, ADDRESSES))  # noqa: E731
-    server.run = subprocess.Popen(words, executable=program, stdout=subprocess.PIPE, stderr=subprocess.PIPE, preexec_fn=limit)
-    return server
+    return Server(program, sessions, preexec_fn=lambda: resource.setrlimit(resource.RLIMIT_AS, (ADDRESSES, ADDRESSES)))
 
 
 def joined(program):

@@ -4,10 +4,11 @@ import os
 import pathlib
 import re
 import signal
-import socket
 import subprocess
 import tempfile
 import time
+
+from ports import free_ports
 
 # The seconds that a command may take.
 LIMIT = 60
@@ -16,13 +17,6 @@ PORTS = ("7000", "7001", "7010", "7020", "7080")
 # How much shorter `sleep` is here than the pages have it.
 FASTER = 5
 SLEEP = f"#!/bin/sh\nexec /bin/sleep \"$(echo \"$1\" | awk '{{ print $1 / {FASTER} }}')\"\n"
-
-
-def free_ports(count):
-    """Returns ports that were free together."""
-    with contextlib.ExitStack() as stack:
-        found = [stack.enter_context(socket.create_server(("127.0.0.1", 0))) for _ in range(count)]
-        return [str(each.getsockname()[1]) for each in found]
 
 
 class Shell:
@@ -35,7 +29,7 @@ class Shell:
         stub = pathlib.Path(self.stubs.name, "sleep")
         stub.write_text(SLEEP)
         stub.chmod(0o755)
-        self.ports = dict(zip(PORTS, free_ports(len(PORTS))))
+        self.ports = dict(zip(PORTS, map(str, free_ports(len(PORTS)))))
         self.path = f"{self.stubs.name}:{programs}:{os.environ['PATH']}"
 
     def __enter__(self):

@@ -15,14 +15,14 @@ WANTED = {
     "referrers": (*ABOUT_A_MOMENT, "no 28"),
     "registers": ABOUT_A_MOMENT,
     "classes": ABOUT_A_MOMENT,
-    "objects": ABOUT_A_MOMENT,
+    "objects": (*ABOUT_A_MOMENT, "ok of class", "ok by value", "no 2", "no 9"),
     "show": (*ABOUT_A_MOMENT, "no 28"),
     "born": ("ok place", "ok older", "no 28"),
     "wrote": ("ok place", "ok older", "no 9", "no 28"),
     "watch": ("ok nothing", "ok some", "no 9", "no 28"),
     "writes": ("ok nothing", "ok some", "no 2", "no 9"),
     "dropped": ("ok place", "ok older", "ok reached", "no 28"),
-    "history": ("ok",),
+    "history": ("ok", "ok without AT", "ok up to a place", "no 24"),
     "pins": ("ok",),
     "cells": ("ok",),
     "regions": ("ok",),
@@ -34,12 +34,17 @@ WANTED = {
 LEAST = 3
 
 
-def sorts(word, left_out, last):
-    """Yields of what sorts an answer is, by its question, whether a moment was left out, and the words of its last line."""
+def sorts(word, form, words, left_out, last):
+    """Yields of what sorts an answer is, by its question, form and words, whether a moment was left out, and the words of its last
+    line."""
     if left_out and last[0] == "ok":
         yield "ok without AT"
     if word == b"retained" and last[0] == "ok":
         yield "ok " + {"0": "nothing", "1": "itself"}.get(last[1], "more")
+    elif word == b"history" and words[0].startswith("@") and last[0] == "ok":
+        yield "ok up to a place"
+    elif word == b"objects" and form in ("ac", "acnv") and last[0] == "ok" and last[1] != "0":
+        yield "ok of class" if form == "ac" else "ok by value"
     elif word in (b"watch", b"writes", b"kept") and last[0] == "ok":
         yield "ok nothing" if last[1] == "0" else "ok some"
     else:
@@ -56,12 +61,17 @@ class AskingDraw(Draw):
 
     def moment(self):
         """Returns a word for a moment: mostly the current state, an open pin or a retained place."""
-        lots, machine = self.lots, self.machine
+        lots = self.lots
         what = lots.weighed({"-": 4, "pin": 3, "place": 3})
         if what == "-":
             return "-"
         if what == "pin":
             return self.pin()
+        return self.retained_place()
+
+    def retained_place(self):
+        """Returns a word for a place: mostly a retained one."""
+        lots, machine = self.lots, self.machine
         if lots.once_in(6):
             return "@{}".format(lots.pick([max(0, machine.place - machine.retained - 1), machine.place + 1]))
         return f"@{machine.place - lots.below(machine.retained + 1)}"
@@ -86,19 +96,24 @@ class AskingDraw(Draw):
         """Returns the words after `help`: none, the word of a line, or words that name no line."""
         return self.lots.pick([[], [self.lots.pick(list(FORMS))], ["helping"], ["path", "-"]])
 
+    def held_word(self):
+        """Returns a word for a value of a slot."""
+        held = [str(word) for _, thing in self.state.objects() for word in thing.words[-1:]]
+        return self.lots.pick(["null", "0", "7", self.identifier(), *held[-9:]])
+
     def ask(self):
         """Asks a question, or for help."""
         word = self.lots.pick([*QUESTIONS, b"help"])
-        draws = {"a": self.moment, "i": self.identifier, "c": self.asked_class}
+        draws = {"a": self.moment, "i": self.identifier, "c": self.asked_class, "v": self.held_word}
+        draws["p"] = lambda: self.lots.pick(["-", self.retained_place()])
         draws["n"] = lambda: self.lots.near(self.lots.below(8), 70)
-        forms = "" if word == b"help" else QUESTIONS[word]
-        forms, may_be_left_out, rest = forms.partition("?")
+        form = "" if word == b"help" else self.lots.pick(QUESTIONS[word].split("|"))
+        begin, may_be_left_out, rest = form.partition("?")
         left_out = bool(may_be_left_out) and self.lots.once_in(4)
-        forms += rest[left_out:]
-        words = self.help_words() if word == b"help" else [draws[form]() for form in forms]
+        words = self.help_words() if word == b"help" else [draws[sort]() for sort in begin + rest[left_out:]]
         accepted = self.say(word.decode(), *words)
         last = self.lines[-1][1].split(b"\n")[-2].decode().split()
-        for sort in sorts(word, left_out, last):
+        for sort in sorts(word, form, words, left_out, last):
             self.machine.sights.met[f"{word.decode()}: {sort}"] += 1
         return accepted
 

@@ -1,13 +1,17 @@
 """Clients of the program, and runs of `serve` and `ask`."""
 import contextlib
-import itertools
-import random
+import pathlib
 import socket
 import subprocess
+import sys
 import threading
 import time
 
 from runs import SECONDS, run
+
+sys.path.append(str(pathlib.Path(__file__).resolve().parent.parent))
+
+from ports import free_port  # noqa: E402
 
 
 def told_all(lines):
@@ -22,21 +26,6 @@ def told_all(lines):
             return (got,)
 
     return clients
-
-
-# Ports are asked for one after another, from a place at random on, and lie below those that the system gives to clients. So none is
-# taken by somebody else of this run before it is listened on.
-PORTS = itertools.count(random.randrange(20_000))
-
-
-def free_port():
-    """Returns a port that nobody listens on."""
-    for number in PORTS:
-        port = 10_000 + number % 20_000
-        with socket.socket() as probe, contextlib.suppress(OSError):
-            probe.setsockopt(socket.SOL_SOCKET, socket.SO_REUSEADDR, 1)
-            probe.bind(("127.0.0.1", port))
-            return port
 
 
 def connected(port, room=None):

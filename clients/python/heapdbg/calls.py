@@ -182,9 +182,17 @@ class Calls:
         """Returns a `ClassRow` for each class."""
         return self.send(f"classes {word_of_moment(moment)}", rows_by(defined))
 
-    def objects(self, moment: Moment = None) -> list[ListedObject]:
-        """Returns a `ListedObject` for each live object, in the order of a dump."""
-        return self.send(f"objects {word_of_moment(moment)}", rows_by(listed))
+    def objects(
+        self, moment: Moment = None, of_class: Optional[int] = None, slot: Optional[int] = None, value: Union[ObjectId, int, None] = None
+    ) -> list[ListedObject]:
+        """Returns a `ListedObject` for each live object, in the order of a dump: for those of a class, given its number; or for those of
+        them with this value in a slot, None for null."""
+        words = [word_of_moment(moment)]
+        if of_class is not None:
+            words.append(str(of_class))
+        if slot is not None:
+            words += [str(slot), "null" if value is None else str(value)]
+        return self.send(" ".join(["objects", *words]), rows_by(listed))
 
     def histogram(self, moment: Moment = None) -> list[ClassCount]:
         """Returns a `ClassCount` for each class that has objects, the most bytes first."""
@@ -237,9 +245,9 @@ class Calls:
         ("older", P)."""
         return self.send(f"dropped {ObjectId(of)}", place_or_older)
 
-    def history(self, count: int) -> list[PastStep]:
+    def history(self, count: int, place: Optional[int] = None) -> list[PastStep]:
         """Returns a `PastStep` for each of the newest retained steps, the newest first."""
-        return self.send(f"history {count}", rows_by(past))
+        return self.send(f"history {count}" if place is None else f"history @{place} {count}", rows_by(past))
 
     def pins(self) -> list[Union[HeldPin, LostPin]]:
         """Returns a `HeldPin` or a `LostPin` for each open pin."""

@@ -30,8 +30,8 @@ fn report_ending<F: Read + Drop, R: Clock + Eprint>(
 
 /// Serves the lines of a file as a session of these commands, within these limits, whose answers go nowhere. Reports on
 /// standard error, by the file's name and the line's number, answer and text, each line that is no command or is refused, and
-/// why reading ended early; and, if that is a terminal, about once a second how many lines were read. Fails if an allocation for
-/// reading the file fails, and reads nothing.
+/// why reading ended early; and, if that is a terminal, about once a second how many lines were read. Fails if an allocation
+/// for reading the file fails, and reads nothing.
 pub fn load_lines<F: Read + Drop, R: Clock + Eprint, C: Commands>(
     rt: &R,
     alloc: Global,

@@ -30,7 +30,8 @@ use Rattle.heap_trail.proofs.RetainedRecords.{HasRecord}
 use Rattle.heap_questions.specs.declared.past.writes.SlotWrite.{SlotWrite}
 use Rattle.heap_questions.specs.Changes.{made_by, slot_word}
 use Rattle.heap_questions.specs.SlotChanges.{word_before}
-use Rattle.heap_questions.specs.SlotWrites.{AreLastWrites, AreWritesAgo, IsSlotWrite, SeesObject, SeesOverwritten, before_others, changing_write, is_of_class, overwritten, seen_object, write_by}
+use Rattle.heap_questions.specs.Wanted.{is_of_class}
+use Rattle.heap_questions.specs.SlotWrites.{AreLastWrites, AreWritesAgo, IsSlotWrite, SeesObject, SeesOverwritten, before_others, changing_write, overwritten, seen_object, write_by}
 use Rattle.heap_questions.proofs.ChangedSlots.{before_is}
 use Rattle.heap_questions.proofs.Walk.{slot_there}
 use Rattle.heap_questions.proofs.Writes.{record_makes, same_place, written_here}

@@ -6,6 +6,7 @@ pub mod Search
 pub mod Garbage
 pub mod Dominators
 pub mod Kept
+pub mod Wanted
 pub mod ObjectLists
 pub mod Registers
 pub mod Ranking

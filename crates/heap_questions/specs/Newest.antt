@@ -1,5 +1,5 @@
 -- The newest retained steps, and the objects that they wrote or created.
-use Rattle.std.specs.Prelude.{◌≡◌, ℕ, ◌+◌, ◌-◌, ◌*◌, ◌/◌, ◌≤◌, List, length, map, zip, Option, Some, None, option_map, slice_set, slice_index_or, unwrap_or, All}
+use Rattle.std.specs.Prelude.{◌≡◌, ℕ, ◌+◌, ◌-◌, ◌*◌, ◌/◌, ◌≤◌, List, drop, length, map, zip, Option, Some, None, option_map, slice_set, slice_index_or, unwrap_or, All}
 use Rattle.std.specs.List.{range_with_len}
 use Rattle.heap_class.specs.declared.ObjRef.{ObjRef}
 use Rattle.heap_region.specs.Limits.{region_words}
@@ -45,10 +45,10 @@ past_step t n left =
       event = event_with left (id_written (state_ago n t).regions left);
     }
 
--- the newest `count` retained steps, or all if fewer are retained, the newest first
-unfoldable pub newest_steps : Trail → ℕ → List PastStep
-newest_steps t count =
-    map (λ p. past_step t p.0 p.1) (zip (range_with_len 0 count) t.records)
+-- the newest `count` of the retained steps that led to the state of `ago` steps ago, or all if there are fewer, the newest first
+unfoldable pub steps_back : Trail → ℕ → ℕ → List PastStep
+steps_back t ago count =
+    map (λ p. past_step t p.0 p.1) (zip (range_with_len ago count) (drop ago t.records))
 
 -- ---- cell sizes
 

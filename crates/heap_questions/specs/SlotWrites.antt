@@ -1,7 +1,6 @@
 -- The writes of one slot of all objects of a class.
-use Rattle.std.specs.Prelude.{◌≡◌, ◌≢◌, ℕ, zero, suc, ◌+◌, ◌-◌, ◌<◌, ◌==◌, ◌&&◌, not, Bool, true, false, List, [], ◌∷◌, length, reverse, Option, Some, None, option_and_then, slice_index_or, unwrap_or, IsSome, if◌then◌else◌}
-use Rattle.heap_class.specs.declared.ObjKind.{ObjKind}
-use Rattle.heap_class.specs.declared.ObjKind.TheVariants.{Instance, Array, Prim}
+use Rattle.std.specs.Prelude.{◌≡◌, ◌≢◌, ℕ, zero, suc, ◌+◌, ◌-◌, ◌<◌, ◌==◌, ◌&&◌, not, Bool, true, List, [], ◌∷◌, length, reverse, Option, Some, None, option_and_then, slice_index_or, unwrap_or, IsSome, if◌then◌else◌}
+use Rattle.heap_class.specs.declared.ObjKind.TheVariants.{Instance}
 use Rattle.heap_class.specs.declared.ObjRef.{ObjRef}
 use Rattle.heap_region.specs.Regions.{Object, id_of, object_at}
 use Rattle.heap_world.specs.State.{HeapState}
@@ -13,12 +12,7 @@ use Rattle.heap_pins.specs.Shows.{IsSeen}
 use Rattle.heap_trail.specs.Trail.{Trail, retained, state_ago}
 use Rattle.heap_questions.specs.declared.past.writes.SlotWrite.{SlotWrite}
 use Rattle.heap_questions.specs.Changes.{slot_word}
-
--- an object of this kind is one of class k, an instance or an array
-abbrev pub is_of_class : ObjKind → ℕ → Bool
-is_of_class (Instance own) k = own == k
-is_of_class (Array own) k = own == k
-is_of_class (Prim kind) k = false
+use Rattle.heap_questions.specs.Wanted.{is_of_class}
 
 -- an object of class k stands at a place
 abbrev pub HasClass : HeapState → ObjRef → ℕ → Type 0

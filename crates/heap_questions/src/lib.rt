@@ -18,6 +18,7 @@ mod region_counts;
 mod registers;
 mod rows;
 mod search;
+mod wanted;
 
 pub use cells::{CellState, CellStates};
 pub use dominators::{RetainedObjects, count_retained, retained_by_cut};
@@ -25,7 +26,7 @@ pub use garbage::count_garbage;
 pub use growth::{Change, compare};
 pub use index::ObjectIndex;
 pub use kept::count_kept;
-pub use object_list::{ListedObject, list_objects};
+pub use object_list::{ListedObject, list_objects, list_wanted};
 pub use objects::{ShownObject, object_with, slot_kind};
 pub use order::ranking;
 pub use past::{
@@ -37,3 +38,4 @@ pub use references::{Referrer, referrers};
 pub use region_counts::{RegionCounts, count_region};
 pub use registers::{NamedObject, named_by_registers};
 pub use rows::{CLASS_ROWS, Histogram, Row, count_by_class, kind_row, value_size};
+pub use wanted::Wanted;

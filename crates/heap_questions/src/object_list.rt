@@ -1,13 +1,14 @@
 //! The objects that a view shows, one after another.
-ghost use Rattle.std.specs.Prelude.{◌≡◌, map, not, IfOk, IfErr};
+ghost use Rattle.std.specs.Prelude.{◌≡◌, ◌++◌, ◌∷◌, [], map, not, if◌then◌else◌, IfOk, IfErr, OnOk};
 ghost use Rattle.heap_class.specs.declared.Refusal.TheVariants.{NoMemory};
 ghost use Rattle.heap_questions.specs.Garbage.{is_reached};
-ghost use Rattle.heap_questions.specs.ObjectLists.{IsObjectList, listed_object};
+ghost use Rattle.heap_questions.specs.ObjectLists.{AreObjectsWanted, IsObjectList, listed_object, objects_wanted};
 ghost use Rattle.heap_questions.specs.Search.{AreNodes};
 
 use crate::garbage::is_reached;
 use crate::nodes::NodeList;
 use crate::search::search;
+use crate::wanted::{Wanted, is_wanted};
 use heap_class::{ObjKind, Refusal};
 use hprof_text::View;
 use std::alloc::Global;
@@ -21,34 +22,68 @@ pub struct ListedObject {
     pub unreached: bool,
 }
 
-// Lists the objects of a view. The nodes must be the view's, and those that a search found be marked. Fails with NoMemory.
+// Adds an object, if it is wanted. Fails with NoMemory.
+fn push_wanted(
+    all: &mut Vec<ListedObject>,
+    wanted: bool,
+    object: ListedObject,
+) -> Result<(), Refusal>
+    ensures added { OnOk result
+        (all.new.items ≡ all.old.items ++ (if wanted then object ∷ [] else [])) }
+    ensures refused { IfErr result (λ e. e ≡ NoMemory) }
+{
+    if wanted {
+        all.push(object)?;
+    }
+    Ok(())
+}
+
+// Lists the objects of a view that are wanted. The nodes must be the view's, and those that a search found be marked. Fails with
+// NoMemory.
 fn list_nodes<V: View>(
     alloc: Global,
     view: &V,
     nodes: &NodeList,
     seen: &[bool],
+    wanted: Wanted,
 ) -> Result<Vec<ListedObject>, Refusal>
     requires { AreNodes (V.image view.now) (V.places view.now) nodes.now }
     ensures all { IfOk result (λ all. all.items
         ≡ map (listed_object (λ o. not (is_reached nodes.now seen.now o.id)))
-        (V.image view.now).objects) }
+        (objects_wanted wanted (V.image view.now))) }
     ensures refused { IfErr result (λ e. e ≡ NoMemory) }
 {
-    let mut all = Vec::with_capacity(alloc, nodes.len())?;
+    let mut all = Vec::new(alloc);
     for node in 0..nodes.len() {
         let at = nodes.place(node);
         let id = nodes.id(node);
         let kind = view.kind(at);
         let words = view.words(at);
         let reached = is_reached(nodes, seen, id);
-        all.push(ListedObject {
+        let listed = ListedObject {
             id,
             kind,
             slots: words.len() as u64,
             unreached: !reached,
-        })?;
+        };
+        push_wanted(&mut all, is_wanted(wanted, kind, words), listed)?;
     }
     Ok(all)
+}
+
+/// Lists the objects of a view that are wanted, in the order of a dump. Fails with NoMemory if an allocation fails. Reads each
+/// object at most twice.
+pub fn list_wanted<V: View>(
+    alloc: Global,
+    view: &V,
+    wanted: Wanted,
+) -> Result<Vec<ListedObject>, Refusal>
+    ensures all { IfOk result (λ all. AreObjectsWanted wanted (V.image view.now) all.items) }
+    ensures refused { IfErr result (λ e. e ≡ NoMemory) }
+{
+    let nodes = NodeList::new(alloc, view)?;
+    let reach = search(alloc, view, &nodes)?;
+    list_nodes(alloc, view, &nodes, reach.seen.as_slice(), wanted)
 }
 
 /// Lists the objects of a view, in the order of a dump. Fails with NoMemory if an allocation fails. Reads each object at most
@@ -57,7 +92,5 @@ pub fn list_objects<V: View>(alloc: Global, view: &V) -> Result<Vec<ListedObject
     ensures all { IfOk result (λ all. IsObjectList (V.image view.now) all.items) }
     ensures refused { IfErr result (λ e. e ≡ NoMemory) }
 {
-    let nodes = NodeList::new(alloc, view)?;
-    let reach = search(alloc, view, &nodes)?;
-    list_nodes(alloc, view, &nodes, reach.seen.as_slice())
+    list_wanted(alloc, view, Wanted::All)
 }

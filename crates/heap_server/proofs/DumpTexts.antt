@@ -125,8 +125,8 @@ legal_dump config seat seen pin time (suc n) c d so_far text s some =
     let t = on_tells config seen (Dumps (ActsJoined config seat seen) pin time n) s.0 (piece_in s.0) s.1 d so_far text refl (λ k x more. tells config seat seen pin time n s.1 d k x more) s.3 in
     t.1.1 s.2.1.2
 
-pub machine_dump : {S : Type 0} (config : HeapSettings) (seat : S → SeatModel) (seen : S → List Call) (pin time : ℕ) (c d : S) (text : List ℕ) → AnswersPinDump config seat seen pin time c text d
-machine_dump config seat seen pin time c d text s =
+pub pin_dump : {S : Type 0} (config : HeapSettings) (seat : S → SeatModel) (seen : S → List Call) (pin time : ℕ) (c d : S) (text : List ℕ) → AnswersPinDump config seat seen pin time c text d
+pin_dump config seat seen pin time c d text s =
     exact_text config pin time (seen d) text (tells config seat seen pin time part_limit c d 0 text s).0 (legal_dump config seat seen pin time part_limit c d 0 text s (omega arith))
 
 -- ---- `dump -`

@@ -13,8 +13,7 @@ IsDecided most bytes =
     ((n : ℕ) × IsLineAt n bytes) ⊎ ((most < length bytes) × NoLf bytes)
 
 -- these bytes came, the first of those that were left: up to the end of the first line at least, or until it has more than
--- `most` bytes, or all;
--- or the last read failed
+-- `most` bytes, or all; or the last read failed
 pub record IsAhead (most : ℕ) (bytes : List ℕ) (failed : Bool) (a b : Incoming) : Type 0 where
   pub taken : b.taken ≡ a.taken ++ bytes
   pub kept : Keeps a.left (prepend_known bytes b.left)

@@ -15,8 +15,8 @@ use Rattle.heap_server.specs.Http.{asks_http}
 use Rattle.heap_server.specs.declared.client_session.SessionEnd.{SessionEnd}
 use Rattle.heap_server.specs.declared.client_session.SessionEnd.TheVariants.{Ran, Http, Stranger, Idle}
 
--- the client of these first bytes is served, in a session that may have at most this, over the rest of them: those behind the line that is the secret word; or all of them, if
--- no word is asked for and they begin no HTTP request
+-- the client of these first bytes is served, in a session that may have at most this, over the rest of them: those behind the
+-- line that is the secret word; or all of them, if no word is asked for and they begin no HTTP request
 abbrev pub Admits : SessionLimits → Option (List ℕ) → List ℕ → List ℕ → Type 0
 Admits limits (Some word) bytes rest = IsBehindWord word bytes rest
 Admits limits None bytes rest = (asks_http (longest_line limits) bytes ≡ false) × (rest ≡ bytes)

@@ -15,7 +15,7 @@ use std::{error, fmt, io};
 pub enum Fault {
     /// The input ended in the middle of a line.
     Cut,
-    /// A line has more than 4,096 bytes.
+    /// A line has more bytes than it may have.
     Long,
     /// A read failed.
     Read,

@@ -16,8 +16,8 @@ use std::io::Error;
 use std::time::Clock;
 
 /// Runs the lines of the file of the path by these commands, if `from` says so. Their answers are not shown, and each line that
-/// is refused is reported on standard error, and how many lines were read, if that is a terminal. Fails with Memory, and with From if the file can't be opened or is a folder; why,
-/// it says on standard error, if that is a terminal.
+/// is refused is reported on standard error, and if that is a terminal, about once a second how many lines were read. Fails with
+/// Memory, and with From if the file can't be opened or is a folder; why, it says on standard error, if that is a terminal.
 pub(crate) fn run_first<R: AllocGlobal + Clock + Eprint + Files, C: Commands>(
     rt: &R,
     request: Request<'_>,

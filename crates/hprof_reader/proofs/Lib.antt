@@ -5,3 +5,4 @@ pub mod ReadEntries
 pub mod ReadSubs
 pub mod EntryLoops
 pub mod ReadHeaders
+pub mod ReadBack

@@ -6,3 +6,4 @@ pub mod SubRecords
 pub mod Entries
 pub mod SubParts
 pub mod Headers
+pub mod Images

@@ -6,11 +6,15 @@ mod fault;
 mod header;
 mod kinds;
 mod numbers;
+mod read_back;
 mod records;
 mod sub_records;
+#[cfg(test)]
+mod tests;
 
 pub use class_dumps::{ClassDump, ClassHead, Entry, Table};
 pub use fault::Fault;
 pub use header::{Header, header_at};
+pub use read_back::sub_records_are_read;
 pub use records::{Record, record_at};
 pub use sub_records::{Instance, ObjectArray, PrimArray, Root, SubRecord, sub_record_at};

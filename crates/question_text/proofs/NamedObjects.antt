@@ -2,14 +2,15 @@
 use Rattle.std.proofs.Common.{◌≡◌, ℕ, Bool, true, false, cond, List, [], ◌∷◌, Option, Some, length, map, subst, sym}
 use Rattle.std.specs.Prelude.{All, find, option_map, ◌==◌}
 use Rattle.std.specs.List.{AllByRecursion}
-use Rattle.std.proofs.lemmas.List.Elements.{All-from_recursion, recursion_from_All}
+use Rattle.std.proofs.lemmas.List.Elements.{All-filter, All-from_recursion, recursion_from_All}
 use Rattle.heap_class.specs.declared.ObjKind.{ObjKind}
 use Rattle.heap_class.specs.declared.ObjKind.TheVariants.{Instance, Array, Prim}
 use Rattle.heap_class.specs.Classes.{Class}
 use Rattle.hprof_text.specs.Image.{DumpedObject, Image, IsDumpable, IsKnown}
 use Rattle.heap_questions.specs.Graph.{object_with}
-use Rattle.heap_questions.specs.ObjectLists.{IsObjectList, listed_object}
+use Rattle.heap_questions.specs.ObjectLists.{AreObjectsWanted, listed_object, objects_wanted}
 use Rattle.heap_questions.specs.Registers.{object_named}
+use Rattle.heap_questions.specs.declared.wanted.Wanted.{Wanted}
 use Rattle.heap_questions.specs.declared.object_list.ListedObject.{ListedObject}
 use Rattle.question_text.specs.Names.{IsClassThere}
 use Rattle.question_text.specs.ObjectLists.{IsListedThere}
@@ -55,7 +56,8 @@ listed_there classes test [] all = tt
 listed_there classes test (o ∷ os) all = (there classes o.kind (length o.words) all.0, listed_there classes test os all.1)
 
 -- the classes of the objects of a list are there
-pub all_listed_there : (image : Image) (all : List ListedObject) → IsDumpable image → IsObjectList image all → All (IsListedThere image.classes) all
-all_listed_there image all d is =
+pub all_listed_there : (wanted : Wanted) (image : Image) (all : List ListedObject) → IsDumpable image → AreObjectsWanted wanted image all → All (IsListedThere image.classes) all
+all_listed_there wanted image all d is =
+    let these = objects_wanted wanted image in
     All-from_recursion (IsListedThere image.classes) all
-    (subst (λ (l : List ListedObject). AllByRecursion (IsListedThere image.classes) l) (sym is.2) (listed_there image.classes is.0 image.objects (recursion_from_All (IsThere image.classes) image.objects d.known)))
+    (subst (λ (l : List ListedObject). AllByRecursion (IsListedThere image.classes) l) (sym is.2) (listed_there image.classes is.0 these (recursion_from_All (IsThere image.classes) these (All-filter (IsThere image.classes) image.objects d.known))))

@@ -38,7 +38,7 @@ IsStateText StateQuestion.Histogram ids = IsHistogramText ids
 IsStateText StateQuestion.Garbage ids = IsGarbageText ids
 IsStateText StateQuestion.Registers ids = IsRegistersText
 IsStateText StateQuestion.Classes ids = IsClassesText
-IsStateText StateQuestion.Objects ids = IsObjectsText
+IsStateText (StateQuestion.Objects wanted) ids = IsObjectsText wanted
 IsStateText (StateQuestion.Referrers x) ids = IsReferrersText x
 IsStateText (StateQuestion.Path x) ids = IsPathText x
 IsStateText (StateQuestion.Retained x) ids = IsRetainedText x ids
@@ -64,7 +64,8 @@ IsAnswer (Kept older newer) m acts text =
     IsAnswerBetween (IsKeptText m.ids) (image_at older m) (image_at newer m) text
 IsAnswer (Registers at) m acts text = IsAnswerAbout IsRegistersText (image_at at m) text
 IsAnswer (Classes at) m acts text = IsAnswerAbout IsClassesText (image_at at m) text
-IsAnswer (Objects at) m acts text = IsAnswerAbout IsObjectsText (image_at at m) text
+IsAnswer (Objects at wanted) m acts text =
+    IsAnswerAbout (IsObjectsText wanted) (image_at at m) text
 IsAnswer (Referrers at x) m acts text = IsAnswerAbout (IsReferrersText x) (image_at at m) text
 IsAnswer (Path at x) m acts text = IsAnswerAbout (IsPathText x) (image_at at m) text
 IsAnswer (Retained at x) m acts text = IsAnswerAbout (IsRetainedText x m.ids) (image_at at m) text
@@ -75,7 +76,7 @@ IsAnswer (Wrote x s) m acts text = IsWroteText x s m.trail text
 IsAnswer (Watch x s) m acts text = IsWatchText x s m.trail text
 IsAnswer (Writes k s) m acts text = IsWritesText k s m.trail text
 IsAnswer (Dropped x) m acts text = IsDroppedText x m.trail text
-IsAnswer (History count) m acts text = IsHistoryText count m.trail text
+IsAnswer (History to count) m acts text = IsHistoryText to count m.trail text
 IsAnswer Pins m acts text = IsPinsText m.pins text
 IsAnswer Cells m acts text = IsCellsText m.trail.current text
 IsAnswer Regions m acts text = IsRegionsText m.trail.current text

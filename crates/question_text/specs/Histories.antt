@@ -1,12 +1,16 @@
 -- The text of `history`.
-use Rattle.std.specs.Prelude.{◌≡◌, ℕ, List, ◌++◌, codes, flat_map, length}
+use Rattle.std.specs.Prelude.{◌≡◌, ℕ, ◌-◌, List, ◌++◌, codes, flat_map, length, Option, Some, None, Result, Ok, Err, if◌then◌else◌}
+use Rattle.heap_class.specs.declared.Refusal.{Refusal}
+use Rattle.heap_class.specs.declared.Refusal.TheVariants.{NotRetained}
+use Rattle.heap_trail.specs.Pins.{is_retained}
 use Rattle.heap_trail.specs.Trail.{Trail}
 use Rattle.heap_questions.specs.declared.past.events.PastEvent.{PastEvent}
 use Rattle.heap_questions.specs.declared.past.events.PastEvent.TheVariants.{Put, Store, Register, New, Class, Snap, Mark, Drain, Finish, Sweep, Reclaim}
 use Rattle.heap_questions.specs.declared.past.steps.PastStep.{PastStep}
-use Rattle.heap_questions.specs.Newest.{newest_steps}
+use Rattle.heap_questions.specs.Newest.{steps_back}
 use Rattle.session_text.specs.Replies.{and_number, line}
 use Rattle.question_text.specs.Ids.{and_id, and_reference}
+use Rattle.question_text.specs.Moments.{refused_text}
 use Rattle.question_text.specs.Places.{IsTextOrNoMemory}
 use Rattle.question_text.specs.Referrers.{count_text}
 
@@ -40,10 +44,20 @@ past_step_line s = line ((codes "row" ++ and_number s.place) ++ event_words s.ev
 abbrev pub steps_text : List PastStep → List ℕ
 steps_text steps = flat_map past_step_line steps ++ count_text (length steps)
 
--- the text is the lines of the newest `count` retained steps, newest first, and their number
-abbrev pub IsNewestText : ℕ → Trail → List ℕ → Type 0
-IsNewestText count t text = text ≡ steps_text (newest_steps t count)
+-- the text is the lines of the newest `count` of the retained steps that led to the state of `ago` steps ago, and their number
+abbrev pub AreStepsTold : Trail → ℕ → ℕ → List ℕ → Type 0
+AreStepsTold t count ago text = text ≡ steps_text (steps_back t ago count)
+
+-- how many steps ago the state at a place was, if it is retained; without a place it is the current state
+unfoldable pub steps_ago : Option ℕ → Trail → Result ℕ Refusal
+steps_ago None t = Ok 0
+steps_ago (Some place) t = if is_retained place t then Ok (t.place - place) else Err NotRetained
+
+-- the same, or why there are none
+abbrev pub IsHistoryTextOf : Trail → ℕ → Result ℕ Refusal → List ℕ → Type 0
+IsHistoryTextOf t count (Ok ago) text = IsTextOrNoMemory (AreStepsTold t count ago) text
+IsHistoryTextOf t count (Err e) text = text ≡ refused_text e
 
 -- the answer of `history`
-abbrev pub IsHistoryText : ℕ → Trail → List ℕ → Type 0
-IsHistoryText count t text = IsTextOrNoMemory (IsNewestText count t) text
+abbrev pub IsHistoryText : Option ℕ → ℕ → Trail → List ℕ → Type 0
+IsHistoryText to count t text = IsHistoryTextOf t count (steps_ago to t) text

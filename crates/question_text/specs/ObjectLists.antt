@@ -1,11 +1,15 @@
 -- The text of `objects`.
-use Rattle.std.specs.Prelude.{◌≡◌, ℕ, Bool, true, false, List, [], ◌∷◌, ◌++◌, codes, flat_map, length}
+use Rattle.std.specs.Prelude.{◌≡◌, ℕ, Bool, true, false, List, [], ◌∷◌, ◌++◌, codes, flat_map, length, Option, Some, None}
 use Rattle.heap_class.specs.Classes.{Class}
+use Rattle.heap_class.specs.declared.Refusal.{Refusal}
 use Rattle.hprof_text.specs.Image.{Image}
+use Rattle.heap_questions.specs.declared.wanted.Wanted.{Wanted}
 use Rattle.heap_questions.specs.declared.object_list.ListedObject.{ListedObject}
-use Rattle.heap_questions.specs.ObjectLists.{IsObjectList}
+use Rattle.heap_questions.specs.ObjectLists.{AreObjectsWanted}
 use Rattle.session_text.specs.Replies.{and_number, line}
+use Rattle.question_text.specs.ClassSlots.{wanted_refusal}
 use Rattle.question_text.specs.Ids.{and_id}
+use Rattle.question_text.specs.Moments.{refused_text}
 use Rattle.question_text.specs.Names.{IsClassThere, class_name}
 use Rattle.question_text.specs.Referrers.{count_text}
 
@@ -25,8 +29,18 @@ listed_text classes o =
     ((((codes "row" ++ and_id o.id) ++ 32 ∷ class_name classes o.kind) ++ and_number o.slots)
     ++ unreached_words o.unreached)
 
--- the answer of `objects`
-abbrev pub IsObjectsText : Image → List ℕ → Type 0
-IsObjectsText image text =
-    (all : List ListedObject) × IsObjectList image all
+-- the text is the lines of the objects that are wanted, and their number
+abbrev pub AreObjectsTold : Wanted → Image → List ℕ → Type 0
+AreObjectsTold wanted image text =
+    (all : List ListedObject) × AreObjectsWanted wanted image all
     × (text ≡ flat_map (listed_text image.classes) all ++ count_text (length all))
+
+-- the same, or why none can be listed
+abbrev pub IsObjectsTextOf : Option Refusal → Wanted → Image → List ℕ → Type 0
+IsObjectsTextOf None wanted image text = AreObjectsTold wanted image text
+IsObjectsTextOf (Some e) wanted image text = text ≡ refused_text e
+
+-- the answer of `objects`
+abbrev pub IsObjectsText : Wanted → Image → List ℕ → Type 0
+IsObjectsText wanted image text =
+    IsObjectsTextOf (wanted_refusal image.classes wanted) wanted image text

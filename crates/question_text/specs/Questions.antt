@@ -6,6 +6,9 @@ use Rattle.question_text.specs.declared.question.At.{At}
 use Rattle.question_text.specs.declared.question.At.TheVariants.{Current, Pin, Place}
 use Rattle.question_text.specs.declared.question.Question.{Question}
 use Rattle.question_text.specs.declared.question.Question.TheVariants.{Histogram, Garbage, Growth, Kept, Registers, Classes, Objects, Referrers, Path, Retained, Show, Born, Wrote, Watch, Writes, Dropped, History, Pins, Cells, Regions, Status}
+use Rattle.std.specs.Option.{option_or}
+use Rattle.heap_questions.specs.declared.wanted.Wanted.{Wanted}
+use Rattle.heap_questions.specs.declared.wanted.Wanted.TheVariants.{All, OfClass, Holding}
 use Rattle.question_text.specs.Ids.{id_of_word}
 
 -- the state that a word names: `-`, `@` and a place, or the number of a pin
@@ -69,6 +72,43 @@ id_and_number ws =
     option_and_then (λ x. option_and_then (λ n. at_end (x.0, n.0) n.1) (next_number x.1))
     (next_id ws)
 
+-- the place of a state: none for the current one; a pin may keep a state that the retained steps don't lead to
+abbrev pub place_of : At → Option (Option ℕ)
+place_of Current = Some None
+place_of (Place place) = Some (Some place)
+place_of (Pin pin) = None
+
+-- the place and the number that the words name; without a place it is that of the current state
+abbrev pub place_and_number : List (List ℕ) → Option (Option ℕ × ℕ)
+place_and_number [] = None
+place_and_number (w ∷ []) = option_map (λ n. (None, n)) (number_of_word w)
+place_and_number (w ∷ v ∷ ws) =
+    option_and_then
+    (λ at. option_and_then (λ to. option_and_then (λ n. at_end (to, n) ws) (number_of_word v)) (place_of at))
+    (at_of_word w)
+
+-- the word of a slot that a word tells: an id, `null` or a number
+unfoldable pub value_of_word : List ℕ → Option ℕ
+value_of_word w =
+    if bytes_eq w (codes "null") then Some 0 else option_or (id_of_word w) (number_of_word w)
+
+-- the objects that the words name: all, those of a class, or those of a class with a value in a slot
+abbrev pub wanted_of : List (List ℕ) → Option Wanted
+wanted_of [] = Some All
+wanted_of (k ∷ []) = option_map (λ k. OfClass k) (number_of_word k)
+wanted_of (k ∷ s ∷ []) = None
+wanted_of (k ∷ s ∷ v ∷ []) =
+    option_and_then
+    (λ k. option_and_then (λ s. option_map (λ v. Holding k s v) (value_of_word v)) (number_of_word s))
+    (number_of_word k)
+wanted_of (k ∷ s ∷ v ∷ w ∷ ws) = None
+
+-- the state and the objects that the words name; without a state it is the current one
+abbrev pub at_and_wanted : List (List ℕ) → Option (At × Wanted)
+at_and_wanted [] = Some (Current, All)
+at_and_wanted (w ∷ ws) =
+    option_and_then (λ at. option_map (λ x. (at, x)) (wanted_of ws)) (at_of_word w)
+
 -- the two numbers that the words are
 abbrev pub two_numbers : List (List ℕ) → Option (ℕ × ℕ)
 two_numbers ws =
@@ -90,7 +130,7 @@ past_rules =
     ∷ (codes "cells", λ ws. at_end Cells ws)
     ∷ (codes "regions", λ ws. at_end Regions ws)
     ∷ (codes "status", λ ws. at_end Status ws)
-    ∷ (codes "history", λ ws. option_map (λ n. History n) (one_number ws))
+    ∷ (codes "history", λ ws. option_map (λ a. History a.0 a.1) (place_and_number ws))
     ∷ (codes "wrote", λ ws. option_map (λ a. Wrote a.0 a.1) (id_and_number ws))
     ∷ (codes "watch", λ ws. option_map (λ a. Watch a.0 a.1) (id_and_number ws))
     ∷ (codes "writes", λ ws. option_map (λ a. Writes a.0 a.1) (two_numbers ws))
@@ -104,7 +144,7 @@ question_rules =
     ∷ (codes "registers", λ ws. option_map (λ at. Registers at) (optional_at ws))
     ∷ (codes "growth", λ ws. option_map (λ a. Growth a.0 a.1) (at_and_optional ws))
     ∷ (codes "classes", λ ws. option_map (λ at. Classes at) (optional_at ws))
-    ∷ (codes "objects", λ ws. option_map (λ at. Objects at) (optional_at ws))
+    ∷ (codes "objects", λ ws. option_map (λ a. Objects a.0 a.1) (at_and_wanted ws))
     ∷ (codes "kept", λ ws. option_map (λ a. Kept a.0 a.1) (at_and_optional ws))
     ∷ (codes "referrers", λ ws. option_map (λ a. Referrers a.0 a.1) (optional_at_and_id ws))
     ∷ (codes "path", λ ws. option_map (λ a. Path a.0 a.1) (optional_at_and_id ws))

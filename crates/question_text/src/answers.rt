@@ -30,6 +30,7 @@ use crate::status::status_answer;
 use crate::write::wrote_answer;
 use heap_class::Refusal;
 use heap_pins::PinView;
+use heap_questions::Wanted;
 use heap_trail::Machine;
 use session_text::LineAnswer;
 use std::alloc::Global;
@@ -45,8 +46,8 @@ enum StateQuestion {
     Registers,
     // The classes.
     Classes,
-    // The objects.
-    Objects,
+    // The objects that are wanted.
+    Objects(Wanted),
     // What names the object with this id.
     Referrers(u64),
     // Why the object with this id is alive.
@@ -97,7 +98,7 @@ fn view_lines(
         StateQuestion::Garbage => or_refused(garbage_text(alloc, view)),
         StateQuestion::Registers => or_refused(registers_answer(alloc, view)),
         StateQuestion::Classes => or_refused(classes_answer(alloc, view)),
-        StateQuestion::Objects => or_refused(objects_answer(alloc, view)),
+        StateQuestion::Objects(wanted) => objects_answer(alloc, view, wanted),
         StateQuestion::Referrers(id) => referrers_answer(alloc, view, id),
         StateQuestion::Path(id) => path_answer(alloc, view, id),
         StateQuestion::Retained(id) => retained_answer(alloc, view, id),
@@ -207,7 +208,9 @@ pub fn answer(alloc: Global, machine: &Machine, acts: Option<u64>, question: Que
         }
         Question::Registers(at) => state_answer(alloc, machine, at, StateQuestion::Registers),
         Question::Classes(at) => state_answer(alloc, machine, at, StateQuestion::Classes),
-        Question::Objects(at) => state_answer(alloc, machine, at, StateQuestion::Objects),
+        Question::Objects { at, wanted } => {
+            state_answer(alloc, machine, at, StateQuestion::Objects(wanted))
+        }
         Question::Referrers { at, id } => {
             state_answer(alloc, machine, at, StateQuestion::Referrers(id))
         }
@@ -224,7 +227,7 @@ pub fn answer(alloc: Global, machine: &Machine, acts: Option<u64>, question: Que
         Question::Watch { id, slot } => line_answer(watch_answer(alloc, machine, id, slot)),
         Question::Writes { class, slot } => line_answer(writes_answer(alloc, machine, class, slot)),
         Question::Dropped(id) => dropped_answer(alloc, machine, id),
-        Question::History(count) => line_answer(history_answer(alloc, machine, count)),
+        Question::History { to, count } => line_answer(history_answer(alloc, machine, to, count)),
         Question::Pins => line_answer(pins_answer(alloc, machine)),
         Question::Cells => line_answer(cells_answer(alloc, machine)),
         Question::Regions => line_answer(regions_answer(alloc, machine)),

@@ -1,7 +1,9 @@
 //! The states that questions are about.
-ghost use Rattle.std.specs.Prelude.{◌≡◌, Ok, Err, IfOk, IfErr};
+ghost use Rattle.std.specs.Prelude.{◌≡◌, ◌≤◌, Ok, Err, IfOk, IfErr};
 ghost use Rattle.heap_pins.specs.Pin.{pin_image};
 ghost use Rattle.heap_trail.specs.Pins.{is_retained};
+ghost use Rattle.heap_trail.specs.Trail.{retained};
+ghost use Rattle.question_text.specs.Histories.{steps_ago};
 ghost use Rattle.question_text.specs.declared.question.At.TheVariants.{Current, Place};
 ghost use Rattle.question_text.specs.Moments.{IsMomentOf, IsRefusedAt, image_at, moment_image};
 
@@ -25,6 +27,21 @@ fn has_retained(machine: &Machine, place: u64) -> bool
 {
     let current = machine.place();
     place <= current && current - place <= machine.retained_count()
+}
+
+// Returns how many steps ago the state at a place was, or 0 if no place is given. Fails with NotRetained if it isn't retained.
+pub(crate) fn steps_ago(machine: &Machine, to: Option<u64>) -> Result<u64, Refusal>
+    ensures steps { result ≡ steps_ago to machine.now.trail }
+    ensures within { IfOk result (λ ago. ago ≤ retained machine.now.trail) }
+{
+    let Some(place) = to else {
+        return Ok(0);
+    };
+    if has_retained(machine, place) {
+        Ok(machine.place() - place)
+    } else {
+        Err(Refusal::NotRetained)
+    }
 }
 
 // Returns the moment of a place. Fails with NotRetained if its state isn't retained, and with NoMemory.

@@ -21,7 +21,7 @@ pub fn question_help(word: &[u8]) -> Option<&'static [u8]>
         b"kept" => Some(b"row kept AT [AT]\nrow kept @120 -\nok\n"),
         b"registers" => Some(b"row registers [AT]\nrow registers -\nok\n"),
         b"classes" => Some(b"row classes [AT]\nrow classes -\nok\n"),
-        b"objects" => Some(b"row objects [AT]\nrow objects -\nok\n"),
+        b"objects" => Some(b"row objects [AT [CLASS [SLOT VALUE]]]\nrow objects - 0 1 42\nok\n"),
         b"referrers" => Some(b"row referrers [AT] ID\nrow referrers - 0x10000020\nok\n"),
         b"path" => Some(b"row path [AT] ID\nrow path @120 0x10000020\nok\n"),
         b"retained" => Some(b"row retained [AT] ID\nrow retained 0x10000020\nok\n"),
@@ -31,7 +31,7 @@ pub fn question_help(word: &[u8]) -> Option<&'static [u8]>
         b"watch" => Some(b"row watch ID SLOT\nrow watch 0x10000020 1\nok\n"),
         b"writes" => Some(b"row writes CLASS SLOT\nrow writes 0 1\nok\n"),
         b"dropped" => Some(b"row dropped ID\nrow dropped 0x10000020\nok\n"),
-        b"history" => Some(b"row history N\nrow history 10\nok\n"),
+        b"history" => Some(b"row history [@PLACE] N\nrow history 10\nok\n"),
         b"pins" => Some(b"row pins\nrow pins\nok\n"),
         b"cells" => Some(b"row cells\nrow cells\nok\n"),
         b"regions" => Some(b"row regions\nrow regions\nok\n"),
@@ -93,8 +93,8 @@ pub fn all_help() -> &'static [u8]
         row snap\nrow mark\nrow drain\nrow finish\nrow sweep REGION\n\
         row rewind N\nrow open AT\nrow piece PIN\nrow dump PIN\nrow close PIN\nrow end\n\
         row histogram [AT]\nrow garbage [AT]\nrow growth AT [AT]\nrow kept AT [AT]\nrow registers [AT]\nrow classes [AT]\n\
-        row objects [AT]\nrow referrers [AT] ID\nrow path [AT] ID\nrow retained [AT] ID\nrow show [AT] ID\n\
-        row born ID\nrow wrote ID SLOT\nrow watch ID SLOT\nrow writes CLASS SLOT\nrow dropped ID\nrow history N\nrow pins\nrow cells\nrow regions\nrow status\nrow collect\n\
+        row objects [AT [CLASS [SLOT VALUE]]]\nrow referrers [AT] ID\nrow path [AT] ID\nrow retained [AT] ID\nrow show [AT] ID\n\
+        row born ID\nrow wrote ID SLOT\nrow watch ID SLOT\nrow writes CLASS SLOT\nrow dropped ID\nrow history [@PLACE] N\nrow pins\nrow cells\nrow regions\nrow status\nrow collect\n\
         row help WORD\nok\n"
 }
 

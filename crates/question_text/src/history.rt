@@ -1,11 +1,13 @@
 //! The answer of `history`.
-ghost use Rattle.std.specs.Prelude.{◌++◌};
+ghost use Rattle.std.specs.Prelude.{◌++◌, ◌≤◌};
+ghost use Rattle.heap_trail.specs.Trail.{retained};
 ghost use Rattle.heap_class.specs.declared.Refusal.TheVariants.{NoMemory};
 ghost use Rattle.question_text.specs.Appends.{Appends, ReturnsText};
-ghost use Rattle.question_text.specs.Histories.{IsHistoryText, IsNewestText, and_overwritten, and_slot, event_words};
+ghost use Rattle.question_text.specs.Histories.{AreStepsTold, IsHistoryText, and_overwritten, and_slot, event_words};
 ghost use Rattle.question_text.specs.Moments.{told_text};
 ghost use Rattle.session_text.specs.Replies.{and_number};
 
+use crate::at::steps_ago;
 use crate::id::{push_id, push_reference};
 use crate::rows::{Lined, Unanswered, counted_lines, push_number, push_row, push_words};
 use heap_class::Refusal;
@@ -88,21 +90,25 @@ impl Lined for PastStep {
     }
 }
 
-// Returns the lines of the newest steps, and their number. Fails with NoMemory.
-fn newest_text(alloc: Global, machine: &Machine, count: u64) -> Result<Vec<u8>, Refusal>
-    ensures { ReturnsText (IsNewestText count machine.now.trail) result }
+// Returns the lines of the newest steps that led to the state of `ago` steps ago, and their number. Fails with NoMemory.
+fn steps_text(alloc: Global, machine: &Machine, ago: u64, count: u64) -> Result<Vec<u8>, Refusal>
+    requires { ago ≤ retained machine.now.trail }
+    ensures { ReturnsText (AreStepsTold machine.now.trail count ago) result }
 {
-    let steps = history(alloc, machine, count)?;
+    let steps = history(alloc, machine, ago, count)?;
     counted_lines(alloc, steps.as_slice())
 }
 
-// Returns the answer of `history`. Fails with NoMemory if an allocation fails. Reads each record once.
+// Returns the answer of `history`. Fails with NotRetained if the state at the place isn't retained, and with NoMemory if an allocation
+// fails. Reads each record since the oldest step that it tells once.
 pub(crate) fn history_answer(
     alloc: Global,
     machine: &Machine,
+    to: Option<u64>,
     count: u64,
 ) -> Result<Vec<u8>, Unanswered>
-    ensures { IsHistoryText count machine.now.trail (told_text result) }
+    ensures { IsHistoryText to count machine.now.trail (told_text result) }
 {
-    Ok(newest_text(alloc, machine, count)?)
+    let ago = steps_ago(machine, to)?;
+    Ok(steps_text(alloc, machine, ago, count)?)
 }

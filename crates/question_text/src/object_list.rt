@@ -2,13 +2,15 @@
 ghost use Rattle.std.specs.Prelude.{All, flat_map};
 ghost use Rattle.heap_class.specs.declared.Refusal.TheVariants.{NoMemory};
 ghost use Rattle.question_text.specs.Appends.{Appends, ReturnsText};
-ghost use Rattle.question_text.specs.ObjectLists.{IsListedThere, IsObjectsText, listed_text, unreached_words};
+ghost use Rattle.question_text.specs.Moments.{IsToldOf, told_text};
+ghost use Rattle.question_text.specs.ObjectLists.{AreObjectsTold, IsListedThere, IsObjectsText, listed_text, unreached_words};
 
+use crate::class_slot::wanted_refusal;
 use crate::id::push_id;
 use crate::names::push_class_name;
-use crate::rows::{push_count, push_number, push_words};
+use crate::rows::{Unanswered, push_count, push_number, push_words};
 use heap_class::{FirstClasses, Refusal};
-use heap_questions::{ListedObject, list_objects};
+use heap_questions::{ListedObject, Wanted, list_wanted};
 use hprof_text::View;
 use std::alloc::{AllocError, Global};
 
@@ -58,14 +60,30 @@ fn push_all(
     Ok(())
 }
 
-// Returns the answer of `objects` about a view. Fails with NoMemory if an allocation fails. Reads each object at most twice.
-pub(crate) fn objects_answer<V: View>(alloc: Global, view: &V) -> Result<Vec<u8>, Refusal>
-    ensures { ReturnsText (IsObjectsText (V.image view.now)) result }
+// Returns the lines of the objects that are wanted, and their number. Fails with NoMemory.
+fn objects_text<V: View>(alloc: Global, view: &V, wanted: Wanted) -> Result<Vec<u8>, Refusal>
+    ensures { ReturnsText (AreObjectsTold wanted (V.image view.now)) result }
 {
-    let all = list_objects(alloc, view)?;
+    let all = list_wanted(alloc, view, wanted)?;
     let classes = view.classes();
     let mut text = Vec::new(alloc);
     push_all(&mut text, &classes, all.as_slice())?;
     push_count(&mut text, all.len() as u64)?;
     Ok(text)
+}
+
+// Returns the answer of `objects` about a view. Fails with NoClass if the class isn't there, with BadSlot if its objects have no such
+// slot, and with NoMemory if an allocation fails. Reads each object at most twice.
+pub(crate) fn objects_answer<V: View>(
+    alloc: Global,
+    view: &V,
+    wanted: Wanted,
+) -> Result<Vec<u8>, Unanswered>
+    ensures { IsToldOf (IsObjectsText wanted) (V.image view.now) (told_text result) }
+{
+    let classes = view.classes();
+    match wanted_refusal(&classes, wanted) {
+        Some(refusal) => Err(Unanswered::Refused(refusal)),
+        None => Ok(objects_text(alloc, view, wanted)?),
+    }
 }

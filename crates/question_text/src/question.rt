@@ -2,9 +2,10 @@
 ghost use Rattle.std.specs.Prelude.{◌≡◌, drop};
 ghost use Rattle.session_grammar.specs.Grammar.{words_of_line};
 ghost use Rattle.session_grammar.specs.Reads.{IsNextWord};
-ghost use Rattle.question_text.specs.Questions.{at_and_optional, at_of_word, id_and_number, next_id, one_id, optional_at, optional_at_and_id, past_rules, question_by, question_of, question_rules, two_numbers};
+ghost use Rattle.question_text.specs.Questions.{at_and_optional, at_and_wanted, at_of_word, id_and_number, next_id, one_id, optional_at, optional_at_and_id, past_rules, place_and_number, place_of, question_by, question_of, question_rules, two_numbers, value_of_word, wanted_of};
 
 use crate::id::id_of;
+use heap_questions::Wanted;
 use session_grammar::command::{at_end, next_number, one_number};
 use session_grammar::number::number_of;
 use session_grammar::words::{Words, is_word};
@@ -35,8 +36,8 @@ pub enum Question {
     Registers(At),
     /// The classes.
     Classes(At),
-    /// The objects.
-    Objects(At),
+    /// The objects that are wanted.
+    Objects { at: At, wanted: Wanted },
     /// What names an object.
     Referrers { at: At, id: u64 },
     /// Why an object is alive: a shortest path from a register.
@@ -55,8 +56,8 @@ pub enum Question {
     Writes { class: u64, slot: u64 },
     /// When registers lost an object.
     Dropped(u64),
-    /// What the newest retained steps did: how many of them.
-    History(u64),
+    /// What the newest retained steps did, of those that led to a place, or to the current state: how many of them.
+    History { to: Option<u64>, count: u64 },
     /// The open pins.
     Pins,
     /// What each cell of the regions in use holds.
@@ -135,6 +136,71 @@ fn id_and_number(mut words: Words) -> Option<(u64, u64)>
     at_end((next_id(&mut words)?, next_number(&mut words)?), words)
 }
 
+// Returns the place of a state, or None of a pin: it may keep a state that the retained steps don't lead to.
+fn place_of(at: At) -> Option<Option<u64>>
+    ensures { result ≡ place_of at }
+{
+    match at {
+        At::Current => Some(None),
+        At::Place(place) => Some(Some(place)),
+        At::Pin(_) => None,
+    }
+}
+
+// Returns the place and the number that the words name. If they are only a number, there is no place.
+fn place_and_number(mut words: Words) -> Option<(Option<u64>, u64)>
+    ensures { result ≡ place_and_number (words_of_line words.entry) }
+{
+    let word = words.next_word()?;
+    let Some(second) = words.next_word() else {
+        return Some((None, number_of(word)?));
+    };
+    let to = place_of(at_of(word)?)?;
+    at_end((to, number_of(second)?), words)
+}
+
+// Returns the word that a word tells: an id, `null` or a number. Returns None if it tells none.
+#[tactic(auto, unfolding(crate::specs::Questions::value_of_word))]
+fn value_of(word: &[u8]) -> Option<u64>
+    ensures { result ≡ value_of_word word.now }
+{
+    if is_word(word, b"null") {
+        return Some(0);
+    }
+    match id_of(word) {
+        Some(id) => Some(id),
+        None => number_of(word),
+    }
+}
+
+// Returns the objects that the words name: all, those of a class, or those of a class with a value in a slot.
+fn wanted_of(mut words: Words) -> Option<Wanted>
+    ensures { result ≡ wanted_of (words_of_line words.entry) }
+{
+    let Some(first) = words.next_word() else {
+        return Some(Wanted::All);
+    };
+    let class = number_of(first)?;
+    let Some(second) = words.next_word() else {
+        return Some(Wanted::OfClass(class));
+    };
+    let slot = number_of(second)?;
+    let third = words.next_word()?;
+    let word = value_of(third)?;
+    at_end(Wanted::Holding { class, slot, word }, words)
+}
+
+// Returns the state and the objects that the words name. If there are no words, it is the current state.
+fn at_and_wanted(mut words: Words) -> Option<(At, Wanted)>
+    ensures { result ≡ at_and_wanted (words_of_line words.entry) }
+{
+    let Some(word) = words.next_word() else {
+        return Some((At::Current, Wanted::All));
+    };
+    let at = at_of(word)?;
+    Some((at, wanted_of(words)?))
+}
+
 // Returns the two numbers that the words are.
 fn two_numbers(mut words: Words) -> Option<(u64, u64)>
     ensures { result ≡ two_numbers (words_of_line words.entry) }
@@ -166,7 +232,8 @@ fn past_question(keyword: &[u8], words: Words) -> Option<Question>
         return at_end(Question::Status, words);
     }
     if is_word(keyword, b"history") {
-        return Some(Question::History(one_number(words)?));
+        let (to, count) = place_and_number(words)?;
+        return Some(Question::History { to, count });
     }
     if is_word(keyword, b"wrote") {
         let (id, slot) = id_and_number(words)?;
@@ -193,7 +260,8 @@ fn later_question(keyword: &[u8], words: Words) -> Option<Question>
         return Some(Question::Classes(optional_at(words)?));
     }
     if is_word(keyword, b"objects") {
-        return Some(Question::Objects(optional_at(words)?));
+        let (at, wanted) = at_and_wanted(words)?;
+        return Some(Question::Objects { at, wanted });
     }
     if is_word(keyword, b"kept") {
         let (older, newer) = at_and_optional(words)?;

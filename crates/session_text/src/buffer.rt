@@ -31,7 +31,7 @@ pub struct Buffer {
 }
 
 impl Model for Buffer {
-    ghost use Rattle.std.specs.Prelude.{◌≡◌, ◌+◌, ◌-◌, ◌≤◌, List, take, drop, length, vec_capacity};
+    ghost use Rattle.std.specs.Prelude.{◌≡◌, ℕ, ◌+◌, ◌-◌, ◌≤◌, List, take, drop, length, vec_capacity};
     ghost use Rattle.session_text.specs.Limits.{buffer_limit};
     ghost use Rattle.session_grammar.specs.Lines.{NoLf};
 

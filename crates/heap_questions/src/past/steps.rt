@@ -6,7 +6,8 @@ ghost use Rattle.heap_region.specs.Limits.{region_words};
 ghost use Rattle.heap_region.specs.Regions.{UsedRegion, used_at};
 ghost use Rattle.heap_step.specs.declared.Undo.TheVariants.{Reclaim};
 ghost use Rattle.heap_world.specs.Legal.{IsLegal};
-ghost use Rattle.heap_questions.specs.Newest.{AreCellSizes, event_with, id_by, newest_steps, storage_cell_size, sizes_before, written_at};
+ghost use Rattle.heap_questions.specs.Newest.{AreCellSizes, event_with, id_by, storage_cell_size, sizes_before, steps_back, written_at};
+ghost use Rattle.heap_trail.specs.Trail.{retained, state_ago};
 
 use crate::past::events::{PastEvent, event_with};
 use heap_class::{ObjRef, Refusal};
@@ -112,21 +113,42 @@ fn undo_size(left: &Undo, sizes: &mut Vec<u64>)
     }
 }
 
-/// Returns the newest `count` retained steps, or all if fewer are retained, the newest first. Fails with NoMemory if an
-/// allocation fails. Reads each record once.
-pub fn history(alloc: Global, machine: &Machine, count: u64) -> Result<Vec<PastStep>, Refusal>
-    ensures steps { IfOk result (λ steps. steps.items ≡ newest_steps machine.now.trail count) }
+// Returns the sizes of the cells of all regions in the state of `ago` steps ago. Fails with NoMemory.
+fn sizes_ago(alloc: Global, machine: &Machine, ago: u64) -> Result<Vec<u64>, Refusal>
+    requires { ago ≤ retained machine.now.trail }
+    ensures sizes { IfOk result (λ sizes. AreCellSizes (state_ago ago machine.now.trail) sizes.items) }
+    ensures refused { IfErr result (λ e. e ≡ NoMemory) }
+{
+    let _place = machine.place();
+    let world = machine.world();
+    let mut sizes = sizes_now(alloc, world)?;
+    for n in 0..ago {
+        undo_size(machine.record_ago(n), &mut sizes);
+    }
+    Ok(sizes)
+}
+
+/// Returns the newest `count` of the retained steps that led to the state of `ago` steps ago, or all if there are fewer, the newest
+/// first. That state must be retained. Fails with NoMemory if an allocation fails. Reads each record of the steps since, and of these,
+/// once.
+pub fn history(
+    alloc: Global,
+    machine: &Machine,
+    ago: u64,
+    count: u64,
+) -> Result<Vec<PastStep>, Refusal>
+    requires { ago ≤ retained machine.now.trail }
+    ensures steps { IfOk result (λ steps. steps.items ≡ steps_back machine.now.trail ago count) }
     ensures refused { IfErr result (λ e. e ≡ NoMemory) }
 {
     let place = machine.place();
-    let world = machine.world();
-    let mut sizes = sizes_now(alloc, world)?;
-    let count = count.min(machine.retained_count());
+    let mut sizes = sizes_ago(alloc, machine, ago)?;
+    let count = count.min(machine.retained_count() - ago);
     let mut steps = Vec::with_capacity(alloc, count as usize)?;
     for n in 0..count {
-        let left = machine.record_ago(n);
+        let left = machine.record_ago(ago + n);
         steps.push(PastStep {
-            place: place - n,
+            place: place - (ago + n),
             event: event_by(left, sizes.as_slice()),
         })?;
         undo_size(left, &mut sizes);

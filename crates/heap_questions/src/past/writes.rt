@@ -2,8 +2,9 @@
 //! that shows the state after each step.
 ghost use Rattle.std.specs.Prelude.{◌≡◌, ◌++◌, [], IfOk, IfErr, OnOk};
 ghost use Rattle.heap_class.specs.declared.Refusal.TheVariants.{NoMemory};
-ghost use Rattle.heap_questions.specs.SlotWrites.{AreSlotWrites, AreSlotWritesBack, SeesObject, SeesOverwritten, SeesSlotOf, before_others, changing_write, is_of_class, overwritten, seen_object, write_by};
+ghost use Rattle.heap_questions.specs.SlotWrites.{AreSlotWrites, AreSlotWritesBack, SeesObject, SeesOverwritten, SeesSlotOf, before_others, changing_write, overwritten, seen_object, write_by};
 
+use crate::wanted::is_of_class;
 use heap_class::{ClassNo, ObjKind, ObjRef, Refusal};
 use heap_pins::Pin;
 use heap_step::Undo;
@@ -19,16 +20,6 @@ pub struct SlotWrite {
     pub id: u64,
     pub old: u64,
     pub new: u64,
-}
-
-// Tells whether an object of this kind is one of a class.
-fn is_of_class(kind: ObjKind, class: ClassNo) -> bool
-    ensures { result ≡ is_of_class kind class }
-{
-    match kind {
-        ObjKind::Instance(own) | ObjKind::Array(own) => own == class,
-        ObjKind::Prim(_) => false,
-    }
 }
 
 // Returns the place of the object of which the step with this record wrote the slot, and the old word, or None if the step wrote

@@ -1,11 +1,12 @@
-use Rattle.std.proofs.Common.{◌≡◌, ◌∙◌, Bool, Some, ap, arith, map, sym}
-use Rattle.std.specs.Prelude.{not, slice_get}
+use Rattle.std.proofs.Common.{◌≡◌, ◌∙◌, Bool, List, Some, ap, arith, map, sym}
+use Rattle.std.specs.Prelude.{filter, not, slice_get}
 use Rattle.std.proofs.lemmas.List.{take_all}
 use Rattle.hprof_text.specs.Image.{DumpedObject}
 use Rattle.hprof_text.proofs.Loops.{some_item}
 use Rattle.hprof_text.proofs.ViewedObjects.{is_there}
 use Rattle.heap_questions.specs.Garbage.{is_reached}
 use Rattle.heap_questions.specs.ObjectLists.{listed_object}
+use Rattle.heap_questions.specs.Wanted.{is_wanted}
 use Rattle.heap_questions.proofs.ListedObjects.{listed_is, listed_more, node_id}
 use Rattle.heap_questions.proofs.NamedObjects.{said_of}
 use Rattle.heap_questions.proofs.NodePlaces.{as_many, node_place}
@@ -42,7 +43,8 @@ loop-node-preserved g c =
     let words : c.words-words.result.now ≡ o.0.words = said_of (λ (o : DumpedObject). c.words-words.result.now ≡ o.words) (slice_get image.objects i) o.0 o.1 (c.words-words.ensures i led) in
     let unreached : not c.is_reached-reached.result ≡ test o.0 = ap not (c.is_reached-reached.ensures ∙ ap (is_reached nodes seen) id) in
     let is = listed_is test o.0 c.id-id.result c.kind-kind.result c.words-words.result.now (not c.is_reached-reached.result) id kind words unreached in
-    listed_more test image.objects i o.0 _ c.loop-node.all.items c.push.new.self.items o.1 is c.loop-node.invariant c.in_ok-push.ensures.items
+    let wanted : c.is_wanted.result ≡ is_wanted c.args.wanted o.0.kind o.0.words = c.is_wanted.ensures ∙ (λ j. is_wanted c.args.wanted (kind j) (words j)) in
+    listed_more test c.args.wanted image.objects i o.0 _ c.is_wanted.result c.loop-node.all.items c.push_wanted.new.all.items o.1 is wanted c.loop-node.invariant c.in_ok-push_wanted.ensures.added
 
 pub returns-clause-all : goal.returns-clause-all
 returns-clause-all g c =
@@ -51,4 +53,4 @@ returns-clause-all g c =
     let nodes = c.args.nodes.now in
     let f = listed_object (λ o. not (is_reached nodes c.args.seen.now o.id)) in
     c.loop-node.invariant
-    ∙ ap (map f) (take_all c.loop-node.node image.objects (omega (arith, as_many image (g.V.View.places v) nodes c.requires, c.loop-node-test.false, c.len-node-end.ensures)))
+    ∙ ap (λ (os : List DumpedObject). map f (filter (λ o. is_wanted c.args.wanted o.kind o.words) os)) (take_all c.loop-node.node image.objects (omega (arith, as_many image (g.V.View.places v) nodes c.requires, c.loop-node-test.false, c.len-node-end.ensures)))

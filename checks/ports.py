@@ -1,0 +1,24 @@
+"""Ports for programs that are run here."""
+import contextlib
+import itertools
+import random
+import socket
+
+# Ports are asked for one after another, from a place at random on, and lie below those that the system gives to clients. So none is
+# taken by somebody else of this run before it is listened on.
+PORTS = itertools.count(random.randrange(20_000))
+
+
+def free_port():
+    """Returns a port that nobody listens on."""
+    for number in PORTS:
+        port = 10_000 + number % 20_000
+        with socket.socket() as probe, contextlib.suppress(OSError):
+            probe.setsockopt(socket.SOL_SOCKET, socket.SO_REUSEADDR, 1)
+            probe.bind(("127.0.0.1", port))
+            return port
+
+
+def free_ports(count):
+    """Returns ports that nobody listens on, each another one."""
+    return [free_port() for _ in range(count)]

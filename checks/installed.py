@@ -179,7 +179,7 @@ def asked(shell, readme):
     text = readme.read_text()
     _, quoted = commands_of(readme)
     explore, draw, run = ([each for each in quoted if each.startswith(f"heapdbg {word} ")] for word in ("explore", "draw", "run"))
-    lines, replies = block(text, "growth @816")
+    lines, replies = block(text, "dominators 1")
     came = shell.run(explore[0], "".join(f"{line}\n" for line in lines).encode())
     if came != (0, b"".join(reply + b"\n" for reply in replies), b""):
         yield f"README, {explore[0]!r}: {came}"

@@ -1,4 +1,6 @@
 """Sessions at random with questions among their lines."""
+from re import findall
+
 from draws import Draw
 from heap import FIRST_OBJECT, REGION_WORDS
 from questions import FORMS, QUESTIONS, Asking
@@ -12,6 +14,8 @@ WANTED = {
     "kept": ("ok nothing", "ok some", *ABOUT_A_MOMENT[1:]),
     "path": (*ABOUT_A_MOMENT, "no 27", "no 28"),
     "retained": ("ok nothing", "ok itself", "ok more", "ok without AT", "no 22", "no 23", "no 24", "no 28"),
+    "dominators": ("ok nothing", "ok some", "ok some of them", "ok without AT", "no 22", "no 23"),
+    "dominator": ("ok nothing", "ok some", "ok without AT", "no 23", "no 27", "no 28"),
     "referrers": (*ABOUT_A_MOMENT, "no 28"),
     "registers": ABOUT_A_MOMENT,
     "classes": ABOUT_A_MOMENT,
@@ -41,12 +45,14 @@ def sorts(word, form, words, left_out, last):
         yield "ok without AT"
     if word == b"retained" and last[0] == "ok":
         yield "ok " + {"0": "nothing", "1": "itself"}.get(last[1], "more")
-    elif word == b"history" and words[0].startswith("@") and last[0] == "ok":
+    elif word == b"history" and str(words[0]).startswith("@") and last[0] == "ok":
         yield "ok up to a place"
     elif word == b"objects" and form in ("ac", "acnv") and last[0] == "ok" and last[1] != "0":
         yield "ok of class" if form == "ac" else "ok by value"
-    elif word in (b"watch", b"writes", b"kept") and last[0] == "ok":
+    elif word in (b"watch", b"writes", b"kept", b"dominators", b"dominator") and last[0] == "ok":
         yield "ok nothing" if last[1] == "0" else "ok some"
+        if word == b"dominators" and form.endswith("n") and last[1] != "0":
+            yield "ok some of them"
     else:
         yield " ".join(last[:2]) if last[0] == "no" or last[1:2] in (["place"], ["older"], ["reached"]) else last[0]
 
@@ -108,9 +114,11 @@ class AskingDraw(Draw):
         draws["p"] = lambda: self.lots.pick(["-", self.retained_place()])
         draws["n"] = lambda: self.lots.near(self.lots.below(8), 70)
         form = "" if word == b"help" else self.lots.pick(QUESTIONS[word].split("|"))
-        begin, may_be_left_out, rest = form.partition("?")
-        left_out = bool(may_be_left_out) and self.lots.once_in(4)
-        words = self.help_words() if word == b"help" else [draws[sort]() for sort in begin + rest[left_out:]]
+        parts = findall(r"\??.", form)
+        kept = [part for part in parts if part[0] != "?" or not self.lots.once_in(4)]
+        form = "".join(part[-1] for part in kept)
+        left_out = any(part in ("?a", "?p") for part in parts if part not in kept)
+        words = self.help_words() if word == b"help" else [draws[sort]() for sort in form]
         accepted = self.say(word.decode(), *words)
         last = self.lines[-1][1].split(b"\n")[-2].decode().split()
         for sort in sorts(word, form, words, left_out, last):

@@ -13,8 +13,8 @@ from served import LIMIT
 TOP = pathlib.Path(__file__).resolve().parent.parent.parent
 STORY = TOP / "examples/leak.session"
 LEAKED, CLASS = "0x10000040", "server/Session"
-# The ends of the two cycles, and the step that closed the session that leaked.
-FROM, TO, CLOSED = 816, 1637, 1507
+# The ends of the two cycles, the step that closed the session that leaked, and the newest place.
+FROM, TO, CLOSED, NEWEST = 816, 1637, 1507, 2025
 # What registers held that the steps after it cleared, the newest step first.
 AFTER = ((4, "0x10000900"), (3, "0x10000020"), (2, "0x10004e00"), (1, LEAKED))
 ROWS = "[...document.querySelectorAll('#{} tbody tr')]"
@@ -76,6 +76,18 @@ def grown(told):
     lost = {name: int(objects) for objects, _, name in garbage}
     more = {name: (int(b) - int(a), int(d) - int(c)) for name, a, c, b, d in growth}
     return sorted([name, int(objects), int(size), lost.get(name, 0), *more.get(name, (0, 0))] for objects, size, name in histogram)
+
+
+def topped(tab, told):
+    """The objects through which most is reached, which are listed until a class is picked."""
+    tab.wait("document.querySelectorAll('#tops tbody tr').length > 0")
+    wanted = [[id, name, f"{int(objects):,}", f"{int(size):,}"] for id, objects, size, name in told[f"dominators @{NEWEST} 20"][0]]
+    yield "through which most is reached", tab.value(CELLS.format("tops")), wanted
+    tab.click_on(row("classes", CLASS))
+    tab.wait("document.getElementById('tops').hidden")
+    tab.click_on(row("classes", CLASS))
+    tab.wait("!document.getElementById('tops').hidden")
+    yield "the same once no class is picked", tab.value(CELLS.format("tops")), wanted
 
 
 def hunt(tab, told):
@@ -236,7 +248,7 @@ def questions():
     yield from (f"{line} @{TO}" for line in ("histogram", "garbage", "objects"))
     yield from (f"{word} @{TO} {LEAKED}" for word in ("show", "path", "referrers", "retained"))
     yield from (f"show @{CLOSED} {LEAKED}", f"show @{CLOSED - 17} 0x10000000", f"show @{CLOSED - 18} 0x10002000", f"registers @{CLOSED - 19}")
-    yield from (f"growth @{FROM} @{TO}", f"born {LEAKED}")
+    yield from (f"growth @{FROM} @{TO}", f"born {LEAKED}", f"dominators @{NEWEST} 20")
 
 
 def all_of(heap, program):
@@ -246,6 +258,7 @@ def all_of(heap, program):
     try:
         yield "the first sight", tab.value(CELLS.format("classes") + ".map((r) => r[0] + ' ' + r[1])"), [
             "byte[] 32", "server/Entry 32", "server/Session 32", "[server/Entry; 1", "server/Cache 1"]
+        yield from topped(tab, told)
         yield from hunt(tab, told)
         yield from saved(tab, program, heap)
         yield from keyed(tab)

@@ -60,6 +60,9 @@ TYPED = [
     b"class Other - i:int description:int a:boolean\n",
     b"new 0 0 1\n",
     b"show - 0x10000020\n",
+    b"newprim 0 1 long 100\n",
+    b"histogram\n",
+    b"rewind 1\n",
     b"collect\n",
     b"histgram -\n",
     b"histogram x\n",
@@ -79,6 +82,12 @@ heapdbg 4> |  0  i            int      0
   1  description  int      0
   2  a            boolean  0
 ok object Other 3
+heapdbg 4> |ok object 0x10002000
+heapdbg 5> |  1  800  long[]
+  1    9  Other
+  1    8  Point
+ok 3 817
+heapdbg 5> |ok place 4
 heapdbg 4> |ok condemned 1 swept 1
 heapdbg 8> |bad command
 did you mean: histogram [AT]
@@ -94,7 +103,7 @@ heapdbg 7> |
 
 # The forms of all lines, in the order of `help`, and the keywords of those that change nothing.
 FORMS = [row[4:] for row in (TOP / "examples/questions/help.expected").read_bytes().split(b"ok\n")[0].splitlines()]
-HARMLESS = b"histogram garbage growth kept registers classes objects referrers path retained show born wrote watch writes dropped history pins cells regions status help".split()
+HARMLESS = b"histogram garbage growth kept registers classes objects referrers path retained dominators dominator show born wrote watch writes dropped history pins cells regions status help".split()
 # Words that people type at other prompts, and words that are as near to two keywords.
 WORDS = b"undo find back exitt list info hist goto step print HISTOGRAM rewing reiwnd classs pars endd edn hlep".split()
 

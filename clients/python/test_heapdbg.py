@@ -216,6 +216,10 @@ class Columns(unittest.TestCase):
         self.assertEqual((row.objects, row.bytes, row.class_name), (3, 48, "Node"))
         (row,) = self.asked(lambda heap: heap.retained(None, 16), "row 3 48 Node", "ok 3 48")
         self.assertEqual((row.objects, row.bytes, row.class_name), (3, 48, "Node"))
+        (row,) = self.asked(lambda heap: heap.dominators(Pin(1), 5), "row 0x00000010 3 48 0x7", "ok 1")
+        self.assertEqual((row.id, row.objects, row.bytes, row.class_name), (16, 3, 48, "0x7"))
+        (row,) = self.asked(lambda heap: heap.dominator(None, 32), "row 0x00000010 null", "ok 1")
+        self.assertEqual((row.id, row.class_name), (16, "null"))
         (row,) = self.asked(lambda heap: heap.growth(Place(1)), "row Node 1 16 2 32", "ok 1")
         self.assertEqual((row.class_name, row.old_objects, row.old_bytes, row.new_objects, row.new_bytes), ("Node", 1, 16, 2, 32))
 
@@ -494,6 +498,10 @@ class Names(unittest.TestCase):
             self.assertEqual(heap.garbage(), [(1, 12, "0xyz")])
             self.assertEqual((heap.retained(None, ids[2]), heap.retained("@16", ids[2])), ([], [(1, 12, "0xyz")]))
             self.assertEqual(heap.history(1), [(17, "reg", 0, 2, ids[2])])
+            self.assertEqual(heap.history(1, Place(16)), [(16, "new", ids[7], 0, 7, None)])
+            self.assertEqual(heap.objects(None, 2), [(ids[2], "0xyz", 2, True)])
+            self.assertEqual(heap.objects(Place(16), 2, 0, 0), [(ids[2], "0xyz", 2, False)])
+            self.assertEqual([heap.objects(None, 2, 0, value) for value in (1, ids[3])], [[], []])
             self.assertEqual(heap.path(None, ids[3]), [(0, 3, ids[3])])
             self.assertEqual(heap.referrers(None, ids[3]), [(0, 3)])
             with self.assertRaises(Refused) as caught:

@@ -15,8 +15,10 @@ from .rows import (
     ClassGrowth,
     ClassRow,
     Collected,
+    Dominator,
     Field,
     HeldPin,
+    Holding,
     ListedObject,
     LostPin,
     NullRegister,
@@ -40,7 +42,7 @@ from .session import Batch, Later, Session
 __all__ = ["Session", "Batch", "Later", "Refused", "Ended", "BadCommand", "fetch"]
 __all__ += ["NotDoneFacts", "RegionFact", "TooFarFacts", "LostFact"]
 __all__ += ["Moment", "Now", "Place", "Pin", "PinAt", "ObjectId", "Swept", "Collected", "Piece"]
-__all__ += ["Cells", "ClassCount", "ClassGrowth", "ClassRow", "Field", "HeldPin", "LostPin", "ListedObject"]
+__all__ += ["Cells", "ClassCount", "ClassGrowth", "ClassRow", "Dominator", "Field", "HeldPin", "Holding", "LostPin", "ListedObject"]
 __all__ += ["NullRegister", "Register", "PastStep", "RegisterReference", "RegisterStep", "SlotChange", "SlotReference", "SlotRow"]
 __all__ += ["RegionRow", "SlotStep", "SlotWrite", "When"]
 __all__ += ["Recorder", "Call", "Cost", "UnknownName"]

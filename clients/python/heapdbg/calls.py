@@ -11,7 +11,9 @@ from .rows import (
     ClassGrowth,
     ClassRow,
     Collected,
+    Dominator,
     HeldPin,
+    Holding,
     ListedObject,
     LostPin,
     NullRegister,
@@ -36,8 +38,10 @@ from .rows import (
     collected,
     counted,
     defined,
+    dominating,
     facts_by_name,
     grown,
+    holding,
     listed,
     loaded,
     number,
@@ -63,6 +67,9 @@ def pinned(words: list, _lines: list) -> PinAt:
 
 # The name of a pin.
 PinName = Union[Pin, PinAt, int]
+
+# More rows than any answer has: the number of a pin alone would be taken for a number of rows.
+MOST = (1 << 64) - 1
 
 
 class Calls:
@@ -216,6 +223,19 @@ class Calls:
         among them. What several objects retain may overlap."""
         return self.send(f"retained {word_of_moment(moment)} {ObjectId(of)}", rows_by(counted))
 
+    def dominators(self, moment: Moment = None, most: Optional[int] = None) -> list[Holding]:
+        """Returns a `Holding` for each object that a register reaches and no other object dominates, the most bytes first; at most
+        so many, or all. These rows overlap nowhere."""
+        word = word_of_moment(moment)
+        if word.isdigit() and most is None:
+            most = MOST
+        return self.send(f"dominators {word}" + ("" if most is None else f" {most}"), rows_by(holding))
+
+    def dominator(self, moment: Moment, of: int) -> list[Dominator]:
+        """Returns a `Dominator` for each other object without which an object wouldn't be reached, each the immediate dominator of
+        the one before."""
+        return self.send(f"dominator {word_of_moment(moment)} {ObjectId(of)}", rows_by(dominating))
+
     def referrers(self, moment: Moment, of: int) -> list[Union[RegisterReference, SlotReference]]:
         """Returns what names an object: a `RegisterReference` for each register, then a `SlotReference` for each slot."""
         return self.send(f"referrers {word_of_moment(moment)} {ObjectId(of)}", rows_by(reference))
@@ -245,9 +265,10 @@ class Calls:
         ("older", P)."""
         return self.send(f"dropped {ObjectId(of)}", place_or_older)
 
-    def history(self, count: int, place: Optional[int] = None) -> list[PastStep]:
-        """Returns a `PastStep` for each of the newest retained steps, the newest first."""
-        return self.send(f"history {count}" if place is None else f"history @{place} {count}", rows_by(past))
+    def history(self, count: int, moment: Moment = None) -> list[PastStep]:
+        """Returns a `PastStep` for each of the newest retained steps, or of those that led to a `Place`, the newest first. A pin has
+        no history."""
+        return self.send(f"history {word_of_moment(moment)} {count}", rows_by(past))
 
     def pins(self) -> list[Union[HeldPin, LostPin]]:
         """Returns a `HeldPin` or a `LostPin` for each open pin."""

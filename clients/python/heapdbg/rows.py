@@ -44,6 +44,22 @@ class ClassCount(NamedTuple):
     class_name: str
 
 
+class Holding(NamedTuple):
+    """An object that no other dominates, how many objects it retains, itself among them, and their bytes."""
+
+    id: ObjectId
+    objects: int
+    bytes: int
+    class_name: str
+
+
+class Dominator(NamedTuple):
+    """An object that dominates another."""
+
+    id: ObjectId
+    class_name: str
+
+
 class ClassGrowth(NamedTuple):
     """The objects and bytes of a class at an older moment and at a newer one."""
 
@@ -303,6 +319,16 @@ def number_or_id(word: str) -> Union[int, ObjectId, None]:
 def counted(row: list) -> ClassCount:
     """Reads OBJECTS BYTES CLASS."""
     return ClassCount(int(row[0]), int(row[1]), row[2])
+
+
+def holding(row: list) -> Holding:
+    """Reads ID OBJECTS BYTES CLASS."""
+    return Holding(id_of(row[0]), int(row[1]), int(row[2]), row[3])
+
+
+def dominating(row: list) -> Dominator:
+    """Reads ID CLASS."""
+    return Dominator(id_of(row[0]), row[1])
 
 
 def grown(row: list) -> ClassGrowth:

@@ -14,8 +14,8 @@ pub(crate) const LINE_END: u8 = b'\n';
 // The number of columns that are aligned: the words of a row behind them follow each other.
 const COLUMNS: usize = 16;
 
-/// An outlet for a person at a terminal. It shows the words of successive rows below each other, without the word `row`, and
-/// all other lines as they are. Contracts see the bytes that it was given, not those that it shows.
+/// An outlet for a person at a terminal. It shows the words of successive rows below each other, without the word `row`, numbers
+/// at the right of their columns, and all other lines as they are. Contracts see the bytes that it was given, not those that it shows.
 #[derive(Drop)]
 pub struct ColumnOutlet<O: Outlet + Drop> {
     outlet: O,
@@ -34,34 +34,68 @@ impl<O: Outlet + Drop> Model for ColumnOutlet<O> {
     ghost view = { λ o. record { out = log_bytes o.put.items; failures = length o.failed.items } };
 }
 
-// The width of each column of some rows.
+// A column of some rows: how wide it is, and whether it has words that aren't numbers.
 #[derive(Clone, Copy)]
-struct Widths([usize; COLUMNS]);
+struct Column {
+    width: usize,
+    has_words: bool,
+}
 
-impl Widths {
-    // Returns the widths that the words of these rows need.
-    fn of(rows: &[&[u8]]) -> Widths {
-        let mut widths = Widths([0; COLUMNS]);
-        for row in rows {
-            widths.widen(row);
-        }
-        widths
+// Tells whether a word is a number.
+fn is_number(word: &[u8]) -> bool {
+    word.iter().all(|byte| byte.is_ascii_digit())
+}
+
+impl Column {
+    // Makes room for a word.
+    fn widen(&mut self, word: &[u8]) {
+        self.width = self.width.max(word.len());
+        self.has_words = self.has_words || !is_number(word);
     }
 
-    // Makes each column as wide as its word of a row at least.
+    // Returns how many spaces stand before a word and behind it: those of a column of numbers stand before it.
+    fn spaces_beside(&self, word: &[u8]) -> (usize, usize) {
+        let room = self.width.saturating_sub(word.len());
+        if self.has_words { (0, room) } else { (room, 0) }
+    }
+}
+
+// The columns of some rows.
+#[derive(Clone, Copy)]
+struct Columns([Column; COLUMNS]);
+
+impl Columns {
+    // Returns the columns that the words of these rows need.
+    fn of(rows: &[&[u8]]) -> Columns {
+        let empty = Column {
+            width: 0,
+            has_words: false,
+        };
+        let mut columns = Columns([empty; COLUMNS]);
+        for row in rows {
+            columns.widen(row);
+        }
+        columns
+    }
+
+    // Makes room in each column for its word of a row.
     fn widen(&mut self, row: &[u8]) {
         let mut column = 0;
         for word in row.split(|byte| *byte == b' ') {
             if column < COLUMNS {
-                self.0[column] = self.0[column].max(word.len());
+                self.0[column].widen(word);
                 column += 1;
             }
         }
     }
 
-    // Returns the width of a column, which is 0 if it isn't aligned.
-    fn width(&self, column: usize) -> usize {
-        if column < COLUMNS { self.0[column] } else { 0 }
+    // Returns how many spaces stand before a word of this column and behind it: none if the column isn't aligned.
+    fn spaces_beside(&self, column: usize, word: &[u8]) -> (usize, usize) {
+        if column < COLUMNS {
+            self.0[column].spaces_beside(word)
+        } else {
+            (0, 0)
+        }
     }
 }
 
@@ -74,16 +108,14 @@ fn add_spaces(text: &mut Vec<u8>, count: usize) -> Result<(), AllocError> {
 }
 
 // Adds a row with its words in columns.
-fn add_row(text: &mut Vec<u8>, row: &[u8], widths: &Widths) -> Result<(), AllocError> {
+fn add_row(text: &mut Vec<u8>, row: &[u8], columns: &Columns) -> Result<(), AllocError> {
     let mut column: usize = 0;
-    let mut due = 2;
+    let mut due: usize = 0;
     for word in row.split(|byte| *byte == b' ') {
-        add_spaces(text, due)?;
+        let (before, behind) = columns.spaces_beside(column, word);
+        add_spaces(text, due.saturating_add(before).saturating_add(2))?;
         text.extend_from_slice(word)?;
-        due = widths
-            .width(column)
-            .saturating_sub(word.len())
-            .saturating_add(2);
+        due = behind;
         column = column.saturating_add(1);
     }
     text.push(LINE_END)?;
@@ -92,9 +124,9 @@ fn add_row(text: &mut Vec<u8>, row: &[u8], widths: &Widths) -> Result<(), AllocE
 
 // Adds rows with their words in columns.
 fn add_rows(text: &mut Vec<u8>, rows: &[&[u8]]) -> Result<(), AllocError> {
-    let widths = Widths::of(rows);
+    let columns = Columns::of(rows);
     for row in rows {
-        add_row(text, row, &widths)?;
+        add_row(text, row, &columns)?;
     }
     Ok(())
 }

@@ -2,7 +2,7 @@
 
 // The policy of the page.
 pub(crate) const POLICY: &str =
-    "default-src 'none'; script-src 'sha256-s66BrqWKJGGN+9KDAXDD5dcMJGzhePmFjUkzaoNyXqw='; style-src 'sha256-9Me/SFiawhkG25pGyw6I+0x79AccM3lNGUCYmjDwzrQ='; img-src data:; connect-src 'self'; base-uri 'none'; form-action 'none'; frame-ancestors 'none'";
+    "default-src 'none'; script-src 'sha256-VK7HQOkJxCztLKvRe9LADKMcXx8Nn7XpjB6d+iIYis8='; style-src 'sha256-9Me/SFiawhkG25pGyw6I+0x79AccM3lNGUCYmjDwzrQ='; img-src data:; connect-src 'self'; base-uri 'none'; form-action 'none'; frame-ancestors 'none'";
 
 // The page.
 pub(crate) const PAGE: &[u8] = b"<!doctype html>\n\
@@ -162,7 +162,7 @@ pub(crate) const PAGE: &[u8] = b"<!doctype html>\n\
     <main>\n\
     \x20\x20<div class=\"col\">\n\
     \x20\x20\x20\x20<div class=\"panel\" id=\"classpanel\"><h2>Classes <small id=\"classnote\"></small></h2><div class=\"scroll\"><table id=\"classes\"><thead></thead><tbody></tbody><tfoot></tfoot></table></div></div>\n\
-    \x20\x20\x20\x20<div class=\"panel\" id=\"instpanel\"><h2>Instances <small id=\"instnote\"></small></h2><div class=\"scroll\"><table id=\"inst\"><thead></thead><tbody></tbody></table><div class=\"empty\" id=\"instempty\">Click a class to list its objects, or compare two places to list those made between them.</div></div></div>\n\
+    \x20\x20\x20\x20<div class=\"panel\" id=\"instpanel\"><h2>Instances <small id=\"instnote\"></small></h2><div class=\"scroll\"><table id=\"inst\"><thead></thead><tbody></tbody></table><table id=\"tops\"><thead><tr><th>Object</th><th class=\"left\">Class</th><th>Objects</th><th>Bytes</th></tr></thead><tbody></tbody></table><div class=\"empty\" id=\"instempty\">Click a class to list its objects, or compare two places to list those made between them.</div></div></div>\n\
     \x20\x20</div>\n\
     \x20\x20<div class=\"col\">\n\
     \x20\x20\x20\x20<div class=\"panel\" id=\"mappanel\"><h2>Regions <small id=\"mapnote\"></small><span class=\"grow\"></span><span class=\"seg\" role=\"group\" aria-label=\"Zoom\"><button id=\"zoomout\" title=\"Zoom out (-)\" aria-label=\"Zoom out\">\xe2\x88\x92</button><button id=\"zoomin\" title=\"Zoom in (+), or turn the wheel\" aria-label=\"Zoom in\">+</button><button id=\"zoomall\" title=\"Show all regions (0)\">all</button><button id=\"zoomcell\" title=\"Zoom to the cell of the object (Z)\">cell</button></span><span class=\"seg\" role=\"group\" aria-label=\"Colour\"><button id=\"byclass\" aria-pressed=\"true\" title=\"Colour cells by class (C)\">class</button><button id=\"byage\" aria-pressed=\"false\" title=\"Colour cells by age (A)\">age</button></span></h2>\n\
@@ -178,7 +178,7 @@ pub(crate) const PAGE: &[u8] = b"<!doctype html>\n\
     <h2>Find a leak</h2>\n\
     <ol>\n\
     <li><b>Growth between cycles</b> compares the heap at the ends of the two newest marking cycles, so with little garbage in it. Or drag the handle of the time line to a place, press <b>Compare from here</b> (or click the line with <kbd>Shift</kbd>), and drag it to a later one.</li>\n\
-    <li>The classes that grew most stand first. Click one: its objects are listed, the oldest first; those that were there before are faint.</li>\n\
+    <li>The classes that grew most stand first. Click one: its objects are listed, the oldest first; those that were there before are faint. With no class picked, the list has the objects through which most is reached.</li>\n\
     <li>Click an object. <b>Why it is alive</b> is a shortest path from a register, and <b>Written at</b> the step that wrote each field. What it <b>retains</b> is what would go with it, itself counted.</li>\n\
     <li>Click a place, such as @1,507: everything now shows the heap there, and <b>Steps</b> what was done around it.</li>\n\
     </ol>\n\
@@ -236,11 +236,13 @@ pub(crate) const PAGE: &[u8] = b"<!doctype html>\n\
     \x20\x20\x20\x20reclaim: \"#ff725c\"\n\
     \x20\x20};\n\
     \x20\x20const COLORS = [...new Set(Object.values(EVENTS))];\n\
-    \x20\x20// The most objects that are listed, the most requests at a time, the steps that are read before all are, and the most that are read again while the heap goes on.\n\
+    \x20\x20// The most objects that are listed, the most requests at a time, the steps that are read before all are, the most that are read again while the heap goes on, and the\n\
+    \x20\x20// objects that are listed through which most is reached.\n\
     \x20\x20const LISTED = 200,\n\
     \x20\x20\x20\x20LANES = 6,\n\
     \x20\x20\x20\x20FEW = 400,\n\
-    \x20\x20\x20\x20MANY = 4000;\n\
+    \x20\x20\x20\x20MANY = 4000,\n\
+    \x20\x20\x20\x20TOPS = 20;\n\
     \n\
     \x20\x20// ---- what is known\n\
     \x20\x20const key = location.hash.slice(1) || sessionStorage.getItem(\"heapdbg-key\") || \"\";\n\
@@ -260,6 +262,7 @@ pub(crate) const PAGE: &[u8] = b"<!doctype html>\n\
     \x20\x20\x20\x20base: null,\n\
     \x20\x20\x20\x20sort: [\"bytes\", -1],\n\
     \x20\x20\x20\x20klass: null,\n\
+    \x20\x20\x20\x20tops: { place: -1, rows: [] },\n\
     \x20\x20\x20\x20sel: null,\n\
     \x20\x20\x20\x20trail: [],\n\
     \x20\x20\x20\x20by: \"class\",\n\
@@ -1269,10 +1272,11 @@ pub(crate) const PAGE: &[u8] = b"<!doctype html>\n\
     \x20\x20\x20\x20\x20\x20at = S.shown,\n\
     \x20\x20\x20\x20\x20\x20since = S.base !== null && S.base < at ? S.base : null,\n\
     \x20\x20\x20\x20\x20\x20any = name !== null || since !== null;\n\
-    \x20\x20\x20\x20$(\"instempty\").hidden = any;\n\
     \x20\x20\x20\x20$(\"inst\").hidden = !any;\n\
+    \x20\x20\x20\x20$(\"tops\").hidden = any || !S.tops.rows.length;\n\
+    \x20\x20\x20\x20$(\"instempty\").hidden = any || !$(\"tops\").hidden;\n\
     \x20\x20\x20\x20note.textContent = \"\";\n\
-    \x20\x20\x20\x20if (!any) return;\n\
+    \x20\x20\x20\x20if (!any) return drawTops();\n\
     \x20\x20\x20\x20const { count, before, some } = listed(name, at, since),\n\
     \x20\x20\x20\x20\x20\x20fresh = since === null ? \"\" : `, ${num(count - before)} made since @${num(since)}`;\n\
     \x20\x20\x20\x20note.title = \"The oldest first; those that were there before a place that is compared with come last\";\n\
@@ -1289,6 +1293,44 @@ pub(crate) const PAGE: &[u8] = b"<!doctype html>\n\
     \x20\x20\x20\x20\x20\x20body.replaceChildren(...rows(some.slice(0, few)));\n\
     \x20\x20\x20\x20});\n\
     \x20\x20\x20\x20if (few < some.length) afterPaint(() => turn === lists && body.append(...rows(some.slice(few))));\n\
+    \x20\x20}\n\
+    \n\
+    \x20\x20// Asks through which objects most is reached, once a place has been shown for a while and no class is picked.\n\
+    \x20\x20async function loadTops(place) {\n\
+    \x20\x20\x20\x20if (place !== S.shown || S.fast || S.klass !== null || S.base !== null) return;\n\
+    \x20\x20\x20\x20const r = await ask(`dominators @${place} ${TOPS}`, true);\n\
+    \x20\x20\x20\x20if (!r.ok || place !== S.shown) return;\n\
+    \x20\x20\x20\x20S.tops = { place, rows: r.rows };\n\
+    \x20\x20\x20\x20drawInstances();\n\
+    \x20\x20}\n\
+    \x20\x20let topsLater = 0;\n\
+    \n\
+    \x20\x20// Draws the objects through which most is reached. Those of the place that was shown before are faint until it is known.\n\
+    \x20\x20function drawTops() {\n\
+    \x20\x20\x20\x20const known = S.tops.place === S.shown,\n\
+    \x20\x20\x20\x20\x20\x20rows = S.tops.rows,\n\
+    \x20\x20\x20\x20\x20\x20most = Math.max(1, ...rows.map((x) => +x[2]));\n\
+    \x20\x20\x20\x20clearTimeout(topsLater);\n\
+    \x20\x20\x20\x20if (!known) topsLater = setTimeout(() => loadTops(S.shown).catch(() => {}), 300);\n\
+    \x20\x20\x20\x20if (!rows.length) return;\n\
+    \x20\x20\x20\x20$(\"instnote\").textContent = \"through which most is reached\";\n\
+    \x20\x20\x20\x20$(\"instnote\").title = \"What is reached only through each of them, itself among it. Click a class to list its objects\";\n\
+    \x20\x20\x20\x20keepFocus($(\"tops\"), () => $(\"tops\").tBodies[0].replaceChildren(...rows.map((x) => topRow(x, most, known))));\n\
+    \x20\x20}\n\
+    \n\
+    \x20\x20function topRow([id, objects, bytes, name], most, known) {\n\
+    \x20\x20\x20\x20const tr = rowOf(id, \"pick\" + (S.sel === id ? \" on\" : \"\") + (known ? \"\" : \" before\"), () => pick(id)),\n\
+    \x20\x20\x20\x20\x20\x20first = el(\"td\"),\n\
+    \x20\x20\x20\x20\x20\x20other = el(\"td\", \"name left\", name),\n\
+    \x20\x20\x20\x20\x20\x20b = el(\"td\", \"bar\", num(bytes)),\n\
+    \x20\x20\x20\x20\x20\x20i = el(\"i\");\n\
+    \x20\x20\x20\x20first.append(swatch(colorOf(name)), id);\n\
+    \x20\x20\x20\x20other.title = name;\n\
+    \x20\x20\x20\x20i.style.width = 44 * bytes / most + \"px\";\n\
+    \x20\x20\x20\x20i.style.background = colorOf(name);\n\
+    \x20\x20\x20\x20b.append(i);\n\
+    \x20\x20\x20\x20tr.append(first, other, el(\"td\", \"\", num(objects)), b);\n\
+    \x20\x20\x20\x20return tr;\n\
     \x20\x20}\n\
     \n\
     \x20\x20function instanceRow({ o, p, before }, name, at) {\n\

@@ -1,8 +1,10 @@
 -- The classes of what registers name, and of listed objects, are there.
-use Rattle.std.proofs.Common.{◌≡◌, ℕ, Bool, true, false, cond, List, [], ◌∷◌, Option, Some, length, map, subst, sym}
+use Rattle.std.proofs.Common.{◌≡◌, ℕ, Bool, true, false, cond, List, [], ◌∷◌, Option, Some, get_or, length, map, subst, sym}
 use Rattle.std.specs.Prelude.{All, find, option_map, ◌==◌}
 use Rattle.std.specs.List.{AllByRecursion}
 use Rattle.std.proofs.lemmas.List.Elements.{All-filter, All-from_recursion, recursion_from_All}
+use Rattle.std.proofs.lemmas.Option.{slice_get-get_or}
+use Rattle.heap_class.specs.declared.IdSize.{IdSize}
 use Rattle.heap_class.specs.declared.ObjKind.{ObjKind}
 use Rattle.heap_class.specs.declared.ObjKind.TheVariants.{Instance, Array, Prim}
 use Rattle.heap_class.specs.Classes.{Class}
@@ -10,8 +12,13 @@ use Rattle.hprof_text.specs.Image.{DumpedObject, Image, IsDumpable, IsKnown}
 use Rattle.heap_questions.specs.Graph.{object_with}
 use Rattle.heap_questions.specs.ObjectLists.{AreObjectsWanted, listed_object, objects_wanted}
 use Rattle.heap_questions.specs.Registers.{object_named}
+use Rattle.heap_questions.specs.Wanted.{is_wanted}
 use Rattle.heap_questions.specs.declared.wanted.Wanted.{Wanted}
 use Rattle.heap_questions.specs.declared.object_list.ListedObject.{ListedObject}
+use Rattle.heap_dominators.specs.Rows.{AreFirstRows}
+use Rattle.heap_dominators.specs.declared.rows.TopObject.{TopObject}
+use Rattle.heap_dominators.proofs.KnownRows.{known_row}
+use Rattle.question_text.specs.DominatorRows.{IsTopThere}
 use Rattle.question_text.specs.Names.{IsClassThere}
 use Rattle.question_text.specs.ObjectLists.{IsListedThere}
 use Rattle.question_text.specs.Registers.{IsKindKnown, NamesKnown}
@@ -60,4 +67,11 @@ pub all_listed_there : (wanted : Wanted) (image : Image) (all : List ListedObjec
 all_listed_there wanted image all d is =
     let these = objects_wanted wanted image in
     All-from_recursion (IsListedThere image.classes) all
-    (subst (λ (l : List ListedObject). AllByRecursion (IsListedThere image.classes) l) (sym is.2) (listed_there image.classes is.0 these (recursion_from_All (IsThere image.classes) these (All-filter (IsThere image.classes) image.objects d.known))))
+    (subst (λ (l : List ListedObject). AllByRecursion (IsListedThere image.classes) l) (sym is.2) (listed_there image.classes is.0 these (recursion_from_All (IsThere image.classes) these (All-filter (λ o. is_wanted wanted o.kind o.words) (IsThere image.classes) image.objects d.known))))
+
+-- the classes of the rows of `dominators` are there
+pub all_tops_there : (ids : IdSize) (image : Image) (most : Option ℕ) (rows : List TopObject) → IsDumpable image → AreFirstRows ids image most rows → All (IsTopThere image.classes) rows
+all_tops_there ids image most rows d is i t h =
+    let r = get_or rows i t in
+    let k = known_row ids image most rows i r d is (slice_get-get_or rows i t h) in
+    there image.classes r.kind k.0 k.1

@@ -5,7 +5,7 @@ use Rattle.session_grammar.specs.Grammar.{at_end, next_number, number_of_word, o
 use Rattle.question_text.specs.declared.question.At.{At}
 use Rattle.question_text.specs.declared.question.At.TheVariants.{Current, Pin, Place}
 use Rattle.question_text.specs.declared.question.Question.{Question}
-use Rattle.question_text.specs.declared.question.Question.TheVariants.{Histogram, Garbage, Growth, Kept, Registers, Classes, Objects, Referrers, Path, Retained, Show, Born, Wrote, Watch, Writes, Dropped, History, Pins, Cells, Regions, Status}
+use Rattle.question_text.specs.declared.question.Question.TheVariants.{Histogram, Garbage, Growth, Kept, Registers, Classes, Objects, Referrers, Path, Retained, Dominators, Dominator, Show, Born, Wrote, Watch, Writes, Dropped, History, Pins, Cells, Regions, Status}
 use Rattle.std.specs.Option.{option_or}
 use Rattle.heap_questions.specs.declared.wanted.Wanted.{Wanted}
 use Rattle.heap_questions.specs.declared.wanted.Wanted.TheVariants.{All, OfClass, Holding}
@@ -61,6 +61,23 @@ abbrev pub optional_at_and_id : List (List ℕ) → Option (At × ℕ)
 optional_at_and_id [] = None
 optional_at_and_id (w ∷ []) = option_map (λ x. (Current, x)) (id_of_word w)
 optional_at_and_id (w ∷ v ∷ ws) = at_and_id (w ∷ v ∷ ws)
+
+-- the current state and the number; or without one the state that a word names
+abbrev pub number_or_at : Option ℕ → List ℕ → Option (At × Option ℕ)
+number_or_at (Some n) w = Some (Current, Some n)
+number_or_at None w = option_map (λ at. (at, None)) (at_of_word w)
+
+-- the number that a word is, about the current state, or the state that it names
+abbrev pub at_or_number : List ℕ → Option (At × Option ℕ)
+at_or_number w = number_or_at (number_of_word w) w
+
+-- the state and the number that the words name; a single word is the number, if it is one
+abbrev pub optional_at_and_number : List (List ℕ) → Option (At × Option ℕ)
+optional_at_and_number [] = Some (Current, None)
+optional_at_and_number (w ∷ []) = at_or_number w
+optional_at_and_number (w ∷ v ∷ ws) =
+    option_and_then (λ a. option_and_then (λ n. at_end (a.0, Some n.0) n.1) (next_number a.1))
+    (next_at (w ∷ v ∷ ws))
 
 -- the one id that the words name
 abbrev pub one_id : List (List ℕ) → Option ℕ
@@ -149,6 +166,8 @@ question_rules =
     ∷ (codes "referrers", λ ws. option_map (λ a. Referrers a.0 a.1) (optional_at_and_id ws))
     ∷ (codes "path", λ ws. option_map (λ a. Path a.0 a.1) (optional_at_and_id ws))
     ∷ (codes "retained", λ ws. option_map (λ a. Retained a.0 a.1) (optional_at_and_id ws))
+    ∷ (codes "dominators", λ ws. option_map (λ a. Dominators a.0 a.1) (optional_at_and_number ws))
+    ∷ (codes "dominator", λ ws. option_map (λ a. Dominator a.0 a.1) (optional_at_and_id ws))
     ∷ (codes "show", λ ws. option_map (λ a. Show a.0 a.1) (optional_at_and_id ws))
     ∷ past_rules
 

@@ -10,6 +10,7 @@ use crate::birth::born_answer;
 use crate::cell_list::cells_answer;
 use crate::class_list::classes_answer;
 use crate::comment::unasked_answer;
+use crate::dominator_rows::{dominator_answer, dominators_answer};
 use crate::growth::growth_answer;
 use crate::histogram::{garbage_text, histogram_text, retained_answer};
 use crate::history::history_answer;
@@ -54,6 +55,10 @@ enum StateQuestion {
     Path(u64),
     // What is reached, and wouldn't be without the object with this id, as a histogram has it.
     Retained(u64),
+    // The objects that no other dominates: how many rows, or all.
+    Dominators(Option<u64>),
+    // What dominates the object with this id.
+    Dominator(u64),
     // The slots of an object, and whether it is marked.
     Show { id: u64, marked: bool },
 }
@@ -102,6 +107,8 @@ fn view_lines(
         StateQuestion::Referrers(id) => referrers_answer(alloc, view, id),
         StateQuestion::Path(id) => path_answer(alloc, view, id),
         StateQuestion::Retained(id) => retained_answer(alloc, view, id),
+        StateQuestion::Dominators(most) => or_refused(dominators_answer(alloc, view, most)),
+        StateQuestion::Dominator(id) => dominator_answer(alloc, view, id),
         StateQuestion::Show { id, marked } => show_answer(alloc, view, id, marked),
     }
 }
@@ -217,6 +224,12 @@ pub fn answer(alloc: Global, machine: &Machine, acts: Option<u64>, question: Que
         Question::Path { at, id } => state_answer(alloc, machine, at, StateQuestion::Path(id)),
         Question::Retained { at, id } => {
             state_answer(alloc, machine, at, StateQuestion::Retained(id))
+        }
+        Question::Dominators { at, most } => {
+            state_answer(alloc, machine, at, StateQuestion::Dominators(most))
+        }
+        Question::Dominator { at, id } => {
+            state_answer(alloc, machine, at, StateQuestion::Dominator(id))
         }
         Question::Show { at, id } => {
             let marked = shows_mark(machine, at, id);

@@ -30,17 +30,20 @@ fn has_retained(machine: &Machine, place: u64) -> bool
 }
 
 // Returns how many steps ago the state at a place was, or 0 if no place is given. Fails with NotRetained if it isn't retained.
+#[tactic(auto, unfolding(crate::specs::Histories::steps_ago))]
 pub(crate) fn steps_ago(machine: &Machine, to: Option<u64>) -> Result<u64, Refusal>
     ensures steps { result ≡ steps_ago to machine.now.trail }
     ensures within { IfOk result (λ ago. ago ≤ retained machine.now.trail) }
 {
-    let Some(place) = to else {
-        return Ok(0);
-    };
-    if has_retained(machine, place) {
-        Ok(machine.place() - place)
-    } else {
-        Err(Refusal::NotRetained)
+    match to {
+        None => Ok(0),
+        Some(place) => {
+            if has_retained(machine, place) {
+                Ok(machine.place() - place)
+            } else {
+                Err(Refusal::NotRetained)
+            }
+        }
     }
 }
 

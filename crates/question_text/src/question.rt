@@ -2,7 +2,7 @@
 ghost use Rattle.std.specs.Prelude.{◌≡◌, drop};
 ghost use Rattle.session_grammar.specs.Grammar.{words_of_line};
 ghost use Rattle.session_grammar.specs.Reads.{IsNextWord};
-ghost use Rattle.question_text.specs.Questions.{at_and_optional, at_and_wanted, at_of_word, id_and_number, next_id, one_id, optional_at, optional_at_and_id, past_rules, place_and_number, place_of, question_by, question_of, question_rules, two_numbers, value_of_word, wanted_of};
+ghost use Rattle.question_text.specs.Questions.{at_and_optional, at_and_wanted, at_of_word, at_or_number, id_and_number, next_id, one_id, optional_at, optional_at_and_id, optional_at_and_number, past_rules, place_and_number, place_of, question_by, question_of, question_rules, two_numbers, value_of_word, wanted_of};
 
 use crate::id::id_of;
 use heap_questions::Wanted;
@@ -44,6 +44,10 @@ pub enum Question {
     Path { at: At, id: u64 },
     /// What is reached, and wouldn't be without an object, as a histogram has it.
     Retained { at: At, id: u64 },
+    /// The objects that no other dominates, with what each retains: how many rows, or all.
+    Dominators { at: At, most: Option<u64> },
+    /// The objects without which an object wouldn't be reached, one above the other.
+    Dominator { at: At, id: u64 },
     /// The slots of an object.
     Show { at: At, id: u64 },
     /// When an object was made.
@@ -109,6 +113,29 @@ fn optional_at_and_id(mut words: Words) -> Option<(At, u64)>
         return Some((At::Current, id_of(word)?));
     };
     at_end((at_of(word)?, id_of(second)?), words)
+}
+
+// Returns the number that a word is, about the current state, or the state that it names, without a number.
+fn at_or_number(word: &[u8]) -> Option<(At, Option<u64>)>
+    ensures { result ≡ at_or_number word.now }
+{
+    match number_of(word) {
+        Some(number) => Some((At::Current, Some(number))),
+        None => Some((at_of(word)?, None)),
+    }
+}
+
+// Returns the state and the number that the words name. A single word is the number, if it is one.
+fn optional_at_and_number(mut words: Words) -> Option<(At, Option<u64>)>
+    ensures { result ≡ optional_at_and_number (words_of_line words.entry) }
+{
+    let Some(word) = words.next_word() else {
+        return Some((At::Current, None));
+    };
+    let Some(second) = words.next_word() else {
+        return at_or_number(word);
+    };
+    at_end((at_of(word)?, Some(number_of(second)?)), words)
 }
 
 // Returns the two states that the words name. If they name only one, the second is the current one.
@@ -278,6 +305,14 @@ fn later_question(keyword: &[u8], words: Words) -> Option<Question>
     if is_word(keyword, b"retained") {
         let (at, id) = optional_at_and_id(words)?;
         return Some(Question::Retained { at, id });
+    }
+    if is_word(keyword, b"dominators") {
+        let (at, most) = optional_at_and_number(words)?;
+        return Some(Question::Dominators { at, most });
+    }
+    if is_word(keyword, b"dominator") {
+        let (at, id) = optional_at_and_id(words)?;
+        return Some(Question::Dominator { at, id });
     }
     if is_word(keyword, b"show") {
         let (at, id) = optional_at_and_id(words)?;

@@ -1,0 +1,61 @@
+-- The texts of `dominators` and `dominator`.
+use Rattle.std.specs.Prelude.{◌≡◌, ◌⊎◌, ℕ, List, [], ◌∷◌, ◌++◌, codes, flat_map, length, Option, Some, None}
+use Rattle.std.specs.Option.{option_map_or}
+use Rattle.heap_class.specs.declared.IdSize.{IdSize}
+use Rattle.heap_class.specs.declared.ObjKind.{ObjKind}
+use Rattle.heap_class.specs.Classes.{Class}
+use Rattle.hprof_text.specs.Image.{DumpedObject, Image}
+use Rattle.heap_questions.specs.Graph.{IsUnreached, object_with}
+use Rattle.heap_dominators.specs.Rows.{AreFirstRows}
+use Rattle.heap_dominators.specs.Upward.{AreDominatorsUp}
+use Rattle.heap_dominators.specs.declared.rows.TopObject.{TopObject}
+use Rattle.session_text.specs.Replies.{and_number, line}
+use Rattle.question_text.specs.Ids.{and_id}
+use Rattle.question_text.specs.Moments.{no_object_text, unreachable_text}
+use Rattle.question_text.specs.Names.{IsClassThere, class_name}
+use Rattle.question_text.specs.Referrers.{count_text}
+
+-- the class of an object that no other dominates is there
+abbrev pub IsTopThere : List Class → TopObject → Type 0
+IsTopThere classes t = IsClassThere classes t.kind
+
+-- the line of an object that no other dominates: its id, how many objects it retains, their bytes, and its class
+unfoldable pub top_text : List Class → TopObject → List ℕ
+top_text classes t =
+    line
+    ((((codes "row" ++ and_id t.id) ++ and_number t.objects) ++ and_number t.bytes)
+    ++ 32 ∷ class_name classes t.kind)
+
+-- the answer of `dominators`: the rows that are asked for, and how many they are
+abbrev pub IsDominatorsText : Option ℕ → IdSize → Image → List ℕ → Type 0
+IsDominatorsText most ids image text =
+    (tops : List TopObject) × AreFirstRows ids image most tops
+    × (text ≡ flat_map (top_text image.classes) tops ++ count_text (length tops))
+
+-- the line of an object that dominates another: its id and its class
+unfoldable pub holder_text : List Class → ℕ → ObjKind → List ℕ
+holder_text classes x kind = line ((codes "row" ++ and_id x) ++ 32 ∷ class_name classes kind)
+
+-- the line of the object with this id
+abbrev pub above_text : Image → ℕ → List ℕ
+above_text image x =
+    option_map_or (λ o. holder_text image.classes x o.kind) (object_with image x) []
+
+-- the lines of these objects, and how many they are
+abbrev pub up_text : Image → List ℕ → List ℕ
+up_text image up = flat_map (above_text image) up ++ count_text (length up)
+
+-- from x up each is the immediate dominator of the one before; or no register reaches x
+abbrev pub IsUpText : ℕ → Image → List ℕ → Type 0
+IsUpText x image text =
+    ((up : List ℕ) × AreDominatorsUp image x up × (text ≡ up_text image up))
+    ⊎ (IsUnreached image x × (text ≡ unreachable_text))
+
+-- the same about the object with this id, if there is one
+abbrev pub IsDominatorTextOf : Option DumpedObject → ℕ → Image → List ℕ → Type 0
+IsDominatorTextOf None x image text = text ≡ no_object_text
+IsDominatorTextOf (Some o) x image text = IsUpText x image text
+
+-- the answer of `dominator`
+abbrev pub IsDominatorText : ℕ → Image → List ℕ → Type 0
+IsDominatorText x image text = IsDominatorTextOf (object_with image x) x image text

@@ -2,14 +2,14 @@
 """Runs the built program once for each of its allocations, which is refused in that run.
 
 Usage: checks/growths.py [-v] PROGRAM
-A session ends by `memory` before it reads, or refuses one line and answers all others as a session without that line, or loses a
-pin and answers all but its pieces as if it hadn't. A line that was refused is answered as ever when it is given once more, and so
-are all after it. So it is beside a page. Two clients are served at a time: a session that ends by `memory` has answered nothing, and
-the other one goes on, also beside workers and dumps, each of which is whole or a beginning. A save is the dump of the session's last state, or a beginning
-of it if the dump is lost by Memory. If it is lost before its first byte, or the session isn't dumped, a file that was there stays
-as it was, and no file is made. No session asks for much more memory at once than its settings need, and no rewind asks for any.
-Prints a line for each session that goes otherwise, and with -v for each how many allocations were refused; ends with status 1 if one
-goes otherwise."""
+A session ends by `memory` before it reads, or refuses one line and answers all others as a session without that line, or loses
+a pin and answers all but its pieces as if it hadn't. A line that was refused is answered as ever when it is given once more,
+and so are all after it. So it is beside a page, and with a question in place of a line. Two clients are served at a time: a
+session that ends by `memory` has answered nothing, and the other one goes on, also beside workers and dumps, each of which is
+whole or a beginning. A save is the dump of the session's last state, or a beginning of it if the dump is lost by Memory. If it
+is lost before its first byte, or the session isn't dumped, a file that was there stays as it was, and no file is made. No
+session asks for much more memory at once than its settings need, and no rewind asks for any. Prints a line for each session
+that goes otherwise, and with -v for each how many allocations were refused; ends with status 1 if one goes otherwise."""
 import contextlib
 import os
 import pathlib
@@ -43,6 +43,13 @@ SESSIONS = {
         put 0 0 1 5, open 3, piece 1, piece 1, piece 1, piece 2, piece 2, piece 2, rewind 2""",
     "save_pumps_the_heap": "class Point - x:int y:int, new 0 0 0, put 0 0 0 7, open -, put 0 0 0 9",
 }
+
+# A session with each question that may ask for memory. 0x10000000 leads to the others, and 0x10000040 is lost.
+QUESTIONS = """class Node - next:object v:long, array Nodes, new 0 0 0, new 0 1 0, new 0 2 0, newarray 0 3 1 2, store 0 0 0 1, store 0 1 0 3,
+    put 0 1 1 7, store 0 3 1 0, clear 0 1, clear 0 2, clear 0 3, put 0 0 1 5, open -, histogram, garbage, growth @3, kept @3, path 0x10000020,
+    retained 0x10000020, dominators, dominators 1, dominator 0x10000020, referrers 0x10000000, registers, classes, objects, objects 1 0 1 7,
+    show 0x10000000, show @9 0x10000020, watch 0x10000020 1, writes 0 1, dropped 0x10000040, history 9, history @9 3, pins, cells, regions,
+    status"""
 
 # A session of a wide heap: as many classes and regions as make each table grow, names longer and pins more than other heaps allow, and a
 # cycle beside these pins.
@@ -86,10 +93,10 @@ def run(command, library, number, given=b""):
 
 
 def replies(out):
-    """Returns the replies of an output as (data lines, last line)."""
+    """Returns the replies of an output as (data lines or rows, last line)."""
     found, data = [], []
     for line in out.splitlines():
-        if line.startswith(b"data "):
+        if line.startswith((b"data ", b"row ")):
             data.append(line)
         else:
             found.append((data, line))
@@ -570,6 +577,8 @@ def main(heapdbg, verbose=False):
             for line in wrong_sizes(program, library, lines):
                 print(f"{name}, {line}")
                 good = False
+        explore = [program, "explore", "--regions", "4"]
+        good = told("questions", wrong_sessions(explore, library, words_of(QUESTIONS)), verbose) and good
         wide = [program, "run", "--wide", "1", "--regions", WIDE_REGIONS]
         good = told("a wide heap", wrong_sessions(wide, library, WIDE), verbose) and good
         for regions, both in BESIDE_WORKERS.items():

@@ -6,7 +6,7 @@ use Rattle.heap_step.specs.declared.Event.{Event}
 use Rattle.heap_step.specs.declared.Event.TheVariants.{Class, ArrayClass, New, NewArray, NewPrim, Load, Store, Put, Move, Clear, Snap, Mark, Drain, Finish, Sweep}
 use Rattle.heap_trail.specs.declared.Action.TheVariants.{Step}
 use Rattle.session_grammar.specs.declared.command.Command.TheVariants.{Ask}
-use Rattle.session_grammar.specs.Grammar.{command_of}
+use Rattle.session_grammar.specs.Grammar.{command_of, is_plain}
 use Rattle.session_lines.specs.EventLines.{event_text}
 
 -- a byte that prints a sign: none of the space and those that print nothing
@@ -48,6 +48,11 @@ HasLine Drain = Unit {0}
 HasLine Finish = Unit {0}
 HasLine (Sweep region) = IsLong region
 
--- the line of each event that has one asks for that event
+-- the line of an event has only bytes that a line may have, and asks for that event
+pub record IsLineOf (e : Event) : Type 0 where
+  pub plain : is_plain (event_text e) ≡ true
+  pub read : command_of (event_text e) ≡ Ask (Step e)
+
+-- so it is with each event that has a line
 abbrev pub AreLinesRead : Type 0
-AreLinesRead = (e : Event) → HasLine e → command_of (event_text e) ≡ Ask (Step e)
+AreLinesRead = (e : Event) → HasLine e → IsLineOf e

@@ -1,0 +1,2 @@
+pub mod SpacedWords
+pub mod EventWords

@@ -63,6 +63,10 @@ spaced first words = first ++ and_words words
 abbrev pub event_text : Event → List ℕ
 event_text e = spaced (verb_of e) (words_of e)
 
+-- the line of an event
+abbrev pub line_of : Event → List ℕ
+line_of e = event_text e ++ 10 ∷ []
+
 -- these bytes were appended, unless an allocation failed
 abbrev pub Appends : {A : Type 0} → List ℕ → List ℕ → List ℕ → Result A AllocError → Type 0
 Appends bytes old new result = OnOk result (new ≡ old ++ bytes)

@@ -3,6 +3,8 @@
 
 mod event_lines;
 mod laws;
+mod lines;
 
 pub use event_lines::push_event;
 pub use laws::lines_are_read;
+pub use lines::Lines;

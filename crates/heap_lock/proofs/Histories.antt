@@ -92,7 +92,7 @@ is_due config tables m m' es seat_tables e k deed move enters = record {
   enters = enters;
 }
 
--- one entry more, with the seat's seat_table
+-- one entry more, with the seat's table
 pub kept_more : (config : HeapSettings) (tables : List TableId) (m m' : Machine) (es : List Entry) (seat_tables : List SeatTable) (e : Entry) (d' : SeatTable) → IsUnderLock config tables m es seat_tables → e.seat < length tables
     → is_dump_action e.action ≡ false → MayReply m e.action m' (reply_of e.answer) → MayEnter (reply_of e.answer) → IsSeatTable (table_at tables e.seat) (entries_by e.seat (es ++ e ∷ [])) d' → IsUnderLock config tables m' (es ++ e ∷ []) (set seat_tables e.seat d')
 kept_more config tables m m' es seat_tables e d' k lt deed move enters seat_table =
@@ -122,7 +122,7 @@ kept_dumped config tables m m' es seat_tables a r k dump (mark, stands, is) =
     let left = dumps_leave m m' a mark r dump is in
     record { legal = k.legal; keep = left.1 ∙ k.keep; ids = left.2 ∙ k.ids; folds = left.0 ∙ k.folds; seated = k.seated; count = k.count; booked = k.booked }
 
--- a seat_table that has the same book again
+-- a table that has the same entries again
 pub kept_as : (config : HeapSettings) (tables : List TableId) (m : Machine) (es : List Entry) (seat_tables : List SeatTable) (seat : ℕ) (d' : SeatTable) → IsUnderLock config tables m es seat_tables → IsSeatTable (table_at tables seat) (entries_by seat es) d' → IsUnderLock config tables m es (set seat_tables seat d')
 kept_as config tables m es seat_tables seat d' k seat_table =
     record {

@@ -74,7 +74,7 @@ fresh_push ds d h is n x at = ⊎_elim
     (subst (λ z. IsSeatTable z [] d) (sym (ap (λ l. table_at l n) (tables_more ds d) ∙ ap (table_at (tables_of ds ++ d.table.shared.table_id ∷ [])) (t.0 ∙ sym (length_tables ds)) ∙ at_back (tables_of ds) d.table.shared.table_id)) is))
     (at_end ds d x n at)
 
--- the new unnamed_seat is of the new seat_table
+-- the new seat is of the new table
 pub made : (ds : List SeatTable) (d : SeatTable) (ss : List UnnamedSeat) (s : UnnamedSeat) → AllUnnamed (tables_of ds) ss → s.number ≡ length ds → s.share.table_id ≡ d.table.shared.table_id → s.share.views ≡ WithSeat (entries_in s.share.views) ∷ [] → AllUnnamed (tables_of (ds ++ d ∷ [])) (ss ++ s ∷ [])
 made ds d ss s h number same is =
     subst (λ l. AllUnnamed l (ss ++ s ∷ [])) (sym (tables_more ds d))

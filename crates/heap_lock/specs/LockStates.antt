@@ -110,7 +110,7 @@ IsMoved config action k r k' =
     × (k'.machine.trail ≡ trail_after config.keep k.machine.trail action)
     × IsDue config.keep k.machine.trail (entry r.seat action r.answer)
 
--- what it does to the rest: chronicle and share add_entry the entry with this answer, and the ledger gains the call
+-- what it does to the rest: chronicle and share gain the entry with this answer, and the ledger gains the call
 abbrev pub IsAct : Action → LockState → SeatModel → Receipt → LockState → SeatModel → Type 0
 IsAct action k s r k' s' =
     (k'.chronicle ≡ k.chronicle ++ entry s.number action r.answer ∷ [])

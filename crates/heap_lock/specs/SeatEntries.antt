@@ -1,4 +1,4 @@
--- A entries in two parts.
+-- The entries of a seat, in two copies.
 use Rattle.std.specs.Prelude.{◌≡◌, ℕ, List, [], ◌∷◌, ◌++◌}
 use mathlib.Core.Option.{some}
 use lib.ListN.{get_elem?}

@@ -26,7 +26,7 @@ use std::mem::replace;
 use std::snapshot::Snapshot;
 use std::sync::{Mutex, MutexGuard, Wait};
 
-/// Which heap it is: what it was made with, whether its chronicle rolls, the table of each seat's entries_by, and that of the ledger.
+/// Which heap it is: what it was made with, whether its chronicle rolls, the table of each seat's entries, and that of the ledger.
 pub trait Heap {
     ghost use Rattle.std.specs.Prelude.{Bool, List};
     ghost use Rattle.atomic_table.specs.Seated.{TableId};
@@ -255,7 +255,7 @@ impl<L: Heap> Kept<L> {
         }
     }
 
-    /// Does an event for one who holds the lock. The chronicle and the seat's share add_entry the entry with the answer that
+    /// Does an event for one who holds the lock. The chronicle and the seat's share gain the entry with the answer that
     /// the model gives at that point; a refused event is an entry too. Fails with ChronicleFull if the chronicle
     /// takes no more entries, and with NoMemory; then nothing has changed.
     pub fn act_held(&mut self, seat: &mut Seat<L>, event: Event) -> Result<Receipt, Refusal>

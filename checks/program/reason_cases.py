@@ -1,5 +1,6 @@
 """Cases of files and ports that can't be used: what is said of them on a terminal, before the word of the fault, and elsewhere."""
 import os
+import re
 import socket
 import tempfile
 
@@ -7,6 +8,8 @@ from clients import free_port
 from runs import POINT, POINT_MADE, run, run_by_terminal
 
 NOTHING = b"No such file or directory"
+# How far a save is: a terminal shows it once a second has passed, as it may on a busy machine.
+PROGRESS = re.compile(rb"(\r\d+ of \d+ bytes)+\n")
 
 
 def reasons(program):
@@ -35,5 +38,6 @@ def reasons(program):
         ):
             told = b"heapdbg: %s\n" % word
             why = b"heapdbg: %s\n" % reason
-            yield f"{words} beside a terminal", run_by_terminal(program, words, POINT), (1, out, why + told)
+            status, made, shown = run_by_terminal(program, words, POINT)
+            yield f"{words} beside a terminal", (status, made, PROGRESS.sub(b"", shown)), (1, out, why + told)
             yield f"{words}", run(program, words, POINT), (1, out, told)

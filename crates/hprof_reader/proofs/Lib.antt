@@ -6,3 +6,4 @@ pub mod ReadSubs
 pub mod EntryLoops
 pub mod ReadHeaders
 pub mod ReadBack
+pub mod ReadFields

@@ -7,3 +7,4 @@ pub mod Entries
 pub mod SubParts
 pub mod Headers
 pub mod Images
+pub mod Fields

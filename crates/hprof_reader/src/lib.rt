@@ -3,6 +3,7 @@
 
 mod class_dumps;
 mod fault;
+mod fields;
 mod header;
 mod kinds;
 mod numbers;
@@ -14,6 +15,7 @@ mod tests;
 
 pub use class_dumps::{ClassDump, ClassHead, Entry, Table};
 pub use fault::Fault;
+pub use fields::{OwnField, StaticField, own_field_at, static_field_at};
 pub use header::{Header, header_at};
 pub use read_back::sub_records_are_read;
 pub use records::{Record, record_at};

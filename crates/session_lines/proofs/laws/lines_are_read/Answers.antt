@@ -1,0 +1,5 @@
+use Rattle.session_lines.proofs.EventWords.{each_read}
+use Rattle.session_lines.proofs.laws.lines_are_read.Goals as goal
+
+pub returns : goal.returns
+returns c = each_read

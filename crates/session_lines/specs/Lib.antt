@@ -1,0 +1,3 @@
+pub mod EventLines
+pub mod Laws
+pub mod Lines

@@ -1,10 +1,11 @@
 //! The lines that define classes.
 use crate::fields::own_field;
-use crate::lines::{push_number, push_words};
 use crate::order::{Plan, Planned};
 use crate::plan::Found;
-use heap_class::{ClassLimits, Name};
+use heap_class::{ClassLimits, Field, Fields, Name};
+use heap_step::Event;
 use indexmap::IndexSet;
+use session_lines::Lines;
 use std::alloc::{AllocError, Global};
 
 // Tells whether a name may have this byte.
@@ -21,53 +22,41 @@ fn is_clean(limits: &ClassLimits, name: &[u8]) -> bool {
     !name.is_empty() && name.len() as u64 <= limits.name_bytes && name[0] != b'.' && name.iter().all(|byte| is_sign(limits, *byte))
 }
 
-// Appends a name of its own: a full stop, the number, and what of the name may stand there.
-pub(crate) fn push_other(text: &mut Vec<u8>, limits: &ClassLimits, number: u64, name: &[u8]) -> Result<(), AllocError> {
-    push_words(text, b".")?;
-    push_words(text, itoa::Buffer::new().format(number).as_bytes())?;
-    push_words(text, b".")?;
+// Returns a name of its own: a full stop, the number, and what of the name may stand there.
+fn other_name(alloc: Global, limits: &ClassLimits, number: u64, name: &[u8]) -> Result<Name, AllocError> {
+    let mut text = Vec::new(alloc);
+    text.push(b'.')?;
+    text.extend_from_slice(itoa::Buffer::new().format(number).as_bytes())?;
+    text.push(b'.')?;
     let room = (limits.name_bytes as usize).saturating_sub(22);
     for byte in &name[..name.len().min(room)] {
         let sign = if is_sign(limits, *byte) { *byte } else { b'_' };
         text.push(sign)?;
     }
-    Ok(())
+    Ok(Name::from_vec(text))
 }
 
-// Appends the name of a class or a field, or a name of its own if it may not have that or another has it.
-pub(crate) fn push_name(
-    alloc: Global,
-    text: &mut Vec<u8>,
-    limits: &ClassLimits,
-    seen: &mut IndexSet<Name>,
-    number: u64,
-    name: &[u8],
-) -> Result<bool, AllocError> {
-    if is_clean(limits, name) && seen.insert(Name::new(alloc, name)?)? {
-        push_words(text, name)?;
-        return Ok(true);
-    }
-    push_other(text, limits, number, name)?;
-    Ok(false)
+/// Names that were given, each once.
+#[derive(Drop)]
+pub(crate) struct Given {
+    names: IndexSet<Name>,
+    /// How many are written otherwise.
+    pub others: u64,
 }
 
-// Appends the fields of a class.
-fn push_fields<'a>(
-    alloc: Global,
-    text: &mut Vec<u8>,
-    limits: &ClassLimits,
-    found: &Found<'a>,
-    class: &Planned<'a>,
-) -> Result<(), AllocError> {
-    let mut seen = IndexSet::new(alloc);
-    for i in 0..class.kept {
-        let (name, kind) = own_field(found.ids, class.dump.fields, i);
-        push_words(text, b" ")?;
-        push_name(alloc, text, limits, &mut seen, i as u64, name_of(found, name))?;
-        push_words(text, b":")?;
-        push_words(text, kind.word().as_bytes())?;
+impl Given {
+    pub(crate) fn new(alloc: Global) -> Given {
+        Given { names: IndexSet::new(alloc), others: 0 }
     }
-    Ok(())
+
+    // Returns the name of a class or a field, or a name of its own if it may not have that or another has it.
+    pub(crate) fn name(&mut self, alloc: Global, limits: &ClassLimits, number: u64, name: &[u8]) -> Result<Name, AllocError> {
+        if is_clean(limits, name) && self.names.insert(Name::new(alloc, name)?)? {
+            return Name::new(alloc, name);
+        }
+        self.others += 1;
+        other_name(alloc, limits, number, name)
+    }
 }
 
 // Returns the bytes of a name.
@@ -86,33 +75,43 @@ pub(crate) fn class_name<'a>(found: &Found<'a>, id: u64) -> &'a [u8] {
     }
 }
 
+// Returns the fields of a class.
+fn fields_of(alloc: Global, limits: &ClassLimits, found: &Found<'_>, class: &Planned<'_>) -> Result<Fields, AllocError> {
+    let mut given = Given::new(alloc);
+    let mut fields = Vec::new(alloc);
+    for i in 0..class.kept {
+        let (name, kind) = own_field(found.ids, class.dump.fields, i);
+        let name = given.name(alloc, limits, i as u64, name_of(found, name))?;
+        fields.push(Field { name, kind })?;
+    }
+    Ok(Fields::from_vec(fields))
+}
+
 /// Appends the lines that define the classes. Fails if an allocation fails.
-pub fn push_classes<'a>(
+pub(crate) fn push_classes<'a>(
     alloc: Global,
-    text: &mut Vec<u8>,
+    lines: &mut Lines,
     limits: &ClassLimits,
     found: &mut Found<'a>,
     plan: &Plan<'a>,
-    seen: &mut IndexSet<Name>,
+    given: &mut Given,
 ) -> Result<(), AllocError> {
     for k in 0..plan.classes.len() {
         let class = plan.classes[k];
-        push_words(text, if class.is_array { b"array " } else { b"class " })?;
-        let name = class_name(found, class.dump.head.id);
-        if !push_name(alloc, text, limits, seen, k as u64, name)? {
-            found.cuts.names += 1;
-        }
-        if !class.is_array {
-            match class.sup {
-                Some(sup) => push_number(text, sup as u64)?,
-                None => push_words(text, b" -")?,
-            }
-            push_fields(alloc, text, limits, found, &class)?;
+        let name = given.name(alloc, limits, k as u64, class_name(found, class.dump.head.id))?;
+        if class.is_array {
+            lines.push(&Event::ArrayClass { name })?;
+        } else {
+            let sup = match class.sup {
+                Some(sup) => Some(sup as u64),
+                None => None,
+            };
+            let fields = fields_of(alloc, limits, found, &class)?;
+            lines.push(&Event::Class { name, sup, fields })?;
             if class.kept < class.dump.fields.count as usize {
                 found.cuts.fields += 1;
             }
         }
-        push_words(text, b"\n")?;
     }
     Ok(())
 }

@@ -4,7 +4,6 @@
 mod class_lines;
 mod cuts;
 mod fields;
-mod lines;
 mod object_lines;
 mod order;
 mod places;

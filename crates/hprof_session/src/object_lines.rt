@@ -1,24 +1,25 @@
 //! The lines that make objects and write their values.
-use crate::fields::{kind_of, own_field, static_at, value_in};
-use crate::lines::{push_line, push_number, push_words};
+use crate::fields::{own_field, value_in};
 use crate::order::Plan;
-use crate::places::{MADE, push_keep, push_place};
-use crate::plan::{Found, id_in};
+use crate::places::MADE;
+use crate::plan::Found;
 use heap_class::Kind;
+use heap_step::Event;
 use hprof_reader::{Instance, ObjectArray, PrimArray, SubRecord};
+use session_lines::Lines;
 use std::alloc::AllocError;
 
 /// The most elements of an array.
 pub const MOST_ELEMENTS: u64 = 1024;
 
 // Appends the line that writes a value, unless it is 0.
-fn push_value(text: &mut Vec<u8>, kind: Kind, slot: u64, bytes: &[u8]) -> Result<(), AllocError> {
+fn push_value(lines: &mut Lines, kind: Kind, slot: u64, bytes: &[u8]) -> Result<(), AllocError> {
     let value = value_in(bytes);
     if value == 0 {
         return Ok(());
     }
     let value = if kind == Kind::Boolean { 1 } else { value };
-    push_line(text, b"put", &[0, MADE, slot, value])
+    lines.push(&Event::Put { m: 0, target: MADE, slot, value })
 }
 
 /// A slot of an instance: its number, its kind and its bytes.
@@ -87,7 +88,7 @@ pub(crate) fn made_class(plan: &Plan<'_>, id: u64, is_array: bool) -> Option<usi
 
 // Appends the lines that make an instance.
 fn push_instance<'a>(
-    text: &mut Vec<u8>,
+    lines: &mut Lines,
     slots: &mut Vec<SlotIn<'a>>,
     found: &Found<'a>,
     plan: &Plan<'a>,
@@ -96,68 +97,62 @@ fn push_instance<'a>(
     let Some(class) = made_class(plan, instance.class, false) else {
         return Ok(false);
     };
-    push_line(text, b"new", &[0, MADE, class as u64])?;
+    lines.push(&Event::New { m: 0, r: MADE, class: class as u64 })?;
     slots_in(slots, found, plan, class, instance.values)?;
     for i in 0..slots.len() {
         let slot = slots[i];
         if slot.kind != Kind::Object {
-            push_value(text, slot.kind, slot.slot, slot.bytes)?;
+            push_value(lines, slot.kind, slot.slot, slot.bytes)?;
         }
     }
     Ok(true)
 }
 
 // Appends the line that makes an array of references.
-fn push_array(text: &mut Vec<u8>, plan: &Plan<'_>, array: &ObjectArray<'_>) -> Result<bool, AllocError> {
+fn push_array(lines: &mut Lines, plan: &Plan<'_>, array: &ObjectArray<'_>) -> Result<bool, AllocError> {
     let Some(class) = made_class(plan, array.class, true) else {
         return Ok(false);
     };
     let count = (array.count as u64).min(MOST_ELEMENTS);
-    push_line(text, b"newarray", &[0, MADE, class as u64, count])?;
+    lines.push(&Event::NewArray { m: 0, r: MADE, class: class as u64, len: count })?;
     Ok(true)
 }
 
 // Appends the lines that make an array of values.
-fn push_prim(text: &mut Vec<u8>, found: &Found<'_>, array: &PrimArray<'_>) -> Result<bool, AllocError> {
+fn push_prim(lines: &mut Lines, found: &Found<'_>, array: &PrimArray<'_>) -> Result<bool, AllocError> {
     if array.kind == Kind::Object {
         return Ok(false);
     }
     let count = (array.count as u64).min(MOST_ELEMENTS);
-    push_words(text, b"newprim")?;
-    push_number(text, 0)?;
-    push_number(text, MADE)?;
-    push_words(text, b" ")?;
-    push_words(text, array.kind.word().as_bytes())?;
-    push_number(text, count)?;
-    push_words(text, b"\n")?;
+    lines.push(&Event::NewPrim { m: 0, r: MADE, kind: array.kind, len: count })?;
     let width = array.kind.width(found.ids) as usize;
     for i in 0..count as usize {
-        push_value(text, array.kind, i as u64, &array.elements[i * width..(i + 1) * width])?;
+        push_value(lines, array.kind, i as u64, &array.elements[i * width..(i + 1) * width])?;
     }
     Ok(true)
 }
 
 /// Appends the lines that make object n of a dump. Returns whether it is made.
 pub(crate) fn push_object<'a>(
-    text: &mut Vec<u8>,
+    lines: &mut Lines,
     slots: &mut Vec<SlotIn<'a>>,
     found: &mut Found<'a>,
     plan: &Plan<'a>,
     sub: &SubRecord<'a>,
 ) -> Result<bool, AllocError> {
     match sub {
-        SubRecord::Instance(instance) => push_instance(text, slots, found, plan, instance),
+        SubRecord::Instance(instance) => push_instance(lines, slots, found, plan, instance),
         SubRecord::ObjectArray(array) => {
             if array.count as u64 > MOST_ELEMENTS {
                 found.cuts.arrays += 1;
             }
-            push_array(text, plan, array)
+            push_array(lines, plan, array)
         }
         SubRecord::PrimArray(array) => {
             if array.count as u64 > MOST_ELEMENTS {
                 found.cuts.arrays += 1;
             }
-            push_prim(text, found, array)
+            push_prim(lines, found, array)
         }
         _ => Ok(false),
     }

@@ -1,5 +1,6 @@
 //! Where objects are kept while they are made: in arrays of arrays, which registers name.
-use crate::lines::push_line;
+use heap_step::Event;
+use session_lines::Lines;
 use std::alloc::AllocError;
 
 /// The number of slots of each array that keeps objects.
@@ -18,26 +19,26 @@ pub const NAMED: u64 = 6;
 pub const ROOTS: u64 = 7;
 
 // Appends the lines that make the arrays for object n, if they aren't there yet. `class` is that of the arrays.
-pub(crate) fn push_place(text: &mut Vec<u8>, class: u64, n: u64) -> Result<(), AllocError> {
+pub(crate) fn push_place(lines: &mut Lines, class: u64, n: u64) -> Result<(), AllocError> {
     let top = n / (WIDTH * WIDTH);
     if n % (WIDTH * WIDTH) == 0 {
-        push_line(text, b"newarray", &[0, top, class, WIDTH])?;
+        lines.push(&Event::NewArray { m: 0, r: top, class, len: WIDTH })?;
     }
     if n % WIDTH == 0 {
-        push_line(text, b"newarray", &[0, LEAF, class, WIDTH])?;
-        push_line(text, b"store", &[0, top, n / WIDTH % WIDTH, LEAF])?;
+        lines.push(&Event::NewArray { m: 0, r: LEAF, class, len: WIDTH })?;
+        lines.push(&Event::Store { m: 0, target: top, slot: n / WIDTH % WIDTH, source: LEAF })?;
     }
     Ok(())
 }
 
 // Appends the line that keeps object n, which is the newest.
-pub(crate) fn push_keep(text: &mut Vec<u8>, n: u64) -> Result<(), AllocError> {
-    push_line(text, b"store", &[0, LEAF, n % WIDTH, MADE])
+pub(crate) fn push_keep(lines: &mut Lines, n: u64) -> Result<(), AllocError> {
+    lines.push(&Event::Store { m: 0, target: LEAF, slot: n % WIDTH, source: MADE })
 }
 
 // Appends the lines that bring object n to a register.
-pub(crate) fn push_fetch(text: &mut Vec<u8>, n: u64, register: u64) -> Result<(), AllocError> {
+pub(crate) fn push_fetch(lines: &mut Lines, n: u64, register: u64) -> Result<(), AllocError> {
     let top = n / (WIDTH * WIDTH);
-    push_line(text, b"load", &[0, LEAF, top, n / WIDTH % WIDTH])?;
-    push_line(text, b"load", &[0, register, LEAF, n % WIDTH])
+    lines.push(&Event::Load { m: 0, to: LEAF, from: top, slot: n / WIDTH % WIDTH })?;
+    lines.push(&Event::Load { m: 0, to: register, from: LEAF, slot: n % WIDTH })
 }

@@ -1,17 +1,17 @@
 //! The session of a dump.
-use crate::class_lines::{class_name, push_classes, push_name, push_other};
+use crate::class_lines::{Given, class_name, name_of, push_classes};
 use crate::fields::{static_at, value_in};
-use crate::lines::{push_line, push_number, push_words};
 use crate::object_lines::{MOST_ELEMENTS, SlotIn, made_class, push_object, slots_in};
 use crate::order::{Plan, plan_classes};
-use crate::places::{LEAF, MADE, MOST, NAMED, ROOTS, TOPS, push_fetch, push_keep, push_place};
-use crate::plan::{Found, find, id_in};
+use crate::places::{MADE, MOST, NAMED, ROOTS, push_fetch, push_keep, push_place};
+use crate::plan::Found;
 use crate::walk::{Item, Walk, item_at};
 use dump_pump::Outlet;
 use dump_pump::transfer::put_all;
-use heap_class::{ClassLimits, Kind, Name, SLOT_LIMIT};
+use heap_class::{ClassLimits, Field, Fields, Kind, SLOT_LIMIT};
+use heap_step::Event;
 use hprof_reader::{ClassDump, SubRecord};
-use indexmap::IndexSet;
+use session_lines::Lines;
 use std::alloc::{AllocError, Global};
 
 // The number of bytes from which on lines are put out.
@@ -31,12 +31,13 @@ pub enum Written {
 }
 
 // Puts out lines, if they are enough.
-fn put_some<O: Outlet>(outlet: &mut O, text: &mut Vec<u8>, enough: usize) -> bool {
-    if text.len() < enough {
+fn put_some<O: Outlet>(outlet: &mut O, lines: &mut Lines, enough: usize) -> bool {
+    let size = lines.as_slice().len();
+    if size < enough {
         return true;
     }
-    let is_out = put_all(outlet, text.as_slice()) == text.len();
-    text.clear();
+    let is_out = put_all(outlet, lines.as_slice()) == size;
+    lines.clear();
     is_out
 }
 
@@ -54,35 +55,33 @@ fn has_statics(found: &Found<'_>, dump: &ClassDump<'_>) -> bool {
 }
 
 // Appends the line of the class of a class's static fields.
-fn push_static_class(alloc: Global, text: &mut Vec<u8>, limits: &ClassLimits, found: &Found<'_>, number: u64, dump: &ClassDump<'_>, seen: &mut IndexSet<Name>) -> Result<(), AllocError> {
-    push_words(text, b"class ")?;
-    let mut name = Vec::new(alloc);
-    name.extend_from_slice(class_name(found, dump.head.id))?;
-    name.extend_from_slice(b".static")?;
-    push_name(alloc, text, limits, seen, number, name.as_slice())?;
-    push_words(text, b" -")?;
-    let mut names = IndexSet::new(alloc);
+fn push_static_class(alloc: Global, lines: &mut Lines, limits: &ClassLimits, found: &Found<'_>, number: u64, dump: &ClassDump<'_>, given: &mut Given) -> Result<(), AllocError> {
+    let mut text = Vec::new(alloc);
+    text.extend_from_slice(class_name(found, dump.head.id))?;
+    text.extend_from_slice(b".static")?;
+    let name = given.name(alloc, limits, number, text.as_slice())?;
+    let mut names = Given::new(alloc);
+    let mut fields = Vec::new(alloc);
     let mut rest = dump.statics.bytes;
     for i in 0..(dump.statics.count as usize).min(SLOT_LIMIT) {
         let (field, after) = static_at(found.ids, rest);
-        push_words(text, b" ")?;
-        push_name(alloc, text, limits, &mut names, i as u64, crate::class_lines::name_of(found, field.name))?;
-        push_words(text, b":")?;
-        push_words(text, field.kind.word().as_bytes())?;
+        let name = names.name(alloc, limits, i as u64, name_of(found, field.name))?;
+        fields.push(Field { name, kind: field.kind })?;
         rest = after;
     }
-    push_words(text, b"\n")
+    let fields = Fields::from_vec(fields);
+    lines.push(&Event::Class { name, sup: None, fields })
 }
 
 // Appends the lines that make the object of a class's static fields.
-fn push_static_object(text: &mut Vec<u8>, found: &Found<'_>, class: u64, dump: &ClassDump<'_>) -> Result<(), AllocError> {
-    push_line(text, b"new", &[0, MADE, class])?;
+fn push_static_object(lines: &mut Lines, found: &Found<'_>, class: u64, dump: &ClassDump<'_>) -> Result<(), AllocError> {
+    lines.push(&Event::New { m: 0, r: MADE, class })?;
     let mut rest = dump.statics.bytes;
     for i in 0..(dump.statics.count as usize).min(SLOT_LIMIT) {
         let (field, after) = static_at(found.ids, rest);
         let value = value_in(field.value);
         if field.kind != Kind::Object && value != 0 {
-            push_line(text, b"put", &[0, MADE, i as u64, if field.kind == Kind::Boolean { 1 } else { value }])?;
+            lines.push(&Event::Put { m: 0, target: MADE, slot: i as u64, value: if field.kind == Kind::Boolean { 1 } else { value } })?;
         }
         rest = after;
     }
@@ -90,14 +89,14 @@ fn push_static_object(text: &mut Vec<u8>, found: &Found<'_>, class: u64, dump: &
 }
 
 // Appends the lines that store a reference to a slot of the object that is made.
-fn push_reference(text: &mut Vec<u8>, found: &mut Found<'_>, made: &Vec<bool>, slot: u64, id: u64) -> Result<(), AllocError> {
+fn push_reference(lines: &mut Lines, found: &mut Found<'_>, made: &Vec<bool>, slot: u64, id: u64) -> Result<(), AllocError> {
     if id == 0 {
         return Ok(());
     }
     match found.objects.get_index_of(&id) {
         Some(n) if made[n] => {
-            push_fetch(text, n as u64, NAMED)?;
-            push_line(text, b"store", &[0, MADE, slot, NAMED])
+            push_fetch(lines, n as u64, NAMED)?;
+            lines.push(&Event::Store { m: 0, target: MADE, slot, source: NAMED })
         }
         _ => {
             found.cuts.references += 1;
@@ -108,7 +107,7 @@ fn push_reference(text: &mut Vec<u8>, found: &mut Found<'_>, made: &Vec<bool>, s
 
 // Makes the objects of the dump.
 fn write_objects<'a, O: Outlet>(alloc: Global, outlet: &mut O, walk: Walk<'a>, found: &mut Found<'a>, plan: &Plan<'a>, keep: u64, made: &mut Vec<bool>) -> Result<bool, AllocError> {
-    let mut text = Vec::new(alloc);
+    let mut lines = Lines::new(alloc);
     let mut slots = Vec::new(alloc);
     let mut at = walk;
     for _ in 0..u64::MAX {
@@ -129,24 +128,24 @@ fn write_objects<'a, O: Outlet>(alloc: Global, outlet: &mut O, walk: Walk<'a>, f
             found.cuts.objects += 1;
             continue;
         }
-        push_place(&mut text, keep, n)?;
-        let is_made = push_object(&mut text, &mut slots, found, plan, &sub)?;
+        push_place(&mut lines, keep, n)?;
+        let is_made = push_object(&mut lines, &mut slots, found, plan, &sub)?;
         made.push(is_made)?;
         if is_made {
-            push_keep(&mut text, n)?;
+            push_keep(&mut lines, n)?;
         } else {
             found.cuts.objects += 1;
         }
-        if !put_some(outlet, &mut text, ENOUGH) {
+        if !put_some(outlet, &mut lines, ENOUGH) {
             return Ok(false);
         }
     }
-    Ok(put_some(outlet, &mut text, 1))
+    Ok(put_some(outlet, &mut lines, 1))
 }
 
 // Stores the references of the objects of the dump.
 fn write_references<'a, O: Outlet>(alloc: Global, outlet: &mut O, walk: Walk<'a>, found: &mut Found<'a>, plan: &Plan<'a>, made: &Vec<bool>) -> Result<bool, AllocError> {
-    let mut text = Vec::new(alloc);
+    let mut lines = Lines::new(alloc);
     let mut slots = Vec::new(alloc);
     let mut at = walk;
     let mut n = 0;
@@ -165,8 +164,8 @@ fn write_references<'a, O: Outlet>(alloc: Global, outlet: &mut O, walk: Walk<'a>
                             let slot = slots[i];
                             let id = value_in(slot.bytes);
                             if slot.kind == Kind::Object && id != 0 {
-                                if !is_here { push_fetch(&mut text, n as u64, MADE)?; is_here = true; }
-                                push_reference(&mut text, found, made, slot.slot, id)?;
+                                if !is_here { push_fetch(&mut lines, n as u64, MADE)?; is_here = true; }
+                                push_reference(&mut lines, found, made, slot.slot, id)?;
                             }
                         }
                     }
@@ -180,8 +179,8 @@ fn write_references<'a, O: Outlet>(alloc: Global, outlet: &mut O, walk: Walk<'a>
                     for i in 0..(it.count as usize).min(MOST_ELEMENTS as usize) {
                         let id = value_in(&it.elements[i * width..(i + 1) * width]);
                         if id != 0 {
-                            if !is_here { push_fetch(&mut text, n as u64, MADE)?; is_here = true; }
-                            push_reference(&mut text, found, made, i as u64, id)?;
+                            if !is_here { push_fetch(&mut lines, n as u64, MADE)?; is_here = true; }
+                            push_reference(&mut lines, found, made, i as u64, id)?;
                         }
                     }
                 }
@@ -192,55 +191,55 @@ fn write_references<'a, O: Outlet>(alloc: Global, outlet: &mut O, walk: Walk<'a>
             _ => continue,
         }
         n += 1;
-        if !put_some(outlet, &mut text, ENOUGH) {
+        if !put_some(outlet, &mut lines, ENOUGH) {
             return Ok(false);
         }
     }
-    Ok(put_some(outlet, &mut text, 1))
+    Ok(put_some(outlet, &mut lines, 1))
 }
 
 // Makes the objects of static fields, and stores their references. `first` is the class of the first.
 fn write_statics<'a, O: Outlet>(alloc: Global, outlet: &mut O, found: &mut Found<'a>, made: &mut Vec<bool>, statics: &Vec<ClassDump<'a>>, first: u64, keep: u64) -> Result<bool, AllocError> {
-    let mut text = Vec::new(alloc);
+    let mut lines = Lines::new(alloc);
     for j in 0..statics.len() {
         let n = made.len() as u64;
         found.objects.insert(statics[j].head.id)?;
-        push_place(&mut text, keep, n)?;
-        push_static_object(&mut text, found, first + j as u64, &statics[j])?;
-        push_keep(&mut text, n)?;
+        push_place(&mut lines, keep, n)?;
+        push_static_object(&mut lines, found, first + j as u64, &statics[j])?;
+        push_keep(&mut lines, n)?;
         made.push(true)?;
-        if !put_some(outlet, &mut text, ENOUGH) {
+        if !put_some(outlet, &mut lines, ENOUGH) {
             return Ok(false);
         }
     }
-    Ok(put_some(outlet, &mut text, 1))
+    Ok(put_some(outlet, &mut lines, 1))
 }
 
 fn write_static_references<'a, O: Outlet>(alloc: Global, outlet: &mut O, found: &mut Found<'a>, made: &Vec<bool>, statics: &Vec<ClassDump<'a>>) -> Result<bool, AllocError> {
-    let mut text = Vec::new(alloc);
+    let mut lines = Lines::new(alloc);
     let first = made.len() - statics.len();
     for j in 0..statics.len() {
-        push_fetch(&mut text, (first + j) as u64, MADE)?;
+        push_fetch(&mut lines, (first + j) as u64, MADE)?;
         let mut rest = statics[j].statics.bytes;
         for i in 0..(statics[j].statics.count as usize).min(SLOT_LIMIT) {
             let (field, after) = static_at(found.ids, rest);
             if field.kind == Kind::Object {
-                push_reference(&mut text, found, made, i as u64, value_in(field.value))?;
+                push_reference(&mut lines, found, made, i as u64, value_in(field.value))?;
             }
             rest = after;
         }
-        if !put_some(outlet, &mut text, ENOUGH) {
+        if !put_some(outlet, &mut lines, ENOUGH) {
             return Ok(false);
         }
     }
-    Ok(put_some(outlet, &mut text, 1))
+    Ok(put_some(outlet, &mut lines, 1))
 }
 
 // Makes the arrays of roots.
 fn write_roots<'a, O: Outlet>(alloc: Global, outlet: &mut O, found: &mut Found<'a>, made: &Vec<bool>, keep: u64) -> Result<bool, AllocError> {
-    let mut text = Vec::new(alloc);
+    let mut lines = Lines::new(alloc);
     let mut arrays = 0;
-    push_line(&mut text, b"newarray", &[0, ROOTS, keep, 1024])?;
+    lines.push(&Event::NewArray { m: 0, r: ROOTS, class: keep, len: 1024 })?;
     for kind in 0..9 {
         let mut named = Vec::new(alloc);
         for i in 0..found.roots.len() {
@@ -248,37 +247,39 @@ fn write_roots<'a, O: Outlet>(alloc: Global, outlet: &mut O, found: &mut Found<'
             if tag == ROOT_KINDS[kind].0 {
                 match found.objects.get_index_of(&id) {
                     Some(n) if made[n] => named.push(n as u64)?,
-                    _ => found.cuts.roots += 1,
+                    _ => if !found.classes.contains_key(&id) {
+                        found.cuts.roots += 1;
+                    },
                 }
             }
         }
         for i in 0..named.len() {
             if i % 1024 == 0 && arrays < 1024 {
                 let count = (named.len() - i).min(1024) as u64;
-                push_line(&mut text, b"newarray", &[0, MADE, keep + 1 + kind as u64, count])?;
-                push_line(&mut text, b"store", &[0, ROOTS, arrays, MADE])?;
+                lines.push(&Event::NewArray { m: 0, r: MADE, class: keep + 1 + kind as u64, len: count })?;
+                lines.push(&Event::Store { m: 0, target: ROOTS, slot: arrays, source: MADE })?;
                 arrays += 1;
             }
-            push_fetch(&mut text, named[i], NAMED)?;
-            push_line(&mut text, b"store", &[0, MADE, (i % 1024) as u64, NAMED])?;
-            if !put_some(outlet, &mut text, ENOUGH) {
+            push_fetch(&mut lines, named[i], NAMED)?;
+            lines.push(&Event::Store { m: 0, target: MADE, slot: (i % 1024) as u64, source: NAMED })?;
+            if !put_some(outlet, &mut lines, ENOUGH) {
                 return Ok(false);
             }
         }
     }
     for r in 0..ROOTS {
-        push_line(&mut text, b"clear", &[0, r])?;
+        lines.push(&Event::Clear { m: 0, r })?;
     }
-    Ok(put_some(outlet, &mut text, 1))
+    Ok(put_some(outlet, &mut lines, 1))
 }
 
 /// Puts out the lines of a session that makes the heap of a dump.
 pub fn write_session<'a, O: Outlet>(alloc: Global, outlet: &mut O, walk: Walk<'a>, limits: &ClassLimits, found: &mut Found<'a>) -> Result<bool, AllocError> {
     let room = limits.classes as usize - 10;
     let plan = plan_classes(alloc, found, room)?;
-    let mut text = Vec::new(alloc);
-    let mut seen = IndexSet::new(alloc);
-    push_classes(alloc, &mut text, limits, found, &plan, &mut seen)?;
+    let mut lines = Lines::new(alloc);
+    let mut given = Given::new(alloc);
+    push_classes(alloc, &mut lines, limits, found, &plan, &mut given)?;
     found.cuts.classes = (found.classes.len() - plan.classes.len()) as u64;
     let mut statics = Vec::new(alloc);
     let first = plan.classes.len() as u64;
@@ -286,7 +287,7 @@ pub fn write_session<'a, O: Outlet>(alloc: Global, outlet: &mut O, walk: Walk<'a
         let Some((_, dump)) = found.classes.get_index(i) else { break };
         if has_statics(found, dump) {
             if first as usize + statics.len() < room {
-                push_static_class(alloc, &mut text, limits, found, first + statics.len() as u64, dump, &mut seen)?;
+                push_static_class(alloc, &mut lines, limits, found, first + statics.len() as u64, dump, &mut given)?;
                 statics.push(*dump)?;
             } else {
                 found.cuts.classes += 1;
@@ -294,15 +295,14 @@ pub fn write_session<'a, O: Outlet>(alloc: Global, outlet: &mut O, walk: Walk<'a
         }
     }
     let keep = first + statics.len() as u64;
-    push_words(&mut text, b"array ")?;
-    push_name(alloc, &mut text, limits, &mut seen, keep, b"roots")?;
-    push_words(&mut text, b"\n")?;
+    let name = given.name(alloc, limits, keep, b"roots")?;
+    lines.push(&Event::ArrayClass { name })?;
     for kind in 0..9 {
-        push_words(&mut text, b"array ")?;
-        push_name(alloc, &mut text, limits, &mut seen, keep + 1 + kind as u64, ROOT_KINDS[kind].1)?;
-        push_words(&mut text, b"\n")?;
+        let name = given.name(alloc, limits, keep + 1 + kind as u64, ROOT_KINDS[kind].1)?;
+        lines.push(&Event::ArrayClass { name })?;
     }
-    if !put_some(outlet, &mut text, 1) {
+    found.cuts.names = given.others;
+    if !put_some(outlet, &mut lines, 1) {
         return Ok(false);
     }
     let mut made = Vec::new(alloc);

@@ -3,7 +3,7 @@ use crate::class_lines::{Given, class_name, name_of, push_classes};
 use crate::fields::{static_at, value_in};
 use crate::object_lines::{MOST_ELEMENTS, SlotIn, made_class, push_object, slots_in};
 use crate::order::{Plan, plan_classes};
-use crate::places::{MADE, MOST, NAMED, ROOTS, push_fetch, push_keep, push_place};
+use crate::places::{MADE, PLACES, push_fetch, push_keep, push_place};
 use crate::plan::Found;
 use crate::walk::{Item, Walk, item_at};
 use dump_pump::Outlet;
@@ -16,6 +16,12 @@ use std::alloc::{AllocError, Global};
 
 // The number of bytes from which on lines are put out.
 const ENOUGH: usize = 65_536;
+
+// The register of an object that a slot is to name.
+const NAMED: u64 = 6;
+
+// The register of the roots.
+const ROOTS: u64 = 7;
 
 // The tags of roots, and the names of the classes of the arrays that keep them.
 const ROOT_KINDS: [(u8, &[u8]); 9] = [
@@ -124,7 +130,7 @@ fn write_objects<'a, O: Outlet>(alloc: Global, outlet: &mut O, walk: Walk<'a>, f
         if found.objects.get_index_of(&id) != Some(made.len()) {
             continue;
         }
-        if n >= MOST {
+        if n >= PLACES {
             found.cuts.objects += 1;
             continue;
         }

@@ -19,11 +19,19 @@ fn is_sign(limits: &ClassLimits, byte: u8) -> bool {
 
 // Tells whether a class or a field may have this name: it has only such bytes, not too many, and doesn't begin with a full stop.
 fn is_clean(limits: &ClassLimits, name: &[u8]) -> bool {
-    !name.is_empty() && name.len() as u64 <= limits.name_bytes && name[0] != b'.' && name.iter().all(|byte| is_sign(limits, *byte))
+    !name.is_empty()
+        && name.len() as u64 <= limits.name_bytes
+        && name[0] != b'.'
+        && name.iter().all(|byte| is_sign(limits, *byte))
 }
 
 // Returns a name of its own: a full stop, the number, and what of the name may stand there.
-fn other_name(alloc: Global, limits: &ClassLimits, number: u64, name: &[u8]) -> Result<Name, AllocError> {
+fn other_name(
+    alloc: Global,
+    limits: &ClassLimits,
+    number: u64,
+    name: &[u8],
+) -> Result<Name, AllocError> {
     let mut text = Vec::new(alloc);
     text.push(b'.')?;
     text.extend_from_slice(itoa::Buffer::new().format(number).as_bytes())?;
@@ -46,11 +54,20 @@ pub(crate) struct Given {
 
 impl Given {
     pub(crate) fn new(alloc: Global) -> Given {
-        Given { names: IndexSet::new(alloc), others: 0 }
+        Given {
+            names: IndexSet::new(alloc),
+            others: 0,
+        }
     }
 
     // Returns the name of a class or a field, or a name of its own if it may not have that or another has it.
-    pub(crate) fn name(&mut self, alloc: Global, limits: &ClassLimits, number: u64, name: &[u8]) -> Result<Name, AllocError> {
+    pub(crate) fn name(
+        &mut self,
+        alloc: Global,
+        limits: &ClassLimits,
+        number: u64,
+        name: &[u8],
+    ) -> Result<Name, AllocError> {
         if is_clean(limits, name) && self.names.insert(Name::new(alloc, name)?)? {
             return Name::new(alloc, name);
         }
@@ -76,7 +93,12 @@ pub(crate) fn class_name<'a>(found: &Found<'a>, id: u64) -> &'a [u8] {
 }
 
 // Returns the fields of a class.
-fn fields_of(alloc: Global, limits: &ClassLimits, found: &Found<'_>, class: &Planned<'_>) -> Result<Fields, AllocError> {
+fn fields_of(
+    alloc: Global,
+    limits: &ClassLimits,
+    found: &Found<'_>,
+    class: &Planned<'_>,
+) -> Result<Fields, AllocError> {
     let mut given = Given::new(alloc);
     let mut fields = Vec::new(alloc);
     for i in 0..class.kept {
@@ -98,7 +120,12 @@ pub(crate) fn push_classes<'a>(
 ) -> Result<(), AllocError> {
     for k in 0..plan.classes.len() {
         let class = plan.classes[k];
-        let name = given.name(alloc, limits, k as u64, class_name(found, class.dump.head.id))?;
+        let name = given.name(
+            alloc,
+            limits,
+            k as u64,
+            class_name(found, class.dump.head.id),
+        )?;
         if class.is_array {
             lines.push(&Event::ArrayClass { name })?;
         } else {

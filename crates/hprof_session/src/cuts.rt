@@ -20,4 +20,12 @@ pub struct Cuts {
 }
 
 /// Nothing is left out.
-pub const NO_CUTS: Cuts = Cuts { arrays: 0, fields: 0, classes: 0, names: 0, objects: 0, references: 0, roots: 0 };
+pub const NO_CUTS: Cuts = Cuts {
+    arrays: 0,
+    fields: 0,
+    classes: 0,
+    names: 0,
+    objects: 0,
+    references: 0,
+    roots: 0,
+};

@@ -30,14 +30,28 @@ pub(crate) fn kind_of(code: u8) -> Kind {
 pub(crate) fn static_at(ids: IdSize, bytes: &[u8]) -> (FieldIn<'_>, &[u8]) {
     let size = ids.bytes() as usize;
     if bytes.len() <= size {
-        return (FieldIn { name: 0, kind: Kind::Byte, value: &[] }, &[]);
+        return (
+            FieldIn {
+                name: 0,
+                kind: Kind::Byte,
+                value: &[],
+            },
+            &[],
+        );
     }
     let name = id_in(ids, bytes);
     let kind = kind_of(bytes[size]);
     let rest = &bytes[size + 1..];
     let width = kind.width(ids) as usize;
     if rest.len() < width {
-        return (FieldIn { name: 0, kind: Kind::Byte, value: &[] }, &[]);
+        return (
+            FieldIn {
+                name: 0,
+                kind: Kind::Byte,
+                value: &[],
+            },
+            &[],
+        );
     }
     let (value, rest) = rest.split_at(width);
     (FieldIn { name, kind, value }, rest)

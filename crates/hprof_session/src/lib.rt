@@ -13,8 +13,8 @@ mod walk;
 mod whole_walk;
 
 pub use cuts::Cuts;
+pub use places::{MADE, PLACES, are_places, push_fetch, push_keep, push_place};
 pub use plan::{Found, find};
 pub use session::write_session;
-pub use places::{MADE, PLACES, are_places, push_fetch, push_keep, push_place};
 pub use walk::{Item, Walk, item_at};
 pub use whole_walk::{Survey, walk_over};

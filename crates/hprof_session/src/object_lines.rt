@@ -19,7 +19,12 @@ fn push_value(lines: &mut Lines, kind: Kind, slot: u64, bytes: &[u8]) -> Result<
         return Ok(());
     }
     let value = if kind == Kind::Boolean { 1 } else { value };
-    lines.push(&Event::Put { m: 0, target: MADE, slot, value })
+    lines.push(&Event::Put {
+        m: 0,
+        target: MADE,
+        slot,
+        value,
+    })
 }
 
 /// A slot of an instance: its number, its kind and its bytes.
@@ -50,7 +55,11 @@ fn class_slots<'a>(
         }
         let (value, after) = rest.split_at(width);
         if i < planned.kept {
-            slots.push(SlotIn { slot: base + i as u64, kind, bytes: value })?;
+            slots.push(SlotIn {
+                slot: base + i as u64,
+                kind,
+                bytes: value,
+            })?;
         }
         rest = after;
     }
@@ -81,7 +90,11 @@ pub(crate) fn slots_in<'a>(
 // Returns the number of a class, if objects of it can be made: instances, or arrays.
 pub(crate) fn made_class(plan: &Plan<'_>, id: u64, is_array: bool) -> Option<usize> {
     match plan.numbers.get(&id) {
-        Some(k) => if plan.classes[*k].is_array == is_array { Some(*k) } else { None },
+        Some(k) => if plan.classes[*k].is_array == is_array {
+            Some(*k)
+        } else {
+            None
+        },
         None => None,
     }
 }
@@ -97,7 +110,11 @@ fn push_instance<'a>(
     let Some(class) = made_class(plan, instance.class, false) else {
         return Ok(false);
     };
-    lines.push(&Event::New { m: 0, r: MADE, class: class as u64 })?;
+    lines.push(&Event::New {
+        m: 0,
+        r: MADE,
+        class: class as u64,
+    })?;
     slots_in(slots, found, plan, class, instance.values)?;
     for i in 0..slots.len() {
         let slot = slots[i];
@@ -109,25 +126,48 @@ fn push_instance<'a>(
 }
 
 // Appends the line that makes an array of references.
-fn push_array(lines: &mut Lines, plan: &Plan<'_>, array: &ObjectArray<'_>) -> Result<bool, AllocError> {
+fn push_array(
+    lines: &mut Lines,
+    plan: &Plan<'_>,
+    array: &ObjectArray<'_>,
+) -> Result<bool, AllocError> {
     let Some(class) = made_class(plan, array.class, true) else {
         return Ok(false);
     };
     let count = (array.count as u64).min(MOST_ELEMENTS);
-    lines.push(&Event::NewArray { m: 0, r: MADE, class: class as u64, len: count })?;
+    lines.push(&Event::NewArray {
+        m: 0,
+        r: MADE,
+        class: class as u64,
+        len: count,
+    })?;
     Ok(true)
 }
 
 // Appends the lines that make an array of values.
-fn push_prim(lines: &mut Lines, found: &Found<'_>, array: &PrimArray<'_>) -> Result<bool, AllocError> {
+fn push_prim(
+    lines: &mut Lines,
+    found: &Found<'_>,
+    array: &PrimArray<'_>,
+) -> Result<bool, AllocError> {
     if array.kind == Kind::Object {
         return Ok(false);
     }
     let count = (array.count as u64).min(MOST_ELEMENTS);
-    lines.push(&Event::NewPrim { m: 0, r: MADE, kind: array.kind, len: count })?;
+    lines.push(&Event::NewPrim {
+        m: 0,
+        r: MADE,
+        kind: array.kind,
+        len: count,
+    })?;
     let width = array.kind.width(found.ids) as usize;
     for i in 0..count as usize {
-        push_value(lines, array.kind, i as u64, &array.elements[i * width..(i + 1) * width])?;
+        push_value(
+            lines,
+            array.kind,
+            i as u64,
+            &array.elements[i * width..(i + 1) * width],
+        )?;
     }
     Ok(true)
 }

@@ -65,7 +65,8 @@ impl<'a> Found<'a> {
         }
         if record.tag == 0x02 && body.len() >= 8 + 2 * size {
             let class = id_in(self.ids, &body[4..]);
-            self.loads.insert(class, id_in(self.ids, &body[8 + size..]))?;
+            self.loads
+                .insert(class, id_in(self.ids, &body[8 + size..]))?;
         }
         Ok(())
     }

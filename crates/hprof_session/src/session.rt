@@ -25,8 +25,15 @@ const ROOTS: u64 = 7;
 
 // The tags of roots, and the names of the classes of the arrays that keep them.
 const ROOT_KINDS: [(u8, &[u8]); 9] = [
-    (0x01, b"JNI_global"), (0x02, b"JNI_local"), (0x03, b"Java_frame"), (0x04, b"native_stack"), (0x05, b"sticky_class"),
-    (0x06, b"thread_block"), (0x07, b"monitor_used"), (0x08, b"thread_object"), (0xff, b"unknown_root"),
+    (0x01, b"JNI_global"),
+    (0x02, b"JNI_local"),
+    (0x03, b"Java_frame"),
+    (0x04, b"native_stack"),
+    (0x05, b"sticky_class"),
+    (0x06, b"thread_block"),
+    (0x07, b"monitor_used"),
+    (0x08, b"thread_object"),
+    (0xff, b"unknown_root"),
 ];
 
 /// How the session of a dump was written.
@@ -61,7 +68,15 @@ fn has_statics(found: &Found<'_>, dump: &ClassDump<'_>) -> bool {
 }
 
 // Appends the line of the class of a class's static fields.
-fn push_static_class(alloc: Global, lines: &mut Lines, limits: &ClassLimits, found: &Found<'_>, number: u64, dump: &ClassDump<'_>, given: &mut Given) -> Result<(), AllocError> {
+fn push_static_class(
+    alloc: Global,
+    lines: &mut Lines,
+    limits: &ClassLimits,
+    found: &Found<'_>,
+    number: u64,
+    dump: &ClassDump<'_>,
+    given: &mut Given,
+) -> Result<(), AllocError> {
     let mut text = Vec::new(alloc);
     text.extend_from_slice(class_name(found, dump.head.id))?;
     text.extend_from_slice(b".static")?;
@@ -72,22 +87,47 @@ fn push_static_class(alloc: Global, lines: &mut Lines, limits: &ClassLimits, fou
     for i in 0..(dump.statics.count as usize).min(SLOT_LIMIT) {
         let (field, after) = static_at(found.ids, rest);
         let name = names.name(alloc, limits, i as u64, name_of(found, field.name))?;
-        fields.push(Field { name, kind: field.kind })?;
+        fields.push(Field {
+            name,
+            kind: field.kind,
+        })?;
         rest = after;
     }
     let fields = Fields::from_vec(fields);
-    lines.push(&Event::Class { name, sup: None, fields })
+    lines.push(&Event::Class {
+        name,
+        sup: None,
+        fields,
+    })
 }
 
 // Appends the lines that make the object of a class's static fields.
-fn push_static_object(lines: &mut Lines, found: &Found<'_>, class: u64, dump: &ClassDump<'_>) -> Result<(), AllocError> {
-    lines.push(&Event::New { m: 0, r: MADE, class })?;
+fn push_static_object(
+    lines: &mut Lines,
+    found: &Found<'_>,
+    class: u64,
+    dump: &ClassDump<'_>,
+) -> Result<(), AllocError> {
+    lines.push(&Event::New {
+        m: 0,
+        r: MADE,
+        class,
+    })?;
     let mut rest = dump.statics.bytes;
     for i in 0..(dump.statics.count as usize).min(SLOT_LIMIT) {
         let (field, after) = static_at(found.ids, rest);
         let value = value_in(field.value);
         if field.kind != Kind::Object && value != 0 {
-            lines.push(&Event::Put { m: 0, target: MADE, slot: i as u64, value: if field.kind == Kind::Boolean { 1 } else { value } })?;
+            lines.push(&Event::Put {
+                m: 0,
+                target: MADE,
+                slot: i as u64,
+                value: if field.kind == Kind::Boolean {
+                    1
+                } else {
+                    value
+                },
+            })?;
         }
         rest = after;
     }
@@ -95,14 +135,25 @@ fn push_static_object(lines: &mut Lines, found: &Found<'_>, class: u64, dump: &C
 }
 
 // Appends the lines that store a reference to a slot of the object that is made.
-fn push_reference(lines: &mut Lines, found: &mut Found<'_>, made: &Vec<bool>, slot: u64, id: u64) -> Result<(), AllocError> {
+fn push_reference(
+    lines: &mut Lines,
+    found: &mut Found<'_>,
+    made: &Vec<bool>,
+    slot: u64,
+    id: u64,
+) -> Result<(), AllocError> {
     if id == 0 {
         return Ok(());
     }
     match found.objects.get_index_of(&id) {
         Some(n) if made[n] => {
             push_fetch(lines, n as u64, NAMED)?;
-            lines.push(&Event::Store { m: 0, target: MADE, slot, source: NAMED })
+            lines.push(&Event::Store {
+                m: 0,
+                target: MADE,
+                slot,
+                source: NAMED,
+            })
         }
         _ => {
             found.cuts.references += 1;
@@ -112,12 +163,22 @@ fn push_reference(lines: &mut Lines, found: &mut Found<'_>, made: &Vec<bool>, sl
 }
 
 // Makes the objects of the dump.
-fn write_objects<'a, O: Outlet>(alloc: Global, outlet: &mut O, walk: Walk<'a>, found: &mut Found<'a>, plan: &Plan<'a>, keep: u64, made: &mut Vec<bool>) -> Result<bool, AllocError> {
+fn write_objects<'a, O: Outlet>(
+    alloc: Global,
+    outlet: &mut O,
+    walk: Walk<'a>,
+    found: &mut Found<'a>,
+    plan: &Plan<'a>,
+    keep: u64,
+    made: &mut Vec<bool>,
+) -> Result<bool, AllocError> {
     let mut lines = Lines::new(alloc);
     let mut slots = Vec::new(alloc);
     let mut at = walk;
     for _ in 0..u64::MAX {
-        let Ok(Some((item, after))) = item_at(at) else { break };
+        let Ok(Some((item, after))) = item_at(at) else {
+            break
+        };
         at = after;
         let Item::Sub(sub) = item else { continue };
         let id = match &sub {
@@ -150,18 +211,29 @@ fn write_objects<'a, O: Outlet>(alloc: Global, outlet: &mut O, walk: Walk<'a>, f
 }
 
 // Stores the references of the objects of the dump.
-fn write_references<'a, O: Outlet>(alloc: Global, outlet: &mut O, walk: Walk<'a>, found: &mut Found<'a>, plan: &Plan<'a>, made: &Vec<bool>) -> Result<bool, AllocError> {
+fn write_references<'a, O: Outlet>(
+    alloc: Global,
+    outlet: &mut O,
+    walk: Walk<'a>,
+    found: &mut Found<'a>,
+    plan: &Plan<'a>,
+    made: &Vec<bool>,
+) -> Result<bool, AllocError> {
     let mut lines = Lines::new(alloc);
     let mut slots = Vec::new(alloc);
     let mut at = walk;
     let mut n = 0;
     for _ in 0..u64::MAX {
-        let Ok(Some((item, after))) = item_at(at) else { break };
+        let Ok(Some((item, after))) = item_at(at) else {
+            break
+        };
         at = after;
         let Item::Sub(sub) = item else { continue };
         match &sub {
             SubRecord::Instance(it) => {
-                if found.objects.get_index_of(&it.id) != Some(n) { continue }
+                if found.objects.get_index_of(&it.id) != Some(n) {
+                    continue
+                }
                 if made[n] {
                     if let Some(class) = made_class(plan, it.class, false) {
                         slots_in(&mut slots, found, plan, class, it.values)?;
@@ -170,7 +242,10 @@ fn write_references<'a, O: Outlet>(alloc: Global, outlet: &mut O, walk: Walk<'a>
                             let slot = slots[i];
                             let id = value_in(slot.bytes);
                             if slot.kind == Kind::Object && id != 0 {
-                                if !is_here { push_fetch(&mut lines, n as u64, MADE)?; is_here = true; }
+                                if !is_here {
+                                    push_fetch(&mut lines, n as u64, MADE)?;
+                                    is_here = true;
+                                }
                                 push_reference(&mut lines, found, made, slot.slot, id)?;
                             }
                         }
@@ -178,21 +253,28 @@ fn write_references<'a, O: Outlet>(alloc: Global, outlet: &mut O, walk: Walk<'a>
                 }
             }
             SubRecord::ObjectArray(it) => {
-                if found.objects.get_index_of(&it.id) != Some(n) { continue }
+                if found.objects.get_index_of(&it.id) != Some(n) {
+                    continue
+                }
                 if made[n] {
                     let width = found.ids.bytes() as usize;
                     let mut is_here = false;
                     for i in 0..(it.count as usize).min(MOST_ELEMENTS as usize) {
                         let id = value_in(&it.elements[i * width..(i + 1) * width]);
                         if id != 0 {
-                            if !is_here { push_fetch(&mut lines, n as u64, MADE)?; is_here = true; }
+                            if !is_here {
+                                push_fetch(&mut lines, n as u64, MADE)?;
+                                is_here = true;
+                            }
                             push_reference(&mut lines, found, made, i as u64, id)?;
                         }
                     }
                 }
             }
             SubRecord::PrimArray(it) => {
-                if found.objects.get_index_of(&it.id) != Some(n) { continue }
+                if found.objects.get_index_of(&it.id) != Some(n) {
+                    continue
+                }
             }
             _ => continue,
         }
@@ -205,7 +287,15 @@ fn write_references<'a, O: Outlet>(alloc: Global, outlet: &mut O, walk: Walk<'a>
 }
 
 // Makes the objects of static fields, and stores their references. `first` is the class of the first.
-fn write_statics<'a, O: Outlet>(alloc: Global, outlet: &mut O, found: &mut Found<'a>, made: &mut Vec<bool>, statics: &Vec<ClassDump<'a>>, first: u64, keep: u64) -> Result<bool, AllocError> {
+fn write_statics<'a, O: Outlet>(
+    alloc: Global,
+    outlet: &mut O,
+    found: &mut Found<'a>,
+    made: &mut Vec<bool>,
+    statics: &Vec<ClassDump<'a>>,
+    first: u64,
+    keep: u64,
+) -> Result<bool, AllocError> {
     let mut lines = Lines::new(alloc);
     for j in 0..statics.len() {
         let n = made.len() as u64;
@@ -221,7 +311,13 @@ fn write_statics<'a, O: Outlet>(alloc: Global, outlet: &mut O, found: &mut Found
     Ok(put_some(outlet, &mut lines, 1))
 }
 
-fn write_static_references<'a, O: Outlet>(alloc: Global, outlet: &mut O, found: &mut Found<'a>, made: &Vec<bool>, statics: &Vec<ClassDump<'a>>) -> Result<bool, AllocError> {
+fn write_static_references<'a, O: Outlet>(
+    alloc: Global,
+    outlet: &mut O,
+    found: &mut Found<'a>,
+    made: &Vec<bool>,
+    statics: &Vec<ClassDump<'a>>,
+) -> Result<bool, AllocError> {
     let mut lines = Lines::new(alloc);
     let first = made.len() - statics.len();
     for j in 0..statics.len() {
@@ -242,10 +338,21 @@ fn write_static_references<'a, O: Outlet>(alloc: Global, outlet: &mut O, found: 
 }
 
 // Makes the arrays of roots.
-fn write_roots<'a, O: Outlet>(alloc: Global, outlet: &mut O, found: &mut Found<'a>, made: &Vec<bool>, keep: u64) -> Result<bool, AllocError> {
+fn write_roots<'a, O: Outlet>(
+    alloc: Global,
+    outlet: &mut O,
+    found: &mut Found<'a>,
+    made: &Vec<bool>,
+    keep: u64,
+) -> Result<bool, AllocError> {
     let mut lines = Lines::new(alloc);
     let mut arrays = 0;
-    lines.push(&Event::NewArray { m: 0, r: ROOTS, class: keep, len: 1024 })?;
+    lines.push(&Event::NewArray {
+        m: 0,
+        r: ROOTS,
+        class: keep,
+        len: 1024,
+    })?;
     for kind in 0..9 {
         let mut named = Vec::new(alloc);
         for i in 0..found.roots.len() {
@@ -262,12 +369,27 @@ fn write_roots<'a, O: Outlet>(alloc: Global, outlet: &mut O, found: &mut Found<'
         for i in 0..named.len() {
             if i % 1024 == 0 && arrays < 1024 {
                 let count = (named.len() - i).min(1024) as u64;
-                lines.push(&Event::NewArray { m: 0, r: MADE, class: keep + 1 + kind as u64, len: count })?;
-                lines.push(&Event::Store { m: 0, target: ROOTS, slot: arrays, source: MADE })?;
+                lines.push(&Event::NewArray {
+                    m: 0,
+                    r: MADE,
+                    class: keep + 1 + kind as u64,
+                    len: count,
+                })?;
+                lines.push(&Event::Store {
+                    m: 0,
+                    target: ROOTS,
+                    slot: arrays,
+                    source: MADE,
+                })?;
                 arrays += 1;
             }
             push_fetch(&mut lines, named[i], NAMED)?;
-            lines.push(&Event::Store { m: 0, target: MADE, slot: (i % 1024) as u64, source: NAMED })?;
+            lines.push(&Event::Store {
+                m: 0,
+                target: MADE,
+                slot: (i % 1024) as u64,
+                source: NAMED,
+            })?;
             if !put_some(outlet, &mut lines, ENOUGH) {
                 return Ok(false);
             }
@@ -280,7 +402,13 @@ fn write_roots<'a, O: Outlet>(alloc: Global, outlet: &mut O, found: &mut Found<'
 }
 
 /// Puts out the lines of a session that makes the heap of a dump.
-pub fn write_session<'a, O: Outlet>(alloc: Global, outlet: &mut O, walk: Walk<'a>, limits: &ClassLimits, found: &mut Found<'a>) -> Result<bool, AllocError> {
+pub fn write_session<'a, O: Outlet>(
+    alloc: Global,
+    outlet: &mut O,
+    walk: Walk<'a>,
+    limits: &ClassLimits,
+    found: &mut Found<'a>,
+) -> Result<bool, AllocError> {
     let room = limits.classes as usize - 10;
     let plan = plan_classes(alloc, found, room)?;
     let mut lines = Lines::new(alloc);
@@ -290,10 +418,20 @@ pub fn write_session<'a, O: Outlet>(alloc: Global, outlet: &mut O, walk: Walk<'a
     let mut statics = Vec::new(alloc);
     let first = plan.classes.len() as u64;
     for i in 0..found.classes.len() {
-        let Some((_, dump)) = found.classes.get_index(i) else { break };
+        let Some((_, dump)) = found.classes.get_index(i) else {
+            break
+        };
         if has_statics(found, dump) {
             if first as usize + statics.len() < room {
-                push_static_class(alloc, &mut lines, limits, found, first + statics.len() as u64, dump, &mut given)?;
+                push_static_class(
+                    alloc,
+                    &mut lines,
+                    limits,
+                    found,
+                    first + statics.len() as u64,
+                    dump,
+                    &mut given,
+                )?;
                 statics.push(*dump)?;
             } else {
                 found.cuts.classes += 1;
@@ -312,9 +450,11 @@ pub fn write_session<'a, O: Outlet>(alloc: Global, outlet: &mut O, walk: Walk<'a
         return Ok(false);
     }
     let mut made = Vec::new(alloc);
-    Ok(write_objects(alloc, outlet, walk, found, &plan, keep, &mut made)?
-        && write_statics(alloc, outlet, found, &mut made, &statics, first, keep)?
-        && write_references(alloc, outlet, walk, found, &plan, &made)?
-        && write_static_references(alloc, outlet, found, &made, &statics)?
-        && write_roots(alloc, outlet, found, &made, keep)?)
+    Ok(
+        write_objects(alloc, outlet, walk, found, &plan, keep, &mut made)?
+            && write_statics(alloc, outlet, found, &mut made, &statics, first, keep)?
+            && write_references(alloc, outlet, walk, found, &plan, &made)?
+            && write_static_references(alloc, outlet, found, &made, &statics)?
+            && write_roots(alloc, outlet, found, &made, keep)?,
+    )
 }

@@ -6,7 +6,6 @@ ghost use Rattle.heap_console.specs.Meant.{IsReadMeant};
 use crate::advice::{Advice, advise, form_of, state_names};
 use crate::columns::LINE_END;
 use crate::given::Given;
-use crate::heading::Heading;
 use crate::meant::give_meant;
 use heap_class::Refusal;
 use question_text::{BAD_COMMAND, Watch};
@@ -22,26 +21,18 @@ pub struct PromptInlet<'a, I: Inlet + Drop, R> {
     rt: &'a R,
     alloc: Global,
     watch: &'a Watch,
-    heading: &'a Heading,
     typed: Vec<u8>,
     given: Given,
 }
 
 impl<'a, I: Inlet + Drop, R> PromptInlet<'a, I, R> {
     /// Creates an inlet over another, which has not prompted yet.
-    pub fn new(
-        rt: &'a R,
-        alloc: Global,
-        watch: &'a Watch,
-        heading: &'a Heading,
-        inlet: I,
-    ) -> PromptInlet<'a, I, R> {
+    pub fn new(rt: &'a R, alloc: Global, watch: &'a Watch, inlet: I) -> PromptInlet<'a, I, R> {
         PromptInlet {
             inlet,
             rt,
             alloc,
             watch,
-            heading,
             typed: Vec::new(alloc),
             given: Given::new(),
         }
@@ -92,7 +83,6 @@ impl<I: Inlet + Drop, R: Eprint> PromptInlet<'_, I, R> {
     fn keep(&mut self, read: &[u8])
         ensures { (self.new.inlet ≡ self.old.inlet) × (self.new.given ≡ self.old.given) }
     {
-        self.heading.note(read);
         self.typed.clear();
         if self.typed.extend_from_slice(read).is_err() {
             self.typed.clear();

@@ -24,7 +24,7 @@ use crate::secret_file::secret_for;
 use crate::serve::serve_port;
 use crate::terminals::{Screen, Terminals};
 use dump_pump::{Outlet, WriteOutlet};
-use heap_console::{ColumnOutlet, Heading, LineInlet, NewestLine, NotingOutlet, PromptInlet};
+use heap_console::{ColumnOutlet, LineInlet, NewestLine, NotingOutlet, PromptInlet};
 use heapdbg_options::command_line::{path_option, settings};
 use heapdbg_options::line_words::borrow_words;
 use heapdbg_options::refusal::bad;
@@ -57,26 +57,21 @@ where
         Err(error) => return Err(unread(rt.alloc(), &error).into()),
     };
     let watch = Watch::new();
-    let heading = Heading::new();
     let screen = Screen {
         is_terminal: terminals.error,
         watch: &watch,
     };
     let explores = asks_for(words.as_slice(), "explore");
-    let columns = if explores && terminals.output {
-        Some(&heading)
-    } else {
-        None
-    };
+    let shows = explores && terminals.output;
     let reader = ReadInlet::new(rt.reader());
     if explores && terminals.input && terminals.error {
-        let mut reader = PromptInlet::new(rt, rt.alloc(), &watch, &heading, reader);
-        perform_shown(rt, words.as_slice(), &mut reader, screen, columns)
+        let mut reader = PromptInlet::new(rt, rt.alloc(), &watch, reader);
+        perform_shown(rt, words.as_slice(), &mut reader, screen, shows)
     } else if asks_for(words.as_slice(), "draw") {
         perform_reported(rt, words.as_slice(), screen)
     } else {
         let mut reader = reader;
-        perform_shown(rt, words.as_slice(), &mut reader, screen, columns)
+        perform_shown(rt, words.as_slice(), &mut reader, screen, shows)
     }
 }
 
@@ -88,14 +83,13 @@ fn asks_for(words: &[String], name: &str) -> bool {
     }
 }
 
-// Does the task that the words ask for between a reader and standard output. If `columns` is given, rows are shown in columns, with
-// the heading that it has.
+// Does the task that the words ask for between a reader and standard output. `shows` tells whether rows are shown in columns.
 fn perform_shown<R, I: Inlet>(
     rt: &R,
     words: &[String],
     reader: &mut I,
     screen: Screen<'_>,
-    columns: Option<&Heading>,
+    shows: bool,
 ) -> Result<(), Failure>
 where
     R: AllocGlobal + Clock + Eprint + Files + Input + Print,
@@ -105,8 +99,8 @@ where
 {
     let input = ReadInlet::new(rt.reader());
     let writer = WriteOutlet::new(io::writer(rt));
-    if let Some(heading) = columns {
-        let mut writer = ColumnOutlet::new(rt.alloc(), heading, writer);
+    if shows {
+        let mut writer = ColumnOutlet::new(rt.alloc(), writer);
         perform_words(rt, words, reader, input, &mut writer, screen)
     } else {
         let mut writer = writer;

@@ -1,4 +1,5 @@
 //! The headings of columns.
+use question_text::Watch;
 use std::cell::Cell;
 use std::str;
 
@@ -25,6 +26,23 @@ impl Heading {
     // Takes the heading, so that only the first rows have it. It is empty if there is none.
     pub(crate) fn take(&self) -> &'static str {
         self.words.replace("")
+    }
+}
+
+/// What a prompt tells of a session, and tells an outlet that shows rows.
+#[derive(Drop)]
+pub struct Console {
+    pub watch: Watch,
+    pub heading: Heading,
+}
+
+impl Console {
+    /// Creates the console of a session that has read no line.
+    pub fn new() -> Console {
+        Console {
+            watch: Watch::new(),
+            heading: Heading::new(),
+        }
     }
 }
 

@@ -16,7 +16,7 @@ mod picture;
 mod prompt;
 
 pub use columns::ColumnOutlet;
-pub use heading::Heading;
+pub use heading::{Console, Heading};
 pub use line_inlet::LineInlet;
 pub use load::load_lines;
 pub use newest::{NewestLine, NotingOutlet};

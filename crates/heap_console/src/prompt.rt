@@ -6,10 +6,10 @@ ghost use Rattle.heap_console.specs.Meant.{IsReadMeant};
 use crate::advice::{Advice, advise, form_of, state_names};
 use crate::columns::LINE_END;
 use crate::given::Given;
-use crate::heading::Heading;
+use crate::heading::Console;
 use crate::meant::give_meant;
 use heap_class::Refusal;
-use question_text::{BAD_COMMAND, Watch};
+use question_text::BAD_COMMAND;
 use session_text::{Inlet, Take};
 use std::alloc::Global;
 
@@ -21,27 +21,19 @@ pub struct PromptInlet<'a, I: Inlet + Drop, R> {
     inlet: I,
     rt: &'a R,
     alloc: Global,
-    watch: &'a Watch,
-    heading: &'a Heading,
+    console: &'a Console,
     typed: Vec<u8>,
     given: Given,
 }
 
 impl<'a, I: Inlet + Drop, R> PromptInlet<'a, I, R> {
     /// Creates an inlet over another, which has not prompted yet.
-    pub fn new(
-        rt: &'a R,
-        alloc: Global,
-        watch: &'a Watch,
-        heading: &'a Heading,
-        inlet: I,
-    ) -> PromptInlet<'a, I, R> {
+    pub fn new(rt: &'a R, alloc: Global, console: &'a Console, inlet: I) -> PromptInlet<'a, I, R> {
         PromptInlet {
             inlet,
             rt,
             alloc,
-            watch,
-            heading,
+            console,
             typed: Vec::new(alloc),
             given: Given::new(),
         }
@@ -51,7 +43,7 @@ impl<'a, I: Inlet + Drop, R> PromptInlet<'a, I, R> {
 impl<I: Inlet + Drop, R: Eprint> PromptInlet<'_, I, R> {
     // Writes advice on the line that was read before.
     fn write_advice(&self) {
-        let refusal = self.watch.take_refusal();
+        let refusal = self.console.watch.take_refusal();
         if refusal == BAD_COMMAND {
             self.write_form();
         } else if refusal == Refusal::NoPin.number() || refusal == Refusal::NotRetained.number() {
@@ -73,7 +65,7 @@ impl<I: Inlet + Drop, R: Eprint> PromptInlet<'_, I, R> {
 
     // Writes how the line that was read before names a state, and the oldest place, or else how to find the pins.
     fn write_places(&self) {
-        let oldest = self.watch.oldest();
+        let oldest = self.console.watch.oldest();
         let _ = match form_of(self.typed.as_slice()).and_then(state_names) {
             Some(names) => eprintln!(self.rt; "{names}\nthe oldest retained place is @{oldest}"),
             None => eprintln!(self.rt; "pins lists the open pins"),
@@ -92,7 +84,7 @@ impl<I: Inlet + Drop, R: Eprint> PromptInlet<'_, I, R> {
     fn keep(&mut self, read: &[u8])
         ensures { (self.new.inlet ≡ self.old.inlet) × (self.new.given ≡ self.old.given) }
     {
-        self.heading.note(read);
+        self.console.heading.note(read);
         self.typed.clear();
         if self.typed.extend_from_slice(read).is_err() {
             self.typed.clear();
@@ -132,7 +124,7 @@ impl<I: Inlet + Drop, R: Eprint> Inlet for PromptInlet<'_, I, R> {
 
     fn take(&mut self, room: &mut [u8]) -> Take {
         self.write_advice();
-        let place = self.watch.place();
+        let place = self.console.watch.place();
         let _ = eprint!(self.rt; "heapdbg {place}> ");
         let took = self.read_meant(room);
         self.given.note(room, took);

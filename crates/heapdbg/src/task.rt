@@ -24,7 +24,9 @@ use crate::secret_file::secret_for;
 use crate::serve::serve_port;
 use crate::terminals::{Screen, Terminals};
 use dump_pump::{Outlet, WriteOutlet};
-use heap_console::{ColumnOutlet, Heading, LineInlet, NewestLine, NotingOutlet, PromptInlet};
+use heap_console::{
+    ColumnOutlet, Console, Heading, LineInlet, NewestLine, NotingOutlet, PromptInlet,
+};
 use heapdbg_options::command_line::{path_option, settings};
 use heapdbg_options::line_words::borrow_words;
 use heapdbg_options::refusal::bad;
@@ -56,21 +58,20 @@ where
         Ok(words) => words.collect(rt.alloc()).map_err(|_| Fault::Memory)?,
         Err(error) => return Err(unread(rt.alloc(), &error).into()),
     };
-    let watch = Watch::new();
-    let heading = Heading::new();
+    let console = Console::new();
     let screen = Screen {
         is_terminal: terminals.error,
-        watch: &watch,
+        watch: &console.watch,
     };
     let explores = asks_for(words.as_slice(), "explore");
     let columns = if explores && terminals.output {
-        Some(&heading)
+        Some(&console.heading)
     } else {
         None
     };
     let reader = ReadInlet::new(rt.reader());
     if explores && terminals.input && terminals.error {
-        let mut reader = PromptInlet::new(rt, rt.alloc(), &watch, &heading, reader);
+        let mut reader = PromptInlet::new(rt, rt.alloc(), &console, reader);
         perform_shown(rt, words.as_slice(), &mut reader, screen, columns)
     } else if asks_for(words.as_slice(), "draw") {
         perform_reported(rt, words.as_slice(), screen)

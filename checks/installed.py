@@ -298,8 +298,10 @@ def seen(look, name, shell, folder):
 def documents(folder, programs):
     """Yields what the documents do otherwise than they say, typed where they are installed."""
     with Shell(folder, programs) as shell:
-        looks = ((live, "docs/SESSIONS.md"), (paged, "README.md"), (asked, "README.md"), (hunted, "docs/HUNT.md"), (viewed, "docs/VIEWERS.md"), (client, "clients/python"),
+        looks = ((live, "docs/SESSIONS.md"), (paged, "README.md"), (asked, "README.md"), (hunted, "docs/HUNT.md"), (client, "clients/python"),
                  (recorded, "docs/RECORD.md"))
+        # (the client's example writes the same file)
+        yield from seen(viewed, "docs/VIEWERS.md", shell, folder)
         with concurrent.futures.ThreadPoolExecutor(len(looks)) as pool:
             for found in pool.map(lambda look: seen(*look, shell, folder), looks):
                 yield from found

@@ -1,5 +1,5 @@
 //! Where the objects of a dump are kept while their heap is made.
-ghost use Rattle.std.specs.Prelude.{◌≡◌, ◌++◌, OnOk};
+ghost use Rattle.std.specs.Prelude.{◌≡◌, ◌++◌, [], OnOk, OnErr};
 ghost use Rattle.session_lines.specs.EventLines.{line_of};
 ghost use Rattle.hprof_session.specs.Places.{ArePlaces, array_events, fetch_events, keep_event, lines_of, place_events, top_events};
 
@@ -27,7 +27,8 @@ pub fn are_places()
 
 // Appends the line that makes the array of arrays for object n, if this is the first object that it is for.
 fn push_top(lines: &mut Lines, class: ClassNo, n: u64) -> Result<(), AllocError>
-    ensures { OnOk result (lines.new ≡ lines.old ++ lines_of (top_events class n)) }
+    ensures done { OnOk result (lines.new ≡ lines.old ++ lines_of (top_events class n)) }
+    ensures failed { OnErr result (lines.new ≡ []) }
 {
     if n % (WIDTH * WIDTH) != 0 {
         return Ok(());
@@ -42,7 +43,8 @@ fn push_top(lines: &mut Lines, class: ClassNo, n: u64) -> Result<(), AllocError>
 
 // Appends the lines that make the array for object n, if this is the first object that it is for.
 fn push_array(lines: &mut Lines, class: ClassNo, n: u64) -> Result<(), AllocError>
-    ensures { OnOk result (lines.new ≡ lines.old ++ lines_of (array_events class n)) }
+    ensures done { OnOk result (lines.new ≡ lines.old ++ lines_of (array_events class n)) }
+    ensures failed { OnErr result (lines.new ≡ []) }
 {
     if n % WIDTH != 0 {
         return Ok(());
@@ -61,17 +63,20 @@ fn push_array(lines: &mut Lines, class: ClassNo, n: u64) -> Result<(), AllocErro
     })
 }
 
-/// Appends the lines that make the arrays for object n, of this class, if they aren't there. Fails if an allocation fails.
+/// Appends the lines that make the arrays for object n, of this class, if they aren't there. Fails if an allocation fails; then
+/// all lines are dropped.
 pub fn push_place(lines: &mut Lines, class: ClassNo, n: u64) -> Result<(), AllocError>
-    ensures { OnOk result (lines.new ≡ lines.old ++ lines_of (place_events class n)) }
+    ensures done { OnOk result (lines.new ≡ lines.old ++ lines_of (place_events class n)) }
+    ensures failed { OnErr result (lines.new ≡ []) }
 {
     push_top(lines, class, n)?;
     push_array(lines, class, n)
 }
 
-/// Appends the line that keeps object n, which is the newest. Fails if an allocation fails.
+/// Appends the line that keeps object n, which is the newest. Fails if an allocation fails; then all lines are dropped.
 pub fn push_keep(lines: &mut Lines, n: u64) -> Result<(), AllocError>
-    ensures { OnOk result (lines.new ≡ lines.old ++ line_of (keep_event n)) }
+    ensures done { OnOk result (lines.new ≡ lines.old ++ line_of (keep_event n)) }
+    ensures failed { OnErr result (lines.new ≡ []) }
 {
     lines.push(&Event::Store {
         m: 0,
@@ -81,9 +86,10 @@ pub fn push_keep(lines: &mut Lines, n: u64) -> Result<(), AllocError>
     })
 }
 
-/// Appends the lines that make a register name object n. Fails if an allocation fails.
+/// Appends the lines that make a register name object n. Fails if an allocation fails; then all lines are dropped.
 pub fn push_fetch(lines: &mut Lines, n: u64, register: u64) -> Result<(), AllocError>
-    ensures { OnOk result (lines.new ≡ lines.old ++ lines_of (fetch_events n register)) }
+    ensures done { OnOk result (lines.new ≡ lines.old ++ lines_of (fetch_events n register)) }
+    ensures failed { OnErr result (lines.new ≡ []) }
 {
     lines.push(&Event::Load {
         m: 0,

@@ -236,7 +236,8 @@ def unread_dumps(program):
             if client is not unread[2]:
                 waited(lambda: len(numbers(session)) > before, SOON)
         held = numbers(session)
-        seconds = waited(lambda: len(numbers(session)) == 1, PATIENCE + LATE)
+        # (on a busy machine it may take longer)
+        seconds = waited(lambda: len(numbers(session)) == 1, PATIENCE + LIMIT)
         left = numbers(session)
         time.sleep(LATE)
         unread[2].shutdown(socket.SHUT_WR)

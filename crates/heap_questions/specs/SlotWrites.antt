@@ -1,5 +1,5 @@
 -- The writes of one slot of all objects of a class.
-use Rattle.std.specs.Prelude.{◌≡◌, ◌≢◌, ℕ, zero, suc, ◌+◌, ◌-◌, ◌<◌, ◌==◌, ◌&&◌, not, Bool, true, List, [], ◌∷◌, length, reverse, Option, Some, None, option_and_then, slice_index_or, unwrap_or, IsSome, if◌then◌else◌}
+use Rattle.std.specs.Prelude.{◌≡◌, ◌≢◌, ℕ, zero, suc, ◌+◌, ◌-◌, ◌<◌, ◌==◌, ◌&&◌, not, true, List, [], ◌∷◌, length, reverse, Option, Some, None, option_and_then, slice_index_or, unwrap_or, IsSome, if◌then◌else◌}
 use Rattle.heap_class.specs.declared.ObjKind.TheVariants.{Instance}
 use Rattle.heap_class.specs.declared.ObjRef.{ObjRef}
 use Rattle.heap_region.specs.Regions.{Object, id_of, object_at}

@@ -1,11 +1,8 @@
 -- A client's session.
-use Rattle.std.proofs.Common.{◌≡◌, ◌∙◌, ◌⊎◌, ℕ, Bool, true, false, List, [], Option, Some, None, Result, Ok, Err, refl, inl, inr, subst, sym}
-use Rattle.std.specs.Prelude.{MatchResult}
+use Rattle.std.proofs.Common.{◌≡◌, ◌∙◌, ℕ, Bool, true, false, List, [], Option, Some, None, inl, inr, subst, sym}
 use Rattle.dump_pump.specs.Inlets.{Incoming}
 use Rattle.dump_pump.specs.Outlets.{Outgoing}
-use Rattle.session_text.specs.Answers.{AnswerRelation, AnswersCommand, Begins}
-use Rattle.session_text.specs.declared.Ended.{Ended}
-use Rattle.session_text.specs.declared.Ended.TheVariants.{ReadFault}
+use Rattle.session_text.specs.Answers.{AnswersCommand, Begins}
 use Rattle.session_text.specs.declared.limits.SessionLimits.{SessionLimits}
 use Rattle.session_text.specs.Limits.{longest_line}
 use Rattle.heap_lock.specs.HeapLimits.{HeapSettings}

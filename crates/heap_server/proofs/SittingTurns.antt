@@ -1,5 +1,5 @@
 -- Sessions in threads, of which some have been joined.
-use Rattle.std.proofs.Common.{◌≡◌, ℕ, zero, suc, ◌<◌, ◌∙◌, List, [], ◌∷◌, length, set, get_or, arith, refl, subst, sym}
+use Rattle.std.proofs.Common.{◌≡◌, ℕ, zero, suc, ◌<◌, List, [], ◌∷◌, length, set, get_or, arith, subst, sym}
 use Rattle.std.specs.Prelude.{IfSome}
 use Rattle.heap_lock.specs.Seated.{TableId}
 use Rattle.heap_lock.specs.HeapLimits.{HeapSettings}

@@ -1,5 +1,5 @@
 -- Sessions from a seat, one after another.
-use Rattle.std.proofs.Common.{◌≡◌, List, [], ◌∷◌, ◌++◌, refl, sym, subst}
+use Rattle.std.proofs.Common.{List, [], ◌∷◌, ◌++◌, refl, sym, subst}
 use Rattle.heap_lock.specs.HeapLimits.{HeapSettings}
 use Rattle.heap_lock.specs.LockStates.{SeatModel}
 use Rattle.heap_server.specs.Staying.{AreSessions, ServesNext, SocketSession}

@@ -1,6 +1,6 @@
 -- The sub-records of the dump of an image are read back.
-use Rattle.std.proofs.Common.{◌≡◌, ℕ, zero, suc, ◌+◌, ◌*◌, ◌^◌, ◌<◌, Bool, true, false, cond, eqb, List, [], ◌∷◌, ◌++◌, length, map, All, refl, sym, ap, ap₂, subst, ◌∙◌, append_assoc, arith}
-use Rattle.std.specs.Prelude.{zip, flat_map}
+use Rattle.std.proofs.Common.{◌≡◌, ℕ, suc, ◌+◌, ◌*◌, Bool, true, false, cond, eqb, List, [], ◌∷◌, ◌++◌, length, map, refl, sym, ap, ap₂, subst, ◌∙◌, append_assoc, arith}
+use Rattle.std.specs.Prelude.{flat_map}
 use Rattle.std.specs.Option.{option_map_or}
 use Rattle.std.specs.List.{enumerate_from, AllByRecursion}
 use Rattle.std.proofs.lemmas.List.{append-nil, length-append}
@@ -14,14 +14,12 @@ use Rattle.heap_class.specs.declared.Field.{Field}
 use Rattle.heap_class.specs.declared.ObjKind.{ObjKind}
 use Rattle.heap_class.specs.declared.ObjKind.TheVariants.{Instance, Array, Prim}
 use Rattle.heap_class.specs.Kinds.{id_bytes, width_of, type_code}
-use Rattle.heap_class.specs.Classes.{Class, slots_of, instance_size, name_id}
+use Rattle.heap_class.specs.Classes.{Class, instance_size, name_id}
 use Rattle.hprof_text.specs.Fits.{FitsId, ShowsWhole, HoldsWhole, ClassDumpFits, DumpFits}
 use Rattle.hprof_text.specs.Image.{Image, DumpedObject}
 use Rattle.hprof_text.specs.Text.{u1, u2, u4, id, class_id, field_entry, class_dump, root as root_bytes, value_bytes, dump_of, object_dump, items_of, records_of_items, sub_records}
-use Rattle.hprof_text.specs.declared.section.NumberedSection.TheVariants.{ClassDumps, ClassRoots, RegisterRoots}
-use Rattle.hprof_text.specs.declared.section.Section.TheVariants.{Numbered, Objects}
-use Rattle.hprof_reader.specs.SubRecords.{Sub, root, class, sub_text, FitsSub, FitsHead, AreEntries, AreFields}
-use Rattle.hprof_reader.specs.Images.{no_entries, class_sub, kind_sub, object_sub, class_root, register_roots, subs_of, AreRead}
+use Rattle.hprof_reader.specs.SubRecords.{Sub, root, sub_text, FitsSub, AreEntries}
+use Rattle.hprof_reader.specs.Images.{no_entries, class_sub, kind_sub, object_sub, class_root, register_roots, AreRead}
 
 -- ---- sizes
 

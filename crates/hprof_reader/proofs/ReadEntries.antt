@@ -1,5 +1,5 @@
 -- Constants, static fields and fields are read as they are spelled.
-use Rattle.std.proofs.Common.{◌≡◌, ℕ, zero, suc, ◌+◌, ◌-◌, ◌*◌, ◌^◌, ◌<◌, List, [], ◌∷◌, ◌++◌, length, take, Result, Ok, Err, refl, sym, ap, subst, ◌∙◌, append_assoc, arith}
+use Rattle.std.proofs.Common.{◌≡◌, ℕ, zero, suc, ◌+◌, ◌-◌, ◌*◌, ◌^◌, ◌<◌, List, [], ◌∷◌, ◌++◌, length, take, Result, Ok, refl, sym, ap, subst, ◌∙◌, append_assoc, arith}
 use Rattle.std.specs.Int.{w16}
 use Rattle.std.specs.List.{flat_map, AllByRecursion}
 use Rattle.std.proofs.lemmas.List.{take_at, length-append}
@@ -13,7 +13,7 @@ use Rattle.hprof_reader.specs.declared.fault.Fault.{Fault}
 use Rattle.hprof_reader.specs.Kinds.{kind_parts}
 use Rattle.hprof_reader.specs.Reading.{◌>>=◌, joined, number_at, taken_at}
 use Rattle.hprof_reader.specs.SubRecords.{EntryTold, Entries, entry_text, entries_text, FitsEntry, AreEntries, AreFields}
-use Rattle.hprof_reader.proofs.Readers.{IsBytes, IsReader, IsMaking, exact_2, number_reader, bytes_reader, both, making, bound, same_value}
+use Rattle.hprof_reader.proofs.Readers.{IsBytes, IsReader, exact_2, number_reader, bytes_reader, both, making, bound, same_value}
 use Rattle.hprof_reader.proofs.ReadKinds.{kind_reader}
 
 two : IsReader u2 (λ n. n < 2 ^ 16) (number_at w16)

@@ -8,7 +8,7 @@ use Rattle.hprof_text.specs.Fits.{FitsId}
 use Rattle.hprof_reader.specs.Fields.{own_field_text, FitsOwnField, own_field_pair, made_own_field, own_field_parts, static_field_text, FitsStaticField, static_field_pair, made_static_field, static_field_parts}
 use Rattle.hprof_reader.specs.Kinds.{kind_parts}
 use Rattle.hprof_reader.specs.Reading.{joined, number_at, taken_at, id_width}
-use Rattle.hprof_reader.proofs.Readers.{IsReader, IsMaking, bytes_reader, both, making}
+use Rattle.hprof_reader.proofs.Readers.{IsReader, bytes_reader, both, making}
 use Rattle.hprof_reader.proofs.ReadKinds.{id_reader, kind_reader}
 
 -- ---- own fields

@@ -1,5 +1,5 @@
 -- Sub-records are read as they are spelled.
-use Rattle.std.proofs.Common.{◌≡◌, ℕ, ◌*◌, ◌^◌, ◌<◌, Bool, true, false, cond, eqb, List, ◌++◌, length, Option, Some, None, Result, Ok, Err, refl, sym, ap, subst, ◌∙◌, append_assoc, arith, inl, inr}
+use Rattle.std.proofs.Common.{◌≡◌, ℕ, ◌*◌, ◌^◌, ◌<◌, true, eqb, List, ◌++◌, length, Option, Some, None, Result, Ok, Err, refl, sym, ap, subst, ◌∙◌, append_assoc, arith, inl, inr}
 use Rattle.std.specs.Int.{w8}
 use Rattle.std.proofs.lemmas.Bool.{eqb-true}
 use Rattle.heap_class.specs.declared.IdSize.{IdSize}
@@ -17,7 +17,7 @@ use Rattle.hprof_reader.specs.SubRecords.{Sub, ClassTold, Entries, root, class, 
 use Rattle.hprof_reader.specs.SubSizes.{root_size}
 use Rattle.hprof_reader.specs.SubParts.{id_at, four_at, root_fields, made_root, root_parts, instance_fields, made_instance, instance_parts, array_fields, made_array, array_parts, prim_fields, made_prim, prim_parts, NineNumbers, class_numbers, made_head, class_head_parts, class_fields, made_class, class_parts, class_sub_parts, rootless_parts, tagged_parts, after_tag, sub_parts}
 use Rattle.hprof_reader.proofs.Readers.{IsBytes, IsReader, bytes_reader, both, making, bound, made_of}
-use Rattle.hprof_reader.proofs.ReadKinds.{chosen, one, four, id_reader, kind_reader, code_small}
+use Rattle.hprof_reader.proofs.ReadKinds.{chosen, one, four, id_reader, kind_reader}
 use Rattle.hprof_reader.proofs.ReadEntries.{table_reader, fields_reader}
 
 -- an identifier, and what a reader reads after it

@@ -1,11 +1,10 @@
 -- Records are read as they are spelled.
-use Rattle.std.proofs.Common.{◌≡◌, ℕ, ◌^◌, ◌<◌, List, ◌++◌, length, Result, Ok, Err, refl, sym, ap, subst, ◌∙◌, append_assoc, arith}
+use Rattle.std.proofs.Common.{◌≡◌, ℕ, ◌^◌, ◌<◌, List, ◌++◌, length, refl, sym, ap, ◌∙◌, append_assoc, arith}
 use Rattle.std.specs.Int.{w8, w32, to_be_bytes}
 use Rattle.hprof_records.specs.Heads.{u1, u4}
-use Rattle.hprof_reader.specs.declared.fault.Fault.{Fault}
 use Rattle.hprof_reader.specs.Records.{Told, record_text, FitsRecord}
-use Rattle.hprof_reader.specs.Reading.{Gives, IsRead, number_at, taken_at, joined, record_fields, made_record, record_parts}
-use Rattle.hprof_reader.proofs.Readers.{IsBytes, IsReader, IsMaking, exact_1, exact_4, number_reader, bytes_reader, both, making}
+use Rattle.hprof_reader.specs.Reading.{number_at, taken_at, record_fields, made_record, record_parts}
+use Rattle.hprof_reader.proofs.Readers.{IsReader, exact_1, exact_4, number_reader, bytes_reader, both, making}
 
 abbrev fields_text : ℕ × (ℕ × (ℕ × List ℕ)) → List ℕ
 fields_text x = to_be_bytes w8 x.0 ++ (to_be_bytes w32 x.1.0 ++ (to_be_bytes w32 x.1.1.0 ++ x.1.1.1))

@@ -1,5 +1,5 @@
 -- Constants, static fields and fields, read from the front of bytes.
-use Rattle.std.specs.Prelude.{ℕ, zero, suc, ◌+◌, ◌-◌, ◌*◌, List, length, take, Result, Ok, Err}
+use Rattle.std.specs.Prelude.{ℕ, zero, suc, ◌+◌, ◌-◌, ◌*◌, List, length, take, Result, Ok}
 use Rattle.std.specs.Int.{w16}
 use Rattle.heap_class.specs.declared.IdSize.{IdSize}
 use Rattle.heap_class.specs.declared.Kind.{Kind}
@@ -7,7 +7,7 @@ use Rattle.heap_class.specs.Kinds.{id_bytes, width_of}
 use Rattle.hprof_reader.specs.declared.class_dumps.Entry.{Entry}
 use Rattle.hprof_reader.specs.declared.fault.Fault.{Fault}
 use Rattle.hprof_reader.specs.Kinds.{kind_parts}
-use Rattle.hprof_reader.specs.Reading.{◌>>=◌, joined, made, number_at, taken_at}
+use Rattle.hprof_reader.specs.Reading.{joined, made, number_at, taken_at}
 use Rattle.hprof_reader.specs.SubRecords.{EntryTold, Entries}
 
 -- an entry that was read

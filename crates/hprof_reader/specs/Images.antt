@@ -6,8 +6,7 @@ use Rattle.heap_class.specs.declared.IdSize.{IdSize}
 use Rattle.heap_class.specs.declared.ObjKind.{ObjKind}
 use Rattle.heap_class.specs.declared.ObjKind.TheVariants.{Instance, Array, Prim}
 use Rattle.heap_class.specs.Classes.{Class, slots_of, instance_size}
-use Rattle.hprof_text.specs.Fits.{ShowsWhole}
-use Rattle.hprof_text.specs.Image.{Image, DumpedObject, IsDumpable}
+use Rattle.hprof_text.specs.Image.{Image, DumpedObject}
 use Rattle.hprof_text.specs.Text.{id, class_id, field_entry, value_bytes, sub_records}
 use Rattle.hprof_reader.specs.SubRecords.{Sub, Entries, root, class, instance, array, prim, sub_text, FitsSub}
 

@@ -1,5 +1,5 @@
 -- Sub-records, read from the front of bytes.
-use Rattle.std.specs.Prelude.{ℕ, ◌*◌, ◌==◌, List, Result, Ok, Err, Option, Some, None, if◌then◌else◌}
+use Rattle.std.specs.Prelude.{ℕ, ◌*◌, ◌==◌, List, Result, Err, Option, Some, None, if◌then◌else◌}
 use Rattle.std.specs.Int.{w8, w32}
 use Rattle.heap_class.specs.declared.IdSize.{IdSize}
 use Rattle.heap_class.specs.declared.Kind.{Kind}
@@ -9,7 +9,7 @@ use Rattle.hprof_reader.specs.declared.fault.Fault.{Fault}
 use Rattle.hprof_reader.specs.declared.fault.Fault.TheVariants as faults
 use Rattle.hprof_reader.specs.Entries.{table_parts, fields_table_parts}
 use Rattle.hprof_reader.specs.Kinds.{kind_parts}
-use Rattle.hprof_reader.specs.Reading.{◌>>=◌, joined, made, number_at, taken_at, id_width}
+use Rattle.hprof_reader.specs.Reading.{joined, made, number_at, taken_at, id_width}
 use Rattle.hprof_reader.specs.SubRecords.{Sub, ClassTold, Entries, root, class, instance, array, prim}
 use Rattle.hprof_reader.specs.SubSizes.{root_size}
 

@@ -1,13 +1,12 @@
 -- Walks, item by item.
-use Rattle.std.proofs.Common.{◌≡◌, ℕ, zero, suc, ◌+◌, ◌-◌, ◌*◌, ◌<◌, ◌≤◌, Bool, true, false, cond, eqb, ◌||◌, List, [], ◌∷◌, ◌++◌, length, Option, Some, None, Result, Ok, Err, refl, sym, ap, subst, ◌∙◌, arith}
+use Rattle.std.proofs.Common.{◌≡◌, ℕ, ◌+◌, ◌-◌, ◌<◌, ◌≤◌, Bool, true, false, cond, eqb, ◌||◌, List, [], ◌∷◌, ◌++◌, length, refl, sym, ap, subst, arith}
 use Rattle.std.proofs.lemmas.List.{length-append}
 use Rattle.heap_class.specs.declared.IdSize.{IdSize}
-use Rattle.hprof_text.specs.Text.{u1, u2, u4, id}
-use Rattle.hprof_reader.specs.Records.{Told, record_text, FitsRecord}
-use Rattle.hprof_reader.specs.SubRecords.{Sub, root, class, instance, array, prim, sub_text, class_text}
-use Rattle.hprof_session.specs.Surveys.{bytes_left, EndsAt, IsSurvey}
-use Rattle.hprof_session.specs.Walks.{Left, ItemTold, record_told, sub_told, IsNext, IsNextSub, IsNextRecord, IsAtEnd, AreNext, segment_of}
-use Rattle.hprof_reader.specs.declared.fault.Fault.{Fault}
+use Rattle.hprof_text.specs.Text.{u1, u4}
+use Rattle.hprof_reader.specs.Records.{Told, record_text}
+use Rattle.hprof_reader.specs.SubRecords.{Sub, root, class, instance, array, prim, sub_text}
+use Rattle.hprof_session.specs.Surveys.{bytes_left}
+use Rattle.hprof_session.specs.Walks.{Left, ItemTold, record_told, sub_told, IsNext, IsAtEnd, AreNext}
 
 -- ---- each item takes bytes
 

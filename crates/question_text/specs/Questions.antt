@@ -1,7 +1,7 @@
 -- The lines of questions.
 use Rattle.std.specs.Prelude.{ℕ, List, [], ◌∷◌, take, drop, find, codes, Option, Some, None, option_map, option_and_then, if◌then◌else◌}
 use Rattle.std.specs.Str.{bytes_eq}
-use Rattle.session_grammar.specs.Grammar.{at_end, next_number, number_of_word, one_number, words_of_line}
+use Rattle.session_grammar.specs.Grammar.{at_end, next_number, number_of_word, words_of_line}
 use Rattle.question_text.specs.declared.question.At.{At}
 use Rattle.question_text.specs.declared.question.At.TheVariants.{Current, Pin, Place}
 use Rattle.question_text.specs.declared.question.Question.{Question}

@@ -1,11 +1,11 @@
 -- The words of an event are read as that event.
-use Rattle.std.proofs.Common.{◌≡◌, ℕ, suc, ◌+◌, ◌<◌, ◌≤◌, ◌^◌, Bool, true, false, cond, eqb, ltb, not, ◌&&◌, List, [], ◌∷◌, ◌++◌, length, map, Option, Some, None, refl, sym, ap, ap₂, subst, ◌∙◌, append_assoc, lt-ltb, leb-true, le-leb, arith}
+use Rattle.std.proofs.Common.{◌≡◌, ℕ, suc, ◌+◌, ◌<◌, ◌^◌, Bool, true, false, cond, not, ◌&&◌, List, [], ◌∷◌, ◌++◌, length, map, Option, Some, None, refl, sym, ap, subst, ◌∙◌, append_assoc, lt-ltb, le-leb, arith}
 use Rattle.std.specs.Prelude.{codes, decimal, nat_lt, nat_le, ◌==◌, option_map, option_and_then, position, take, drop}
 use Rattle.std.specs.List.{list_all, prefix_len, position_or_len, AllByRecursion}
 use Rattle.std.specs.Char.{is_ascii_digit}
 use Rattle.std.specs.Str.{bytes_eq}
 use Rattle.std.specs.Str.Parse.{AllDigits, digits_value}
-use Rattle.std.proofs.lemmas.Bool.{and_parts, and_from, ne_eqb}
+use Rattle.std.proofs.lemmas.Bool.{and_parts, and_from}
 use Rattle.std.proofs.lemmas.Fmt.{decimal_is_IsNumeral, length-decimal-le}
 use Rattle.std.proofs.lemmas.List.{length-append, take_at, drop_at}
 use Rattle.std.proofs.lemmas.Slice.Eq.{bytes_eq-Decides}
@@ -17,10 +17,9 @@ use Rattle.heap_class.specs.Kinds.{kind_word}
 use Rattle.heap_step.specs.declared.Event.{Event}
 use Rattle.heap_step.specs.declared.Event.TheVariants.{Class, ArrayClass, New, NewArray, NewPrim, Load, Store, Put, Move, Clear, Snap, Mark, Drain, Finish, Sweep}
 use Rattle.heap_trail.specs.declared.Action.TheVariants.{Step}
-use Rattle.session_grammar.specs.declared.command.Command.{Command}
-use Rattle.session_grammar.specs.declared.command.Command.TheVariants.{Ask, Bad}
-use Rattle.session_grammar.specs.Grammar.{number_of_word, value_of_digits, kind_of_word, field_of_word, fields_of_words, number_or_dash, by_rule, all_rules, class_rules, making_rules, access_rules, marking_rules, session_rules, command_of_words, command_of, next_number, next_kind, at_end}
-use Rattle.session_lines.specs.EventLines.{verb_of, words_of, spaced, event_text, field_word, super_word}
+use Rattle.session_grammar.specs.declared.command.Command.TheVariants.{Ask}
+use Rattle.session_grammar.specs.Grammar.{number_of_word, value_of_digits, kind_of_word, field_of_word, fields_of_words, number_or_dash, by_rule, class_rules, making_rules, access_rules, marking_rules, session_rules, command_of_words}
+use Rattle.session_lines.specs.EventLines.{verb_of, words_of, field_word, super_word}
 use Rattle.session_lines.specs.Laws.{is_sign, IsWord, IsFieldWord, IsLong, IsLongOrNone, HasLine, IsLineOf}
 use Rattle.session_lines.proofs.SpacedWords.{command_spaced, plain_spaced}
 

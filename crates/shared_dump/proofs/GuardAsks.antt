@@ -1,5 +1,5 @@
 -- A guard that is asked once more.
-use Rattle.std.proofs.Common.{◌≡◌, ◌⊎◌, ℕ, suc, Bool, true, Option, Some, refl, ⊎_elim, subst}
+use Rattle.std.proofs.Common.{◌≡◌, ◌⊎◌, ℕ, suc, Bool, true, Option, refl, ⊎_elim, subst}
 use Rattle.shared_dump.specs.Guards.{WasAsked, SaidOver, IsAsking}
 
 module _ {G : Type 0} (says : G → Bool → G → Type 0) where

@@ -1,4 +1,3 @@
-use Rattle.std.proofs.Common.{arith}
 use Rattle.hprof_session.proofs.Walked.{walked_none, walked_on}
 use Rattle.hprof_session.specs.Walks.{left, item_told}
 use Rattle.hprof_session.proofs.whole_walk.walk_over.Goals as goal

@@ -1,6 +1,5 @@
 use Rattle.std.proofs.Common.{◌≡◌, ℕ, ◌+◌, ◌-◌, ◌<◌, List, ◌∷◌, ◌++◌, [], length, sym, ap, ◌∙◌, subst, arith}
 use Rattle.std.specs.Prelude.{Option, min, option_map, unwrap_or}
-use Rattle.heap_world.specs.State.{HeapState}
 use Rattle.heap_trail.specs.Trail.{retained, state_ago}
 use Rattle.heap_trail.proofs.RetainedRecords.{has_record}
 use Rattle.heap_questions.specs.declared.past.steps.PastStep.{PastStep}

@@ -1,4 +1,4 @@
-use Rattle.std.proofs.Common.{◌≡◌, ℕ, ◌+◌, List, sym, subst, arith}
+use Rattle.std.proofs.Common.{◌+◌, sym, subst}
 use Rattle.heap_world.specs.State.{HeapState}
 use Rattle.heap_trail.specs.Trail.{state_ago}
 use Rattle.heap_trail.proofs.RetainedRecords.{has_record}

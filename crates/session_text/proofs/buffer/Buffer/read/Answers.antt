@@ -1,5 +1,4 @@
-use Rattle.std.proofs.Common.{◌≡◌, ◌∙◌, ap, sym, subst, arith, ◌-◌, length, take, drop}
-use Rattle.session_grammar.specs.Lines.{NoLf}
+use Rattle.std.proofs.Common.{arith, ◌-◌}
 use Rattle.session_text.proofs.Lists.{moved_none}
 use Rattle.session_text.proofs.buffer.Buffer.read.Goals as goal
 

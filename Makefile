@@ -30,6 +30,8 @@ test: ## runs the gate: proofs, wrong bodies, tests and checks of the program
 	python3 checks/rows.py
 	python3 checks/no_memory.py
 	python3 scripts/page.py fit
+	python3 scripts/order.py fit
+	python3 checks/lemma_names.py
 	rt ci
 	@python3 checks/growths.py crates/heapdbg/out/heapdbg
 	@python3 checks/cases.py crates/heapdbg/out/heapdbg crates/heapdbg/out/heapdbg.by-rattle

@@ -73,19 +73,22 @@ TYPED = [
 ]
 SHOWN = b"""heapdbg 0> |ok class 0
 heapdbg 1> |ok object 0x10000000
-heapdbg 2> |  0  x            int  0
-  1  description  int  0
+heapdbg 2> |  SLOT  NAME         KIND  VALUE
+     0  x            int       0
+     1  description  int       0
 ok object Point 2
 heapdbg 2> |ok class 1
 heapdbg 3> |ok object 0x10000020
-heapdbg 4> |  0  i            int      0
-  1  description  int      0
-  2  a            boolean  0
+heapdbg 4> |  SLOT  NAME         KIND     VALUE
+     0  i            int          0
+     1  description  int          0
+     2  a            boolean      0
 ok object Other 3
 heapdbg 4> |ok object 0x10002000
-heapdbg 5> |  1  800  long[]
-  1    9  Other
-  1    8  Point
+heapdbg 5> |  OBJECTS  BYTES  CLASS
+        1    800  long[]
+        1      9  Other
+        1      8  Point
 ok 3 817
 heapdbg 5> |ok place 4
 heapdbg 4> |ok condemned 1 swept 1

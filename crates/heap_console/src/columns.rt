@@ -1,6 +1,7 @@
 //! An outlet that shows rows in columns.
 ghost use Rattle.std.specs.Prelude.{◌≡◌, ◌<◌, [], length};
 
+use crate::heading::Heading;
 use dump_pump::ledger::note_bytes;
 use dump_pump::{Log, Outlet, Put};
 use session_text::write_all;
@@ -14,18 +15,20 @@ pub(crate) const LINE_END: u8 = b'\n';
 // The number of columns that are aligned: the words of a row behind them follow each other.
 const COLUMNS: usize = 16;
 
-/// An outlet for a person at a terminal. It shows the words of successive rows below each other, without the word `row`, numbers
-/// at the right of their columns, and all other lines as they are. Contracts see the bytes that it was given, not those that it shows.
+/// An outlet for a person at a terminal. It shows the words of successive rows below each other and below their heading, without
+/// the word `row`, numbers at the right of their columns, and all other lines as they are. Contracts see the bytes that it was
+/// given, not those that it shows.
 #[derive(Drop)]
-pub struct ColumnOutlet<O: Outlet + Drop> {
+pub struct ColumnOutlet<'a, O: Outlet + Drop> {
     outlet: O,
+    heading: &'a Heading,
     alloc: Global,
     cut: Vec<u8>,
     put: Log<u8, ()>,
     failed: Log<(), ()>,
 }
 
-impl<O: Outlet + Drop> Model for ColumnOutlet<O> {
+impl<'a, O: Outlet + Drop> Model for ColumnOutlet<'a, O> {
     ghost use Rattle.std.specs.Prelude.{length};
     ghost use Rattle.dump_pump.specs.Outlets.{Outgoing, log_bytes};
 
@@ -47,10 +50,10 @@ fn is_number(word: &[u8]) -> bool {
 }
 
 impl Column {
-    // Makes room for a word.
-    fn widen(&mut self, word: &[u8]) {
+    // Makes room for a word of a row, or of a heading, which leaves a column of numbers one.
+    fn widen(&mut self, word: &[u8], heads: bool) {
         self.width = self.width.max(word.len());
-        self.has_words = self.has_words || !is_number(word);
+        self.has_words = self.has_words || !(heads || is_number(word));
     }
 
     // Returns how many spaces stand before a word and behind it: those of a column of numbers stand before it.
@@ -65,25 +68,26 @@ impl Column {
 struct Columns([Column; COLUMNS]);
 
 impl Columns {
-    // Returns the columns that the words of these rows need.
-    fn of(rows: &[&[u8]]) -> Columns {
+    // Returns the columns that the words of these rows and of their heading need.
+    fn of(rows: &[&[u8]], heading: &[u8]) -> Columns {
         let empty = Column {
             width: 0,
             has_words: false,
         };
         let mut columns = Columns([empty; COLUMNS]);
+        columns.widen(heading, true);
         for row in rows {
-            columns.widen(row);
+            columns.widen(row, false);
         }
         columns
     }
 
-    // Makes room in each column for its word of a row.
-    fn widen(&mut self, row: &[u8]) {
+    // Makes room in each column for its word of a row, or of a heading.
+    fn widen(&mut self, row: &[u8], heads: bool) {
         let mut column = 0;
         for word in row.split(|byte| *byte == b' ') {
             if column < COLUMNS {
-                self.0[column].widen(word);
+                self.0[column].widen(word, heads);
                 column += 1;
             }
         }
@@ -122,9 +126,16 @@ fn add_row(text: &mut Vec<u8>, row: &[u8], columns: &Columns) -> Result<(), Allo
     Ok(())
 }
 
-// Adds rows with their words in columns.
-fn add_rows(text: &mut Vec<u8>, rows: &[&[u8]]) -> Result<(), AllocError> {
-    let columns = Columns::of(rows);
+// Adds rows with their words in columns, and before them their heading.
+fn add_rows(text: &mut Vec<u8>, rows: &[&[u8]], heading: &Heading) -> Result<(), AllocError> {
+    if rows.is_empty() {
+        return Ok(());
+    }
+    let heading = heading.take().as_bytes();
+    let columns = Columns::of(rows, heading);
+    if !heading.is_empty() {
+        add_row(text, heading, &columns)?;
+    }
     for row in rows {
         add_row(text, row, &columns)?;
     }
@@ -144,35 +155,37 @@ fn add_lines<'a>(
     text: &mut Vec<u8>,
     rows: &mut Vec<&'a [u8]>,
     lines: &'a [u8],
+    heading: &Heading,
 ) -> Result<(), AllocError> {
     for line in lines.split(|byte| *byte == LINE_END) {
         match line.strip_prefix(b"row ") {
             Some(row) => rows.push(row)?,
             None => {
-                add_rows(text, rows.as_slice())?;
+                add_rows(text, rows.as_slice(), heading)?;
                 rows.clear();
                 add_line(text, line)?;
             }
         }
     }
-    add_rows(text, rows.as_slice())
+    add_rows(text, rows.as_slice(), heading)
 }
 
 // Returns whole lines, the last without its LF, with their rows in columns. Fails if an allocation fails.
-fn lines_in_columns(alloc: Global, lines: &[u8]) -> Result<Vec<u8>, AllocError> {
+fn lines_in_columns(alloc: Global, lines: &[u8], heading: &Heading) -> Result<Vec<u8>, AllocError> {
     let mut text = Vec::new(alloc);
     let mut rows = Vec::new(alloc);
-    add_lines(&mut text, &mut rows, lines)?;
+    add_lines(&mut text, &mut rows, lines, heading)?;
     Ok(text)
 }
 
-impl<O: Outlet + Drop> ColumnOutlet<O> {
+impl<'a, O: Outlet + Drop> ColumnOutlet<'a, O> {
     /// Creates an outlet over another, which was given nothing.
-    pub fn new(alloc: Global, outlet: O) -> ColumnOutlet<O>
+    pub fn new(alloc: Global, heading: &'a Heading, outlet: O) -> ColumnOutlet<'a, O>
         ensures { result ≡ record { out = []; failures = 0 } }
     {
         ColumnOutlet {
             outlet,
+            heading,
             alloc,
             cut: Vec::new(alloc),
             put: Log::new(),
@@ -184,7 +197,7 @@ impl<O: Outlet + Drop> ColumnOutlet<O> {
     fn show(&mut self, lines: &[u8]) -> bool
         ensures { self.new ≡ self.old }
     {
-        match lines_in_columns(self.alloc, lines) {
+        match lines_in_columns(self.alloc, lines, self.heading) {
             Ok(text) => write_all(&mut self.outlet, text.as_slice()),
             Err(_) => write_all(&mut self.outlet, lines) && write_all(&mut self.outlet, b"\n"),
         }
@@ -206,7 +219,7 @@ impl<O: Outlet + Drop> ColumnOutlet<O> {
     }
 }
 
-impl<O: Outlet + Drop> Outlet for ColumnOutlet<O> {
+impl<O: Outlet + Drop> Outlet for ColumnOutlet<'_, O> {
     ghost seen = { λ o. o };
 
     fn put(&mut self, given: &[u8]) -> Put {

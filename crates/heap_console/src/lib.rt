@@ -1,11 +1,13 @@
-//! What people look at: a session with questions on a terminal (a prompt, advice on lines, rows in columns), reports of the
-//! lines of a file that were refused, and a picture of the regions, as SVG.
+//! What people look at: a session with questions on a terminal (a prompt, advice on lines, rows in columns with their headings),
+//! reports of the lines of a file that were refused, and a picture of the regions, as SVG.
 #![tactic(auto)]
 
 mod advice;
 mod columns;
+mod console;
 mod discard;
 mod given;
+mod heading;
 mod line_count;
 mod line_inlet;
 mod load;
@@ -15,6 +17,8 @@ mod picture;
 mod prompt;
 
 pub use columns::ColumnOutlet;
+pub use console::Console;
+pub use heading::Heading;
 pub use line_inlet::LineInlet;
 pub use load::load_lines;
 pub use newest::{NewestLine, NotingOutlet};

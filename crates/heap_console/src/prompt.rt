@@ -5,10 +5,11 @@ ghost use Rattle.heap_console.specs.Meant.{IsReadMeant};
 
 use crate::advice::{Advice, advise, form_of, state_names};
 use crate::columns::LINE_END;
+use crate::console::Console;
 use crate::given::Given;
 use crate::meant::give_meant;
 use heap_class::Refusal;
-use question_text::{BAD_COMMAND, Watch};
+use question_text::BAD_COMMAND;
 use session_text::{Inlet, Take};
 use std::alloc::Global;
 
@@ -20,19 +21,19 @@ pub struct PromptInlet<'a, I: Inlet + Drop, R> {
     inlet: I,
     rt: &'a R,
     alloc: Global,
-    watch: &'a Watch,
+    console: &'a Console,
     typed: Vec<u8>,
     given: Given,
 }
 
 impl<'a, I: Inlet + Drop, R> PromptInlet<'a, I, R> {
     /// Creates an inlet over another, which has not prompted yet.
-    pub fn new(rt: &'a R, alloc: Global, watch: &'a Watch, inlet: I) -> PromptInlet<'a, I, R> {
+    pub fn new(rt: &'a R, alloc: Global, console: &'a Console, inlet: I) -> PromptInlet<'a, I, R> {
         PromptInlet {
             inlet,
             rt,
             alloc,
-            watch,
+            console,
             typed: Vec::new(alloc),
             given: Given::new(),
         }
@@ -42,7 +43,7 @@ impl<'a, I: Inlet + Drop, R> PromptInlet<'a, I, R> {
 impl<I: Inlet + Drop, R: Eprint> PromptInlet<'_, I, R> {
     // Writes advice on the line that was read before.
     fn write_advice(&self) {
-        let refusal = self.watch.take_refusal();
+        let refusal = self.console.watch.take_refusal();
         if refusal == BAD_COMMAND {
             self.write_form();
         } else if refusal == Refusal::NoPin.number() || refusal == Refusal::NotRetained.number() {
@@ -64,7 +65,7 @@ impl<I: Inlet + Drop, R: Eprint> PromptInlet<'_, I, R> {
 
     // Writes how the line that was read before names a state, and the oldest place, or else how to find the pins.
     fn write_places(&self) {
-        let oldest = self.watch.oldest();
+        let oldest = self.console.watch.oldest();
         let _ = match form_of(self.typed.as_slice()).and_then(state_names) {
             Some(names) => eprintln!(self.rt; "{names}\nthe oldest retained place is @{oldest}"),
             None => eprintln!(self.rt; "pins lists the open pins"),
@@ -83,6 +84,7 @@ impl<I: Inlet + Drop, R: Eprint> PromptInlet<'_, I, R> {
     fn keep(&mut self, read: &[u8])
         ensures { (self.new.inlet ≡ self.old.inlet) × (self.new.given ≡ self.old.given) }
     {
+        self.console.heading.note(read);
         self.typed.clear();
         if self.typed.extend_from_slice(read).is_err() {
             self.typed.clear();
@@ -122,7 +124,7 @@ impl<I: Inlet + Drop, R: Eprint> Inlet for PromptInlet<'_, I, R> {
 
     fn take(&mut self, room: &mut [u8]) -> Take {
         self.write_advice();
-        let place = self.watch.place();
+        let place = self.console.watch.place();
         let _ = eprint!(self.rt; "heapdbg {place}> ");
         let took = self.read_meant(room);
         self.given.note(room, took);

@@ -30,8 +30,8 @@ pub fn draw<R: AllocGlobal + Eprint + Files, I: Inlet, O: Outlet>(
     ensures { IsSessionDrawn request.entry.settings (I.seen reader.old) (I.seen reader.new)
         (O.seen writer.old) (O.seen writer.new) result }
 {
-    let Screen { is_terminal, watch } = screen;
-    match open(rt.alloc(), &request.settings, watch) {
+    let is_terminal = screen.is_terminal;
+    match open(rt.alloc(), &request.settings, &screen.console.watch) {
         Ok(mut asking) => {
             let Settings { time, wide, .. } = request.settings;
             let limits = session_limits(wide);

@@ -32,8 +32,8 @@ pub fn explore<R: AllocGlobal + Clock + Eprint + Files, I: Inlet, O: Outlet>(
     ensures { IsExplored from request.entry.settings (I.seen reader.old) (I.seen reader.new)
         (O.seen writer.old) (O.seen writer.new) result }
 {
-    let Screen { is_terminal, watch } = screen;
-    match open(rt.alloc(), &request.settings, watch) {
+    let is_terminal = screen.is_terminal;
+    match open(rt.alloc(), &request.settings, &screen.console.watch) {
         Ok(mut asking) => explore_on(rt, request, from, is_terminal, &mut asking, reader, writer),
         Err(fault) => Err(fault),
     }

@@ -87,7 +87,7 @@ where
         request.entry.settings.time (I.seen reader.old) (I.seen reader.new) (O.seen writer.old) (O.seen writer.new) result }
 {
     let (shared, seats) = blank.open::<L>();
-    let mut seat = WatchedSeat::new(rt, &shared, only_seat(seats), screen.watch);
+    let mut seat = WatchedSeat::new(rt, &shared, only_seat(seats), &screen.console.watch);
     run_first(rt, request, from, screen.is_terminal, &mut seat)?;
     let (alloc, time) = (rt.alloc(), request.settings.time);
     let limits = session_limits(request.settings.wide);

@@ -24,12 +24,11 @@ use crate::secret_file::secret_for;
 use crate::serve::serve_port;
 use crate::terminals::{Screen, Terminals};
 use dump_pump::{Outlet, WriteOutlet};
-use heap_console::{ColumnOutlet, LineInlet, NewestLine, NotingOutlet, PromptInlet};
+use heap_console::{ColumnOutlet, Console, LineInlet, NewestLine, NotingOutlet, PromptInlet};
 use heapdbg_options::command_line::{path_option, settings};
 use heapdbg_options::line_words::borrow_words;
 use heapdbg_options::refusal::bad;
 use heapdbg_options::settings::{LineFault, Service, Settings, Target, Task};
-use question_text::Watch;
 use secret_word::Secret;
 use session_text::{Inlet, ReadInlet, serve_local, session_limits};
 use std::alloc::Global;
@@ -56,16 +55,16 @@ where
         Ok(words) => words.collect(rt.alloc()).map_err(|_| Fault::Memory)?,
         Err(error) => return Err(unread(rt.alloc(), &error).into()),
     };
-    let watch = Watch::new();
+    let console = Console::new();
     let screen = Screen {
         is_terminal: terminals.error,
-        watch: &watch,
+        console: &console,
     };
     let explores = asks_for(words.as_slice(), "explore");
     let shows = explores && terminals.output;
     let reader = ReadInlet::new(rt.reader());
     if explores && terminals.input && terminals.error {
-        let mut reader = PromptInlet::new(rt, rt.alloc(), &watch, reader);
+        let mut reader = PromptInlet::new(rt, rt.alloc(), &console, reader);
         perform_shown(rt, words.as_slice(), &mut reader, screen, shows)
     } else if asks_for(words.as_slice(), "draw") {
         perform_reported(rt, words.as_slice(), screen)
@@ -100,7 +99,7 @@ where
     let input = ReadInlet::new(rt.reader());
     let writer = WriteOutlet::new(io::writer(rt));
     if shows {
-        let mut writer = ColumnOutlet::new(rt.alloc(), writer);
+        let mut writer = ColumnOutlet::new(rt.alloc(), &screen.console.heading, writer);
         perform_words(rt, words, reader, input, &mut writer, screen)
     } else {
         let mut writer = writer;

@@ -1,5 +1,5 @@
 //! What a person sees of a task while it runs.
-use question_text::Watch;
+use heap_console::Console;
 
 /// The standard streams of the program that are terminals.
 #[derive(Clone, Copy)]
@@ -17,6 +17,6 @@ pub struct Terminals {
 pub struct Screen<'a> {
     /// Whether standard error is a terminal.
     pub is_terminal: bool,
-    /// What a prompt sees of a session with questions.
-    pub watch: &'a Watch,
+    /// What the prompt and the columns of a session with questions share.
+    pub console: &'a Console,
 }

@@ -108,7 +108,7 @@ def hunt(tab, told):
     tab.wait(f"document.querySelectorAll('#inst tbody tr').length === {len(instances(told))}")
     listed = tab.value(CELLS.format("inst"))
     yield "the instances", sorted(cells[0] for cells in listed), sorted(instances(told))
-    yield "when the leaked one was made", [cells[2] for cells in listed if cells[0] == LEAKED], ["@" + f"{int(told[f'born {LEAKED}'][1].split()[-1]):,}"]
+    yield "when the leaked one was made", [cells[3] for cells in listed if cells[0] == LEAKED], ["@" + f"{int(told[f'born {LEAKED}'][1].split()[-1]):,}"]
     tab.click_on(row("inst", LEAKED))
     tab.wait(f"document.getElementById('insp').innerText.includes('@{CLOSED:,}')")
     yield from inspected(tab, told)

@@ -2,7 +2,7 @@
 
 // The policy of the page.
 pub(crate) const POLICY: &str =
-    "default-src 'none'; script-src 'sha256-tIrFcLoYahL45cMIIvFPXJ5F8eD0iuW150lLm3Tp+bY='; style-src 'sha256-EGOceU3NU/Alj1t+EQ9abo/8e2+Nb/3NRnfKiFe04YM='; img-src data:; connect-src 'self'; base-uri 'none'; form-action 'none'; frame-ancestors 'none'";
+    "default-src 'none'; script-src 'sha256-TF45gFSDUtqUeSYo0cXL3CEffHC7FixvOE+Afj+Q/K8='; style-src 'sha256-/IyGdPy9mfY2N/2yWqaX2+FBQy0pMC0h9ChpT8PJPO8='; img-src data:; connect-src 'self'; base-uri 'none'; form-action 'none'; frame-ancestors 'none'";
 
 // The page.
 pub(crate) const PAGE: &[u8] = b"<!doctype html>\n\
@@ -92,11 +92,12 @@ pub(crate) const PAGE: &[u8] = b"<!doctype html>\n\
     table.fields th:nth-child(-n+3), table.fields td:nth-child(-n+3) { text-align: left; } table.fields td:nth-child(3) { width: 100%; max-width: 0; overflow: hidden; text-overflow: ellipsis; }\n\
     .path.flat .n > i::after { display: none; }\n\
     .up { color: var(--red); } .down { color: var(--green); } .zero { color: var(--ink3); }\n\
-    .bar { position: relative; } .bar i { position: absolute; right: 4px; bottom: 1px; height: 2px; border-radius: 1px; opacity: .75; }\n\
+    .bar { position: relative; } td.bar:last-child i { right: 12px; } .bar i { position: absolute; right: 4px; bottom: 1px; height: 2px; border-radius: 1px; opacity: .75; }\n\
+    #retains { flex-basis: 100%; } #retains:empty { display: none; }\n\
     .share { display: inline-block; width: 64px; height: 6px; margin-left: 8px; border-radius: 3px; background: var(--free); overflow: hidden; } .share b { display: block; height: 100%; }\n\
     .twist { all: unset; display: inline-block; width: 16px; margin-left: -4px; text-align: center; color: var(--ink3); cursor: pointer; } .twist:hover { color: var(--ink); }\n\
     .twist::before { content: \"\xe2\x96\xb8\"; } [aria-expanded=true] > td > .twist::before { content: \"\xe2\x96\xbe\"; } .twist[hidden] { display: inline-block; visibility: hidden; }\n\
-    #writes .sub { flex-wrap: wrap; align-items: center; } #writes .sub::before { content: \"\"; width: 8px; height: 8px; background: var(--write); transform: rotate(45deg) scale(.8); }\n\
+    #writes .sub { flex-wrap: wrap; align-items: center; } #writes button { font-weight: 400; } #writes .sub::before { content: \"\"; width: 8px; height: 8px; background: var(--write); transform: rotate(45deg) scale(.8); }\n\
     #writes td, #writes th { text-align: left; } #writes td:nth-last-child(-n+2) { max-width: 0; width: 38%; overflow: hidden; text-overflow: ellipsis; }\n\
     a.ref { color: var(--accent); text-decoration: none; cursor: pointer; } a.ref:hover { text-decoration: underline; }\n\
     tfoot td { border-top: 1px solid var(--line); color: var(--ink2); position: sticky; bottom: 0; background: var(--panel); }\n\
@@ -183,8 +184,8 @@ pub(crate) const PAGE: &[u8] = b"<!doctype html>\n\
     <h2>Find a leak</h2>\n\
     <ol>\n\
     <li><b>Growth between cycles</b> compares the heap at the ends of the two newest marking cycles, so with little garbage in it. Or drag the handle of the time line to a place, press <b>Compare from here</b> (or click the line with <kbd>Shift</kbd>), and drag it to a later one.</li>\n\
-    <li>The classes that grew most stand first. Click one: its objects are listed, the oldest first; those that were there before are faint. With no class picked, the list has the objects through which most is reached.</li>\n\
-    <li>Click an object. <b>Why it is alive</b> is a shortest path from a register, and <b>Written at</b> the step that wrote each field. What it <b>retains</b> is what would go with it, itself counted.</li>\n\
+    <li>The classes that grew most stand first. Click one: its objects are listed, the oldest first; those that were there before are faint. With no class picked, the list has the objects through which most is reached: \xe2\x96\xb8 shows which of the objects that one names are reached only through it.</li>\n\
+    <li>Click an object. <b>Why it is alive</b> is a shortest path from a register, and <b>Written at</b> the step that wrote each field. What it <b>retains</b> is what would go with it, itself counted; bars show how much of the heap that is. Click a field: all its writes are marked on the time line and listed.</li>\n\
     <li>Click a place, such as @1,507: everything now shows the heap there, and <b>Steps</b> what was done around it.</li>\n\
     </ol>\n\
     <h2>Words</h2>\n\
@@ -193,13 +194,15 @@ pub(crate) const PAGE: &[u8] = b"<!doctype html>\n\
     <dl>\n\
     <dt><kbd>\xe2\x86\x90</kbd> <kbd>\xe2\x86\x92</kbd></dt><dd>one step back, one on; with <kbd>Shift</kbd> ten</dd>\n\
     <dt><kbd>[</kbd> <kbd>]</kbd></dt><dd>to the end of the cycle before, of the next one</dd>\n\
+    <dt><kbd>,</kbd> <kbd>.</kbd></dt><dd>to the write of the picked field before, to the next one</dd>\n\
     <dt><kbd>Home</kbd>, <kbd>End</kbd> or <kbd>L</kbd></dt><dd>the oldest retained place; live</dd>\n\
     <dt><kbd>B</kbd>, <kbd>G</kbd></dt><dd>compare from here; growth between cycles; again: stop comparing</dd>\n\
     <dt><kbd>+</kbd> <kbd>-</kbd> <kbd>0</kbd> <kbd>Z</kbd></dt><dd>zoom in, out, to all regions, to the cell of the object (or wheel and drag)</dd>\n\
     <dt><kbd>C</kbd>, <kbd>A</kbd></dt><dd>colour cells by class, by age</dd>\n\
     <dt><kbd>Tab</kbd>, <kbd>\xe2\x86\x91</kbd> <kbd>\xe2\x86\x93</kbd>, <kbd>Enter</kbd></dt><dd>to the next part; between rows or cells; pick</dd>\n\
+    <dt><kbd>\xe2\x86\x92</kbd> <kbd>\xe2\x86\x90</kbd> on \xe2\x96\xb8</dt><dd>open or close the row; to the row below or above it</dd>\n\
     <dt><kbd>Backspace</kbd></dt><dd>the object before this one</dd>\n\
-    <dt><kbd>S</kbd>, <kbd>/</kbd>, <kbd>Esc</kbd></dt><dd>save the dump; ask a question; close its answers</dd>\n\
+    <dt><kbd>S</kbd>, <kbd>/</kbd>, <kbd>Esc</kbd></dt><dd>save the dump; ask a question; close its answers and the writes</dd>\n\
     </dl>\n\
     <form method=\"dialog\"><button class=\"btn main\" autofocus>Close</button></form>\n\
     </dialog>\n\
@@ -1338,8 +1341,12 @@ pub(crate) const PAGE: &[u8] = b"<!doctype html>\n\
     \x20\x20\x20\x20return { count, before, some: first(some).map((x) => ({ o: objectIn(x.g, x.cell), ...x })) };\n\
     \x20\x20}\n\
     \n\
-    \x20\x20// How often the instances were drawn.\n\
-    \x20\x20let lists = 0;\n\
+    \x20\x20// How often the instances were drawn, and how often what they retain was to be asked; when that is asked next, and how long the last\n\
+    \x20\x20// answer took.\n\
+    \x20\x20let lists = 0,\n\
+    \x20\x20\x20\x20sizing = 0,\n\
+    \x20\x20\x20\x20sizesLater = 0,\n\
+    \x20\x20\x20\x20sizeTook = 0;\n\
     \n\
     \x20\x20// Draws those that can be seen without scrolling, and then, once these are on the screen, the others.\n\
     \x20\x20function drawInstances() {\n\
@@ -1352,6 +1359,8 @@ pub(crate) const PAGE: &[u8] = b"<!doctype html>\n\
     \x20\x20\x20\x20$(\"tops\").hidden = any || !S.tops.rows.length;\n\
     \x20\x20\x20\x20$(\"instempty\").hidden = any || !$(\"tops\").hidden;\n\
     \x20\x20\x20\x20note.textContent = \"\";\n\
+    \x20\x20\x20\x20clearTimeout(sizesLater);\n\
+    \x20\x20\x20\x20sizing++;\n\
     \x20\x20\x20\x20if (!any) return drawTops();\n\
     \x20\x20\x20\x20const { count, before, some } = listed(name, at, since),\n\
     \x20\x20\x20\x20\x20\x20fresh = since === null ? \"\" : `, ${num(count - before)} made since @${num(since)}`;\n\
@@ -1410,10 +1419,6 @@ pub(crate) const PAGE: &[u8] = b"<!doctype html>\n\
     \x20\x20\x20\x20\x20\x20rows = [...$(\"inst\").tBodies[0].rows].filter((row) => S.order || seen(row.getBoundingClientRect()));\n\
     \x20\x20\x20\x20return rows.map((row) => row.dataset.row).filter((id) => !S.sizes.of.has(id) && objectAt(id) && !objectAt(id).lost);\n\
     \x20\x20}\n\
-    \x20\x20let sizesLater = 0,\n\
-    \x20\x20\x20\x20sizing = 0,\n\
-    \x20\x20\x20\x20sizeTook = 0;\n\
-    \n\
     \x20\x20// Asks what the objects retain that can be seen in the list, once it hasn't changed for a while: longer if each answer takes long.\n\
     \x20\x20function loadSizesLater() {\n\
     \x20\x20\x20\x20clearTimeout(sizesLater);\n\
@@ -1498,10 +1503,14 @@ pub(crate) const PAGE: &[u8] = b"<!doctype html>\n\
     \x20\x20const indent = (level) => 12 + 14 * Math.min(level - 1, 10) + \"px\";\n\
     \n\
     \x20\x20function restRow(id, level, text, title = \"\", act = null) {\n\
-    \x20\x20\x20\x20const tr = rowOf(id + \" more\", act ? \"pick\" : \"\", act),\n\
+    \x20\x20\x20\x20const tr = rowOf(id + \" more\", act ? \"pick\" : \"\", null),\n\
     \x20\x20\x20\x20\x20\x20cell = el(\"td\", \"dim\", text);\n\
     \x20\x20\x20\x20cell.colSpan = 4;\n\
     \x20\x20\x20\x20cell.style.paddingLeft = `calc(${indent(level)} + 14px)`;\n\
+    \x20\x20\x20\x20if (act) tr.onclick = () => {\n\
+    \x20\x20\x20\x20\x20\x20tr.previousElementSibling.focus();\n\
+    \x20\x20\x20\x20\x20\x20act();\n\
+    \x20\x20\x20\x20};\n\
     \x20\x20\x20\x20tr.title = title;\n\
     \x20\x20\x20\x20tr.ariaLevel = level;\n\
     \x20\x20\x20\x20tr.append(cell);\n\
@@ -1579,7 +1588,7 @@ pub(crate) const PAGE: &[u8] = b"<!doctype html>\n\
     \x20\x20\x20\x20else if (right) open && row.nextElementSibling?.focus();\n\
     \x20\x20\x20\x20else {\n\
     \x20\x20\x20\x20\x20\x20let above = row.previousElementSibling;\n\
-    \x20\x20\x20\x20\x20\x20while (above && above.ariaLevel >= row.ariaLevel) above = above.previousElementSibling;\n\
+    \x20\x20\x20\x20\x20\x20while (above && Number(above.ariaLevel) >= Number(row.ariaLevel)) above = above.previousElementSibling;\n\
     \x20\x20\x20\x20\x20\x20above?.focus();\n\
     \x20\x20\x20\x20}\n\
     \x20\x20}\n\
@@ -2462,15 +2471,26 @@ pub(crate) const PAGE: &[u8] = b"<!doctype html>\n\
     \x20\x20}\n\
     \n\
     \x20\x20// ---- writes of a field\n\
-    \x20\x20const isWatched = (slot) => S.watch !== null && S.watch.id === S.sel && S.watch.slot === slot;\n\
+    \x20\x20const isWatched = (slot) => isAbout(S.watch) && S.watch.slot === slot;\n\
+    \n\
+    \x20\x20// Tells whether the shown object is the one whose field was picked, and not another one with its id, or is one of its class if the\n\
+    \x20\x20// writes of all these are shown.\n\
+    \x20\x20function isAbout(it) {\n\
+    \x20\x20\x20\x20const o = it && it.id === S.sel && objectAt(S.sel);\n\
+    \x20\x20\x20\x20if (!o || o.name !== it.of) return false;\n\
+    \x20\x20\x20\x20const [from, to] = [Math.min(it.at, S.shown), Math.max(it.at, S.shown)];\n\
+    \x20\x20\x20\x20return it.all || !(S.born.get(o.w) || []).some((p) => p > from && p <= to);\n\
+    \x20\x20}\n\
+    \n\
     \x20\x20// How often the writes of a field were read.\n\
     \x20\x20let watches = 0;\n\
     \n\
     \x20\x20// Picks a field of the shown object, to show all its writes; or picks none, if it was picked.\n\
     \x20\x20function watchField(name, x) {\n\
     \x20\x20\x20\x20if (isWatched(x.slot)) return unwatch();\n\
-    \x20\x20\x20\x20const array = isArray(name);\n\
-    \x20\x20\x20\x20S.watch = { id: S.sel, of: name, slot: x.slot, field: array ? `[${x.name}]` : x.name, dotted: (array ? \"[\" : \".\") + x.name + (array ? \"]\" : \"\"), all: false, rows: [], why: \"\", asked: \"\", done: false, turn: ++watches };\n\
+    \x20\x20\x20\x20const field = isArray(name) ? `[${x.name}]` : x.name,\n\
+    \x20\x20\x20\x20\x20\x20dotted = isArray(name) ? field : \".\" + field;\n\
+    \x20\x20\x20\x20S.watch = { id: S.sel, at: S.shown, of: name, slot: x.slot, field, dotted, all: false, rows: [], why: \"\", asked: \"\", done: false, turn: ++watches };\n\
     \x20\x20\x20\x20showWrites();\n\
     \x20\x20\x20\x20loadWrites().catch(() => {});\n\
     \x20\x20}\n\
@@ -2495,16 +2515,16 @@ pub(crate) const PAGE: &[u8] = b"<!doctype html>\n\
     \x20\x20\x20\x20if (it && it.id !== id) S.watch = it.all && id && objectAt(id)?.name === it.of ? { ...it, id } : null;\n\
     \x20\x20}\n\
     \n\
-    \x20\x20// From where and until where an id stands for the object that it stands for at the shown place.\n\
-    \x20\x20function lifeOf(id) {\n\
+    \x20\x20// From where and until where an id stands for the object that it stands for at a place.\n\
+    \x20\x20function lifeOf(id, at) {\n\
     \x20\x20\x20\x20const w = wordOf(id);\n\
-    \x20\x20\x20\x20return [bornIn(w, S.shown) ?? -1, (S.born.get(w) || []).find((p) => p > S.shown) ?? Infinity];\n\
+    \x20\x20\x20\x20return [bornIn(w, at) ?? -1, (S.born.get(w) || []).find((p) => p > at) ?? Infinity];\n\
     \x20\x20}\n\
     \n\
     \x20\x20// Reads the writes of the picked field, if the heap has gone on since they were read.\n\
     \x20\x20async function loadWrites() {\n\
     \x20\x20\x20\x20const it = S.watch,\n\
-    \x20\x20\x20\x20\x20\x20life = lifeOf(it.id),\n\
+    \x20\x20\x20\x20\x20\x20life = lifeOf(it.id, it.at),\n\
     \x20\x20\x20\x20\x20\x20now = [S.place, S.status.acts, it.all, ...(it.all ? [] : life)].join();\n\
     \x20\x20\x20\x20if (it.asked === now) return;\n\
     \x20\x20\x20\x20it.asked = now;\n\
@@ -2545,7 +2565,7 @@ pub(crate) const PAGE: &[u8] = b"<!doctype html>\n\
     \x20\x20\x20\x20const box = el(\"div\"),\n\
     \x20\x20\x20\x20\x20\x20it = S.watch;\n\
     \x20\x20\x20\x20box.id = \"writes\";\n\
-    \x20\x20\x20\x20if (!it) return box;\n\
+    \x20\x20\x20\x20if (!isAbout(it)) return box;\n\
     \x20\x20\x20\x20const shown = it.rows.slice(-LISTED).reverse(),\n\
     \x20\x20\x20\x20\x20\x20table = el(\"table\"),\n\
     \x20\x20\x20\x20\x20\x20head = el(\"tr\");\n\
@@ -2573,7 +2593,7 @@ pub(crate) const PAGE: &[u8] = b"<!doctype html>\n\
     \x20\x20\x20\x20\x20\x20b.dataset.row = text;\n\
     \x20\x20\x20\x20\x20\x20b.disabled = all && numberOf(it.of) === null;\n\
     \x20\x20\x20\x20\x20\x20b.onclick = () => {\n\
-    \x20\x20\x20\x20\x20\x20\x20\x20it.all = all;\n\
+    \x20\x20\x20\x20\x20\x20\x20\x20Object.assign(it, { all, at: S.shown });\n\
     \x20\x20\x20\x20\x20\x20\x20\x20loadWrites().catch(() => {});\n\
     \x20\x20\x20\x20\x20\x20};\n\
     \x20\x20\x20\x20\x20\x20seg.append(b);\n\

@@ -33,9 +33,9 @@ FOCUS = "document.activeElement.dataset.row"
 BARS = "[...document.querySelectorAll('#tops tbody tr')].map((r) => parseFloat(r.querySelector('.bar i').style.width))"
 # What stands beside the objects of the list, what beside those in sight, and the heading of it.
 RETAINS = "Object.fromEntries([...document.querySelectorAll('#inst tbody tr')].map((r) => [r.dataset.row, r.cells[2].textContent]))"
-SEEN = """(() => {{ const box = document.getElementById('inst').parentElement.getBoundingClientRect();
+SEEN = """(() => { const box = document.getElementById('inst').parentElement.getBoundingClientRect();
     return [...document.querySelectorAll('#inst tbody tr')].map((r) => [r, r.getBoundingClientRect()]).filter(([, b]) => b.bottom > box.top && b.top < box.bottom)
-        .map(([r]) => [r.dataset.row, r.cells[2].textContent]); }})()"""
+        .map(([r]) => [r.dataset.row, r.cells[2].textContent]); })()"""
 HEAD = "[...document.querySelectorAll('#inst th button')].find((b) => b.textContent === 'Retains')"
 # Counts from now on how often a word begins a question.
 COUNT = """(() => {{ const own = window.fetch; window.counted = 0;

@@ -55,7 +55,7 @@ def one(tab, told):
     tab.click_on(f"({FIELD.format('state')}).cells[0]")
     tab.wait(f"{CELLS}.length > 0")
     yield "the writes of a field", tab.value(CELLS), listed(rows)
-    yield "how many they are", tab.value(NOTE), f"{len(rows)}, newest first"
+    yield "how many they are", tab.value(NOTE), str(len(rows))
     yield "the marks of its writes", [int(row[0]) for row in rows if tab.value(POINT.format(row[0])) != MARK], []
     yield "the row of the field", tab.value(f"({FIELD.format('state')}).classList.contains('on')"), True
     tab.mouse("mouseMoved", *mark(tab, CLOSED))
@@ -91,6 +91,7 @@ def every(tab, told):
     tab.click_on(BUTTON.format("all objects of the class"))
     tab.wait(f"{CELLS}.length > 1")
     yield "the writes of a field of all objects of a class", tab.value(CELLS), listed(rows)
+    yield "how many they are", tab.value(NOTE), f"{len(rows)}, newest first"
     wide(tab, rows[0][0])
     # (The mark of the shown place is below its handle.)
     yield "their marks", [int(row[0]) for row in rows if tab.value(POINT.format(row[0])) != MARK], [CLOSED]

@@ -2,7 +2,7 @@
 
 // The policy of the page.
 pub(crate) const POLICY: &str =
-    "default-src 'none'; script-src 'sha256-TF45gFSDUtqUeSYo0cXL3CEffHC7FixvOE+Afj+Q/K8='; style-src 'sha256-/IyGdPy9mfY2N/2yWqaX2+FBQy0pMC0h9ChpT8PJPO8='; img-src data:; connect-src 'self'; base-uri 'none'; form-action 'none'; frame-ancestors 'none'";
+    "default-src 'none'; script-src 'sha256-Eie6CGTmdcDINwPtFjPKxTAyKV2p4XOaFqdZPMVYHBY='; style-src 'sha256-/IyGdPy9mfY2N/2yWqaX2+FBQy0pMC0h9ChpT8PJPO8='; img-src data:; connect-src 'self'; base-uri 'none'; form-action 'none'; frame-ancestors 'none'";
 
 // The page.
 pub(crate) const PAGE: &[u8] = b"<!doctype html>\n\
@@ -2602,7 +2602,7 @@ pub(crate) const PAGE: &[u8] = b"<!doctype html>\n\
     \x20\x20\x20\x20close.ariaLabel = \"Close\";\n\
     \x20\x20\x20\x20close.dataset.row = \"close\";\n\
     \x20\x20\x20\x20close.onclick = unwatch;\n\
-    \x20\x20\x20\x20sub.append(el(\"small\", \"\", it.why || (it.done ? `${num(it.rows.length)}, newest first` : \"\xe2\x80\xa6\")), el(\"span\", \"grow\"), seg, close);\n\
+    \x20\x20\x20\x20sub.append(el(\"small\", \"\", it.why || (it.done ? num(it.rows.length) + (it.rows.length > 1 ? \", newest first\" : \"\") : \"\xe2\x80\xa6\")), el(\"span\", \"grow\"), seg, close);\n\
     \x20\x20\x20\x20return sub;\n\
     \x20\x20}\n\
     \n\

@@ -2,7 +2,7 @@
 
 // The policy of the page.
 pub(crate) const POLICY: &str =
-    "default-src 'none'; script-src 'sha256-Eie6CGTmdcDINwPtFjPKxTAyKV2p4XOaFqdZPMVYHBY='; style-src 'sha256-/IyGdPy9mfY2N/2yWqaX2+FBQy0pMC0h9ChpT8PJPO8='; img-src data:; connect-src 'self'; base-uri 'none'; form-action 'none'; frame-ancestors 'none'";
+    "default-src 'none'; script-src 'sha256-Eie6CGTmdcDINwPtFjPKxTAyKV2p4XOaFqdZPMVYHBY='; style-src 'sha256-vaxzXe171af2/w7CrYYRnR3aoQZskRfAKOsl5HfnCNI='; img-src data:; connect-src 'self'; base-uri 'none'; form-action 'none'; frame-ancestors 'none'";
 
 // The page.
 pub(crate) const PAGE: &[u8] = b"<!doctype html>\n\
@@ -87,6 +87,7 @@ pub(crate) const PAGE: &[u8] = b"<!doctype html>\n\
     tr.on { background: var(--accent-bg) !important; }\n\
     th.left, td.left { text-align: left; }\n\
     td.name { max-width: 170px; overflow: hidden; text-overflow: ellipsis; }\n\
+    #tops td.name { max-width: 0; width: 100%; } #inst td.name { max-width: 120px; } #inst th, #inst td { padding-left: 4px; padding-right: 4px; } #inst th:first-child, #inst td:first-child { padding-left: 12px; }\n\
     table.compared th, table.compared td { padding-left: 4px; padding-right: 4px; } table.compared td.name { max-width: 150px; padding-left: 12px; } table.compared th:first-child { padding-left: 12px; }\n\
     .sw { display: inline-block; width: 9px; height: 9px; border-radius: 2px; margin-right: 7px; vertical-align: -.5px; }\n\
     table.fields th:nth-child(-n+3), table.fields td:nth-child(-n+3) { text-align: left; } table.fields td:nth-child(3) { width: 100%; max-width: 0; overflow: hidden; text-overflow: ellipsis; }\n\

@@ -18,6 +18,8 @@ import browser  # noqa: E402
 import clicks  # noqa: E402
 import colours  # noqa: E402
 import loads  # noqa: E402
+import sizes  # noqa: E402
+import writes  # noqa: E402
 from asking import body_of, dumped  # noqa: E402
 from explored import explored  # noqa: E402
 from paged import KEEP, Heap  # noqa: E402
@@ -224,7 +226,7 @@ def main(program, *pictures):
         for folder in pictures:
             with Heap(program, LEAK) as heap:
                 take(heap, pathlib.Path(folder))
-        for load in (loads.empty, loads.mixed, loads.few, loads.full, loads.busy):
+        for load in (loads.empty, loads.mixed, loads.few, loads.full, loads.busy, writes.all_of, sizes.all_of):
             cases += until_late(load(program))
     for name, found, wanted in cases:
         if found != wanted:

@@ -108,7 +108,7 @@ def hunt(tab, told):
     tab.wait(f"document.querySelectorAll('#inst tbody tr').length === {len(instances(told))}")
     listed = tab.value(CELLS.format("inst"))
     yield "the instances", sorted(cells[0] for cells in listed), sorted(instances(told))
-    yield "when the leaked one was made", [cells[2] for cells in listed if cells[0] == LEAKED], ["@" + f"{int(told[f'born {LEAKED}'][1].split()[-1]):,}"]
+    yield "when the leaked one was made", [cells[3] for cells in listed if cells[0] == LEAKED], ["@" + f"{int(told[f'born {LEAKED}'][1].split()[-1]):,}"]
     tab.click_on(row("inst", LEAKED))
     tab.wait(f"document.getElementById('insp').innerText.includes('@{CLOSED:,}')")
     yield from inspected(tab, told)
@@ -151,6 +151,8 @@ def inspected(tab, told):
     _, objects, size = told[f"retained @{TO} {LEAKED}"][1].split()
     tab.wait("/[0-9]/.test(document.getElementById('retains').textContent)")
     yield "what it retains", tab.value("document.getElementById('retains').textContent"), f"retains {objects} objects, {size} bytes"
+    part = 100 * int(size) / int(told[f"histogram @{TO}"][1].split()[2])
+    yield "the bar of what it retains", round(float(tab.value("document.querySelector('#retains b').style.width")[:-1]), 2), round(part, 2)
     path, named = tab.value("[...document.querySelectorAll('#insp .path')].map((l) => [...l.querySelectorAll('.n')].map((n) => n.innerText))")
     first, *rest = told[f"path @{TO} {LEAKED}"][0]
     yield "the register of the path", path[0], f"register {first[1]} of mutator {first[0]}"

@@ -6,6 +6,9 @@ from clicks import CLASS, CLOSED, FROM, LEAKED, TO, at_place, opened, row
 
 INSPECTED = f"/@{CLOSED:,}/.test(document.getElementById('insp').innerText) && /retains [0-9]/.test(document.getElementById('insp').innerText)"
 
+# Whether what each object of the list retains is known, as far as the list can be seen without scrolling.
+SIZED = "heapdbg.S.sizes.place === heapdbg.S.shown && ![...document.querySelectorAll('#inst tbody tr')].slice(0, 8).some((r) => r.cells[2].textContent === '…')"
+
 
 def chunks(png):
     """Yields the chunks of a PNG: the name and the bytes of each."""
@@ -70,6 +73,7 @@ def take(heap, folder):
         at_place(tab, TO, FROM)
         tab.click_on(row("classes", CLASS))
         tab.wait("document.querySelectorAll('#inst tbody tr').length === 12")
+        tab.wait(SIZED)
         taken(tab, folder / "hunt-growth.png")
         tab.click_on(row("inst", LEAKED))
         tab.wait(INSPECTED)
@@ -80,6 +84,7 @@ def take(heap, folder):
         at_place(tab, CLOSED, FROM)
         tab.wait(f"document.getElementById('inspnote').textContent.endsWith('@{CLOSED:,}')")
         tab.wait(INSPECTED)
+        tab.wait(SIZED)
         taken(tab, folder / "hunt-steps.png")
     finally:
         tab.close()

@@ -2,7 +2,7 @@
 
 // The policy of the page.
 pub(crate) const POLICY: &str =
-    "default-src 'none'; script-src 'sha256-VK7HQOkJxCztLKvRe9LADKMcXx8Nn7XpjB6d+iIYis8='; style-src 'sha256-9Me/SFiawhkG25pGyw6I+0x79AccM3lNGUCYmjDwzrQ='; img-src data:; connect-src 'self'; base-uri 'none'; form-action 'none'; frame-ancestors 'none'";
+    "default-src 'none'; script-src 'sha256-Eie6CGTmdcDINwPtFjPKxTAyKV2p4XOaFqdZPMVYHBY='; style-src 'sha256-vaxzXe171af2/w7CrYYRnR3aoQZskRfAKOsl5HfnCNI='; img-src data:; connect-src 'self'; base-uri 'none'; form-action 'none'; frame-ancestors 'none'";
 
 // The page.
 pub(crate) const PAGE: &[u8] = b"<!doctype html>\n\
@@ -17,14 +17,14 @@ pub(crate) const PAGE: &[u8] = b"<!doctype html>\n\
     \x20\x20color-scheme: light dark;\n\
     \x20\x20--bg: #f6f7f9; --panel: #ffffff; --sunk: #eef0f4; --line: #dfe3ea; --line2: #c9d0db;\n\
     \x20\x20--ink: #1b2230; --ink2: #566074; --ink3: #727d90; --accent: #2f5fd0; --accent-bg: #e4ecfd;\n\
-    \x20\x20--red: #c8323f; --amber: #a86a00; --green: #1f8a4c; --free: #e8ebf0; --shade: rgba(20,30,50,.06);\n\
+    \x20\x20--red: #c8323f; --amber: #a86a00; --green: #1f8a4c; --write: #c2188f; --free: #e8ebf0; --shade: rgba(20,30,50,.06);\n\
     \x20\x20--mono: ui-monospace, \"SF Mono\", \"JetBrains Mono\", \"DejaVu Sans Mono\", Menlo, Consolas, monospace;\n\
     }\n\
     @media (prefers-color-scheme: dark) {\n\
     \x20\x20:root {\n\
     \x20\x20\x20\x20--bg: #12151b; --panel: #191d25; --sunk: #12151b; --line: #29303c; --line2: #3a4352;\n\
     \x20\x20\x20\x20--ink: #e4e8ef; --ink2: #9aa5b6; --ink3: #7f8a9d; --accent: #7ea6ff; --accent-bg: #1f2b45;\n\
-    \x20\x20\x20\x20--red: #ff7b84; --amber: #f0b44d; --green: #5fca8b; --free: #232933; --shade: rgba(255,255,255,.045);\n\
+    \x20\x20\x20\x20--red: #ff7b84; --amber: #f0b44d; --green: #5fca8b; --write: #ff7fd1; --free: #232933; --shade: rgba(255,255,255,.045);\n\
     \x20\x20}\n\
     }\n\
     * { box-sizing: border-box; }\n\
@@ -87,12 +87,19 @@ pub(crate) const PAGE: &[u8] = b"<!doctype html>\n\
     tr.on { background: var(--accent-bg) !important; }\n\
     th.left, td.left { text-align: left; }\n\
     td.name { max-width: 170px; overflow: hidden; text-overflow: ellipsis; }\n\
+    #tops td.name { max-width: 0; width: 100%; } #inst td.name { max-width: 120px; } #inst th, #inst td { padding-left: 4px; padding-right: 4px; } #inst th:first-child, #inst td:first-child { padding-left: 12px; }\n\
     table.compared th, table.compared td { padding-left: 4px; padding-right: 4px; } table.compared td.name { max-width: 150px; padding-left: 12px; } table.compared th:first-child { padding-left: 12px; }\n\
     .sw { display: inline-block; width: 9px; height: 9px; border-radius: 2px; margin-right: 7px; vertical-align: -.5px; }\n\
     table.fields th:nth-child(-n+3), table.fields td:nth-child(-n+3) { text-align: left; } table.fields td:nth-child(3) { width: 100%; max-width: 0; overflow: hidden; text-overflow: ellipsis; }\n\
     .path.flat .n > i::after { display: none; }\n\
     .up { color: var(--red); } .down { color: var(--green); } .zero { color: var(--ink3); }\n\
-    .bar { position: relative; } .bar i { position: absolute; right: 4px; bottom: 1px; height: 2px; border-radius: 1px; opacity: .75; }\n\
+    .bar { position: relative; } td.bar:last-child i { right: 12px; } .bar i { position: absolute; right: 4px; bottom: 1px; height: 2px; border-radius: 1px; opacity: .75; }\n\
+    #retains { flex-basis: 100%; } #retains:empty { display: none; }\n\
+    .share { display: inline-block; width: 64px; height: 6px; margin-left: 8px; border-radius: 3px; background: var(--free); overflow: hidden; } .share b { display: block; height: 100%; }\n\
+    .twist { all: unset; display: inline-block; width: 16px; margin-left: -4px; text-align: center; color: var(--ink3); cursor: pointer; } .twist:hover { color: var(--ink); }\n\
+    .twist::before { content: \"\xe2\x96\xb8\"; } [aria-expanded=true] > td > .twist::before { content: \"\xe2\x96\xbe\"; } .twist[hidden] { display: inline-block; visibility: hidden; }\n\
+    #writes .sub { flex-wrap: wrap; align-items: center; } #writes button { font-weight: 400; } #writes .sub::before { content: \"\"; width: 8px; height: 8px; background: var(--write); transform: rotate(45deg) scale(.8); }\n\
+    #writes td, #writes th { text-align: left; } #writes td:nth-last-child(-n+2) { max-width: 0; width: 38%; overflow: hidden; text-overflow: ellipsis; }\n\
     a.ref { color: var(--accent); text-decoration: none; cursor: pointer; } a.ref:hover { text-decoration: underline; }\n\
     tfoot td { border-top: 1px solid var(--line); color: var(--ink2); position: sticky; bottom: 0; background: var(--panel); }\n\
     .empty { padding: 14px 12px; color: var(--ink3); line-height: 1.6; } .empty b { color: var(--ink2); font-weight: 600; } .empty[hidden] { display: none; }\n\
@@ -162,7 +169,7 @@ pub(crate) const PAGE: &[u8] = b"<!doctype html>\n\
     <main>\n\
     \x20\x20<div class=\"col\">\n\
     \x20\x20\x20\x20<div class=\"panel\" id=\"classpanel\"><h2>Classes <small id=\"classnote\"></small></h2><div class=\"scroll\"><table id=\"classes\"><thead></thead><tbody></tbody><tfoot></tfoot></table></div></div>\n\
-    \x20\x20\x20\x20<div class=\"panel\" id=\"instpanel\"><h2>Instances <small id=\"instnote\"></small></h2><div class=\"scroll\"><table id=\"inst\"><thead></thead><tbody></tbody></table><table id=\"tops\"><thead><tr><th>Object</th><th class=\"left\">Class</th><th>Objects</th><th>Bytes</th></tr></thead><tbody></tbody></table><div class=\"empty\" id=\"instempty\">Click a class to list its objects, or compare two places to list those made between them.</div></div></div>\n\
+    \x20\x20\x20\x20<div class=\"panel\" id=\"instpanel\"><h2>Instances <small id=\"instnote\"></small></h2><div class=\"scroll\"><table id=\"inst\"><thead></thead><tbody></tbody></table><table id=\"tops\" role=\"treegrid\" aria-label=\"Objects through which most is reached\"><thead><tr><th>Object</th><th class=\"left\">Class</th><th>Objects</th><th>Bytes</th></tr></thead><tbody></tbody></table><div class=\"empty\" id=\"instempty\">Click a class to list its objects, or compare two places to list those made between them.</div></div></div>\n\
     \x20\x20</div>\n\
     \x20\x20<div class=\"col\">\n\
     \x20\x20\x20\x20<div class=\"panel\" id=\"mappanel\"><h2>Regions <small id=\"mapnote\"></small><span class=\"grow\"></span><span class=\"seg\" role=\"group\" aria-label=\"Zoom\"><button id=\"zoomout\" title=\"Zoom out (-)\" aria-label=\"Zoom out\">\xe2\x88\x92</button><button id=\"zoomin\" title=\"Zoom in (+), or turn the wheel\" aria-label=\"Zoom in\">+</button><button id=\"zoomall\" title=\"Show all regions (0)\">all</button><button id=\"zoomcell\" title=\"Zoom to the cell of the object (Z)\">cell</button></span><span class=\"seg\" role=\"group\" aria-label=\"Colour\"><button id=\"byclass\" aria-pressed=\"true\" title=\"Colour cells by class (C)\">class</button><button id=\"byage\" aria-pressed=\"false\" title=\"Colour cells by age (A)\">age</button></span></h2>\n\
@@ -178,8 +185,8 @@ pub(crate) const PAGE: &[u8] = b"<!doctype html>\n\
     <h2>Find a leak</h2>\n\
     <ol>\n\
     <li><b>Growth between cycles</b> compares the heap at the ends of the two newest marking cycles, so with little garbage in it. Or drag the handle of the time line to a place, press <b>Compare from here</b> (or click the line with <kbd>Shift</kbd>), and drag it to a later one.</li>\n\
-    <li>The classes that grew most stand first. Click one: its objects are listed, the oldest first; those that were there before are faint. With no class picked, the list has the objects through which most is reached.</li>\n\
-    <li>Click an object. <b>Why it is alive</b> is a shortest path from a register, and <b>Written at</b> the step that wrote each field. What it <b>retains</b> is what would go with it, itself counted.</li>\n\
+    <li>The classes that grew most stand first. Click one: its objects are listed, the oldest first; those that were there before are faint. With no class picked, the list has the objects through which most is reached: \xe2\x96\xb8 shows which of the objects that one names are reached only through it.</li>\n\
+    <li>Click an object. <b>Why it is alive</b> is a shortest path from a register, and <b>Written at</b> the step that wrote each field. What it <b>retains</b> is what would go with it, itself counted; bars show how much of the heap that is. Click a field: all its writes are marked on the time line and listed.</li>\n\
     <li>Click a place, such as @1,507: everything now shows the heap there, and <b>Steps</b> what was done around it.</li>\n\
     </ol>\n\
     <h2>Words</h2>\n\
@@ -188,13 +195,15 @@ pub(crate) const PAGE: &[u8] = b"<!doctype html>\n\
     <dl>\n\
     <dt><kbd>\xe2\x86\x90</kbd> <kbd>\xe2\x86\x92</kbd></dt><dd>one step back, one on; with <kbd>Shift</kbd> ten</dd>\n\
     <dt><kbd>[</kbd> <kbd>]</kbd></dt><dd>to the end of the cycle before, of the next one</dd>\n\
+    <dt><kbd>,</kbd> <kbd>.</kbd></dt><dd>to the write of the picked field before, to the next one</dd>\n\
     <dt><kbd>Home</kbd>, <kbd>End</kbd> or <kbd>L</kbd></dt><dd>the oldest retained place; live</dd>\n\
     <dt><kbd>B</kbd>, <kbd>G</kbd></dt><dd>compare from here; growth between cycles; again: stop comparing</dd>\n\
     <dt><kbd>+</kbd> <kbd>-</kbd> <kbd>0</kbd> <kbd>Z</kbd></dt><dd>zoom in, out, to all regions, to the cell of the object (or wheel and drag)</dd>\n\
     <dt><kbd>C</kbd>, <kbd>A</kbd></dt><dd>colour cells by class, by age</dd>\n\
     <dt><kbd>Tab</kbd>, <kbd>\xe2\x86\x91</kbd> <kbd>\xe2\x86\x93</kbd>, <kbd>Enter</kbd></dt><dd>to the next part; between rows or cells; pick</dd>\n\
+    <dt><kbd>\xe2\x86\x92</kbd> <kbd>\xe2\x86\x90</kbd> on \xe2\x96\xb8</dt><dd>open or close the row; to the row below or above it</dd>\n\
     <dt><kbd>Backspace</kbd></dt><dd>the object before this one</dd>\n\
-    <dt><kbd>S</kbd>, <kbd>/</kbd>, <kbd>Esc</kbd></dt><dd>save the dump; ask a question; close its answers</dd>\n\
+    <dt><kbd>S</kbd>, <kbd>/</kbd>, <kbd>Esc</kbd></dt><dd>save the dump; ask a question; close its answers and the writes</dd>\n\
     </dl>\n\
     <form method=\"dialog\"><button class=\"btn main\" autofocus>Close</button></form>\n\
     </dialog>\n\
@@ -236,13 +245,14 @@ pub(crate) const PAGE: &[u8] = b"<!doctype html>\n\
     \x20\x20\x20\x20reclaim: \"#ff725c\"\n\
     \x20\x20};\n\
     \x20\x20const COLORS = [...new Set(Object.values(EVENTS))];\n\
-    \x20\x20// The most objects that are listed, the most requests at a time, the steps that are read before all are, the most that are read again while the heap goes on, and the\n\
-    \x20\x20// objects that are listed through which most is reached.\n\
+    \x20\x20// The most objects that are listed, the most requests at a time, the steps that are read before all are, the most that are read again while the heap goes on, the\n\
+    \x20\x20// objects that are listed through which most is reached, and the objects below one of them that are looked at together.\n\
     \x20\x20const LISTED = 200,\n\
     \x20\x20\x20\x20LANES = 6,\n\
     \x20\x20\x20\x20FEW = 400,\n\
     \x20\x20\x20\x20MANY = 4000,\n\
-    \x20\x20\x20\x20TOPS = 20;\n\
+    \x20\x20\x20\x20TOPS = 20,\n\
+    \x20\x20\x20\x20KIDS = 20;\n\
     \n\
     \x20\x20// ---- what is known\n\
     \x20\x20const key = location.hash.slice(1) || sessionStorage.getItem(\"heapdbg-key\") || \"\";\n\
@@ -263,6 +273,11 @@ pub(crate) const PAGE: &[u8] = b"<!doctype html>\n\
     \x20\x20\x20\x20sort: [\"bytes\", -1],\n\
     \x20\x20\x20\x20klass: null,\n\
     \x20\x20\x20\x20tops: { place: -1, rows: [] },\n\
+    \x20\x20\x20\x20open: new Set(),\n\
+    \x20\x20\x20\x20kids: new Map(),\n\
+    \x20\x20\x20\x20sizes: { place: -1, of: new Map(), before: new Map() },\n\
+    \x20\x20\x20\x20order: 0,\n\
+    \x20\x20\x20\x20watch: null,\n\
     \x20\x20\x20\x20sel: null,\n\
     \x20\x20\x20\x20trail: [],\n\
     \x20\x20\x20\x20by: \"class\",\n\
@@ -286,7 +301,7 @@ pub(crate) const PAGE: &[u8] = b"<!doctype html>\n\
     \x20\x20\x20\x20color: new Map(),\n\
     \x20\x20\x20\x20path: new Set(),\n\
     \x20\x20\x20\x20refs: new Set(),\n\
-    \x20\x20\x20\x20retains: { id: null, text: \"\" },\n\
+    \x20\x20\x20\x20retains: { id: null, text: \"\", bytes: 0 },\n\
     \x20\x20\x20\x20later: 0,\n\
     \x20\x20\x20\x20values: new Map(),\n\
     \x20\x20\x20\x20more: 0,\n\
@@ -350,6 +365,15 @@ pub(crate) const PAGE: &[u8] = b"<!doctype html>\n\
     \n\
     \x20\x20// Returns the objects of a state, if it is retained.\n\
     \x20\x20const askObjects = async (at) => regionsOf(new Uint8Array((await post(\"/ask\", \"objects \" + at, \"arrayBuffer\")).data));\n\
+    \n\
+    \x20\x20// Does something for each of a list as long as it is wanted: two at a time, so that other questions needn't wait for them.\n\
+    \x20\x20async function eachInTurn(list, wanted, act) {\n\
+    \x20\x20\x20\x20const rest = [...list],\n\
+    \x20\x20\x20\x20\x20\x20lane = async () => {\n\
+    \x20\x20\x20\x20\x20\x20\x20\x20while (rest.length && wanted()) await act(rest.shift());\n\
+    \x20\x20\x20\x20\x20\x20};\n\
+    \x20\x20\x20\x20await Promise.all([lane(), lane()]);\n\
+    \x20\x20}\n\
     \n\
     \x20\x20function lock(head, text) {\n\
     \x20\x20\x20\x20$(\"lock\").hidden = false;\n\
@@ -960,6 +984,7 @@ pub(crate) const PAGE: &[u8] = b"<!doctype html>\n\
     \x20\x20\x20\x20c.fillStyle = css(\"--line\");\n\
     \x20\x20\x20\x20c.fillRect(8, LINE.bottom, w - 16, 1);\n\
     \x20\x20\x20\x20drawLife(c, w);\n\
+    \x20\x20\x20\x20drawWrites(c, w);\n\
     \x20\x20\x20\x20drawPins(c, w);\n\
     \x20\x20}\n\
     \n\
@@ -1043,6 +1068,44 @@ pub(crate) const PAGE: &[u8] = b"<!doctype html>\n\
     \x20\x20\x20\x20\x20\x20if (e.w === o.w && e.kind !== \"new\" && e.p >= (made ?? 0) && e.p < (later ?? Infinity)) c.fillRect(xOf(e.p, w) - .5, 81, 1.5, 6);\n\
     \x20\x20}\n\
     \n\
+    \x20\x20// Where the picked field was written: a mark for each pixel at which it was.\n\
+    \x20\x20function drawWrites(c, w) {\n\
+    \x20\x20\x20\x20let last = -1;\n\
+    \x20\x20\x20\x20c.fillStyle = css(\"--write\");\n\
+    \x20\x20\x20\x20for (const { p } of S.watch ? S.watch.rows : []) {\n\
+    \x20\x20\x20\x20\x20\x20const x = Math.round(xOf(p, w));\n\
+    \x20\x20\x20\x20\x20\x20if (p < S.oldest || x === last) continue;\n\
+    \x20\x20\x20\x20\x20\x20last = x;\n\
+    \x20\x20\x20\x20\x20\x20c.globalAlpha = .5;\n\
+    \x20\x20\x20\x20\x20\x20c.fillRect(x - .5, LINE.top, 1, LINE.bottom - LINE.top);\n\
+    \x20\x20\x20\x20\x20\x20c.globalAlpha = 1;\n\
+    \x20\x20\x20\x20\x20\x20c.beginPath();\n\
+    \x20\x20\x20\x20\x20\x20for (const [dx, dy] of [[-4, 0], [0, -4], [4, 0], [0, 4]]) c.lineTo(x + dx, LINE.bottom - 5 + dy);\n\
+    \x20\x20\x20\x20\x20\x20c.fill();\n\
+    \x20\x20\x20\x20}\n\
+    \x20\x20}\n\
+    \n\
+    \x20\x20// Returns the write of the picked field whose mark is nearest to a point, if one is next to it, and how many others are in its pixel.\n\
+    \x20\x20function writeAt(x, w) {\n\
+    \x20\x20\x20\x20let near = null,\n\
+    \x20\x20\x20\x20\x20\x20most = 4.5,\n\
+    \x20\x20\x20\x20\x20\x20others = 0;\n\
+    \x20\x20\x20\x20for (const it of S.watch ? S.watch.rows : []) {\n\
+    \x20\x20\x20\x20\x20\x20const far = it.p < S.oldest ? Infinity : Math.abs(Math.round(xOf(it.p, w)) - x);\n\
+    \x20\x20\x20\x20\x20\x20if (far > most) continue;\n\
+    \x20\x20\x20\x20\x20\x20others = far === most && near ? others + 1 : 0;\n\
+    \x20\x20\x20\x20\x20\x20most = far;\n\
+    \x20\x20\x20\x20\x20\x20near = it;\n\
+    \x20\x20\x20\x20}\n\
+    \x20\x20\x20\x20return near && { ...near, others };\n\
+    \x20\x20}\n\
+    \n\
+    \x20\x20// Says what a write changed.\n\
+    \x20\x20function writeText({ p, id, old, now, others }) {\n\
+    \x20\x20\x20\x20const more = others ? `\\nand ${num(others)} more here` : \"\";\n\
+    \x20\x20\x20\x20return `@${num(p)} ${old} \xe2\x86\x92 ${now}\\n${S.watch.of}${S.watch.dotted} of ${id}${more}`;\n\
+    \x20\x20}\n\
+    \n\
     \x20\x20function drawPins(c, w) {\n\
     \x20\x20\x20\x20c.fillStyle = css(\"--ink3\");\n\
     \x20\x20\x20\x20c.textAlign = \"left\";\n\
@@ -1075,13 +1138,14 @@ pub(crate) const PAGE: &[u8] = b"<!doctype html>\n\
     \x20\x20\x20\x20if (S.place < 0 || w < 100) return;\n\
     \x20\x20\x20\x20const c = fit(canvas, w, LINE.high);\n\
     \x20\x20\x20\x20const o = S.sel && objectAt(S.sel),\n\
-    \x20\x20\x20\x20\x20\x20life = o ? [S.sel, o.name, bornAt(o, S.shown), S.shown] : [];\n\
+    \x20\x20\x20\x20\x20\x20life = o ? [S.sel, o.name, bornAt(o, S.shown), S.shown] : [],\n\
+    \x20\x20\x20\x20\x20\x20writes = S.watch ? S.watch.turn : 0;\n\
     \x20\x20\x20\x20if (S.at === null) {\n\
     \x20\x20\x20\x20\x20\x20drawStrip(c, w);\n\
     \x20\x20\x20\x20\x20\x20drawStill(c, w);\n\
     \x20\x20\x20\x20} else {\n\
     \x20\x20\x20\x20\x20\x20c.drawImage(drawLayer(STRIP, w, [], drawStrip), 0, 0, w, LINE.high);\n\
-    \x20\x20\x20\x20\x20\x20c.drawImage(drawLayer(LAYER, w, [S.samples.size, S.epoch, S.klass, S.color.size, css(\"--ink\"), ...S.pins, ...life], drawStill), 0, 0, w, LINE.high);\n\
+    \x20\x20\x20\x20\x20\x20c.drawImage(drawLayer(LAYER, w, [S.samples.size, S.epoch, S.klass, S.color.size, css(\"--ink\"), writes, ...S.pins, ...life], drawStill), 0, 0, w, LINE.high);\n\
     \x20\x20\x20\x20}\n\
     \x20\x20\x20\x20c.font = \"11px \" + css(\"--mono\");\n\
     \x20\x20\x20\x20c.textBaseline = \"middle\";\n\
@@ -1108,16 +1172,21 @@ pub(crate) const PAGE: &[u8] = b"<!doctype html>\n\
     \x20\x20\x20\x20}\n\
     \x20\x20\x20\x20flag(atPlace(), S.at === null ? css(\"--green\") : css(\"--accent\"), \"@\");\n\
     \x20\x20\x20\x20for (const [name, value] of [[\"min\", S.oldest], [\"max\", S.place], [\"now\", atPlace()]]) canvas.setAttribute(\"aria-value\" + name, value);\n\
+    \x20\x20\x20\x20const here = S.watch && S.watch.rows.find((it) => it.p === atPlace());\n\
+    \x20\x20\x20\x20canvas.toggleAttribute(\"aria-valuetext\", Boolean(here));\n\
+    \x20\x20\x20\x20if (here) canvas.setAttribute(\"aria-valuetext\", writeText({ ...here, others: 0 }));\n\
     \x20\x20}\n\
     \n\
-    \x20\x20// The place below the pointer, or the end of a cycle that is next to it.\n\
-    \x20\x20function placeAt(e) {\n\
+    \x20\x20// The place below the pointer, or the write of the picked field, or the end of a cycle, that is next to it; and that write.\n\
+    \x20\x20function spotAt(e) {\n\
     \x20\x20\x20\x20const r = $(\"line\").getBoundingClientRect(),\n\
     \x20\x20\x20\x20\x20\x20x = e.clientX - r.left,\n\
     \x20\x20\x20\x20\x20\x20t = (x - 8) / (r.width - 16),\n\
-    \x20\x20\x20\x20\x20\x20near = ends().find((p) => Math.abs(xOf(p, r.width) - x) < 4);\n\
-    \x20\x20\x20\x20return near ?? Math.round(S.oldest + (S.place - S.oldest) * Math.max(0, Math.min(1, t)));\n\
+    \x20\x20\x20\x20\x20\x20write = writeAt(x, r.width),\n\
+    \x20\x20\x20\x20\x20\x20near = write ? write.p : ends().find((p) => Math.abs(xOf(p, r.width) - x) < 4);\n\
+    \x20\x20\x20\x20return { write, place: near ?? Math.round(S.oldest + (S.place - S.oldest) * Math.max(0, Math.min(1, t))) };\n\
     \x20\x20}\n\
+    \x20\x20const placeAt = (e) => spotAt(e).place;\n\
     \n\
     \x20\x20// ---- rows\n\
     \x20\x20// Tells whether a list isn't at its beginning.\n\
@@ -1128,8 +1197,9 @@ pub(crate) const PAGE: &[u8] = b"<!doctype html>\n\
     \x20\x20\x20\x20const on = document.activeElement,\n\
     \x20\x20\x20\x20\x20\x20name = box.contains(on) ? on.dataset.row : null;\n\
     \x20\x20\x20\x20draw();\n\
-    \x20\x20\x20\x20if (name) [...box.querySelectorAll(\"[data-row]\")].find((r) => r.dataset.row === name)?.focus();\n\
+    \x20\x20\x20\x20if (name) rowNamed(box, name)?.focus();\n\
     \x20\x20}\n\
+    \x20\x20const rowNamed = (box, name) => [...box.querySelectorAll(\"[data-row]\")].find((r) => r.dataset.row === name);\n\
     \n\
     \x20\x20function rowOf(name, cls, act) {\n\
     \x20\x20\x20\x20const tr = el(\"tr\", cls);\n\
@@ -1165,6 +1235,19 @@ pub(crate) const PAGE: &[u8] = b"<!doctype html>\n\
     \x20\x20\x20\x20a.append(id);\n\
     \x20\x20\x20\x20return a;\n\
     \x20\x20}\n\
+    \n\
+    \x20\x20// Draws a bar below a number: a share of the widest one, in the colour of a class.\n\
+    \x20\x20function barred(cell, share, name) {\n\
+    \x20\x20\x20\x20const i = el(\"i\");\n\
+    \x20\x20\x20\x20i.style.width = 44 * share + \"px\";\n\
+    \x20\x20\x20\x20i.style.background = colorOf(name);\n\
+    \x20\x20\x20\x20cell.append(i);\n\
+    \x20\x20\x20\x20return cell;\n\
+    \x20\x20}\n\
+    \n\
+    \x20\x20// How much of the whole heap some bytes are, and that in words.\n\
+    \x20\x20const shareOf = (bytes) => S.total && S.total.bytes ? Math.min(1, bytes / S.total.bytes) : 0;\n\
+    \x20\x20const percent = (bytes) => (100 * shareOf(bytes)).toFixed(shareOf(bytes) < .1 ? 1 : 0) + \" % of the bytes of the heap\";\n\
     \n\
     \x20\x20// ---- classes\n\
     \x20\x20const COLUMNS = [\n\
@@ -1220,17 +1303,14 @@ pub(crate) const PAGE: &[u8] = b"<!doctype html>\n\
     \x20\x20function classRow(r, most) {\n\
     \x20\x20\x20\x20const tr = rowOf(r.name, \"pick\" + (S.klass === r.name ? \" on\" : \"\"), () => {\n\
     \x20\x20\x20\x20\x20\x20\x20\x20S.klass = S.klass === r.name ? null : r.name;\n\
+    \x20\x20\x20\x20\x20\x20\x20\x20S.order = 0;\n\
     \x20\x20\x20\x20\x20\x20\x20\x20M.fresh = true;\n\
     \x20\x20\x20\x20\x20\x20\x20\x20draw();\n\
     \x20\x20\x20\x20\x20\x20}),\n\
     \x20\x20\x20\x20\x20\x20n = el(\"td\", \"name\"),\n\
-    \x20\x20\x20\x20\x20\x20b = el(\"td\", \"bar\", num(r.bytes)),\n\
-    \x20\x20\x20\x20\x20\x20i = el(\"i\");\n\
+    \x20\x20\x20\x20\x20\x20b = barred(el(\"td\", \"bar\", num(r.bytes)), r.bytes / most, r.name);\n\
     \x20\x20\x20\x20n.append(swatch(colorOf(r.name)), r.name);\n\
     \x20\x20\x20\x20n.title = r.name;\n\
-    \x20\x20\x20\x20i.style.width = 44 * r.bytes / most + \"px\";\n\
-    \x20\x20\x20\x20i.style.background = colorOf(r.name);\n\
-    \x20\x20\x20\x20b.append(i);\n\
     \x20\x20\x20\x20tr.append(n, el(\"td\", \"\", num(r.objects)), b, el(\"td\", r.lost ? \"lost\" : \"lost zero\", r.lost ? num(r.lost) : \"\xc2\xb7\"));\n\
     \x20\x20\x20\x20if (S.base !== null)\n\
     \x20\x20\x20\x20\x20\x20for (const k of [\"dobjects\", \"dbytes\"]) tr.append(el(\"td\", r[k] > 0 ? \"up\" : r[k] < 0 ? \"down\" : \"zero\", r[k] ? signed(r[k]) : \"\xc2\xb7\"));\n\
@@ -1262,8 +1342,12 @@ pub(crate) const PAGE: &[u8] = b"<!doctype html>\n\
     \x20\x20\x20\x20return { count, before, some: first(some).map((x) => ({ o: objectIn(x.g, x.cell), ...x })) };\n\
     \x20\x20}\n\
     \n\
-    \x20\x20// How often the instances were drawn.\n\
-    \x20\x20let lists = 0;\n\
+    \x20\x20// How often the instances were drawn, and how often what they retain was to be asked; when that is asked next, and how long the last\n\
+    \x20\x20// answer took.\n\
+    \x20\x20let lists = 0,\n\
+    \x20\x20\x20\x20sizing = 0,\n\
+    \x20\x20\x20\x20sizesLater = 0,\n\
+    \x20\x20\x20\x20sizeTook = 0;\n\
     \n\
     \x20\x20// Draws those that can be seen without scrolling, and then, once these are on the screen, the others.\n\
     \x20\x20function drawInstances() {\n\
@@ -1276,13 +1360,16 @@ pub(crate) const PAGE: &[u8] = b"<!doctype html>\n\
     \x20\x20\x20\x20$(\"tops\").hidden = any || !S.tops.rows.length;\n\
     \x20\x20\x20\x20$(\"instempty\").hidden = any || !$(\"tops\").hidden;\n\
     \x20\x20\x20\x20note.textContent = \"\";\n\
+    \x20\x20\x20\x20clearTimeout(sizesLater);\n\
+    \x20\x20\x20\x20sizing++;\n\
     \x20\x20\x20\x20if (!any) return drawTops();\n\
     \x20\x20\x20\x20const { count, before, some } = listed(name, at, since),\n\
     \x20\x20\x20\x20\x20\x20fresh = since === null ? \"\" : `, ${num(count - before)} made since @${num(since)}`;\n\
     \x20\x20\x20\x20note.title = \"The oldest first; those that were there before a place that is compared with come last\";\n\
     \x20\x20\x20\x20note.textContent = `${num(count)}${name ? \" of \" + name : \"\"}${fresh}` + (count > some.length ? `, ${num(some.length)} shown` : \"\");\n\
     \x20\x20\x20\x20const head = el(\"tr\");\n\
-    \x20\x20\x20\x20for (const t of [\"Object\", name ? \"Slots\" : \"Class\", \"Made at\", \"Steps ago\"]) head.append(el(\"th\", t === \"Class\" ? \"left\" : \"\", t));\n\
+    \x20\x20\x20\x20for (const t of [\"Object\", name ? \"Slots\" : \"Class\", \"\", \"Made at\", \"Steps ago\"]) head.append(t ? el(\"th\", t === \"Class\" ? \"left\" : \"\", t) : sizeHead());\n\
+    \x20\x20\x20\x20if (S.order) some.sort((a, b) => S.order * (sizeKey(a) - sizeKey(b)));\n\
     \x20\x20\x20\x20const box = $(\"inst\").parentElement,\n\
     \x20\x20\x20\x20\x20\x20body = $(\"inst\").tBodies[0],\n\
     \x20\x20\x20\x20\x20\x20rows = (part) => part.map((x) => instanceRow(x, name, at)),\n\
@@ -1293,44 +1380,218 @@ pub(crate) const PAGE: &[u8] = b"<!doctype html>\n\
     \x20\x20\x20\x20\x20\x20body.replaceChildren(...rows(some.slice(0, few)));\n\
     \x20\x20\x20\x20});\n\
     \x20\x20\x20\x20if (few < some.length) afterPaint(() => turn === lists && body.append(...rows(some.slice(few))));\n\
+    \x20\x20\x20\x20loadSizesLater();\n\
+    \x20\x20}\n\
+    \n\
+    \x20\x20// The heading of what objects retain: a click sorts by it.\n\
+    \x20\x20function sizeHead() {\n\
+    \x20\x20\x20\x20const th = el(\"th\"),\n\
+    \x20\x20\x20\x20\x20\x20b = el(\"button\", \"\", \"Retains\");\n\
+    \x20\x20\x20\x20th.title = \"Bytes of what is reached only through the object, itself among it. A click sorts by it the objects that are listed\";\n\
+    \x20\x20\x20\x20b.dataset.row = \"retains\";\n\
+    \x20\x20\x20\x20if (S.order) th.setAttribute(\"aria-sort\", S.order < 0 ? \"descending\" : \"ascending\");\n\
+    \x20\x20\x20\x20b.onclick = () => {\n\
+    \x20\x20\x20\x20\x20\x20S.order = S.order < 0 ? 1 : -1;\n\
+    \x20\x20\x20\x20\x20\x20drawInstances();\n\
+    \x20\x20\x20\x20};\n\
+    \x20\x20\x20\x20th.append(b);\n\
+    \x20\x20\x20\x20return th;\n\
+    \x20\x20}\n\
+    \n\
+    \x20\x20// What an object of the list retains: at the shown place, or else where it was known last.\n\
+    \x20\x20const sizeOf = (id) => S.sizes.of.get(id) ?? S.sizes.before.get(id);\n\
+    \x20\x20// Those of which it isn't known come last.\n\
+    \x20\x20const sizeKey = ({ o }) => (o.lost ? 0 : sizeOf(idOf(o.w))) ?? (S.order < 0 ? -1 : Infinity);\n\
+    \n\
+    \x20\x20// Writes what an object retains, faint if it isn't known of the shown place.\n\
+    \x20\x20function fillSize(cell, id, o) {\n\
+    \x20\x20\x20\x20const bytes = o.lost ? 0 : sizeOf(id);\n\
+    \x20\x20\x20\x20cell.className = o.lost || !S.sizes.of.has(id) ? \"bar dim\" : \"bar\";\n\
+    \x20\x20\x20\x20cell.textContent = o.lost ? \"\xc2\xb7\" : bytes === undefined ? \"\xe2\x80\xa6\" : num(bytes);\n\
+    \x20\x20\x20\x20if (bytes === undefined || o.lost) return;\n\
+    \x20\x20\x20\x20cell.title = percent(bytes);\n\
+    \x20\x20\x20\x20barred(cell, shareOf(bytes), o.name);\n\
+    \x20\x20}\n\
+    \n\
+    \x20\x20// Returns the objects of the list that can be seen, or all of it if it is sorted by what they retain, of which that isn't known.\n\
+    \x20\x20function sizesWanted() {\n\
+    \x20\x20\x20\x20const box = $(\"inst\").parentElement.getBoundingClientRect(),\n\
+    \x20\x20\x20\x20\x20\x20seen = (r) => r.bottom > box.top && r.top < box.bottom,\n\
+    \x20\x20\x20\x20\x20\x20rows = [...$(\"inst\").tBodies[0].rows].filter((row) => S.order || seen(row.getBoundingClientRect()));\n\
+    \x20\x20\x20\x20return rows.map((row) => row.dataset.row).filter((id) => !S.sizes.of.has(id) && objectAt(id) && !objectAt(id).lost);\n\
+    \x20\x20}\n\
+    \x20\x20// Asks what the objects retain that can be seen in the list, once it hasn't changed for a while: longer if each answer takes long.\n\
+    \x20\x20function loadSizesLater() {\n\
+    \x20\x20\x20\x20clearTimeout(sizesLater);\n\
+    \x20\x20\x20\x20sizing++;\n\
+    \x20\x20\x20\x20if (!S.fast) sizesLater = setTimeout(() => loadSizes().catch(() => {}), Math.max(300, 20 * sizeTook));\n\
+    \x20\x20}\n\
+    \x20\x20async function loadSizes() {\n\
+    \x20\x20\x20\x20const place = S.shown,\n\
+    \x20\x20\x20\x20\x20\x20turn = sizing,\n\
+    \x20\x20\x20\x20\x20\x20wanted = () => turn === sizing && place === S.shown;\n\
+    \x20\x20\x20\x20if (S.sizes.place !== place) S.sizes = { place, of: new Map(), before: new Map([...S.sizes.before, ...S.sizes.of].slice(-2000)) };\n\
+    \x20\x20\x20\x20if ($(\"inst\").hidden) return;\n\
+    \x20\x20\x20\x20await eachInTurn(sizesWanted(), wanted, async (id) => {\n\
+    \x20\x20\x20\x20\x20\x20const r = await ask(`retained @${place} ${id}`, true);\n\
+    \x20\x20\x20\x20\x20\x20sizeTook = r.ms;\n\
+    \x20\x20\x20\x20\x20\x20if (!r.ok || place !== S.shown) return;\n\
+    \x20\x20\x20\x20\x20\x20S.sizes.of.set(id, +r.words[2]);\n\
+    \x20\x20\x20\x20\x20\x20const row = rowNamed($(\"inst\"), id);\n\
+    \x20\x20\x20\x20\x20\x20if (row) fillSize(row.cells[2], id, objectAt(id));\n\
+    \x20\x20\x20\x20});\n\
+    \x20\x20\x20\x20if (wanted() && S.order) drawInstances();\n\
     \x20\x20}\n\
     \n\
     \x20\x20// Asks through which objects most is reached, once a place has been shown for a while and no class is picked.\n\
     \x20\x20async function loadTops(place) {\n\
-    \x20\x20\x20\x20if (place !== S.shown || S.fast || S.klass !== null || S.base !== null) return;\n\
+    \x20\x20\x20\x20const wanted = () => place === S.shown && !S.fast && S.klass === null && S.base === null;\n\
+    \x20\x20\x20\x20if (!wanted()) return;\n\
     \x20\x20\x20\x20const r = await ask(`dominators @${place} ${TOPS}`, true);\n\
     \x20\x20\x20\x20if (!r.ok || place !== S.shown) return;\n\
     \x20\x20\x20\x20S.tops = { place, rows: r.rows };\n\
     \x20\x20\x20\x20drawInstances();\n\
+    \x20\x20\x20\x20await eachInTurn(openBelow(r.rows), wanted, (id) => loadKids(id));\n\
     \x20\x20}\n\
     \x20\x20let topsLater = 0;\n\
     \n\
-    \x20\x20// Draws the objects through which most is reached. Those of the place that was shown before are faint until it is known.\n\
+    \x20\x20// Draws the objects through which most is reached, as a tree: below each that is open are the objects that it dominates. Those of the\n\
+    \x20\x20// place that was shown before are faint until it is known.\n\
     \x20\x20function drawTops() {\n\
-    \x20\x20\x20\x20const known = S.tops.place === S.shown,\n\
-    \x20\x20\x20\x20\x20\x20rows = S.tops.rows,\n\
-    \x20\x20\x20\x20\x20\x20most = Math.max(1, ...rows.map((x) => +x[2]));\n\
+    \x20\x20\x20\x20const known = S.tops.place === S.shown;\n\
     \x20\x20\x20\x20clearTimeout(topsLater);\n\
     \x20\x20\x20\x20if (!known) topsLater = setTimeout(() => loadTops(S.shown).catch(() => {}), 300);\n\
-    \x20\x20\x20\x20if (!rows.length) return;\n\
+    \x20\x20\x20\x20if (!S.tops.rows.length) return;\n\
     \x20\x20\x20\x20$(\"instnote\").textContent = \"through which most is reached\";\n\
     \x20\x20\x20\x20$(\"instnote\").title = \"What is reached only through each of them, itself among it. Click a class to list its objects\";\n\
-    \x20\x20\x20\x20keepFocus($(\"tops\"), () => $(\"tops\").tBodies[0].replaceChildren(...rows.map((x) => topRow(x, most, known))));\n\
+    \x20\x20\x20\x20keepFocus($(\"tops\"), () => $(\"tops\").tBodies[0].replaceChildren(...treeRows(S.tops.rows, 1, known, new Set())));\n\
     \x20\x20}\n\
     \n\
-    \x20\x20function topRow([id, objects, bytes, name], most, known) {\n\
+    \x20\x20// Returns the objects below some that are open, as far as they are known.\n\
+    \x20\x20function openBelow(rows, found = new Set()) {\n\
+    \x20\x20\x20\x20for (const [id] of rows) {\n\
+    \x20\x20\x20\x20\x20\x20if (!S.open.has(id) || found.has(id)) continue;\n\
+    \x20\x20\x20\x20\x20\x20found.add(id);\n\
+    \x20\x20\x20\x20\x20\x20openBelow(S.kids.get(id)?.rows ?? [], found);\n\
+    \x20\x20\x20\x20}\n\
+    \x20\x20\x20\x20return [...found];\n\
+    \x20\x20}\n\
+    \n\
+    \x20\x20// Returns the rows of objects and of all below them that is open. Each object has one place in a tree, but what is known of two places\n\
+    \x20\x20// may disagree.\n\
+    \x20\x20function treeRows(rows, level, known, seen) {\n\
+    \x20\x20\x20\x20const out = [];\n\
+    \x20\x20\x20\x20for (const x of rows) {\n\
+    \x20\x20\x20\x20\x20\x20if (seen.has(x[0])) continue;\n\
+    \x20\x20\x20\x20\x20\x20seen.add(x[0]);\n\
+    \x20\x20\x20\x20\x20\x20out.push(topRow(x, level, known));\n\
+    \x20\x20\x20\x20\x20\x20if (S.open.has(x[0])) out.push(...rowsBelow(x, level + 1, seen));\n\
+    \x20\x20\x20\x20}\n\
+    \x20\x20\x20\x20return out;\n\
+    \x20\x20}\n\
+    \n\
+    \x20\x20// Returns the rows below an open object: those that it dominates and names, and how many more it dominates.\n\
+    \x20\x20function rowsBelow([id, objects], level, seen) {\n\
+    \x20\x20\x20\x20const kids = S.kids.get(id);\n\
+    \x20\x20\x20\x20if (!kids) return [restRow(id, level, \"\xe2\x80\xa6\")];\n\
+    \x20\x20\x20\x20const rest = kids.rows.reduce((sum, x) => sum - x[1], objects - 1),\n\
+    \x20\x20\x20\x20\x20\x20left = kids.named.length - kids.asked,\n\
+    \x20\x20\x20\x20\x20\x20out = treeRows(kids.rows, level, kids.place === S.shown, seen);\n\
+    \x20\x20\x20\x20if (left > 0) out.push(restRow(id, level, `\xe2\x80\xa6 ${num(left)} more that it names`, \"Look at the next of the objects that it names\", () => loadKids(id, true).catch(() => {})));\n\
+    \x20\x20\x20\x20else if (rest > 0) out.push(restRow(id, level, `${num(rest)} more that it dominates`, \"It doesn't name them itself: several of the objects that it dominates lead to each\"));\n\
+    \x20\x20\x20\x20return out;\n\
+    \x20\x20}\n\
+    \x20\x20const indent = (level) => 12 + 14 * Math.min(level - 1, 10) + \"px\";\n\
+    \n\
+    \x20\x20function restRow(id, level, text, title = \"\", act = null) {\n\
+    \x20\x20\x20\x20const tr = rowOf(id + \" more\", act ? \"pick\" : \"\", null),\n\
+    \x20\x20\x20\x20\x20\x20cell = el(\"td\", \"dim\", text);\n\
+    \x20\x20\x20\x20cell.colSpan = 4;\n\
+    \x20\x20\x20\x20cell.style.paddingLeft = `calc(${indent(level)} + 14px)`;\n\
+    \x20\x20\x20\x20if (act) tr.onclick = () => {\n\
+    \x20\x20\x20\x20\x20\x20tr.previousElementSibling.focus();\n\
+    \x20\x20\x20\x20\x20\x20act();\n\
+    \x20\x20\x20\x20};\n\
+    \x20\x20\x20\x20tr.title = title;\n\
+    \x20\x20\x20\x20tr.ariaLevel = level;\n\
+    \x20\x20\x20\x20tr.append(cell);\n\
+    \x20\x20\x20\x20return tr;\n\
+    \x20\x20}\n\
+    \n\
+    \x20\x20function topRow([id, objects, bytes, name], level, known) {\n\
     \x20\x20\x20\x20const tr = rowOf(id, \"pick\" + (S.sel === id ? \" on\" : \"\") + (known ? \"\" : \" before\"), () => pick(id)),\n\
     \x20\x20\x20\x20\x20\x20first = el(\"td\"),\n\
     \x20\x20\x20\x20\x20\x20other = el(\"td\", \"name left\", name),\n\
-    \x20\x20\x20\x20\x20\x20b = el(\"td\", \"bar\", num(bytes)),\n\
-    \x20\x20\x20\x20\x20\x20i = el(\"i\");\n\
-    \x20\x20\x20\x20first.append(swatch(colorOf(name)), id);\n\
+    \x20\x20\x20\x20\x20\x20b = barred(el(\"td\", \"bar\", num(bytes)), shareOf(bytes), name);\n\
+    \x20\x20\x20\x20tr.ariaLevel = level;\n\
+    \x20\x20\x20\x20first.append(twist(tr, id, objects > 1), swatch(colorOf(name)), id);\n\
+    \x20\x20\x20\x20first.style.paddingLeft = indent(level);\n\
     \x20\x20\x20\x20other.title = name;\n\
-    \x20\x20\x20\x20i.style.width = 44 * bytes / most + \"px\";\n\
-    \x20\x20\x20\x20i.style.background = colorOf(name);\n\
-    \x20\x20\x20\x20b.append(i);\n\
+    \x20\x20\x20\x20b.title = percent(bytes);\n\
     \x20\x20\x20\x20tr.append(first, other, el(\"td\", \"\", num(objects)), b);\n\
     \x20\x20\x20\x20return tr;\n\
+    \x20\x20}\n\
+    \n\
+    \x20\x20// What opens and closes a row of the tree, if there is anything below.\n\
+    \x20\x20function twist(tr, id, any) {\n\
+    \x20\x20\x20\x20const b = el(\"button\", \"twist\");\n\
+    \x20\x20\x20\x20b.tabIndex = -1;\n\
+    \x20\x20\x20\x20b.hidden = !any;\n\
+    \x20\x20\x20\x20b.onclick = (e) => {\n\
+    \x20\x20\x20\x20\x20\x20e.stopPropagation();\n\
+    \x20\x20\x20\x20\x20\x20turnNode(id);\n\
+    \x20\x20\x20\x20};\n\
+    \x20\x20\x20\x20if (!any) return b;\n\
+    \x20\x20\x20\x20tr.ariaExpanded = S.open.has(id);\n\
+    \x20\x20\x20\x20b.title = b.ariaLabel = S.open.has(id) ? \"Close\" : \"Show what it dominates\";\n\
+    \x20\x20\x20\x20return b;\n\
+    \x20\x20}\n\
+    \n\
+    \x20\x20function turnNode(id) {\n\
+    \x20\x20\x20\x20if (!S.open.delete(id)) {\n\
+    \x20\x20\x20\x20\x20\x20S.open.add(id);\n\
+    \x20\x20\x20\x20\x20\x20loadKids(id).catch(() => {});\n\
+    \x20\x20\x20\x20}\n\
+    \x20\x20\x20\x20drawInstances();\n\
+    \x20\x20}\n\
+    \n\
+    \x20\x20// Asks which of the objects that an object names it dominates, and what these retain: of the first few, or of the next ones.\n\
+    \x20\x20async function loadKids(id, more) {\n\
+    \x20\x20\x20\x20const place = S.tops.place,\n\
+    \x20\x20\x20\x20\x20\x20at = \"@\" + place,\n\
+    \x20\x20\x20\x20\x20\x20wanted = () => place === S.shown && S.open.has(id),\n\
+    \x20\x20\x20\x20\x20\x20was = S.kids.get(id),\n\
+    \x20\x20\x20\x20\x20\x20same = was && was.place === place;\n\
+    \x20\x20\x20\x20if (!wanted() || (same && !more)) return;\n\
+    \x20\x20\x20\x20const named = same ? was.named : namedBy(id, await ask(`show ${at} ${id}`, true)),\n\
+    \x20\x20\x20\x20\x20\x20from = same ? was.asked : 0,\n\
+    \x20\x20\x20\x20\x20\x20rows = same ? [...was.rows] : [];\n\
+    \x20\x20\x20\x20await eachInTurn(named.slice(from, from + KIDS), wanted, async (kid) => {\n\
+    \x20\x20\x20\x20\x20\x20const above = await ask(`dominator ${at} ${kid}`, true);\n\
+    \x20\x20\x20\x20\x20\x20if (!above.ok || !above.rows.length || above.rows[0][0] !== id) return;\n\
+    \x20\x20\x20\x20\x20\x20const r = await ask(`retained ${at} ${kid}`, true);\n\
+    \x20\x20\x20\x20\x20\x20if (r.ok) rows.push([kid, r.words[1], r.words[2], objectAt(kid)?.name ?? \"\"]);\n\
+    \x20\x20\x20\x20});\n\
+    \x20\x20\x20\x20if (!wanted()) return;\n\
+    \x20\x20\x20\x20rows.sort((a, b) => b[2] - a[2] || b[1] - a[1] || wordOf(a[0]) - wordOf(b[0]));\n\
+    \x20\x20\x20\x20S.kids.set(id, { place, named, asked: from + KIDS, rows });\n\
+    \x20\x20\x20\x20drawInstances();\n\
+    \x20\x20}\n\
+    \n\
+    \x20\x20// Returns the objects that an object names, each once.\n\
+    \x20\x20const namedBy = (id, r) => [...new Set(r.ok ? r.rows.filter((x) => x[2] === \"object\" && x[3] !== \"null\" && x[3] !== id).map((x) => x[3]) : [])];\n\
+    \n\
+    \x20\x20// The keys of a row of the tree: Right opens it, or goes to what is below; Left closes it, or goes to what is above.\n\
+    \x20\x20function treeKey(row, key) {\n\
+    \x20\x20\x20\x20const right = key === \"ArrowRight\",\n\
+    \x20\x20\x20\x20\x20\x20open = row.ariaExpanded;\n\
+    \x20\x20\x20\x20if (open === String(!right)) turnNode(row.dataset.row);\n\
+    \x20\x20\x20\x20else if (right) open && row.nextElementSibling?.focus();\n\
+    \x20\x20\x20\x20else {\n\
+    \x20\x20\x20\x20\x20\x20let above = row.previousElementSibling;\n\
+    \x20\x20\x20\x20\x20\x20while (above && Number(above.ariaLevel) >= Number(row.ariaLevel)) above = above.previousElementSibling;\n\
+    \x20\x20\x20\x20\x20\x20above?.focus();\n\
+    \x20\x20\x20\x20}\n\
     \x20\x20}\n\
     \n\
     \x20\x20function instanceRow({ o, p, before }, name, at) {\n\
@@ -1348,7 +1609,9 @@ pub(crate) const PAGE: &[u8] = b"<!doctype html>\n\
     \x20\x20\x20\x20first.append(sw, id);\n\
     \x20\x20\x20\x20place.append(p === null ? el(\"span\", \"dim\", unknown()) : placeLink(p));\n\
     \x20\x20\x20\x20other.title = o.name;\n\
-    \x20\x20\x20\x20tr.append(first, other, place, el(\"td\", \"mid\", p === null ? \"\" : num(at - p)));\n\
+    \x20\x20\x20\x20const size = el(\"td\");\n\
+    \x20\x20\x20\x20fillSize(size, id, o);\n\
+    \x20\x20\x20\x20tr.append(first, other, size, place, el(\"td\", \"mid\", p === null ? \"\" : num(at - p)));\n\
     \x20\x20\x20\x20return tr;\n\
     \x20\x20}\n\
     \n\
@@ -2000,6 +2263,7 @@ pub(crate) const PAGE: &[u8] = b"<!doctype html>\n\
     \x20\x20function pick(id, back) {\n\
     \x20\x20\x20\x20if (!back && S.sel && S.sel !== id) S.trail.push(S.sel);\n\
     \x20\x20\x20\x20S.sel = id;\n\
+    \x20\x20\x20\x20keepWatch(id);\n\
     \x20\x20\x20\x20S.path = new Set();\n\
     \x20\x20\x20\x20S.refs = new Set();\n\
     \x20\x20\x20\x20$(\"back\").hidden = !S.trail.length;\n\
@@ -2076,12 +2340,13 @@ pub(crate) const PAGE: &[u8] = b"<!doctype html>\n\
     \x20\x20\x20\x20}\n\
     \x20\x20\x20\x20const scrolled = box.scrollTop,\n\
     \x20\x20\x20\x20\x20\x20written = [];\n\
-    \x20\x20\x20\x20const out = [headOf(id, me, born, path, dropped, at), ...slotsOf(id, me, written), ...pathOf(id, path), ...referrersOf(refs)];\n\
+    \x20\x20\x20\x20const out = [headOf(id, me, born, path, dropped, at), ...slotsOf(id, me, written), writesOf(), ...pathOf(id, path), ...referrersOf(refs)];\n\
     \x20\x20\x20\x20keepFocus(box, () => box.replaceChildren(...out));\n\
     \x20\x20\x20\x20if (quiet) box.scrollTop = scrolled;\n\
     \x20\x20\x20\x20$(\"inspnote\").textContent = live ? \"\" : `as it was at @${num(at)}`;\n\
     \x20\x20\x20\x20drawMap();\n\
     \x20\x20\x20\x20writers(id, written, turn, at, live).catch(() => {});\n\
+    \x20\x20\x20\x20if (S.watch) loadWrites().catch(() => {});\n\
     \x20\x20\x20\x20if (path.ok) afterPaint(() => retainedBy(id, word, turn).catch(() => {}));\n\
     \x20\x20}\n\
     \n\
@@ -2094,9 +2359,22 @@ pub(crate) const PAGE: &[u8] = b"<!doctype html>\n\
     \x20\x20\x20\x20\x20\x20box = $(\"retains\");\n\
     \x20\x20\x20\x20S.later = r.ms;\n\
     \x20\x20\x20\x20if (turn !== inspecting) return;\n\
-    \x20\x20\x20\x20S.retains = { id, text: r.ok ? `retains ${num(objects)} object${objects === \"1\" ? \"\" : \"s\"}, ${num(bytes)} bytes` : \"\" };\n\
-    \x20\x20\x20\x20box.textContent = S.retains.text;\n\
+    \x20\x20\x20\x20S.retains = { id, text: r.ok ? `retains ${num(objects)} object${objects === \"1\" ? \"\" : \"s\"}, ${num(bytes)} bytes` : \"\", bytes: r.ok ? +bytes : 0 };\n\
+    \x20\x20\x20\x20box.replaceChildren(...retainedText());\n\
     \x20\x20\x20\x20box.title = \"What is reached and would not be without this object, itself among them:\" + of.join(\"\") + (r.rows.length > 12 ? \"\\n\xe2\x80\xa6\" : \"\");\n\
+    \x20\x20}\n\
+    \n\
+    \x20\x20// What the picked object retains, with a bar of how much of the heap that is.\n\
+    \x20\x20function retainedText() {\n\
+    \x20\x20\x20\x20const { text, bytes } = S.retains,\n\
+    \x20\x20\x20\x20\x20\x20bar = el(\"span\", \"share\"),\n\
+    \x20\x20\x20\x20\x20\x20part = el(\"b\");\n\
+    \x20\x20\x20\x20bar.title = bar.ariaLabel = percent(bytes);\n\
+    \x20\x20\x20\x20bar.role = \"img\";\n\
+    \x20\x20\x20\x20part.style.width = 100 * shareOf(bytes) + \"%\";\n\
+    \x20\x20\x20\x20part.style.background = colorOf(objectAt(S.sel)?.name);\n\
+    \x20\x20\x20\x20bar.append(part);\n\
+    \x20\x20\x20\x20return text ? [text, bar] : [];\n\
     \x20\x20}\n\
     \n\
     \x20\x20function headOf(id, me, born, path, dropped, at) {\n\
@@ -2110,7 +2388,8 @@ pub(crate) const PAGE: &[u8] = b"<!doctype html>\n\
     \x20\x20\x20\x20s.append(el(\"span\", \"mono\", id), el(\"span\", \"\", `${num(me.count)} ${isArray(me.name) ? \"elements\" : \"slots\"}`), made);\n\
     \x20\x20\x20\x20const chip = el(\"span\", path.ok ? \"chip ok\" : \"chip warn\", path.ok ? \"reached\" : \"unreached\");\n\
     \x20\x20\x20\x20if (dropped && dropped.words[1] === \"place\") chip.append(\" since \", placeLink(+dropped.words[2]));\n\
-    \x20\x20\x20\x20const retains = el(\"span\", \"\", !path.ok ? \"\" : S.retains.id === id && S.at === null ? S.retains.text : \"retains \xe2\x80\xa6\");\n\
+    \x20\x20\x20\x20const retains = el(\"span\");\n\
+    \x20\x20\x20\x20retains.append(...!path.ok ? [] : S.retains.id === id && S.at === null ? retainedText() : [\"retains \xe2\x80\xa6\"]);\n\
     \x20\x20\x20\x20retains.id = \"retains\";\n\
     \x20\x20\x20\x20s.append(chip, retains);\n\
     \x20\x20\x20\x20const w = wordOf(id),\n\
@@ -2133,9 +2412,11 @@ pub(crate) const PAGE: &[u8] = b"<!doctype html>\n\
     \x20\x20\x20\x20th.append(hr);\n\
     \x20\x20\x20\x20table.append(th, tb);\n\
     \x20\x20\x20\x20for (const x of shown) {\n\
-    \x20\x20\x20\x20\x20\x20const tr = el(\"tr\"),\n\
+    \x20\x20\x20\x20\x20\x20const tr = rowOf(\"slot \" + x.slot, \"pick\" + (isWatched(x.slot) ? \" on\" : \"\"), () => watchField(me.name, x)),\n\
     \x20\x20\x20\x20\x20\x20\x20\x20v = el(\"td\"),\n\
     \x20\x20\x20\x20\x20\x20\x20\x20cell = el(\"td\", \"mid\", \"\");\n\
+    \x20\x20\x20\x20\x20\x20tr.title = \"Show all its writes on the time line\";\n\
+    \x20\x20\x20\x20\x20\x20tr.ariaSelected = isWatched(x.slot);\n\
     \x20\x20\x20\x20\x20\x20if (x.value === \"null\" || x.value === \"0\") v.append(el(\"span\", \"dim\", x.value));\n\
     \x20\x20\x20\x20\x20\x20else if (x.kind === \"object\") {\n\
     \x20\x20\x20\x20\x20\x20\x20\x20const o = objectAt(x.value);\n\
@@ -2144,7 +2425,7 @@ pub(crate) const PAGE: &[u8] = b"<!doctype html>\n\
     \x20\x20\x20\x20\x20\x20} else v.append(x.value);\n\
     \x20\x20\x20\x20\x20\x20tr.append(el(\"td\", \"\", x.name), el(\"td\", \"dim\", x.kind), v, cell);\n\
     \x20\x20\x20\x20\x20\x20tb.append(tr);\n\
-    \x20\x20\x20\x20\x20\x20written.push({ slot: x.slot, cell });\n\
+    \x20\x20\x20\x20\x20\x20written.push({ slot: x.slot, cell, place: (p) => link(\"@\" + num(p), \"Show the heap at this place, and all writes of the field\", () => goWatching(p, me.name, x)) });\n\
     \x20\x20\x20\x20}\n\
     \x20\x20\x20\x20if (me.slots.length > shown.length) out.push(el(\"div\", \"empty\", `and ${num(me.slots.length - shown.length)} more: ask show ${S.at === null ? \"-\" : \"@\" + S.at} ${id}`));\n\
     \x20\x20\x20\x20return out;\n\
@@ -2169,7 +2450,7 @@ pub(crate) const PAGE: &[u8] = b"<!doctype html>\n\
     \x20\x20\x20\x20if (live) {\n\
     \x20\x20\x20\x20\x20\x20await Promise.all(written.map(async (x) => {\n\
     \x20\x20\x20\x20\x20\x20\x20\x20const r = await ask(`wrote ${id} ${x.slot}`, true);\n\
-    \x20\x20\x20\x20\x20\x20\x20\x20if (turn === inspecting) x.cell.replaceChildren(r.words[1] === \"place\" ? placeLink(+r.words[2]) : el(\"span\", \"dim\", \"older\"));\n\
+    \x20\x20\x20\x20\x20\x20\x20\x20if (turn === inspecting) x.cell.replaceChildren(r.words[1] === \"place\" ? x.place(+r.words[2]) : el(\"span\", \"dim\", \"older\"));\n\
     \x20\x20\x20\x20\x20\x20}));\n\
     \x20\x20\x20\x20\x20\x20return;\n\
     \x20\x20\x20\x20}\n\
@@ -2186,8 +2467,166 @@ pub(crate) const PAGE: &[u8] = b"<!doctype html>\n\
     \x20\x20\x20\x20}\n\
     \x20\x20\x20\x20for (const x of written) {\n\
     \x20\x20\x20\x20\x20\x20const p = found.get(x.slot) ?? made;\n\
-    \x20\x20\x20\x20\x20\x20x.cell.replaceChildren(p === null ? el(\"span\", \"dim\", unknown()) : placeLink(p));\n\
+    \x20\x20\x20\x20\x20\x20x.cell.replaceChildren(p === null ? el(\"span\", \"dim\", unknown()) : x.place(p));\n\
     \x20\x20\x20\x20}\n\
+    \x20\x20}\n\
+    \n\
+    \x20\x20// ---- writes of a field\n\
+    \x20\x20const isWatched = (slot) => isAbout(S.watch) && S.watch.slot === slot;\n\
+    \n\
+    \x20\x20// Tells whether the shown object is the one whose field was picked, and not another one with its id, or is one of its class if the\n\
+    \x20\x20// writes of all these are shown.\n\
+    \x20\x20function isAbout(it) {\n\
+    \x20\x20\x20\x20const o = it && it.id === S.sel && objectAt(S.sel);\n\
+    \x20\x20\x20\x20if (!o || o.name !== it.of) return false;\n\
+    \x20\x20\x20\x20const [from, to] = [Math.min(it.at, S.shown), Math.max(it.at, S.shown)];\n\
+    \x20\x20\x20\x20return it.all || !(S.born.get(o.w) || []).some((p) => p > from && p <= to);\n\
+    \x20\x20}\n\
+    \n\
+    \x20\x20// How often the writes of a field were read.\n\
+    \x20\x20let watches = 0;\n\
+    \n\
+    \x20\x20// Picks a field of the shown object, to show all its writes; or picks none, if it was picked.\n\
+    \x20\x20function watchField(name, x) {\n\
+    \x20\x20\x20\x20if (isWatched(x.slot)) return unwatch();\n\
+    \x20\x20\x20\x20const field = isArray(name) ? `[${x.name}]` : x.name,\n\
+    \x20\x20\x20\x20\x20\x20dotted = isArray(name) ? field : \".\" + field;\n\
+    \x20\x20\x20\x20S.watch = { id: S.sel, at: S.shown, of: name, slot: x.slot, field, dotted, all: false, rows: [], why: \"\", asked: \"\", done: false, turn: ++watches };\n\
+    \x20\x20\x20\x20showWrites();\n\
+    \x20\x20\x20\x20loadWrites().catch(() => {});\n\
+    \x20\x20}\n\
+    \n\
+    \x20\x20function goWatching(p, name, x) {\n\
+    \x20\x20\x20\x20if (!isWatched(x.slot)) watchField(name, x);\n\
+    \x20\x20\x20\x20go(p);\n\
+    \x20\x20}\n\
+    \n\
+    \x20\x20function unwatch() {\n\
+    \x20\x20\x20\x20if (!S.watch) return;\n\
+    \x20\x20\x20\x20const had = $(\"writes\")?.contains(document.activeElement),\n\
+    \x20\x20\x20\x20\x20\x20row = rowNamed($(\"insp\"), \"slot \" + S.watch.slot);\n\
+    \x20\x20\x20\x20S.watch = null;\n\
+    \x20\x20\x20\x20showWrites();\n\
+    \x20\x20\x20\x20if (had) row?.focus();\n\
+    \x20\x20}\n\
+    \n\
+    \x20\x20// If another object is picked, its field stays picked only if the writes of all objects of its class are shown.\n\
+    \x20\x20function keepWatch(id) {\n\
+    \x20\x20\x20\x20const it = S.watch;\n\
+    \x20\x20\x20\x20if (it && it.id !== id) S.watch = it.all && id && objectAt(id)?.name === it.of ? { ...it, id } : null;\n\
+    \x20\x20}\n\
+    \n\
+    \x20\x20// From where and until where an id stands for the object that it stands for at a place.\n\
+    \x20\x20function lifeOf(id, at) {\n\
+    \x20\x20\x20\x20const w = wordOf(id);\n\
+    \x20\x20\x20\x20return [bornIn(w, at) ?? -1, (S.born.get(w) || []).find((p) => p > at) ?? Infinity];\n\
+    \x20\x20}\n\
+    \n\
+    \x20\x20// Reads the writes of the picked field, if the heap has gone on since they were read.\n\
+    \x20\x20async function loadWrites() {\n\
+    \x20\x20\x20\x20const it = S.watch,\n\
+    \x20\x20\x20\x20\x20\x20life = lifeOf(it.id, it.at),\n\
+    \x20\x20\x20\x20\x20\x20now = [S.place, S.status.acts, it.all, ...(it.all ? [] : life)].join();\n\
+    \x20\x20\x20\x20if (it.asked === now) return;\n\
+    \x20\x20\x20\x20it.asked = now;\n\
+    \x20\x20\x20\x20const found = await writesIn(it, life);\n\
+    \x20\x20\x20\x20if (it !== S.watch || it.asked !== now) return;\n\
+    \x20\x20\x20\x20Object.assign(it, found, { done: true, turn: ++watches });\n\
+    \x20\x20\x20\x20showWrites();\n\
+    \x20\x20}\n\
+    \n\
+    \x20\x20// Asks for the writes of a field: of one object, if the heap still has it; else they are among those of all objects of its class.\n\
+    \x20\x20async function writesIn({ id, of, slot, all }, [from, to]) {\n\
+    \x20\x20\x20\x20const one = all || to < Infinity ? null : await ask(`watch ${id} ${slot}`, true),\n\
+    \x20\x20\x20\x20\x20\x20number = numberOf(of);\n\
+    \x20\x20\x20\x20if (one && (one.ok || number === null)) return { why: one.ok ? \"\" : one.last, rows: one.rows.map(([p, old, now]) => ({ p: +p, id, old, now })) };\n\
+    \x20\x20\x20\x20if (number === null) return { why: \"the object is gone\", rows: [] };\n\
+    \x20\x20\x20\x20const r = await ask(`writes ${number} ${slot}`, true),\n\
+    \x20\x20\x20\x20\x20\x20rows = r.rows.map(([p, other, old, now]) => ({ p: +p, id: other, old, now }));\n\
+    \x20\x20\x20\x20return { why: r.ok ? \"\" : r.last, rows: all ? rows : rows.filter((x) => x.id === id && x.p >= from && x.p < to) };\n\
+    \x20\x20}\n\
+    \n\
+    \x20\x20// Returns the number of a class, or null if no class has this name.\n\
+    \x20\x20const numberOf = (name) => [...S.classes].find(([, c]) => c.name === name)?.[0] ?? null;\n\
+    \n\
+    \x20\x20// Draws the writes of the picked field: on the time line, and as a list.\n\
+    \x20\x20function showWrites() {\n\
+    \x20\x20\x20\x20const box = $(\"writes\");\n\
+    \x20\x20\x20\x20if (box) keepFocus(box, () => box.replaceChildren(...writesOf().children));\n\
+    \x20\x20\x20\x20for (const row of $(\"insp\").querySelectorAll(\"[data-row^='slot ']\")) {\n\
+    \x20\x20\x20\x20\x20\x20const on = isWatched(+row.dataset.row.slice(5));\n\
+    \x20\x20\x20\x20\x20\x20row.classList.toggle(\"on\", on);\n\
+    \x20\x20\x20\x20\x20\x20row.ariaSelected = on;\n\
+    \x20\x20\x20\x20}\n\
+    \x20\x20\x20\x20drawLine();\n\
+    \x20\x20}\n\
+    \n\
+    \x20\x20// The list of the writes of the picked field, if there is one, the newest first.\n\
+    \x20\x20function writesOf() {\n\
+    \x20\x20\x20\x20const box = el(\"div\"),\n\
+    \x20\x20\x20\x20\x20\x20it = S.watch;\n\
+    \x20\x20\x20\x20box.id = \"writes\";\n\
+    \x20\x20\x20\x20if (!isAbout(it)) return box;\n\
+    \x20\x20\x20\x20const shown = it.rows.slice(-LISTED).reverse(),\n\
+    \x20\x20\x20\x20\x20\x20table = el(\"table\"),\n\
+    \x20\x20\x20\x20\x20\x20head = el(\"tr\");\n\
+    \x20\x20\x20\x20for (const x of [\"Place\", ...(it.all ? [\"Object\"] : []), \"Old\", \"New\"]) head.append(el(\"th\", \"\", x));\n\
+    \x20\x20\x20\x20table.createTHead().append(head);\n\
+    \x20\x20\x20\x20table.createTBody().append(...shown.map(writeRow));\n\
+    \x20\x20\x20\x20table.ariaLabel = `Writes of ${it.field}`;\n\
+    \x20\x20\x20\x20box.append(writesHead(it));\n\
+    \x20\x20\x20\x20if (shown.length) box.append(table);\n\
+    \x20\x20\x20\x20if (it.rows.length > shown.length) box.append(el(\"div\", \"empty\", `and ${num(it.rows.length - shown.length)} older`));\n\
+    \x20\x20\x20\x20return box;\n\
+    \x20\x20}\n\
+    \n\
+    \x20\x20// What is above the list: how many writes there are, of which objects, and what takes them away.\n\
+    \x20\x20function writesHead(it) {\n\
+    \x20\x20\x20\x20const sub = el(\"div\", \"sub\", `Writes of ${it.field}`),\n\
+    \x20\x20\x20\x20\x20\x20seg = el(\"span\", \"seg\"),\n\
+    \x20\x20\x20\x20\x20\x20close = el(\"button\", \"btn small\", \"\xe2\x9c\x95\");\n\
+    \x20\x20\x20\x20seg.role = \"group\";\n\
+    \x20\x20\x20\x20seg.ariaLabel = \"Whose writes\";\n\
+    \x20\x20\x20\x20for (const [all, text, title] of [[false, \"this object\", \"Only those of the object that is shown\"], [true, \"all objects of the class\", `Those of all objects of ${it.of}`]]) {\n\
+    \x20\x20\x20\x20\x20\x20const b = el(\"button\", \"\", text);\n\
+    \x20\x20\x20\x20\x20\x20b.ariaPressed = it.all === all;\n\
+    \x20\x20\x20\x20\x20\x20b.title = title;\n\
+    \x20\x20\x20\x20\x20\x20b.dataset.row = text;\n\
+    \x20\x20\x20\x20\x20\x20b.disabled = all && numberOf(it.of) === null;\n\
+    \x20\x20\x20\x20\x20\x20b.onclick = () => {\n\
+    \x20\x20\x20\x20\x20\x20\x20\x20Object.assign(it, { all, at: S.shown });\n\
+    \x20\x20\x20\x20\x20\x20\x20\x20loadWrites().catch(() => {});\n\
+    \x20\x20\x20\x20\x20\x20};\n\
+    \x20\x20\x20\x20\x20\x20seg.append(b);\n\
+    \x20\x20\x20\x20}\n\
+    \x20\x20\x20\x20close.title = \"Show them no longer (Esc)\";\n\
+    \x20\x20\x20\x20close.ariaLabel = \"Close\";\n\
+    \x20\x20\x20\x20close.dataset.row = \"close\";\n\
+    \x20\x20\x20\x20close.onclick = unwatch;\n\
+    \x20\x20\x20\x20sub.append(el(\"small\", \"\", it.why || (it.done ? num(it.rows.length) + (it.rows.length > 1 ? \", newest first\" : \"\") : \"\xe2\x80\xa6\")), el(\"span\", \"grow\"), seg, close);\n\
+    \x20\x20\x20\x20return sub;\n\
+    \x20\x20}\n\
+    \n\
+    \x20\x20function writeRow({ p, id, old, now }) {\n\
+    \x20\x20\x20\x20const tr = rowOf(`write ${p}`, \"pick\" + (p === S.shown ? \" on\" : \"\"), () => go(p)),\n\
+    \x20\x20\x20\x20\x20\x20place = el(\"td\", \"\", \"@\" + num(p)),\n\
+    \x20\x20\x20\x20\x20\x20value = (v) => {\n\
+    \x20\x20\x20\x20\x20\x20\x20\x20const td = el(\"td\", v === \"null\" || v === \"0\" ? \"dim\" : \"\");\n\
+    \x20\x20\x20\x20\x20\x20\x20\x20td.append(v.startsWith(\"0x\") ? idLink(v) : v);\n\
+    \x20\x20\x20\x20\x20\x20\x20\x20td.title = v;\n\
+    \x20\x20\x20\x20\x20\x20\x20\x20return td;\n\
+    \x20\x20\x20\x20\x20\x20};\n\
+    \x20\x20\x20\x20tr.title = \"Show the heap just after this write\";\n\
+    \x20\x20\x20\x20tr.append(place, ...(S.watch.all ? [value(id)] : []), value(old), value(now));\n\
+    \x20\x20\x20\x20return tr;\n\
+    \x20\x20}\n\
+    \n\
+    \x20\x20// Shows the next write of the picked field before the shown place, or after it.\n\
+    \x20\x20function toWrite(forth) {\n\
+    \x20\x20\x20\x20const at = atPlace(),\n\
+    \x20\x20\x20\x20\x20\x20rows = S.watch ? S.watch.rows : [],\n\
+    \x20\x20\x20\x20\x20\x20to = forth ? rows.find(({ p }) => p > at) : rows.findLast(({ p }) => p < at);\n\
+    \x20\x20\x20\x20if (to) go(to.p);\n\
     \x20\x20}\n\
     \n\
     \x20\x20// The rows of a path, or the first and the last of a long one.\n\
@@ -2271,10 +2710,11 @@ pub(crate) const PAGE: &[u8] = b"<!doctype html>\n\
     \x20\x20};\n\
     \x20\x20$(\"line\").onpointermove = (e) => {\n\
     \x20\x20\x20\x20if (S.place < 0) return;\n\
-    \x20\x20\x20\x20const p = placeAt(e),\n\
+    \x20\x20\x20\x20const { place: p, write } = spotAt(e),\n\
     \x20\x20\x20\x20\x20\x20ev = eventAt(p),\n\
-    \x20\x20\x20\x20\x20\x20cycle = ends().includes(p) ? \"\\nthe end of a cycle\" : \"\";\n\
-    \x20\x20\x20\x20showTip($(\"tip\"), `@${num(p)}` + (ev ? `  ${ev.line}` : \"\") + (S.samples.has(p) ? `\\n${num(S.samples.get(p).bytes)} bytes` : \"\") + cycle, e.clientX, e.clientY);\n\
+    \x20\x20\x20\x20\x20\x20cycle = ends().includes(p) ? \"\\nthe end of a cycle\" : \"\",\n\
+    \x20\x20\x20\x20\x20\x20head = write ? writeText(write) : `@${num(p)}` + (ev ? `  ${ev.line}` : \"\");\n\
+    \x20\x20\x20\x20showTip($(\"tip\"), head + (S.samples.has(p) ? `\\n${num(S.samples.get(p).bytes)} bytes` : \"\") + cycle, e.clientX, e.clientY);\n\
     \x20\x20\x20\x20if (S.drag) go(p);\n\
     \x20\x20};\n\
     \x20\x20$(\"line\").onpointerup = () => {\n\
@@ -2347,7 +2787,10 @@ pub(crate) const PAGE: &[u8] = b"<!doctype html>\n\
     \x20\x20\x20\x20M.fresh = true;\n\
     \x20\x20\x20\x20drawMap();\n\
     \x20\x20};\n\
-    \x20\x20for (const box of [$(\"steps\"), $(\"inst\").parentElement]) box.onscroll = () => box.toggleAttribute(\"data-far\", box.scrollTop > 0);\n\
+    \x20\x20for (const box of [$(\"steps\"), $(\"inst\").parentElement]) box.onscroll = () => {\n\
+    \x20\x20\x20\x20box.toggleAttribute(\"data-far\", box.scrollTop > 0);\n\
+    \x20\x20\x20\x20if (box !== $(\"steps\")) loadSizesLater();\n\
+    \x20\x20};\n\
     \x20\x20$(\"golive\").onclick = follow;\n\
     \x20\x20$(\"cycles\").onclick = betweenCycles;\n\
     \x20\x20$(\"setbase\").onclick = () => compare(atPlace());\n\
@@ -2430,8 +2873,11 @@ pub(crate) const PAGE: &[u8] = b"<!doctype html>\n\
     \x20\x20\x20\x20\"/\": () => $(\"q\").focus(),\n\
     \x20\x20\x20\x20\"?\": () => $(\"how\").click(),\n\
     \x20\x20\x20\x20Backspace: goBack,\n\
+    \x20\x20\x20\x20\",\": () => toWrite(false),\n\
+    \x20\x20\x20\x20\".\": () => toWrite(true),\n\
     \x20\x20\x20\x20Escape: () => {\n\
     \x20\x20\x20\x20\x20\x20$(\"log\").hidden = $(\"maptip\").hidden = true;\n\
+    \x20\x20\x20\x20\x20\x20unwatch();\n\
     \x20\x20\x20\x20}\n\
     \x20\x20};\n\
     \x20\x20const MAP_KEYS = {\n\
@@ -2452,6 +2898,10 @@ pub(crate) const PAGE: &[u8] = b"<!doctype html>\n\
     \x20\x20\x20\x20if (e.key === \"Enter\" || e.key === \" \") {\n\
     \x20\x20\x20\x20\x20\x20if (e.target.tagName === \"BUTTON\" || !(e.target.tabIndex >= 0) || e.target.tagName === \"CANVAS\") return false;\n\
     \x20\x20\x20\x20\x20\x20e.target.click();\n\
+    \x20\x20\x20\x20\x20\x20return true;\n\
+    \x20\x20\x20\x20}\n\
+    \x20\x20\x20\x20if (row && row.ariaLevel && !e.shiftKey && (e.key === \"ArrowLeft\" || e.key === \"ArrowRight\")) {\n\
+    \x20\x20\x20\x20\x20\x20treeKey(row, e.key);\n\
     \x20\x20\x20\x20\x20\x20return true;\n\
     \x20\x20\x20\x20}\n\
     \x20\x20\x20\x20if (!row || row.tagName !== \"TR\" || (e.key !== \"ArrowUp\" && e.key !== \"ArrowDown\")) return false;\n\

@@ -21,12 +21,12 @@ TOP = pathlib.Path(__file__).resolve().parent.parent
 CHECK = os.environ.get("CHECK", "rt check").split()
 PROVERS = 3
 # The most edits that are checked at once.
-ROUND = 16
+ROUND = 40
 REFUSED, BAD, LET_THROUGH, UNCLEAR = "refused", "BAD EDIT", "LET THROUGH", "NO VERDICT"
 FUNCTION = re.compile(r"^( *)(?:pub(?:\(\w+\))? )?(?:const |unsafe )*fn (\w+)", re.MULTILINE)
 OWNER = re.compile(r"^(?:pub(?:\(\w+\))? )?(?:impl|trait)\b.*", re.MULTILINE)
 # An error that only says that a proof cites a name which the edit took away.
-LOST_NAME = re.compile(r"has no field|is not in scope|has no `|was not admitted")
+LOST_NAME = re.compile(r"has no field|is not in scope|has no `|was not admitted|: module `[^`]*`$")
 
 
 class Edit:
@@ -44,14 +44,14 @@ class Edit:
                 old = text
             elif key in ("new", "new:"):
                 self.pairs.append((file, old, text))
+                old = None
 
-    def place(self, folder):
-        """Finds what the edit changes in a crate's sources."""
+    def place(self, texts):
+        """Finds what the edit changes in the texts of its crate's files."""
         for file, old, new in self.pairs:
-            text = (folder / file).read_text()
-            at = max(text.find(old), 0)
-            self.lines.add((file, text.count("\n", 0, at) + 1))
-            function, in_body = function_at(file, text, at)
+            at = texts[file].find(old)
+            self.lines.add((file, texts[file].count("\n", 0, at) + 1))
+            function, in_body = function_at(file, texts[file], at)
             if function:
                 self.functions.add(function)
             self.alone |= not in_body and old not in new and not old.startswith("use ")
@@ -204,15 +204,18 @@ def try_crate(crate, edits):
         for file in ("crates.txt", "HANDLES"):
             shutil.copy(TOP / file, scratch)
         shutil.copytree(TOP / "crates", scratch / "crates", ignore=shutil.ignore_patterns("must-fail", "out"))
-        folder, found = scratch / "crates" / crate, {}
-        for edit in edits:
-            edit.place(folder)
-        for each in rounds_of(edits):
-            fates = try_round(folder, each)
-            for edit, (kind, words) in fates.items():
+        folder, refused = scratch / "crates" / crate, 0
+        texts = texts_of(folder)
+        bad = {edit: why for edit in edits if (why := edit.misfit(dict(texts)))}
+        for edit, why in bad.items():
+            print(f"{edit.name}: {BAD}: {why}", flush=True)
+        fitting = [edit for edit in edits if edit not in bad]
+        for edit in fitting:
+            edit.place(texts)
+        for each in rounds_of(fitting):
+            for edit, (kind, words) in try_round(folder, each).items():
                 print(f"{edit.name}: {kind}: {words[:300]}", flush=True)
-            found |= fates
-    refused = sum(kind == REFUSED for kind, _ in found.values())
+                refused += kind == REFUSED
     print(f"{crate}: {refused} of {len(edits)} edits refused, in {time.monotonic() - start:.0f} s", flush=True)
     return refused == len(edits)
 

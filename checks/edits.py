@@ -1,12 +1,16 @@
 #!/usr/bin/env python3
 """Looks after the must-fail edits: wrong bodies that the prover has to refuse.
 
-Usage: checks/edits.py fit           checks that each edit can be applied, in crates/*/must-fail/ and in edits/
-       checks/edits.py try [CRATE ..] has the prover refuse the edits of edits/CRATE/, or of all its crates
+Usage: checks/edits.py fit                  checks that each edit can be applied, in crates/*/must-fail/ and in edits/
+       checks/edits.py try [CRATE[/EDIT] ..] has the prover refuse edits of edits/: all, or those of a crate, or single ones
 
-`try` works in a scratch copy of this tree, over what earlier checks here kept, three crates at a time."""
+`try` works in copies of this tree, over what earlier checks here kept, three crates at a time. It puts edits of different functions
+into one copy and has these functions checked at once. The environment's CHECK is the command that does so, run in the crate's folder:
+`rt check` where it isn't set."""
 import concurrent.futures
+import os
 import pathlib
+import re
 import shutil
 import subprocess
 import sys
@@ -14,64 +18,221 @@ import tempfile
 import time
 
 TOP = pathlib.Path(__file__).resolve().parent.parent
+CHECK = os.environ.get("CHECK", "rt check").split()
 PROVERS = 3
+# The most edits that are checked at once.
+ROUND = 40
+REFUSED, BAD, LET_THROUGH, UNCLEAR = "refused", "BAD EDIT", "LET THROUGH", "NO VERDICT"
+FUNCTION = re.compile(r"^( *)(?:pub(?:\(\w+\))? )?(?:const |unsafe )*fn (\w+)", re.MULTILINE)
+OWNER = re.compile(r"^(?:pub(?:\(\w+\))? )?(?:impl|trait)\b.*", re.MULTILINE)
+# An error that only says that a proof cites a name which the edit took away.
+LOST_NAME = re.compile(r"has no field|is not in scope|has no `|was not admitted|: module `[^`]*`$")
 
 
-def misfit(edit, crate):
-    """Returns why an edit can't be applied to the sources of a crate; None where it can."""
-    texts, file, old, pairs = {}, None, None, 0
-    for line in edit.read_text().splitlines():
-        key, _, text = line.partition(": ")
-        if key == "file":
-            file = TOP / "crates" / crate / text
-            if not file.is_file():
-                return f"there is no file {text}"
-            texts.setdefault(file, file.read_text())
-        elif key == "old":
-            old = text
-        elif key in ("new", "new:"):
+class Edit:
+    """An edit, with the functions and the lines that it changes. It goes alone where it changes more than bodies."""
+
+    def __init__(self, path, crate):
+        self.path, self.crate, self.name = path, crate, f"{crate}/{path.stem}"
+        self.pairs, self.functions, self.lines, self.alone = [], set(), set(), False
+        file = old = None
+        for line in path.read_text().splitlines():
+            key, _, text = line.partition(": ")
+            if key == "file":
+                file = text
+            elif key == "old":
+                old = text
+            elif key in ("new", "new:"):
+                self.pairs.append((file, old, text))
+                old = None
+
+    def place(self, texts):
+        """Finds what the edit changes in the texts of its crate's files."""
+        for file, old, new in self.pairs:
+            at = texts[file].find(old)
+            self.lines.add((file, texts[file].count("\n", 0, at) + 1))
+            function, in_body = function_at(file, texts[file], at)
+            if function:
+                self.functions.add(function)
+            self.alone |= not in_body and old not in new and not old.startswith("use ")
+        self.alone |= not self.functions
+
+    def misfit(self, texts):
+        """Applies the edit to the texts of a crate's files. Returns why it can't be applied; None where it can."""
+        for file, old, new in self.pairs:
             if file is None or old is None:
                 return "a 'new' comes before its 'old'"
+            if file not in texts:
+                return f"there is no file {file}"
             if texts[file].count(old) != 1:
                 return f"the file has this text {texts[file].count(old)} times: {old}"
-            texts[file], old, pairs = texts[file].replace(old, text), None, pairs + 1
-    return None if pairs else "it changes nothing"
+            texts[file] = texts[file].replace(old, new)
+        return None if self.pairs else "it changes nothing"
+
+
+def module_of(file):
+    """Returns the path of the module whose source this is, below its crate."""
+    parts = list(pathlib.PurePath(file).with_suffix("").parts[1:])
+    return parts[:-1] if parts[-1] in ("lib", "main", "mod") else parts
+
+
+def owner_of(text, at):
+    """Returns what a check calls the impl or the trait in which a method stands: `Ring`, `Word+Sums` of `Word<'a, Sums>`, `RingIterator`."""
+    head = re.split(r" where |{", [it[0] for it in OWNER.finditer(text, 0, at)][-1].replace("->", ""))[0].rstrip()
+    own = re.search(r"<([^<>]*)>$", head)
+    # A parameter's name is a single letter.
+    given = [it for it in re.findall(r"[\w']+", own[1]) if re.fullmatch(r"\w\w+", it)] if own and " for " not in head else []
+    while head != (less := re.sub(r"<[^<>]*>", "", head)):
+        head = less
+    words = re.split(r" for | ", head.replace("pub ", ""))[1:]
+    return "+".join(["".join(reversed([it.rpartition("::")[2] for it in words])), *given])
+
+
+def function_at(file, text, at):
+    """Returns the function in which a place of a file stands, if there is one, and whether the place is in its body or its proof.
+    A method is named by its type or its trait, and another function by its module."""
+    if file.startswith("proofs/"):
+        parts = pathlib.PurePath(file).parts[1:-1]
+        parts = parts[-2:] if parts[-2:-1] and parts[-2][0].isupper() else parts
+        return ("::".join(parts) if parts else None), bool(parts)
+    heads = [it for it in FUNCTION.finditer(text) if it.start() <= at]
+    if not file.startswith("src/") or not heads:
+        return None, False
+    head = heads[-1]
+    indent = head[1]
+    if at > text.find(f"\n{indent}}}\n", head.start()):
+        return None, False
+    body = re.compile(rf"\{{\n|^{indent}\{{", re.MULTILINE).search(text, head.start())
+    above = [owner_of(text, head.start())] if indent else module_of(file)
+    return "::".join([*above, head[2]]), body is not None and at >= body.start()
+
+
+def texts_of(folder):
+    """Returns the texts of a crate's files that an edit may change, by their paths in the crate."""
+    parts = [folder / part for part in ("src", "specs", "proofs")]
+    return {str(it.relative_to(folder)): it.read_text() for part in parts for it in part.rglob("*") if it.is_file()}
 
 
 def fit():
     """Prints each edit that can't be applied. Returns whether there is none."""
-    edits = [(it, it.parts[-3]) for it in TOP.glob("crates/*/must-fail/*.edit")]
-    edits += [(it, it.parts[-2]) for it in TOP.glob("edits/*/*.edit")]
-    bad = [(edit, why) for edit, crate in sorted(edits) if (why := misfit(edit, crate))]
-    for edit, why in bad:
-        print(f"{edit.relative_to(TOP)}: {why}")
+    edits = [Edit(it, it.parts[-3]) for it in TOP.glob("crates/*/must-fail/*.edit")]
+    edits += [Edit(it, it.parts[-2]) for it in TOP.glob("edits/*/*.edit")]
+    bad = 0
+    for crate in sorted({edit.crate for edit in edits}):
+        texts = texts_of(TOP / "crates" / crate)
+        for edit in sorted((it for it in edits if it.crate == crate), key=lambda it: it.path):
+            why = edit.misfit(dict(texts))
+            bad += why is not None
+            if why:
+                print(f"{edit.path.relative_to(TOP)}: {why}")
     return not bad
 
 
-def tried(scratch, crate):
-    """Has the prover refuse the edits of one crate. Returns the status and what was said."""
+def rounds_of(edits):
+    """Returns the edits in rounds, such that no two edits of a round change one function."""
+    rounds = []
+    for edit in edits:
+        free = (it for it in rounds if len(it) < ROUND and not edit.alone and not it[0].alone
+                and not any(edit.functions & other.functions for other in it))
+        found = next(free, None)
+        if found is None:
+            rounds.append(found := [])
+        found.append(edit)
+    return rounds
+
+
+def check(folder, edits):
+    """Checks a copy of a crate with these edits in it. Returns the lines that were said."""
+    texts = texts_of(folder)
+    edited = dict(texts)
+    for edit in edits:
+        edit.misfit(edited)
+    flags = [word for edit in edits for function in sorted(edit.functions) for word in ("--only", function)]
+    changed = [file for file in texts if texts[file] != edited[file]]
+    for file in changed:
+        (folder / file).write_text(edited[file])
+    ran = subprocess.run([*CHECK, *flags], cwd=folder, stdin=subprocess.DEVNULL, stdout=subprocess.PIPE, stderr=subprocess.STDOUT, text=True)
+    for file in changed:
+        (folder / file).write_text(texts[file])
+    return ran.stdout.splitlines()
+
+
+def told_of(function, said):
+    """Returns the lines of a check that tell of a function and its closures, or of all functions, and the errors in their proofs."""
+    if function is None:
+        return [it for it in said if it.startswith("fn ")], [it for it in said if it.startswith("./proofs/") and ": error: " in it]
+    above, _, name = function.rpartition("::")
+    own = re.compile(rf"fn \w+::(\S+::)?({re.escape(function)}|({re.escape(above)}::)?fn::({re.escape(above)}::)?{name}::\S+): ")
+    proof = re.compile(rf"\./proofs/(\S+/)?{re.escape(function.replace('::', '/'))}/\S+ error: ")
+    return [it for it in said if own.match(it)], [it for it in said if proof.match(it)]
+
+
+def verdict(edit, said):
+    """Returns what a check that reached the prover says of an edit, and its words for it."""
+    told = [told_of(function, said) for function in sorted(edit.functions) or [None]]
+    states, errors = [line for lines, _ in told for line in lines], [line for _, lines in told for line in lines]
+    goals = [it for it in states if "did not prove" in it] + [it for it in errors if not LOST_NAME.search(it)]
+    if goals:
+        return REFUSED, goals[0]
+    if errors:
+        return BAD, f"a proof cites a name that the edit took away: {errors[0]}"
+    if states and all(it.endswith(": proved") for it in states):
+        return LET_THROUGH, states[0]
+    return UNCLEAR, next((it for it in states if not it.endswith(": proved")), said[-1] if said else "nothing was said")
+
+
+def try_round(folder, edits):
+    """Returns the verdict of each edit of a round. Tries again, each by itself, those of which the check of all says nothing."""
+    said = check(folder, edits)
+    if any(line.startswith(("fn ", "only=", "logic=")) for line in said):
+        found = {edit: verdict(edit, said) for edit in edits}
+        again = [edit for edit in edits if found[edit][0] == UNCLEAR and len(edits) > 1]
+        return found | {edit: fate for each in again for edit, fate in try_round(folder, [each]).items()}
+    places = {(it[1], int(it[2])): it[0] for line in said if (it := re.match(r"(?:\./)?(src/\S+?):(\d+):\d+: error", line))}
+    bad = [edit for edit in edits if edit.lines & set(places)] or (edits if len(edits) == 1 else [])
+    found = {edit: (BAD, next((line for line in said if "error" in line), said[-1] if said else "nothing was said")) for edit in bad}
+    rest = [edit for edit in edits if edit not in bad]
+    parts = [rest] if bad else [rest[::2], rest[1::2]]
+    return found | {edit: fate for part in parts if part for edit, fate in try_round(folder, part).items()}
+
+
+def try_crate(crate, edits):
+    """Tries these edits of a crate in a copy of this tree. Prints the verdicts, and returns whether all were refused."""
     start = time.monotonic()
-    ran = subprocess.run(["rt", "must-fail", crate], cwd=scratch, capture_output=True, text=True)
-    lines = [line for line in ran.stdout.splitlines() if "must-fail" in line]
-    said = "\n".join(lines or [ran.stdout + ran.stderr])
-    return ran.returncode, f"{said}\n{crate}: {len(lines)} edits in {time.monotonic() - start:.0f} s"
-
-
-def try_all(crates):
-    """Has the prover refuse the edits of these crates. Returns whether it refused all."""
     with tempfile.TemporaryDirectory(prefix="edits-") as name:
         scratch = pathlib.Path(name)
         for file in ("crates.txt", "HANDLES"):
             shutil.copy(TOP / file, scratch)
-        shutil.copytree(TOP / "crates", scratch / "crates", ignore=shutil.ignore_patterns("must-fail"))
-        for crate in crates:
-            shutil.copytree(TOP / "edits" / crate, scratch / "crates" / crate / "must-fail")
-        with concurrent.futures.ThreadPoolExecutor(PROVERS) as pool:
-            statuses = []
-            for status, said in pool.map(lambda crate: tried(scratch, crate), crates):
-                print(said, flush=True)
-                statuses.append(status)
-    return not any(statuses)
+        shutil.copytree(TOP / "crates", scratch / "crates", ignore=shutil.ignore_patterns("must-fail", "out"))
+        folder, refused = scratch / "crates" / crate, 0
+        texts = texts_of(folder)
+        bad = {edit: why for edit in edits if (why := edit.misfit(dict(texts)))}
+        for edit, why in bad.items():
+            print(f"{edit.name}: {BAD}: {why}", flush=True)
+        fitting = [edit for edit in edits if edit not in bad]
+        for edit in fitting:
+            edit.place(texts)
+        for each in rounds_of(fitting):
+            for edit, (kind, words) in try_round(folder, each).items():
+                print(f"{edit.name}: {kind}: {words[:300]}", flush=True)
+                refused += kind == REFUSED
+    print(f"{crate}: {refused} of {len(edits)} edits refused, in {time.monotonic() - start:.0f} s", flush=True)
+    return refused == len(edits)
+
+
+def try_all(words):
+    """Tries the edits that these words name, or all. Returns the exit status."""
+    edits = [Edit(it, it.parts[-2]) for it in sorted(TOP.glob("edits/*/*.edit"))]
+    unknown = set(words) - {edit.crate for edit in edits} - {edit.name for edit in edits}
+    if unknown:
+        print(f"edits/ has nothing of {', '.join(sorted(unknown))}")
+        return 2
+    chosen = [edit for edit in edits if not words or edit.crate in words or edit.name in words]
+    by_crate = {}
+    for edit in chosen:
+        by_crate.setdefault(edit.crate, []).append(edit)
+    with concurrent.futures.ThreadPoolExecutor(PROVERS) as pool:
+        return 0 if all(list(pool.map(try_crate, by_crate, by_crate.values()))) else 1
 
 
 def main(words):
@@ -79,12 +240,7 @@ def main(words):
     if words == ["fit"]:
         return 0 if fit() else 1
     if words[:1] == ["try"]:
-        known = sorted(it.name for it in (TOP / "edits").iterdir() if it.is_dir())
-        unknown = set(words[1:]) - set(known)
-        if unknown:
-            print(f"edits/ has nothing of {', '.join(sorted(unknown))}")
-            return 2
-        return 0 if try_all(words[1:] or known) else 1
+        return try_all(words[1:])
     print(__doc__)
     return 2
 

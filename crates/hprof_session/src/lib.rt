@@ -2,6 +2,8 @@
 #![tactic(auto)]
 
 mod places;
+#[cfg(test)]
+mod tests;
 mod walk;
 mod whole_walk;
 

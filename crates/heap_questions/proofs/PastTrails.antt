@@ -65,9 +65,9 @@ same_default (x ∷ xs) zero d e l = refl
 same_default (x ∷ xs) (suc n) d e l = same_default xs n d e (omega (arith, l))
 
 dropped : (a n : ℕ) (w d e : HeapState) (xs : List HeapState) → a + n ≤ length xs → get_or (get_or (w ∷ xs) a d ∷ drop a xs) n e ≡ get_or (w ∷ xs) (a + n) d
-dropped zero n w d e xs l = same_default (w ∷ xs) n e d (omega (arith, l))
+dropped zero n w d e xs l = same_default (w ∷ xs) n e d (omega (arith, l)) ∙ ap (λ k. get_or (w ∷ xs) k d) (let z : n ≡ 0 + n = omega arith in z)
 dropped (suc a) n w d e [] l = absurd (omega (arith, l))
-dropped (suc a) n w d e (x ∷ xs) l = dropped a n x d e xs (omega (arith, l))
+dropped (suc a) n w d e (x ∷ xs) l = dropped a n x d e xs (omega (arith, l)) ∙ ap (λ k. get_or (w ∷ x ∷ xs) k d) (let z : suc (a + n) ≡ suc a + n = omega arith in z)
 
 -- a state before the one that a rewind leads to
 pub state_past : (t : Trail) (a n : ℕ) → a + n ≤ retained t → state_ago n (rewound a t) ≡ state_ago (a + n) t
@@ -109,14 +109,14 @@ or_true false = refl
 dead_stood : (dead : List (ℕ × Object)) (c old : ℕ) → not (dead_state dead c old == 0) ≡ (list_any (λ (d : ℕ × Object). d.0 == c) dead || not (old == 0))
 unfolding dead_state
 dead_stood [] c old = refl
-dead_stood (d ∷ dead) c old = go (d.0 == c)
+dead_stood (d ∷ dead) c old = go (d.0 == c) (dead_stood dead c)
   where
     rest : Bool
     rest = list_any (λ (d : ℕ × Object). d.0 == c) dead
 
-    go : (b : Bool) → not (dead_state dead c (cond b (cell_state (Some d.1)) old) == 0) ≡ ((b || rest) || not (old == 0))
-    go true = dead_stood dead c (cell_state (Some d.1)) ∙ ap (λ b. rest || not b) (ne_eqb (cell_state (Some d.1)) 0 (some_state d.1)) ∙ or_true rest
-    go false = dead_stood dead c old
+    go : (b : Bool) → ((n : ℕ) → not (dead_state dead c n == 0) ≡ (rest || not (n == 0))) → not (dead_state dead c (cond b (cell_state (Some d.1)) old) == 0) ≡ ((b || rest) || not (old == 0))
+    go true h = h (cell_state (Some d.1)) ∙ ap (λ b. rest || not b) (ne_eqb (cell_state (Some d.1)) 0 (some_state d.1)) ∙ or_true rest
+    go false h = h old
 
 finish_stood : (n : ℕ) → not (cond (n == 0) 0 1 == 0) ≡ not (n == 0)
 finish_stood n = elim (cases_Bool (n == 0)) [
@@ -170,8 +170,8 @@ same_region : (a b : ℕ) (x y : UsedRegion) → Reclaim a x ≡ Reclaim b y →
 same_region a b x y z = ap region_in z
 
 kept_size : (left : Undo) (e : Event) (before after : HeapState) (r n : ℕ) (u : UsedRegion) → IsStep e before after left → ((storage : UsedRegion) → left ≡ Reclaim r storage → ⊥) → HasCellSize after r n → used_at before.regions r ≡ Some u → n ≡ u.cell_size
-kept_size left e before after r n u s no h used =
-    let v = sized left before after r u (told e before after left s) no used in
+kept_size left e before after r n u s never h used =
+    let v = sized left before after r u (told e before after left s) never used in
     h v.0 v.1 ∙ v.2
 
 reclaimed_cells : (region : ℕ) (storage : UsedRegion) (e : Event) (before after : HeapState) (r : ℕ) (u : UsedRegion) → IsStep e before after (Reclaim region storage) → region ≡ r → used_at before.regions r ≡ Some u → storage_cell_size storage ≡ u.cell_size

@@ -82,6 +82,46 @@ classes_within u w p h =
     let many : length (take (length u.classes) w.classes) ≡ length u.classes = ap length h.1.classes in
     omega (arith, many, h.0.classes, length-take (length u.classes) w.classes)
 
+-- a slot of an object that the pin shows
+pub slot_shown : (u w : HeapState) (p : PinContents) (at : ObjRef) (s : ℕ) (words : List ℕ) (kind : ObjKind) (classes : List Class) → IsShownBeside w p u → IsSome (object_at u.regions at)
+    → IfSome (object_seen p w.regions at) (λ o. words ≡ o.words) → IfSome (object_seen p w.regions at) (λ o. kind ≡ o.kind) → classes ≡ take p.classes w.classes → s < length words
+    → IsSlotSeen u at s classes kind (length words) (get_or words s 0)
+slot_shown u w p at s words kind classes shown there ws k cs l =
+    let o = object_here u at there in
+    let d = of_shown (λ (d : DumpedObject). words ≡ d.words) u w p at o.0 shown o.1 ws in
+    let f = of_shown (λ (d : DumpedObject). kind ≡ d.kind) u w p at o.0 shown o.1 k in
+    let same : words ≡ o.0.words = d.3 ∙ d.2 in
+    slot_seen u at s (length words) (get_or words s 0) o.0 classes kind shown.0.legal o.1 (f.3 ∙ f.1) (ap length same) l (ap (λ (xs : List ℕ). get_or xs s 0) same) (cs ∙ classes_beside u w p shown)
+
+pub none_shown : (u w : HeapState) (p : PinContents) (at : ObjRef) (s : ℕ) (words : List ℕ) → IsShownBeside w p u → IsSome (object_at u.regions at) → IfSome (object_seen p w.regions at) (λ o. words ≡ o.words) → length words ≤ s → None ≡ seen_slot u at s
+none_shown u w p at s words shown there ws l =
+    let o = object_here u at there in
+    let d = of_shown (λ (d : DumpedObject). words ≡ d.words) u w p at o.0 shown o.1 ws in
+    none_seen u at s (length words) o.0 o.1 (ap length (d.3 ∙ d.2)) l
+
+pub sees_here : (u w : HeapState) (p : PinContents) (at : ObjRef) → IsShownBeside w p u → IsSome (object_at u.regions at) → IsSeen p w.regions at
+sees_here u w p at shown there = let o = object_here u at there in seen_beside u w p at o.0 shown o.1
+
+-- ---- as the current state has it
+
+fact_of : (P : Object → Type 0) (w : HeapState) (at : ObjRef) (o : Object) → object_at w.regions at ≡ Some o → IfSome (object_at w.regions at) P → P o
+fact_of P w at o e h = subst (λ (x : Option Object). IfSome x P) e h
+
+pub none_now : (w : HeapState) (at : ObjRef) (s n : ℕ) → IsSome (object_at w.regions at) → IfSome (object_at w.regions at) (λ o. n ≡ length o.words) → n ≤ s → None ≡ seen_slot w at s
+none_now w at s n there many l = let o = object_here w at there in none_seen w at s n o.0 o.1 (fact_of (λ o. n ≡ length o.words) w at o.0 o.1 many) l
+
+pub known_now : (w : HeapState) (at : ObjRef) (s n : ℕ) (kind : ObjKind) (classes : List Class) → IsLegal w → IsSome (object_at w.regions at) → IfSome (object_at w.regions at) (λ o. n ≡ length o.words) → IfSome (object_at w.regions at) (λ o. kind ≡ o.kind) → s < n → classes ≡ w.classes
+    → IsKnown classes kind n
+known_now w at s n kind classes legal there many k l cs =
+    let o = object_here w at there in
+    (slot_seen w at s n (get_or o.0.words s 0) o.0 classes kind legal o.1 (fact_of (λ o. kind ≡ o.kind) w at o.0 o.1 k) (fact_of (λ o. n ≡ length o.words) w at o.0 o.1 many) l refl cs).known
+
+pub seen_now : (w : HeapState) (at : ObjRef) (s n word : ℕ) (kind : ObjKind) (classes : List Class) → IsLegal w → IsSome (object_at w.regions at) → IfSome (object_at w.regions at) (λ o. n ≡ length o.words) → IfSome (object_at w.regions at) (λ o. kind ≡ o.kind) → IfSome (object_at w.regions at) (λ o. word ≡ get_or o.words s 0) → s < n → classes ≡ w.classes
+    → let x : SeenSlot = record { word = word; refers = slot_refers classes kind s } in Some x ≡ seen_slot w at s
+seen_now w at s n word kind classes legal there many k e l cs =
+    let o = object_here w at there in
+    (slot_seen w at s n word o.0 classes kind legal o.1 (fact_of (λ o. kind ≡ o.kind) w at o.0 o.1 k) (fact_of (λ o. n ≡ length o.words) w at o.0 o.1 many) l (fact_of (λ o. word ≡ get_or o.words s 0) w at o.0 o.1 e) cs).seen
+
 -- ---- what is seen, and what is there
 
 pub seen_word : (w : HeapState) (at : ObjRef) (s : ℕ) (x : SeenSlot) → Some x ≡ seen_slot w at s → (slot_word w at s ≡ Some x.word) × (x.refers ≡ refers_at w at s)

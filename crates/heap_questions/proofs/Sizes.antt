@@ -85,7 +85,7 @@ unfolding frozen_word_set
 word_size cell slot word f = refl
 
 -- the regions of a record that took all of one
-reclaimed_size : (before : Option UsedRegion) (storage u : UsedRegion) → Covers (option_map frozen before) (Some (frozen storage)) → before ≡ Some u → length storage.cells ≡ length u.cells
+pub reclaimed_size : (before : Option UsedRegion) (storage u : UsedRegion) → Covers (option_map frozen before) (Some (frozen storage)) → before ≡ Some u → length storage.cells ≡ length u.cells
 reclaimed_size before storage u c e =
     let g = c (frozen u) (ap (option_map frozen) e) in
     ap (λ (f : Frozen). length f.cells) (same_Some (frozen storage) g.0 g.1) ∙ g.2.count

@@ -108,6 +108,7 @@ impl<'a> PastTrail<'a> {
     {
         // Its contract says that the retained states are legal.
         let _place = self.machine.place();
+        let _count = self.machine.retained_count();
         let pin = self.machine.pin_ago(self.ago + n)?;
         let path = shortest_path(alloc, &self.machine.view(&pin), id)?;
         Ok(path.is_some())

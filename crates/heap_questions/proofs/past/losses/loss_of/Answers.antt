@@ -4,8 +4,8 @@ use Rattle.heap_questions.specs.Losses.{IsNewest}
 use Rattle.heap_questions.proofs.PastLosses.{lost_at, never_reached, reached_now}
 use Rattle.heap_questions.proofs.past.losses.loss_of.Goals as goal
 
-pub newest_reached-newest-requires-clause-named : goal.newest_reached-newest-requires-clause-named
-newest_reached-newest-requires-clause-named c = sym (ref_is c.args.past.now.current.regions c.args.id c.args.at c.requires.named)
+pub newest_reached-requires-clause-named : goal.newest_reached-requires-clause-named
+newest_reached-requires-clause-named c = sym (ref_is c.args.past.now.current.regions c.args.id c.args.at c.requires.named)
 
 pub returns-in_default-clause-loss : goal.returns-in_default-clause-loss
 returns-in_default-clause-loss c =

@@ -1,6 +1,7 @@
-use Rattle.std.proofs.Common.{◌<◌, arith}
+use Rattle.std.proofs.Common.{◌≡◌, ◌<◌, subst, arith}
 use Rattle.heap_trail.specs.Trail.{retained}
 use Rattle.heap_trail.proofs.RetainedRecords.{has_record}
+use Rattle.heap_questions.specs.PastTrails.{IsPinAgo}
 use Rattle.heap_questions.proofs.WrittenSlots.{can_walk, opened, walked_one}
 use Rattle.heap_questions.proofs.past.seen.past_pin.Goals as goal
 
@@ -21,3 +22,8 @@ loop-n-preserved c =
     let lt : c.loop-n.n < retained t = omega (arith, c.loop-n-test.true, c.requires) in
     let r = has_record c.args.machine.now.keep t c.loop-n.n left c.place-place.ensures.trail c.record_ago.ensures in
     walked_one t c.loop-n.n left c.world-world.result.now c.loop-n.pin c.walk_back.new.self c.world-world.ensures.value lt c.loop-n.invariant r c.in_ok-walk_back.ensures.walked
+
+pub returns-clause-shown : goal.returns-clause-shown
+returns-clause-shown c =
+    let all : c.loop-n.n ≡ c.args.ago = omega (arith, c.loop-n-test.false, c.loop-n.auto.n-end) in
+    subst (IsPinAgo c.loop-n.pin c.args.machine.now.trail) all c.loop-n.invariant

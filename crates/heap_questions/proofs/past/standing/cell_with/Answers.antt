@@ -28,11 +28,11 @@ returns-clause-finds c at r there =
     let region : at.region ≡ c.saturating_sub.result / 8 / 1024 = omega (arith, region_named w.regions c.args.id at r, c.saturating_sub.ensures) in
     cell_found w c.args.id size at c.cell_by.result (legal_ago c.args.machine.now.keep t c.args.ago c.place-place.ensures.trail c.requires)
     (subst (λ k. HasCellSize w k size) (sym region) c.cell_size_ago.ensures.value)
-    (subst (λ k. IsCellOf size k c.args.id c.cell_by.result) (sym region) c.cell_by.ensures) r there
+    (subst (λ k. IsCellOf size k c.args.id c.cell_by.result) (sym region) c.cell_by.ensures.cell) r there
 
 pub returns-clause-right : goal.returns-clause-right
 returns-clause-right c at e there =
     let t = c.args.machine.now.trail in
     let w = state_ago c.args.ago t in
     cell_named w c.args.id c.cell_size_ago.result (c.saturating_sub.result / 8 / 1024) at c.cell_by.result (legal_ago c.args.machine.now.keep t c.args.ago c.place-place.ensures.trail c.requires)
-    c.cell_size_ago.ensures.value c.cell_by.ensures e there
+    c.cell_size_ago.ensures.value c.cell_by.ensures.cell e there

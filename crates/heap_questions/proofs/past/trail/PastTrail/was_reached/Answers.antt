@@ -10,8 +10,13 @@ use Rattle.heap_questions.proofs.PastLosses.{told_by_path}
 use Rattle.heap_questions.proofs.PastTrails.{retained_past, state_past}
 use Rattle.heap_questions.proofs.past.trail.PastTrail.was_reached.Goals as goal
 
-pub pin_ago-pin-requires : goal.pin_ago-pin-requires
-pin_ago-pin-requires c =
+pub overflow_add-self-inside : goal.overflow_add-self-inside
+overflow_add-self-inside c =
+    let ago = c.self.inside.ago in
+    omega (arith, c.requires, ap retained c.self.view_is, retained_past ago c.self.inside.machine.now.trail, c.self.invariant, c.retained_count-count.ensures, c.retained_count-count.type_inv)
+
+pub pin_ago-requires : goal.pin_ago-requires
+pin_ago-requires c =
     let t = c.self.inside.machine.now.trail in
     let ago = c.self.inside.ago in
     omega (arith, c.requires, ap retained c.self.view_is, retained_past ago t, c.self.invariant)

@@ -149,7 +149,7 @@ def advised(program):
 
 # What is said of states that aren't there.
 AT_FORMS = b"AT is - for the current state, the number of an open pin, or @P for the state at place P\n"
-STATES = [line + b"\n" for line in [b"clear 0 0"] * 3 + [b"histogram 1", b"growth - @0", b"classes x", b"retained x", b"objects x", b"history @0 1"]]
+STATES = [line + b"\n" for line in [b"clear 0 0"] * 3 + [b"histogram 1", b"growth - @0", b"classes x", b"retained x", b"objects x", b"history @0 1", b"born @0 0x10000000"]]
 STATES += [b"open 0\n", b"close 1\n", b"rewind 1\n", b"show @0 0x10000000\n", b"q\n"]
 STATES_SHOWN = b"""heapdbg 0> |ok
 heapdbg 1> |ok
@@ -165,6 +165,9 @@ the form of this line is: retained [AT] ID
 %(forms)sheapdbg 3> |bad command
 the form of this line is: objects [AT [CLASS [SLOT VALUE]]]
 %(forms)sheapdbg 3> |no 24 NotRetained
+@PLACE is @P for the state at place P, or - for the current state
+the oldest retained place is @1
+heapdbg 3> |no 24 NotRetained
 @PLACE is @P for the state at place P, or - for the current state
 the oldest retained place is @1
 heapdbg 3> |no 24 NotRetained

@@ -87,7 +87,10 @@ pub(crate) fn advise(alloc: Global, line: &[u8]) -> Advice {
 
 // Returns how a line of this form names a state, or None if it names none.
 pub(crate) fn state_names(form: &str) -> Option<&'static str> {
-    if form.starts_with("history ") {
+    if form
+        .split_ascii_whitespace()
+        .any(|word| word == "[@PLACE]" || word == "[@PLACE")
+    {
         return Some("@PLACE is @P for the state at place P, or - for the current state");
     }
     if !form

@@ -85,7 +85,7 @@ unfolding frozen_word_set
 word_size cell slot word f = refl
 
 -- the regions of a record that took all of one
-reclaimed_size : (before : Option UsedRegion) (storage u : UsedRegion) → Covers (option_map frozen before) (Some (frozen storage)) → before ≡ Some u → length storage.cells ≡ length u.cells
+pub reclaimed_size : (before : Option UsedRegion) (storage u : UsedRegion) → Covers (option_map frozen before) (Some (frozen storage)) → before ≡ Some u → length storage.cells ≡ length u.cells
 reclaimed_size before storage u c e =
     let g = c (frozen u) (ap (option_map frozen) e) in
     ap (λ (f : Frozen). length f.cells) (same_Some (frozen storage) g.0 g.1) ∙ g.2.count
@@ -252,7 +252,7 @@ reclaimed_within left e before after sizes s a r u h = (
 less_words : (n : ℕ) → 0 < n → region_words / n ≤ region_words
 less_words n l = div-le_self region_words n
 
-same_regions : (left : Undo) (e : Event) (before after : HeapState) → IsStep e before after left → length before.regions ≡ length after.regions
+pub same_regions : (left : Undo) (e : Event) (before after : HeapState) → IsStep e before after left → length before.regions ≡ length after.regions
 same_regions left e before after s =
     ap (λ (w : HeapState). length w.regions) (sym (undo_takes_back e before s.legal s.accepted) ∙ sym (ap₂ (λ (l : Undo) (w : HeapState). undone l w) s.recorded s.gave))
     ∙ sym (length_undone left after)

@@ -8,6 +8,7 @@ pub mod NewWords
 pub mod Comments
 pub mod HelpForms
 pub mod Slots
+pub mod PastTexts
 pub mod FieldNames
 pub mod FieldRows
 pub mod NamedObjects

@@ -15,6 +15,7 @@ pub mod Paths
 pub mod Objects
 pub mod ObjectLists
 pub mod Places
+pub mod PastAnswers
 pub mod PinLists
 pub mod CellLists
 pub mod RegionLists

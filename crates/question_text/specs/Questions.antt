@@ -5,7 +5,7 @@ use Rattle.session_grammar.specs.Grammar.{at_end, next_number, number_of_word, w
 use Rattle.question_text.specs.declared.question.At.{At}
 use Rattle.question_text.specs.declared.question.At.TheVariants.{Current, Pin, Place}
 use Rattle.question_text.specs.declared.question.Question.{Question}
-use Rattle.question_text.specs.declared.question.Question.TheVariants.{Histogram, Garbage, Growth, Kept, Registers, Classes, Objects, Referrers, Path, Retained, Dominators, Dominator, Show, Born, Wrote, Watch, Writes, Dropped, History, Pins, Cells, Regions, Status}
+use Rattle.question_text.specs.declared.question.Question.TheVariants.{Histogram, Garbage, Growth, Kept, Registers, Classes, Objects, Values, Referrers, Path, Retained, Dominators, Dominator, Show, Born, Wrote, Watch, Writes, Dropped, History, Pins, Cells, Regions, Status}
 use Rattle.std.specs.Option.{option_or}
 use Rattle.heap_questions.specs.declared.wanted.Wanted.{Wanted}
 use Rattle.heap_questions.specs.declared.wanted.Wanted.TheVariants.{All, OfClass, Holding}
@@ -132,6 +132,15 @@ two_numbers ws =
     option_and_then (λ a. option_and_then (λ b. at_end (a.0, b.0) b.1) (next_number a.1))
     (next_number ws)
 
+-- the state and the two numbers that the words name; without a state it is the current one
+abbrev pub optional_at_and_two_numbers : List (List ℕ) → Option (At × ℕ × ℕ)
+optional_at_and_two_numbers [] = None
+optional_at_and_two_numbers (w ∷ []) = None
+optional_at_and_two_numbers (w ∷ v ∷ []) =
+    option_map (λ a. (Current, a)) (two_numbers (w ∷ v ∷ []))
+optional_at_and_two_numbers (w ∷ v ∷ u ∷ ws) =
+    option_and_then (λ at. option_map (λ a. (at, a)) (two_numbers (v ∷ u ∷ ws))) (at_of_word w)
+
 -- ---- the table of questions
 
 -- a keyword, and what the words after it ask
@@ -162,6 +171,7 @@ question_rules =
     ∷ (codes "growth", λ ws. option_map (λ a. Growth a.0 a.1) (at_and_optional ws))
     ∷ (codes "classes", λ ws. option_map (λ at. Classes at) (optional_at ws))
     ∷ (codes "objects", λ ws. option_map (λ a. Objects a.0 a.1) (at_and_wanted ws))
+    ∷ (codes "values", λ ws. option_map (λ a. Values a.0 a.1 a.2) (optional_at_and_two_numbers ws))
     ∷ (codes "kept", λ ws. option_map (λ a. Kept a.0 a.1) (at_and_optional ws))
     ∷ (codes "referrers", λ ws. option_map (λ a. Referrers a.0 a.1) (optional_at_and_id ws))
     ∷ (codes "path", λ ws. option_map (λ a. Path a.0 a.1) (optional_at_and_id ws))

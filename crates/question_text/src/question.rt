@@ -2,7 +2,7 @@
 ghost use Rattle.std.specs.Prelude.{◌≡◌, drop};
 ghost use Rattle.session_grammar.specs.Grammar.{words_of_line};
 ghost use Rattle.session_grammar.specs.Reads.{IsNextWord};
-ghost use Rattle.question_text.specs.Questions.{at_and_optional, at_and_wanted, at_of_word, at_or_number, id_and_number, next_id, one_id, optional_at, optional_at_and_id, optional_at_and_number, past_rules, place_and_number, place_of, question_by, question_of, question_rules, two_numbers, value_of_word, wanted_of};
+ghost use Rattle.question_text.specs.Questions.{at_and_optional, at_and_wanted, at_of_word, at_or_number, id_and_number, next_id, one_id, optional_at, optional_at_and_id, optional_at_and_number, optional_at_and_two_numbers, past_rules, place_and_number, place_of, question_by, question_of, question_rules, two_numbers, value_of_word, wanted_of};
 
 use crate::id::id_of;
 use heap_questions::Wanted;
@@ -38,6 +38,8 @@ pub enum Question {
     Classes(At),
     /// The objects that are wanted.
     Objects { at: At, wanted: Wanted },
+    /// The words that a slot holds in the objects of a class.
+    Values { at: At, class: u64, slot: u64 },
     /// What names an object.
     Referrers { at: At, id: u64 },
     /// Why an object is alive: a shortest path from a register.
@@ -235,6 +237,21 @@ fn two_numbers(mut words: Words) -> Option<(u64, u64)>
     at_end((next_number(&mut words)?, next_number(&mut words)?), words)
 }
 
+// Returns the state and the two numbers that the words name. If they are only the numbers, the state is the current one.
+fn optional_at_and_two_numbers(mut words: Words) -> Option<(At, u64, u64)>
+    ensures { result ≡ optional_at_and_two_numbers (words_of_line words.entry) }
+{
+    let first = words.next_word()?;
+    let second = words.next_word()?;
+    let Some(third) = words.next_word() else {
+        return Some((At::Current, number_of(first)?, number_of(second)?));
+    };
+    at_end(
+        (at_of(first)?, number_of(second)?, number_of(third)?),
+        words,
+    )
+}
+
 // Reads the words behind a keyword of a question about what retained steps did, about pins, or about the current state.
 #[tactic(auto, unfolding(crate::specs::Questions::past_rules))]
 fn past_question(keyword: &[u8], words: Words) -> Option<Question>
@@ -289,6 +306,10 @@ fn later_question(keyword: &[u8], words: Words) -> Option<Question>
     if is_word(keyword, b"objects") {
         let (at, wanted) = at_and_wanted(words)?;
         return Some(Question::Objects { at, wanted });
+    }
+    if is_word(keyword, b"values") {
+        let (at, class, slot) = optional_at_and_two_numbers(words)?;
+        return Some(Question::Values { at, class, slot });
     }
     if is_word(keyword, b"kept") {
         let (older, newer) = at_and_optional(words)?;

@@ -132,14 +132,19 @@ two_numbers ws =
     option_and_then (λ a. option_and_then (λ b. at_end (a.0, b.0) b.1) (next_number a.1))
     (next_number ws)
 
--- the state and the two numbers that the words name; without a state it is the current one
-abbrev pub optional_at_and_two_numbers : List (List ℕ) → Option (At × ℕ × ℕ)
-optional_at_and_two_numbers [] = None
-optional_at_and_two_numbers (w ∷ []) = None
-optional_at_and_two_numbers (w ∷ v ∷ []) =
-    option_map (λ a. (Current, a)) (two_numbers (w ∷ v ∷ []))
-optional_at_and_two_numbers (w ∷ v ∷ u ∷ ws) =
-    option_and_then (λ at. option_map (λ a. (at, a)) (two_numbers (v ∷ u ∷ ws))) (at_of_word w)
+-- the class and the slot that two words name
+abbrev pub class_and_slot : List ℕ → List ℕ → Option (ℕ × ℕ)
+class_and_slot w v =
+    option_and_then (λ k. option_map (λ s. (k, s)) (number_of_word v)) (number_of_word w)
+
+-- the state, and the class and the slot, that the words name; without a state it is the current one
+abbrev pub at_and_slot : List (List ℕ) → Option (At × (ℕ × ℕ))
+at_and_slot [] = None
+at_and_slot (w ∷ []) = None
+at_and_slot (w ∷ v ∷ []) = option_map (λ slot. (Current, slot)) (class_and_slot w v)
+at_and_slot (w ∷ v ∷ u ∷ ws) =
+    option_and_then (λ at. option_and_then (λ slot. at_end (at, slot) ws) (class_and_slot v u))
+    (at_of_word w)
 
 -- ---- the table of questions
 
@@ -171,7 +176,7 @@ question_rules =
     ∷ (codes "growth", λ ws. option_map (λ a. Growth a.0 a.1) (at_and_optional ws))
     ∷ (codes "classes", λ ws. option_map (λ at. Classes at) (optional_at ws))
     ∷ (codes "objects", λ ws. option_map (λ a. Objects a.0 a.1) (at_and_wanted ws))
-    ∷ (codes "values", λ ws. option_map (λ a. Values a.0 a.1 a.2) (optional_at_and_two_numbers ws))
+    ∷ (codes "values", λ ws. option_map (λ a. Values a.0 a.1.0 a.1.1) (at_and_slot ws))
     ∷ (codes "kept", λ ws. option_map (λ a. Kept a.0 a.1) (at_and_optional ws))
     ∷ (codes "referrers", λ ws. option_map (λ a. Referrers a.0 a.1) (optional_at_and_id ws))
     ∷ (codes "path", λ ws. option_map (λ a. Path a.0 a.1) (optional_at_and_id ws))

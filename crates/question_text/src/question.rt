@@ -2,7 +2,7 @@
 ghost use Rattle.std.specs.Prelude.{◌≡◌, drop};
 ghost use Rattle.session_grammar.specs.Grammar.{words_of_line};
 ghost use Rattle.session_grammar.specs.Reads.{IsNextWord};
-ghost use Rattle.question_text.specs.Questions.{at_and_optional, at_and_wanted, at_of_word, at_or_number, id_and_number, next_id, one_id, optional_at, optional_at_and_id, optional_at_and_number, optional_at_and_two_numbers, past_rules, place_and_number, place_of, question_by, question_of, question_rules, two_numbers, value_of_word, wanted_of};
+ghost use Rattle.question_text.specs.Questions.{at_and_optional, at_and_slot, at_and_wanted, at_of_word, at_or_number, class_and_slot, id_and_number, next_id, one_id, optional_at, optional_at_and_id, optional_at_and_number, past_rules, place_and_number, place_of, question_by, question_of, question_rules, two_numbers, value_of_word, wanted_of};
 
 use crate::id::id_of;
 use heap_questions::Wanted;
@@ -237,19 +237,23 @@ fn two_numbers(mut words: Words) -> Option<(u64, u64)>
     at_end((next_number(&mut words)?, next_number(&mut words)?), words)
 }
 
-// Returns the state and the two numbers that the words name. If they are only the numbers, the state is the current one.
-fn optional_at_and_two_numbers(mut words: Words) -> Option<(At, u64, u64)>
-    ensures { result ≡ optional_at_and_two_numbers (words_of_line words.entry) }
+// Returns the class and the slot that two words name.
+fn class_and_slot(class: &[u8], slot: &[u8]) -> Option<(u64, u64)>
+    ensures { result ≡ class_and_slot class.now slot.now }
+{
+    Some((number_of(class)?, number_of(slot)?))
+}
+
+// Returns the state, and the class and the slot, that the words name. If they name no state, it is the current one.
+fn at_and_slot(mut words: Words) -> Option<(At, (u64, u64))>
+    ensures { result ≡ at_and_slot (words_of_line words.entry) }
 {
     let first = words.next_word()?;
     let second = words.next_word()?;
     let Some(third) = words.next_word() else {
-        return Some((At::Current, number_of(first)?, number_of(second)?));
+        return Some((At::Current, class_and_slot(first, second)?));
     };
-    at_end(
-        (at_of(first)?, number_of(second)?, number_of(third)?),
-        words,
-    )
+    at_end((at_of(first)?, class_and_slot(second, third)?), words)
 }
 
 // Reads the words behind a keyword of a question about what retained steps did, about pins, or about the current state.
@@ -308,7 +312,7 @@ fn later_question(keyword: &[u8], words: Words) -> Option<Question>
         return Some(Question::Objects { at, wanted });
     }
     if is_word(keyword, b"values") {
-        let (at, class, slot) = optional_at_and_two_numbers(words)?;
+        let (at, (class, slot)) = at_and_slot(words)?;
         return Some(Question::Values { at, class, slot });
     }
     if is_word(keyword, b"kept") {

@@ -51,8 +51,8 @@ fn values_text<V: View>(
     Ok(text)
 }
 
-// Returns the answer of `values` about a view. Fails with NoClass if the class isn't there, with BadSlot if its objects have no such
-// slot, and with NoMemory if an allocation fails. Reads each object once.
+// Returns the answer of `values` about a view. Fails with NoClass if the class isn't there, with BadSlot if its objects have no
+// such slot, and with NoMemory if an allocation fails. Reads each object once.
 pub(crate) fn values_answer<V: View>(
     alloc: Global,
     view: &V,

@@ -21,6 +21,7 @@ WANTED = {
     "registers": ABOUT_A_MOMENT,
     "classes": ABOUT_A_MOMENT,
     "objects": (*ABOUT_A_MOMENT, "ok of class", "ok by value", "no 2", "no 9"),
+    "values": ("ok nothing", "ok some", "ok several", "ok without AT", "no 2", "no 9", "no 22", "no 23", "no 24"),
     "show": (*ABOUT_A_MOMENT, "no 28"),
     "born": ("ok place", "ok older", *UP_TO_A_PLACE, "no 28"),
     "wrote": ("ok place", "ok older", *UP_TO_A_PLACE, "no 9", "no 28"),
@@ -52,6 +53,8 @@ def sorts(word, form, words, left_out, last):
         yield "ok " + {"0": "nothing", "1": "itself"}.get(last[1], "more")
     elif word == b"objects" and form in ("ac", "acnv") and last[0] == "ok" and last[1] != "0":
         yield "ok of class" if form == "ac" else "ok by value"
+    elif word == b"values" and last[0] == "ok":
+        yield "ok " + {"0": "nothing", "1": "some"}.get(last[1], "several")
     elif word in (b"watch", b"writes", b"kept", b"dominators", b"dominator") and last[0] == "ok":
         yield "ok nothing" if last[1] == "0" else "ok some"
         if word == b"dominators" and form.endswith("n") and last[1] != "0":

@@ -162,6 +162,13 @@ class Replies(unittest.TestCase):
         self.assertEqual(heap.objects(), [])
         self.assertEqual(heap.writer.getvalue(), b"objects 2\ncells\nstatus\nobjects -\n")
 
+    def test_values(self):
+        heap = canned("row null 3", "row 0x10000020 1", "ok 2", "row 7 2", "row 18446744073709551615 1", "ok 2", "ok 0")
+        self.assertEqual(heap.values(None, 0, 1), [(None, 3), (0x10000020, 1)])
+        self.assertEqual(heap.values(Place(7), 2, 0), [(7, 2), (2**64 - 1, 1)])
+        self.assertEqual(heap.values(PinAt(2, 9), 1, 63), [])
+        self.assertEqual(heap.writer.getvalue(), b"values - 0 1\nvalues @7 2 0\nvalues 2 1 63\n")
+
     def test_kept(self):
         heap = canned("row 3 48 Node", "ok 3 48", "ok 0 0")
         self.assertEqual((heap.kept(Place(7)), heap.kept(1, PinAt(2, 9))), ([(3, 48, "Node")], []))
@@ -233,6 +240,8 @@ class Columns(unittest.TestCase):
         value, reference = self.asked(lambda heap: heap.writes(0, 1), "row 3 0x00000008 0 7", "row 5 0x00000010 null 0x00000008", "ok 2")
         self.assertEqual((value.place, value.id, value.old, value.new), (3, 8, 0, 7))
         self.assertEqual((reference.place, reference.id, reference.old, reference.new), (5, 16, None, 8))
+        value, reference = self.asked(lambda heap: heap.values(None, 0, 1), "row 7 2", "row 0x00000008 1", "ok 2")
+        self.assertEqual((value.value, value.objects, reference.value, reference.objects), (7, 2, 8, 1))
         first, slot = self.asked(lambda heap: heap.referrers(None, 16), "row 1 2", "row 0x00000008 3", "ok 2")
         self.assertEqual((first.mutator, first.register, slot.holder, slot.slot), (1, 2, 8, 3))
         null, named = self.asked(lambda heap: heap.registers(), "row 0 0 null", "row 0 1 0x00000008 Node", "ok 2")
@@ -526,6 +535,7 @@ class Names(unittest.TestCase):
             self.assertEqual((heap.wrote(array, 1, Place(6)), heap.born(node, Place(5))), (("place", 6), ("place", 5)))
             self.assertEqual((heap.watch(array, 1, Place(5)), heap.dropped(node, Place(5))), ([], ("reached",)))
             self.assertEqual((heap.writes(2, 1, Place(5)), heap.writes(2, 1, Place(0), Place(5))), ([(6, array, None, node)], []))
+            self.assertEqual((heap.values(None, 2, 1), heap.values("@5", 2, 1), heap.values(None, 2, 9)), ([(node, 1)], [(None, 1)], []))
             self.assertEqual((heap.retained(None, array), heap.retained(None, node)), ([(1, 16, "[null;")], [(1, 8, "2024")]))
             heap.clear(0, 1)
             self.assertEqual(heap.path(None, node), [(0, 0, array), (array, 1, node)])

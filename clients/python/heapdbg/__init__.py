@@ -33,6 +33,7 @@ from .rows import (
     SlotReference,
     SlotRow,
     SlotStep,
+    SlotValue,
     SlotWrite,
     Swept,
     When,
@@ -44,5 +45,5 @@ __all__ += ["NotDoneFacts", "RegionFact", "TooFarFacts", "LostFact"]
 __all__ += ["Moment", "Now", "Place", "Pin", "PinAt", "ObjectId", "Swept", "Collected", "Piece"]
 __all__ += ["Cells", "ClassCount", "ClassGrowth", "ClassRow", "Dominator", "Field", "HeldPin", "Holding", "LostPin", "ListedObject"]
 __all__ += ["NullRegister", "Register", "PastStep", "RegisterReference", "RegisterStep", "SlotChange", "SlotReference", "SlotRow"]
-__all__ += ["RegionRow", "SlotStep", "SlotWrite", "When"]
+__all__ += ["RegionRow", "SlotStep", "SlotValue", "SlotWrite", "When"]
 __all__ += ["Recorder", "Call", "Cost", "UnknownName"]

@@ -29,6 +29,7 @@ from .rows import (
     SlotReference,
     SlotRow,
     SlotStep,
+    SlotValue,
     SlotWrite,
     Swept,
     When,
@@ -56,6 +57,7 @@ from .rows import (
     rows_by,
     slot,
     swept,
+    valued,
     written,
 )
 
@@ -200,6 +202,11 @@ class Calls:
         if slot is not None:
             words += [str(slot), "null" if value is None else str(value)]
         return self.send(" ".join(["objects", *words]), rows_by(listed))
+
+    def values(self, moment: Moment, of_class: int, slot: int) -> list[SlotValue]:
+        """Returns a `SlotValue` for each value that a slot has in the objects of a class, given its number: those of most objects
+        first."""
+        return self.send(f"values {word_of_moment(moment)} {of_class} {slot}", rows_by(valued))
 
     def histogram(self, moment: Moment = None) -> list[ClassCount]:
         """Returns a `ClassCount` for each class that has objects, the most bytes first."""

@@ -162,6 +162,13 @@ class ListedObject(NamedTuple):
     unreached: bool
 
 
+class SlotValue(NamedTuple):
+    """What a slot holds in some objects of a class, and how many they are."""
+
+    value: Union[ObjectId, int, None]
+    objects: int
+
+
 class SlotRow(NamedTuple):
     """A slot of an object: its number, the field's name (or the index of an element as a text), its kind and what it holds."""
 
@@ -361,6 +368,11 @@ def defined(row: list) -> ClassRow:
 def listed(row: list) -> ListedObject:
     """Reads ID CLASS SLOTS, or ID CLASS SLOTS unreached."""
     return ListedObject(ObjectId(row[0], 16), row[1], int(row[2]), row[3:] == ["unreached"])
+
+
+def valued(row: list) -> SlotValue:
+    """Reads VALUE OBJECTS, of which VALUE is a number, an id or null."""
+    return SlotValue(number_or_id(row[0]), int(row[1]))
 
 
 def cells_of(row: list) -> Cells:

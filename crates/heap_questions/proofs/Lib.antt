@@ -12,6 +12,7 @@ pub mod Retained
 pub mod KeptObjects
 pub mod NamedObjects
 pub mod RankedRows
+pub mod HeldValues
 pub mod SearchOrder
 pub mod PathOrder
 pub mod ToldObjects

@@ -10,6 +10,7 @@ pub mod Wanted
 pub mod ObjectLists
 pub mod Registers
 pub mod Ranking
+pub mod SlotValues
 pub mod Changes
 pub mod SlotChanges
 pub mod SlotWrites

@@ -8,7 +8,7 @@ use Rattle.hprof_text.specs.Image.{Image}
 use Rattle.question_text.specs.declared.answers.PairQuestion.{PairQuestion}
 use Rattle.question_text.specs.declared.answers.StateQuestion.{StateQuestion}
 use Rattle.question_text.specs.declared.question.Question.{Question}
-use Rattle.question_text.specs.declared.question.Question.TheVariants.{Histogram, Garbage, Growth, Kept, Registers, Classes, Objects, Referrers, Path, Retained, Dominators, Dominator, Show, Born, Wrote, Watch, Writes, Dropped, History, Pins, Cells, Regions, Status}
+use Rattle.question_text.specs.declared.question.Question.TheVariants.{Histogram, Garbage, Growth, Kept, Registers, Classes, Objects, Values, Referrers, Path, Retained, Dominators, Dominator, Show, Born, Wrote, Watch, Writes, Dropped, History, Pins, Cells, Regions, Status}
 use Rattle.question_text.specs.Births.{IsBornText}
 use Rattle.question_text.specs.CellLists.{IsCellsText}
 use Rattle.question_text.specs.ClassLists.{IsClassesText}
@@ -32,6 +32,7 @@ use Rattle.question_text.specs.Questions.{question_of}
 use Rattle.question_text.specs.SlotChanges.{IsWatchText}
 use Rattle.question_text.specs.SlotWrites.{IsWritesText}
 use Rattle.question_text.specs.Statuses.{IsStatusText}
+use Rattle.question_text.specs.ValueLists.{IsValuesText}
 use Rattle.question_text.specs.Writes.{IsWroteText}
 
 -- the text of the answer about an image to what a question asks about one state
@@ -41,6 +42,7 @@ IsStateText StateQuestion.Garbage ids = IsGarbageText ids
 IsStateText StateQuestion.Registers ids = IsRegistersText
 IsStateText StateQuestion.Classes ids = IsClassesText
 IsStateText (StateQuestion.Objects wanted) ids = IsObjectsText wanted
+IsStateText (StateQuestion.Values k s) ids = IsValuesText k s
 IsStateText (StateQuestion.Referrers x) ids = IsReferrersText x
 IsStateText (StateQuestion.Path x) ids = IsPathText x
 IsStateText (StateQuestion.Retained x) ids = IsRetainedText x ids
@@ -70,6 +72,7 @@ IsAnswer (Registers at) m acts text = IsAnswerAbout IsRegistersText (image_at at
 IsAnswer (Classes at) m acts text = IsAnswerAbout IsClassesText (image_at at m) text
 IsAnswer (Objects at wanted) m acts text =
     IsAnswerAbout (IsObjectsText wanted) (image_at at m) text
+IsAnswer (Values at k s) m acts text = IsAnswerAbout (IsValuesText k s) (image_at at m) text
 IsAnswer (Referrers at x) m acts text = IsAnswerAbout (IsReferrersText x) (image_at at m) text
 IsAnswer (Path at x) m acts text = IsAnswerAbout (IsPathText x) (image_at at m) text
 IsAnswer (Retained at x) m acts text = IsAnswerAbout (IsRetainedText x m.ids) (image_at at m) text

@@ -14,6 +14,7 @@ pub mod Kept
 pub mod Paths
 pub mod Objects
 pub mod ObjectLists
+pub mod ValueLists
 pub mod Places
 pub mod PastAnswers
 pub mod PinLists

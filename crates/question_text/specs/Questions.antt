@@ -5,7 +5,7 @@ use Rattle.session_grammar.specs.Grammar.{at_end, next_number, number_of_word, w
 use Rattle.question_text.specs.declared.question.At.{At}
 use Rattle.question_text.specs.declared.question.At.TheVariants.{Current, Pin, Place}
 use Rattle.question_text.specs.declared.question.Question.{Question}
-use Rattle.question_text.specs.declared.question.Question.TheVariants.{Histogram, Garbage, Growth, Kept, Registers, Classes, Objects, Referrers, Path, Retained, Dominators, Dominator, Show, Born, Wrote, Watch, Writes, Dropped, History, Pins, Cells, Regions, Status}
+use Rattle.question_text.specs.declared.question.Question.TheVariants.{Histogram, Garbage, Growth, Kept, Registers, Classes, Objects, Values, Referrers, Path, Retained, Dominators, Dominator, Show, Born, Wrote, Watch, Writes, Dropped, History, Pins, Cells, Regions, Status}
 use Rattle.question_text.specs.declared.question.Span.{Span}
 use Rattle.question_text.specs.declared.question.Span.TheVariants.{AllSteps, Between}
 use Rattle.std.specs.Option.{option_or}
@@ -167,6 +167,20 @@ at_and_wanted [] = Some (Current, All)
 at_and_wanted (w ∷ ws) =
     option_and_then (λ at. option_map (λ x. (at, x)) (wanted_of ws)) (at_of_word w)
 
+-- the class and the slot that two words name
+abbrev pub class_and_slot : List ℕ → List ℕ → Option (ℕ × ℕ)
+class_and_slot w v =
+    option_and_then (λ k. option_map (λ s. (k, s)) (number_of_word v)) (number_of_word w)
+
+-- the state, and the class and the slot, that the words name; without a state it is the current one
+abbrev pub at_and_slot : List (List ℕ) → Option (At × (ℕ × ℕ))
+at_and_slot [] = None
+at_and_slot (w ∷ []) = None
+at_and_slot (w ∷ v ∷ []) = option_map (λ slot. (Current, slot)) (class_and_slot w v)
+at_and_slot (w ∷ v ∷ u ∷ ws) =
+    option_and_then (λ at. option_and_then (λ slot. at_end (at, slot) ws) (class_and_slot v u))
+    (at_of_word w)
+
 -- ---- the table of questions
 
 -- a keyword, and what the words after it ask
@@ -197,6 +211,7 @@ question_rules =
     ∷ (codes "growth", λ ws. option_map (λ a. Growth a.0 a.1) (at_and_optional ws))
     ∷ (codes "classes", λ ws. option_map (λ at. Classes at) (optional_at ws))
     ∷ (codes "objects", λ ws. option_map (λ a. Objects a.0 a.1) (at_and_wanted ws))
+    ∷ (codes "values", λ ws. option_map (λ a. Values a.0 a.1.0 a.1.1) (at_and_slot ws))
     ∷ (codes "kept", λ ws. option_map (λ a. Kept a.0 a.1) (at_and_optional ws))
     ∷ (codes "referrers", λ ws. option_map (λ a. Referrers a.0 a.1) (optional_at_and_id ws))
     ∷ (codes "path", λ ws. option_map (λ a. Path a.0 a.1) (optional_at_and_id ws))

@@ -28,6 +28,7 @@ use crate::show::{show_answer, shows_mark};
 use crate::slot_changes::watch_answer;
 use crate::slot_writes::writes_answer;
 use crate::status::status_answer;
+use crate::value_list::values_answer;
 use crate::write::wrote_answer;
 use heap_class::Refusal;
 use heap_pins::PinView;
@@ -49,6 +50,8 @@ enum StateQuestion {
     Classes,
     // The objects that are wanted.
     Objects(Wanted),
+    // The words that a slot holds in the objects of a class.
+    Values { class: u64, slot: u64 },
     // What names the object with this id.
     Referrers(u64),
     // Why the object with this id is alive.
@@ -104,6 +107,7 @@ fn view_lines(
         StateQuestion::Registers => or_refused(registers_answer(alloc, view)),
         StateQuestion::Classes => or_refused(classes_answer(alloc, view)),
         StateQuestion::Objects(wanted) => objects_answer(alloc, view, wanted),
+        StateQuestion::Values { class, slot } => values_answer(alloc, view, class, slot),
         StateQuestion::Referrers(id) => referrers_answer(alloc, view, id),
         StateQuestion::Path(id) => path_answer(alloc, view, id),
         StateQuestion::Retained(id) => retained_answer(alloc, view, id),
@@ -217,6 +221,9 @@ pub fn answer(alloc: Global, machine: &Machine, acts: Option<u64>, question: Que
         Question::Classes(at) => state_answer(alloc, machine, at, StateQuestion::Classes),
         Question::Objects { at, wanted } => {
             state_answer(alloc, machine, at, StateQuestion::Objects(wanted))
+        }
+        Question::Values { at, class, slot } => {
+            state_answer(alloc, machine, at, StateQuestion::Values { class, slot })
         }
         Question::Referrers { at, id } => {
             state_answer(alloc, machine, at, StateQuestion::Referrers(id))

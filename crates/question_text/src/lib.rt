@@ -51,6 +51,7 @@ mod slot_writes;
 mod state_dump;
 mod status;
 mod steps;
+mod value_list;
 mod watch;
 mod write;
 

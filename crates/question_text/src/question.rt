@@ -1,7 +1,7 @@
 //! The grammar of questions.
 ghost use Rattle.std.specs.Prelude.{◌≡◌, drop};
 ghost use Rattle.session_grammar.specs.Grammar.{words_of_line};
-ghost use Rattle.question_text.specs.Questions.{at_and_optional, at_and_wanted, at_of_word, at_or_number, id_and_number, optional_at, optional_at_and_id, optional_at_and_number, past_rules, place_and_id, place_and_number, place_and_slot, place_of, place_of_word, question_by, question_of, question_rules, slot_and_place, slot_and_span, span_of, value_of_word, wanted_of};
+ghost use Rattle.question_text.specs.Questions.{at_and_optional, at_and_slot, at_and_wanted, at_of_word, at_or_number, class_and_slot, id_and_number, optional_at, optional_at_and_id, optional_at_and_number, past_rules, place_and_id, place_and_number, place_and_slot, place_of, place_of_word, question_by, question_of, question_rules, slot_and_place, slot_and_span, span_of, value_of_word, wanted_of};
 
 use crate::id::id_of;
 use heap_questions::Wanted;
@@ -46,6 +46,8 @@ pub enum Question {
     Classes(At),
     /// The objects that are wanted.
     Objects { at: At, wanted: Wanted },
+    /// The words that a slot holds in the objects of a class.
+    Values { at: At, class: u64, slot: u64 },
     /// What names an object.
     Referrers { at: At, id: u64 },
     /// Why an object is alive: a shortest path from a register.
@@ -294,6 +296,25 @@ fn at_and_wanted(mut words: Words) -> Option<(At, Wanted)>
     Some((at, wanted_of(words)?))
 }
 
+// Returns the class and the slot that two words name.
+fn class_and_slot(class: &[u8], slot: &[u8]) -> Option<(u64, u64)>
+    ensures { result ≡ class_and_slot class.now slot.now }
+{
+    Some((number_of(class)?, number_of(slot)?))
+}
+
+// Returns the state, and the class and the slot, that the words name. If they name no state, it is the current one.
+fn at_and_slot(mut words: Words) -> Option<(At, (u64, u64))>
+    ensures { result ≡ at_and_slot (words_of_line words.entry) }
+{
+    let first = words.next_word()?;
+    let second = words.next_word()?;
+    let Some(third) = words.next_word() else {
+        return Some((At::Current, class_and_slot(first, second)?));
+    };
+    at_end((at_of(first)?, class_and_slot(second, third)?), words)
+}
+
 // Reads the words behind a keyword of a question about what retained steps did, about pins, or about the current state.
 #[tactic(auto, unfolding(crate::specs::Questions::past_rules))]
 fn past_question(keyword: &[u8], words: Words) -> Option<Question>
@@ -350,6 +371,10 @@ fn later_question(keyword: &[u8], words: Words) -> Option<Question>
     if is_word(keyword, b"objects") {
         let (at, wanted) = at_and_wanted(words)?;
         return Some(Question::Objects { at, wanted });
+    }
+    if is_word(keyword, b"values") {
+        let (at, (class, slot)) = at_and_slot(words)?;
+        return Some(Question::Values { at, class, slot });
     }
     if is_word(keyword, b"kept") {
         let (older, newer) = at_and_optional(words)?;

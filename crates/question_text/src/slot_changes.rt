@@ -4,7 +4,8 @@ ghost use Rattle.heap_world.specs.Regions.{object_at};
 ghost use Rattle.heap_questions.specs.PastTrails.{seen_slot};
 ghost use Rattle.question_text.specs.Appends.{Appends, ReturnsText};
 ghost use Rattle.question_text.specs.Moments.{told_text};
-ghost use Rattle.question_text.specs.PastAnswers.{IsAnswerSeen};
+ghost use Rattle.question_text.specs.PastAnswers.{IsAnswerAgo, IsAnswerSeen};
+ghost use Rattle.question_text.specs.Histories.{steps_ago};
 ghost use Rattle.question_text.specs.Places.{IsTextOrNoMemory};
 ghost use Rattle.question_text.specs.SlotChanges.{IsChangesText, IsSlotChangesText, IsWatchText, and_word, change_line};
 
@@ -105,8 +106,10 @@ fn past_changes(
     requires { IsSome (object_at past.now.current.regions at) }
     ensures { IsTextOrNoMemory (IsSlotChangesText past.now slot at) (told_text result) }
 {
-    let seen = past.slot(alloc, at, slot)?;
-    changes_of_slot(alloc, past, at, slot, seen)
+    match past.slot(alloc, at, slot) {
+        Ok(seen) => changes_of_slot(alloc, past, at, slot, seen),
+        Err(refusal) => Err(Unanswered::Refused(refusal)),
+    }
 }
 
 // Returns the answer of `watch` about the steps of a trail. Fails with NoObject, BadSlot and NoMemory.
@@ -124,6 +127,23 @@ fn watch_past(
     }
 }
 
+// Returns the answer of `watch` about the steps up to a place. Fails with NotRetained, NoObject, BadSlot and NoMemory.
+fn watch_ago(
+    alloc: Global,
+    machine: &Machine,
+    place: u64,
+    id: u64,
+    slot: u64,
+) -> Result<Vec<u8>, Unanswered>
+    ensures { IsAnswerAgo (λ u. IsTextOrNoMemory (IsWatchText id slot u)) machine.now.trail
+        (steps_ago (Some place) machine.now.trail) (told_text result) }
+{
+    match steps_ago(machine, Some(place)) {
+        Ok(ago) => watch_past(alloc, &PastTrail::new(machine, ago), id, slot),
+        Err(refusal) => Err(Unanswered::Refused(refusal)),
+    }
+}
+
 // Returns the answer of `watch`, about the steps up to a place. Fails with NotRetained if its state isn't retained, with NoObject if
 // the id names no object there, with BadSlot if it lacks the slot, and with NoMemory if an allocation fails. Reads each record since
 // the object was made at most three times.
@@ -136,9 +156,8 @@ pub(crate) fn watch_answer(
 ) -> Result<Vec<u8>, Unanswered>
     ensures { IsAnswerSeen (IsWatchText id slot) to machine.now.trail (told_text result) }
 {
-    if to.is_none() {
-        return watch_now(alloc, machine, id, slot);
+    match to {
+        None => watch_now(alloc, machine, id, slot),
+        Some(place) => watch_ago(alloc, machine, place, id, slot),
     }
-    let ago = steps_ago(machine, to)?;
-    watch_past(alloc, &PastTrail::new(machine, ago), id, slot)
 }

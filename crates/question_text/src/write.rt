@@ -4,7 +4,8 @@ ghost use Rattle.heap_world.specs.Regions.{object_at};
 ghost use Rattle.heap_questions.specs.Changes.{slot_word};
 ghost use Rattle.heap_questions.specs.PastTrails.{seen_slot};
 ghost use Rattle.session_text.specs.Replies.{line_answer_text};
-ghost use Rattle.question_text.specs.PastAnswers.{IsAnswerSeen};
+ghost use Rattle.question_text.specs.PastAnswers.{IsAnswerAgo, IsAnswerSeen};
+ghost use Rattle.question_text.specs.Histories.{steps_ago};
 ghost use Rattle.question_text.specs.Places.{IsTextOrNoMemory};
 ghost use Rattle.question_text.specs.Writes.{IsSlotText, IsWriteText, IsWroteText};
 
@@ -72,6 +73,18 @@ fn wrote_line(alloc: Global, past: &PastTrail<'_>, id: u64, slot: u64) -> LineAn
     }
 }
 
+// Returns the answer of `wrote` about the steps up to a place. Refused with NotRetained if its state isn't retained, and with NoMemory
+// if an allocation fails.
+fn wrote_past(alloc: Global, machine: &Machine, place: u64, id: u64, slot: u64) -> LineAnswer
+    ensures { IsAnswerAgo (λ u. IsTextOrNoMemory (IsWroteText id slot u)) machine.now.trail
+        (steps_ago (Some place) machine.now.trail) (line_answer_text result) }
+{
+    match steps_ago(machine, Some(place)) {
+        Ok(ago) => wrote_line(alloc, &PastTrail::new(machine, ago), id, slot),
+        Err(refusal) => reason_line(Unanswered::Refused(refusal)),
+    }
+}
+
 // Returns the answer of `wrote`, about the steps up to a place. Refused with NotRetained if its state isn't retained, and with
 // NoMemory if an allocation fails; without a place it takes no memory. Reads each record since the write at most three times.
 pub(crate) fn wrote_answer(
@@ -83,11 +96,8 @@ pub(crate) fn wrote_answer(
 ) -> LineAnswer
     ensures { IsAnswerSeen (IsWroteText id slot) to machine.now.trail (line_answer_text result) }
 {
-    if to.is_none() {
-        return wrote_now(machine, id, slot);
-    }
-    match steps_ago(machine, to) {
-        Ok(ago) => wrote_line(alloc, &PastTrail::new(machine, ago), id, slot),
-        Err(refusal) => reason_line(Unanswered::Refused(refusal)),
+    match to {
+        None => wrote_now(machine, id, slot),
+        Some(place) => wrote_past(alloc, machine, place, id, slot),
     }
 }

@@ -1,5 +1,5 @@
 -- A walk over a dump.
-use Rattle.std.specs.Prelude.{◌≡◌, ℕ, ◌+◌, ◌==◌, ◌||◌, List, [], ◌∷◌, ◌++◌, Option, option_map, if◌then◌else◌}
+use Rattle.std.specs.Prelude.{◌≡◌, ℕ, ◌==◌, ◌||◌, List, [], ◌∷◌, ◌++◌, Option, option_map, if◌then◌else◌}
 use Rattle.heap_class.specs.declared.IdSize.{IdSize}
 use Rattle.hprof_reader.specs.Records.{Told, told, record_text, FitsRecord}
 use Rattle.hprof_reader.specs.SubRecords.{Sub, sub_record, sub_text, FitsSub}

@@ -1,6 +1,6 @@
 -- Words with single spaces between them are read as these words.
-use Rattle.std.proofs.Common.{◌≡◌, ℕ, zero, suc, ◌+◌, ◌-◌, ◌<◌, ◌≤◌, Bool, true, false, cond, ◌&&◌, List, [], ◌∷◌, ◌++◌, length, take, get_or, refl, ap, ◌∙◌, lt-ltb, leb-true, le-leb, arith}
-use Rattle.std.specs.Prelude.{All, flat_map, filter, nat_le, nat_lt, ◌==◌}
+use Rattle.std.proofs.Common.{◌≡◌, ℕ, zero, suc, ◌-◌, ◌<◌, ◌≤◌, Bool, true, false, cond, ◌&&◌, List, [], ◌∷◌, ◌++◌, length, take, get_or, refl, ap, ◌∙◌, lt-ltb, leb-true, le-leb, arith}
+use Rattle.std.specs.Prelude.{All, filter, nat_le, nat_lt, ◌==◌}
 use Rattle.std.specs.List.{slice_split, list_all, AllByRecursion}
 use Rattle.std.proofs.lemmas.List.{append-nil, length-append}
 use Rattle.std.proofs.lemmas.Bool.{and_parts, and_from, ne_eqb}

@@ -101,12 +101,7 @@ fn newest_reached(
 /// the trail took the last path from it. Fails with NoMemory if an allocation fails. Searches the heap twice if a guess by the
 /// references of the current state is right, and if it isn't, once more for each halving of the retained states: 17 times for 65,536
 /// steps.
-pub fn loss_of(
-    alloc: Global,
-    past: &PastTrail<'_>,
-    at: ObjRef,
-    id: u64,
-) -> Result<Loss, Refusal>
+pub fn loss_of(alloc: Global, past: &PastTrail<'_>, at: ObjRef, id: u64) -> Result<Loss, Refusal>
     requires named { ref_of past.now.current.regions id ≡ Some at }
     requires there { IsSome (object_at past.now.current.regions at) }
     ensures loss { IfOk result (λ loss. IsLossOf past.now at loss) }

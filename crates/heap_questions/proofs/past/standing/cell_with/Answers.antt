@@ -14,8 +14,17 @@ returns-then-region-count-clause-finds c at r there =
     let t = c.args.machine.now.trail in
     let w = state_ago c.args.ago t in
     let within = object_within w.regions at there in
-    absurd (omega (arith, within, region_named w.regions c.args.id at r, regions_ago c.args.machine.now.keep t c.args.ago c.place-place.ensures.trail c.requires,
-    c.if-region-count.true, c.count.ensures.value, ap (λ (s : RegionPool). length s.regions) c.regions.ensures, ap (λ (v : HeapState). length v.regions) c.world.ensures.value, c.saturating_sub.ensures))
+    absurd (omega (
+      arith,
+      within,
+      region_named w.regions c.args.id at r,
+      regions_ago c.args.machine.now.keep t c.args.ago c.place-place.ensures.trail c.requires,
+      c.if-region-count.true,
+      c.count.ensures.value,
+      ap (λ (s : RegionPool). length s.regions) c.regions.ensures,
+      ap (λ (v : HeapState). length v.regions) c.world.ensures.value,
+      c.saturating_sub.ensures,
+    ))
 
 pub returns-then-region-count-clause-right : goal.returns-then-region-count-clause-right
 returns-then-region-count-clause-right c at e there = absurd (none-some at e)

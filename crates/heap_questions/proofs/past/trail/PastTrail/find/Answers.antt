@@ -22,8 +22,7 @@ returns-then-has_object c =
     let ago = c.self.inside.ago in
     let at = c.in_ok-at.at in
     let e : c.args.self.now.current ≡ state_ago ago t = sym (ap (λ (u : Trail). u.current) c.self.view_is) ∙ current_past t ago in
-    let there : IsSome (object_at c.args.self.now.current.regions at) = sym c.has_object.ensures ∙ c.if-has_object.true in
-    (
+    let there : IsSome (object_at c.args.self.now.current.regions at) = sym c.has_object.ensures ∙ c.if-has_object.true in (
       subst (λ (w : HeapState). ref_of w.regions c.args.id ≡ Some at) (sym e) (c.in_ok-at.ensures.right at refl (subst (λ (w : HeapState). IsSome (object_at w.regions at)) e there)),
       there,
     )

@@ -11,8 +11,7 @@ pub slot_of-requires : goal.slot_of-requires
 slot_of-requires c =
     let t = c.self.inside.machine.now.trail in
     let ago = c.self.inside.ago in
-    let e : c.args.self.now.current ≡ state_ago ago t = sym (ap (λ (u : Trail). u.current) c.self.view_is) ∙ current_past t ago in
-    (
+    let e : c.args.self.now.current ≡ state_ago ago t = sym (ap (λ (u : Trail). u.current) c.self.view_is) ∙ current_past t ago in (
       state_ago ago t,
       shown_beside t ago c.world.result.now c.in_ok-pin.pin c.world.ensures.value c.in_ok-pin.ensures.shown,
       subst (λ (w : HeapState). IsSome (object_at w.regions c.args.at)) e c.requires,

@@ -1,122 +1,73 @@
-//! What a first walk over a dump finds: its names, classes, objects and roots.
-use crate::cuts::{Cuts, NO_CUTS};
-use crate::walk::{Item, Walk, item_at};
-use heap_class::IdSize;
-use hprof_reader::{ClassDump, Fault, Record, SubRecord};
-use indexmap::{IndexMap, IndexSet};
+//! The classes of a session.
+ghost use Rattle.std.specs.Prelude.{◌≡◌, ◌≤◌, ◌+◌, IfOk};
+ghost use Rattle.heap_class.specs.Limits.{AreClassLimits};
+ghost use Rattle.hprof_plan.specs.Plans.{IsPlan, PlansClasses};
+
+use crate::cuts::ClassCuts;
+use crate::find::Found;
+use crate::statics::Statics;
+use heap_class::{ClassLimits, Classes, Kind};
+use indexmap::IndexMap;
+use session_lines::Lines;
 use std::alloc::{AllocError, Global};
 
-/// What a dump has.
+/// The tags of roots, and the names of the classes of the arrays that keep them.
+pub const ROOT_KINDS: [(u8, &[u8]); 9] = [
+    (0x01, b"JNI_global"),
+    (0x02, b"JNI_local"),
+    (0x03, b"Java_frame"),
+    (0x04, b"native_stack"),
+    (0x05, b"sticky_class"),
+    (0x06, b"thread_block"),
+    (0x07, b"monitor_used"),
+    (0x08, b"thread_object"),
+    (0xff, b"unknown_root"),
+];
+
+/// The classes of a session, and the lines that define them. The first are classes of the dump. Then there is a class for the
+/// static fields of each class that has an object for these, then the array class `roots`, and an array class for each kind of
+/// roots.
 #[derive(Drop)]
-pub struct Found<'a> {
-    /// The size of identifiers.
-    pub ids: IdSize,
-    /// The bytes of each name, by its id.
-    pub names: IndexMap<u64, &'a [u8]>,
-    /// The id of the name of each class, by the class's id.
-    pub loads: IndexMap<u64, u64>,
-    /// The classes, by their ids.
-    pub classes: IndexMap<u64, ClassDump<'a>>,
-    /// The ids of the classes of arrays of references.
-    pub array_classes: IndexSet<u64>,
-    /// The ids of objects, in the order of the dump, each once; and then the ids of classes that have an object of their own.
-    pub objects: IndexSet<u64>,
-    /// The roots: the tag of each, and the id.
-    pub roots: Vec<(u8, u64)>,
+pub struct Plan<'a> {
+    /// The classes.
+    pub classes: Classes,
+    /// The lines that define them.
+    pub lines: Lines,
+    /// The classes of the dump that have the first numbers, by their ids: for each the kinds of its own fields, in the order of
+    /// its record, up to the first kind that doesn't exist. The first of these fields are in the session.
+    pub kinds: IndexMap<u64, Vec<Kind>>,
+    /// The static fields of the classes that have an object for them.
+    pub statics: Vec<Statics<'a>>,
+    /// The number of the class `roots`.
+    pub roots: u64,
     /// What is left out.
-    pub cuts: Cuts,
-    /// The first fault, with the number of bytes that were left there.
-    pub fault: Option<(Fault, usize)>,
+    pub cuts: ClassCuts,
 }
 
-// Reads an identifier at the front of bytes.
-pub(crate) fn id_in(ids: IdSize, bytes: &[u8]) -> u64 {
-    let size = ids.bytes() as usize;
-    if bytes.len() < size {
-        return 0;
-    }
-    let mut id = 0u64;
-    for byte in &bytes[..size] {
-        id = id.wrapping_mul(256) | *byte as u64;
-    }
-    id
+/// Plans the classes of the session of a dump, for a heap with these limits, which are 10 classes or more. Fails if an allocation
+/// fails.
+pub fn plan_classes<'a>(
+    alloc: Global,
+    limits: ClassLimits,
+    found: &Found<'a>,
+) -> Result<Plan<'a>, AllocError>
+    requires limits { AreClassLimits limits }
+    requires room { 10 ≤ limits.classes }
+    requires names { 64 ≤ limits.name_bytes }
+    ensures { IfOk result (PlansClasses limits found.now) }
+{
+    // to be written
 }
 
-impl<'a> Found<'a> {
-    fn new(alloc: Global, ids: IdSize) -> Found<'a> {
-        Found {
-            ids,
-            names: IndexMap::new(alloc),
-            loads: IndexMap::new(alloc),
-            classes: IndexMap::new(alloc),
-            array_classes: IndexSet::new(alloc),
-            objects: IndexSet::new(alloc),
-            roots: Vec::new(alloc),
-            cuts: NO_CUTS,
-            fault: None,
+impl<'a> Plan<'a> {
+    /// Returns the number of the class of the dump with this id, if it has one.
+    pub fn number(&self, id: u64) -> Option<u64>
+        ensures number { result ≡ index_of nat_eq self.now.kinds id }
+        ensures within { IfSome result (λ k. k < index_map_len self.now.kinds) }
+    {
+        match self.kinds.get_index_of(&id) {
+            Some(k) => Some(k as u64),
+            None => None,
         }
     }
-
-    fn note_record(&mut self, record: Record<'a>) -> Result<(), AllocError> {
-        let size = self.ids.bytes() as usize;
-        let body = record.body;
-        if record.tag == 0x01 && body.len() >= size {
-            self.names.insert(id_in(self.ids, body), &body[size..])?;
-        }
-        if record.tag == 0x02 && body.len() >= 8 + 2 * size {
-            let class = id_in(self.ids, &body[4..]);
-            self.loads
-                .insert(class, id_in(self.ids, &body[8 + size..]))?;
-        }
-        Ok(())
-    }
-
-    fn note_object(&mut self, id: u64) -> Result<(), AllocError> {
-        if !self.objects.insert(id)? {
-            self.cuts.objects += 1;
-        }
-        Ok(())
-    }
-
-    fn note_sub(&mut self, sub: SubRecord<'a>) -> Result<(), AllocError> {
-        match sub {
-            SubRecord::Root(root) => {
-                self.roots.push((root.tag, root.id))?;
-                Ok(())
-            }
-            SubRecord::Class(class) => {
-                self.classes.insert(class.head.id, class)?;
-                Ok(())
-            }
-            SubRecord::Instance(instance) => self.note_object(instance.id),
-            SubRecord::ObjectArray(array) => {
-                self.array_classes.insert(array.class)?;
-                self.note_object(array.id)
-            }
-            SubRecord::PrimArray(array) => self.note_object(array.id),
-        }
-    }
-}
-
-/// Walks over what is left of a dump, to its end or the first fault. Fails if an allocation fails.
-pub fn find<'a>(alloc: Global, walk: Walk<'a>) -> Result<Found<'a>, AllocError> {
-    let mut found = Found::new(alloc, walk.ids);
-    let mut at = walk;
-    for _ in 0..u64::MAX {
-        match item_at(at) {
-            Ok(Some((item, after))) => {
-                match item {
-                    Item::Record(record) => found.note_record(record)?,
-                    Item::Sub(sub) => found.note_sub(sub)?,
-                }
-                at = after;
-            }
-            Ok(None) => break,
-            Err(fault) => {
-                found.fault = Some((fault, at.segment.len() + at.rest.len()));
-                break;
-            }
-        }
-    }
-    Ok(found)
 }

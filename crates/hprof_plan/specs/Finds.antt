@@ -1,72 +1,57 @@
 -- What a walk over a dump finds.
-use Rattle.std.specs.Prelude.{◌≡◌, ℕ, ◌+◌, ◌==◌, nat_eq, List, [], ◌∷◌, drop, flat_map, length, map, Result, Ok, Err, if◌then◌else◌}
+use Rattle.std.specs.Prelude.{◌≡◌, ℕ, ◌+◌, ◌≤◌, ◌++◌, nat_eq, List, [], length, None}
+use Rattle.std.specs.List.{filter_map}
+use Rattle.std.specs.Option.{option_to_list}
 use Rattle.heap_class.specs.declared.IdSize.{IdSize}
-use Rattle.heap_class.specs.Kinds.{id_bytes}
 use Rattle.indexmap.specs.IndexMap.{insert_all as insert_entries}
 use Rattle.indexmap.specs.IndexSet.{insert_all as insert_keys}
-use Rattle.hprof_reader.specs.declared.fault.Fault.{Fault}
-use Rattle.hprof_reader.specs.Records.{Told}
-use Rattle.hprof_reader.specs.SubParts.{id_at}
-use Rattle.hprof_reader.specs.SubRecords.{Sub, ClassTold, class_told, root, class, instance, array, prim}
 use Rattle.hprof_session.specs.Surveys.{bytes_left, EndsAt}
-use Rattle.hprof_session.specs.Walks.{Left, ItemTold, record_told, sub_told, AreNext}
+use Rattle.hprof_session.specs.Walks.{Left, ItemTold, AreNext}
+use Rattle.hprof_plan.specs.Items.{array_class_of, class_entry, load_of, name_of, object_of, root_of}
+use Rattle.hprof_plan.specs.Tables.{classes_told, names_told}
 use Rattle.hprof_plan.specs.declared.find.Found.{Found}
-use Rattle.hprof_plan.specs.declared.find.RootFound.{RootFound}
 
--- an id and the bytes after it, if there are so many
-abbrev pub with_id : {X : Type 0} → (ℕ → List ℕ → List X) → Result (ℕ × List ℕ) Fault → List X
-with_id make (Ok x) = make x.0 x.1
-with_id make (Err e) = []
+-- the tables are those of these items. Where entries have one id, the last is found, at the place of the first
+pub record HasTables (size : IdSize) (list : List ItemTold) (f : Found) : Type 0 where
+  pub ids : f.ids ≡ size
+  pub names : names_told f.names.entries ≡ insert_entries nat_eq [] (filter_map (name_of size) list)
+  pub loads : f.loads.entries ≡ insert_entries nat_eq [] (filter_map (load_of size) list)
+  pub classes : classes_told f.classes.entries ≡ insert_entries nat_eq [] (filter_map class_entry list)
+  pub array_classes : f.array_classes.keys ≡ insert_keys nat_eq [] (filter_map array_class_of list)
+  pub objects : f.objects.keys ≡ insert_keys nat_eq [] (filter_map object_of list)
+  pub again : length f.objects.keys + f.again ≡ length (filter_map object_of list)
+  pub roots : f.roots.items ≡ filter_map root_of list
 
--- the name in a record, by its id: in a STRING IN UTF8 01, which has the id and the bytes
-abbrev pub names_in : IdSize → ItemTold → List (ℕ × List ℕ)
-names_in ids (record_told r) = if r.tag == 0x01 then with_id (λ x rest. (x, rest) ∷ []) (id_at ids r.body) else []
-names_in ids (sub_told s) = []
-
--- the id of the name of a class, by the class's id: in a LOAD CLASS 02, which has a number of 4 bytes, the id of the class, another
--- number of 4 bytes, and the id of the name
-abbrev pub loads_in : IdSize → ItemTold → List (ℕ × ℕ)
-loads_in ids (record_told r) =
-    if r.tag == 0x02
-    then with_id (λ x rest. with_id (λ name _. (x, name) ∷ []) (id_at ids (drop 4 rest))) (id_at ids (drop 4 r.body))
-    else []
-loads_in ids (sub_told s) = []
-
--- a class, by its id
-abbrev pub classes_in : ItemTold → List (ℕ × ClassTold)
-classes_in (sub_told (class c)) = (c.head.id, c) ∷ []
-classes_in _ = []
-
--- the class of an array of references
-abbrev pub array_classes_in : ItemTold → List ℕ
-array_classes_in (sub_told (array x trace count k elements)) = k ∷ []
-array_classes_in _ = []
-
--- the id of an object
-abbrev pub objects_in : ItemTold → List ℕ
-objects_in (sub_told (instance x trace k values)) = x ∷ []
-objects_in (sub_told (array x trace count k elements)) = x ∷ []
-objects_in (sub_told (prim x trace count kind elements)) = x ∷ []
-objects_in _ = []
-
--- a root
-abbrev pub roots_in : ItemTold → List RootFound
-roots_in (sub_told (root tag x more)) = record { tag = tag; id = x } ∷ []
-roots_in _ = []
-
--- the walk comes to these items, and then to its end or the first fault. Of entries with the same id the last is found, at the
--- place of the first
+-- the walk comes to these items, one after another, and then to its end or the first fault; the tables are theirs
 pub record Finds (w : Left) (f : Found) : Type 0 where
   pub list : List ItemTold
   pub end : Left
   pub walked : AreNext w list end
   pub ended : EndsAt end f.fault
   pub left : f.left ≡ bytes_left end
-  pub ids : f.ids ≡ w.ids
-  pub names : map (λ e. (e.0, e.1.now)) f.names.entries ≡ insert_entries nat_eq [] (flat_map (names_in w.ids) list)
-  pub loads : f.loads.entries ≡ insert_entries nat_eq [] (flat_map (loads_in w.ids) list)
-  pub classes : map (λ e. (e.0, class_told e.1)) f.classes.entries ≡ insert_entries nat_eq [] (flat_map classes_in list)
-  pub array_classes : f.array_classes.keys ≡ insert_keys nat_eq [] (flat_map array_classes_in list)
-  pub objects : f.objects.keys ≡ insert_keys nat_eq [] (flat_map objects_in list)
-  pub again : length f.objects.keys + f.again ≡ length (flat_map objects_in list)
-  pub roots : f.roots.items ≡ flat_map roots_in list
+  pub tables : HasTables w.ids list f
+
+-- nothing is found
+pub record IsEmptyFound (ids : IdSize) (f : Found) : Type 0 where
+  pub tables : HasTables ids [] f
+  pub again : f.again ≡ 0
+  pub fault : f.fault ≡ None
+  pub left : f.left ≡ 0
+
+-- the tables go on with what this item tells
+pub record Notes (i : ItemTold) (old new : Found) : Type 0 where
+  pub ids : new.ids ≡ old.ids
+  pub names : names_told new.names.entries
+      ≡ insert_entries nat_eq (names_told old.names.entries) (option_to_list (name_of old.ids i))
+  pub loads : new.loads.entries ≡ insert_entries nat_eq old.loads.entries (option_to_list (load_of old.ids i))
+  pub classes : classes_told new.classes.entries
+      ≡ insert_entries nat_eq (classes_told old.classes.entries) (option_to_list (class_entry i))
+  pub array_classes : new.array_classes.keys
+      ≡ insert_keys nat_eq old.array_classes.keys (option_to_list (array_class_of i))
+  pub objects : new.objects.keys ≡ insert_keys nat_eq old.objects.keys (option_to_list (object_of i))
+  pub again : length new.objects.keys + new.again
+      ≡ length old.objects.keys + old.again + length (option_to_list (object_of i))
+  pub few : new.again ≤ old.again + 1
+  pub roots : new.roots.items ≡ old.roots.items ++ option_to_list (root_of i)
+  pub fault : new.fault ≡ old.fault
+  pub left : new.left ≡ old.left

@@ -1,12 +1,15 @@
 //! The classes of a session that makes the heap of a dump, and what a first walk over the dump finds.
 #![tactic(auto)]
 
-mod cuts;
+mod class_fields;
+mod define;
+mod fields;
 mod find;
+mod items;
+mod names;
 mod plan;
-mod statics;
 
-pub use cuts::ClassCuts;
-pub use find::{Found, RootFound, find};
-pub use plan::{Plan, ROOT_KINDS, plan_classes};
-pub use statics::Statics;
+pub use fields::{own_fields, static_fields};
+pub use find::{Found, find};
+pub use items::RootFound;
+pub use plan::{Plan, Statics, plan_classes};

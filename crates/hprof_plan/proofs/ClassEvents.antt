@@ -60,7 +60,7 @@ byte_signed any_sign b h = elim (or_cases (any_sign && (is_ascii_graphic b && no
   | inl p ↦ of_graphic b (and_parts any_sign _ p).1
   | inr p ↦ elim (or_cases (is_ascii_alphanumeric b) (list_any (λ c. b == c) (codes "_$/[;.")) p) [
     | inl q ↦ of_alphanumeric b q
-    | inr q ↦ of_listed b (codes "_$/[;.") ((refl, refl), (refl, refl), (refl, refl), (refl, refl), (refl, refl), (refl, refl), tt) q
+    | inr q ↦ of_listed b (codes "_$/[;.") ((refl, refl), ((refl, refl), ((refl, refl), ((refl, refl), ((refl, refl), ((refl, refl), tt)))))) q
   ]
 ]
 

@@ -17,11 +17,12 @@ use Rattle.hprof_plan.specs.Tables.{names_told}
 
 lookup_told : (test : ℕ → Bool) (es : List (ℕ × Bor (List ℕ))) → lookup test (names_told es) ≡ option_map (λ (b : Bor (List ℕ)). b.now) (lookup test es)
 lookup_told test [] = refl
-lookup_told test (e ∷ es) = by (test e.0)
+lookup_told test (e ∷ es) = by (test e.0) (lookup_told test es)
   where
-    by : (b : Bool) → cond b (Some e.1.now) (lookup test (names_told es)) ≡ option_map (λ (b : Bor (List ℕ)). b.now) (cond b (Some e.1) (lookup test es))
-    by true = refl
-    by false = lookup_told test es
+    by : (b : Bool) → lookup test (names_told es) ≡ option_map (λ (b : Bor (List ℕ)). b.now) (lookup test es)
+        → cond b (Some e.1.now) (lookup test (names_told es)) ≡ option_map (λ (b : Bor (List ℕ)). b.now) (cond b (Some e.1) (lookup test es))
+    by true rest = refl
+    by false rest = rest
 
 pub name_there : (es : List (ℕ × Bor (List ℕ))) (id : ℕ) (v : Bor (List ℕ)) → Some v ≡ lookup (nat_eq id) es → v.now ≡ name_at (names_told es) id
 name_there es id v h =

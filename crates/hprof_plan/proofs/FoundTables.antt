@@ -20,7 +20,7 @@ use Rattle.hprof_session.proofs.Walked.{nothing_left, is_at_end}
 use Rattle.hprof_plan.specs.Items.{array_class_of, class_of, class_entry, load_of, name_of, object_of, root_of}
 use Rattle.hprof_plan.specs.Tables.{classes_told, names_told}
 use Rattle.hprof_plan.specs.Finds.{HasTables, Finds, IsEmptyFound, Notes}
-use Rattle.hprof_plan.specs.declared.find.Found.{Found}
+use Rattle.hprof_plan.specs.declared.dump.Found.{Found}
 
 -- ---- one entry more
 
@@ -30,11 +30,12 @@ module _ {X Y : Type 0} (h : X → Y) where
 
   seen_insert : (es : List (ℕ × X)) (k : ℕ) (v : X) → seen (insert_entry nat_eq es k v) ≡ insert_entry nat_eq (seen es) k (h v)
   seen_insert [] k v = refl
-  seen_insert (e ∷ es) k v = by (nat_eq k e.0)
+  seen_insert (e ∷ es) k v = by (nat_eq k e.0) (seen_insert es k v)
     where
-      by : (b : Bool) → seen (cond b ((e.0, v) ∷ es) (e ∷ insert_entry nat_eq es k v)) ≡ cond b ((e.0, h v) ∷ seen es) ((e.0, h e.1) ∷ insert_entry nat_eq (seen es) k (h v))
-      by true = refl
-      by false = ap (λ (t : List (ℕ × Y)). (e.0, h e.1) ∷ t) (seen_insert es k v)
+      by : (b : Bool) → seen (insert_entry nat_eq es k v) ≡ insert_entry nat_eq (seen es) k (h v)
+          → seen (cond b ((e.0, v) ∷ es) (e ∷ insert_entry nat_eq es k v)) ≡ cond b ((e.0, h v) ∷ seen es) ((e.0, h e.1) ∷ insert_entry nat_eq (seen es) k (h v))
+      by true rest = refl
+      by false rest = ap (λ (t : List (ℕ × Y)). (e.0, h e.1) ∷ t) rest
 
 pub name_noted : (old new : List (ℕ × Bor (List ℕ))) (k : ℕ) (v : Bor (List ℕ)) (o : Option (ℕ × List ℕ)) → new ≡ insert_entry nat_eq old k v → Some (k, v.now) ≡ o
     → names_told new ≡ insert_entries nat_eq (names_told old) (option_to_list o)

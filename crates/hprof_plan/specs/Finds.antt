@@ -9,7 +9,7 @@ use Rattle.hprof_session.specs.Surveys.{bytes_left, EndsAt}
 use Rattle.hprof_session.specs.Walks.{Left, ItemTold, AreNext}
 use Rattle.hprof_plan.specs.Items.{array_class_of, class_entry, load_of, name_of, object_of, root_of}
 use Rattle.hprof_plan.specs.Tables.{classes_told, names_told}
-use Rattle.hprof_plan.specs.declared.find.Found.{Found}
+use Rattle.hprof_plan.specs.declared.dump.Found.{Found}
 
 -- the tables are those of these items. Where entries have one id, the last is found, at the place of the first
 pub record HasTables (size : IdSize) (list : List ItemTold) (f : Found) : Type 0 where

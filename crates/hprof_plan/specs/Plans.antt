@@ -4,8 +4,8 @@ use Rattle.heap_class.specs.declared.ClassLimits.{ClassLimits}
 use Rattle.heap_class.specs.Limits.{class_limit}
 use Rattle.hprof_plan.specs.Accepted.{AreAccepted, class_lines}
 use Rattle.hprof_plan.specs.Defined.{AreDefined}
-use Rattle.hprof_plan.specs.declared.plan.Plan.{Plan}
-use Rattle.hprof_plan.specs.declared.plan.Planned.{Planned}
+use Rattle.hprof_plan.specs.declared.planning.Plan.{Plan}
+use Rattle.hprof_plan.specs.declared.planning.Planned.{Planned}
 
 -- each class of the dump that has a number has kinds at that place
 pub record IsPlanned (limits : ClassLimits) (p : Planned) : Type 0 where

@@ -6,7 +6,7 @@ ghost use Rattle.hprof_plan.specs.ClassFields.{add_field, class_name_at, name_at
 ghost use Rattle.hprof_plan.specs.Tables.{names_told};
 ghost use Rattle.hprof_reader.specs.Fields.{static_told};
 
-use crate::find::Found;
+use crate::dump::Found;
 use crate::names::given_name;
 use heap_class::{ClassLimits, Field, Kind};
 use hprof_reader::{OwnField, StaticField};

@@ -3,13 +3,13 @@
 
 mod class_fields;
 mod define;
+mod dump;
 mod fields;
-mod find;
 mod items;
 mod names;
-mod plan;
+mod planning;
 
+pub use dump::{Found, find};
 pub use fields::{own_fields, static_fields};
-pub use find::{Found, find};
 pub use items::RootFound;
-pub use plan::{Plan, Statics, plan_classes};
+pub use planning::{Plan, Statics, plan_classes};

@@ -10,14 +10,14 @@ give_name-requires c = given_for c.args.limits c.args.defined.now _ c.requires.s
 pub push-requires : goal.push-requires
 push-requires c = class_has_line c.args.limits c.args.defined.now.classes _ c.args.sup c.args.fields (omega (arith, c.len-number.ensures.limit)) c.in-Ok.ensures.answered
 
-pub returns-in-Ok-clause-defined : goal.returns-in-Ok-clause-defined
-returns-in-Ok-clause-defined c =
+pub returns-in_ok-push-in-Ok-clause-defined : goal.returns-in_ok-push-in-Ok-clause-defined
+returns-in_ok-push-in-Ok-clause-defined c =
     defined_and c.args.limits c.args.defined.now _ (instance_class c.in_ok-given.given c.args.sup c.args.fields) c.args.name.now c.requires.state
     (next_is c.args.limits c.args.defined.now _ c.args.name.now _ c.requires.state c.len-number.ensures.value c.in_ok-given.ensures.name)
-    c.in-Ok.ensures.answered c.in-Ok.ensures.defined c.in_ok-push.ensures.done c.in_ok-given.ensures.names
+    c.in-Ok.ensures.answered c.in-Ok.ensures.defined c.in_ok-push-in-Ok.ensures.done c.in_ok-given.ensures.names
 
-pub returns-in-Ok-clause-class : goal.returns-in-Ok-clause-class
-returns-in-Ok-clause-class c =
+pub returns-in_ok-push-in-Ok-clause-class : goal.returns-in_ok-push-in-Ok-clause-class
+returns-in_ok-push-in-Ok-clause-class c =
     with_name (λ n. instance_class n c.args.sup c.args.fields) c.args.defined.now.classes _ _ _
     (next_is c.args.limits c.args.defined.now _ c.args.name.now _ c.requires.state c.len-number.ensures.value c.in_ok-given.ensures.name)
     c.in-Ok.ensures.defined

@@ -1,6 +1,6 @@
 use Rattle.std.proofs.Common.{◌≡◌, ◌+◌, length}
 use Rattle.hprof_plan.specs.Defined.{AreDefined}
-use Rattle.hprof_plan.proofs.plan.plan_statics.Given as goal
+use Rattle.hprof_plan.proofs.planning.plan_statics.Given as goal
 
 abbrev pub invariant-loop-i : goal.invariant-loop-i
 invariant-loop-i l = record {

@@ -9,8 +9,8 @@ ghost use Rattle.hprof_plan.specs.Defined.{AreDefined};
 
 use crate::class_fields::{class_name_at, own_named, static_named};
 use crate::define::{Defined, define_array_class, define_class, none_defined};
+use crate::dump::Found;
 use crate::fields::{own_fields, static_fields};
-use crate::find::Found;
 use crate::items::id_at;
 use heap_class::{ClassLimits, ClassNo, Classes, Fields, Kind, SLOT_LIMIT};
 use hprof_reader::{ClassDump, OwnField, StaticField};

@@ -1,6 +1,6 @@
 use Rattle.std.proofs.Common.{◌∙◌}
 use Rattle.hprof_plan.proofs.DefinedClasses.{counted_and}
-use Rattle.hprof_plan.proofs.plan.plan_array_class.Goals as goal
+use Rattle.hprof_plan.proofs.planning.plan_array_class.Goals as goal
 
 pub returns : goal.returns
 returns c = record {

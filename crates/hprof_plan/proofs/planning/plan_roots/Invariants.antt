@@ -1,6 +1,6 @@
 use Rattle.std.proofs.Common.{◌≡◌, ◌+◌, length}
 use Rattle.hprof_plan.specs.Defined.{AreDefined}
-use Rattle.hprof_plan.proofs.plan.plan_roots.Given as goal
+use Rattle.hprof_plan.proofs.planning.plan_roots.Given as goal
 
 abbrev pub invariant-loop-k : goal.invariant-loop-k
 invariant-loop-k l = record {

@@ -1,8 +1,0 @@
-use Rattle.hprof_plan.proofs.FoundTables.{key_noted, no_key}
-use Rattle.hprof_plan.proofs.find.note_array_class.Goals as goal
-
-pub returns-in-Some : goal.returns-in-Some
-returns-in-Some c = key_noted _ _ _ _ c.in_ok-insert.ensures.keys c.in-Some.ensures
-
-pub returns-in-None : goal.returns-in-None
-returns-in-None c = no_key _ _ c.in-None.ensures

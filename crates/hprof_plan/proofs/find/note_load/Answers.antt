@@ -1,8 +1,0 @@
-use Rattle.hprof_plan.proofs.FoundTables.{load_noted, no_entry}
-use Rattle.hprof_plan.proofs.find.note_load.Goals as goal
-
-pub returns-in-Some : goal.returns-in-Some
-returns-in-Some c = load_noted _ _ _ _ _ c.in_ok-insert.ensures.entries c.in-Some.ensures
-
-pub returns-in-None : goal.returns-in-None
-returns-in-None c = no_entry _ _ c.in-None.ensures

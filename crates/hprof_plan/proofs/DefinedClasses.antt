@@ -1,5 +1,5 @@
 -- Classes of a session, one after another.
-use Rattle.std.proofs.Common.{◌≡◌, ℕ, ◌+◌, ◌<◌, ◌^◌, Bool, true, false, not, ◌&&◌, cond, List, [], ◌∷◌, ◌++◌, length, map, Option, Some, None, refl, sym, ap, subst, ◌∙◌, arith, is_some}
+use Rattle.std.proofs.Common.{◌≡◌, ℕ, ◌+◌, ◌<◌, ◌≤◌, ◌^◌, Bool, true, false, not, ◌&&◌, cond, List, [], ◌∷◌, ◌++◌, length, map, Option, Some, None, refl, sym, ap, subst, ◌∙◌, arith, is_some}
 use Rattle.std.specs.List.{list_any}
 use Rattle.std.specs.Str.{bytes_eq}
 use Rattle.std.proofs.lemmas.Bool.{cond-false}
@@ -84,3 +84,6 @@ pub given_as : (limits : ClassLimits) (ks : List (List ℕ)) (n : ℕ) (x given 
 unfolding given_name
 given_as limits ks n x given wanted b any same is =
     is ∙ ap (λ (v : Bool). cond (is_clean limits x && not v) x (other_name limits n x)) (any ∙ ap (λ (w : List ℕ). list_any (bytes_eq w) ks) same)
+
+pub few_and : (classes new : List Class) (c : Class) (room : ℕ) → length classes < room → new ≡ classes ++ c ∷ [] → length new ≤ room
+few_and classes new c room few e = omega (arith, few, ap length e, one_longer classes c)

@@ -1,10 +1,13 @@
 -- Items read one after another, as a loop reads them.
-use Rattle.std.proofs.Common.{◌≡◌, ℕ, suc, ◌+◌, ◌-◌, ◌<◌, ◌≤◌, List, [], ◌∷◌, ◌++◌, Option, Some, None, Result, Ok, Err, refl, sym, ap, ◌∙◌, append_assoc, arith, map}
+use Rattle.std.proofs.Common.{◌≡◌, ℕ, zero, suc, min, length, ◌+◌, ◌-◌, ◌<◌, ◌≤◌, List, [], ◌∷◌, ◌++◌, Option, Some, None, Result, Ok, Err, refl, sym, ap, ◌∙◌, append_assoc, arith, map}
 use Rattle.std.specs.Result.{result_ok}
-use Rattle.std.proofs.lemmas.List.{append-nil}
+use Rattle.std.proofs.lemmas.List.{append-nil, length-map}
+use Rattle.heap_class.specs.declared.IdSize.{IdSize}
+use Rattle.hprof_reader.specs.declared.fields.StaticField.{StaticField}
+use Rattle.hprof_reader.specs.Fields.{static_told}
 use Rattle.hprof_reader.specs.declared.fault.Fault.{Fault}
 use Rattle.hprof_reader.proofs.Readers.{IsBytes, IsReader}
-use Rattle.hprof_plan.specs.Fields.{first_and, each_read}
+use Rattle.hprof_plan.specs.Fields.{first_and, each_read, static_fields, static_parts}
 
 module _ {A : Type 0} (parts : List ℕ → Option (A × List ℕ)) where
   opened : (n i : ℕ) (bytes : List ℕ) (r : Option (A × List ℕ)) → i < n → parts bytes ≡ r → each_read parts (n - i) bytes ≡ first_and (each_read parts (n - (i + 1))) r
@@ -44,3 +47,17 @@ module _ {A : Type 0} (text : A → List ℕ) (fits : A → Type 0) (parts : Lis
 pub map_and : {A B : Type 0} (f : A → B) (xs : List A) (x : A) → map f (xs ++ x ∷ []) ≡ map f xs ++ f x ∷ []
 map_and f [] x = refl
 map_and f (y ∷ xs) x = ap (λ t. f y ∷ t) (map_and f xs x)
+
+-- ---- how many
+
+first_few : {A : Type 0} (n : ℕ) (more : List ℕ → List A) (r : Option (A × List ℕ)) → ((b : List ℕ) → length (more b) ≤ n) → length (first_and more r) ≤ suc n
+first_few n more None few = omega arith
+first_few n more (Some x) few = omega (arith, few x.1)
+
+length-each_read : {A : Type 0} (parts : List ℕ → Option (A × List ℕ)) (n : ℕ) (bytes : List ℕ) → length (each_read parts n bytes) ≤ n
+unfolding each_read
+length-each_read parts zero bytes = omega arith
+length-each_read parts (suc n) bytes = first_few n (each_read parts n) (parts bytes) (λ b. length-each_read parts n b)
+
+pub few_statics : (statics : List StaticField) (ids : IdSize) (n : ℕ) (bytes : List ℕ) → map static_told statics ≡ static_fields ids (min n 64) bytes → length statics ≤ 64
+few_statics statics ids n bytes e = omega (arith, length-map statics static_told, ap length e, length-each_read (static_parts ids) (min n 64) bytes)

@@ -1,5 +1,5 @@
 -- Why a heap refuses none of the classes of a session.
-use Rattle.std.proofs.Common.{◌≡◌, ℕ, ◌+◌, ◌<◌, ◌≤◌, ◌^◌, Bool, true, false, not, ◌&&◌, ◌||◌, List, [], ◌∷◌, ◌++◌, length, map, Option, Some, None, refl, sym, ap, ap₂, subst, ◌∙◌, arith}
+use Rattle.std.proofs.Common.{◌≡◌, ◌⊎◌, inl, inr, ℕ, ◌+◌, ◌<◌, ◌≤◌, ◌^◌, Bool, true, false, not, ◌&&◌, ◌||◌, List, [], ◌∷◌, ◌++◌, length, map, Option, Some, None, refl, sym, ap, ap₂, subst, ◌∙◌, arith}
 use Rattle.std.specs.Prelude.{fold}
 use Rattle.std.specs.List.{list_any, list_all}
 use Rattle.std.specs.Option.{option_map_or}
@@ -10,6 +10,8 @@ use Rattle.std.proofs.lemmas.List.Folds.{list_all-append, list_any-append}
 use Rattle.heap_class.specs.declared.ClassLimits.{ClassLimits}
 use Rattle.heap_class.specs.declared.Field.{Field}
 use Rattle.heap_class.specs.declared.Kind.{Kind}
+use Rattle.heap_class.specs.declared.Refusal.{Refusal}
+use Rattle.heap_class.specs.declared.Refusal.TheVariants.{NoMemory}
 use Rattle.heap_class.specs.Classes.{Class, all_distinct, class_refusal, is_instance_class, is_name, names_in, slots_of, slots_under, slot_table_after}
 use Rattle.heap_class.specs.Limits.{slot_limit}
 use Rattle.heap_class.proofs.Acceptance.{accepted, slot_count}
@@ -148,3 +150,9 @@ static_right limits names statics long few = let all = static_from limits names 
 
 pub length-static_named : (limits : ClassLimits) (names : List (ℕ × List ℕ)) (statics : List StaticTold) → length (static_named limits names statics) ≡ length statics
 length-static_named limits names statics = static_length limits names [] statics ∙ omega arith
+
+-- ---- refusals
+
+pub memory_only : (r : Option Refusal) (e : Refusal) → r ≡ None → (r ≡ Some e) ⊎ ((r ≡ None) × (true ≡ true) × (e ≡ NoMemory)) → e ≡ NoMemory
+memory_only r e none (inl same) = absurd (cc (none, same))
+memory_only r e none (inr memory) = memory.2

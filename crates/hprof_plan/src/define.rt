@@ -1,13 +1,15 @@
 //! Classes of a session, defined one after another, and the lines that define them.
-ghost use Rattle.std.specs.Prelude.{◌≡◌, ◌∷◌, ◌++◌, [], IfOk, OnOk};
-ghost use Rattle.heap_class.specs.Classes.{array_class, instance_class};
-ghost use Rattle.heap_class.specs.Limits.{AreClassLimits};
+ghost use Rattle.std.specs.Prelude.{◌≡◌, ◌≤◌, ◌<◌, ◌+◌, ◌∷◌, ◌++◌, [], length, true, IfOk, OnOk};
+ghost use Rattle.std.specs.Option.{option_map_or};
+ghost use Rattle.heap_class.specs.Classes.{array_class, instance_class, is_instance_class, slots_of};
+ghost use Rattle.heap_class.specs.Limits.{AreClassLimits, slot_limit};
 ghost use Rattle.hprof_plan.specs.Accepted.{next_name};
 ghost use Rattle.hprof_plan.specs.Names.{AreGiven, given_name};
 ghost use Rattle.hprof_plan.specs.Defined.{AreDefined};
+ghost use Rattle.hprof_plan.specs.Right.{AreRight};
 
 use crate::names::given_name;
-use heap_class::{ClassLimits, ClassNo, Classes, Fields, Name, NewClass};
+use heap_class::{ClassLimits, ClassNo, Classes, Fields, Name, NewClass, Refusal};
 use heap_step::Event;
 use indexmap::IndexSet;
 use session_lines::Lines;
@@ -54,6 +56,14 @@ fn give_name(
     Ok(given)
 }
 
+// Returns the error of an allocation that failed, which is why no class was defined.
+fn memory_error(refusal: Refusal) -> AllocError
+    requires { refusal ≡ Refusal.NoMemory }
+{
+    let _refusal = refusal;
+    AllocError
+}
+
 /// Defines an instance class and appends its line. Fails if an allocation fails.
 pub(crate) fn define_class(
     alloc: Global,
@@ -64,7 +74,13 @@ pub(crate) fn define_class(
     fields: Fields,
 ) -> Result<(), AllocError>
     requires limits { AreClassLimits limits }
+    requires long { 22 ≤ limits.name_bytes }
     requires state { AreDefined limits defined.old }
+    requires room { length defined.old.classes < limits.classes }
+    requires super_is { option_map_or (is_instance_class defined.old.classes) sup true ≡ true }
+    requires right { AreRight limits fields }
+    requires slots { length fields + length (option_map_or (slots_of defined.old.classes) sup [])
+        ≤ slot_limit }
     ensures defined { OnOk result (AreDefined limits defined.new) }
     ensures class { OnOk result
         (defined.new.classes
@@ -84,7 +100,7 @@ pub(crate) fn define_class(
             defined.lines.push(&Event::Class { name, sup, fields })?;
             Ok(())
         }
-        Err(_) => Err(AllocError),
+        Err(refusal) => Err(memory_error(refusal)),
     }
 }
 
@@ -96,7 +112,9 @@ pub(crate) fn define_array_class(
     name: &[u8],
 ) -> Result<(), AllocError>
     requires limits { AreClassLimits limits }
+    requires long { 22 ≤ limits.name_bytes }
     requires state { AreDefined limits defined.old }
+    requires room { length defined.old.classes < limits.classes }
     ensures defined { OnOk result (AreDefined limits defined.new) }
     ensures class { OnOk result
         (defined.new.classes
@@ -109,6 +127,6 @@ pub(crate) fn define_array_class(
             defined.lines.push(&Event::ArrayClass { name: given })?;
             Ok(())
         }
-        Err(_) => Err(AllocError),
+        Err(refusal) => Err(memory_error(refusal)),
     }
 }

@@ -1,5 +1,5 @@
 //! Own fields and static fields in the records of classes.
-ghost use Rattle.std.specs.Prelude.{◌≡◌, map, min, option_map, IfOk};
+ghost use Rattle.std.specs.Prelude.{◌≡◌, ◌≤◌, length, map, min, option_map, IfOk};
 ghost use Rattle.hprof_reader.specs.Fields.{static_told};
 ghost use Rattle.hprof_plan.specs.Fields.{own_fields, own_parts, static_fields, static_parts};
 
@@ -45,8 +45,8 @@ pub fn own_fields(alloc: Global, ids: IdSize, table: Table<'_>) -> Result<Vec<Ow
     Ok(fields)
 }
 
-/// Returns the first static fields of a class, at most 64. Fails if an allocation fails.
-pub fn static_fields<'a>(
+// Returns the first static fields of a class, at most 64. Fails if an allocation fails.
+fn read_statics<'a>(
     alloc: Global,
     ids: IdSize,
     table: Table<'a>,
@@ -65,5 +65,19 @@ pub fn static_fields<'a>(
             None => return Ok(fields),
         }
     }
+    Ok(fields)
+}
+
+/// Returns the first static fields of a class, at most 64. Fails if an allocation fails.
+pub fn static_fields<'a>(
+    alloc: Global,
+    ids: IdSize,
+    table: Table<'a>,
+) -> Result<Vec<StaticField<'a>>, AllocError>
+    ensures value { IfOk result
+        (λ v. map static_told v.items ≡ static_fields ids (min table.entry.count 64) table.entry.bytes.now) }
+    ensures few { IfOk result (λ v. length v.items ≤ 64) }
+{
+    let fields = read_statics(alloc, ids, table)?;
     Ok(fields)
 }

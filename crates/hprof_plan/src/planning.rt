@@ -1,10 +1,10 @@
 //! The classes of a session: those of the dump, those of static fields, and those of the arrays of roots.
-ghost use Rattle.std.specs.Prelude.{◌≡◌, ◌<◌, ◌+◌, [], nat_eq, length, map, true, IfOk, IfSome, OnOk, None};
+ghost use Rattle.std.specs.Prelude.{◌≡◌, ◌≤◌, ◌<◌, ◌+◌, [], nat_eq, length, map, true, IfOk, IfSome, OnOk, None};
 ghost use Rattle.std.specs.Option.{option_map_or};
 ghost use Rattle.heap_class.specs.Classes.{is_instance_class, slots_of};
 ghost use Rattle.heap_class.specs.Limits.{AreClassLimits, slot_limit};
 ghost use Rattle.indexmap.specs.IndexMap.{get, index_of, index_map_len};
-ghost use Rattle.hprof_plan.specs.Plans.{IsPlan, IsPlanned};
+ghost use Rattle.hprof_plan.specs.Plans.{AreTakenLimits, IsPlan, IsPlanned};
 ghost use Rattle.hprof_plan.specs.Defined.{AreDefined};
 
 use crate::class_fields::{class_name_at, own_named, static_named};
@@ -53,9 +53,10 @@ pub(crate) struct Planned {
 }
 
 // Returns no classes.
-fn none_planned(alloc: Global, limits: ClassLimits) -> Planned
-    ensures { IsPlanned limits result }
+fn none_planned(alloc: Global, limits: ClassLimits, room: u64) -> Planned
+    ensures { IsPlanned limits room result }
 {
+    let _room = room;
     Planned {
         defined: none_defined(alloc, limits),
         kinds: IndexMap::new(alloc),
@@ -102,14 +103,16 @@ fn kinds_of(alloc: Global, fields: &[OwnField]) -> Result<Vec<Kind>, AllocError>
 fn plan_array_class(
     alloc: Global,
     limits: ClassLimits,
+    room: u64,
     found: &Found<'_>,
     planned: &mut Planned,
     id: u64,
 ) -> Result<(), AllocError>
-    requires limits { AreClassLimits limits }
-    requires state { IsPlanned limits planned.old }
+    requires limits { AreTakenLimits limits room }
+    requires state { IsPlanned limits room planned.old }
     requires new { get nat_eq planned.old.kinds id ≡ None }
-    ensures { OnOk result (IsPlanned limits planned.new) }
+    requires few { length planned.old.defined.classes < room }
+    ensures { OnOk result (IsPlanned limits room planned.new) }
 {
     define_array_class(
         alloc,
@@ -125,20 +128,24 @@ fn plan_array_class(
 fn plan_instance_class(
     alloc: Global,
     limits: ClassLimits,
+    room: u64,
     found: &Found<'_>,
     planned: &mut Planned,
     id: u64,
     dump: &ClassDump<'_>,
 ) -> Result<(), AllocError>
-    requires limits { AreClassLimits limits }
-    requires state { IsPlanned limits planned.old }
+    requires limits { AreTakenLimits limits room }
+    requires state { IsPlanned limits room planned.old }
     requires new { get nat_eq planned.old.kinds id ≡ None }
-    ensures { OnOk result (IsPlanned limits planned.new) }
+    requires few { length planned.old.defined.classes < room }
+    ensures { OnOk result (IsPlanned limits room planned.new) }
 {
     let sup = super_of(&planned.kinds, &planned.defined.classes, dump.head.super_id);
-    let own = own_fields(alloc, found.ids, dump.fields)?;
+    let mut own = own_fields(alloc, found.ids, dump.fields)?;
+    let kinds = kinds_of(alloc, &own)?;
     let kept = own.len().min(room_under(&planned.defined.classes, sup));
-    let fields = own_named(alloc, limits, found, &own[..kept])?;
+    own.truncate(kept);
+    let fields = own_named(alloc, limits, found, own.as_slice())?;
     define_class(
         alloc,
         limits,
@@ -147,7 +154,7 @@ fn plan_instance_class(
         sup,
         Fields::from_vec(fields),
     )?;
-    planned.kinds.insert(id, kinds_of(alloc, &own)?)?;
+    planned.kinds.insert(id, kinds)?;
     Ok(())
 }
 
@@ -160,9 +167,9 @@ fn plan_class(
     planned: &mut Planned,
     id: u64,
 ) -> Result<(), AllocError>
-    requires limits { AreClassLimits limits }
-    requires state { IsPlanned limits planned.old }
-    ensures { OnOk result (IsPlanned limits planned.new) }
+    requires limits { AreTakenLimits limits room }
+    requires state { IsPlanned limits room planned.old }
+    ensures { OnOk result (IsPlanned limits room planned.new) }
 {
     if planned.kinds.contains_key(&id) {
         return Ok(());
@@ -172,9 +179,9 @@ fn plan_class(
     }
     match found.classes.get(&id) {
         Some(dump) => if found.array_classes.contains(&id) {
-            plan_array_class(alloc, limits, found, planned, id)
+            plan_array_class(alloc, limits, room, found, planned, id)
         } else {
-            plan_instance_class(alloc, limits, found, planned, id, dump)
+            plan_instance_class(alloc, limits, room, found, planned, id, dump)
         },
         None => Ok(()),
     }
@@ -214,9 +221,9 @@ fn plan_after_supers(
     planned: &mut Planned,
     id: u64,
 ) -> Result<(), AllocError>
-    requires limits { AreClassLimits limits }
-    requires state { IsPlanned limits planned.old }
-    ensures { OnOk result (IsPlanned limits planned.new) }
+    requires limits { AreTakenLimits limits room }
+    requires state { IsPlanned limits room planned.old }
+    ensures { OnOk result (IsPlanned limits room planned.new) }
 {
     let chain = chain_of(alloc, found, planned, id)?;
     for j in 0..chain.len() {
@@ -233,10 +240,10 @@ fn plan_dump(
     room: u64,
     found: &Found<'_>,
 ) -> Result<Planned, AllocError>
-    requires { AreClassLimits limits }
-    ensures { IfOk result (IsPlanned limits) }
+    requires { AreTakenLimits limits room }
+    ensures { IfOk result (IsPlanned limits room) }
 {
-    let mut planned = none_planned(alloc, limits);
+    let mut planned = none_planned(alloc, limits, room);
     for i in 0..found.classes.len() {
         if let Some((id, _)) = found.classes.get_index(i) {
             plan_after_supers(alloc, limits, room, found, &mut planned, *id)?;
@@ -276,7 +283,10 @@ fn plan_static_class(
     statics: &[StaticField<'_>],
 ) -> Result<(), AllocError>
     requires limits { AreClassLimits limits }
+    requires long { 22 ≤ limits.name_bytes }
     requires state { AreDefined limits defined.old }
+    requires room { length defined.old.classes < limits.classes }
+    requires few { length statics.now ≤ 64 }
     ensures defined { OnOk result (AreDefined limits defined.new) }
     ensures one { OnOk result (length defined.new.classes ≡ length defined.old.classes + 1) }
 {
@@ -302,9 +312,11 @@ fn plan_statics<'a>(
     found: &Found<'a>,
     defined: &mut Defined,
 ) -> Result<Vec<Statics<'a>>, AllocError>
-    requires limits { AreClassLimits limits }
+    requires limits { AreTakenLimits limits room }
     requires state { AreDefined limits defined.old }
+    requires few { length defined.old.classes ≤ room }
     ensures defined { OnOk result (AreDefined limits defined.new) }
+    ensures few { OnOk result (length defined.new.classes ≤ room) }
     ensures counted { IfOk result
         (λ v. length defined.new.classes ≡ length defined.old.classes + length v.items) }
 {
@@ -340,7 +352,9 @@ fn root_name(k: usize) -> &'static [u8] {
 // Defines the class `roots`, and those of the arrays of each kind of roots. Fails if an allocation fails.
 fn plan_roots(alloc: Global, limits: ClassLimits, defined: &mut Defined) -> Result<(), AllocError>
     requires limits { AreClassLimits limits }
+    requires long { 22 ≤ limits.name_bytes }
     requires state { AreDefined limits defined.old }
+    requires room { length defined.old.classes + 10 ≤ limits.classes }
     ensures defined { OnOk result (AreDefined limits defined.new) }
     ensures counted { OnOk result (length defined.new.classes ≡ length defined.old.classes + 10) }
 {
@@ -356,10 +370,12 @@ pub fn plan_classes<'a>(
     limits: ClassLimits,
     found: &Found<'a>,
 ) -> Result<Plan<'a>, AllocError>
-    requires { AreClassLimits limits }
+    requires limits { AreClassLimits limits }
+    requires long { 22 ≤ limits.name_bytes }
+    requires room { 10 ≤ limits.classes }
     ensures { IfOk result (IsPlan limits) }
 {
-    let room = limits.classes.saturating_sub(10);
+    let room = limits.classes - 10;
     let planned = plan_dump(alloc, limits, room, found)?;
     let Planned { defined, kinds } = planned;
     let mut defined = defined;

@@ -9,7 +9,8 @@ loop-init c = starts (left c.args.walk) _ c.none_found-found.ensures
 pub loop-preserved : goal.loop-preserved
 loop-preserved c =
     let h = rw c.in-Ok-Some.field-0-is at c.in-Ok-Some.ensures.found in
-    goes_on (left c.args.walk) c.loop.counter (left c.loop.at) c.loop.found (item_told c.in-Ok-Some.next.0) (left c.in-Ok-Some.next.1) _ c.loop.invariant h c.in_ok-note-in-Ok-Some.ensures
+    let n = rw c.in-Ok-Some.field-0-is at c.in_ok-note-in-Ok-Some.ensures in
+    rw c.in-Ok-Some.field-0-is (goes_on (left c.args.walk) c.loop.counter (left c.loop.at) c.loop.found (item_told c.in-Ok-Some.next.0) (left c.in-Ok-Some.next.1) c.note.new.found c.loop.invariant h n)
 
 pub returns-in-Ok-None : goal.returns-in-Ok-None
 returns-in-Ok-None c =

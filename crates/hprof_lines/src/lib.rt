@@ -1,0 +1,15 @@
+//! The lines that make the objects of a dump, write their values and references, and keep its roots.
+#![tactic(auto)]
+
+mod objects;
+mod output;
+mod passes;
+mod roots;
+mod session;
+mod slots;
+mod static_objects;
+mod stub;
+mod values;
+
+pub use session::write_session;
+pub use stub::{Plan, RootFound, Statics};

@@ -9,13 +9,13 @@ opened_any p xs i d less = ap (list_any p) (drop-cons xs i d less ∙ ap (λ (k 
 
 pub any_next : {X : Type 0} (p : X → Bool) (xs : List X) (i : ℕ) (d : X) (all : Bool) → i < length xs → p (get_or xs i d) ≡ false
     → list_any p (drop i xs) ≡ all → list_any p (drop (i + 1) xs) ≡ all
-any_next p xs i d all less no so_far =
-    sym (ap (λ (b : Bool). b || list_any p (drop (i + 1) xs)) no) ∙ sym (opened_any p xs i d less) ∙ so_far
+any_next p xs i d all less fails so_far =
+    sym (ap (λ (b : Bool). b || list_any p (drop (i + 1) xs)) fails) ∙ sym (opened_any p xs i d less) ∙ so_far
 
 pub any_found : {X : Type 0} (p : X → Bool) (xs : List X) (i : ℕ) (d : X) (all : Bool) → i < length xs → p (get_or xs i d) ≡ true
     → list_any p (drop i xs) ≡ all → true ≡ all
-any_found p xs i d all less yes so_far =
-    sym (ap (λ (b : Bool). b || list_any p (drop (i + 1) xs)) yes) ∙ sym (opened_any p xs i d less) ∙ so_far
+any_found p xs i d all less passes so_far =
+    sym (ap (λ (b : Bool). b || list_any p (drop (i + 1) xs)) passes) ∙ sym (opened_any p xs i d less) ∙ so_far
 
 pub any_nowhere : {X : Type 0} (p : X → Bool) (xs : List X) (i : ℕ) (all : Bool) → length xs ≤ i
     → list_any p (drop i xs) ≡ all → false ≡ all

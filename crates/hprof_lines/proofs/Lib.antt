@@ -5,3 +5,5 @@ pub mod WholeWalks
 pub mod Passing
 pub mod OpenedEvents
 pub mod AnyNamed
+pub mod ToldObjects
+pub mod Counting

@@ -1,5 +1,5 @@
 -- Passes, item by item.
-use Rattle.std.proofs.Common.{◌≡◌, ℕ, ◌+◌, ◌<◌, ◌≤◌, Bool, true, false, List, [], ◌∷◌, ◌++◌, length, Option, Some, None, Result, Ok, Err, refl, sym, ap, subst, ◌∙◌, append_assoc, arith}
+use Rattle.std.proofs.Common.{◌≡◌, ℕ, ◌+◌, ◌<◌, ◌≤◌, Bool, true, false, cond, List, [], ◌∷◌, ◌++◌, length, Option, Some, None, Result, Ok, Err, refl, sym, ap, subst, ◌∙◌, append_assoc, arith}
 use Rattle.std.proofs.lemmas.List.{append-nil, length-append}
 use Rattle.dump_pump.specs.Outlets.{Outgoing}
 use Rattle.heap_step.specs.declared.Event.{Event}
@@ -10,7 +10,7 @@ use Rattle.hprof_lines.specs.declared.passes.Pass.{Pass}
 use Rattle.hprof_lines.specs.declared.stub.Plan.{Plan}
 use Rattle.hprof_lines.specs.Objects.{ObjectsTold}
 use Rattle.hprof_lines.specs.Outputs.{PutsOr, PutsPart, PutsSome}
-use Rattle.hprof_lines.specs.Passes.{IsWhole, item_events, is_turn, made_from, made_in, next_place, pass_events}
+use Rattle.hprof_lines.specs.Passes.{IsWhole, item_events, is_made, is_turn, made_from, made_in, next_place, pass_events}
 use Rattle.hprof_lines.proofs.Puttings.{IsPutting, putting_none, putting_more, putting_on, putting_failed, putting_stopped, putting_ends}
 use Rattle.hprof_lines.proofs.WholeWalks.{HasFirst}
 
@@ -26,7 +26,7 @@ pub making_none : (p : Plan) (objects : List ℕ) (before : ℕ) (w : Left) (ite
 making_none p objects before w items whole = record { rest = items; whole = whole; left = refl }
 
 choice_length : (objects : List ℕ) (i : ℕ) (turn b : Bool) (made : List Bool) → length made ≡ i
-    → length (made ++ elim turn [ true ↦ b ∷ [] | false ↦ [] ]) ≡ elim turn [ true ↦ i + 1 | false ↦ i ]
+    → length (made ++ cond turn (b ∷ []) []) ≡ cond turn (i + 1) i
 choice_length objects i true b made e = omega (arith, length-append made (b ∷ []), e)
 choice_length objects i false b made e = omega (arith, length-append made [], e)
 
@@ -46,7 +46,7 @@ making_more p objects before w v made made' i items m first more = record {
   where
     place : (it : ItemTold) → length (made ++ made_in p objects before (length made) it) ≡ next_place objects (length made) it
     place (record_told r) = ap length (append-nil made)
-    place (sub_told s) = choice_length objects (length made) (is_turn objects (length made) s) _ made refl
+    place (sub_told s) = choice_length objects (length made) (is_turn objects (length made) s) (is_made p before (length made) s) made refl
 
 pub making_all : (p : Plan) (objects : List ℕ) (before : ℕ) (w : Left) (made : List Bool) (items : List ItemTold) (m : IsMaking p objects before w made items)
     → m.rest ≡ [] → made ≡ made_from p objects before 0 items

@@ -132,6 +132,9 @@ left_more lines lines' events next rest all parts so_far more =
     ∙ ap (λ (ls : List ℕ). lines ++ ls) (sym (lines_append next rest))
     ∙ ap (λ (es : List Event). lines ++ lines_of es) (sym parts) ∙ so_far
 
+pub left_none : (lines : List ℕ) (events : List Event) (all : List ℕ) → events ≡ [] → lines ++ lines_of events ≡ all → lines ≡ all
+left_none lines events all none so_far = sym (append-nil lines) ∙ sym (ap (λ (es : List Event). lines ++ lines_of es) none) ∙ so_far
+
 -- ---- one text after another
 
 pub cut_more : (old new : Outgoing) (a b : List ℕ) → PutsPart old new a → PutsPart old new (a ++ b)

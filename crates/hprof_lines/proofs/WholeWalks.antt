@@ -1,5 +1,5 @@
 -- Walks over all items, and what is left of them.
-use Rattle.std.proofs.Common.{◌≡◌, ℕ, ◌+◌, ◌<◌, ◌≤◌, Bool, List, [], ◌∷◌, ◌++◌, length, Option, Some, None, Result, Ok, Err, refl, sym, ap, subst, ◌∙◌, append_assoc, arith}
+use Rattle.std.proofs.Common.{◌≡◌, ℕ, ◌+◌, ◌<◌, ◌≤◌, Bool, true, false, true≢false, List, [], ◌∷◌, ◌++◌, length, Option, Some, None, Result, Ok, Err, refl, sym, ap, subst, ◌∙◌, append_assoc, arith}
 use Rattle.std.proofs.lemmas.List.{append-nil, length-append}
 use Rattle.hprof_reader.specs.Reading.{Gives}
 use Rattle.hprof_reader.specs.declared.fault.Fault.{Fault}
@@ -17,6 +17,25 @@ bytes_shrink w i v next = omega (arith, (walked_on w 0 0 w i v (walked_none w) n
 abbrev pub IsOnly : Left → Result (Option (Item × Walk)) Fault → Type 0
 IsOnly w result = (i : ItemTold) (v : Left) → IsNext w i v → Gives next_told result (Ok (Some (i, v)))
 
+-- what a result tells of the next item, if there is one
+abbrev Next : Type 0
+Next = Result (Option (ItemTold × Left)) Fault
+
+abbrev item_in : ItemTold → Next → ItemTold
+item_in i (Ok (Some x)) = x.0
+item_in i (Ok None) = i
+item_in i (Err e) = i
+
+abbrev left_in : Left → Next → Left
+left_in v (Ok (Some x)) = x.1
+left_in v (Ok None) = v
+left_in v (Err e) = v
+
+abbrev is_next : Next → Bool
+is_next (Ok (Some x)) = true
+is_next (Ok None) = false
+is_next (Err e) = false
+
 -- the first item of a whole walk is the item that is next, and the others are a whole walk from there
 pub record HasFirst (items : List ItemTold) (i : ItemTold) (v : Left) : Type 0 where
   pub others : List ItemTold
@@ -30,8 +49,8 @@ whole_next w [] x only found whole =
 whole_next w (i ∷ items) x only found whole =
     let next = whole.walked in
     let same : Ok (Some (i, next.0)) ≡ Ok (Some (item_told x.0, left x.1)) = only i next.0 next.1 in
-    let item : i ≡ item_told x.0 = cc in
-    let place : next.0 ≡ left x.1 = cc in
+    let item : i ≡ item_told x.0 = ap (item_in i) same in
+    let place : next.0 ≡ left x.1 = ap (left_in next.0) same in
     record {
       others = items;
       first = ap (λ (j : ItemTold). j ∷ items) item;
@@ -41,9 +60,9 @@ whole_next w (i ∷ items) x only found whole =
 pub whole_none : (w : Left) (items : List ItemTold) → IsOnly w (Ok None) → IsWhole w items → items ≡ []
 whole_none w [] only whole = refl
 whole_none w (i ∷ items) only whole =
-    let same : Ok (Some (i, whole.walked.0)) ≡ Ok None = only i whole.walked.0 whole.walked.1 in absurd cc
+    let same : Ok (Some (i, whole.walked.0)) ≡ Ok None = only i whole.walked.0 whole.walked.1 in absurd (true≢false (ap is_next same))
 
 pub whole_fault : (w : Left) (items : List ItemTold) (e : Fault) → IsOnly w (Err e) → IsWhole w items → items ≡ []
 whole_fault w [] e only whole = refl
 whole_fault w (i ∷ items) e only whole =
-    let same : Ok (Some (i, whole.walked.0)) ≡ Err e = only i whole.walked.0 whole.walked.1 in absurd cc
+    let same : Ok (Some (i, whole.walked.0)) ≡ Err e = only i whole.walked.0 whole.walked.1 in absurd (true≢false (ap is_next same))

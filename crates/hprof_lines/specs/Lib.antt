@@ -6,3 +6,4 @@ pub mod Passes
 pub mod StaticObjects
 pub mod Roots
 pub mod Sessions
+pub mod LeftOut

@@ -1,6 +1,7 @@
 //! The lines that make the objects of a dump, write their values and references, and keep its roots.
 #![tactic(auto)]
 
+mod left_out;
 mod objects;
 mod output;
 mod passes;
@@ -11,5 +12,6 @@ mod static_objects;
 mod stub;
 mod values;
 
+pub use left_out::{LeftOut, count_left_out};
 pub use session::write_session;
 pub use stub::{Plan, RootFound, Statics};

@@ -43,7 +43,7 @@ pub(crate) fn made_at(made: &[bool], i: usize) -> bool
     if i < made.len() { made[i] } else { false }
 }
 
-// Returns the number of the object with this id, if it is made.
+/// Returns the number of the object with this id, if it is made.
 #[tactic(auto, unfolding(crate::specs::Objects::number_of))]
 pub(crate) fn number_of(all: &Objects<'_, '_>, id: u64) -> Option<u64>
     ensures { result ≡ number_of (objects_told all.now) id }
@@ -92,9 +92,9 @@ fn push_values(lines: &mut Lines, values: &[SlotValue]) -> Result<(), AllocError
     Ok(())
 }
 
-// Tells whether a slot names an object.
+/// Tells whether a slot names an object.
 #[tactic(auto, unfolding(crate::specs::Objects::names_object))]
-fn names_object(value: SlotValue) -> bool
+pub(crate) fn names_object(value: SlotValue) -> bool
     ensures { result ≡ names_object value }
 {
     value.kind.is_reference() && value.value != 0

@@ -42,9 +42,9 @@ fn id_of(sub: &SubRecord<'_>) -> Option<u64>
     }
 }
 
-// Tells whether a sub-record is the object at this place among the objects of the dump.
+/// Tells whether a sub-record is the object at this place among the objects of the dump.
 #[tactic(auto, unfolding(crate::specs::Passes::is_turn))]
-fn is_turn(objects: &IndexSet<u64>, i: usize, sub: &SubRecord<'_>) -> bool
+pub(crate) fn is_turn(objects: &IndexSet<u64>, i: usize, sub: &SubRecord<'_>) -> bool
     ensures value { result ≡ is_turn objects.now.keys i (sub_record sub.now) }
     ensures limit { result ≡ true → i < 2 ^ 63 }
 {

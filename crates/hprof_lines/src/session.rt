@@ -32,7 +32,8 @@ fn write_both<O: Outlet>(
         → Writes (O.seen outlet.old) (O.seen outlet.new)
         (lines_of (both_events pass (objects_told all.now) items)) result }
 {
-    if !write_statics(alloc, outlet, pass, all)? {
+    let statics = all.plan.statics.as_slice();
+    if !write_statics(alloc, outlet, pass, all, statics)? {
         return Ok(false);
     }
     write_pass(alloc, outlet, pass, walk, all)
@@ -64,8 +65,8 @@ fn write_all<O: Outlet>(
     write_roots(alloc, outlet, all, roots, &ROOT_TAGS)
 }
 
-// Returns the ids of the classes that have an object for their static fields.
-fn static_ids(alloc: Global, statics: &[Statics<'_>]) -> Result<IndexSet<u64>, AllocError>
+/// Returns the ids of the classes that have an object for their static fields. Fails if an allocation fails.
+pub(crate) fn static_ids(alloc: Global, statics: &[Statics<'_>]) -> Result<IndexSet<u64>, AllocError>
     ensures { IfOk result (λ s. s.keys ≡ static_ids statics.now) }
 {
     let mut ids = IndexSet::new(alloc);
@@ -92,16 +93,20 @@ pub fn write_session<O: Outlet>(
         → Writes (O.seen outlet.old) (O.seen outlet.new)
         (session_text plan.now walk.entry.ids objects.now.keys items roots.now) result }
 {
-    let statics = static_ids(alloc, plan.statics.as_slice())?;
-    let made = made_objects(alloc, walk, plan, objects, statics.len() as u64)?;
-    if !put_text(outlet, plan.lines.as_slice()) {
+    let planned = plan.statics.as_slice();
+    let statics = static_ids(alloc, planned)?;
+    let before = statics.len() as u64;
+    let made = made_objects(alloc, walk, plan, objects, before)?;
+    let text = plan.lines.as_slice();
+    if !put_text(outlet, text) {
         return Ok(false);
     }
+    let kept = made.as_slice();
     let all = Objects {
         plan,
         ids: walk.ids,
         objects,
-        made: made.as_slice(),
+        made: kept,
         statics: &statics,
     };
     write_all(alloc, outlet, walk, &all, roots)

@@ -52,14 +52,15 @@ pub(crate) fn write_statics<O: Outlet>(
     outlet: &mut O,
     pass: Pass,
     all: &Objects<'_, '_>,
+    statics: &[Statics<'_>],
 ) -> Result<bool, AllocError>
     ensures { Writes (O.seen outlet.old) (O.seen outlet.new)
-        (lines_of (statics_events pass (objects_told all.now) 0 all.now.plan.now.statics.items)) result }
+        (lines_of (statics_events pass (objects_told all.now) 0 statics.now)) result }
 {
     let mut lines = Lines::new(alloc);
     let mut values = Vec::new(alloc);
-    for n in 0..all.plan.statics.len() {
-        push_static(pass, &mut lines, &mut values, all, n as u64, &all.plan.statics[n])?;
+    for (n, it) in statics.iter().enumerate() {
+        push_static(pass, &mut lines, &mut values, all, n as u64, it)?;
         if !put_some(outlet, &mut lines) {
             return Ok(false);
         }

@@ -4,7 +4,7 @@ use Rattle.hprof_lines.proofs.Passing.{making_none, making_more, making_all}
 use Rattle.hprof_lines.proofs.passes.made_objects.Goals as goal
 
 pub items-init : goal.items-init
-items-init c = ?
+items-init c = rw c.new-made.ensures.items (λ items whole. making_none _ _ _ _ items whole)
 
 pub items-smaller : goal.items-smaller
 items-smaller c =
@@ -16,7 +16,7 @@ items-preserved c = λ items whole.
     let found = rw c.in-Ok-Some.field-0-is at c.in-Ok-Some.ensures.found in
     let only = rw c.in-Ok-Some.field-0-is at c.in-Ok-Some.ensures.only in
     let first = whole_next (left c.items.at) p.rest c.in-Ok-Some.next only found p.whole in
-    making_more _ _ _ _ _ _ _ _ items p first c.in_ok-note_made.ensures
+    making_more _ _ _ _ _ _ _ _ items p first c.in_ok-note_made-in-Ok-Some.ensures
 
 pub returns-in-Ok-None : goal.returns-in-Ok-None
 returns-in-Ok-None c = λ items whole.

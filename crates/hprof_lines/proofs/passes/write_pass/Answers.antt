@@ -1,3 +1,4 @@
+use Rattle.std.proofs.lemmas.Result.{err_from_is_err_and}
 use Rattle.hprof_session.specs.Walks.{item_told, left}
 use Rattle.hprof_lines.proofs.WholeWalks.{bytes_shrink, whole_next, whole_none, whole_fault}
 use Rattle.hprof_lines.proofs.Passing.{passing_none, passing_more, passing_failed, passing_stopped, passing_ends}
@@ -16,7 +17,21 @@ items-preserved g c = λ items whole.
     let found = rw c.in-Ok-Some.field-0-is at c.in-Ok-Some.ensures.found in
     let only = rw c.in-Ok-Some.field-0-is at c.in-Ok-Some.ensures.only in
     let first = whole_next (left c.items.at) p.rest c.in-Ok-Some.next only found p.whole in
-    ?
+    rw c.in_ok-i-in-Ok-Some.ensures.place
+    (passing_more _ _ _ _ _ _ _ _ _ _ _ _ items p first c.in_ok-i-in-Ok-Some.ensures.lines c.if-not-put_some.ensures)
+
+pub returns-then-not-put_some : goal.returns-then-not-put_some
+returns-then-not-put_some g c = λ items whole.
+    let p = c.items.invariant items whole in
+    let found = rw c.in-Ok-Some.field-0-is at c.in-Ok-Some.ensures.found in
+    let only = rw c.in-Ok-Some.field-0-is at c.in-Ok-Some.ensures.only in
+    let first = whole_next (left c.items.at) p.rest c.in-Ok-Some.next only found p.whole in
+    passing_failed _ _ _ _ _ _ _ _ _ _ _ items p first c.in_ok-i-in-Ok-Some.ensures.lines c.if-not-put_some.ensures
+
+pub returns-in_err-i-in-Ok-Some : goal.returns-in_err-i-in-Ok-Some
+returns-in_err-i-in-Ok-Some g c = λ items whole.
+    let e = err_from_is_err_and c.from_residual.result c.from_residual.ensures.1 in
+    rw e.1 (passing_stopped _ _ _ _ _ _ _ items (c.items.invariant items whole))
 
 pub returns-in-Ok-None : goal.returns-in-Ok-None
 returns-in-Ok-None g c = λ items whole.

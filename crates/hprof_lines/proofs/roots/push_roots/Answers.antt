@@ -2,7 +2,7 @@ use Rattle.std.proofs.Common.{sym, ◌∙◌, ap, List, ℕ, ◌++◌, length}
 use Rattle.std.proofs.lemmas.List.{append-nil}
 use Rattle.heap_step.specs.declared.Event.{Event}
 use Rattle.hprof_session.specs.Places.{lines_of}
-use Rattle.hprof_lines.proofs.Puttings.{left_more}
+use Rattle.hprof_lines.proofs.Puttings.{left_more, left_none}
 use Rattle.hprof_lines.proofs.OpenedEvents.{opened_roots, closed_roots}
 use Rattle.hprof_lines.proofs.roots.push_roots.Goals as goal
 
@@ -11,4 +11,4 @@ loop-i-preserved c =
     left_more c.loop-i.lines _ _ _ _ _ (opened_roots c.args.class c.args.first (length c.args.numbers.now) c.loop-i.i c.args.numbers.now c.loop-i-test.true) c.loop-i.invariant c.in_ok-push_root.ensures
 
 pub returns : goal.returns
-returns c = ?
+returns c = left_none c.loop-i.lines _ _ (closed_roots c.args.class c.args.first (length c.args.numbers.now) c.loop-i.i c.args.numbers.now c.loop-i-test.false) c.loop-i.invariant

@@ -7,7 +7,6 @@ use Rattle.hprof_lines.proofs.static_objects.write_statics.Given as goal
 
 abbrev pub invariant-loop-n : goal.invariant-loop-n
 invariant-loop-n g l =
-    let statics = l.all.plan.now.statics.items in
     IsPutting (g.O.Outlet.seen l.initial.outlet) (g.O.Outlet.seen l.outlet) l.lines
-    (statics_events l.pass (objects_told l.all) l.n (drop l.n statics))
-    (lines_of (statics_events l.pass (objects_told l.all) 0 statics))
+    (statics_events l.pass (objects_told l.all) l.n (drop l.n l.statics))
+    (lines_of (statics_events l.pass (objects_told l.all) 0 l.statics))

@@ -22,10 +22,10 @@ counting_more o so_far next so_far' i i' w v it items m first more sum place = r
   rest = first.others;
   whole = first.whole;
   left =
-    ap (λ (s : LeftOut). left_out_from o s i' first.others) (sum ∙ ap (both_left_out so_far) more)
-    ∙ ap (λ (k : ℕ). left_out_from o (both_left_out so_far (left_out_in o i it)) k first.others) place
-    ∙ sym (ap (λ (its : List ItemTold). left_out_from o so_far i its) first.first)
-    ∙ m.left;
+      ap (λ (s : LeftOut). left_out_from o s i' first.others) (sum ∙ ap (both_left_out so_far) more)
+      ∙ ap (λ (k : ℕ). left_out_from o (both_left_out so_far (left_out_in o i it)) k first.others) place
+      ∙ sym (ap (λ (its : List ItemTold). left_out_from o so_far i its) first.first)
+      ∙ m.left;
 }
 
 pub counting_all : (o : ObjectsTold) (so_far : LeftOut) (i : ℕ) (w : Left) (items : List ItemTold) (m : IsCounting o so_far i w items)

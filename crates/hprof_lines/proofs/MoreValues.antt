@@ -38,8 +38,8 @@ one_field ids kept base i kinds d bytes slots all after less so_far =
     let next : drop i kinds ≡ kind ∷ drop (i + 1) kinds = drop-cons kinds i d less ∙ ap (λ (n : ℕ). kind ∷ drop n kinds) (sym (add-one i)) in
     record {
       slots_left =
-        append_assoc slots (value_if (nat_lt i kept) (value_at ids kind (base + i) bytes)) (fields_from ids kept base (i + 1) (drop (i + 1) kinds) (drop (width_of ids kind) bytes))
-        ∙ sym (ap (λ (ks : List Kind). slots ++ fields_from ids kept base i ks bytes) next) ∙ so_far.slots_left;
+          append_assoc slots (value_if (nat_lt i kept) (value_at ids kind (base + i) bytes)) (fields_from ids kept base (i + 1) (drop (i + 1) kinds) (drop (width_of ids kind) bytes))
+          ∙ sym (ap (λ (ks : List Kind). slots ++ fields_from ids kept base i ks bytes) next) ∙ so_far.slots_left;
       bytes_left = sym (ap (λ (ks : List Kind). after_fields ids ks bytes) next) ∙ so_far.bytes_left;
     }
 

@@ -7,7 +7,7 @@ use Rattle.hprof_session.specs.Walks.{Left, ItemTold, record_told, sub_told}
 use Rattle.hprof_session.specs.Places.{lines_of}
 use Rattle.hprof_reader.specs.SubRecords.{Sub}
 use Rattle.hprof_lines.specs.declared.passes.Pass.{Pass}
-use Rattle.hprof_lines.specs.declared.stub.Plan.{Plan}
+use Rattle.hprof_lines.specs.declared.plan.Plan.{Plan}
 use Rattle.hprof_lines.specs.Objects.{ObjectsTold}
 use Rattle.hprof_lines.specs.Outputs.{PutsOr, PutsPart, PutsSome}
 use Rattle.hprof_lines.specs.Passes.{IsWhole, item_events, is_made, is_turn, made_from, made_in, next_place, pass_events}
@@ -37,11 +37,11 @@ making_more p objects before w v made made' i items m first more = record {
   rest = first.others;
   whole = first.whole;
   left =
-    ap (λ (bs : List Bool). bs ++ made_from p objects before (length bs) first.others) more
-    ∙ ap (λ (n : ℕ). (made ++ made_in p objects before (length made) i) ++ made_from p objects before n first.others) (place i)
-    ∙ append_assoc made (made_in p objects before (length made) i) (made_from p objects before (next_place objects (length made) i) first.others)
-    ∙ sym (ap (λ (its : List ItemTold). made ++ made_from p objects before (length made) its) first.first)
-    ∙ m.left;
+      ap (λ (bs : List Bool). bs ++ made_from p objects before (length bs) first.others) more
+      ∙ ap (λ (n : ℕ). (made ++ made_in p objects before (length made) i) ++ made_from p objects before n first.others) (place i)
+      ∙ append_assoc made (made_in p objects before (length made) i) (made_from p objects before (next_place objects (length made) i) first.others)
+      ∙ sym (ap (λ (its : List ItemTold). made ++ made_from p objects before (length made) its) first.first)
+      ∙ m.left;
 }
   where
     place : (it : ItemTold) → length (made ++ made_in p objects before (length made) it) ≡ next_place objects (length made) it

@@ -31,9 +31,9 @@ putting_more old now lines lines' next rest all so_far more = record {
   front = so_far.front;
   put = so_far.put;
   left =
-    ap (λ (ls : List ℕ). so_far.front ++ (ls ++ lines_of rest)) more
-    ∙ ap (λ (ls : List ℕ). so_far.front ++ ls) (append_assoc lines (lines_of next) (lines_of rest) ∙ ap (λ (ls : List ℕ). lines ++ ls) (sym (lines_append next rest)))
-    ∙ so_far.left;
+      ap (λ (ls : List ℕ). so_far.front ++ (ls ++ lines_of rest)) more
+      ∙ ap (λ (ls : List ℕ). so_far.front ++ ls) (append_assoc lines (lines_of next) (lines_of rest) ∙ ap (λ (ls : List ℕ). lines ++ ls) (sym (lines_append next rest)))
+      ∙ so_far.left;
 }
 
 puts_after : (old now now' : Outgoing) (a b : List ℕ) → Puts old now a → Puts now now' b → Puts old now' (a ++ b)
@@ -49,9 +49,9 @@ putting_on old now now' lines left rest all so_far some = record {
   front = so_far.front ++ some.0;
   put = puts_after old now now' so_far.front some.0 so_far.put some.1;
   left =
-    append_assoc so_far.front some.0 (left ++ lines_of rest)
-    ∙ ap (λ (ls : List ℕ). so_far.front ++ ls) (sym (append_assoc some.0 left (lines_of rest)) ∙ ap (λ (ls : List ℕ). ls ++ lines_of rest) (sym some.2))
-    ∙ so_far.left;
+      append_assoc so_far.front some.0 (left ++ lines_of rest)
+      ∙ ap (λ (ls : List ℕ). so_far.front ++ ls) (sym (append_assoc some.0 left (lines_of rest)) ∙ ap (λ (ls : List ℕ). ls ++ lines_of rest) (sym some.2))
+      ∙ so_far.left;
 }
 
 -- the last lines are put out
@@ -69,10 +69,10 @@ putting_failed old now now' lines rest all so_far part = record {
   front = so_far.front ++ part.front;
   back = part.back ++ lines_of rest;
   parts =
-    sym so_far.left
-    ∙ ap (λ (ls : List ℕ). so_far.front ++ (ls ++ lines_of rest)) part.parts
-    ∙ ap (λ (ls : List ℕ). so_far.front ++ ls) (append_assoc part.front part.back (lines_of rest))
-    ∙ sym (append_assoc so_far.front part.front (part.back ++ lines_of rest));
+      sym so_far.left
+      ∙ ap (λ (ls : List ℕ). so_far.front ++ (ls ++ lines_of rest)) part.parts
+      ∙ ap (λ (ls : List ℕ). so_far.front ++ ls) (append_assoc part.front part.back (lines_of rest))
+      ∙ sym (append_assoc so_far.front part.front (part.back ++ lines_of rest));
   out = part.out ∙ ap (λ (o : List ℕ). o ++ part.front) so_far.put.out ∙ append_assoc old.out so_far.front part.front;
 }
 
@@ -102,8 +102,8 @@ each_more f xs i d old lines lines' less so_far more =
     ∙ append_assoc old (lines_of (flat_map f (take i xs))) (lines_of (f (get_or xs i d)))
     ∙ ap (λ (ls : List ℕ). old ++ ls) (sym (lines_append (flat_map f (take i xs)) (f (get_or xs i d))))
     ∙ ap (λ (es : List Event). old ++ lines_of es)
-      (ap (λ (es : List Event). flat_map f (take i xs) ++ es) (sym (append-nil (f (get_or xs i d))))
-      ∙ sym (flat_map-append f (take i xs) (get_or xs i d ∷ [])) ∙ ap (flat_map f) (sym (take_more xs i d less)))
+    (ap (λ (es : List Event). flat_map f (take i xs) ++ es) (sym (append-nil (f (get_or xs i d))))
+    ∙ sym (flat_map-append f (take i xs) (get_or xs i d ∷ [])) ∙ ap (flat_map f) (sym (take_more xs i d less)))
 
 -- ---- steps
 

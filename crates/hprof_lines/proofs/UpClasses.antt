@@ -3,7 +3,7 @@ use Rattle.std.proofs.Common.{◌≡◌, ℕ, suc, zero, ◌+◌, ◌-◌, ◌<�
 use Rattle.std.proofs.lemmas.List.{append-nil}
 use Rattle.heap_class.specs.declared.IdSize.{IdSize}
 use Rattle.heap_class.specs.Classes.{fields_of, sup_of}
-use Rattle.hprof_lines.specs.declared.stub.Plan.{Plan}
+use Rattle.hprof_lines.specs.declared.plan.Plan.{Plan}
 use Rattle.hprof_lines.specs.declared.values.SlotValue.{SlotValue}
 use Rattle.hprof_lines.specs.Slots.{base_of, kinds_of, values_up}
 use Rattle.hprof_lines.specs.Values.{fields_from, after_fields}
@@ -22,8 +22,8 @@ one_up p ids c count i k bytes slots all less so_far before =
     record {
       below = lower (sup_of p.classes k) before;
       left =
-        append_assoc slots (fields_from ids (length (fields_of p.classes k)) (base_of p c k) 0 (kinds_of p k) bytes) (values_up p ids c (count - (i + 1)) (sup_of p.classes k) (after_fields ids (kinds_of p k) bytes))
-        ∙ sym (ap (λ (n : ℕ). slots ++ values_up p ids c n (Some k) bytes) e) ∙ so_far.left;
+          append_assoc slots (fields_from ids (length (fields_of p.classes k)) (base_of p c k) 0 (kinds_of p k) bytes) (values_up p ids c (count - (i + 1)) (sup_of p.classes k) (after_fields ids (kinds_of p k) bytes))
+          ∙ sym (ap (λ (n : ℕ). slots ++ values_up p ids c n (Some k) bytes) e) ∙ so_far.left;
     }
   where
     lower : (s : Option ℕ) → IfSome s (λ s. s < k) → IfSome s (λ s. s < length p.classes)

@@ -5,13 +5,15 @@ mod left_out;
 mod objects;
 mod output;
 mod passes;
+mod plan;
 mod roots;
 mod session;
 mod slots;
 mod static_objects;
-mod stub;
+#[cfg(test)]
+mod tests;
 mod values;
 
 pub use left_out::{LeftOut, count_left_out};
+pub use plan::{Plan, RootFound, Statics};
 pub use session::write_session;
-pub use stub::{Plan, RootFound, Statics};

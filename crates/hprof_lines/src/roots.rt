@@ -7,7 +7,7 @@ ghost use Rattle.hprof_lines.specs.Roots.{arrays_for, clear_event, kind_events, 
 
 use crate::objects::{Objects, number_of};
 use crate::output::{put_lines, put_some};
-use crate::stub::RootFound;
+use crate::plan::RootFound;
 use dump_pump::Outlet;
 use heap_step::Event;
 use hprof_session::{MADE, push_fetch};
@@ -111,12 +111,7 @@ fn push_root(
 }
 
 // Appends the lines by which roots of a kind name objects. Their arrays have this class, and stand from slot `first` on.
-fn push_roots(
-    lines: &mut Lines,
-    class: u64,
-    first: u64,
-    numbers: &[u64],
-) -> Result<(), AllocError>
+fn push_roots(lines: &mut Lines, class: u64, first: u64, numbers: &[u64]) -> Result<(), AllocError>
     requires { first ≤ 1024 }
     ensures { OnOk result (lines.new ≡ lines.old ++ lines_of (kind_events class first numbers.now)) }
 {

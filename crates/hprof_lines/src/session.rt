@@ -11,9 +11,9 @@ ghost use Rattle.hprof_lines.specs.Sessions.{all_events, both_events, session_te
 use crate::objects::Objects;
 use crate::output::put_text;
 use crate::passes::{Pass, made_objects, write_pass};
+use crate::plan::{Plan, RootFound, Statics};
 use crate::roots::write_roots;
 use crate::static_objects::write_statics;
-use crate::stub::{Plan, RootFound, Statics};
 use dump_pump::Outlet;
 use hprof_session::Walk;
 use indexmap::IndexSet;
@@ -66,7 +66,10 @@ fn write_all<O: Outlet>(
 }
 
 /// Returns the ids of the classes that have an object for their static fields. Fails if an allocation fails.
-pub(crate) fn static_ids(alloc: Global, statics: &[Statics<'_>]) -> Result<IndexSet<u64>, AllocError>
+pub(crate) fn static_ids(
+    alloc: Global,
+    statics: &[Statics<'_>],
+) -> Result<IndexSet<u64>, AllocError>
     ensures { IfOk result (λ s. s.keys ≡ static_ids statics.now) }
 {
     let mut ids = IndexSet::new(alloc);

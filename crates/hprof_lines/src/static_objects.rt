@@ -8,7 +8,7 @@ ghost use Rattle.hprof_lines.specs.StaticObjects.{static_events, statics_events}
 use crate::objects::{Objects, push_links, push_made};
 use crate::output::{put_lines, put_some};
 use crate::passes::Pass;
-use crate::stub::Statics;
+use crate::plan::Statics;
 use crate::values::{SlotValue, add_statics};
 use dump_pump::Outlet;
 use heap_step::Event;

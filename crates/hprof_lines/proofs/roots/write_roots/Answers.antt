@@ -9,16 +9,16 @@ pub loop-j-init : goal.loop-j-init
 loop-j-init g c = record {
   room = omega arith;
   putting =
-    kinds_start _ (objects_told c.args.all.now) c.args.roots.now _ c.args.tags.now _ (omega arith)
-    (rw c.new-lines.ensures at c.in_ok-push.ensures.done ∙ sym (append-nil _));
+      kinds_start _ (objects_told c.args.all.now) c.args.roots.now _ c.args.tags.now _ (omega arith)
+      (rw c.new-lines.ensures at c.in_ok-push.ensures.done ∙ sym (append-nil _));
 }
 
 pub loop-j-preserved : goal.loop-j-preserved
 loop-j-preserved g c = record {
   room = c.in_ok-first.ensures.first.1;
   putting =
-    putting_step _ _ _ _ _ _ _ _ _ _ (opened_kinds (objects_told c.args.all.now) c.args.roots.now _ _ c.loop-j.first _ c.loop-j.j c.args.tags.now c.loop-j-test.true (omega arith) c.in_ok-first.ensures.first.0)
-    c.loop-j.invariant.putting c.in_ok-first.ensures.lines c.if-not-put_some.ensures;
+      putting_step _ _ _ _ _ _ _ _ _ _ (opened_kinds (objects_told c.args.all.now) c.args.roots.now _ _ c.loop-j.first _ c.loop-j.j c.args.tags.now c.loop-j-test.true (omega arith) c.in_ok-first.ensures.first.0)
+      c.loop-j.invariant.putting c.in_ok-first.ensures.lines c.if-not-put_some.ensures;
 }
 
 pub returns-then-not-put_some : goal.returns-then-not-put_some

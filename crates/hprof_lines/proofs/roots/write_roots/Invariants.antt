@@ -9,6 +9,6 @@ abbrev pub invariant-loop-j : goal.invariant-loop-j
 invariant-loop-j g l = record {
   room : l.first ≤ 1024;
   putting : IsPutting (g.O.Outlet.seen l.initial.outlet) (g.O.Outlet.seen l.outlet) l.lines
-    (kinds_events (objects_told l.all) l.roots (l.all.plan.now.roots + 1 + l.j) l.first (drop l.j l.tags) ++ clear_events)
-    (lines_of (roots_events (objects_told l.all) l.roots l.tags));
+      (kinds_events (objects_told l.all) l.roots (l.all.plan.now.roots + 1 + l.j) l.first (drop l.j l.tags) ++ clear_events)
+      (lines_of (roots_events (objects_told l.all) l.roots l.tags));
 }

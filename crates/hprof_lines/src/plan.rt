@@ -1,4 +1,4 @@
-//! A stub.
+//! What is planned for a dump: its classes, and which of them have an object for their static fields.
 ghost use Rattle.std.specs.Prelude.{◌≡◌, ◌<◌, nat_eq, IfSome};
 ghost use Rattle.indexmap.specs.IndexMap.{index_of, index_map_len};
 
@@ -7,14 +7,17 @@ use hprof_reader::StaticField;
 use indexmap::IndexMap;
 use session_lines::Lines;
 
-/// The classes of a session.
+/// The classes of a session, and the lines that define them. The first are classes of the dump. Then there is a class for the
+/// static fields of each class that has an object for these, then the array class `roots`, and an array class for each kind of
+/// roots.
 #[derive(Drop)]
 pub struct Plan<'a> {
     /// The classes.
     pub classes: Classes,
     /// The lines that define them.
     pub lines: Lines,
-    /// The kinds.
+    /// The classes of the dump that have the first numbers, by their ids: for each the kinds of its own fields, in the order of
+    /// its record. The first of these fields are in the session.
     pub kinds: IndexMap<u64, Vec<Kind>>,
     /// The static fields of the classes that have an object for them.
     pub statics: Vec<Statics<'a>>,

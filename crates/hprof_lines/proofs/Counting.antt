@@ -1,5 +1,5 @@
 -- What is left out, item by item.
-use Rattle.std.proofs.Common.{◌≡◌, ℕ, List, [], ◌∷◌, refl, sym, ap, ◌∙◌}
+use Rattle.std.proofs.Common.{◌≡◌, ℕ, List, [], refl, sym, ap, ◌∙◌}
 use Rattle.hprof_session.specs.Walks.{Left, ItemTold}
 use Rattle.hprof_lines.specs.declared.left_out.LeftOut.{LeftOut}
 use Rattle.hprof_lines.specs.LeftOut.{both_left_out, left_out_from, left_out_in, none_left_out}

@@ -1,11 +1,9 @@
 -- Passes, item by item.
-use Rattle.std.proofs.Common.{◌≡◌, ℕ, ◌+◌, ◌<◌, ◌≤◌, Bool, true, false, cond, List, [], ◌∷◌, ◌++◌, length, Option, Some, None, Result, Ok, Err, refl, sym, ap, subst, ◌∙◌, append_assoc, arith}
+use Rattle.std.proofs.Common.{◌≡◌, ℕ, ◌+◌, Bool, true, false, cond, List, [], ◌∷◌, ◌++◌, length, refl, sym, ap, subst, ◌∙◌, append_assoc, arith}
 use Rattle.std.proofs.lemmas.List.{append-nil, length-append}
 use Rattle.dump_pump.specs.Outlets.{Outgoing}
-use Rattle.heap_step.specs.declared.Event.{Event}
 use Rattle.hprof_session.specs.Walks.{Left, ItemTold, record_told, sub_told}
 use Rattle.hprof_session.specs.Places.{lines_of}
-use Rattle.hprof_reader.specs.SubRecords.{Sub}
 use Rattle.hprof_lines.specs.declared.passes.Pass.{Pass}
 use Rattle.hprof_lines.specs.declared.plan.Plan.{Plan}
 use Rattle.hprof_lines.specs.Objects.{ObjectsTold}

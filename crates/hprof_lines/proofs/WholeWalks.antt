@@ -1,13 +1,12 @@
 -- Walks over all items, and what is left of them.
-use Rattle.std.proofs.Common.{◌≡◌, ℕ, ◌+◌, ◌<◌, ◌≤◌, Bool, true, false, true≢false, List, [], ◌∷◌, ◌++◌, length, Option, Some, None, Result, Ok, Err, refl, sym, ap, subst, ◌∙◌, append_assoc, arith}
-use Rattle.std.proofs.lemmas.List.{append-nil, length-append}
+use Rattle.std.proofs.Common.{◌≡◌, ◌<◌, Bool, true, false, true≢false, List, [], ◌∷◌, Option, Some, None, Result, Ok, Err, refl, ap, subst, arith}
 use Rattle.hprof_reader.specs.Reading.{Gives}
 use Rattle.hprof_reader.specs.declared.fault.Fault.{Fault}
 use Rattle.hprof_session.specs.declared.walk.Item.{Item}
 use Rattle.hprof_session.specs.declared.walk.Walk.{Walk}
 use Rattle.hprof_session.specs.Surveys.{bytes_left}
-use Rattle.hprof_session.specs.Walks.{Left, ItemTold, IsNext, AreNext, left, item_told, step_told, next_told}
-use Rattle.hprof_session.proofs.Walked.{IsWalked, walked_none, walked_on}
+use Rattle.hprof_session.specs.Walks.{Left, ItemTold, IsNext, AreNext, left, item_told, next_told}
+use Rattle.hprof_session.proofs.Walked.{walked_none, walked_on}
 use Rattle.hprof_lines.specs.Passes.{IsWhole}
 
 pub bytes_shrink : (w : Left) (i : ItemTold) (v : Left) → IsNext w i v → bytes_left v < bytes_left w

@@ -1,5 +1,5 @@
 -- Passes over the objects of a dump.
-use Rattle.std.specs.Prelude.{◌≡◌, ℕ, ◌+◌, ◌^◌, ◌==◌, ◌&&◌, Bool, false, nat_eq, nat_lt, List, [], ◌∷◌, ◌++◌, flat_map, is_some, length, position, slice_index_or, Option, Some, None, if◌then◌else◌}
+use Rattle.std.specs.Prelude.{ℕ, ◌+◌, ◌^◌, ◌==◌, ◌&&◌, Bool, false, nat_eq, nat_lt, List, [], ◌∷◌, ◌++◌, is_some, length, position, slice_index_or, Option, Some, None, if◌then◌else◌}
 use Rattle.std.specs.Option.{option_map_or}
 use Rattle.heap_step.specs.declared.Event.{Event}
 use Rattle.hprof_reader.specs.SubRecords.{Sub, instance, array, prim}

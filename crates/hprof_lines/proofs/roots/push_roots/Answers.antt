@@ -1,7 +1,4 @@
-use Rattle.std.proofs.Common.{sym, ◌∙◌, ap, List, ℕ, ◌++◌, length}
-use Rattle.std.proofs.lemmas.List.{append-nil}
-use Rattle.heap_step.specs.declared.Event.{Event}
-use Rattle.hprof_session.specs.Places.{lines_of}
+use Rattle.std.proofs.Common.{length}
 use Rattle.hprof_lines.proofs.Puttings.{left_more, left_none}
 use Rattle.hprof_lines.proofs.OpenedEvents.{opened_roots, closed_roots}
 use Rattle.hprof_lines.proofs.roots.push_roots.Goals as goal

@@ -1,4 +1,4 @@
-use Rattle.std.proofs.Common.{◌<◌, ◌≤◌, length, arith}
+use Rattle.std.proofs.Common.{◌<◌, length, arith}
 use Rattle.hprof_lines.proofs.UpClasses.{one_up, no_more_up, end_up}
 use Rattle.hprof_lines.proofs.slots.add_instance.Goals as goal
 

@@ -1,6 +1,4 @@
-use Rattle.std.proofs.Common.{get_or}
 use Rattle.std.proofs.lemmas.List.{drop_all}
-use Rattle.heap_class.specs.declared.Kind.{Kind}
 use Rattle.heap_class.specs.declared.Kind.TheVariants as kinds
 use Rattle.hprof_lines.proofs.MoreValues.{one_field, no_fields}
 use Rattle.hprof_lines.proofs.values.add_fields.Goals as goal

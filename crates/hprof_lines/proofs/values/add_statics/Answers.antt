@@ -1,6 +1,5 @@
 use Rattle.std.proofs.Common.{[]}
 use Rattle.std.proofs.lemmas.List.{drop_all}
-use Rattle.heap_class.specs.declared.Kind.{Kind}
 use Rattle.heap_class.specs.declared.Kind.TheVariants as kinds
 use Rattle.hprof_lines.proofs.MoreValues.{one_static, no_statics}
 use Rattle.hprof_lines.proofs.values.add_statics.Goals as goal

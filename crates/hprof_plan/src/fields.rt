@@ -1,78 +1,83 @@
-//! Fields in the records of classes.
-use crate::plan::id_in;
-use heap_class::{IdSize, Kind};
-use hprof_reader::Table;
+//! Own fields and static fields in the records of classes.
+ghost use Rattle.std.specs.Prelude.{◌≡◌, ◌≤◌, length, map, min, option_map, IfOk};
+ghost use Rattle.hprof_reader.specs.Fields.{static_told};
+ghost use Rattle.hprof_plan.specs.Fields.{own_fields, own_parts, static_fields, static_parts};
 
-/// A field: the id of its name, its kind, and for a static field its value.
-#[derive(Clone, Copy)]
-pub struct FieldIn<'a> {
-    pub name: u64,
-    pub kind: Kind,
-    pub value: &'a [u8],
-}
+use heap_class::IdSize;
+use hprof_reader::{OwnField, StaticField, Table, own_field_at, static_field_at};
+use std::alloc::{AllocError, Global};
 
-// Returns the kind with this code; Byte if there is none.
-pub(crate) fn kind_of(code: u8) -> Kind {
-    match code {
-        2 => Kind::Object,
-        4 => Kind::Boolean,
-        5 => Kind::Char,
-        6 => Kind::Float,
-        7 => Kind::Double,
-        9 => Kind::Short,
-        10 => Kind::Int,
-        11 => Kind::Long,
-        _ => Kind::Byte,
+// Returns the own field in front of bytes, and the bytes after it, if there is one.
+fn next_own(ids: IdSize, bytes: &[u8]) -> Option<(OwnField, &[u8])>
+    ensures { option_map (λ x. (x.0, x.1.now)) result ≡ own_parts ids bytes.now }
+{
+    match own_field_at(ids, bytes) {
+        Ok((field, rest)) => Some((field, rest)),
+        Err(_) => None,
     }
 }
 
-// Returns the first static field and the bytes after it.
-pub(crate) fn static_at(ids: IdSize, bytes: &[u8]) -> (FieldIn<'_>, &[u8]) {
-    let size = ids.bytes() as usize;
-    if bytes.len() <= size {
-        return (
-            FieldIn {
-                name: 0,
-                kind: Kind::Byte,
-                value: &[],
-            },
-            &[],
-        );
+// Returns the static field in front of bytes, and the bytes after it, if there is one.
+fn next_static(ids: IdSize, bytes: &[u8]) -> Option<(StaticField<'_>, &[u8])>
+    ensures { option_map (λ x. (static_told x.0, x.1.now)) result ≡ static_parts ids bytes.now }
+{
+    match static_field_at(ids, bytes) {
+        Ok((field, rest)) => Some((field, rest)),
+        Err(_) => None,
     }
-    let name = id_in(ids, bytes);
-    let kind = kind_of(bytes[size]);
-    let rest = &bytes[size + 1..];
-    let width = kind.width(ids) as usize;
-    if rest.len() < width {
-        return (
-            FieldIn {
-                name: 0,
-                kind: Kind::Byte,
-                value: &[],
-            },
-            &[],
-        );
-    }
-    let (value, rest) = rest.split_at(width);
-    (FieldIn { name, kind, value }, rest)
 }
 
-// Returns own field `index` of a class.
-pub(crate) fn own_field(ids: IdSize, fields: Table<'_>, index: usize) -> (u64, Kind) {
-    let size = ids.bytes() as usize + 1;
-    let at = index * size;
-    if fields.bytes.len() < at + size {
-        return (0, Kind::Byte);
+/// Returns the own fields of a class, up to the first whose kind doesn't exist. Fails if an allocation fails.
+pub fn own_fields(alloc: Global, ids: IdSize, table: Table<'_>) -> Result<Vec<OwnField>, AllocError>
+    ensures { IfOk result (λ v. v.items ≡ own_fields ids table.entry.count table.entry.bytes.now) }
+{
+    let mut fields = Vec::new(alloc);
+    let mut rest = table.bytes;
+    for _ in 0..table.count {
+        match next_own(ids, rest) {
+            Some((field, after)) => {
+                fields.push(field)?;
+                rest = after;
+            }
+            None => return Ok(fields),
+        }
     }
-    let entry = &fields.bytes[at..at + size];
-    (id_in(ids, entry), kind_of(entry[size - 1]))
+    Ok(fields)
 }
 
-// Returns the number that bytes are, the highest first.
-pub(crate) fn value_in(bytes: &[u8]) -> u64 {
-    let mut value = 0u64;
-    for byte in bytes {
-        value = value.wrapping_mul(256) | *byte as u64;
+// Returns the first static fields of a class, at most 64. Fails if an allocation fails.
+fn read_statics<'a>(
+    alloc: Global,
+    ids: IdSize,
+    table: Table<'a>,
+) -> Result<Vec<StaticField<'a>>, AllocError>
+    ensures { IfOk result
+        (λ v. map static_told v.items ≡ static_fields ids (min table.entry.count 64) table.entry.bytes.now) }
+{
+    let mut fields = Vec::new(alloc);
+    let mut rest = table.bytes;
+    for _ in 0..table.count.min(64) {
+        match next_static(ids, rest) {
+            Some((field, after)) => {
+                fields.push(field)?;
+                rest = after;
+            }
+            None => return Ok(fields),
+        }
     }
-    value
+    Ok(fields)
+}
+
+/// Returns the first static fields of a class, at most 64. Fails if an allocation fails.
+pub fn static_fields<'a>(
+    alloc: Global,
+    ids: IdSize,
+    table: Table<'a>,
+) -> Result<Vec<StaticField<'a>>, AllocError>
+    ensures value { IfOk result
+        (λ v. map static_told v.items ≡ static_fields ids (min table.entry.count 64) table.entry.bytes.now) }
+    ensures few { IfOk result (λ v. length v.items ≤ 64) }
+{
+    let fields = read_statics(alloc, ids, table)?;
+    Ok(fields)
 }

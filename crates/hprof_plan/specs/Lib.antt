@@ -1,0 +1,10 @@
+pub mod Accepted
+pub mod ClassFields
+pub mod Defined
+pub mod Fields
+pub mod Finds
+pub mod Items
+pub mod Names
+pub mod Plans
+pub mod Right
+pub mod Tables

@@ -1,8 +1,14 @@
 //! The session of a dump.
+ghost use Rattle.std.specs.Prelude.{◌≡◌, ◌++◌, ℕ, List, [], OnOk};
+ghost use Rattle.hprof_reader.specs.Headers.{header_text};
+ghost use Rattle.hprof_reader.specs.declared.header.Header.{Header};
+ghost use Rattle.hprof_session.specs.Walks.{left};
+ghost use Rattle.hprof_import.specs.Conversions.{IsConverted};
+
 use dump_pump::Outlet;
-use heap_class::{ClassLimits, WIDEST_CLASSES};
-use hprof_lines::{count_left_out, write_session};
-use hprof_plan::{find, plan_classes};
+use heap_class::WIDEST_CLASSES;
+use hprof_lines::{LeftOut, count_left_out, write_session};
+use hprof_plan::{Found, Plan, find, plan_classes};
 use hprof_reader::{Fault, header_at};
 use hprof_session::Walk;
 use std::alloc::{AllocError, Global};
@@ -36,43 +42,19 @@ pub enum Failure {
 }
 
 impl From<AllocError> for Failure {
+    ghost use Rattle.std.specs.Prelude.{◌≡◌};
+    ghost use Rattle.hprof_import.specs.declared.convert.Failure.TheVariants.{Memory};
+
+    ghost from_gives = { λ _ e. e ≡ Memory };
+
     fn from(_error: AllocError) -> Failure {
         Failure::Memory
     }
 }
 
-// The limits of a wide heap.
-const LIMITS: ClassLimits = WIDEST_CLASSES;
-
-/// Puts out the session of a dump.
-pub fn convert<O: Outlet>(
-    alloc: Global,
-    outlet: &mut O,
-    bytes: &[u8],
-) -> Result<Converted, Failure> {
-    let Ok((header, rest)) = header_at(bytes) else {
-        return Err(Failure::Header);
-    };
-    let walk = Walk {
-        ids: header.ids,
-        segment: &[],
-        rest,
-    };
-    let found = find(alloc, walk)?;
-    let plan = plan_classes(alloc, LIMITS, &found)?;
-    if !write_session(
-        alloc,
-        outlet,
-        walk,
-        &plan,
-        &found.objects,
-        found.roots.as_slice(),
-    )? {
-        return Err(Failure::Write);
-    }
-    let left = count_left_out(alloc, walk, &plan, &found.objects)?;
-    let size = bytes.len() as u64;
-    Ok(Converted {
+// Returns what is left out: of objects this, and of classes those that have no number.
+fn left_out_of(found: &Found<'_>, plan: &Plan<'_>, left: LeftOut, size: u64) -> Converted {
+    Converted {
         arrays: left.arrays,
         classes: (found.classes.len() as u64).saturating_sub(plan.kinds.len() as u64),
         again: found.again,
@@ -82,5 +64,45 @@ pub fn convert<O: Outlet>(
             Some(fault) => Some((fault, size.saturating_sub(found.left))),
             None => None,
         },
-    })
+    }
+}
+
+// Puts out the session of what a walk comes to, and counts what is left out. The dump has `size` bytes.
+fn convert_walk<O: Outlet>(
+    alloc: Global,
+    outlet: &mut O,
+    walk: Walk<'_>,
+    size: u64,
+) -> Result<Converted, Failure>
+    ensures { OnOk result (IsConverted (left walk.entry) (O.seen outlet.old) (O.seen outlet.new)) }
+{
+    let found = find(alloc, walk)?;
+    let plan = plan_classes(alloc, WIDEST_CLASSES, &found)?;
+    let _number = plan.classes.len();
+    let roots = found.roots.as_slice();
+    if !write_session(alloc, outlet, walk, &plan, &found.objects, roots)? {
+        return Err(Failure::Write);
+    }
+    let left = count_left_out(alloc, walk, &plan, &found.objects)?;
+    Ok(left_out_of(&found, &plan, left, size))
+}
+
+/// Puts out the session of a dump, and counts what is left out. Fails with Header if the bytes don't begin as a dump does, with
+/// Memory if an allocation fails, or with Write if a put fails.
+pub fn convert<O: Outlet>(alloc: Global, outlet: &mut O, bytes: &[u8]) -> Result<Converted, Failure>
+    ensures { OnOk result ((h : Header) × (rest : List ℕ) × (bytes.now ≡ header_text h ++ rest)
+        × IsConverted (record { ids = h.ids; segment = []; rest = rest }) (O.seen outlet.old)
+        (O.seen outlet.new)) }
+{
+    match header_at(bytes) {
+        Ok(read) => {
+            let walk = Walk {
+                ids: read.0.ids,
+                segment: &[],
+                rest: read.1,
+            };
+            convert_walk(alloc, outlet, walk, bytes.len() as u64)
+        }
+        Err(_) => Err(Failure::Header),
+    }
 }

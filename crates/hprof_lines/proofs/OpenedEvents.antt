@@ -5,8 +5,8 @@ use Rattle.dump_pump.specs.Outlets.{Outgoing}
 use Rattle.heap_step.specs.declared.Event.TheVariants.{NewArray}
 use Rattle.hprof_session.specs.Places.{lines_of}
 use Rattle.hprof_lines.specs.declared.passes.Pass.{Pass}
-use Rattle.hprof_lines.specs.declared.plan.RootFound.{RootFound}
-use Rattle.hprof_lines.specs.declared.plan.Statics.{Statics}
+use Rattle.hprof_plan.specs.declared.items.RootFound.{RootFound}
+use Rattle.hprof_plan.specs.declared.planning.Statics.{Statics}
 use Rattle.hprof_lines.specs.Objects.{ObjectsTold}
 use Rattle.hprof_lines.specs.Outputs.{PutsOr}
 use Rattle.hprof_lines.specs.Roots.{arrays_for, clear_events, kind_events, kinds_events, root_events, roots_events, roots_from, roots_named, with_room}

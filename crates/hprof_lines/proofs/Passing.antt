@@ -5,7 +5,7 @@ use Rattle.dump_pump.specs.Outlets.{Outgoing}
 use Rattle.hprof_session.specs.Walks.{Left, ItemTold, record_told, sub_told}
 use Rattle.hprof_session.specs.Places.{lines_of}
 use Rattle.hprof_lines.specs.declared.passes.Pass.{Pass}
-use Rattle.hprof_lines.specs.declared.plan.Plan.{Plan}
+use Rattle.hprof_plan.specs.declared.planning.Plan.{Plan}
 use Rattle.hprof_lines.specs.Objects.{ObjectsTold}
 use Rattle.hprof_lines.specs.Outputs.{PutsOr, PutsPart, PutsSome}
 use Rattle.hprof_lines.specs.Passes.{IsWhole, item_events, is_made, is_turn, made_from, made_in, next_place, pass_events}

@@ -2,7 +2,7 @@
 use Rattle.std.proofs.Common.{◌≡◌, ℕ, Bool, List, length, sym, ap, ◌∙◌}
 use Rattle.heap_class.specs.declared.IdSize.{IdSize}
 use Rattle.hprof_session.specs.Walks.{ItemTold}
-use Rattle.hprof_lines.specs.declared.plan.Plan.{Plan}
+use Rattle.hprof_plan.specs.declared.planning.Plan.{Plan}
 use Rattle.hprof_lines.specs.Objects.{ObjectsTold}
 use Rattle.hprof_lines.specs.Passes.{made_from}
 use Rattle.hprof_lines.specs.Sessions.{static_ids, told_objects}

@@ -3,7 +3,7 @@ use Rattle.std.proofs.Common.{◌≡◌, ℕ, suc, zero, ◌+◌, ◌-◌, ◌<�
 use Rattle.std.proofs.lemmas.List.{append-nil}
 use Rattle.heap_class.specs.declared.IdSize.{IdSize}
 use Rattle.heap_class.specs.Classes.{fields_of, sup_of}
-use Rattle.hprof_lines.specs.declared.plan.Plan.{Plan}
+use Rattle.hprof_plan.specs.declared.planning.Plan.{Plan}
 use Rattle.hprof_lines.specs.declared.values.SlotValue.{SlotValue}
 use Rattle.hprof_lines.specs.Slots.{base_of, kinds_of, values_up}
 use Rattle.hprof_lines.specs.Values.{fields_from, after_fields}

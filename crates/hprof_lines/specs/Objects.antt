@@ -12,7 +12,7 @@ use Rattle.indexmap.specs.IndexMap.{index_of}
 use Rattle.hprof_reader.specs.SubRecords.{Sub, instance, array, prim}
 use Rattle.hprof_session.specs.Places.{fetch_events, keep_event, place_events}
 use Rattle.hprof_lines.specs.declared.objects.Objects.{Objects}
-use Rattle.hprof_lines.specs.declared.plan.Plan.{Plan}
+use Rattle.hprof_plan.specs.declared.planning.Plan.{Plan}
 use Rattle.hprof_lines.specs.declared.values.SlotValue.{SlotValue}
 use Rattle.hprof_lines.specs.Slots.{element_limit, object_values}
 

@@ -6,7 +6,7 @@ use Rattle.hprof_reader.specs.SubRecords.{Sub, instance, array, prim}
 use Rattle.hprof_session.specs.Walks.{Left, ItemTold, record_told, sub_told, IsNext, AreNext}
 use Rattle.hprof_lines.specs.declared.passes.Pass.{Pass}
 use Rattle.hprof_lines.specs.declared.passes.Pass.TheVariants.{Making, Linking}
-use Rattle.hprof_lines.specs.declared.plan.Plan.{Plan}
+use Rattle.hprof_plan.specs.declared.planning.Plan.{Plan}
 use Rattle.hprof_lines.specs.Objects.{ObjectsTold, links_of, making_event, object_events}
 use Rattle.hprof_lines.specs.Slots.{object_values}
 

@@ -4,7 +4,7 @@ use Rattle.std.specs.Option.{option_to_list}
 use Rattle.heap_step.specs.declared.Event.{Event}
 use Rattle.heap_step.specs.declared.Event.TheVariants.{Clear, NewArray, Store}
 use Rattle.hprof_session.specs.Places.{fetch_events}
-use Rattle.hprof_lines.specs.declared.plan.RootFound.{RootFound}
+use Rattle.hprof_plan.specs.declared.items.RootFound.{RootFound}
 use Rattle.hprof_lines.specs.Objects.{ObjectsTold, number_of}
 
 -- the number of the object that a root of this tag names

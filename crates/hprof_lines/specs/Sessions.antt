@@ -7,9 +7,9 @@ use Rattle.hprof_session.specs.Places.{lines_of}
 use Rattle.hprof_session.specs.Walks.{ItemTold}
 use Rattle.hprof_lines.specs.declared.passes.Pass.{Pass}
 use Rattle.hprof_lines.specs.declared.passes.Pass.TheVariants.{Making, Linking}
-use Rattle.hprof_lines.specs.declared.plan.Plan.{Plan}
-use Rattle.hprof_lines.specs.declared.plan.RootFound.{RootFound}
-use Rattle.hprof_lines.specs.declared.plan.Statics.{Statics}
+use Rattle.hprof_plan.specs.declared.planning.Plan.{Plan}
+use Rattle.hprof_plan.specs.declared.items.RootFound.{RootFound}
+use Rattle.hprof_plan.specs.declared.planning.Statics.{Statics}
 use Rattle.hprof_lines.specs.Objects.{ObjectsTold}
 use Rattle.hprof_lines.specs.Passes.{made_from, pass_events}
 use Rattle.hprof_lines.specs.Roots.{roots_events}

@@ -6,7 +6,7 @@ use Rattle.heap_class.specs.declared.Kind.{Kind}
 use Rattle.heap_class.specs.Classes.{fields_of, slots_of, sup_of}
 use Rattle.indexmap.specs.IndexMap.{index_of}
 use Rattle.hprof_reader.specs.SubRecords.{Sub, instance, array, prim}
-use Rattle.hprof_lines.specs.declared.plan.Plan.{Plan}
+use Rattle.hprof_plan.specs.declared.planning.Plan.{Plan}
 use Rattle.hprof_lines.specs.declared.values.SlotValue.{SlotValue}
 use Rattle.hprof_lines.specs.Values.{elements_from, fields_from, after_fields}
 

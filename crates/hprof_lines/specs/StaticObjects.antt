@@ -5,7 +5,7 @@ use Rattle.heap_step.specs.declared.Event.TheVariants.{New}
 use Rattle.hprof_session.specs.Places.{place_events}
 use Rattle.hprof_lines.specs.declared.passes.Pass.{Pass}
 use Rattle.hprof_lines.specs.declared.passes.Pass.TheVariants.{Making, Linking}
-use Rattle.hprof_lines.specs.declared.plan.Statics.{Statics}
+use Rattle.hprof_plan.specs.declared.planning.Statics.{Statics}
 use Rattle.hprof_lines.specs.Objects.{ObjectsTold, links_of, made_events}
 use Rattle.hprof_lines.specs.Values.{statics_from}
 

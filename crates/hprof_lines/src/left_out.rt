@@ -10,10 +10,10 @@ ghost use Rattle.hprof_lines.specs.Sessions.{told_objects};
 
 use crate::objects::{Objects, made_at, names_object, number_of};
 use crate::passes::{is_turn, made_objects};
-use crate::plan::Plan;
 use crate::session::static_ids;
 use crate::slots::{ELEMENT_LIMIT, read_object};
 use crate::values::SlotValue;
+use hprof_plan::Plan;
 use hprof_reader::SubRecord;
 use hprof_session::{Item, Walk, item_at};
 use indexmap::IndexSet;

@@ -5,7 +5,6 @@ mod left_out;
 mod objects;
 mod output;
 mod passes;
-mod plan;
 mod roots;
 mod session;
 mod slots;
@@ -15,5 +14,4 @@ mod tests;
 mod values;
 
 pub use left_out::{LeftOut, count_left_out};
-pub use plan::{Plan, RootFound, Statics};
 pub use session::write_session;

@@ -7,11 +7,11 @@ ghost use Rattle.hprof_reader.specs.SubRecords.{sub_record};
 ghost use Rattle.hprof_session.specs.Places.{lines_of};
 ghost use Rattle.hprof_lines.specs.Objects.{array_made, instance_made, links_of, made_events, making_event, names_object, number_of, object_events, objects_told, reference_events, value_events};
 
-use crate::plan::Plan;
 use crate::slots::{ELEMENT_LIMIT, read_object};
 use crate::values::SlotValue;
 use heap_class::{IdSize, Kind};
 use heap_step::Event;
+use hprof_plan::Plan;
 use hprof_reader::SubRecord;
 use hprof_session::{MADE, push_fetch, push_keep, push_place};
 use indexmap::IndexSet;

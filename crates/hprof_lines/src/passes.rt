@@ -10,10 +10,10 @@ ghost use Rattle.hprof_lines.specs.Passes.{IsWhole, events_at, id_of, is_made, i
 
 use crate::objects::{Objects, made_at, making_event, push_links, push_object};
 use crate::output::{put_lines, put_some};
-use crate::plan::Plan;
 use crate::slots::read_object;
 use crate::values::SlotValue;
 use dump_pump::Outlet;
+use hprof_plan::Plan;
 use hprof_reader::SubRecord;
 use hprof_session::{Item, PLACES, Walk, item_at};
 use indexmap::IndexSet;

@@ -7,9 +7,9 @@ ghost use Rattle.hprof_lines.specs.Roots.{arrays_for, clear_event, kind_events, 
 
 use crate::objects::{Objects, number_of};
 use crate::output::{put_lines, put_some};
-use crate::plan::RootFound;
 use dump_pump::Outlet;
 use heap_step::Event;
+use hprof_plan::RootFound;
 use hprof_session::{MADE, push_fetch};
 use session_lines::Lines;
 use std::alloc::{AllocError, Global};

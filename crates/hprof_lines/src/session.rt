@@ -11,10 +11,10 @@ ghost use Rattle.hprof_lines.specs.Sessions.{all_events, both_events, session_te
 use crate::objects::Objects;
 use crate::output::put_text;
 use crate::passes::{Pass, made_objects, write_pass};
-use crate::plan::{Plan, RootFound, Statics};
 use crate::roots::write_roots;
 use crate::static_objects::write_statics;
 use dump_pump::Outlet;
+use hprof_plan::{Plan, RootFound, Statics};
 use hprof_session::Walk;
 use indexmap::IndexSet;
 use std::alloc::{AllocError, Global};

@@ -4,9 +4,9 @@ ghost use Rattle.indexmap.specs.IndexMap.{index_map_len};
 ghost use Rattle.hprof_reader.specs.SubRecords.{sub_record};
 ghost use Rattle.hprof_lines.specs.Slots.{base_of, instance_values, kinds_of, object_values};
 
-use crate::plan::Plan;
 use crate::values::{SlotValue, add_elements, add_fields};
 use heap_class::{IdSize, Kind};
+use hprof_plan::Plan;
 use hprof_reader::SubRecord;
 use std::alloc::AllocError;
 

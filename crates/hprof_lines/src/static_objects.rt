@@ -8,10 +8,10 @@ ghost use Rattle.hprof_lines.specs.StaticObjects.{static_events, statics_events}
 use crate::objects::{Objects, push_links, push_made};
 use crate::output::{put_lines, put_some};
 use crate::passes::Pass;
-use crate::plan::Statics;
 use crate::values::{SlotValue, add_statics};
 use dump_pump::Outlet;
 use heap_step::Event;
+use hprof_plan::Statics;
 use hprof_session::{MADE, push_place};
 use session_lines::Lines;
 use std::alloc::{AllocError, Global};

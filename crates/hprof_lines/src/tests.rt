@@ -2,6 +2,7 @@
 use super::*;
 use dump_pump::WriteOutlet;
 use heap_class::{Classes, Field, Fields, IdSize, Kind, Name, NewClass, WIDEST_CLASSES};
+use hprof_plan::{Plan, RootFound, Statics};
 use hprof_reader::StaticField;
 use hprof_session::Walk;
 use indexmap::{IndexMap, IndexSet};

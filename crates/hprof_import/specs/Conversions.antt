@@ -11,7 +11,8 @@ use Rattle.hprof_lines.specs.Outputs.{Puts}
 use Rattle.hprof_lines.specs.Passes.{IsWhole}
 use Rattle.hprof_lines.specs.Sessions.{session_text}
 
--- the session of all items that this walk comes to was put out, by what is found in them and by a plan of its classes for a wide heap
+-- the session of all items that this walk comes to was put out, by what is found in them and by a plan of its classes for a
+-- wide heap
 pub record IsConverted (w : Left) (old new : Outgoing) : Type 0 where
   pub items : List ItemTold
   pub whole : IsWhole w items

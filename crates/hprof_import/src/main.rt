@@ -1,5 +1,5 @@
-//! `heapdbg-import FILE OUT` writes the session that makes the heap of a dump. FILE is a dump in HPROF, such as a JVM writes; OUT is
-//! the file of the lines of the session, for a wide heap.
+//! `heapdbg-import FILE OUT` writes the session that makes the heap of a dump. FILE is a dump in HPROF, such as a JVM writes;
+//! OUT is the file of the lines of the session, for a wide heap.
 #![tactic(auto)]
 
 mod convert;

@@ -40,7 +40,11 @@ is_lost o v = names_object v && is_none (number_of o v.value)
 
 -- what is left out of an object of which this tells whether it is made
 abbrev pub left_out_if : Bool → ObjectsTold → Sub → LeftOut
-left_out_if true o s = record { arrays = cuts_of s; objects = 0; references = count_by (is_lost o) (object_values o.plan o.ids s) }
+left_out_if true o s = record {
+  arrays = cuts_of s;
+  objects = 0;
+  references = count_by (is_lost o) (object_values o.plan o.ids s);
+}
 left_out_if false o s = record { arrays = 0; objects = 1; references = 0 }
 
 -- what is left out of an item, if it is the object at place i

@@ -16,8 +16,8 @@ use Rattle.hprof_plan.specs.declared.planning.Plan.{Plan}
 use Rattle.hprof_lines.specs.declared.values.SlotValue.{SlotValue}
 use Rattle.hprof_lines.specs.Slots.{element_limit, object_values}
 
--- what is known of the objects of a dump, wherever it lies in memory: the ids of the objects in order, which of them are made, and
--- the ids of the classes that have an object for their static fields
+-- what is known of the objects of a dump, wherever it lies in memory: the ids of the objects in order, which of them are made,
+-- and the ids of the classes that have an object for their static fields
 pub record ObjectsTold : Type 0 where
   pub plan : Plan
   pub ids : IdSize

@@ -15,8 +15,8 @@ root_named o tag r = if r.tag == tag then option_to_list (number_of o r.id) else
 abbrev pub roots_named : ObjectsTold → ℕ → List RootFound → List ℕ
 roots_named o tag roots = flat_map (root_named o tag) roots
 
--- before root i of `count` of a kind, an array for this and the 1,023 roots after it, of this class, in the next slot of register
--- 7 from `first` on
+-- before root i of `count` of a kind, an array for this and the 1,023 roots after it, of this class, in the next slot of
+-- register 7 from `first` on
 abbrev pub root_array : ℕ → ℕ → ℕ → ℕ → List Event
 root_array class first count i =
     if i % 1024 == 0 then NewArray 0 5 class (min (count - i) 1024) ∷ Store 0 7 (first + i / 1024) 5 ∷ [] else []
@@ -58,8 +58,8 @@ clear_event r = Clear 0 r ∷ []
 abbrev pub clear_events : List Event
 clear_events = flat_map clear_event (0 ∷ 1 ∷ 2 ∷ 3 ∷ 4 ∷ 5 ∷ 6 ∷ [])
 
--- the events that keep the roots: register 7 names the array of their arrays, which is of class `roots`; the classes after that are
--- those of the kinds, which have these tags. At last register 7 alone names an object
+-- the events that keep the roots: register 7 names the array of their arrays, which is of class `roots`; the classes after that
+-- are those of the kinds, which have these tags. At last register 7 alone names an object
 unfoldable pub roots_events : ObjectsTold → List RootFound → List ℕ → List Event
 roots_events o roots tags =
     NewArray 0 7 o.plan.roots 1024 ∷ kinds_events o roots (o.plan.roots + 1) 0 tags ++ clear_events

@@ -19,13 +19,13 @@ use Rattle.hprof_lines.specs.StaticObjects.{statics_events}
 abbrev pub both_events : Pass → ObjectsTold → List ItemTold → List Event
 both_events pass o items = statics_events pass o 0 o.plan.statics.items ++ pass_events pass o 0 items
 
--- the tags of roots: JNI global 01, JNI local 02, Java frame 03, native stack 04, sticky class 05, thread block 06, monitor used
--- 07, thread object 08, unknown FF
+-- the tags of roots: JNI global 01, JNI local 02, Java frame 03, native stack 04, sticky class 05, thread block 06, monitor
+-- used 07, thread object 08, unknown FF
 abbrev pub root_tags : List ℕ
 root_tags = 0x01 ∷ 0x02 ∷ 0x03 ∷ 0x04 ∷ 0x05 ∷ 0x06 ∷ 0x07 ∷ 0x08 ∷ 0xff ∷ []
 
--- the events after the classes: all objects are made and their values are written, then their slots are made to name objects, and
--- then the roots are kept
+-- the events after the classes: all objects are made and their values are written, then their slots are made to name objects,
+-- and then the roots are kept
 abbrev pub all_events : ObjectsTold → List ItemTold → List RootFound → List Event
 all_events o items roots =
     both_events Making o items ++ (both_events Linking o items ++ roots_events o roots root_tags)

@@ -14,8 +14,8 @@ use Rattle.hprof_lines.specs.Values.{elements_from, fields_from, after_fields}
 abbrev pub kinds_of : Plan → ℕ → List Kind
 kinds_of p k = option_map_or (λ e. e.1.items) (slice_get p.kinds.entries k) []
 
--- the first slot of the own fields of class k, in an instance of class c, of which k is this or one above: own fields stand before
--- those of the super
+-- the first slot of the own fields of class k, in an instance of class c, of which k is this or one above: own fields stand
+-- before those of the super
 abbrev pub base_of : Plan → ℕ → ℕ → ℕ
 base_of p c k = length (slots_of p.classes c) - length (slots_of p.classes k)
 

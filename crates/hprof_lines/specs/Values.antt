@@ -29,8 +29,8 @@ abbrev pub value_if : Bool → SlotValue → List SlotValue
 value_if true v = v ∷ []
 value_if false v = []
 
--- the values of fields of these kinds, from field i of their class on. The class keeps so many of its fields, in slots from `base`
--- on
+-- the values of fields of these kinds, from field i of their class on. The class keeps so many of its fields, in slots from
+-- `base` on
 unfoldable pub fields_from : IdSize → ℕ → ℕ → ℕ → List Kind → List ℕ → List SlotValue
 fields_from ids kept base i [] bytes = []
 fields_from ids kept base i (kind ∷ kinds) bytes =

@@ -167,8 +167,8 @@ fn left_out_of_all(
     }
 }
 
-/// Counts what of the objects of a dump the session that `write_session` puts out leaves out. Counts stay at 2^64 - 1 if they come
-/// so far. Fails if an allocation fails. Walks over the dump twice.
+/// Counts what of the objects of a dump the session that `write_session` puts out leaves out. Counts stay at 2^64 - 1 if they
+/// come so far. Fails if an allocation fails. Walks over the dump twice.
 pub fn count_left_out(
     alloc: Global,
     walk: Walk<'_>,

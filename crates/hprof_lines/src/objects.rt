@@ -252,7 +252,8 @@ pub(crate) fn push_made(
     push_keep(lines, n)
 }
 
-/// Appends the lines that make object n, and before it the arrays that keep it, if they aren't there. Fails if an allocation fails.
+/// Appends the lines that make object n, and before it the arrays that keep it, if they aren't there. Fails if an allocation
+/// fails.
 #[tactic(auto, unfolding(crate::specs::Objects::object_events))]
 pub(crate) fn push_object(
     lines: &mut Lines,

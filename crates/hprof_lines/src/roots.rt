@@ -155,8 +155,8 @@ fn push_clears(lines: &mut Lines, registers: &[u64]) -> Result<(), AllocError>
     Ok(())
 }
 
-/// Puts out the lines that keep the roots of a dump, in arrays of the kinds with these tags. Tells whether they are all out. Fails
-/// if an allocation fails.
+/// Puts out the lines that keep the roots of a dump, in arrays of the kinds with these tags. Tells whether they are all out.
+/// Fails if an allocation fails.
 pub(crate) fn write_roots<O: Outlet>(
     alloc: Global,
     outlet: &mut O,

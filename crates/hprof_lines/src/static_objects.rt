@@ -46,7 +46,8 @@ fn push_static(
     }
 }
 
-/// Puts out the lines of a pass over the objects of static fields. Tells whether they are all out. Fails if an allocation fails.
+/// Puts out the lines of a pass over the objects of static fields. Tells whether they are all out. Fails if an allocation
+/// fails.
 pub(crate) fn write_statics<O: Outlet>(
     alloc: Global,
     outlet: &mut O,

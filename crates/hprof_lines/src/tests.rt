@@ -10,8 +10,8 @@ use session_lines::Lines;
 use std::alloc::Global;
 use std::test::*;
 
-// A heap dump segment with identifiers of 4 bytes: the roots FF of object 31 and 05 of class 10, instance 31 of class 10, whose slots
-// are a reference, an int and a boolean, an array 32 of two references of class 20, and an array 33 of three characters.
+// A heap dump segment with identifiers of 4 bytes: the roots FF of object 31 and 05 of class 10, instance 31 of class 10, whose
+// slots are a reference, an int and a boolean, an array 32 of two references of class 20, and an array 33 of three characters.
 const DUMP: &[u8] = b"\x1c\0\0\0\0\0\0\0\x51\
 \xff\0\0\0\x31\
 \x05\0\0\0\x10\
@@ -19,8 +19,8 @@ const DUMP: &[u8] = b"\x1c\0\0\0\0\0\0\0\x51\
 \x22\0\0\0\x32\0\0\0\x01\0\0\0\x02\0\0\0\x20\0\0\0\x31\0\0\0\x10\
 \x23\0\0\0\x33\0\0\0\x01\0\0\0\x03\x05\0\x41\0\0\0\x42";
 
-// Its session, if class 10 has the number 0, the class 20 the number 1, the class of the static fields of class 10 the number 2, and
-// the class `roots` the number 3.
+// Its session, if class 10 has the number 0, the class 20 the number 1, the class of the static fields of class 10 the number
+// 2, and the class `roots` the number 3.
 const SESSION: &[u8] = b"newarray 0 0 3 1024
 newarray 0 4 3 1024
 store 0 0 0 4

@@ -81,8 +81,8 @@ pub(crate) fn add_elements(
     Ok(())
 }
 
-/// Adds the values of fields of these kinds that a class has, of which it keeps so many in slots from `base` on. Returns the bytes
-/// after all of these fields. Fails if an allocation fails.
+/// Adds the values of fields of these kinds that a class has, of which it keeps so many in slots from `base` on. Returns the
+/// bytes after all of these fields. Fails if an allocation fails.
 pub(crate) fn add_fields<'a>(
     slots: &mut Vec<SlotValue>,
     ids: IdSize,

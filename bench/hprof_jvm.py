@@ -10,7 +10,7 @@ for c in B['objs'][top[0]][2]:
     if c: got.setdefault(KIND[B['objs'][c][1]],[]).extend(B['objs'][c][2])
 stat={n+'.static':n for n in A['statics']}
 cls={n:k for k,n in A['ids'].items()}
-def made(r): return r in A['objs'] or (r in A['ids'] and any(t==2 and v in A['objs'] for _,t,v in A['statics'][A['ids'][r]]))
+def made(r): return r in A['objs'] or (r in A['ids'] and any(t==2 and v in A['objs'] for _,t,v in A['statics'][A['ids'][r]][:64]))
 seen={};cuts=0;nulls=0
 def go(a,b):
     global cuts,nulls

@@ -1,63 +1,74 @@
-//! Writes the session of a dump.
+//! `heapdbg-import FILE OUT` writes the session that makes the heap of a dump. FILE is a dump in HPROF, such as a JVM writes;
+//! OUT is the file of the lines of the session, for a wide heap.
 #![tactic(auto)]
 
-use dump_pump::{Outlet, Put};
-use heap_class::ClassLimits;
-use hprof_reader::header_at;
-use hprof_session::{Walk, find, write_session};
-use std::alloc::Global;
-use std::fs::File;
-use std::io::Write;
-use std::{env, fs, io};
+mod convert;
+mod report;
 
-#[derive(Drop)]
-struct FileOutlet {
-    file: File,
+use convert::{Converted, Failure, convert};
+use dump_pump::WriteOutlet;
+use report::{tell_left_out, tell_path, usage};
+use std::env::Env;
+use std::fs::Files;
+use std::process::ExitCode;
+use std::{env, fs};
+
+// Returns the words of the command line after the program's name, if there are two.
+fn paths<R: AllocGlobal + Env>(rt: &R) -> Option<(String, String)> {
+    let words = env::args(rt).ok()?;
+    let mut words: Vec<String> = words.collect(rt.alloc()).ok()?;
+    if words.len() != 3 {
+        return None;
+    }
+    let out = words.pop()?;
+    let dump = words.pop()?;
+    Some((dump, out))
 }
 
-impl Outlet for FileOutlet {
-    ghost seen = { λ o. o };
-
-    fn put(&mut self, given: &[u8]) -> Put {
-        match self.file.write(given) {
-            Ok(n) => Put::Took(n),
-            Err(_) => Put::Failed,
+// Returns the status of a conversion, and tells of what is left out, or why there is none.
+fn told<R: Eprint>(rt: &R, dump: &str, out: &str, done: Result<Converted, Failure>) -> u8 {
+    match done {
+        Ok(converted) => {
+            tell_left_out(rt, dump, &converted);
+            0
+        }
+        Err(Failure::Header) => {
+            tell_path(rt, dump, "no header of a dump");
+            1
+        }
+        Err(Failure::Memory) => {
+            tell_path(rt, dump, "out of memory");
+            1
+        }
+        Err(Failure::Write) => {
+            tell_path(rt, out, "a write failed");
+            1
         }
     }
 }
 
-fn main(rt: HostRuntime) -> io::Result<()> {
-    let alloc = rt.alloc();
-    let mut words = Vec::new(alloc);
-    if let Ok(args) = env::args(&rt) {
-        for w in args {
-            words.push(w)?;
-        }
-    }
-    if words.len() < 3 {
-        return Ok(());
-    }
-    let bytes = fs::read(&rt, &words[1])?;
-    let mut outlet = FileOutlet {
-        file: File::create(&rt, &words[2])?,
+// Reads the dump and writes the session. Returns the exit status.
+fn import<R: AllocGlobal + Eprint + Files>(rt: &R, dump: &str, out: &str) -> u8 {
+    let Ok(bytes) = fs::read(rt, dump) else {
+        tell_path(rt, dump, "can't be read");
+        return 1;
     };
-    match header_at(&bytes) {
-        Ok((header, rest)) => {
-            let walk = Walk {
-                ids: header.ids,
-                segment: &[],
-                rest,
-            };
-            let mut found = find(alloc, walk)?;
-            let limits = ClassLimits {
-                classes: 4096,
-                name_bytes: 255,
-                any_sign: true,
-            };
-            let is_out = write_session(alloc, &mut outlet, walk, &limits, &mut found)?;
-            eprintln!(rt; "{} {:?} fault {:?}", is_out, found.cuts, found.fault)?;
+    let Ok(file) = fs::create(rt, out) else {
+        tell_path(rt, out, "can't be made");
+        return 1;
+    };
+    let mut outlet = WriteOutlet::new(file);
+    let done = convert(rt.alloc(), &mut outlet, &bytes);
+    told(rt, dump, out, done)
+}
+
+// Runs the program.
+fn main(rt: HostRuntime) -> ExitCode {
+    match paths(&rt) {
+        Some((dump, out)) => ExitCode::from(import(&rt, dump.as_str(), out.as_str())),
+        None => {
+            usage(&rt);
+            ExitCode::from(2)
         }
-        Err(_) => println!(rt; "no header")?,
     }
-    Ok(())
 }

@@ -1,0 +1,8 @@
+use Rattle.heap_class.specs.declared.Kind.TheVariants as kinds
+use Rattle.hprof_lines.specs.Objects.{objects_told, reference_events}
+use Rattle.hprof_lines.proofs.Puttings.{each_more}
+use Rattle.hprof_lines.proofs.objects.push_references.Goals as goal
+
+pub loop-value-preserved : goal.loop-value-preserved
+loop-value-preserved c =
+    each_more (reference_events (objects_told c.args.all.now)) c.args.values.now c.loop-value.value-index (record { slot = 0; kind = kinds.Object; value = 0 }) c.args.lines.now c.loop-value.lines _ c.loop-value-test.true c.loop-value.invariant c.in_ok-push_reference.ensures

@@ -1,0 +1,31 @@
+use Rattle.hprof_session.specs.Walks.{item_told, left}
+use Rattle.hprof_lines.proofs.WholeWalks.{bytes_shrink, whole_next, whole_none, whole_fault}
+use Rattle.hprof_lines.proofs.Passing.{making_none, making_more, making_all}
+use Rattle.hprof_lines.proofs.passes.made_objects.Goals as goal
+
+pub items-init : goal.items-init
+items-init c = rw c.new-made.ensures.items (λ items whole. making_none _ _ _ _ items whole)
+
+pub items-smaller : goal.items-smaller
+items-smaller c =
+    bytes_shrink (left c.items.at) (item_told c.in-Ok-Some.next.0) (left c.in-Ok-Some.next.1) (rw c.in-Ok-Some.field-0-is at c.in-Ok-Some.ensures.found)
+
+pub items-preserved : goal.items-preserved
+items-preserved c = λ items whole.
+    let p = c.items.invariant items whole in
+    let found = rw c.in-Ok-Some.field-0-is at c.in-Ok-Some.ensures.found in
+    let only = rw c.in-Ok-Some.field-0-is at c.in-Ok-Some.ensures.only in
+    let first = whole_next (left c.items.at) p.rest c.in-Ok-Some.next only found p.whole in
+    making_more _ _ _ _ _ _ _ _ items p first c.in_ok-note_made-in-Ok-Some.ensures
+
+pub returns-in-Ok-None : goal.returns-in-Ok-None
+returns-in-Ok-None c = λ items whole.
+    let p = c.items.invariant items whole in
+    let none = whole_none (left c.items.at) p.rest (rw c.in-Ok-None.field-0-is at c.in-Ok-None.ensures.only) p.whole in
+    making_all _ _ _ _ _ items p none
+
+pub returns-in-Err : goal.returns-in-Err
+returns-in-Err c = λ items whole.
+    let p = c.items.invariant items whole in
+    let none = whole_fault (left c.items.at) p.rest _ c.in-Err.ensures.only p.whole in
+    making_all _ _ _ _ _ items p none

@@ -1,0 +1,27 @@
+use Rattle.std.proofs.lemmas.Result.{err_from_is_err_and}
+use Rattle.hprof_lines.specs.Objects.{objects_told}
+use Rattle.hprof_lines.proofs.Puttings.{putting_none, putting_step, putting_step_failed, putting_stopped, putting_ends}
+use Rattle.hprof_lines.proofs.OpenedEvents.{opened_statics, closed_statics}
+use Rattle.hprof_lines.proofs.static_objects.write_statics.Goals as goal
+
+pub loop-n-init : goal.loop-n-init
+loop-n-init g c = rw c.new-lines.ensures (putting_none _ _)
+
+pub loop-n-preserved : goal.loop-n-preserved
+loop-n-preserved g c =
+    putting_step _ _ _ _ _ _ _ _ _ _ (opened_statics c.args.pass (objects_told c.args.all.now) c.loop-n.n c.args.statics.now c.index-statics-n.result c.loop-n-test.true c.index-statics-n.is)
+    c.loop-n.invariant c.in_ok-push_static.ensures c.if-not-put_some.ensures
+
+pub returns-then-not-put_some : goal.returns-then-not-put_some
+returns-then-not-put_some g c =
+    putting_step_failed _ _ _ _ _ _ _ _ _ (opened_statics c.args.pass (objects_told c.args.all.now) c.loop-n.n c.args.statics.now c.index-statics-n.result c.loop-n-test.true c.index-statics-n.is)
+    c.loop-n.invariant c.in_ok-push_static.ensures c.if-not-put_some.ensures
+
+pub returns-in_err-push_static : goal.returns-in_err-push_static
+returns-in_err-push_static g c =
+    let e = err_from_is_err_and c.from_residual.result c.from_residual.ensures.1 in
+    rw e.1 (putting_stopped _ _ _ _ _ c.loop-n.invariant)
+
+pub returns : goal.returns
+returns g c =
+    putting_ends _ _ _ _ _ _ _ (closed_statics c.args.pass (objects_told c.args.all.now) c.loop-n.n c.args.statics.now c.loop-n-test.false) c.loop-n.invariant c.put_lines.ensures.put

@@ -11,16 +11,18 @@ run: ## runs the worked example, with nothing proved
 help:
 	@sed -n 's/^\([a-z-]*\):[^#]*## \(.*\)/\1\t\2/p' Makefile | expand -t 12
 
-# Leaves the proved program in bin/.
-build: prove ## proves the program, and leaves it as bin/heapdbg
+# Leaves the proved programs in bin/.
+build: prove ## proves the programs, and leaves them as bin/heapdbg and bin/heapdbg-import
 	cd crates/heapdbg && rt run -- run < /dev/null
 	install -D crates/heapdbg/out/heapdbg bin/heapdbg
+	cd crates/hprof_import && rt run -- data/small.hprof /dev/null
+	install -D crates/hprof_import/out/hprof_import bin/heapdbg-import
 
 prove: ## proves all crates, JOBS at a time
 	rt all check --jobs $(JOBS)
 
 # The gate. What stands after `rt ci` prints nothing where all is well, and looks at the programs that it left. The first of them
-# becomes bin/heapdbg.
+# becomes bin/heapdbg, and the converter of dumps bin/heapdbg-import.
 test: ## runs the gate: proofs, wrong bodies, tests and checks of the program
 	@bash scripts/dist.sh begin
 	cmp examples/point.session crates/heapdbg/stdin
@@ -51,9 +53,10 @@ test: ## runs the gate: proofs, wrong bodies, tests and checks of the program
 	@python3 clients/python/test_recorder.py crates/heapdbg/out/heapdbg
 	@python3 checks/recording.py crates/heapdbg/out/heapdbg
 	@python3 checks/c_client.py crates/heapdbg/out/heapdbg
-	@python3 checks/installed.py crates/heapdbg/out/heapdbg
-	@python3 checks/package.py crates/heapdbg/out/heapdbg
-	@bash scripts/dist.sh passed crates/heapdbg/out/heapdbg
+	@python3 checks/importing.py crates/heapdbg/out/heapdbg crates/hprof_import/out/hprof_import
+	@python3 checks/installed.py crates/heapdbg/out/heapdbg crates/hprof_import/out/hprof_import
+	@python3 checks/package.py crates/heapdbg/out/heapdbg crates/hprof_import/out/hprof_import
+	@bash scripts/dist.sh passed crates/heapdbg/out/heapdbg crates/hprof_import/out/hprof_import
 
 # Tries the edits that are not in the gate: of all crates, or of those that CRATE names.
 edits: ## tries the wrong bodies that are not in the gate (CRATE=NAME: of one crate)
@@ -104,16 +107,17 @@ DOCDIR = $(DESTDIR)$(PREFIX)/share/doc/heapdbg
 
 # Installs what `make build` or `make test` left: the program, the script beside it, its manual page, completions for bash, the
 # documents, the examples and the clients in Python and C.
-install: ## installs the program and all that belongs to it below PREFIX
+install: ## installs the programs and all that belongs to them below PREFIX
 	install -D bin/heapdbg $(BINDIR)/heapdbg
+	install bin/heapdbg-import $(BINDIR)/heapdbg-import
 	install scripts/heapdbg-explore $(BINDIR)/heapdbg-explore
 	install -D -m 644 man/heapdbg.1 $(MANDIR)/heapdbg.1
 	install -D -m 644 completions/heapdbg.bash $(BASHDIR)/heapdbg
 	for each in $(PAGES) $(EXAMPLES) $(CLIENT); do install -D -m 644 $$each $(DOCDIR)/$$each || exit 1; done
-	cd $(DOCDIR) && sed -i 's:bin/heapdbg \([a-z]\):heapdbg \1:g' $(PAGES)
+	cd $(DOCDIR) && sed -i 's:bin/heapdbg\(-import\)* \([a-z/]\):heapdbg\1 \2:g' $(PAGES)
 
 uninstall: ## removes what was installed
-	rm -f $(BINDIR)/heapdbg $(BINDIR)/heapdbg-explore $(MANDIR)/heapdbg.1 $(BASHDIR)/heapdbg
+	rm -f $(BINDIR)/heapdbg $(BINDIR)/heapdbg-import $(BINDIR)/heapdbg-explore $(MANDIR)/heapdbg.1 $(BASHDIR)/heapdbg
 	rm -rf $(DOCDIR)
 
 # Packs the same into dist/, with an account of the gate: only the program that passed it at this commit.

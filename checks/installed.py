@@ -1,6 +1,6 @@
 #!/usr/bin/env python3
-"""Installs a built program as a user does, from a copy of this repository, and types there what the pages type:
-`installed.py PROGRAM`.
+"""Installs the built programs as a user does, from a copy of this repository, and types there what the pages type:
+`installed.py PROGRAM IMPORT`.
 
 Looks whether the manual page and the completions know each option that the program's help names, whether the examples of the
 page, as `man` shows them, and the commands of README, SESSIONS, HUNT, RECORD, VIEWERS and of the clients' READMEs do in the
@@ -42,13 +42,14 @@ def make(folder, *words):
 
 
 @contextlib.contextmanager
-def copied(program):
-    """A copy of this repository without its history, with a program as bin/heapdbg."""
+def copied(program, importer):
+    """A copy of this repository without its history, with programs as bin/heapdbg and bin/heapdbg-import."""
     with tempfile.TemporaryDirectory() as name:
         folder = pathlib.Path(name, "copy")
         shutil.copytree(TOP, folder, ignore=shutil.ignore_patterns("out", ".git", "dist", "bin", "edits", "proofs", "__pycache__"))
         (folder / "bin").mkdir()
         shutil.copy(program, folder / "bin/heapdbg")
+        shutil.copy(importer, folder / "bin/heapdbg-import")
         yield folder
 
 
@@ -331,9 +332,9 @@ def installed(folder, where):
         yield f"make uninstall: status {status}, and {left} stay"
 
 
-def main(program):
+def main(program, importer):
     """Returns the exit status."""
-    with copied(program) as folder:
+    with copied(program, importer) as folder:
         found = list(installed(folder, folder.parent / "installed"))
     for line in found:
         print(line)
@@ -341,4 +342,4 @@ def main(program):
 
 
 if __name__ == "__main__":
-    sys.exit(main(os.path.abspath(sys.argv[1])))
+    sys.exit(main(*map(os.path.abspath, sys.argv[1:])))

@@ -1,11 +1,12 @@
 #!/usr/bin/env python3
-"""Packs a built program by `make dist`, from a copy of this repository with a history of its own: `package.py PROGRAM`.
+"""Packs the built programs by `make dist`, from a copy of this repository with a history of its own: `package.py PROGRAM IMPORT`.
 
 Looks whether what is packed runs and is accounted for, and whether nothing is packed but the program that passed the gate at
 the commit that the files are. Prints a line for each thing that is otherwise, and ends with status 1 if there is one; prints
 nothing where all is well."""
 import hashlib
 import os
+import pathlib
 import shutil
 import subprocess
 import sys
@@ -34,10 +35,10 @@ def dist(folder, *words):
     subprocess.run(["bash", "scripts/dist.sh", *words], cwd=folder, check=True)
 
 
-def passed(folder, program):
-    """Does what the gate does before and after it looks at a program."""
+def passed(folder, programs):
+    """Does what the gate does before and after it looks at the programs."""
     dist(folder, "begin")
-    dist(folder, "passed", program)
+    dist(folder, "passed", *programs)
 
 
 def archives(folder):
@@ -45,7 +46,7 @@ def archives(folder):
     return list((folder / "dist").glob("*.tar.gz"))
 
 
-def packed(folder, program, commit):
+def packed(folder, programs, commit):
     """Yields what is wrong with what is packed after the gate."""
     status, said = make(folder, "dist")
     found = archives(folder)
@@ -57,12 +58,13 @@ def packed(folder, program, commit):
     found[0].unlink()
     if answered(top / "bin/heapdbg", "run") != REPLIES:
         yield "the packed program answers the example otherwise"
+    if not (top / "bin/heapdbg-import").exists():
+        yield "the package has no heapdbg-import"
     if not (top / "share/doc/heapdbg/examples/leak.session").exists():
         yield "the package has no examples"
     account = (top / "PROVED").read_text().split("\n")
-    with open(program, "rb") as file:
-        program = hashlib.sha256(file.read()).hexdigest()
-    if not {f"commit {commit}", f"program {program}"} < set(account):
+    program, importer = (hashlib.sha256(pathlib.Path(each).read_bytes()).hexdigest() for each in programs)
+    if not {f"commit {commit}", f"program {program}", f"import {importer}"} < set(account):
         yield f"PROVED is {account}"
 
 
@@ -73,46 +75,49 @@ def refused(folder, name, wanted):
         yield f"{name}: make dist has status {status}, says {said!r}, and leaves {archives(folder)}"
 
 
-def differences(folder, program):
+def differences(folder, programs):
     """Yields what is wrong, with each thing in turn that keeps a program from being packed."""
-    built, page = folder / "bin/heapdbg", folder / "README.md"
+    built, importer, page = folder / "bin/heapdbg", folder / "bin/heapdbg-import", folder / "README.md"
     yield from refused(folder, "without git", "git names no commit")
-    passed(folder, program)
+    passed(folder, programs)
     yield from refused(folder, "after a gate without git", "git names no commit")
     git(folder, "init", "--quiet")
     commit = committed(folder)
     yield from refused(folder, "a gate before the first commit", "passed at commit none")
     (folder / "bin/gate").unlink()
     yield from refused(folder, "without a gate", "no gate has passed")
-    passed(folder, program)
-    yield from packed(folder, program, commit)
+    passed(folder, programs)
+    yield from packed(folder, programs, commit)
     shutil.copy(OTHER, built)
     yield from refused(folder, "another program", "isn't the program that passed")
     built.unlink()
     yield from refused(folder, "no program", "no bin/heapdbg")
-    shutil.copy(program, built)
+    shutil.copy(programs[0], built)
+    shutil.copy(OTHER, importer)
+    yield from refused(folder, "another converter", "isn't the program that passed")
+    shutil.copy(programs[1], importer)
     page.write_text(page.read_text() + "\n")
     yield from refused(folder, "a changed file", "files differ from commit")
-    passed(folder, program)
+    passed(folder, programs)
     committed(folder)
     yield from refused(folder, "a gate of changed files", "changed, and this is")
-    passed(folder, program)
+    passed(folder, programs)
     committed(folder)
     yield from refused(folder, "another commit", "and this is")
     dist(folder, "begin")
     committed(folder)
-    dist(folder, "passed", program)
+    dist(folder, "passed", *programs)
     yield from refused(folder, "a commit while the gate runs", "changed, and this is")
 
 
-def main(program):
+def main(*programs):
     """Returns the exit status."""
-    with copied(program) as folder:
-        found = list(differences(folder, program))
+    with copied(*programs) as folder:
+        found = list(differences(folder, programs))
     for line in found:
         print(line)
     return 1 if found else 0
 
 
 if __name__ == "__main__":
-    sys.exit(main(os.path.abspath(sys.argv[1])))
+    sys.exit(main(*map(os.path.abspath, sys.argv[1:])))

@@ -1,8 +1,8 @@
 #!/bin/bash
-# Packs the program that passed the gate, with its documents: `dist.sh pack VERSION`.
+# Packs the programs that passed the gate, with its documents: `dist.sh pack VERSION`.
 #
-# `dist.sh begin` and `dist.sh passed PROGRAM` are the first and the last step of the gate. They leave that program as
-# bin/heapdbg, and its sum, the commit and the kit in bin/gate. Nothing else is packed.
+# `dist.sh begin` and `dist.sh passed PROGRAM IMPORT` are the first and the last step of the gate. They leave these programs as
+# bin/heapdbg and bin/heapdbg-import, and their sums, the commit and the kit in bin/gate. Nothing else is packed.
 set -eu
 note=bin/gate
 
@@ -41,7 +41,8 @@ passed() {
     now=$(commit)
     [ "$now" = "$(cat $note.begun)" ] || now="$now, changed"
     install -D "$1" bin/heapdbg
-    printf '%s\n' "commit $now" "kit $(rt version)" "program $(sum bin/heapdbg)" > $note
+    install -D "$2" bin/heapdbg-import
+    printf '%s\n' "commit $now" "kit $(rt version)" "program $(sum bin/heapdbg)" "import $(sum bin/heapdbg-import)" > $note
 }
 
 # Refuses to pack anything but the program that passed the gate, at the commit that the files are.
@@ -54,6 +55,8 @@ check() {
     [ "$(noted commit)" = "$now" ] || refuse "the gate passed at commit $(noted commit), and this is $now: make test"
     [ -f bin/heapdbg ] || refuse "there is no bin/heapdbg: make test"
     [ "$(noted program)" = "$(sum bin/heapdbg)" ] || refuse "bin/heapdbg isn't the program that passed the gate: make test"
+    [ -f bin/heapdbg-import ] || refuse "there is no bin/heapdbg-import: make test"
+    [ "$(noted import)" = "$(sum bin/heapdbg-import)" ] || refuse "bin/heapdbg-import isn't the program that passed the gate: make test"
 }
 
 pack() {

@@ -1,0 +1,266 @@
+#!/usr/bin/env python3
+"""Converts heap dumps to sessions, and compares the heaps that these make with the dumps: `importing.py PROGRAM IMPORT`.
+
+PROGRAM is heapdbg, IMPORT heapdbg-import. The dumps are those of example sessions, which heapdbg saves, and that of a program in
+Java, where `javac` and `java` are installed. A reader of HPROF of its own reads both dumps. From the roots on, each object must
+have the class, the values and the references of its like, but for arrays of more than 1,024 elements, which are cut. Bad files
+and bad words must be refused. Prints a line for each thing that is otherwise than it must be, and ends with status 1 then."""
+import pathlib
+import shutil
+import subprocess
+import sys
+import tempfile
+
+TOP = pathlib.Path(__file__).resolve().parent.parent
+LIMIT = 120
+SESSIONS = ("leak", "orders", "services", "point")
+MOST_ELEMENTS, MOST_FIELDS = 1024, 64
+WIDTHS = {4: 1, 5: 2, 6: 4, 7: 8, 8: 1, 9: 2, 10: 4, 11: 8}
+OBJECT = 2
+# The tag of each kind of root, the bytes behind its id (an identifier, if negative), and the class of the arrays that keep them.
+ROOTS = {0x01: (-1, "JNI_global"), 0x02: (8, "JNI_local"), 0x03: (8, "Java_frame"), 0x04: (4, "native_stack"), 0x05: (0, "sticky_class"),
+         0x06: (4, "thread_block"), 0x07: (0, "monitor_used"), 0x08: (8, "thread_object"), 0xFF: (0, "unknown_root")}
+
+
+class Dump:
+    """A heap dump: classes by their ids, with their names, supers, fields and static fields; objects by theirs; and roots."""
+
+    def __init__(self, path):
+        self.bytes = pathlib.Path(path).read_bytes()
+        self.at = self.bytes.index(0) + 1
+        self.id_size = self.number(4)
+        self.widths = {**WIDTHS, OBJECT: self.id_size}
+        self.names, self.loads, self.classes, self.objects, self.roots = {}, {}, {}, {}, []
+        self.at += 8
+        while self.at < len(self.bytes):
+            self.record()
+
+    def number(self, size):
+        """Reads a number, the highest byte first."""
+        self.at += size
+        return int.from_bytes(self.bytes[self.at - size:self.at], "big")
+
+    def id(self):
+        """Reads an identifier."""
+        return self.number(self.id_size)
+
+    def record(self):
+        """Reads a record."""
+        tag, _, size = self.number(1), self.number(4), self.number(4)
+        end = self.at + size
+        if tag == 0x01:
+            name = self.id()
+            self.names[name] = self.bytes[self.at:end].decode("latin1")
+        elif tag == 0x02:
+            self.at += 4
+            loaded = self.id()
+            self.at += 4
+            self.loads[loaded] = self.id()
+        elif tag in (0x0C, 0x1C):
+            while self.at < end:
+                self.sub_record(self.number(1))
+        self.at = end
+
+    def sub_record(self, tag):
+        """Reads a sub-record."""
+        if tag in ROOTS:
+            self.roots.append((tag, self.id()))
+            more = ROOTS[tag][0]
+            self.at += self.id_size if more < 0 else more
+        elif tag == 0x20:
+            self.read_class()
+        else:
+            self.read_object(tag)
+
+    def read_class(self):
+        """Reads a class: its super, its fields as name and kind, and its static fields as name, kind and value."""
+        number, _, above = self.id(), self.number(4), self.id()
+        self.at += 5 * self.id_size + 4
+        for _ in range(self.number(2)):
+            self.at += 2
+            self.number(self.widths[self.number(1)])
+        statics = []
+        for _ in range(self.number(2)):
+            name, kind = self.id(), self.number(1)
+            statics.append((name, kind, self.number(self.widths[kind])))
+        fields = [(self.id(), self.number(1)) for _ in range(self.number(2))]
+        self.classes[number] = above, fields, statics
+
+    def read_object(self, tag):
+        """Reads an object: whether it is an instance (0x21) or an array, its class or the kind of its values, and these."""
+        number, _, size = self.id(), self.number(4), 0
+        if tag == 0x21:
+            kind, size = self.id(), self.number(4)
+            self.objects[number] = tag, kind, self.bytes[self.at:self.at + size]
+            self.at += size
+        else:
+            count = self.number(4)
+            kind = self.id() if tag == 0x22 else self.number(1)
+            width = self.id_size if tag == 0x22 else self.widths[kind]
+            self.objects[number] = tag, kind, [self.number(width) for _ in range(count)]
+
+    def class_name(self, number):
+        """Returns the name of a class."""
+        return self.names[self.loads[number]]
+
+    def fields_of(self, number):
+        """Yields the slots of an instance: name, kind and value, those of its own class first."""
+        _, at, values = self.objects[number]
+        place = 0
+        while at:
+            above, fields, _ = self.classes[at]
+            for name, kind in fields:
+                width = self.widths[kind]
+                yield self.names[name], kind, int.from_bytes(values[place:place + width], "big")
+                place += width
+            at = above
+
+    def statics_of(self, number):
+        """Returns the static fields of a class as slots of an object: the first 64."""
+        return [(self.names[name], kind, value) for name, kind, value in self.classes[number][2][:MOST_FIELDS]]
+
+    def parts(self, number):
+        """Returns an object's class, and its slots: name or index, kind, and value."""
+        if number not in self.objects:
+            return self.class_name(number) + ".static", self.statics_of(number)
+        tag, of, values = self.objects[number]
+        if tag == 0x21:
+            return self.class_name(of), list(self.fields_of(number))
+        name, kind = (self.class_name(of), OBJECT) if tag == 0x22 else (of, of)
+        return name, [(index, kind, value) for index, value in enumerate(values[:MOST_ELEMENTS])]
+
+    def is_made(self, number):
+        """Tells whether a heap has this object: an object of the dump, or a class with a static field that names one."""
+        named = number in self.classes and any(kind == OBJECT and value in self.objects for _, kind, value in self.statics_of(number))
+        return number in self.objects or named
+
+
+def kept_roots(dump):
+    """Returns the roots that a session kept, by the class of their arrays."""
+    (top,) = (root for tag, root in dump.roots if tag == 0xFF)
+    kept = {}
+    for _, _, array in dump.parts(top)[1]:
+        if array:
+            name, slots = dump.parts(array)
+            kept.setdefault(name, []).extend(value for _, _, value in slots)
+    return kept
+
+
+def pairs_of_roots(old, new):
+    """Returns the roots of a dump, each with its like in the heap of its session. None if there aren't as many."""
+    kept, pairs = kept_roots(new), []
+    for tag, (_, name) in ROOTS.items():
+        wanted = [root for which, root in old.roots if which == tag and old.is_made(root)]
+        if len(wanted) != len(kept.get(name, [])):
+            return None
+        pairs += zip(wanted, kept.get(name, []))
+    return pairs
+
+
+def difference(old, new):
+    """Returns how the heap of a session differs from the dump that it is of, from the roots on; None if it doesn't."""
+    waiting, seen = pairs_of_roots(old, new), {}
+    if waiting is None:
+        return "the roots aren't as many"
+    while waiting:
+        mine, other = waiting.pop()
+        if mine in seen:
+            if seen[mine] != other:
+                return f"object {mine:#x} has two likes"
+            continue
+        seen[mine] = other
+        (name, slots), (found, likes) = old.parts(mine), new.parts(other)
+        if name != found or [it[:2] for it in slots] != [it[:2] for it in likes]:
+            return f"object {mine:#x} of {name} is one of {found}, or has other slots"
+        for (slot, kind, value), (_, _, like) in zip(slots, likes):
+            if kind != OBJECT:
+                if value != like:
+                    return f"slot {slot} of object {mine:#x} of {name} has {like} for {value}"
+            elif bool(like) != bool(value and old.is_made(value)):
+                return f"slot {slot} of object {mine:#x} of {name} names {like:#x} for {value:#x}"
+            elif like:
+                waiting.append((value, like))
+    return None if seen else "nothing is reached"
+
+
+def saved(program, words, session, dump):
+    """Saves the dump of the heap that a session makes. Returns the replies."""
+    with open(session, "rb") as lines:
+        return subprocess.run([program, "save", *words, "--out", str(dump)], stdin=lines, capture_output=True, check=True, timeout=LIMIT).stdout
+
+
+def imported(program, importer, dump, folder):
+    """Yields what is wrong with the session of a dump."""
+    session, again = folder / "imported.session", folder / "again.hprof"
+    ran = subprocess.run([importer, str(dump), str(session)], capture_output=True, timeout=LIMIT)
+    if ran.returncode:
+        yield f"{dump.name}: heapdbg-import ends with status {ran.returncode}: {ran.stderr.decode()}"
+        return
+    replies = saved(program, ["--wide", "1", "--regions", "65536", "--keep", "1"], session, again)
+    refused = [line for line in replies.decode().splitlines() if not line.startswith(("ok", "saved "))]
+    if refused:
+        yield f"{dump.name}: the heap refuses {len(refused)} lines of its session, the first with {refused[0]}"
+        return
+    different = difference(Dump(dump), Dump(again))
+    if different:
+        yield f"{dump.name}: {different}"
+
+
+def java_dump(folder):
+    """Returns the dump of the program in Java, or None where Java isn't installed."""
+    if not (shutil.which("javac") and shutil.which("java")):
+        return None
+    subprocess.run(["javac", "-d", str(folder), str(TOP / "examples/Cache.java")], check=True, capture_output=True, timeout=LIMIT)
+    dump = folder / "cache.hprof"
+    subprocess.run(["java", "-cp", str(folder), "Cache", str(dump)], check=True, capture_output=True, timeout=LIMIT)
+    return dump
+
+
+def refusals(importer, dump, folder):
+    """Yields what is wrong with how bad files and bad words are refused."""
+    bad, out = folder / "bad.hprof", folder / "bad.session"
+    bad.write_bytes(b"no dump at all")
+    cases = [([], 2), ([str(dump)], 2), ([str(dump), str(out), "more"], 2), ([str(folder / "missing"), str(out)], 1),
+             ([str(folder), str(out)], 1), ([str(bad), str(out)], 1), ([str(dump), str(folder / "missing/out")], 1)]
+    for words, status in cases:
+        ran = subprocess.run([importer, *words], capture_output=True, timeout=LIMIT)
+        if ran.returncode != status or not ran.stderr or ran.stdout:
+            yield f"heapdbg-import {words}: status {ran.returncode}, {ran.stdout!r}, {ran.stderr!r}"
+
+
+def cut_dumps(importer, dump, folder):
+    """Yields what is wrong with the sessions of a dump that is cut at each of many places: a fault must be told with its place."""
+    whole, cut = dump.read_bytes(), folder / "cut.hprof"
+    for size in range(40, len(whole), max(len(whole) // 60, 1)):
+        cut.write_bytes(whole[:size])
+        ran = subprocess.run([importer, str(cut), str(folder / "cut.session")], capture_output=True, timeout=LIMIT)
+        if ran.returncode or b" at byte " not in ran.stderr and ran.stderr:
+            yield f"the first {size} bytes: status {ran.returncode}, {ran.stderr!r}"
+
+
+def differences(program, importer):
+    """Yields what is wrong."""
+    with tempfile.TemporaryDirectory(prefix="importing-") as name:
+        folder = pathlib.Path(name)
+        for session in SESSIONS:
+            for ids in "4", "8":
+                dump = folder / f"{session}-{ids}.hprof"
+                saved(program, ["--ids", ids], TOP / f"examples/{session}.session", dump)
+                yield from imported(program, importer, dump, folder)
+        yield from refusals(importer, folder / "leak-8.hprof", folder)
+        yield from cut_dumps(importer, folder / "leak-4.hprof", folder)
+        java = java_dump(folder)
+        if java:
+            yield from imported(program, importer, java, folder)
+
+
+def main(program, importer):
+    """Returns the exit status."""
+    found = list(differences(program, importer))
+    for line in found:
+        print(line)
+    return 1 if found else 0
+
+
+if __name__ == "__main__":
+    sys.exit(main(*sys.argv[1:]))

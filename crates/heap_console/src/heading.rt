@@ -2,64 +2,108 @@
 use std::cell::Cell;
 use std::str;
 
-/// The words over the columns of the rows that answer the newest line: a prompt that reads the line tells them to an outlet that
-/// shows the rows.
+/// The heading over the rows that answer the newest line: a prompt that reads the line tells an outlet that shows the rows which
+/// rows they are.
 #[derive(Drop)]
 pub struct Heading {
-    words: Cell<&'static str>,
+    rows: Cell<Rows>,
+}
+
+// The rows that answer a line, by their columns.
+#[derive(Clone, Copy)]
+enum Rows {
+    // Rows of several sorts, or none.
+    Mixed,
+    Counts,
+    Growth,
+    Dominators,
+    Holders,
+    Registers,
+    Classes,
+    Objects,
+    Values,
+    Slots,
+    Changes,
+    Writes,
+    Steps,
+    Pins,
+    Cells,
+    Regions,
 }
 
 impl Heading {
     /// Creates the heading of no line.
     pub fn new() -> Heading {
         Heading {
-            words: Cell::new(""),
+            rows: Cell::new(Rows::Mixed),
         }
     }
 
     // Notes the line that was read, or several, which have no heading.
     pub(crate) fn note(&self, read: &[u8]) {
-        self.words.set(words_over(read));
+        self.rows.set(rows_after(read));
     }
 
-    // Takes the heading, so that only the first rows have it. It is empty if there is none.
+    // Takes the names of the columns, so that only the first rows have them. They are empty if there are none.
     pub(crate) fn take(&self) -> &'static str {
-        self.words.replace("")
+        names_of(self.rows.replace(Rows::Mixed))
     }
 }
 
-// Returns the words over the columns of the rows that answer a line. They are empty if this is no line, or its rows are of several
-// sorts.
-fn words_over(read: &[u8]) -> &'static str {
+// Returns the rows that answer what was read: Mixed if this is no line, or several.
+fn rows_after(read: &[u8]) -> Rows {
     let Some((_, line)) = read.split_last() else {
-        return "";
+        return Rows::Mixed;
     };
     if line.contains(&b'\n') {
-        return "";
+        return Rows::Mixed;
     }
     match str::from_utf8(line) {
-        Ok(line) => words_of(line.split_ascii_whitespace().next().unwrap_or("")),
-        Err(_) => "",
+        Ok(line) => rows_of(line.split_ascii_whitespace().next().unwrap_or("")),
+        Err(_) => Rows::Mixed,
     }
 }
 
-// Returns the words over the columns of the rows that answer a question with this keyword.
-fn words_of(keyword: &str) -> &'static str {
+// Returns the rows that answer a question with this keyword.
+fn rows_of(keyword: &str) -> Rows {
     match keyword {
-        "histogram" | "garbage" | "kept" | "retained" => "OBJECTS BYTES CLASS",
-        "growth" => "CLASS OBJECTS BYTES OBJECTS BYTES",
-        "dominators" => "ID OBJECTS BYTES CLASS",
-        "dominator" => "ID CLASS",
-        "registers" => "M R ID CLASS",
-        "classes" => "K NAME SUPER FIELDS",
-        "objects" => "ID CLASS SLOTS",
-        "show" => "SLOT NAME KIND VALUE",
-        "watch" => "PLACE OLD NEW",
-        "writes" => "PLACE ID OLD NEW",
-        "history" => "PLACE EVENT",
-        "pins" => "PIN PLACE STATE PIECES",
-        "cells" => "REGION SIZE STATE CELLS",
-        "regions" => "REGION CELL USED LIVE DEAD STATE",
-        _ => "",
+        "histogram" | "garbage" | "kept" | "retained" => Rows::Counts,
+        "growth" => Rows::Growth,
+        "dominators" => Rows::Dominators,
+        "dominator" => Rows::Holders,
+        "registers" => Rows::Registers,
+        "classes" => Rows::Classes,
+        "objects" => Rows::Objects,
+        "values" => Rows::Values,
+        "show" => Rows::Slots,
+        "watch" => Rows::Changes,
+        "writes" => Rows::Writes,
+        "history" => Rows::Steps,
+        "pins" => Rows::Pins,
+        "cells" => Rows::Cells,
+        "regions" => Rows::Regions,
+        _ => Rows::Mixed,
+    }
+}
+
+// Returns the names of the columns of rows.
+fn names_of(rows: Rows) -> &'static str {
+    match rows {
+        Rows::Mixed => "",
+        Rows::Counts => "OBJECTS BYTES CLASS",
+        Rows::Growth => "CLASS OBJECTS BYTES OBJECTS BYTES",
+        Rows::Dominators => "ID OBJECTS BYTES CLASS",
+        Rows::Holders => "ID CLASS",
+        Rows::Registers => "M R ID CLASS",
+        Rows::Classes => "K NAME SUPER FIELDS",
+        Rows::Objects => "ID CLASS SLOTS",
+        Rows::Values => "VALUE OBJECTS",
+        Rows::Slots => "SLOT NAME KIND VALUE",
+        Rows::Changes => "PLACE OLD NEW",
+        Rows::Writes => "PLACE ID OLD NEW",
+        Rows::Steps => "PLACE EVENT",
+        Rows::Pins => "PIN PLACE STATE PIECES",
+        Rows::Cells => "REGION SIZE STATE CELLS",
+        Rows::Regions => "REGION CELL USED LIVE DEAD STATE",
     }
 }

@@ -1,5 +1,5 @@
 -- Where walks end.
-use Rattle.std.proofs.Common.{◌≡◌, Option, Some, None, arith}
+use Rattle.std.proofs.Common.{Option, Some, None, Result, Ok, Err, OnOk, arith}
 use Rattle.hprof_reader.specs.declared.fault.Fault.{Fault}
 use Rattle.hprof_session.specs.Surveys.{EndsAt}
 use Rattle.hprof_session.specs.Walks.{Left, ItemTold, IsNext}
@@ -15,3 +15,7 @@ none_next w (Some e) end i v next = end.1 i v next
 
 pub found_whole : (w : Left) (f : Found) (finds : Finds w f) → IsWhole w finds.list
 found_whole w f finds = record { end = finds.end; walked = finds.walked; ended = none_next finds.end f.fault finds.ended }
+
+pub on_ok : {A E : Type 0} (r : Result A E) (P Q : Type 0) → (P → Q) → OnOk r P → OnOk r Q
+on_ok (Ok x) P Q f p = f p
+on_ok (Err e) P Q f p = tt

@@ -25,8 +25,8 @@ ROUND = 40
 REFUSED, BAD, LET_THROUGH, UNCLEAR = "refused", "BAD EDIT", "LET THROUGH", "NO VERDICT"
 FUNCTION = re.compile(r"^( *)(?:pub(?:\(\w+\))? )?(?:const |unsafe )*fn (\w+)", re.MULTILINE)
 OWNER = re.compile(r"^(?:pub(?:\(\w+\))? )?(?:impl|trait)\b.*", re.MULTILINE)
-# An error that only says that a proof cites a name which the edit took away.
-LOST_NAME = re.compile(r"has no field|is not in scope|has no `|was not admitted|: module `[^`]*`$")
+# An error that only says that a proof cites a name which the edit took away, or what such an error leads to.
+LOST_NAME = re.compile(r"has no field|is not in scope|has no `|was not admitted|which was rejected|: module `[^`]*`$")
 PLACE = re.compile(r"(?:\./)?(src/\S+?):(\d+):\d+: error\[")
 
 
@@ -195,10 +195,10 @@ def prover_fates(edits, said):
 def compiler_fates(edits, said):
     """Returns the verdicts of a round that didn't reach the prover, and the other edits, in rounds."""
     words = next((line for line in said if "error" in line), said[-1] if said else "nothing was said")
-    places = {(it[1], int(it[2])) for line in said if (it := PLACE.match(line))}
     if len(edits) == 1:
-        return {edits[0]: (BAD if any("error[" in line for line in said) else UNCLEAR, words)}, []
-    bad = {edit: (BAD, words) for edit in edits if edit.lines & places}
+        return {edits[0]: (BAD if "error[" in words else UNCLEAR, words)}, []
+    places = {(it[1], int(it[2])): line for line in said if (it := PLACE.match(line))}
+    bad = {edit: (BAD, places[at.pop()]) for edit in edits if (at := edit.lines & set(places))}
     rest = [edit for edit in edits if edit not in bad]
     return bad, [part for part in ([rest] if bad else [rest[::2], rest[1::2]]) if part]
 

@@ -4,9 +4,9 @@
 Usage: checks/edits.py fit                  checks that each edit can be applied, in crates/*/must-fail/ and in edits/
        checks/edits.py try [CRATE[/EDIT] ..] has the prover refuse edits of edits/: all, or those of a crate, or single ones
 
-`try` works in copies of this tree, over what earlier checks here kept, three crates at a time. It puts edits of different functions
-into one copy and has these functions checked at once. The environment's CHECK is the command that does so, run in the crate's folder:
-`rt check` where it isn't set."""
+`try` works in copies of this tree, over what earlier checks here kept, three crates at a time. It puts edits of different
+functions into one copy and has these functions checked at once. The environment's CHECK is the command that does so, run in the
+crate's folder: `rt check` where it isn't set."""
 import concurrent.futures
 import os
 import pathlib
@@ -25,8 +25,9 @@ ROUND = 40
 REFUSED, BAD, LET_THROUGH, UNCLEAR = "refused", "BAD EDIT", "LET THROUGH", "NO VERDICT"
 FUNCTION = re.compile(r"^( *)(?:pub(?:\(\w+\))? )?(?:const |unsafe )*fn (\w+)", re.MULTILINE)
 OWNER = re.compile(r"^(?:pub(?:\(\w+\))? )?(?:impl|trait)\b.*", re.MULTILINE)
-# An error that only says that a proof cites a name which the edit took away.
-LOST_NAME = re.compile(r"has no field|is not in scope|has no `|was not admitted|: module `[^`]*`$")
+# An error that only says that a proof cites a name which the edit took away, or what such an error leads to.
+LOST_NAME = re.compile(r"has no field|is not in scope|has no `|was not admitted|which was rejected|: module `[^`]*`$")
+PLACE = re.compile(r"(?:\./)?(src/\S+?):(\d+):\d+: error\[")
 
 
 class Edit:
@@ -77,11 +78,11 @@ def module_of(file):
 
 
 def owner_of(text, at):
-    """Returns what a check calls the impl or the trait in which a method stands: `Ring`, `Word+Sums` of `Word<'a, Sums>`, `RingIterator`."""
+    """Returns what a check calls the impl or the trait of a method: `Word+Sums` of `Word<'a, Sums>`, or `RingIterator`."""
     head = re.split(r" where |{", [it[0] for it in OWNER.finditer(text, 0, at)][-1].replace("->", ""))[0].rstrip()
-    own = re.search(r"<([^<>]*)>$", head)
+    own = None if " for " in head else re.search(r"<([^<>]*)>$", head)
     # A parameter's name is a single letter.
-    given = [it for it in re.findall(r"[\w']+", own[1]) if re.fullmatch(r"\w\w+", it)] if own and " for " not in head else []
+    given = [it for it in re.findall(r"[\w']+", own[1] if own else "") if re.fullmatch(r"\w\w+", it)]
     while head != (less := re.sub(r"<[^<>]*>", "", head)):
         head = less
     words = re.split(r" for | ", head.replace("pub ", ""))[1:]
@@ -89,8 +90,8 @@ def owner_of(text, at):
 
 
 def function_at(file, text, at):
-    """Returns the function in which a place of a file stands, if there is one, and whether the place is in its body or its proof.
-    A method is named by its type or its trait, and another function by its module."""
+    """Returns the function in which a place of a file stands, if there is one, and whether the place is in its body or its
+    proof. A method is named by its type or its trait, and another function by its module."""
     if file.startswith("proofs/"):
         parts = pathlib.PurePath(file).parts[1:-1]
         parts = parts[-2:] if parts[-2:-1] and parts[-2][0].isupper() else parts
@@ -151,26 +152,27 @@ def check(folder, edits):
     changed = [file for file in texts if texts[file] != edited[file]]
     for file in changed:
         (folder / file).write_text(edited[file])
-    ran = subprocess.run([*CHECK, *flags], cwd=folder, stdin=subprocess.DEVNULL, stdout=subprocess.PIPE, stderr=subprocess.STDOUT, text=True)
+    how = {"stdin": subprocess.DEVNULL, "stdout": subprocess.PIPE, "stderr": subprocess.STDOUT, "text": True}
+    ran = subprocess.run([*CHECK, *flags], cwd=folder, **how)
     for file in changed:
         (folder / file).write_text(texts[file])
     return ran.stdout.splitlines()
 
 
 def told_of(function, said):
-    """Returns the lines of a check that tell of a function and its closures, or of all functions, and the errors in their proofs."""
-    if function is None:
-        return [it for it in said if it.startswith("fn ")], [it for it in said if it.startswith("./proofs/") and ": error: " in it]
+    """Returns the lines of a check that tell of a function and its closures, and the errors in their proofs."""
     above, _, name = function.rpartition("::")
-    own = re.compile(rf"fn \w+::(\S+::)?({re.escape(function)}|({re.escape(above)}::)?fn::({re.escape(above)}::)?{name}::\S+): ")
-    proof = re.compile(rf"\./proofs/(\S+/)?{re.escape(function.replace('::', '/'))}/\S+ error: ")
+    path, above = re.escape(function), re.escape(above)
+    own = re.compile(rf"fn \w+::(\S+::)?({path}|({above}::)?fn::({above}::)?{name}::\S+): ")
+    proof = re.compile(rf"\./proofs/(\S+/)?{path.replace('::', '/')}/\S+ error: ")
     return [it for it in said if own.match(it)], [it for it in said if proof.match(it)]
 
 
-def verdict(edit, said):
-    """Returns what a check that reached the prover says of an edit, and its words for it."""
-    told = [told_of(function, said) for function in sorted(edit.functions) or [None]]
-    states, errors = [line for lines, _ in told for line in lines], [line for _, lines in told for line in lines]
+def verdict(functions, said):
+    """Returns what a check says of these functions, or of all if there are none, and its words for it."""
+    told = [told_of(function, said) for function in sorted(functions)]
+    states = [it for lines, _ in told for it in lines] if functions else [it for it in said if it.startswith("fn ")]
+    errors = [it for _, lines in told for it in lines] if functions else [it for it in said if ": error: " in it]
     goals = [it for it in states if "did not prove" in it] + [it for it in errors if not LOST_NAME.search(it)]
     if goals:
         return REFUSED, goals[0]
@@ -181,19 +183,34 @@ def verdict(edit, said):
     return UNCLEAR, next((it for it in states if not it.endswith(": proved")), said[-1] if said else "nothing was said")
 
 
-def try_round(folder, edits):
-    """Returns the verdict of each edit of a round. Tries again, each by itself, those of which the check of all says nothing."""
-    said = check(folder, edits)
-    if any(line.startswith(("fn ", "only=", "logic=")) for line in said):
-        found = {edit: verdict(edit, said) for edit in edits}
-        again = [edit for edit in edits if found[edit][0] == UNCLEAR and len(edits) > 1]
-        return found | {edit: fate for each in again for edit, fate in try_round(folder, [each]).items()}
-    places = {(it[1], int(it[2])): it[0] for line in said if (it := re.match(r"(?:\./)?(src/\S+?):(\d+):\d+: error", line))}
-    bad = [edit for edit in edits if edit.lines & set(places)] or (edits if len(edits) == 1 else [])
-    found = {edit: (BAD, next((line for line in said if "error" in line), said[-1] if said else "nothing was said")) for edit in bad}
+def prover_fates(edits, said):
+    """Returns the verdicts of a round that reached the prover, and a round for each edit of which it says nothing."""
+    found = {edit: verdict(edit.functions, said) for edit in edits}
+    unclear = [edit for edit in edits if found[edit][0] == UNCLEAR]
+    if len(edits) == 1 and unclear:
+        return {edits[0]: verdict((), said)}, []
+    return found, [[edit] for edit in unclear]
+
+
+def compiler_fates(edits, said):
+    """Returns the verdicts of a round that didn't reach the prover, and the other edits, in rounds."""
+    words = next((line for line in said if "error" in line), said[-1] if said else "nothing was said")
+    if len(edits) == 1:
+        return {edits[0]: (BAD if "error[" in words else UNCLEAR, words)}, []
+    places = {(it[1], int(it[2])): line for line in said if (it := PLACE.match(line))}
+    bad = {edit: (BAD, places[at.pop()]) for edit in edits if (at := edit.lines & set(places))}
     rest = [edit for edit in edits if edit not in bad]
-    parts = [rest] if bad else [rest[::2], rest[1::2]]
-    return found | {edit: fate for part in parts if part for edit, fate in try_round(folder, part).items()}
+    return bad, [part for part in ([rest] if bad else [rest[::2], rest[1::2]]) if part]
+
+
+def try_round(folder, edits):
+    """Returns the verdict of each edit of a round."""
+    said = check(folder, edits)
+    reached = any(line.startswith(("fn ", "only=", "logic=")) for line in said)
+    found, rounds = (prover_fates if reached else compiler_fates)(edits, said)
+    for each in rounds:
+        found |= try_round(folder, each)
+    return found
 
 
 def try_crate(crate, edits):

@@ -22,7 +22,7 @@ prove: ## proves all crates, JOBS at a time
 # The gate. What stands after `rt ci` prints nothing where all is well, and looks at the programs that it left. The first of them
 # becomes bin/heapdbg.
 test: ## runs the gate: proofs, wrong bodies, tests and checks of the program
-	@bash bench/dist.sh begin
+	@bash scripts/dist.sh begin
 	cmp examples/point.session crates/heapdbg/stdin
 	python3 checks/edits.py fit
 	python3 checks/map.py
@@ -30,6 +30,8 @@ test: ## runs the gate: proofs, wrong bodies, tests and checks of the program
 	python3 checks/rows.py
 	python3 checks/no_memory.py
 	python3 scripts/page.py fit
+	python3 scripts/order.py fit
+	python3 checks/lemma_names.py
 	rt ci
 	@python3 checks/growths.py crates/heapdbg/out/heapdbg
 	@python3 checks/cases.py crates/heapdbg/out/heapdbg crates/heapdbg/out/heapdbg.by-rattle
@@ -43,15 +45,15 @@ test: ## runs the gate: proofs, wrong bodies, tests and checks of the program
 	@python3 checks/strangers.py crates/heapdbg/out/heapdbg
 	@python3 checks/staying.py crates/heapdbg/out/heapdbg
 	@python3 checks/page crates/heapdbg/out/heapdbg
-	@QUIET=1 SECONDS=5 python3 bench/soak.py crates/heapdbg/out/heapdbg
-	@QUIET=1 SECONDS=5 python3 bench/hostile.py crates/heapdbg/out/heapdbg
+	@QUIET=1 SECONDS=5 python3 checks/soak.py crates/heapdbg/out/heapdbg
+	@QUIET=1 SECONDS=5 python3 checks/hostile.py crates/heapdbg/out/heapdbg
 	@python3 clients/python/test_heapdbg.py crates/heapdbg/out/heapdbg
 	@python3 clients/python/test_recorder.py crates/heapdbg/out/heapdbg
 	@python3 checks/recording.py crates/heapdbg/out/heapdbg
 	@python3 checks/c_client.py crates/heapdbg/out/heapdbg
 	@python3 checks/installed.py crates/heapdbg/out/heapdbg
 	@python3 checks/package.py crates/heapdbg/out/heapdbg
-	@bash bench/dist.sh passed crates/heapdbg/out/heapdbg
+	@bash scripts/dist.sh passed crates/heapdbg/out/heapdbg
 
 # Tries the edits that are not in the gate: of all crates, or of those that CRATE names.
 edits: ## tries the wrong bodies that are not in the gate (CRATE=NAME: of one crate)
@@ -80,12 +82,12 @@ SECONDS ?= 600
 
 # Has clients work on one served heap, and then honest clients beside hostile ones. It needs bin/heapdbg.
 soak: ## has CLIENTS clients work for SECONDS seconds, and hostile ones beside them
-	CLIENTS=$(CLIENTS) SECONDS=$(SECONDS) python3 bench/soak.py bin/heapdbg
-	SECONDS=$(SECONDS) python3 bench/hostile.py bin/heapdbg
+	CLIENTS=$(CLIENTS) SECONDS=$(SECONDS) python3 checks/soak.py bin/heapdbg
+	SECONDS=$(SECONDS) python3 checks/hostile.py bin/heapdbg
 
 # Has 16 threads, a marker and a sweeper act on a heap under its lock, and their receipts audited. Builds a program of its own in a temporary folder.
 audit: ## has 18 threads act for SECONDS seconds, and audits their receipts
-	SECONDS=$(SECONDS) python3 bench/audit.py
+	SECONDS=$(SECONDS) python3 checks/audit.py
 
 # Where `make install` puts things: below DESTDIR if that is given. Documents, examples and the clients lie in DOCDIR as they
 # do here, so that the documents' commands work there; `bin/heapdbg` is then `heapdbg`. The scripts of HUNT's files need the checks.
@@ -116,4 +118,4 @@ uninstall: ## removes what was installed
 
 # Packs the same into dist/, with an account of the gate: only the program that passed it at this commit.
 dist: ## packs the program that passed the gate
-	@bash bench/dist.sh pack $(VERSION)
+	@bash scripts/dist.sh pack $(VERSION)

@@ -4,6 +4,7 @@
 Builds `lock_bench.rt.txt` as one more crate of a copy of this repository in FOLDER (a temporary one if none is given), over what
 checks here kept, and prints what an act costs over `Machine::step` in instructions and nanoseconds, what four threads do
 against one, and the memory of 1,000,000 entries. With a FOLDER that has the program already, only measures."""
+import pathlib
 import re
 import resource
 import statistics
@@ -12,7 +13,10 @@ import sys
 import tempfile
 import time
 
-from programs import built
+TOP = pathlib.Path(__file__).resolve().parent.parent
+sys.path.append(str(TOP / "scripts"))
+
+from programs import built  # noqa: E402
 
 MILLION = 999_000
 RUNS = 11
@@ -52,7 +56,7 @@ def peak(program, way, count):
 
 def main(folder):
     """Prints a line for each figure."""
-    program = built(folder, "lock_bench", "all_acted", "", ["act", "1", "1"])
+    program = built(folder, TOP / "bench/lock_bench.rt.txt", "all_acted", "", ["act", "1", "1"])
     steps, acts = instructions(program, "step"), instructions(program, "act")
     print(f"instructions: step {steps:.1f}, act {acts:.1f}, more {acts - steps:.1f}")
     for name, place in ("wall", 0), ("user", 1), ("system", 2):

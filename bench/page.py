@@ -14,7 +14,7 @@ import sys
 import time
 
 TOP = pathlib.Path(__file__).resolve().parent.parent
-sys.path[:0] = [str(TOP / part) for part in ("checks", "checks/page", "checks/model", "bench")]
+sys.path[:0] = [str(TOP / part) for part in ("checks", "checks/page", "checks/model")]
 
 import browser  # noqa: E402
 from paged import Heap, nodes  # noqa: E402

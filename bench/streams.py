@@ -4,12 +4,16 @@
 Builds `stream_bench.rt.txt` in FOLDER (a temporary one if none is given), and prints how fast a stream of 60,000 small arrays goes
 into memory beside no mutator and beside four, and how fast four mutators act beside no stream and beside streams one after another.
 Figures are medians."""
+import pathlib
 import statistics
 import subprocess
 import sys
 import tempfile
 
-from programs import built
+TOP = pathlib.Path(__file__).resolve().parent.parent
+sys.path.append(str(TOP / "scripts"))
+
+from programs import built  # noqa: E402
 
 RUNS = 7
 LIBRARIES = "shared_dump dump_pipe dump_pump crossbeam_channel"
@@ -29,7 +33,7 @@ def median(figure):
 
 def main(folder):
     """Prints a line for each figure."""
-    program = built(folder, "stream_bench", "beside", LIBRARIES, ["4", "1", "1"])
+    program = built(folder, TOP / "bench/stream_bench.rt.txt", "beside", LIBRARIES, ["4", "1", "1"])
 
     def speed(count, streams):
         _, took, size = times(program, count, streams)

@@ -4,6 +4,7 @@ the built program serves: `c_client.py PROGRAM`.
 
 Prints a line for each thing that is otherwise than it must be, and ends with status 1 if there is one. Prints nothing where all
 is well, or where there is no `cc`."""
+import dataclasses
 import os
 import pathlib
 import re
@@ -16,32 +17,47 @@ from served import LIMIT, TOP, Server
 
 CLIENT = TOP / "clients/c"
 WORDS = ["cc", "-std=c99", "-pedantic", "-Wall", "-Wextra", "-Werror", "-O1", "-I", str(CLIENT)]
-# The options and the endings of the sessions of the heap that the tests need, and of the example's.
-TESTED = (3, ("--keep", "64", "--questions", "1"), ["quit", "quit", "eof"])
-SHOWN = (1, ("--questions", "1"), ["quit"])
+WIDE_LINES = ["-DHEAPDBG_LINE_BYTES=32768"]
 
 
-def compiled(source, folder):
+@dataclasses.dataclass
+class Heap:
+    """The heap that a client needs: how many sessions it has, its options and the endings of its sessions; and what the client is
+    compiled and run with."""
+
+    sessions: int
+    options: tuple
+    endings: list
+    flags: list = dataclasses.field(default_factory=list)
+    words: list = dataclasses.field(default_factory=list)
+
+
+TESTED = Heap(3, ("--keep", "64", "--questions", "1"), ["quit", "quit", "eof"])
+WIDE = Heap(1, ("--wide", "1"), ["quit"], WIDE_LINES, ["wide"])
+SHOWN = Heap(1, ("--questions", "1"), ["quit"])
+
+
+def compiled(source, flags, folder):
     """Compiles a source to a program. Returns it, and what the compiler says."""
     program = folder / source.stem
-    ran = subprocess.run([*WORDS, "-o", str(program), str(source)], capture_output=True, text=True)
+    ran = subprocess.run([*WORDS, *flags, "-o", str(program), str(source)], capture_output=True, text=True)
     return program, ran.stderr if ran.returncode else ""
 
 
 def ran(server, heap, client):
     """Runs a client of a heap. Returns what it prints, and what is wrong with how the heap's sessions ended."""
-    sessions, options, endings = heap
-    with Server(server, sessions, *options) as served:
+    with Server(server, heap.sessions, *heap.options) as served:
         served.waits()
-        came = subprocess.run([str(client), str(served.port)], capture_output=True, text=True, timeout=LIMIT * 3)
+        words = [str(client), str(served.port), *heap.words]
+        came = subprocess.run(words, capture_output=True, text=True, timeout=LIMIT * 3)
         said = came.stdout if came.returncode == 0 else f"{came.stdout}status {came.returncode}\n{came.stderr}"
         ended = served.ended()
-    return said, "" if ended == (0, endings, b"") else f"the heap ends with {ended}"
+    return said, "" if ended == (0, heap.endings, b"") else f"the heap ends with {ended}"
 
 
 def looks(server, source, heap, wanted, folder):
     """Yields what is wrong with a client that must print this."""
-    client, said = compiled(source, folder)
+    client, said = compiled(source, heap.flags, folder)
     if said:
         yield f"{source.name} doesn't compile: {said}"
         return
@@ -61,6 +77,7 @@ def differences(server):
         (folder / "example.c").write_text(code)
         yield from looks(server, folder / "example.c", SHOWN, wanted, folder)
         yield from looks(server, CLIENT / "test_heapdbg.c", TESTED, "", folder)
+        yield from looks(server, CLIENT / "test_heapdbg.c", WIDE, "", folder)
 
 
 def main(server):

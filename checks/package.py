@@ -31,7 +31,7 @@ def committed(folder):
 
 def dist(folder, *words):
     """Does a step of the gate."""
-    subprocess.run(["bash", "bench/dist.sh", *words], cwd=folder, check=True)
+    subprocess.run(["bash", "scripts/dist.sh", *words], cwd=folder, check=True)
 
 
 def passed(folder, program):

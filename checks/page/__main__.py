@@ -12,7 +12,7 @@ import threading
 import time
 
 TOP = pathlib.Path(__file__).resolve().parent.parent.parent
-sys.path[:0] = [str(TOP / part) for part in ("checks", "checks/page", "checks/model", "bench")]
+sys.path[:0] = [str(TOP / part) for part in ("checks", "checks/page", "checks/model")]
 
 import browser  # noqa: E402
 import clicks  # noqa: E402

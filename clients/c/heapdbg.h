@@ -4,7 +4,11 @@
    A call adds a line to a batch and returns at once. The batch is sent, and its replies are read, once it is full, and by
    heapdbg_flush. Who wants a reply passes a heapdbg_reply, which has to stay where it is until then; its kind is HEAPDBG_WAITING
    as long as it hasn't come. All calls return 0, or -1 with errno set: EPIPE if the session has ended, EINVAL if a text isn't
-   one line with a reply (then nothing was added), EMSGSIZE if a line has more than 4,096 bytes, or what a socket said. */
+   one line with a reply (then nothing was added), EMSGSIZE if a line has more than HEAPDBG_LINE_BYTES bytes (then nothing was
+   added, either), or what a socket said.
+
+   A heap takes lines of 4,096 bytes. For a wide heap, which takes lines of 32,768, define HEAPDBG_LINE_BYTES as 32768 before you
+   include this file, in each file that does. */
 #ifndef HEAPDBG_H
 #define HEAPDBG_H
 
@@ -25,10 +29,12 @@
 #endif
 
 /* The bytes and the lines of a batch, the bytes of a line, and how much of a reply's line is looked at. A batch fits into any
-   socket, so that neither side waits for the other for ever. */
+   socket, so that neither side waits for the other for ever; a line that is longer than a batch is a batch of its own. */
 #define HEAPDBG_BATCH_BYTES 16384
 #define HEAPDBG_BATCH_LINES 1024
+#ifndef HEAPDBG_LINE_BYTES
 #define HEAPDBG_LINE_BYTES 4096
+#endif
 #define HEAPDBG_REPLY_BYTES 256
 
 /* What a reply says. */
@@ -62,7 +68,7 @@ typedef struct heapdbg_reply {
 typedef struct heapdbg {
     int socket;
     int over;
-    char lines[HEAPDBG_BATCH_BYTES];
+    char lines[HEAPDBG_BATCH_BYTES + HEAPDBG_LINE_BYTES + 1];
     size_t size;
     size_t begins[HEAPDBG_BATCH_LINES];
     heapdbg_reply *replies[HEAPDBG_BATCH_LINES];
@@ -313,7 +319,7 @@ static inline int heapdbg_line(heapdbg *session, const char *line, heapdbg_reply
         errno = size > HEAPDBG_LINE_BYTES ? EMSGSIZE : EINVAL;
         return -1;
     }
-    if (session->count == HEAPDBG_BATCH_LINES || session->size + size + 1 > HEAPDBG_BATCH_BYTES)
+    if (session->count == HEAPDBG_BATCH_LINES || (session->count > 0 && session->size + size + 1 > HEAPDBG_BATCH_BYTES))
         (void)heapdbg_exchange(session);
     if (session->over) {
         errno = EPIPE;

@@ -1,5 +1,5 @@
 /* Tests of heapdbg.h: `test_heapdbg PORT`, over a heap that was just served with 16 regions, 2 mutators, --keep 64, --questions 1
-   and three sessions.
+   and three sessions. `test_heapdbg PORT wide`, of a build with lines of 32,768 bytes: over a wide heap of one session.
 
    Prints a line for each thing that is otherwise than it must be, and ends with status 1 then. */
 #include <stdlib.h>
@@ -193,15 +193,42 @@ static void secrets(heapdbg *session)
     close(other);
 }
 
+/* The longest line of a wide heap, between others, and a line that is too long. */
+static void wide(heapdbg *session)
+{
+    char fields[HEAPDBG_LINE_BYTES + 1] = "", line[HEAPDBG_LINE_BYTES + 2];
+    heapdbg_reply first, longest, last;
+    size_t size = strlen("class Wide - "), end = 0;
+    unsigned field;
+    for (field = 0; field < 64; field++)
+        end += (size_t)snprintf(fields + end, sizeof fields - end, "%sf%0200u:int", field > 0 ? " " : "", field);
+    memset(line, ' ', HEAPDBG_LINE_BYTES);
+    memcpy(line, "class Wide - ", size);
+    memcpy(line + size, fields, end);
+    line[HEAPDBG_LINE_BYTES] = 0;
+    heapdbg_array(session, "[First;", &first);
+    MUST(heapdbg_class(session, "Fields", -1, fields, NULL) == 0 && heapdbg_line(session, line, &longest) == 0);
+    heapdbg_array(session, "[Last;", &last);
+    line[HEAPDBG_LINE_BYTES] = ' ';
+    line[HEAPDBG_LINE_BYTES + 1] = 0;
+    MUST(heapdbg_line(session, line, NULL) == -1 && errno == EMSGSIZE);
+    MUST(heapdbg_end(session) == 0);
+    MUST(is(first, HEAPDBG_CLASS, 0) && is(longest, HEAPDBG_CLASS, 2) && is(last, HEAPDBG_CLASS, 3));
+}
+
 int main(int count, char **words)
 {
     heapdbg session;
-    unsigned port = count == 2 ? (unsigned)strtoul(words[1], NULL, 10) : 0;
+    unsigned port = count >= 2 ? (unsigned)strtoul(words[1], NULL, 10) : 0;
     nobody(&session);
     secrets(&session);
     if (heapdbg_connect(&session, port) != 0) {
         perror("test_heapdbg");
         return 1;
+    }
+    if (count == 3) {
+        wide(&session);
+        return faults != 0;
     }
     mutators(&session);
     cycle(&session);

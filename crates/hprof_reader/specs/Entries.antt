@@ -7,7 +7,7 @@ use Rattle.heap_class.specs.Kinds.{id_bytes, width_of}
 use Rattle.hprof_reader.specs.declared.class_dumps.Entry.{Entry}
 use Rattle.hprof_reader.specs.declared.fault.Fault.{Fault}
 use Rattle.hprof_reader.specs.Kinds.{kind_parts}
-use Rattle.hprof_reader.specs.Reading.{joined, made, number_at, taken_at}
+use Rattle.hprof_reader.specs.Reading.{◌>>=◌, joined, made, number_at, taken_at}
 use Rattle.hprof_reader.specs.SubRecords.{EntryTold, Entries}
 
 -- an entry that was read

@@ -8,7 +8,7 @@ use Rattle.hprof_text.specs.Text.{u1, header}
 use Rattle.hprof_reader.specs.declared.fault.Fault.{Fault}
 use Rattle.hprof_reader.specs.declared.fault.Fault.TheVariants as faults
 use Rattle.hprof_reader.specs.declared.header.Header.{Header}
-use Rattle.hprof_reader.specs.Reading.{number_at, taken_at}
+use Rattle.hprof_reader.specs.Reading.{◌>>=◌, number_at, taken_at}
 
 -- the bytes of a header
 abbrev pub header_text : Header → List ℕ

@@ -5,7 +5,7 @@ use Rattle.heap_class.specs.declared.Kind.{Kind}
 use Rattle.heap_class.specs.declared.Kind.TheVariants.{Boolean, Char, Float, Double, Byte, Short, Int, Long}
 use Rattle.hprof_reader.specs.declared.fault.Fault.{Fault}
 use Rattle.hprof_reader.specs.declared.fault.Fault.TheVariants as faults
-use Rattle.hprof_reader.specs.Reading.{number_at}
+use Rattle.hprof_reader.specs.Reading.{◌>>=◌, number_at}
 
 -- the kind that a code names
 abbrev pub kind_coded : ℕ → Option Kind

@@ -9,7 +9,7 @@ use Rattle.hprof_reader.specs.declared.fault.Fault.{Fault}
 use Rattle.hprof_reader.specs.declared.fault.Fault.TheVariants as faults
 use Rattle.hprof_reader.specs.Entries.{table_parts, fields_table_parts}
 use Rattle.hprof_reader.specs.Kinds.{kind_parts}
-use Rattle.hprof_reader.specs.Reading.{joined, made, number_at, taken_at, id_width}
+use Rattle.hprof_reader.specs.Reading.{◌>>=◌, joined, made, number_at, taken_at, id_width}
 use Rattle.hprof_reader.specs.SubRecords.{Sub, ClassTold, Entries, root, class, instance, array, prim}
 use Rattle.hprof_reader.specs.SubSizes.{root_size}
 

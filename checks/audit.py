@@ -9,13 +9,17 @@ dumps places under two pins while the others act. Prints a line for each round i
 with the history or two dumps of one place differ; then how much was done, and the most memory of a round. Status 1 if anything
 was wrong."""
 import os
+import pathlib
 import resource
 import subprocess
 import sys
 import tempfile
 import time
 
-from programs import built
+TOP = pathlib.Path(__file__).resolve().parent.parent
+sys.path.append(str(TOP / "scripts"))
+
+from programs import built  # noqa: E402
 
 LIBRARIES = "dump_pump heap_work"
 NAMES = "acts, finished cycles, rewinds, pairs of equal dumps, pairs with a pin that was lost or refused".split(", ")
@@ -53,4 +57,4 @@ if __name__ == "__main__":
     if sys.argv[1:]:
         sys.exit(main(sys.argv[1:], SECONDS, ACTS))
     with tempfile.TemporaryDirectory(prefix="audit-") as name:
-        sys.exit(main([built(name, "audit", "opened", LIBRARIES, ["1", "1"])], SECONDS, ACTS))
+        sys.exit(main([built(name, TOP / "checks/audit.rt.txt", "opened", LIBRARIES, ["1", "1"])], SECONDS, ACTS))

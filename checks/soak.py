@@ -27,12 +27,12 @@ import threading
 import time
 
 import segments
+from ports import free_port
 
 TOP = pathlib.Path(__file__).resolve().parent.parent
-sys.path += [str(TOP / "clients/python"), str(TOP / "checks")]
+sys.path.append(str(TOP / "clients/python"))
 
 from heapdbg import Ended, Refused, Session  # noqa: E402
-from ports import free_port  # noqa: E402
 
 CLIENTS = int(os.environ.get("CLIENTS") or 8)
 DUMPERS = int(os.environ.get("DUMPERS") or 2)

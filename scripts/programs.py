@@ -1,4 +1,4 @@
-"""Builds the programs of `bench/*.rt.txt`, each as one more crate of a copy of this repository."""
+"""Builds the programs of `bench/*.rt.txt` and `checks/*.rt.txt`, each as one more crate of a copy of this repository."""
 import pathlib
 import shutil
 import subprocess
@@ -14,12 +14,12 @@ ghosts-{opener} g a = record {{ config = a.blank.config; tables = a.blank.tables
 """
 
 
-def built(folder, name, opener, libraries, words):
-    """Builds `bench/NAME.rt.txt` in FOLDER over what checks here kept, unless the program is there already. Returns its path.
+def built(folder, source, opener, libraries, words):
+    """Builds a source `NAME.rt.txt` in FOLDER over what checks here kept, unless the program is there already. Returns its path.
 
     Its function `done` calls `opener`, which opens a heap. It uses these libraries beside those of a heap. The first run is
     given the words."""
-    folder = pathlib.Path(folder)
+    folder, name = pathlib.Path(folder), source.name.removesuffix(".rt.txt")
     crate = folder / "crates" / name
     program = crate / "out" / name
     if not program.exists():
@@ -28,7 +28,7 @@ def built(folder, name, opener, libraries, words):
         line = f"{name}: {libraries} {' '.join(HEAP.split())}\n"
         (folder / "crates.txt").write_text((TOP / "crates.txt").read_text() + line)
         (crate / "src").mkdir(parents=True, exist_ok=True)
-        shutil.copy(TOP / f"bench/{name}.rt.txt", crate / "src/main.rt")
+        shutil.copy(source, crate / "src/main.rt")
         picks = crate / "proofs/done"
         picks.mkdir(parents=True, exist_ok=True)
         (picks / "Invariants.antt").write_text(PICKS.format(name=name, opener=opener))

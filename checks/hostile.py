@@ -25,10 +25,9 @@ import sys
 import threading
 import time
 
-TOP = pathlib.Path(__file__).resolve().parent.parent
-sys.path.append(str(TOP / "checks"))
+from ports import free_port
 
-from ports import free_port  # noqa: E402
+TOP = pathlib.Path(__file__).resolve().parent.parent
 
 LIMIT = 20
 SEATS, HONEST, OBJECTS = 60, 2, 1000

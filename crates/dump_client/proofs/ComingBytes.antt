@@ -10,7 +10,7 @@ use Rattle.hprof_records.specs.declared.scan.Scan.{Scan}
 use Rattle.hprof_records.specs.declared.scan.Scan.TheVariants.{Within}
 use Rattle.dump_client.specs.Fetches.{EndsFetch, IsFetched, HasCome, finish_of, told_limit}
 use Rattle.dump_client.specs.declared.intake.Finish.TheVariants.{Whole, Cut, WriteFault}
-use Rattle.session_text.proofs.AnsweredLines.{keeps_then}
+use Rattle.session_text.proofs.AnsweredLines.{kept_bytes_kept_in_turn}
 
 -- all that came is out, and the scan has followed it
 pub record IsComing (a b : Incoming) (w w' : Outgoing) (scan : Scan) (bytes : ℕ) : Type 0 where
@@ -23,36 +23,36 @@ pub record IsComing (a b : Incoming) (w w' : Outgoing) (scan : Scan) (bytes : �
   pub written : w'.failures ≡ w.failures
   pub scanned : (rest : List ℕ) → is_whole_dump (came ++ rest) ≡ completes scan rest
 
-keeps_same : (x : Option (List ℕ)) → Keeps x x
-keeps_same None = tt
-keeps_same (Some xs) = refl
+known_bytes_keep_themselves : (x : Option (List ℕ)) → Keeps x x
+known_bytes_keep_themselves None = tt
+known_bytes_keep_themselves (Some xs) = refl
 
-first : (rest : List ℕ) → is_whole_dump rest ≡ completes (Within 31) rest
+first_bytes_of_whole_dump : (rest : List ℕ) → is_whole_dump rest ≡ completes (Within 31) rest
 unfolding completes
-first rest = refl
+first_bytes_of_whole_dump rest = refl
 
-pub coming : (a : Incoming) (w : Outgoing) (scan : Scan) → scan ≡ Within 31 → IsComing a a w w scan 0
-coming a w scan is = record {
+pub fetch_begins_with_no_bytes : (a : Incoming) (w : Outgoing) (scan : Scan) → scan ≡ Within 31 → IsComing a a w w scan 0
+fetch_begins_with_no_bytes a w scan is = record {
   came = [];
   taken = sym (append-nil a.taken);
-  keeps = keeps_same (whole a);
+  keeps = known_bytes_keep_themselves (whole a);
   grows = sym (append-nil w.out);
   counted = refl;
   read = refl;
   written = refl;
-  scanned = λ rest. first rest ∙ ap (λ s. completes s rest) (sym is);
+  scanned = λ rest. first_bytes_of_whole_dump rest ∙ ap (λ s. completes s rest) (sym is);
 }
 
 -- the bytes of the read are out
-pub came_on : (a b c : Incoming) (w w1 w2 : Outgoing) (scan scan2 : Scan) (bytes bytes2 : ℕ) (more : List ℕ) (n k : ℕ) → IsComing a b w w1 scan bytes
+pub fetch_goes_on_after_write : (a b c : Incoming) (w w1 w2 : Outgoing) (scan scan2 : Scan) (bytes bytes2 : ℕ) (more : List ℕ) (n k : ℕ) → IsComing a b w w1 scan bytes
     → c.taken ≡ b.taken ++ more → c.failures ≡ b.failures → Keeps (whole b) (whole c) → length more ≡ n → PutsAll more w1 w2 k → n ≤ k → bytes2 ≡ min (bytes + k) told_limit
     → ((rest : List ℕ) → completes scan (more ++ rest) ≡ completes scan2 rest) → IsComing a c w w2 scan2 bytes2
-came_on a b c w w1 w2 scan scan2 bytes bytes2 more n k i taken fine keeps size put all count follows =
+fetch_goes_on_after_write a b c w w1 w2 scan scan2 bytes bytes2 more n k i taken fine keeps size put all count follows =
     let same : k ≡ length more = omega (arith, put.0, size, all) in
     record {
       came = i.came ++ more;
       taken = taken ∙ ap (λ l. l ++ more) i.taken ∙ append_assoc a.taken i.came more;
-      keeps = keeps_then (whole a) (whole b) (whole c) i.keeps keeps;
+      keeps = kept_bytes_kept_in_turn (whole a) (whole b) (whole c) i.keeps keeps;
       grows = put.1 ∙ (λ j. i.grows j ++ take_all k more (omega (arith, same)) j) ∙ append_assoc w.out i.came more;
       counted = omega (arith, count, i.counted, same, length-append i.came more);
       read = fine ∙ i.read;
@@ -61,45 +61,45 @@ came_on a b c w w1 w2 scan scan2 bytes bytes2 more n k i taken fine keeps size p
     }
 
 -- a write failed among them
-pub broke_off : (a b c : Incoming) (w w1 w2 : Outgoing) (scan : Scan) (bytes bytes2 : ℕ) (more : List ℕ) (n k : ℕ) → IsComing a b w w1 scan bytes
+pub failed_put_ends_fetch : (a b c : Incoming) (w w1 w2 : Outgoing) (scan : Scan) (bytes bytes2 : ℕ) (more : List ℕ) (n k : ℕ) → IsComing a b w w1 scan bytes
     → c.taken ≡ b.taken ++ more → c.failures ≡ b.failures → Keeps (whole b) (whole c) → length more ≡ n → PutsAll more w1 w2 k → k < n → bytes2 ≡ min (bytes + k) told_limit
     → IsFetched a c w w2 (record { bytes = bytes2; finish = WriteFault })
-broke_off a b c w w1 w2 scan bytes bytes2 more n k i taken fine keeps size put less count = record {
+failed_put_ends_fetch a b c w w1 w2 scan bytes bytes2 more n k i taken fine keeps size put less count = record {
   came = i.came ++ more;
   put = i.came ++ take k more;
   takes = taken ∙ ap (λ l. l ++ more) i.taken ∙ append_assoc a.taken i.came more;
-  keeps = keeps_then (whole a) (whole b) (whole c) i.keeps keeps;
+  keeps = kept_bytes_kept_in_turn (whole a) (whole b) (whole c) i.keeps keeps;
   begins = (drop k more, append_assoc i.came (take k more) (drop k more) ∙ ap (λ l. i.came ++ l) (take-append-drop k more));
   grows = put.1 ∙ ap (λ l. l ++ take k more) i.grows ∙ append_assoc w.out i.came (take k more);
   counted = omega (arith, count, i.counted, put.0, length-append i.came (take k more), length-take k more);
   ends = put.3 (omega (arith, less, size)) ∙ ap (λ m. m + 1) i.written;
 }
 
-finished : (came : List ℕ) (a b : Incoming) (w w' : Outgoing) (scan : Scan) → is_whole_dump came ≡ completes scan [] → HasCome a b → w'.failures ≡ w.failures → EndsFetch came came a b w w' (finish_of scan)
-finished came a b w w' scan is over fine = go (completes scan []) refl
+scan_tells_fetch_end : (came : List ℕ) (a b : Incoming) (w w' : Outgoing) (scan : Scan) → is_whole_dump came ≡ completes scan [] → HasCome a b → w'.failures ≡ w.failures → EndsFetch came came a b w w' (finish_of scan)
+scan_tells_fetch_end came a b w w' scan is fetch_over_without_more fine = go (completes scan []) refl
   where
     go : (t : Bool) → completes scan [] ≡ t → EndsFetch came came a b w w' (if t then Whole else Cut)
-    go true e = (refl, is ∙ e, over, fine)
-    go false e = (refl, is ∙ e, over, fine)
+    go true e = (refl, is ∙ e, fetch_over_without_more, fine)
+    go false e = (refl, is ∙ e, fetch_over_without_more, fine)
 
 -- nothing more comes
-over : (a b c : Incoming) (w w1 : Outgoing) (scan : Scan) (bytes : ℕ) → IsComing a b w w1 scan bytes → HasCome a c → c.taken ≡ b.taken → Keeps (whole b) (whole c)
+fetch_over_without_more : (a b c : Incoming) (w w1 : Outgoing) (scan : Scan) (bytes : ℕ) → IsComing a b w w1 scan bytes → HasCome a c → c.taken ≡ b.taken → Keeps (whole b) (whole c)
     → IsFetched a c w w1 (record { bytes = bytes; finish = finish_of scan })
-over a b c w w1 scan bytes i no_more taken keeps = record {
+fetch_over_without_more a b c w w1 scan bytes i no_more taken keeps = record {
   came = i.came;
   put = i.came;
   takes = taken ∙ i.taken;
-  keeps = keeps_then (whole a) (whole b) (whole c) i.keeps keeps;
+  keeps = kept_bytes_kept_in_turn (whole a) (whole b) (whole c) i.keeps keeps;
   begins = ([], append-nil i.came);
   grows = i.grows;
   counted = i.counted;
-  ends = finished i.came a c w w1 scan (ap is_whole_dump (sym (append-nil i.came)) ∙ i.scanned []) no_more i.written;
+  ends = scan_tells_fetch_end i.came a c w w1 scan (ap is_whole_dump (sym (append-nil i.came)) ∙ i.scanned []) no_more i.written;
 }
 
-pub ended : (a b c : Incoming) (w w1 : Outgoing) (scan : Scan) (bytes : ℕ) → IsComing a b w w1 scan bytes → NothingLeft c → c.taken ≡ b.taken → Keeps (whole b) (whole c)
+pub fetch_ended_with_nothing_left : (a b c : Incoming) (w w1 : Outgoing) (scan : Scan) (bytes : ℕ) → IsComing a b w w1 scan bytes → NothingLeft c → c.taken ≡ b.taken → Keeps (whole b) (whole c)
     → IsFetched a c w w1 (record { bytes = bytes; finish = finish_of scan })
-ended a b c w w1 scan bytes i left taken keeps = over a b c w w1 scan bytes i (inl left) taken keeps
+fetch_ended_with_nothing_left a b c w w1 scan bytes i left taken keeps = fetch_over_without_more a b c w w1 scan bytes i (inl left) taken keeps
 
-pub failed : (a b c : Incoming) (w w1 : Outgoing) (scan : Scan) (bytes : ℕ) → IsComing a b w w1 scan bytes → c.failures ≡ b.failures + 1 → c.taken ≡ b.taken → Keeps (whole b) (whole c)
+pub fetch_ended_by_failed_read : (a b c : Incoming) (w w1 : Outgoing) (scan : Scan) (bytes : ℕ) → IsComing a b w w1 scan bytes → c.failures ≡ b.failures + 1 → c.taken ≡ b.taken → Keeps (whole b) (whole c)
     → IsFetched a c w w1 (record { bytes = bytes; finish = finish_of scan })
-failed a b c w w1 scan bytes i fault taken keeps = over a b c w w1 scan bytes i (inr (fault ∙ ap (λ m. m + 1) i.read)) taken keeps
+fetch_ended_by_failed_read a b c w w1 scan bytes i fault taken keeps = fetch_over_without_more a b c w w1 scan bytes i (inr (fault ∙ ap (λ m. m + 1) i.read)) taken keeps

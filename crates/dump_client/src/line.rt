@@ -8,14 +8,15 @@ use crate::intake::{Fetched, Finish};
 use dump_pump::Outlet;
 use session_text::write_all;
 
-// Puts out a number and the end of its line.
-fn write_number<O: Outlet>(writer: &mut O, number: u64) -> bool
-    ensures { IsTextWritten (line (decimal number)) (O.seen writer.old) (O.seen writer.new) result }
+/// Puts out the last line: how the fetch ended, and the number of bytes that it put out. Returns whether all of it is out.
+pub fn write_last<O: Outlet>(writer: &mut O, fetched: &Fetched) -> bool
+    ensures { IsTextWritten (fetch_line_of fetched.now) (O.seen writer.old) (O.seen writer.new)
+        result }
 {
-    if !write_all(writer, itoa::Buffer::new().format(number).as_bytes()) {
+    if !write_all(writer, fetched.finish.word()) {
         return false;
     }
-    write_all(writer, b"\n")
+    write_number(writer, fetched.bytes)
 }
 
 impl Finish {
@@ -31,13 +32,12 @@ impl Finish {
     }
 }
 
-/// Puts out the last line: how the fetch ended, and the number of bytes that it put out. Returns whether all of it is out.
-pub fn write_last<O: Outlet>(writer: &mut O, fetched: &Fetched) -> bool
-    ensures { IsTextWritten (fetch_line_of fetched.now) (O.seen writer.old) (O.seen writer.new)
-        result }
+// Puts out a number and the end of its line.
+fn write_number<O: Outlet>(writer: &mut O, number: u64) -> bool
+    ensures { IsTextWritten (line (decimal number)) (O.seen writer.old) (O.seen writer.new) result }
 {
-    if !write_all(writer, fetched.finish.word()) {
+    if !write_all(writer, itoa::Buffer::new().format(number).as_bytes()) {
         return false;
     }
-    write_number(writer, fetched.bytes)
+    write_all(writer, b"\n")
 }

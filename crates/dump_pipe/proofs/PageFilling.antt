@@ -8,7 +8,7 @@ use Rattle.dump_pump.specs.declared.source.Next.{Next}
 use Rattle.dump_pump.specs.declared.source.Next.TheVariants.{Part, Lost, Cancelled}
 use Rattle.dump_pump.specs.Sources.{Supply, IsNextPart, more, part_limit, part_size_limit}
 use Rattle.dump_pump.specs.Pumps.{joined, ends}
-use Rattle.dump_pump.proofs.PumpSteps.{more_nil, more_more, joined_push, ends_push}
+use Rattle.dump_pump.proofs.PumpSteps.{told_and_no_piece_more, told_pieces_added_in_two_turns, joined_bytes_with_last_piece, pieces_end_as_last_piece}
 use Rattle.dump_pipe.specs.declared.surplus.Surplus.{Surplus}
 use Rattle.dump_pipe.specs.Pages.{page_room, supply_at, IsAhead, IsAppended, IsFilled, IsPage, Pages}
 
@@ -22,63 +22,63 @@ pub record IsFilling (a b : Supply) (page page' : List ℕ) : Type 0 where
   pub left : 0 < b.left
   pub less : b.left ≤ a.left
 
-pub fill_begins : (a : Supply) (page : List ℕ) → 0 < a.left → length page ≤ page_room → IsFilling a a page page
-fill_begins a page left room = record {
+pub page_filling_begins : (a : Supply) (page : List ℕ) → 0 < a.left → length page ≤ page_room → IsFilling a a page page
+page_filling_begins a page left room = record {
   parts = [];
   bytes = sym (append-nil page);
   room = room;
   ends = refl;
-  told = more_nil a.told;
+  told = told_and_no_piece_more a.told;
   left = left;
   less = omega arith;
 }
 
 -- a part more
-pub filled_more : (a b c : Supply) (page page1 page2 : List ℕ) (r : Next) (last : Bool) → last ≡ false → IsFilling a b page page1 → IsNextPart b c r → IsAppended page1 page2 r (Some last) → IsFilling a c page page2
-filled_more a b c page page1 page2 (Part p) last here f n is = record {
+pub page_filled_by_part : (a b c : Supply) (page page1 page2 : List ℕ) (r : Next) (last : Bool) → last ≡ false → IsFilling a b page page1 → IsNextPart b c r → IsAppended page1 page2 r (Some last) → IsFilling a c page page2
+page_filled_by_part a b c page page1 page2 (Part p) last here f n is = record {
   parts = f.parts ++ p ∷ [];
-  bytes = is.0 ∙ ap (λ l. l ++ p.bytes) f.bytes ∙ append_assoc page (joined f.parts) p.bytes ∙ ap (λ l. page ++ l) (sym (joined_push f.parts p));
+  bytes = is.0 ∙ ap (λ l. l ++ p.bytes) f.bytes ∙ append_assoc page (joined f.parts) p.bytes ∙ ap (λ l. page ++ l) (sym (joined_bytes_with_last_piece f.parts p));
   room = is.1;
-  ends = ends_push f.parts p ∙ sym is.2 ∙ here;
-  told = n.0 ∙ ap (λ t. more t (p ∷ [])) f.told ∙ more_more a.told f.parts (p ∷ []);
+  ends = pieces_end_as_last_piece f.parts p ∙ sym is.2 ∙ here;
+  told = n.0 ∙ ap (λ t. more t (p ∷ [])) f.told ∙ told_pieces_added_in_two_turns a.told f.parts (p ∷ []);
   left = n.3 (sym is.2 ∙ here);
   less = omega (arith, n.2, f.less);
 }
-filled_more a b c page page1 page2 (Lost cause) last here f n is = absurd is
-filled_more a b c page page1 page2 Cancelled last here f n is = absurd is
+page_filled_by_part a b c page page1 page2 (Lost cause) last here f n is = absurd is
+page_filled_by_part a b c page page1 page2 Cancelled last here f n is = absurd is
 
 -- the last part
-pub filled_last : (a b c : Supply) (page page1 page2 : List ℕ) (r : Next) (last : Bool) → last ≡ true → IsFilling a b page page1 → IsNextPart b c r → IsAppended page1 page2 r (Some last) → IsFilled a c page page2 None true
-filled_last a b c page page1 page2 (Part p) last here f n is = record {
+pub page_filled_by_last_part : (a b c : Supply) (page page1 page2 : List ℕ) (r : Next) (last : Bool) → last ≡ true → IsFilling a b page page1 → IsNextPart b c r → IsAppended page1 page2 r (Some last) → IsFilled a c page page2 None true
+page_filled_by_last_part a b c page page1 page2 (Part p) last here f n is = record {
   parts = f.parts ++ p ∷ [];
-  bytes = is.0 ∙ ap (λ l. l ++ p.bytes) f.bytes ∙ append_assoc page (joined f.parts) p.bytes ∙ ap (λ l. page ++ l) (sym (joined_push f.parts p));
+  bytes = is.0 ∙ ap (λ l. l ++ p.bytes) f.bytes ∙ append_assoc page (joined f.parts) p.bytes ∙ ap (λ l. page ++ l) (sym (joined_bytes_with_last_piece f.parts p));
   room = is.1;
-  ends = ends_push f.parts p ∙ sym is.2 ∙ here;
+  ends = pieces_end_as_last_piece f.parts p ∙ sym is.2 ∙ here;
   rest = record {
-    ahead = n.0 ∙ ap (λ t. more t (p ∷ [])) f.told ∙ more_more a.told f.parts (p ∷ []);
+    ahead = n.0 ∙ ap (λ t. more t (p ∷ [])) f.told ∙ told_pieces_added_in_two_turns a.told f.parts (p ∷ []);
     less = omega (arith, n.2, f.less);
     some = λ e. absurd cc;
     whole = λ e. (refl, n.4 (sym is.2 ∙ here));
   };
 }
-filled_last a b c page page1 page2 (Lost cause) last here f n is = absurd is
-filled_last a b c page page1 page2 Cancelled last here f n is = absurd is
+page_filled_by_last_part a b c page page1 page2 (Lost cause) last here f n is = absurd is
+page_filled_by_last_part a b c page page1 page2 Cancelled last here f n is = absurd is
 
-next_at : (b c : Supply) (told : _) (left : ℕ) (r : Next) → b.told ≡ told → left ≡ b.left → IsNextPart b c r → IsNextPart (supply_at told left) c r
-next_at b c told left (Part p) is at n = (n.0 ∙ ap (λ t. more t (p ∷ [])) is, n.1, omega (arith, n.2, at), n.3, n.4)
-next_at b c told left (Lost cause) is at n = (n.0 ∙ is, n.1)
-next_at b c told left Cancelled is at n = (n.0 ∙ is, n.1)
+next_part_of_equal_supply : (b c : Supply) (told : _) (left : ℕ) (r : Next) → b.told ≡ told → left ≡ b.left → IsNextPart b c r → IsNextPart (supply_at told left) c r
+next_part_of_equal_supply b c told left (Part p) is at n = (n.0 ∙ ap (λ t. more t (p ∷ [])) is, n.1, omega (arith, n.2, at), n.3, n.4)
+next_part_of_equal_supply b c told left (Lost cause) is at n = (n.0 ∙ is, n.1)
+next_part_of_equal_supply b c told left Cancelled is at n = (n.0 ∙ is, n.1)
 
 -- nothing more, and a surplus
-pub filled_up : (a b c : Supply) (page page1 page2 : List ℕ) (left : ℕ) (r : Next) → IsFilling a b page page1 → IsNextPart b c r → left ≡ b.left → left ≤ part_limit → page2 ≡ page1
+pub page_filled_with_surplus : (a b c : Supply) (page page1 page2 : List ℕ) (left : ℕ) (r : Next) → IsFilling a b page page1 → IsNextPart b c r → left ≡ b.left → left ≤ part_limit → page2 ≡ page1
     → IsFilled a c page page2 (Some (record { next = r; left = left })) false
-filled_up a b c page page1 page2 left r f n at most same = record {
+page_filled_with_surplus a b c page page1 page2 left r f n at most same = record {
   parts = f.parts;
   bytes = same ∙ f.bytes;
   room = omega (arith, ap length same, f.room);
   ends = f.ends;
   rest = record {
-    ahead = (next_at b c (more a.told f.parts) left r f.told at n, most);
+    ahead = (next_part_of_equal_supply b c (more a.told f.parts) left r f.told at n, most);
     less = omega (arith, at, f.less);
     some = λ e. omega (arith, at, f.left);
     whole = λ e. absurd cc;
@@ -88,53 +88,53 @@ filled_up a b c page page1 page2 left r f n at most same = record {
 -- ---- a page
 
 -- a part alone
-pub alone : (a : Supply) (first : Piece) → length first.bytes ≤ part_size_limit → (first.last ≡ false → 0 < a.left) → (first.last ≡ true → a.ended ≡ Some End.Whole) → IsPage a a first first None
-alone a first small left whole = record {
+pub single_part_makes_page : (a : Supply) (first : Piece) → length first.bytes ≤ part_size_limit → (first.last ≡ false → 0 < a.left) → (first.last ≡ true → a.ended ≡ Some End.Whole) → IsPage a a first first None
+single_part_makes_page a first small left whole = record {
   parts = [];
   bytes = sym (append-nil first.bytes);
   last = refl;
   small = small;
   rest = record {
-    ahead = more_nil a.told;
+    ahead = told_and_no_piece_more a.told;
     less = omega arith;
     some = left;
     whole = λ e. (refl, whole e);
   };
 }
 
-ends_after : (first : Piece) (parts : List Piece) (last : Bool) → first.last ≡ false → ends parts ≡ last → last ≡ ends (first ∷ parts)
-ends_after first [] last other is = sym is ∙ sym other
-ends_after first (p ∷ parts) last other is = sym is
+page_ends_as_later_parts : (first : Piece) (parts : List Piece) (last : Bool) → first.last ≡ false → ends parts ≡ last → last ≡ ends (first ∷ parts)
+page_ends_as_later_parts first [] last other is = sym is ∙ sym other
+page_ends_as_later_parts first (p ∷ parts) last other is = sym is
 
 -- a part and others after it
-pub page_is : (a b : Supply) (first page : Piece) (start bytes : List ℕ) (surplus : Option Surplus) → first.last ≡ false → start ≡ first.bytes → page.bytes ≡ bytes → IsFilled a b start bytes surplus page.last → IsPage a b first page surplus
-page_is a b first page start bytes surplus other begins is f = record {
+pub filled_bytes_make_page : (a b : Supply) (first page : Piece) (start bytes : List ℕ) (surplus : Option Surplus) → first.last ≡ false → start ≡ first.bytes → page.bytes ≡ bytes → IsFilled a b start bytes surplus page.last → IsPage a b first page surplus
+filled_bytes_make_page a b first page start bytes surplus other begins is f = record {
   parts = f.parts;
   bytes = is ∙ f.bytes ∙ ap (λ l. l ++ joined f.parts) begins;
-  last = ends_after first f.parts page.last other f.ends;
+  last = page_ends_as_later_parts first f.parts page.last other f.ends;
   small = omega (arith, ap length is, f.room);
   rest = f.rest;
 }
 
 -- the page that begins with the part that was drawn
-pub paged_so : (told : Option (List Piece)) (left : ℕ) (a b : Supply) (first page : Piece) (surplus : Option Surplus) → IsNextPart (supply_at told left) a (Part first) → IsPage a b first page surplus → Pages told left b surplus (Part page)
-paged_so told left a b first page surplus n p = record {
+pub drawn_part_begins_page : (told : Option (List Piece)) (left : ℕ) (a b : Supply) (first page : Piece) (surplus : Option Surplus) → IsNextPart (supply_at told left) a (Part first) → IsPage a b first page surplus → Pages told left b surplus (Part page)
+drawn_part_begins_page told left a b first page surplus n p = record {
   parts = first ∷ p.parts;
-  ahead = subst (λ t. IsAhead t b surplus) (ap (λ t. more t p.parts) n.0 ∙ more_more told (first ∷ []) p.parts) p.rest.ahead;
+  ahead = subst (λ t. IsAhead t b surplus) (ap (λ t. more t p.parts) n.0 ∙ told_pieces_added_in_two_turns told (first ∷ []) p.parts) p.rest.ahead;
   says = (p.bytes, p.last, omega arith, p.small, omega (arith, p.rest.less, n.2), p.rest.some, p.rest.whole);
 }
 
 -- no page
-pub lost_so : (told : Option (List Piece)) (left : ℕ) (b : Supply) (cause : LostCause) (surplus : Option Surplus) → surplus ≡ None → IsNextPart (supply_at told left) b (Lost cause) → Pages told left b surplus (Lost cause)
-lost_so told left b cause surplus none n = record {
+pub lost_part_gives_no_page : (told : Option (List Piece)) (left : ℕ) (b : Supply) (cause : LostCause) (surplus : Option Surplus) → surplus ≡ None → IsNextPart (supply_at told left) b (Lost cause) → Pages told left b surplus (Lost cause)
+lost_part_gives_no_page told left b cause surplus none n = record {
   parts = [];
-  ahead = subst (λ x. IsAhead (more told []) b x) (sym none) (n.0 ∙ more_nil told);
+  ahead = subst (λ x. IsAhead (more told []) b x) (sym none) (n.0 ∙ told_and_no_piece_more told);
   says = (refl, none, n.1);
 }
 
-pub cancelled_so : (told : Option (List Piece)) (left : ℕ) (b : Supply) (surplus : Option Surplus) → surplus ≡ None → IsNextPart (supply_at told left) b Cancelled → Pages told left b surplus Cancelled
-cancelled_so told left b surplus none n = record {
+pub cancelled_part_gives_no_page : (told : Option (List Piece)) (left : ℕ) (b : Supply) (surplus : Option Surplus) → surplus ≡ None → IsNextPart (supply_at told left) b Cancelled → Pages told left b surplus Cancelled
+cancelled_part_gives_no_page told left b surplus none n = record {
   parts = [];
-  ahead = subst (λ x. IsAhead (more told []) b x) (sym none) (n.0 ∙ more_nil told);
+  ahead = subst (λ x. IsAhead (more told []) b x) (sym none) (n.0 ∙ told_and_no_piece_more told);
   says = (refl, none, n.1);
 }

@@ -18,19 +18,19 @@ use Rattle.dump_pipe.specs.Drains.{AnswersDrain, IsDrained}
 use Rattle.dump_pipe.specs.Streams.{MayFeed}
 
 -- a whole dump that begins another is that dump
-same_dump : (parts given : List Piece) (e e2 : Ending) (items : List Message) → dump parts e ++ items ≡ dump given e2 → (parts ≡ given) × (e ≡ e2)
-same_dump [] [] e e2 items h = (refl, cc)
-same_dump [] (q ∷ qs) e e2 items h = absurd cc
-same_dump (p ∷ ps) [] e e2 items h = absurd cc
-same_dump (p ∷ ps) (q ∷ qs) e e2 items h =
+dump_beginning_another_is_same : (parts given : List Piece) (e e2 : Ending) (items : List Message) → dump parts e ++ items ≡ dump given e2 → (parts ≡ given) × (e ≡ e2)
+dump_beginning_another_is_same [] [] e e2 items h = (refl, cc)
+dump_beginning_another_is_same [] (q ∷ qs) e e2 items h = absurd cc
+dump_beginning_another_is_same (p ∷ ps) [] e e2 items h = absurd cc
+dump_beginning_another_is_same (p ∷ ps) (q ∷ qs) e e2 items h =
     let head : p ≡ q = cc in
     let tail : dump ps e ++ items ≡ dump qs e2 = cc in
-    let rest = same_dump ps qs e e2 items tail in
+    let rest = dump_beginning_another_is_same ps qs e e2 items tail in
     ((λ i. head i ∷ rest.0 i), rest.1)
 
-not_empty : (parts : List Piece) (e : Ending) (items : List Message) → dump parts e ++ items ≢ []
-not_empty [] e items h = absurd cc
-not_empty (p ∷ ps) e items h = absurd cc
+dump_messages_are_not_empty : (parts : List Piece) (e : Ending) (items : List Message) → dump parts e ++ items ≢ []
+dump_messages_are_not_empty [] e items h = absurd cc
+dump_messages_are_not_empty (p ∷ ps) e items h = absurd cc
 
 fits : (parts given : List Piece) (out : List ℕ) (e e2 : Ending) (failures failures' : ℕ) (r : Pumped) → parts ≡ given → e ≡ e2 → (e2 ≡ Ended.Whole → ends given ≡ true) → AnswersDrain parts out e failures failures' r → FitsPump given out (Some e2) failures failures' r
 fits parts given out e e2 failures failures' (Pumped.Done n) same is whole h = (h.0 ∙ ap joined same, whole (sym is ∙ h.1), ap Some (sym is ∙ h.1), h.2)
@@ -38,9 +38,9 @@ fits parts given out e e2 failures failures' (Pumped.OutletFailed n) same is who
 fits parts given out e e2 failures failures' (Pumped.Lost cause n) same is whole h = (h.0 ∙ ap joined same, ap Some (sym is ∙ h.1), h.2)
 fits parts given out e e2 failures failures' (Pumped.Cancelled n) same is whole h = (h.0 ∙ ap joined same, ap Some (sym is ∙ h.1), h.2)
 
-both : (a b : Supply) (w w' : Outgoing) (v1 v2 : EndView) (e : Ending) (r : Pumped) (items : List Message) → IsFed a b v1 e → IsDrained [] v2 w w' r → list_of v2 ++ items ≡ list_of v1 → IsPumped a b w w' r
-both a b w w' v1 v2 e r items f d order =
-    let same = same_dump d.parts f.given d.ending e items (ap (λ u. list_of u ++ items) (sym d.received) ∙ order ∙ ap list_of f.sent) in
+fed_and_drained_is_pumped : (a b : Supply) (w w' : Outgoing) (v1 v2 : EndView) (e : Ending) (r : Pumped) (items : List Message) → IsFed a b v1 e → IsDrained [] v2 w w' r → list_of v2 ++ items ≡ list_of v1 → IsPumped a b w w' r
+fed_and_drained_is_pumped a b w w' v1 v2 e r items f d order =
+    let same = dump_beginning_another_is_same d.parts f.given d.ending e items (ap (λ u. list_of u ++ items) (sym d.received) ∙ order ∙ ap list_of f.sent) in
     record {
       given = f.given;
       out = d.out;
@@ -51,13 +51,13 @@ both a b w w' v1 v2 e r items f d order =
       fits = subst (λ x. FitsPump f.given d.out x w.failures w'.failures r) (sym f.ended) (fits d.parts f.given d.out d.ending e w.failures w'.failures r same.0 same.1 f.whole d.answers);
     }
 
-pub streamed : (a b : Supply) (w w' : Outgoing) (v1 v2 v3 : EndView) (fed : Option Ending) (r : Pumped) (items : List Message) → MayFeed a b v1 fed → IsDrained [] v2 w w' r → v3 ≡ both_of v1 v2 → HasOrder v3 items → IsPumped a b w w' r
-streamed a b w w' v1 v2 v3 (Some e) r items f d is order = both a b w w' v1 v2 e r items f d (subst (λ u. HasOrder u items) is order)
-streamed a b w w' v1 v2 v3 None r items f d is order = absurd (not_empty d.parts d.ending items (ap (λ u. list_of u ++ items) (sym d.received) ∙ subst (λ u. HasOrder u items) is order ∙ ap list_of f.0))
+pub fed_and_drained_is_streamed : (a b : Supply) (w w' : Outgoing) (v1 v2 v3 : EndView) (fed : Option Ending) (r : Pumped) (items : List Message) → MayFeed a b v1 fed → IsDrained [] v2 w w' r → v3 ≡ both_of v1 v2 → HasOrder v3 items → IsPumped a b w w' r
+fed_and_drained_is_streamed a b w w' v1 v2 v3 (Some e) r items f d is order = fed_and_drained_is_pumped a b w w' v1 v2 e r items f d (subst (λ u. HasOrder u items) is order)
+fed_and_drained_is_streamed a b w w' v1 v2 v3 None r items f d is order = absurd (dump_messages_are_not_empty d.parts d.ending items (ap (λ u. list_of u ++ items) (sym d.received) ∙ subst (λ u. HasOrder u items) is order ∙ ap list_of f.0))
 
-pub fed_sends : (a b : Supply) (v : EndView) (fed : Option Ending) → MayFeed a b v fed → v ≡ Sends (list_of v)
-fed_sends a b v (Some e) f = f.sent ∙ ap (λ u. Sends (list_of u)) (sym f.sent)
-fed_sends a b v None f = f.0 ∙ ap (λ u. Sends (list_of u)) (sym f.0)
+pub fed_view_is_sending : (a b : Supply) (v : EndView) (fed : Option Ending) → MayFeed a b v fed → v ≡ Sends (list_of v)
+fed_view_is_sending a b v (Some e) f = f.sent ∙ ap (λ u. Sends (list_of u)) (sym f.sent)
+fed_view_is_sending a b v None f = f.0 ∙ ap (λ u. Sends (list_of u)) (sym f.0)
 
-pub drained_gets : (v : EndView) (w w' : Outgoing) (r : Pumped) → IsDrained [] v w w' r → v ≡ Gets (list_of v)
-drained_gets v w w' r d = d.received ∙ ap (λ u. Gets (list_of u)) (sym d.received)
+pub drained_view_is_receiving : (v : EndView) (w w' : Outgoing) (r : Pumped) → IsDrained [] v w w' r → v ≡ Gets (list_of v)
+drained_view_is_receiving v w w' r d = d.received ∙ ap (λ u. Gets (list_of u)) (sym d.received)

@@ -28,18 +28,6 @@ pub fn skip<R: Wait>(rt: &R, receiver: &Receiver, end: &mut End)
     unreachable!()
 }
 
-// Returns the outcome of a drain in which no put failed.
-fn answer(ending: Ending, bytes: u64) -> Pumped
-    ensures answer { result ≡ answer_to_ending ending bytes }
-    ensures counted { bytes_of result ≡ bytes }
-{
-    match ending {
-        Ending::Whole => Pumped::Done { bytes },
-        Ending::Lost(cause) => Pumped::Lost { cause, bytes },
-        Ending::Cancelled => Pumped::Cancelled { bytes },
-    }
-}
-
 /// Puts out the parts that are received, each whole and in order, and counts their bytes, until the ending. After a put that
 /// failed it puts out nothing more, and receives all that is left. Waits while the pipe is empty. The sum has room for the
 /// bytes of a dump.
@@ -74,4 +62,16 @@ pub fn drain_pipe<O: Outlet, R: Wait>(
         }
     }
     unreachable!()
+}
+
+// Returns the outcome of a drain in which no put failed.
+fn answer(ending: Ending, bytes: u64) -> Pumped
+    ensures answer { result ≡ answer_to_ending ending bytes }
+    ensures counted { bytes_of result ≡ bytes }
+{
+    match ending {
+        Ending::Whole => Pumped::Done { bytes },
+        Ending::Lost(cause) => Pumped::Lost { cause, bytes },
+        Ending::Cancelled => Pumped::Cancelled { bytes },
+    }
 }

@@ -12,68 +12,20 @@ use std::alloc::Global;
 /// The largest number of bytes of a page that has several parts.
 pub const PAGE_ROOM: usize = 65_536;
 
-// Appends bytes to a page if it has room for them.
-fn add(page: &mut Vec<u8>, bytes: &[u8]) -> bool
-    requires { length page.old.items ≤ page_room }
-    ensures added { page.new.items
-        ≡ (if result then page.old.items ++ bytes.now else page.old.items) }
-    ensures room { length page.new.items ≤ page_room }
-{
-    bytes.len() <= PAGE_ROOM - page.len() && page.extend_from_slice(bytes).is_ok()
-}
-
-// Creates a page that begins with these bytes. Returns None if it has no room for them, or if the allocation fails.
-fn page_of(alloc: Global, bytes: &[u8]) -> Option<Vec<u8>>
-    ensures bytes { IfSome result (λ page. page.items ≡ bytes.now) }
-    ensures room { IfSome result (λ page. length page.items ≤ page_room) }
-{
-    let Ok(mut page) = Vec::with_capacity(alloc, PAGE_ROOM) else {
-        return None;
-    };
-    if add(&mut page, bytes) {
-        Some(page)
-    } else {
-        None
-    }
-}
-
-// Appends a part to a page if it has room for it. Returns whether it is the last part, or None if nothing was appended.
-fn append(page: &mut Vec<u8>, next: &Next) -> Option<bool>
-    requires { length page.old.items ≤ page_room }
-    ensures { IsAppended page.old.items page.new.items next.now result }
-{
-    let Next::Part(piece) = next else {
-        return None;
-    };
-    if add(page, piece.bytes.as_slice()) {
-        Some(piece.last)
-    } else {
-        None
-    }
-}
-
-// Appends the parts of a source to a page, until it has no room for the next one, the last part is in it, or the source ends.
-// A part or an end that the source gave and that isn't in the page is the surplus. Returns whether the last part is in the
-// page.
-fn fill<S: Source>(source: &mut S, page: &mut Vec<u8>, surplus: &mut Option<Surplus>) -> bool
-    requires left { 0 < (S.seen source.old).left }
-    requires room { length page.old.items ≤ page_room }
-    requires empty { surplus.old ≡ None }
-    ensures filled { IsFilled (S.seen source.old) (S.seen source.new) page.old.items page.new.items
-        surplus.new result }
+// Returns the next page of a source's parts, or the reason why there is none.
+pub(crate) fn next_page<S: Source>(
+    alloc: Global,
+    source: &mut S,
+    surplus: &mut Option<Surplus>,
+) -> Next
+    requires { IsReady (S.seen source.old) surplus.old }
+    ensures page { IsPaged (S.seen source.old) (S.seen source.new) surplus.old surplus.new result }
     ensures kept { S.kept source.new ≡ S.kept source.old }
 {
-    loop {
-        let left = source.parts_left();
-        let next = source.next();
-        match append(page, &next) {
-            Some(true) => return true,
-            Some(false) => {}
-            None => {
-                *surplus = Some(Surplus { next, left });
-                return false;
-            }
-        }
+    match draw(source, surplus) {
+        Next::Part(first) => Next::Part(page_from(alloc, source, surplus, first)),
+        Next::Lost(cause) => Next::Lost(cause),
+        Next::Cancelled => Next::Cancelled,
     }
 }
 
@@ -118,19 +70,67 @@ fn page_from<S: Source>(
     }
 }
 
-// Returns the next page of a source's parts, or the reason why there is none.
-pub(crate) fn next_page<S: Source>(
-    alloc: Global,
-    source: &mut S,
-    surplus: &mut Option<Surplus>,
-) -> Next
-    requires { IsReady (S.seen source.old) surplus.old }
-    ensures page { IsPaged (S.seen source.old) (S.seen source.new) surplus.old surplus.new result }
+// Creates a page that begins with these bytes. Returns None if it has no room for them, or if the allocation fails.
+fn page_of(alloc: Global, bytes: &[u8]) -> Option<Vec<u8>>
+    ensures bytes { IfSome result (λ page. page.items ≡ bytes.now) }
+    ensures room { IfSome result (λ page. length page.items ≤ page_room) }
+{
+    let Ok(mut page) = Vec::with_capacity(alloc, PAGE_ROOM) else {
+        return None;
+    };
+    if add(&mut page, bytes) {
+        Some(page)
+    } else {
+        None
+    }
+}
+
+// Appends bytes to a page if it has room for them.
+fn add(page: &mut Vec<u8>, bytes: &[u8]) -> bool
+    requires { length page.old.items ≤ page_room }
+    ensures added { page.new.items
+        ≡ (if result then page.old.items ++ bytes.now else page.old.items) }
+    ensures room { length page.new.items ≤ page_room }
+{
+    bytes.len() <= PAGE_ROOM - page.len() && page.extend_from_slice(bytes).is_ok()
+}
+
+// Appends the parts of a source to a page, until it has no room for the next one, the last part is in it, or the source ends.
+// A part or an end that the source gave and that isn't in the page is the surplus. Returns whether the last part is in the
+// page.
+fn fill<S: Source>(source: &mut S, page: &mut Vec<u8>, surplus: &mut Option<Surplus>) -> bool
+    requires left { 0 < (S.seen source.old).left }
+    requires room { length page.old.items ≤ page_room }
+    requires empty { surplus.old ≡ None }
+    ensures filled { IsFilled (S.seen source.old) (S.seen source.new) page.old.items page.new.items
+        surplus.new result }
     ensures kept { S.kept source.new ≡ S.kept source.old }
 {
-    match draw(source, surplus) {
-        Next::Part(first) => Next::Part(page_from(alloc, source, surplus, first)),
-        Next::Lost(cause) => Next::Lost(cause),
-        Next::Cancelled => Next::Cancelled,
+    loop {
+        let left = source.parts_left();
+        let next = source.next();
+        match append(page, &next) {
+            Some(true) => return true,
+            Some(false) => {}
+            None => {
+                *surplus = Some(Surplus { next, left });
+                return false;
+            }
+        }
+    }
+}
+
+// Appends a part to a page if it has room for it. Returns whether it is the last part, or None if nothing was appended.
+fn append(page: &mut Vec<u8>, next: &Next) -> Option<bool>
+    requires { length page.old.items ≤ page_room }
+    ensures { IsAppended page.old.items page.new.items next.now result }
+{
+    let Next::Part(piece) = next else {
+        return None;
+    };
+    if add(page, piece.bytes.as_slice()) {
+        Some(piece.last)
+    } else {
+        None
     }
 }

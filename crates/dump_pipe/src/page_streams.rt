@@ -13,6 +13,26 @@ use std::marker::Brand;
 use std::sync::Wait;
 use std::thread::Threads;
 
+/// Puts out the parts of a source as `stream_parts` does, by pages: parts are joined in the feeding thread until a page has
+/// no room for the next one, and each page goes through the pipe and to the outlet as one part. If the allocation of a page
+/// fails, the parts go one by one. Returns the source, too. May wait. The sum has room for the bytes of a dump.
+pub fn stream_paged<S: Source + Send, O: Outlet, R: Threads + Wait + Sync>(
+    rt: &R,
+    alloc: Global,
+    source: S,
+    outlet: &mut O,
+    counter: &mut Counter<'_>,
+) -> (Pumped, S)
+    requires left { 0 < (S.seen source).left }
+    requires room { HasDumpRoom counter.old }
+    ensures streamed { IsStreamed (S.seen source) (S.seen result.1) (O.seen outlet.old)
+        (O.seen outlet.new) result.0 }
+    ensures kept { S.kept result.1 ≡ S.kept source }
+    ensures counted { counter.new ≡ after_bytes counter.old (bytes_of result.0) }
+{
+    stream_by::<S, O, Brand, R>(rt, alloc, source, outlet, counter)
+}
+
 // Streams the pages of a source that had told what `B` says.
 fn stream_by<S: Source + Send, O: Outlet, B: PartsBefore + Send, R: Threads + Wait + Sync>(
     rt: &R,
@@ -32,24 +52,4 @@ fn stream_by<S: Source + Send, O: Outlet, B: PartsBefore + Send, R: Threads + Wa
     let mut pages: PagedSource<S, B> = PagedSource::new(alloc, source);
     let pumped = stream_parts(rt, alloc, &mut pages, outlet, counter);
     (pumped, pages.into_source())
-}
-
-/// Puts out the parts of a source as `stream_parts` does, by pages: parts are joined in the feeding thread until a page has
-/// no room for the next one, and each page goes through the pipe and to the outlet as one part. If the allocation of a page
-/// fails, the parts go one by one. Returns the source, too. May wait. The sum has room for the bytes of a dump.
-pub fn stream_paged<S: Source + Send, O: Outlet, R: Threads + Wait + Sync>(
-    rt: &R,
-    alloc: Global,
-    source: S,
-    outlet: &mut O,
-    counter: &mut Counter<'_>,
-) -> (Pumped, S)
-    requires left { 0 < (S.seen source).left }
-    requires room { HasDumpRoom counter.old }
-    ensures streamed { IsStreamed (S.seen source) (S.seen result.1) (O.seen outlet.old)
-        (O.seen outlet.new) result.0 }
-    ensures kept { S.kept result.1 ≡ S.kept source }
-    ensures counted { counter.new ≡ after_bytes counter.old (bytes_of result.0) }
-{
-    stream_by::<S, O, Brand, R>(rt, alloc, source, outlet, counter)
 }

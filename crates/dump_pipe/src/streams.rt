@@ -18,45 +18,33 @@ use std::alloc::Global;
 use std::sync::Wait;
 use std::thread::{Threads, join_mut};
 
-// Begins and feeds. Returns None if the thread was given up.
-fn begin_feed<S: Source, R: Wait>(
+/// Puts out the parts of a source as `pump` does, while a second thread asks the source for the next ones, and counts their
+/// bytes. If a pipe can't be allocated, or the thread hasn't begun in time, the caller's thread does both. Waits for the source
+/// and for the outlet; both threads have ended when it returns. The sum has room for the bytes of a dump.
+pub fn stream_parts<S: Source + Send, O: Outlet, R: Threads + Wait + Sync>(
     rt: &R,
-    start: &Start,
+    alloc: Global,
     source: &mut S,
-    sender: &Sender,
-    end: &mut End,
-) -> Option<Ending>
-    requires source { 0 < (S.seen source.old).left }
-    requires end { IsSeatAt (sends_on sender.now) end.old × (view end.old ≡ Sends []) }
-    ensures end { IsSeatAt (sends_on sender.now) end.new }
-    ensures fed { MayFeed (S.seen source.old) (S.seen source.new) (view end.new) result }
-    ensures kept { S.kept source.new ≡ S.kept source.old }
-{
-    if !start.begin() {
-        return None;
-    }
-    Some(feed(rt, source, sender, end))
-}
-
-// Drains once the other end has begun. Returns None if that was given up.
-fn drain_begun<O: Outlet, R: Wait>(
-    rt: &R,
-    start: &Start,
-    receiver: &Receiver,
-    end: &mut End,
     outlet: &mut O,
     counter: &mut Counter<'_>,
-) -> Option<Pumped>
-    requires end { IsSeatAt (receives_on receiver.now) end.old × (view end.old ≡ Gets []) }
+) -> Pumped
+    requires source { 0 < (S.seen source.old).left }
     requires room { HasDumpRoom counter.old }
-    ensures end { IsSeatAt (receives_on receiver.now) end.new }
-    ensures drained { MayDrain (view end.new) (O.seen outlet.old) (O.seen outlet.new) result }
-    ensures counted { counter.new ≡ after_bytes counter.old (drained_bytes result) }
+    ensures streamed { IsStreamed (S.seen source.old) (S.seen source.new) (O.seen outlet.old)
+        (O.seen outlet.new) result }
+    ensures kept { S.kept source.new ≡ S.kept source.old }
+    ensures counted { counter.new ≡ after_bytes counter.old (bytes_of result) }
 {
-    if !start.is_begun(rt) {
-        return None;
-    }
-    Some(drain_pipe(rt, receiver, end, outlet, counter))
+    let Ok((ends, mut known)) = pipe(alloc) else {
+        return pump_counted(source, outlet, counter);
+    };
+    let Some(pumped) = pass_parts(rt, &ends, &mut known, source, outlet, counter) else {
+        return pump_counted(source, outlet, counter);
+    };
+    let Knowledge { mut one, other } = known;
+    ends.sender.absorb::<Ends>(&mut one, other);
+    ends.sender.learn_as::<Order>(&mut one);
+    pumped
 }
 
 // Feeds in a new thread, and drains in the caller's. If only the feeding was begun, drains once it has ended. Returns None if
@@ -101,31 +89,43 @@ fn pass_parts<S: Source + Send, O: Outlet, R: Threads + Wait + Sync>(
     Some(drain_pipe(rt, receiver, other, outlet, counter))
 }
 
-/// Puts out the parts of a source as `pump` does, while a second thread asks the source for the next ones, and counts their
-/// bytes. If a pipe can't be allocated, or the thread hasn't begun in time, the caller's thread does both. Waits for the source
-/// and for the outlet; both threads have ended when it returns. The sum has room for the bytes of a dump.
-pub fn stream_parts<S: Source + Send, O: Outlet, R: Threads + Wait + Sync>(
+// Begins and feeds. Returns None if the thread was given up.
+fn begin_feed<S: Source, R: Wait>(
     rt: &R,
-    alloc: Global,
+    start: &Start,
     source: &mut S,
+    sender: &Sender,
+    end: &mut End,
+) -> Option<Ending>
+    requires source { 0 < (S.seen source.old).left }
+    requires end { IsSeatAt (sends_on sender.now) end.old × (view end.old ≡ Sends []) }
+    ensures end { IsSeatAt (sends_on sender.now) end.new }
+    ensures fed { MayFeed (S.seen source.old) (S.seen source.new) (view end.new) result }
+    ensures kept { S.kept source.new ≡ S.kept source.old }
+{
+    if !start.begin() {
+        return None;
+    }
+    Some(feed(rt, source, sender, end))
+}
+
+// Drains once the other end has begun. Returns None if that was given up.
+fn drain_begun<O: Outlet, R: Wait>(
+    rt: &R,
+    start: &Start,
+    receiver: &Receiver,
+    end: &mut End,
     outlet: &mut O,
     counter: &mut Counter<'_>,
-) -> Pumped
-    requires source { 0 < (S.seen source.old).left }
+) -> Option<Pumped>
+    requires end { IsSeatAt (receives_on receiver.now) end.old × (view end.old ≡ Gets []) }
     requires room { HasDumpRoom counter.old }
-    ensures streamed { IsStreamed (S.seen source.old) (S.seen source.new) (O.seen outlet.old)
-        (O.seen outlet.new) result }
-    ensures kept { S.kept source.new ≡ S.kept source.old }
-    ensures counted { counter.new ≡ after_bytes counter.old (bytes_of result) }
+    ensures end { IsSeatAt (receives_on receiver.now) end.new }
+    ensures drained { MayDrain (view end.new) (O.seen outlet.old) (O.seen outlet.new) result }
+    ensures counted { counter.new ≡ after_bytes counter.old (drained_bytes result) }
 {
-    let Ok((ends, mut known)) = pipe(alloc) else {
-        return pump_counted(source, outlet, counter);
-    };
-    let Some(pumped) = pass_parts(rt, &ends, &mut known, source, outlet, counter) else {
-        return pump_counted(source, outlet, counter);
-    };
-    let Knowledge { mut one, other } = known;
-    ends.sender.absorb::<Ends>(&mut one, other);
-    ends.sender.learn_as::<Order>(&mut one);
-    pumped
+    if !start.is_begun(rt) {
+        return None;
+    }
+    Some(drain_pipe(rt, receiver, end, outlet, counter))
 }

@@ -3,6 +3,6 @@ use Rattle.std.proofs.Common.{◌≡◌, List, [], ◌∷◌, ◌++◌, refl, sy
 use Rattle.hprof_text.specs.declared.Piece.{Piece}
 use Rattle.dump_pump.specs.Pumps.{joined}
 
-pub joined_append : (ps qs : List Piece) → joined (ps ++ qs) ≡ joined ps ++ joined qs
-joined_append [] qs = refl
-joined_append (p ∷ ps) qs = ap (λ l. p.bytes ++ l) (joined_append ps qs) ∙ sym (append_assoc p.bytes (joined ps) (joined qs))
+pub joined_bytes_of_two_lists : (ps qs : List Piece) → joined (ps ++ qs) ≡ joined ps ++ joined qs
+joined_bytes_of_two_lists [] qs = refl
+joined_bytes_of_two_lists (p ∷ ps) qs = ap (λ l. p.bytes ++ l) (joined_bytes_of_two_lists ps qs) ∙ sym (append_assoc p.bytes (joined ps) (joined qs))

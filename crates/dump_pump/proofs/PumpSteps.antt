@@ -8,7 +8,7 @@ use Rattle.dump_pump.specs.declared.transfer.Pumped.{Pumped}
 use Rattle.dump_pump.specs.Outlets.{Outgoing}
 use Rattle.dump_pump.specs.Sources.{Supply, more, part_size_limit}
 use Rattle.dump_pump.specs.Pumps.{joined, ends, FitsPump, IsPumped, PumpsOn}
-use Rattle.dump_pump.proofs.JoinedPieces.{joined_append}
+use Rattle.dump_pump.proofs.JoinedPieces.{joined_bytes_of_two_lists}
 
 -- all parts that were given are out, and there may be more
 pub record IsOpen (a b : Supply) (w w' : Outgoing) (total : ℕ) : Type 0 where
@@ -20,64 +20,64 @@ pub record IsOpen (a b : Supply) (w w' : Outgoing) (total : ℕ) : Type 0 where
   pub left : 0 < b.left
   pub room : total + b.left * part_size_limit ≤ a.left * part_size_limit
 
-pub more_nil : (told : Option (List Piece)) → told ≡ more told []
-more_nil (Some ps) = ap Some (sym (append-nil ps))
-more_nil None = refl
+pub told_and_no_piece_more : (told : Option (List Piece)) → told ≡ more told []
+told_and_no_piece_more (Some ps) = ap Some (sym (append-nil ps))
+told_and_no_piece_more None = refl
 
-pub more_more : (told : Option (List Piece)) (ps qs : List Piece) → more (more told ps) qs ≡ more told (ps ++ qs)
-more_more (Some xs) ps qs = ap Some (append_assoc xs ps qs)
-more_more None ps qs = refl
+pub told_pieces_added_in_two_turns : (told : Option (List Piece)) (ps qs : List Piece) → more (more told ps) qs ≡ more told (ps ++ qs)
+told_pieces_added_in_two_turns (Some xs) ps qs = ap Some (append_assoc xs ps qs)
+told_pieces_added_in_two_turns None ps qs = refl
 
-pub joined_push : (ps : List Piece) (p : Piece) → joined (ps ++ p ∷ []) ≡ joined ps ++ p.bytes
-joined_push [] p = append-nil p.bytes
-joined_push (x ∷ ps) p = ap (λ l. x.bytes ++ l) (joined_push ps p) ∙ sym (append_assoc x.bytes (joined ps) p.bytes)
+pub joined_bytes_with_last_piece : (ps : List Piece) (p : Piece) → joined (ps ++ p ∷ []) ≡ joined ps ++ p.bytes
+joined_bytes_with_last_piece [] p = append-nil p.bytes
+joined_bytes_with_last_piece (x ∷ ps) p = ap (λ l. x.bytes ++ l) (joined_bytes_with_last_piece ps p) ∙ sym (append_assoc x.bytes (joined ps) p.bytes)
 
-pub ends_push : (ps : List Piece) (p : Piece) → ends (ps ++ p ∷ []) ≡ p.last
-ends_push [] p = refl
-ends_push (x ∷ []) p = refl
-ends_push (x ∷ y ∷ ps) p = ends_push (y ∷ ps) p
+pub pieces_end_as_last_piece : (ps : List Piece) (p : Piece) → ends (ps ++ p ∷ []) ≡ p.last
+pieces_end_as_last_piece [] p = refl
+pieces_end_as_last_piece (x ∷ []) p = refl
+pieces_end_as_last_piece (x ∷ y ∷ ps) p = pieces_end_as_last_piece (y ∷ ps) p
 
 -- what was put out goes on with a beginning of the rest
-pub put_more : (before bytes out out' : List ℕ) (at n : ℕ) → at ≤ length bytes → n ≤ length (take (length bytes - at) (drop at bytes)) → out ≡ before ++ take at bytes → out' ≡ out ++ take n (take (length bytes - at) (drop at bytes))
+pub output_goes_on_with_rest : (before bytes out out' : List ℕ) (at n : ℕ) → at ≤ length bytes → n ≤ length (take (length bytes - at) (drop at bytes)) → out ≡ before ++ take at bytes → out' ≡ out ++ take n (take (length bytes - at) (drop at bytes))
     → (at + n ≤ length bytes) × (out' ≡ before ++ take (at + n) bytes)
-put_more before bytes out out' at n le fits was is =
+output_goes_on_with_rest before bytes out out' at n le fits was is =
     let rest : take (length bytes - at) (drop at bytes) ≡ drop at bytes = take_all (length bytes - at) (drop at bytes) (omega (arith, length-drop at bytes)) in (
       omega (arith, fits, ap length rest, length-drop at bytes, le),
       is ∙ (λ i. was i ++ take n (rest i)) ∙ append_assoc before (take at bytes) (take n (drop at bytes)) ∙ ap (λ l. before ++ l) (sym (take-add at n bytes)),
     )
 
-pub ends_append : (ps qs : List Piece) → ends qs ≡ true → ends (ps ++ qs) ≡ true
-ends_append ps [] e = absurd (cc e)
-ends_append [] (q ∷ qs) e = e
-ends_append (p ∷ []) (q ∷ qs) e = e
-ends_append (p ∷ x ∷ ps) (q ∷ qs) e = ends_append (x ∷ ps) (q ∷ qs) e
+pub list_ends_before_more_pieces : (ps qs : List Piece) → ends qs ≡ true → ends (ps ++ qs) ≡ true
+list_ends_before_more_pieces ps [] e = absurd (cc e)
+list_ends_before_more_pieces [] (q ∷ qs) e = e
+list_ends_before_more_pieces (p ∷ []) (q ∷ qs) e = e
+list_ends_before_more_pieces (p ∷ x ∷ ps) (q ∷ qs) e = list_ends_before_more_pieces (x ∷ ps) (q ∷ qs) e
 
 -- a part more is out
-pub opened : (a b c : Supply) (w w' w2 : Outgoing) (n n' : ℕ) → IsOpen a b w w' n → PumpsOn b c w' w2 n n' None → IsOpen a c w w2 n'
-opened a b c w w' w2 n n' o (p, told, small, less, left, out, whole, counted) = record {
+pub pump_open_after_part : (a b c : Supply) (w w' w2 : Outgoing) (n n' : ℕ) → IsOpen a b w w' n → PumpsOn b c w' w2 n n' None → IsOpen a c w w2 n'
+pump_open_after_part a b c w w' w2 n n' o (p, told, small, less, left, out, whole, counted) = record {
   given = o.given ++ p ∷ [];
-  told = told ∙ ap (λ t. more t (p ∷ [])) o.told ∙ more_more a.told o.given (p ∷ []);
-  grows = out ∙ ap (λ l. l ++ p.bytes) o.grows ∙ append_assoc w.out (joined o.given) p.bytes ∙ ap (λ l. w.out ++ l) (sym (joined_push o.given p));
+  told = told ∙ ap (λ t. more t (p ∷ [])) o.told ∙ told_pieces_added_in_two_turns a.told o.given (p ∷ []);
+  grows = out ∙ ap (λ l. l ++ p.bytes) o.grows ∙ append_assoc w.out (joined o.given) p.bytes ∙ ap (λ l. w.out ++ l) (sym (joined_bytes_with_last_piece o.given p));
   whole = whole ∙ o.whole;
-  counted = omega (arith, counted, o.counted, ap length (joined_push o.given p), length-append (joined o.given) p.bytes);
+  counted = omega (arith, counted, o.counted, ap length (joined_bytes_with_last_piece o.given p), length-append (joined o.given) p.bytes);
   left = left;
   room = omega (arith, counted, o.room, small, less);
 }
 
-all_fit : (ps given : List Piece) (out : List ℕ) (ended : Option Ending) (f f' f2 : ℕ) (r : Pumped) → f' ≡ f → FitsPump given out ended f' f2 r → FitsPump (ps ++ given) (joined ps ++ out) ended f f2 r
-all_fit ps given out ended f f' f2 (Pumped.Done n) same h = (ap (λ l. joined ps ++ l) h.0 ∙ sym (joined_append ps given), ends_append ps given h.1, h.2, h.3 ∙ same)
-all_fit ps given out ended f f' f2 (Pumped.OutletFailed n) same h = h ∙ ap (λ n. n + 1) same
-all_fit ps given out ended f f' f2 (Pumped.Lost cause n) same h = (ap (λ l. joined ps ++ l) h.0 ∙ sym (joined_append ps given), h.1, h.2 ∙ same)
-all_fit ps given out ended f f' f2 (Pumped.Cancelled n) same h = (ap (λ l. joined ps ++ l) h.0 ∙ sym (joined_append ps given), h.1, h.2 ∙ same)
+pump_fits_after_earlier_pieces : (ps given : List Piece) (out : List ℕ) (open_pump_has_ended : Option Ending) (f f' f2 : ℕ) (r : Pumped) → f' ≡ f → FitsPump given out open_pump_has_ended f' f2 r → FitsPump (ps ++ given) (joined ps ++ out) open_pump_has_ended f f2 r
+pump_fits_after_earlier_pieces ps given out open_pump_has_ended f f' f2 (Pumped.Done n) same h = (ap (λ l. joined ps ++ l) h.0 ∙ sym (joined_bytes_of_two_lists ps given), list_ends_before_more_pieces ps given h.1, h.2, h.3 ∙ same)
+pump_fits_after_earlier_pieces ps given out open_pump_has_ended f f' f2 (Pumped.OutletFailed n) same h = h ∙ ap (λ n. n + 1) same
+pump_fits_after_earlier_pieces ps given out open_pump_has_ended f f' f2 (Pumped.Lost cause n) same h = (ap (λ l. joined ps ++ l) h.0 ∙ sym (joined_bytes_of_two_lists ps given), h.1, h.2 ∙ same)
+pump_fits_after_earlier_pieces ps given out open_pump_has_ended f f' f2 (Pumped.Cancelled n) same h = (ap (λ l. joined ps ++ l) h.0 ∙ sym (joined_bytes_of_two_lists ps given), h.1, h.2 ∙ same)
 
 -- the pump has ended
-pub ended : (a b c : Supply) (w w' w2 : Outgoing) (n n' : ℕ) (r : Pumped) → IsOpen a b w w' n → PumpsOn b c w' w2 n n' (Some r) → IsPumped a c w w2 r
-ended a b c w w' w2 n n' r o (given, out, told, grows, begins, counted, bytes, fits) = record {
+pub open_pump_has_ended : (a b c : Supply) (w w' w2 : Outgoing) (n n' : ℕ) (r : Pumped) → IsOpen a b w w' n → PumpsOn b c w' w2 n n' (Some r) → IsPumped a c w w2 r
+open_pump_has_ended a b c w w' w2 n n' r o (given, out, told, grows, begins, counted, bytes, fits) = record {
   given = o.given ++ given;
   out = joined o.given ++ out;
-  told = told ∙ ap (λ t. more t given) o.told ∙ more_more a.told o.given given;
+  told = told ∙ ap (λ t. more t given) o.told ∙ told_pieces_added_in_two_turns a.told o.given given;
   grows = grows ∙ ap (λ l. l ++ out) o.grows ∙ append_assoc w.out (joined o.given) out;
-  begins = (begins.0, append_assoc (joined o.given) out begins.0 ∙ ap (λ l. joined o.given ++ l) begins.1 ∙ sym (joined_append o.given given));
+  begins = (begins.0, append_assoc (joined o.given) out begins.0 ∙ ap (λ l. joined o.given ++ l) begins.1 ∙ sym (joined_bytes_of_two_lists o.given given));
   counted = omega (arith, bytes, counted, o.counted, length-append (joined o.given) out);
-  fits = all_fit o.given given out c.ended w.failures w'.failures w2.failures r o.whole fits;
+  fits = pump_fits_after_earlier_pieces o.given given out c.ended w.failures w'.failures w2.failures r o.whole fits;
 }

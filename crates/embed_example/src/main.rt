@@ -38,9 +38,74 @@ const MAP: u64 = 1;
 // What the actors did, and the dump that was written beside them.
 type Report<W> = (Totals, Dumped<WriteOutlet<W>, LastSeen>);
 
-// Creates the definition of the class of nodes.
-fn node_class(alloc: Global) -> Result<Event, AllocError> {
-    define_class(alloc, b"Node", None, &[(b"next", Kind::Object)])
+// Runs the actors, dumps beside them, and prints what they did.
+fn main(rt: HostRuntime) -> io::Result<()> {
+    let file = fs::create(&rt, FILE)?;
+    let Some(config) = Config::new(REGIONS, 2, 1024) else {
+        return println!(rt; "the settings are out of range");
+    };
+    match shared_heap(&rt, rt.alloc(), config, file) {
+        Some(report) => print_report(&rt, &report)?,
+        None => println!(rt; "something was refused")?,
+    }
+    match rewound(rt.alloc(), config) {
+        Ok(place) => println!(rt; "a machine of its own is back at place {place} of 4"),
+        Err(refusal) => println!(rt; "it was refused: {}", refusal.name()),
+    }
+}
+
+// Creates the heap, and has all threads work on it. Returns None if anything was refused.
+fn shared_heap<W: Write + Drop, R: Threads + Wait + Sync>(
+    rt: &R,
+    alloc: Global,
+    config: Config,
+    file: W,
+) -> Option<Report<W>> {
+    let roles = [
+        Role::User,
+        Role::Mutator(0),
+        Role::Mutator(1),
+        Role::Marker,
+        Role::Sweeper,
+    ];
+    let blank = Blank::new(alloc, config, roles.as_slice()).ok()?;
+    open::<Brand, W, R>(rt, alloc, blank, file)
+}
+
+// The actors of two mutators, a marker and a sweeper.
+type Team<'a, L, R> = (
+    Actor<'a, L, R>,
+    Actor<'a, L, R>,
+    Actor<'a, L, R>,
+    Actor<'a, L, R>,
+);
+
+// Opens the heap, and has all threads work on it. Returns None if anything was refused.
+fn open<L: Heap + Send + Sync, W: Write + Drop, R: Threads + Wait + Sync>(
+    rt: &R,
+    alloc: Global,
+    blank: Blank,
+    file: W,
+) -> Option<Report<W>>
+    requires { (blank.config ≡ L.config) × (blank.tables ≡ L.tables)
+        × (blank.ledger ≡ L.ledger) × (blank.rolls ≡ L.rolls) }
+{
+    let (shared, seats) = blank.open::<L>();
+    run(Actors::new(rt, alloc, &shared, seats), file)
+}
+
+// Defines the classes, and has all threads work. Returns None if anything was refused.
+fn run<L: Heap + Send + Sync, W: Write + Drop, R: Threads + Wait + Sync>(
+    mut actors: Actors<'_, L, R>,
+    file: W,
+) -> Option<Report<W>> {
+    let mut user = actors.take()?;
+    define_classes(&mut user, actors.alloc)?;
+    let mut witness = actors.shared.witness(actors.rt);
+    user.meet(&mut witness);
+    let team = take_team(&mut actors)?;
+    let dumper = Dumper::new(actors.shared, actors.rt, witness);
+    work(&actors, team, dumper, file)
 }
 
 // Defines the classes. Returns None if one is refused.
@@ -52,13 +117,10 @@ fn define_classes<L: Heap, R: Wait>(user: &mut Actor<'_, L, R>, alloc: Global) -
     Some(())
 }
 
-// The actors of two mutators, a marker and a sweeper.
-type Team<'a, L, R> = (
-    Actor<'a, L, R>,
-    Actor<'a, L, R>,
-    Actor<'a, L, R>,
-    Actor<'a, L, R>,
-);
+// Creates the definition of the class of nodes.
+fn node_class(alloc: Global) -> Result<Event, AllocError> {
+    define_class(alloc, b"Node", None, &[(b"next", Kind::Object)])
+}
 
 // Takes the actors of the next four seats. Returns None if there are fewer.
 fn take_team<'a, L: Heap, R: Wait>(actors: &mut Actors<'a, L, R>) -> Option<Team<'a, L, R>> {
@@ -106,52 +168,6 @@ fn work<'a, L: Heap + Send + Sync, W: Write + Drop, R: Threads + Wait + Sync>(
     Some((totals.ok()?, dumped))
 }
 
-// Defines the classes, and has all threads work. Returns None if anything was refused.
-fn run<L: Heap + Send + Sync, W: Write + Drop, R: Threads + Wait + Sync>(
-    mut actors: Actors<'_, L, R>,
-    file: W,
-) -> Option<Report<W>> {
-    let mut user = actors.take()?;
-    define_classes(&mut user, actors.alloc)?;
-    let mut witness = actors.shared.witness(actors.rt);
-    user.meet(&mut witness);
-    let team = take_team(&mut actors)?;
-    let dumper = Dumper::new(actors.shared, actors.rt, witness);
-    work(&actors, team, dumper, file)
-}
-
-// Opens the heap, and has all threads work on it. Returns None if anything was refused.
-fn open<L: Heap + Send + Sync, W: Write + Drop, R: Threads + Wait + Sync>(
-    rt: &R,
-    alloc: Global,
-    blank: Blank,
-    file: W,
-) -> Option<Report<W>>
-    requires { (blank.config ≡ L.config) × (blank.tables ≡ L.tables)
-        × (blank.ledger ≡ L.ledger) × (blank.rolls ≡ L.rolls) }
-{
-    let (shared, seats) = blank.open::<L>();
-    run(Actors::new(rt, alloc, &shared, seats), file)
-}
-
-// Creates the heap, and has all threads work on it. Returns None if anything was refused.
-fn shared_heap<W: Write + Drop, R: Threads + Wait + Sync>(
-    rt: &R,
-    alloc: Global,
-    config: Config,
-    file: W,
-) -> Option<Report<W>> {
-    let roles = [
-        Role::User,
-        Role::Mutator(0),
-        Role::Mutator(1),
-        Role::Marker,
-        Role::Sweeper,
-    ];
-    let blank = Blank::new(alloc, config, roles.as_slice()).ok()?;
-    open::<Brand, W, R>(rt, alloc, blank, file)
-}
-
 // Prints what came of the threads.
 fn print_report<W: Write + Drop, R: Print + Files>(rt: &R, report: &Report<W>) -> io::Result<()> {
     let (totals, dumped) = report;
@@ -164,6 +180,12 @@ fn print_report<W: Write + Drop, R: Print + Files>(rt: &R, report: &Report<W>) -
     println!(rt; "{receipts} receipts stand in the audit")
 }
 
+// Does so on a machine of one's own.
+fn rewound(alloc: Global, config: Config) -> Result<u64, Refusal> {
+    let mut machine = Machine::new(alloc, config)?;
+    make_and_undo(&mut machine, alloc)
+}
+
 // Defines a class and makes three nodes on a machine, and undoes all but the class. Returns the place.
 fn make_and_undo(machine: &mut Machine, alloc: Global) -> Result<u64, Refusal> {
     let node = node_class(alloc)?;
@@ -173,26 +195,4 @@ fn make_and_undo(machine: &mut Machine, alloc: Global) -> Result<u64, Refusal> {
         machine.step(&Event::New { m, r, class })?;
     }
     machine.rewind(3)
-}
-
-// Does so on a machine of one's own.
-fn rewound(alloc: Global, config: Config) -> Result<u64, Refusal> {
-    let mut machine = Machine::new(alloc, config)?;
-    make_and_undo(&mut machine, alloc)
-}
-
-// Runs the actors, dumps beside them, and prints what they did.
-fn main(rt: HostRuntime) -> io::Result<()> {
-    let file = fs::create(&rt, FILE)?;
-    let Some(config) = Config::new(REGIONS, 2, 1024) else {
-        return println!(rt; "the settings are out of range");
-    };
-    match shared_heap(&rt, rt.alloc(), config, file) {
-        Some(report) => print_report(&rt, &report)?,
-        None => println!(rt; "something was refused")?,
-    }
-    match rewound(rt.alloc(), config) {
-        Ok(place) => println!(rt; "a machine of its own is back at place {place} of 4"),
-        Err(refusal) => println!(rt; "it was refused: {}", refusal.name()),
-    }
 }

@@ -8,6 +8,26 @@ const NODES: u64 = 150;
 
 const KEYS: u64 = 49;
 
+/// Builds and drops in rounds, at the pace of the collector, so that the heap has room. Returns None if something is refused.
+pub fn mutate<L: Heap, R: Wait>(pace: &Pace, mutator: &mut Actor<'_, L, R>) -> Option<()> {
+    for round in 0..ROUNDS {
+        pace.begin_round(round)?;
+        build_and_drop(mutator).ok()?;
+        pace.end_round();
+    }
+    Some(())
+}
+
+// Builds list and map, and drops both.
+fn build_and_drop<L: Heap, R: Wait>(mutator: &mut Actor<'_, L, R>) -> Result<(), Denial> {
+    build_list(mutator)?;
+    build_map(mutator)?;
+    for r in 0..4u64 {
+        mutator.clear(r)?;
+    }
+    Ok(())
+}
+
 // Builds a list in registers 0 and 1, each node linked to the one before it.
 fn build_list<L: Heap, R: Wait>(mutator: &mut Actor<'_, L, R>) -> Result<(), Denial> {
     for i in 0..NODES {
@@ -25,24 +45,4 @@ fn build_map<L: Heap, R: Wait>(mutator: &mut Actor<'_, L, R>) -> Result<(), Deni
         mutator.store(2, key, 3)?;
     }
     Ok(())
-}
-
-// Builds list and map, and drops both.
-fn build_and_drop<L: Heap, R: Wait>(mutator: &mut Actor<'_, L, R>) -> Result<(), Denial> {
-    build_list(mutator)?;
-    build_map(mutator)?;
-    for r in 0..4u64 {
-        mutator.clear(r)?;
-    }
-    Ok(())
-}
-
-/// Builds and drops in rounds, at the pace of the collector, so that the heap has room. Returns None if something is refused.
-pub fn mutate<L: Heap, R: Wait>(pace: &Pace, mutator: &mut Actor<'_, L, R>) -> Option<()> {
-    for round in 0..ROUNDS {
-        pace.begin_round(round)?;
-        build_and_drop(mutator).ok()?;
-        pace.end_round();
-    }
-    Some(())
 }

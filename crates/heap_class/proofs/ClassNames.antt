@@ -14,19 +14,19 @@ use Rattle.heap_class.proofs.FirstUses.{bytes_self, bytes_flip}
 abbrev pub AreBelow : ℕ → List ClassEntry → Type 0
 AreBelow n es = (k : ℕ) (d : ClassEntry) → k < length es → (get_or es k d).name < n
 
-below_rest : (n : ℕ) (e : ClassEntry) (es : List ClassEntry) → AreBelow n (e ∷ es) → AreBelow n es
-below_rest n e es h k d l = h (suc k) d (omega arith)
+other_entries_are_below : (n : ℕ) (e : ClassEntry) (es : List ClassEntry) → AreBelow n (e ∷ es) → AreBelow n es
+other_entries_are_below n e es h k d l = h (suc k) d (omega arith)
 
-below_first : (n : ℕ) (e : ClassEntry) (es : List ClassEntry) → AreBelow n (e ∷ es) → e.name < n
-below_first n e es h = h 0 e (omega arith)
+first_entry_is_below : (n : ℕ) (e : ClassEntry) (es : List ClassEntry) → AreBelow n (e ∷ es) → e.name < n
+first_entry_is_below n e es h = h 0 e (omega arith)
 
 module _ (names : List (List ℕ)) (n : List ℕ) where
   -- a name that isn't there is that of no class
   pub named_nowhere : (es : List ClassEntry) → list_any (bytes_eq n) names ≡ false → AreBelow (length names) es → list_any (λ (d : Class). bytes_eq d.name n) (map (class_of_entry names) es) ≡ false
   named_nowhere [] h below = refl
   named_nowhere (e ∷ es) h below =
-      or_from _ _ (bytes_flip (get_or names e.name []) n ∙ false_from_ne_true _ (λ same. true≢false (sym (list_any_at (bytes_eq n) names e.name [] (below_first _ e es below) same) ∙ h)))
-      (named_nowhere es h (below_rest _ e es below))
+      or_from _ _ (bytes_flip (get_or names e.name []) n ∙ false_from_ne_true _ (λ same. true≢false (sym (list_any_at (bytes_eq n) names e.name [] (first_entry_is_below _ e es below) same) ∙ h)))
+      (named_nowhere es h (other_entries_are_below _ e es below))
 
   module _ (place : ℕ) (distinct : IsDistinct bytes_eq names) (within : place < length names) (is : get_or names place [] ≡ n) where
     -- names at two places differ
@@ -44,4 +44,4 @@ module _ (names : List (List ℕ)) (n : List ℕ) where
 
     pub named_at_place : (es : List ClassEntry) → AreBelow (length names) es → list_any (λ (d : Class). bytes_eq d.name n) (map (class_of_entry names) es) ≡ list_any (λ (e : ClassEntry). e.name == place) es
     named_at_place [] below = refl
-    named_at_place (e ∷ es) below = ap₂ (λ a b. a || b) (same_place e.name (below_first _ e es below)) (named_at_place es (below_rest _ e es below))
+    named_at_place (e ∷ es) below = ap₂ (λ a b. a || b) (same_place e.name (first_entry_is_below _ e es below)) (named_at_place es (other_entries_are_below _ e es below))

@@ -17,36 +17,36 @@ use Rattle.heap_class.specs.declared.class_table.ClassEntry.{ClassEntry}
 use Rattle.heap_class.specs.Limits.{widest_classes}
 use Rattle.heap_class.specs.Classes.{Class, class_refusal, IsClassTable}
 use Rattle.heap_class.specs.Entries.{class_of_entry, class_named_at, HasMoreNames, IsEntryTable, IsNumberedTable}
-use Rattle.heap_class.proofs.Refusals.{none_holds}
+use Rattle.heap_class.proofs.Refusals.{no_refusal_test_holds}
 use Rattle.heap_class.proofs.FirstUses.{bytes_same, table_distinct}
 use Rattle.heap_class.proofs.ClassNames.{AreBelow, named_nowhere, named_at_place}
-use Rattle.heap_class.proofs.Tables.{all_of_front, all_within, popped, popped_table, table_names}
+use Rattle.heap_class.proofs.Tables.{all_of_front, all_entries_are_within, popped, popped_table, table_names}
 
 -- names, each with the number of its class, if there is one
 abbrev Names : Type 0
 Names = List (List ℕ × Option ℕ)
 
 -- a name of no class
-abbrev free : List ℕ → List ℕ × Option ℕ
-free n = (n, None)
+abbrev name_of_no_class : List ℕ → List ℕ × Option ℕ
+name_of_no_class n = (n, None)
 
 -- ---- further names
 
-pub more_yet : (a b c : Names) → HasMoreNames a b → HasMoreNames b c → HasMoreNames a c
-more_yet a b c m n = record {
+pub more_names_of_more_names : (a b c : Names) → HasMoreNames a b → HasMoreNames b c → HasMoreNames a c
+more_names_of_more_names a b c m n = record {
   added = m.added ++ n.added;
   names_are =
       n.names_are
-      ∙ ap (λ l. l ++ map free n.added) m.names_are
-      ∙ append_assoc a (map free m.added) (map free n.added)
-      ∙ ap (λ l. a ++ l) (sym (map-append free m.added n.added));
+      ∙ ap (λ l. l ++ map name_of_no_class n.added) m.names_are
+      ∙ append_assoc a (map name_of_no_class m.added) (map name_of_no_class n.added)
+      ∙ ap (λ l. a ++ l) (sym (map-append name_of_no_class m.added n.added));
 }
 
 -- the names that there were stay
-pub front_stays : (old new : Names) → HasMoreNames old new → take (length old) new ≡ old
-front_stays old new m = ap (take (length old)) m.names_are ∙ take_at old (map free m.added) (length old) refl
+pub older_names_stay_in_front : (old new : Names) → HasMoreNames old new → take (length old) new ≡ old
+older_names_stay_in_front old new m = ap (take (length old)) m.names_are ∙ take_at old (map name_of_no_class m.added) (length old) refl
 
-numbers_of_front : (old : Names) (added : List (List ℕ)) (i : ℕ) → get_or (values_of (old ++ map free added)) i None ≡ get_or (values_of old) i None
+numbers_of_front : (old : Names) (added : List (List ℕ)) (i : ℕ) → get_or (values_of (old ++ map name_of_no_class added)) i None ≡ get_or (values_of old) i None
 numbers_of_front [] [] i = refl
 numbers_of_front [] (n ∷ ns) zero = refl
 numbers_of_front [] (n ∷ ns) (suc i) = numbers_of_front [] ns i
@@ -54,14 +54,14 @@ numbers_of_front (e ∷ es) added zero = refl
 numbers_of_front (e ∷ es) added (suc i) = numbers_of_front es added i
 
 -- and so do their numbers
-numbers_stay : (old new : Names) → HasMoreNames old new → (i : ℕ) → get_or (values_of new) i None ≡ get_or (values_of old) i None
-numbers_stay old new m i = ap (λ l. get_or (values_of l) i None) m.names_are ∙ numbers_of_front old m.added i
+numbers_of_older_names_stay : (old new : Names) → HasMoreNames old new → (i : ℕ) → get_or (values_of new) i None ≡ get_or (values_of old) i None
+numbers_of_older_names_stay old new m i = ap (λ l. get_or (values_of l) i None) m.names_are ∙ numbers_of_front old m.added i
 
 -- ---- a name that is placed
 
-absent : (p : List ℕ → Bool) (ns : Names) → lookup p ns ≡ None → list_any p (keys_of ns) ≡ false
-absent p [] h = refl
-absent p (n ∷ ns) h = go (p n.0) h (absent p ns)
+name_looked_up_in_vain : (p : List ℕ → Bool) (ns : Names) → lookup p ns ≡ None → list_any p (keys_of ns) ≡ false
+name_looked_up_in_vain p [] h = refl
+name_looked_up_in_vain p (n ∷ ns) h = go (p n.0) h (name_looked_up_in_vain p ns)
   where
     go : (b : Bool) → cond b (Some n.1) (lookup p ns) ≡ None → (lookup p ns ≡ None → list_any p (keys_of ns) ≡ false) → (b || list_any p (keys_of ns)) ≡ false
     go true e rest = cc
@@ -72,17 +72,17 @@ key_there ks n i h =
     let at = position-Some (bytes_eq n) ks i [] h in
     ap (λ b. cond b ks (ks ++ n ∷ [])) (sym (list_any_at (bytes_eq n) ks i [] at.0 at.1))
 
-none_got : (o : Option (Option ℕ)) → false ≡ is_some o → o ≡ None
-none_got None h = refl
-none_got (Some x) h = absurd (true≢false (sym h))
+not_some_means_none : (o : Option (Option ℕ)) → false ≡ is_some o → o ≡ None
+not_some_means_none None h = refl
+not_some_means_none (Some x) h = absurd (true≢false (sym h))
 
 module _ {S : Type 0} (m : IndexMap (List ℕ) (Option ℕ) S) (new : Names) (n copy : List ℕ)
     (none : false ≡ is_some (get bytes_eq m n)) (copied : copy ≡ n) (is : new ≡ insert_entry bytes_eq m.entries copy None) where
   pushed : new ≡ m.entries ++ (n, None) ∷ []
-  pushed = is ∙ ap (λ k. insert_entry bytes_eq m.entries k None) copied ∙ insert_entry-new bytes_eq m n None (none_got _ none)
+  pushed = is ∙ ap (λ k. insert_entry bytes_eq m.entries k None) copied ∙ insert_entry-new bytes_eq m n None (not_some_means_none _ none)
 
   lacking : list_any (bytes_eq n) (keys m) ≡ false
-  lacking = absent (bytes_eq n) m.entries (none_got _ none)
+  lacking = name_looked_up_in_vain (bytes_eq n) m.entries (not_some_means_none _ none)
 
   pub more_new : HasMoreNames m.entries new
   more_new = record { added = n ∷ []; names_are = pushed }
@@ -110,24 +110,24 @@ keys_stay [] at w = refl
 keys_stay (e ∷ ns) zero w = refl
 keys_stay (e ∷ ns) (suc at) w = ap (λ l. e.0 ∷ l) (keys_stay ns at w)
 
-number_there : (ns : Names) (at : ℕ) (w : Option ℕ) → at < length ns → get_or (values_of (set_value_at ns at w)) at None ≡ w
-number_there [] at w lt = absurd (omega (arith, lt))
-number_there (e ∷ ns) zero w lt = refl
-number_there (e ∷ ns) (suc at) w lt = number_there ns at w (omega (arith, lt))
+number_written_at_its_place : (ns : Names) (at : ℕ) (w : Option ℕ) → at < length ns → get_or (values_of (set_value_at ns at w)) at None ≡ w
+number_written_at_its_place [] at w lt = absurd (omega (arith, lt))
+number_written_at_its_place (e ∷ ns) zero w lt = refl
+number_written_at_its_place (e ∷ ns) (suc at) w lt = number_written_at_its_place ns at w (omega (arith, lt))
 
-number_elsewhere : (ns : Names) (at : ℕ) (w : Option ℕ) (i : ℕ) → at ≢ i → get_or (values_of (set_value_at ns at w)) i None ≡ get_or (values_of ns) i None
-number_elsewhere [] at w i other = refl
-number_elsewhere (e ∷ ns) zero w zero other = absurd (other refl)
-number_elsewhere (e ∷ ns) zero w (suc i) other = refl
-number_elsewhere (e ∷ ns) (suc at) w zero other = refl
-number_elsewhere (e ∷ ns) (suc at) w (suc i) other = number_elsewhere ns at w i (λ h. other (ap suc h))
+number_written_at_other_place : (ns : Names) (at : ℕ) (w : Option ℕ) (i : ℕ) → at ≢ i → get_or (values_of (set_value_at ns at w)) i None ≡ get_or (values_of ns) i None
+number_written_at_other_place [] at w i other = refl
+number_written_at_other_place (e ∷ ns) zero w zero other = absurd (other refl)
+number_written_at_other_place (e ∷ ns) zero w (suc i) other = refl
+number_written_at_other_place (e ∷ ns) (suc at) w zero other = refl
+number_written_at_other_place (e ∷ ns) (suc at) w (suc i) other = number_written_at_other_place ns at w i (λ h. other (ap suc h))
 
-number_set : (ns : Names) (at : ℕ) (w : Option ℕ) (i : ℕ) → at < length ns → get_or (values_of (set_value_at ns at w)) i None ≡ cond (at == i) w (get_or (values_of ns) i None)
-number_set ns at w i lt = go (at == i) refl
+number_after_write : (ns : Names) (at : ℕ) (w : Option ℕ) (i : ℕ) → at < length ns → get_or (values_of (set_value_at ns at w)) i None ≡ cond (at == i) w (get_or (values_of ns) i None)
+number_after_write ns at w i lt = go (at == i) refl
   where
     go : (b : Bool) → (at == i) ≡ b → get_or (values_of (set_value_at ns at w)) i None ≡ cond b w (get_or (values_of ns) i None)
-    go true e = ap (λ k. get_or (values_of (set_value_at ns at w)) k None) (sym (eqb-true at i e)) ∙ number_there ns at w lt
-    go false e = number_elsewhere ns at w i (eqb-false at i e)
+    go true e = ap (λ k. get_or (values_of (set_value_at ns at w)) k None) (sym (eqb-true at i e)) ∙ number_written_at_its_place ns at w lt
+    go false e = number_written_at_other_place ns at w i (eqb-false at i e)
 
 -- ---- the class that has a name
 
@@ -156,13 +156,13 @@ module _ (p : ClassEntry → Bool) where
       let q = or_parts (p d) (list_any p es) h in
       ap (λ b. cond b (Some i) (position_from p (i + 1) (es ++ e ∷ []))) q.0 ∙ last_found (i + 1) es e q.1 s ∙ ap Some (omega arith)
 
-none_above : (n i : ℕ) (es : List ClassEntry) → AreBelow n es → n ≤ i → list_any (λ (d : ClassEntry). d.name == i) es ≡ false
-none_above n i es below le =
+no_entry_above_all_names : (n i : ℕ) (es : List ClassEntry) → AreBelow n es → n ≤ i → list_any (λ (d : ClassEntry). d.name == i) es ≡ false
+no_entry_above_all_names n i es below le =
     list_any_none (λ (d : ClassEntry). d.name == i) es (λ k d l. ne_eqb (get_or es k d).name i (λ e. omega (arith, e, below k d l, le)))
 
-last_accepted : (before cs : List Class) (c : Class) → IsClassTable before (cs ++ c ∷ []) → class_refusal widest_classes (before ++ cs) c ≡ None
-last_accepted before [] c t = subst (λ l. class_refusal widest_classes l c ≡ None) (sym (append-nil before)) t.0
-last_accepted before (d ∷ cs) c t = subst (λ l. class_refusal widest_classes l c ≡ None) (append_assoc before (d ∷ []) cs) (last_accepted (before ++ d ∷ []) cs c t.2)
+last_class_was_accepted : (before cs : List Class) (c : Class) → IsClassTable before (cs ++ c ∷ []) → class_refusal widest_classes (before ++ cs) c ≡ None
+last_class_was_accepted before [] c t = subst (λ l. class_refusal widest_classes l c ≡ None) (sym (append-nil before)) t.0
+last_class_was_accepted before (d ∷ cs) c t = subst (λ l. class_refusal widest_classes l c ≡ None) (append_assoc before (d ∷ []) cs) (last_class_was_accepted (before ++ d ∷ []) cs c t.2)
 
 module _ (names : List (List ℕ)) (es : List ClassEntry) (e : ClassEntry) (t : IsEntryTable names (es ++ e ∷ [])) where
   last_within : e.name < length names
@@ -174,20 +174,20 @@ module _ (names : List (List ℕ)) (es : List ClassEntry) (e : ClassEntry) (t : 
   last_alone =
       let classes : IsClassTable [] (map (class_of_entry names) es ++ class_of_entry names e ∷ [])
       = subst (IsClassTable []) (map-append (class_of_entry names) es (e ∷ [])) t.classes in
-      let tests = none_holds _ (last_accepted [] (map (class_of_entry names) es) (class_of_entry names e) classes) in
+      let tests = no_refusal_test_holds _ (last_class_was_accepted [] (map (class_of_entry names) es) (class_of_entry names e) classes) in
       let distinct : IsDistinct bytes_eq names = subst (IsDistinct bytes_eq) (table_names names (es ++ e ∷ []) t) (table_distinct _) in
-      let below : AreBelow (length names) (es ++ e ∷ []) = λ k d l. (all_within names (es ++ e ∷ []) t.placed k d l).own in
+      let below : AreBelow (length names) (es ++ e ∷ []) = λ k d l. (all_entries_are_within names (es ++ e ∷ []) t.placed k d l).own in
       sym (named_at_place names (get_or names e.name []) e.name distinct last_within refl es (all_of_front (λ (d : ClassEntry). d.name < length names) es e below))
       ∙ (or_parts _ _ tests.1.1.1.0).0
 
 -- ---- what there is after a class is defined, and after it is taken back
 
-pub numbered_more : (old new : Names) (es : List ClassEntry) (e : ClassEntry) (k : ℕ)
+pub numbered_table_with_one_more : (old new : Names) (es : List ClassEntry) (e : ClassEntry) (k : ℕ)
     → IsNumberedTable old es → HasMoreNames old new → IsEntryTable (keys_of new) (es ++ e ∷ []) → k ≡ length es
     → IsNumberedTable (set_value_at new e.name (Some k)) (es ++ e ∷ [])
-numbered_more old new es e k t more now is = record {
+numbered_table_with_one_more old new es e k t more now is = record {
   table = subst (λ l. IsEntryTable l (es ++ e ∷ [])) (sym (keys_stay new e.name (Some k))) now;
-  numbered = λ i. number_set new e.name (Some k) i (omega (arith, last_within (keys_of new) es e now, length-map new (λ (n : List ℕ × Option ℕ). n.0))) ∙ go i (e.name == i) refl;
+  numbered = λ i. number_after_write new e.name (Some k) i (omega (arith, last_within (keys_of new) es e now, length-map new (λ (n : List ℕ × Option ℕ). n.0))) ∙ go i (e.name == i) refl;
 }
   where
     go : (i : ℕ) (b : Bool) → (e.name == i) ≡ b → cond b (Some k) (get_or (values_of new) i None) ≡ class_named_at (es ++ e ∷ []) i
@@ -195,7 +195,7 @@ numbered_more old new es e k t more now is = record {
         let alone : list_any (λ (d : ClassEntry). d.name == i) es ≡ false
         = subst (λ j. list_any (λ (d : ClassEntry). d.name == j) es ≡ false) (eqb-true e.name i s) (last_alone (keys_of new) es e now) in
         ap Some (omega (arith, is)) ∙ sym (last_found (λ (d : ClassEntry). d.name == i) 0 es e alone s)
-    go i false s = numbers_stay old new more i ∙ t.numbered i ∙ sym (last_not (λ (d : ClassEntry). d.name == i) 0 es e s)
+    go i false s = numbers_of_older_names_stay old new more i ∙ t.numbered i ∙ sym (last_not (λ (d : ClassEntry). d.name == i) 0 es e s)
 
 module _ (names : Names) (es : List ClassEntry) (e : ClassEntry) (t : IsNumberedTable names (es ++ e ∷ [])) where
   pub keys_left : keys_of (take e.names_before (set_value_at names e.name None)) ≡ take e.names_before (keys_of names)
@@ -212,10 +212,10 @@ module _ (names : Names) (es : List ClassEntry) (e : ClassEntry) (t : IsNumbered
   numbers_left i = ⊎_elim
       (λ below. ap (λ l. get_or l i None) (sym (take-map (λ (n : List ℕ × Option ℕ). n.1) e.names_before (set_value_at names e.name None)))
       ∙ get_or-take e.names_before (values_of (set_value_at names e.name None)) i None below
-      ∙ number_set names e.name None i (omega (arith, last_within (keys_of names) es e t.table, length-map names (λ (n : List ℕ × Option ℕ). n.0)))
+      ∙ number_after_write names e.name None i (omega (arith, last_within (keys_of names) es e t.table, length-map names (λ (n : List ℕ × Option ℕ). n.0)))
       ∙ left i (e.name == i) refl)
       (λ above. get_or_past (values_of (take e.names_before (set_value_at names e.name None))) i None (omega (arith, above, length-map (take e.names_before (set_value_at names e.name None)) (λ (n : List ℕ × Option ℕ). n.1), length-take e.names_before (set_value_at names e.name None)))
-      ∙ sym (none_there (λ (d : ClassEntry). d.name == i) 0 es (none_above e.names_before i es (λ k d l. omega (arith, (all_within (take e.names_before (keys_of names)) es (popped (keys_of names) es e t.table).3 k d l).own, length-take e.names_before (keys_of names))) above)))
+      ∙ sym (none_there (λ (d : ClassEntry). d.name == i) 0 es (no_entry_above_all_names e.names_before i es (λ k d l. omega (arith, (all_entries_are_within (take e.names_before (keys_of names)) es (popped (keys_of names) es e t.table).3 k d l).own, length-take e.names_before (keys_of names))) above)))
       (cases_lt i e.names_before)
 
   pub numbered_less : IsNumberedTable (take e.names_before (set_value_at names e.name None)) es
@@ -228,10 +228,10 @@ module _ (names : Names) (es : List ClassEntry) (e : ClassEntry) (t : IsNumbered
 
 module _ (names : Names) (es : List ClassEntry) (t : IsNumberedTable names es) (n : List ℕ) where
   below : AreBelow (length (keys_of names)) es
-  below = λ k d l. (all_within (keys_of names) es t.table.placed k d l).own
+  below = λ k d l. (all_entries_are_within (keys_of names) es t.table.placed k d l).own
 
   pub name_of_none : lookup (bytes_eq n) names ≡ None → list_any (λ (d : Class). bytes_eq d.name n) (map (class_of_entry (keys_of names)) es) ≡ false
-  name_of_none h = named_nowhere (keys_of names) n es (absent (bytes_eq n) names h) below
+  name_of_none h = named_nowhere (keys_of names) n es (name_looked_up_in_vain (bytes_eq n) names h) below
 
   pub name_of_some : (o : Option ℕ) → lookup (bytes_eq n) names ≡ Some o → list_any (λ (d : Class). bytes_eq d.name n) (map (class_of_entry (keys_of names)) es) ≡ is_some o
   name_of_some o h =
@@ -249,5 +249,5 @@ module _ (names : Names) (es : List ClassEntry) (t : IsNumberedTable names es) (
 
 -- ---- no names
 
-pub no_names : (names : Names) (es : List ClassEntry) → names ≡ [] → es ≡ [] → IsEntryTable [] [] → IsNumberedTable names es
-no_names names es n e t = subst (λ (ns : Names). IsNumberedTable ns es) (sym n) (subst (IsNumberedTable []) (sym e) record { table = t; numbered = λ i. refl })
+pub empty_table_is_numbered : (names : Names) (es : List ClassEntry) → names ≡ [] → es ≡ [] → IsEntryTable [] [] → IsNumberedTable names es
+empty_table_is_numbered names es n e t = subst (λ (ns : Names). IsNumberedTable ns es) (sym n) (subst (IsNumberedTable []) (sym e) record { table = t; numbered = λ i. refl })

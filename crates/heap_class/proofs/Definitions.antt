@@ -13,14 +13,14 @@ use Rattle.heap_class.specs.declared.Field.{Field}
 use Rattle.heap_class.specs.declared.class_table.ClassEntry.{ClassEntry}
 use Rattle.heap_class.specs.Classes.{Class, names_in, is_name, is_name_byte, is_instance_class, slots_of, slots_under, slot_table_after, class_refusal}
 use Rattle.heap_class.specs.Entries.{class_of_entry, IsEntryWithin, AreNamed, AreSizes, IsEntryTable}
-use Rattle.heap_class.proofs.Refusals.{none_holds}
+use Rattle.heap_class.proofs.Refusals.{no_refusal_test_holds}
 use Rattle.heap_class.proofs.Tables.{pushed_table, pushed_classes}
 use Rattle.heap_class.proofs.Acceptance.{accepted, slots_are, slot_count}
 
 -- what stands in the place of a test that holds of each item may hold of more
-all_stay : {X : Type 0} (p q : X → Bool) → ((x : X) → p x ≡ true → q x ≡ true) → (xs : List X) → list_all p xs ≡ true → list_all q xs ≡ true
-all_stay p q more [] h = refl
-all_stay p q more (x ∷ xs) h = let e = and_parts (p x) (list_all p xs) h in and_from (q x) (list_all q xs) (more x e.0) (all_stay p q more xs e.1)
+weaker_test_holds_of_all : {X : Type 0} (p q : X → Bool) → ((x : X) → p x ≡ true → q x ≡ true) → (xs : List X) → list_all p xs ≡ true → list_all q xs ≡ true
+weaker_test_holds_of_all p q more [] h = refl
+weaker_test_holds_of_all p q more (x ∷ xs) h = let e = and_parts (p x) (list_all p xs) h in and_from (q x) (list_all q xs) (more x e.0) (weaker_test_holds_of_all p q more xs e.1)
 
 -- a name is one in a heap with as wide limits as there may be
 byte_stays : (any_sign : Bool) (b : ℕ) → is_name_byte any_sign b ≡ true → is_name_byte true b ≡ true
@@ -34,26 +34,26 @@ name_stays limits within n h =
     let p = and_parts (nat_le 1 (length n) && nat_le (length n) limits.name_bytes) _ h in
     let q = and_parts (nat_le 1 (length n)) (nat_le (length n) limits.name_bytes) p.0 in
     let short : length n ≤ name_limit = omega (arith, leb-true (length n) limits.name_bytes q.1, within.name_bytes) in
-    and_from _ _ (and_from _ _ q.0 (le-leb (length n) name_limit short)) (all_stay (is_name_byte limits.any_sign) (is_name_byte true) (byte_stays limits.any_sign) n p.1)
+    and_from _ _ (and_from _ _ q.0 (le-leb (length n) name_limit short)) (weaker_test_holds_of_all (is_name_byte limits.any_sign) (is_name_byte true) (byte_stays limits.any_sign) n p.1)
 
 -- and a class that isn't refused isn't refused in such a heap
-pub widest : (limits : ClassLimits) (classes : List Class) (c : Class) → AreClassLimits limits → class_refusal limits classes c ≡ None → class_refusal widest_classes classes c ≡ None
+pub not_refused_at_widest_limits : (limits : ClassLimits) (classes : List Class) (c : Class) → AreClassLimits limits → class_refusal limits classes c ≡ None → class_refusal widest_classes classes c ≡ None
 unfolding class_refusal
-widest limits classes c within h =
-    let t = none_holds _ h in
+not_refused_at_widest_limits limits classes c within h =
+    let t = no_refusal_test_holds _ h in
     let room : length classes < class_limit = omega (arith, within.classes, leb-false limits.classes (length classes) t.1.0) in
-    let named : list_all (is_name widest_classes) (names_in c) ≡ true = all_stay (is_name limits) (is_name widest_classes) (name_stays limits within) (names_in c) (not-false _ t.1.1.0) in
+    let named : list_all (is_name widest_classes) (names_in c) ≡ true = weaker_test_holds_of_all (is_name limits) (is_name widest_classes) (name_stays limits within) (names_in c) (not-false _ t.1.1.0) in
     sym (accepted widest_classes classes c (sym (not-false _ t.0)) (sym (lt-leb class_limit (length classes) room)) (sym named) (sym t.1.1.1.0) (sym t.1.1.1.1.0))
 
 -- the super of a class that isn't refused is an instance class
 pub super_stands : (classes : List Class) (c : Class) → class_refusal widest_classes classes c ≡ None → option_map_or (is_instance_class classes) c.sup true ≡ true
 unfolding class_refusal
-super_stands classes c h = not-false _ (none_holds _ h).0
+super_stands classes c h = not-false _ (no_refusal_test_holds _ h).0
 
 -- and its slots are few
 pub slots_fit : (classes : List Class) (c : Class) (above : List Kind) → class_refusal widest_classes classes c ≡ None → above ≡ option_map_or (slots_of classes) c.sup [] → length c.fields + length above ≤ slot_limit
 unfolding class_refusal
-slots_fit classes c above h e = subst (λ n. n ≤ slot_limit) (slot_count classes c above e) (ltb-false slot_limit _ (none_holds _ h).1.1.1.1.0)
+slots_fit classes c above h e = subst (λ n. n ≤ slot_limit) (slot_count classes c above e) (ltb-false slot_limit _ (no_refusal_test_holds _ h).1.1.1.1.0)
 
 module _ (names : List (List ℕ)) (es : List ClassEntry) (t : IsEntryTable names es) (v : List Class) (view_is : map (class_of_entry names) es ≡ v)
     (c : Class) (e : ClassEntry) (names' : List (List ℕ)) (es' : List ClassEntry) (above : List Kind)

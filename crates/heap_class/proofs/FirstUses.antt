@@ -47,58 +47,58 @@ filter_all (x ∷ xs) = ap (λ ys. x ∷ ys) (filter_all xs)
 -- ---- names put in one after another
 
 -- whether a list lacks a name
-abbrev lacks : List (List ℕ) → List ℕ → Bool
-lacks ks y = not (list_any (bytes_eq y) ks)
+abbrev lacks_name : List (List ℕ) → List ℕ → Bool
+lacks_name ks y = not (list_any (bytes_eq y) ks)
 
-last_lacks : (a b : Bool) → not (a || (b || false)) ≡ (not b && not a)
-last_lacks true true = refl
-last_lacks true false = refl
-last_lacks false true = refl
-last_lacks false false = refl
+lack_of_last_name : (a b : Bool) → not (a || (b || false)) ≡ (not b && not a)
+lack_of_last_name true true = refl
+lack_of_last_name true false = refl
+lack_of_last_name false true = refl
+lack_of_last_name false false = refl
 
 -- a list with one more name
-lacks_more : (ks : List (List ℕ)) (x y : List ℕ) → lacks (ks ++ x ∷ []) y ≡ (not (bytes_eq x y) && lacks ks y)
-lacks_more ks x y =
+lacks_with_one_more_name : (ks : List (List ℕ)) (x y : List ℕ) → lacks_name (ks ++ x ∷ []) y ≡ (not (bytes_eq x y) && lacks_name ks y)
+lacks_with_one_more_name ks x y =
     ap not (list_any-append (bytes_eq y) ks (x ∷ []))
-    ∙ last_lacks (list_any (bytes_eq y) ks) (bytes_eq y x)
-    ∙ ap (λ b. not b && lacks ks y) (bytes_flip y x)
+    ∙ lack_of_last_name (list_any (bytes_eq y) ks) (bytes_eq y x)
+    ∙ ap (λ b. not b && lacks_name ks y) (bytes_flip y x)
 
 -- a list that has x
-lacks_there : (ks : List (List ℕ)) (x y : List ℕ) → list_any (bytes_eq x) ks ≡ true → lacks ks y ≡ (not (bytes_eq x y) && lacks ks y)
-lacks_there ks x y h = go (bytes_eq x y) refl
+lacks_with_name_repeated : (ks : List (List ℕ)) (x y : List ℕ) → list_any (bytes_eq x) ks ≡ true → lacks_name ks y ≡ (not (bytes_eq x y) && lacks_name ks y)
+lacks_with_name_repeated ks x y h = go (bytes_eq x y) refl
   where
-    go : (b : Bool) → bytes_eq x y ≡ b → lacks ks y ≡ (not b && lacks ks y)
+    go : (b : Bool) → bytes_eq x y ≡ b → lacks_name ks y ≡ (not b && lacks_name ks y)
     go true e = ap not (subst (λ z. list_any (bytes_eq z) ks ≡ true) (bytes_same x y e) h)
     go false e = refl
 
-step_there : (ks : List (List ℕ)) (x : List ℕ) (zs : List (List ℕ)) → list_any (bytes_eq x) ks ≡ true → ks ++ filter (lacks ks) zs ≡ ks ++ filter (lacks ks) (x ∷ filter (λ y. not (bytes_eq x y)) zs)
-step_there ks x zs h =
-    let rest : List (List ℕ) = filter (lacks ks) (filter (λ y. not (bytes_eq x y)) zs) in
-    ap (λ l. ks ++ l) (sym (filter_both (lacks ks) (λ y. not (bytes_eq x y)) (lacks ks) (λ y. lacks_there ks x y h) zs)
+insert_of_name_already_there : (ks : List (List ℕ)) (x : List ℕ) (zs : List (List ℕ)) → list_any (bytes_eq x) ks ≡ true → ks ++ filter (lacks_name ks) zs ≡ ks ++ filter (lacks_name ks) (x ∷ filter (λ y. not (bytes_eq x y)) zs)
+insert_of_name_already_there ks x zs h =
+    let rest : List (List ℕ) = filter (lacks_name ks) (filter (λ y. not (bytes_eq x y)) zs) in
+    ap (λ l. ks ++ l) (sym (filter_both (lacks_name ks) (λ y. not (bytes_eq x y)) (lacks_name ks) (λ y. lacks_with_name_repeated ks x y h) zs)
     ∙ ap (λ b. cond (not b) (x ∷ rest) rest) (sym h))
 
-step_new : (ks : List (List ℕ)) (x : List ℕ) (zs : List (List ℕ)) → list_any (bytes_eq x) ks ≡ false → (ks ++ x ∷ []) ++ filter (lacks (ks ++ x ∷ [])) zs ≡ ks ++ filter (lacks ks) (x ∷ filter (λ y. not (bytes_eq x y)) zs)
-step_new ks x zs h =
-    let rest : List (List ℕ) = filter (lacks ks) (filter (λ y. not (bytes_eq x y)) zs) in
-    append_assoc ks (x ∷ []) (filter (lacks (ks ++ x ∷ [])) zs)
-    ∙ ap (λ l. ks ++ l) (ap (λ l. x ∷ l) (sym (filter_both (lacks ks) (λ y. not (bytes_eq x y)) (lacks (ks ++ x ∷ [])) (lacks_more ks x) zs))
+insert_of_new_name : (ks : List (List ℕ)) (x : List ℕ) (zs : List (List ℕ)) → list_any (bytes_eq x) ks ≡ false → (ks ++ x ∷ []) ++ filter (lacks_name (ks ++ x ∷ [])) zs ≡ ks ++ filter (lacks_name ks) (x ∷ filter (λ y. not (bytes_eq x y)) zs)
+insert_of_new_name ks x zs h =
+    let rest : List (List ℕ) = filter (lacks_name ks) (filter (λ y. not (bytes_eq x y)) zs) in
+    append_assoc ks (x ∷ []) (filter (lacks_name (ks ++ x ∷ [])) zs)
+    ∙ ap (λ l. ks ++ l) (ap (λ l. x ∷ l) (sym (filter_both (lacks_name ks) (λ y. not (bytes_eq x y)) (lacks_name (ks ++ x ∷ [])) (lacks_with_one_more_name ks x) zs))
     ∙ ap (λ b. cond (not b) (x ∷ rest) rest) (sym h))
 
 -- what a list has into which names are put
-inserted : (ks xs : List (List ℕ)) → insert_all bytes_eq ks xs ≡ ks ++ filter (lacks ks) (first_uses xs)
+inserted_names_are_first_uses : (ks xs : List (List ℕ)) → insert_all bytes_eq ks xs ≡ ks ++ filter (lacks_name ks) (first_uses xs)
 unfolding first_uses
-inserted ks [] = sym (append-nil ks)
-inserted ks (x ∷ xs) = go (list_any (bytes_eq x) ks) refl (inserted ks xs) (inserted (ks ++ x ∷ []) xs)
+inserted_names_are_first_uses ks [] = sym (append-nil ks)
+inserted_names_are_first_uses ks (x ∷ xs) = go (list_any (bytes_eq x) ks) refl (inserted_names_are_first_uses ks xs) (inserted_names_are_first_uses (ks ++ x ∷ []) xs)
   where
-    go : (b : Bool) → list_any (bytes_eq x) ks ≡ b → insert_all bytes_eq ks xs ≡ ks ++ filter (lacks ks) (first_uses xs)
-        → insert_all bytes_eq (ks ++ x ∷ []) xs ≡ (ks ++ x ∷ []) ++ filter (lacks (ks ++ x ∷ [])) (first_uses xs)
-        → insert_all bytes_eq (cond b ks (ks ++ x ∷ [])) xs ≡ ks ++ filter (lacks ks) (x ∷ filter (λ y. not (bytes_eq x y)) (first_uses xs))
-    go true e there new = there ∙ step_there ks x (first_uses xs) e
-    go false e there new = new ∙ step_new ks x (first_uses xs) e
+    go : (b : Bool) → list_any (bytes_eq x) ks ≡ b → insert_all bytes_eq ks xs ≡ ks ++ filter (lacks_name ks) (first_uses xs)
+        → insert_all bytes_eq (ks ++ x ∷ []) xs ≡ (ks ++ x ∷ []) ++ filter (lacks_name (ks ++ x ∷ [])) (first_uses xs)
+        → insert_all bytes_eq (cond b ks (ks ++ x ∷ [])) xs ≡ ks ++ filter (lacks_name ks) (x ∷ filter (λ y. not (bytes_eq x y)) (first_uses xs))
+    go true e there new = there ∙ insert_of_name_already_there ks x (first_uses xs) e
+    go false e there new = new ∙ insert_of_new_name ks x (first_uses xs) e
 
 table_inserted : (cs : List Class) → name_table cs ≡ insert_all bytes_eq [] (flat_map names_in cs)
 unfolding name_table
-table_inserted cs = sym (inserted [] (flat_map names_in cs) ∙ filter_all (first_uses (flat_map names_in cs)))
+table_inserted cs = sym (inserted_names_are_first_uses [] (flat_map names_in cs) ∙ filter_all (first_uses (flat_map names_in cs)))
 
 -- the names with those of further classes
 pub names_append : (cs ds : List Class) → name_table (cs ++ ds) ≡ insert_all bytes_eq (name_table cs) (flat_map names_in ds)
@@ -115,10 +115,10 @@ names_more cs c = names_append cs (c ∷ []) ∙ ap (insert_all bytes_eq (name_t
 -- ---- what stays and what is new
 
 pub inserted_prefix : (ks xs : List (List ℕ)) → take (length ks) (insert_all bytes_eq ks xs) ≡ ks
-inserted_prefix ks xs = ap (take (length ks)) (inserted ks xs) ∙ take_at ks (filter (lacks ks) (first_uses xs)) (length ks) refl
+inserted_prefix ks xs = ap (take (length ks)) (inserted_names_are_first_uses ks xs) ∙ take_at ks (filter (lacks_name ks) (first_uses xs)) (length ks) refl
 
 pub inserted_longer : (ks xs : List (List ℕ)) → length ks ≤ length (insert_all bytes_eq ks xs)
-inserted_longer ks xs = omega (arith, ap length (inserted ks xs), length-append ks (filter (lacks ks) (first_uses xs)))
+inserted_longer ks xs = omega (arith, ap length (inserted_names_are_first_uses ks xs), length-append ks (filter (lacks_name ks) (first_uses xs)))
 
 key_length : (ks : List (List ℕ)) (x : List ℕ) → length (insert_key bytes_eq ks x) ≤ length ks + 1
 key_length ks x = go (list_any (bytes_eq x) ks)
@@ -127,9 +127,9 @@ key_length ks x = go (list_any (bytes_eq x) ks)
     go true = omega arith
     go false = omega (arith, length-append ks (x ∷ []))
 
-pub inserted_length : (ks xs : List (List ℕ)) → length (insert_all bytes_eq ks xs) ≤ length ks + length xs
-inserted_length ks [] = omega arith
-inserted_length ks (x ∷ xs) = omega (arith, inserted_length (insert_key bytes_eq ks x) xs, key_length ks x)
+pub inserted_names_add_no_more : (ks xs : List (List ℕ)) → length (insert_all bytes_eq ks xs) ≤ length ks + length xs
+inserted_names_add_no_more ks [] = omega arith
+inserted_names_add_no_more ks (x ∷ xs) = omega (arith, inserted_names_add_no_more (insert_key bytes_eq ks x) xs, key_length ks x)
 
 key_distinct : (ks : List (List ℕ)) (x : List ℕ) → IsDistinct bytes_eq ks → IsDistinct bytes_eq (insert_key bytes_eq ks x)
 key_distinct ks x h = go (list_any (bytes_eq x) ks) refl
@@ -138,14 +138,14 @@ key_distinct ks x h = go (list_any (bytes_eq x) ks) refl
     go true e = h
     go false e = IsDistinct-push nat_list_eq_equiv ks x h e
 
-inserted_distinct : (ks xs : List (List ℕ)) → IsDistinct bytes_eq ks → IsDistinct bytes_eq (insert_all bytes_eq ks xs)
-inserted_distinct ks [] h = h
-inserted_distinct ks (x ∷ xs) h = inserted_distinct (insert_key bytes_eq ks x) xs (key_distinct ks x h)
+inserted_names_are_distinct : (ks xs : List (List ℕ)) → IsDistinct bytes_eq ks → IsDistinct bytes_eq (insert_all bytes_eq ks xs)
+inserted_names_are_distinct ks [] h = h
+inserted_names_are_distinct ks (x ∷ xs) h = inserted_names_are_distinct (insert_key bytes_eq ks x) xs (key_distinct ks x h)
 
 -- no name stands twice
 pub table_distinct : (cs : List Class) → IsDistinct bytes_eq (name_table cs)
 unfolding IsDistinct
-table_distinct cs = subst (IsDistinct bytes_eq) (sym (table_inserted cs)) (inserted_distinct [] (flat_map names_in cs) tt)
+table_distinct cs = subst (IsDistinct bytes_eq) (sym (table_inserted cs)) (inserted_names_are_distinct [] (flat_map names_in cs) tt)
 
 key_all : (P : List ℕ → Type 0) (ks : List (List ℕ)) (x : List ℕ) → All P ks → P x → All P (insert_key bytes_eq ks x)
 key_all P ks x h p = go (list_any (bytes_eq x) ks)
@@ -154,9 +154,9 @@ key_all P ks x h p = go (list_any (bytes_eq x) ks)
     go true = h
     go false = All-push P ks x h p
 
-pub inserted_all : (P : List ℕ → Type 0) (ks xs : List (List ℕ)) → All P ks → All P xs → All P (insert_all bytes_eq ks xs)
-inserted_all P ks [] h k = h
-inserted_all P ks (x ∷ xs) h k = inserted_all P (insert_key bytes_eq ks x) xs (key_all P ks x h (All-head P x xs k)) (All-tail P x xs k)
+pub inserted_names_all_pass : (P : List ℕ → Type 0) (ks xs : List (List ℕ)) → All P ks → All P xs → All P (insert_all bytes_eq ks xs)
+inserted_names_all_pass P ks [] h k = h
+inserted_names_all_pass P ks (x ∷ xs) h k = inserted_names_all_pass P (insert_key bytes_eq ks x) xs (key_all P ks x h (All-head P x xs k)) (All-tail P x xs k)
 
 -- where a name stands
 pub position_is : (ks : List (List ℕ)) (i : ℕ) → IsDistinct bytes_eq ks → i < length ks → position_or_len (bytes_eq (get_or ks i [])) ks ≡ i

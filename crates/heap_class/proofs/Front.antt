@@ -11,25 +11,25 @@ use Rattle.heap_class.specs.declared.Field.{Field}
 use Rattle.heap_class.specs.declared.IdSize.{IdSize}
 use Rattle.heap_class.specs.Kinds.{width_of}
 use Rattle.heap_class.specs.Classes.{Class, first_uses, name_table, names_in, name_of, fields_of, sup_of, slots_of, instance_size, is_array_class, name_id, IsClassTable}
-use Rattle.heap_class.proofs.Slots.{get_append, slots_more}
+use Rattle.heap_class.proofs.Slots.{get_append, slots_stay_with_one_class_more}
 use Rattle.heap_class.proofs.FirstUses.{bytes_same, bytes_self, names_append, inserted_prefix, inserted_longer, table_distinct, position_is}
 
 -- ---- a name that stands among others
 
-or_true : (a : Bool) → (a || true) ≡ true
-or_true true = refl
-or_true false = refl
+or_with_true_is_true : (a : Bool) → (a || true) ≡ true
+or_with_true_is_true true = refl
+or_with_true_is_true false = refl
 
-pub has_left : {A : Type 0} (p : A → Bool) (xs ys : List A) → list_any p xs ≡ true → list_any p (xs ++ ys) ≡ true
-has_left p xs ys h = list_any-append p xs ys ∙ ap (λ b. b || list_any p ys) h
+pub any_of_first_part : {A : Type 0} (p : A → Bool) (xs ys : List A) → list_any p xs ≡ true → list_any p (xs ++ ys) ≡ true
+any_of_first_part p xs ys h = list_any-append p xs ys ∙ ap (λ b. b || list_any p ys) h
 
-pub has_right : {A : Type 0} (p : A → Bool) (xs ys : List A) → list_any p ys ≡ true → list_any p (xs ++ ys) ≡ true
-has_right p xs ys h = list_any-append p xs ys ∙ ap (λ b. list_any p xs || b) h ∙ or_true (list_any p xs)
+pub any_of_second_part : {A : Type 0} (p : A → Bool) (xs ys : List A) → list_any p ys ≡ true → list_any p (xs ++ ys) ≡ true
+any_of_second_part p xs ys h = list_any-append p xs ys ∙ ap (λ b. list_any p xs || b) h ∙ or_with_true_is_true (list_any p xs)
 
 -- where it stands
-found : (x : List ℕ) (ks : List (List ℕ)) → list_any (bytes_eq x) ks ≡ true → (i : ℕ) × (i < length ks) × (get_or ks i [] ≡ x)
-found x [] h = cc
-found x (k ∷ ks) h = go (bytes_eq x k) refl (found x ks)
+place_of_name_in_list : (x : List ℕ) (ks : List (List ℕ)) → list_any (bytes_eq x) ks ≡ true → (i : ℕ) × (i < length ks) × (get_or ks i [] ≡ x)
+place_of_name_in_list x [] h = cc
+place_of_name_in_list x (k ∷ ks) h = go (bytes_eq x k) refl (place_of_name_in_list x ks)
   where
     go : (b : Bool) → bytes_eq x k ≡ b → (list_any (bytes_eq x) ks ≡ true → (i : ℕ) × (i < length ks) × (get_or ks i [] ≡ x)) → (i : ℕ) × (i < length (k ∷ ks)) × (get_or (k ∷ ks) i [] ≡ x)
     go true e again = (0, omega arith, sym (bytes_same x k e))
@@ -38,9 +38,9 @@ found x (k ∷ ks) h = go (bytes_eq x k) refl (found x ks)
         (suc r.0, omega (arith, r.1), r.2)
 
 -- a name other than x stays where x is left out
-pub kept_other : (x z : List ℕ) (ys : List (List ℕ)) → bytes_eq z x ≡ false → list_any (bytes_eq z) (filter (λ y. not (bytes_eq x y)) ys) ≡ list_any (bytes_eq z) ys
-kept_other x z [] h = refl
-kept_other x z (y ∷ ys) h = go (bytes_eq z y) refl (bytes_eq x y) refl (kept_other x z ys h)
+pub other_name_is_not_filtered : (x z : List ℕ) (ys : List (List ℕ)) → bytes_eq z x ≡ false → list_any (bytes_eq z) (filter (λ y. not (bytes_eq x y)) ys) ≡ list_any (bytes_eq z) ys
+other_name_is_not_filtered x z [] h = refl
+other_name_is_not_filtered x z (y ∷ ys) h = go (bytes_eq z y) refl (bytes_eq x y) refl (other_name_is_not_filtered x z ys h)
   where
     go : (a : Bool) → bytes_eq z y ≡ a → (b : Bool) → bytes_eq x y ≡ b
         → list_any (bytes_eq z) (filter (λ y. not (bytes_eq x y)) ys) ≡ list_any (bytes_eq z) ys
@@ -61,7 +61,7 @@ uses_have z (x ∷ xs) h = go (bytes_eq z x) refl (uses_have z xs)
     go true e again = ap (λ b. b || list_any (bytes_eq z) (filter (λ y. not (bytes_eq x y)) (first_uses xs))) e
     go false e again =
         ap (λ b. b || list_any (bytes_eq z) (filter (λ y. not (bytes_eq x y)) (first_uses xs))) e
-        ∙ kept_other x z (first_uses xs) e
+        ∙ other_name_is_not_filtered x z (first_uses xs) e
         ∙ again (ap (λ b. b || list_any (bytes_eq z) xs) (sym e) ∙ h)
 
 -- ---- the names of classes
@@ -70,9 +70,9 @@ name_there : (cs : List Class) (k : ℕ) → k < length cs → list_any (bytes_e
 unfolding name_of names_in
 name_there [] k h = absurd (omega (arith, h))
 name_there (c ∷ cs) zero h =
-    has_left (bytes_eq c.name) (names_in c) (flat_map names_in cs) (ap (λ b. b || list_any (bytes_eq c.name) (map (λ (f : Field). f.name) c.fields)) (bytes_self c.name))
+    any_of_first_part (bytes_eq c.name) (names_in c) (flat_map names_in cs) (ap (λ b. b || list_any (bytes_eq c.name) (map (λ (f : Field). f.name) c.fields)) (bytes_self c.name))
 name_there (c ∷ cs) (suc k) h =
-    has_right (bytes_eq (name_of cs k)) (names_in c) (flat_map names_in cs) (name_there cs k (omega (arith, h)))
+    any_of_second_part (bytes_eq (name_of cs k)) (names_in c) (flat_map names_in cs) (name_there cs k (omega (arith, h)))
 
 pub field_named : (fs : List Field) (i : ℕ) (f : Field) → slice_get fs i ≡ Some f → list_any (bytes_eq f.name) (map (λ (g : Field). g.name) fs) ≡ true
 field_named [] i f h = cc
@@ -80,16 +80,16 @@ field_named (g ∷ fs) zero f h =
     let same : g ≡ f = cc in
     subst (λ (x : Field). (bytes_eq x.name g.name || list_any (bytes_eq x.name) (map (λ (g : Field). g.name) fs)) ≡ true) same
     (ap (λ b. b || list_any (bytes_eq g.name) (map (λ (g : Field). g.name) fs)) (bytes_self g.name))
-field_named (g ∷ fs) (suc i) f h = ap (λ b. bytes_eq f.name g.name || b) (field_named fs i f h) ∙ or_true (bytes_eq f.name g.name)
+field_named (g ∷ fs) (suc i) f h = ap (λ b. bytes_eq f.name g.name || b) (field_named fs i f h) ∙ or_with_true_is_true (bytes_eq f.name g.name)
 
 pub field_name_there : (cs : List Class) (k i : ℕ) (f : Field) → slice_get (fields_of cs k) i ≡ Some f → list_any (bytes_eq f.name) (flat_map names_in cs) ≡ true
 unfolding fields_of names_in
 field_name_there [] k i f h = cc
 field_name_there (c ∷ cs) zero i f h =
-    has_left (bytes_eq f.name) (names_in c) (flat_map names_in cs)
-    (ap (λ b. bytes_eq f.name c.name || b) (field_named c.fields i f h) ∙ or_true (bytes_eq f.name c.name))
+    any_of_first_part (bytes_eq f.name) (names_in c) (flat_map names_in cs)
+    (ap (λ b. bytes_eq f.name c.name || b) (field_named c.fields i f h) ∙ or_with_true_is_true (bytes_eq f.name c.name))
 field_name_there (c ∷ cs) (suc k) i f h =
-    has_right (bytes_eq f.name) (names_in c) (flat_map names_in cs) (field_name_there cs k i f h)
+    any_of_second_part (bytes_eq f.name) (names_in c) (flat_map names_in cs) (field_name_there cs k i f h)
 
 -- ---- further classes
 
@@ -98,7 +98,7 @@ slots_append cs [] k h = ap (λ l. slots_of l k) (append-nil cs)
 slots_append cs (d ∷ ds) k h =
     ap (λ l. slots_of l k) (sym (append_assoc cs (d ∷ []) ds))
     ∙ slots_append (cs ++ d ∷ []) ds k (omega (arith, h, length-append cs (d ∷ [])))
-    ∙ slots_more cs d k h
+    ∙ slots_stay_with_one_class_more cs d k h
 
 table_front : (before cs ds : List Class) → IsClassTable before (cs ++ ds) → IsClassTable before cs
 table_front before [] ds t = tt
@@ -114,10 +114,10 @@ name_front : (cs ds : List Class) (i : ℕ) → i < length (name_table cs) → g
 name_front cs ds i lt =
     sym (get_or-take (length (name_table cs)) (name_table (cs ++ ds)) i [] lt) ∙ ap (λ l. get_or l i []) (names_front cs ds)
 
-id_front : (cs ds : List Class) (x : List ℕ) → list_any (bytes_eq x) (flat_map names_in cs) ≡ true → name_id (cs ++ ds) x ≡ name_id cs x
+name_id_among_first_classes : (cs ds : List Class) (x : List ℕ) → list_any (bytes_eq x) (flat_map names_in cs) ≡ true → name_id (cs ++ ds) x ≡ name_id cs x
 unfolding name_id name_table
-id_front cs ds x h =
-    let at = found x (name_table cs) (uses_have x (flat_map names_in cs) h) in
+name_id_among_first_classes cs ds x h =
+    let at = place_of_name_in_list x (name_table cs) (uses_have x (flat_map names_in cs) h) in
     let whole : get_or (name_table (cs ++ ds)) at.0 [] ≡ x = name_front cs ds at.0 at.1 ∙ at.2 in
     let in_whole : position_or_len (bytes_eq x) (name_table (cs ++ ds)) ≡ at.0
     = ap (λ n. position_or_len (bytes_eq n) (name_table (cs ++ ds))) (sym whole) ∙ position_is (name_table (cs ++ ds)) at.0 (table_distinct (cs ++ ds)) (omega (arith, at.1, names_longer cs ds)) in
@@ -127,8 +127,8 @@ id_front cs ds x h =
 
 -- ---- what the first classes say, by what all say
 
-pub rejoined : (cs v : List Class) (n : ℕ) → take n cs ≡ v → v ++ drop n cs ≡ cs
-rejoined cs v n is = ap (λ l. l ++ drop n cs) (sym is) ∙ take-append-drop n cs
+pub taken_classes_rejoin_dropped : (cs v : List Class) (n : ℕ) → take n cs ≡ v → v ++ drop n cs ≡ cs
+taken_classes_rejoin_dropped cs v n is = ap (λ l. l ++ drop n cs) (sym is) ∙ take-append-drop n cs
 
 module _ (cs v ds : List Class) (whole : v ++ ds ≡ cs) where
   pub first_table : IsClassTable [] cs → IsClassTable [] v
@@ -176,11 +176,11 @@ module _ (cs v ds : List Class) (whole : v ++ ds ≡ cs) where
 
     pub same_class_id : name_id v (name_of v k) ≡ name_id cs (name_of cs k)
     same_class_id =
-        sym (id_front v ds (name_of v k) (name_there v k lt)) ∙ ap₂ name_id whole same_class_name
+        sym (name_id_among_first_classes v ds (name_of v k) (name_there v k lt)) ∙ ap₂ name_id whole same_class_name
 
     pub same_field_id : (i : ℕ) (n : ℕ) → IfSome (slice_get (fields_of cs k) i) (λ f. n ≡ name_id cs f.name) → IfSome (slice_get (fields_of v k) i) (λ f. n ≡ name_id v f.name)
     same_field_id i n h = go (slice_get (fields_of v k) i) refl (subst (λ (l : List Field). IfSome (slice_get l i) (λ f. n ≡ name_id cs f.name)) (sym same_fields) h)
       where
         go : (o : Option Field) → slice_get (fields_of v k) i ≡ o → IfSome o (λ f. n ≡ name_id cs f.name) → IfSome o (λ f. n ≡ name_id v f.name)
         go None e g = tt
-        go (Some f) e g = g ∙ ap (λ l. name_id l f.name) (sym whole) ∙ id_front v ds f.name (field_name_there v k i f e)
+        go (Some f) e g = g ∙ ap (λ l. name_id l f.name) (sym whole) ∙ name_id_among_first_classes v ds f.name (field_name_there v k i f e)

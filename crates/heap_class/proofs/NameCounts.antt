@@ -5,28 +5,28 @@ use Rattle.std.proofs.lemmas.List.{take-append-drop, take-map, drop_more, length
 use Rattle.heap_class.specs.declared.class_table.ClassEntry.{ClassEntry}
 use Rattle.heap_class.specs.Classes.{Class, name_table}
 use Rattle.heap_class.specs.Entries.{class_of_entry, IsEntryWithin, IsPlaced, IsEntryTable}
-use Rattle.heap_class.proofs.Tables.{all_reversed, placed_within, within_more, classes_stay, names_of_placed}
+use Rattle.heap_class.proofs.Tables.{all_reversed, placed_entries_are_within, entry_within_more_names, classes_stay, names_of_placed}
 use Rattle.std.proofs.lemmas.List.Elements.{All-weaker, All-tail}
 
-all_turned : {X : Type 0} (P : X → Type 0) (xs : List X) → All P xs → All P (reverse xs)
-all_turned P xs h = all_reversed P (reverse xs) (subst (All P) (sym (reverse-reverse xs)) h)
+all_of_reversed_list : {X : Type 0} (P : X → Type 0) (xs : List X) → All P xs → All P (reverse xs)
+all_of_reversed_list P xs h = all_reversed P (reverse xs) (subst (All P) (sym (reverse-reverse xs)) h)
 
 -- the older entries name places among the names that there were
 older_within : (names : List (List ℕ)) (newer older : List ClassEntry) → IsPlaced names (newer ++ older) → All (IsEntryWithin (length names)) older
-older_within names [] older h = placed_within names older h
+older_within names [] older h = placed_entries_are_within names older h
 older_within names (e ∷ newer) older h =
     All-weaker (IsEntryWithin (length (take e.names_before names))) (IsEntryWithin (length names))
-    (within_more (length (take e.names_before names)) (length names) (omega (arith, length-take e.names_before names))) older
+    (entry_within_more_names (length (take e.names_before names)) (length names) (omega (arith, length-take e.names_before names))) older
     (older_within (take e.names_before names) newer older h.3)
 
 module _ (e : ClassEntry) (older : List ClassEntry) where
   -- the older classes by all names and by those that were there before a newer one
   older_stay : (names : List (List ℕ)) (n : ℕ) → All (IsEntryWithin (length (take n names))) older → map (class_of_entry names) (reverse older) ≡ map (class_of_entry (take n names)) (reverse older)
-  older_stay names n h = classes_stay names n (reverse older) (all_turned (IsEntryWithin (length (take n names))) older h)
+  older_stay names n h = classes_stay names n (reverse older) (all_of_reversed_list (IsEntryWithin (length (take n names))) older h)
 
   counted : (names : List (List ℕ)) (newer : List ClassEntry) → IsPlaced names (newer ++ e ∷ older) → length (name_table (map (class_of_entry names) (reverse older))) ≡ e.names_before
   counted names [] h =
-      ap (λ l. length (name_table l)) (older_stay names e.names_before (placed_within (take e.names_before names) older h.3))
+      ap (λ l. length (name_table l)) (older_stay names e.names_before (placed_entries_are_within (take e.names_before names) older h.3))
       ∙ ap length (names_of_placed (take e.names_before names) older h.3)
       ∙ omega (arith, length-take e.names_before names, h.1)
   counted names (d ∷ newer) h =

@@ -13,10 +13,10 @@ use Rattle.heap_class.specs.Kinds.{width_of}
 use Rattle.heap_class.specs.declared.class_table.OwnField.{OwnField}
 use Rattle.heap_class.specs.Classes.{Class, name_table, name_id, name_of, fields_of, sup_of, slots_of, instance_size, slot_table_after, is_instance_class, is_array_class, class_refusal, IsClassTable}
 use Rattle.heap_class.specs.Entries.{field_of_entry, class_of_entry, IsEntryWithin, IsRoomy, AreSizes, IsEntryTable}
-use Rattle.heap_class.proofs.Refusals.{none_holds}
-use Rattle.heap_class.proofs.Slots.{instance_within}
+use Rattle.heap_class.proofs.Refusals.{no_refusal_test_holds}
+use Rattle.heap_class.proofs.Slots.{instance_class_is_in_table}
 use Rattle.heap_class.proofs.FirstUses.{table_distinct, position_is}
-use Rattle.heap_class.proofs.Tables.{table_names, all_within}
+use Rattle.heap_class.proofs.Tables.{table_names, all_entries_are_within}
 
 -- a class that has a field is there
 pub fields_there : (cs : List Class) (k i : ℕ) → i < length (fields_of cs k) → k < length cs
@@ -26,9 +26,9 @@ fields_there (c ∷ cs) zero i h = omega arith
 fields_there (c ∷ cs) (suc k) i h = let r : k < length cs = fields_there cs k i h in omega (arith, r)
 
 -- of no class that isn't there
-pub none_past : (cs : List Class) (k : ℕ) → length cs ≤ k → (is_instance_class cs k ≡ false) × (is_array_class cs k ≡ false)
+pub no_class_past_table : (cs : List Class) (k : ℕ) → length cs ≤ k → (is_instance_class cs k ≡ false) × (is_array_class cs k ≡ false)
 unfolding is_instance_class is_array_class
-none_past cs k h = let e : slice_get cs k ≡ None = slice_get_past cs k h in (ap (λ (o : Option Class). option_map_or (λ (c : Class). not c.is_array) o false) e, ap (λ (o : Option Class). option_map_or (λ (c : Class). c.is_array) o false) e)
+no_class_past_table cs k h = let e : slice_get cs k ≡ None = slice_get_past cs k h in (ap (λ (o : Option Class). option_map_or (λ (c : Class). not c.is_array) o false) e, ap (λ (o : Option Class). option_map_or (λ (c : Class). c.is_array) o false) e)
 
 -- the super of a class comes before it
 sup_earlier : (before cs : List Class) (k : ℕ) (c : Class) → IsClassTable before cs → slice_get cs k ≡ Some c → IfSome c.sup (λ s. s < length before + k)
@@ -36,11 +36,11 @@ unfolding class_refusal
 sup_earlier before [] k c t h = cc
 sup_earlier before (d ∷ cs) zero c t h =
     let same : d ≡ c = cc in
-    subst (λ (x : Class). IfSome x.sup (λ s. s < length before + 0)) same (go d.sup (not-false _ (none_holds _ t.0).0))
+    subst (λ (x : Class). IfSome x.sup (λ s. s < length before + 0)) same (go d.sup (not-false _ (no_refusal_test_holds _ t.0).0))
   where
     go : (o : Option ℕ) → option_map_or (is_instance_class before) o true ≡ true → IfSome o (λ s. s < length before + 0)
     go None e = tt
-    go (Some s) e = omega (arith, instance_within before s e)
+    go (Some s) e = omega (arith, instance_class_is_in_table before s e)
 sup_earlier before (d ∷ cs) (suc k) c t h = go c.sup (sup_earlier (before ++ d ∷ []) cs k c t.2 h)
   where
     go : (o : Option ℕ) → IfSome o (λ s. s < length (before ++ d ∷ []) + k) → IfSome o (λ s. s < length before + suc k)
@@ -52,16 +52,16 @@ pub class_read : (names : List (List ℕ)) (es : List ClassEntry) (k : ℕ) → 
 class_read names es k = slice_get-map (class_of_entry names) es k
 
 -- an entry that is there, and one that isn't
-pub entry_there : (es : List ClassEntry) (k : ℕ) (e : ClassEntry) → k < length es → slice_get es k ≡ Some (get_or es k e)
-entry_there [] k e lt = absurd (omega arith)
-entry_there (x ∷ es) zero e lt = refl
-entry_there (x ∷ es) (suc k) e lt = entry_there es k e (omega arith)
+pub slice_get_of_class_entry : (es : List ClassEntry) (k : ℕ) (e : ClassEntry) → k < length es → slice_get es k ≡ Some (get_or es k e)
+slice_get_of_class_entry [] k e lt = absurd (omega arith)
+slice_get_of_class_entry (x ∷ es) zero e lt = refl
+slice_get_of_class_entry (x ∷ es) (suc k) e lt = slice_get_of_class_entry es k e (omega arith)
 
-pub entry_past : (es : List ClassEntry) (k : ℕ) → length es ≤ k → slice_get es k ≡ None
-entry_past es k le = slice_get_past es k le
+pub no_entry_past_table : (es : List ClassEntry) (k : ℕ) → length es ≤ k → slice_get es k ≡ None
+no_entry_past_table es k le = slice_get_past es k le
 
 -- what a call reads of a class
-pub ruleset read_classes = (class_read, entry_there, entry_past)
+pub ruleset read_classes = (class_read, slice_get_of_class_entry, no_entry_past_table)
 
 module _ (names : List (List ℕ)) (es : List ClassEntry) (t : IsEntryTable names es) (v : List Class) (view_is : map (class_of_entry names) es ≡ v) where
   pub as_many : length es ≡ length v
@@ -132,7 +132,7 @@ module _ (names : List (List ℕ)) (es : List ClassEntry) (t : IsEntryTable name
     sized_at = subst (λ (d : ClassEntry). AreSizes d.slots.items d.sizes) (sym is) (t.sized k e (omega (arith, as_many)))
 
     pub within_at : IsEntryWithin (length names) e
-    within_at = subst (IsEntryWithin (length names)) (sym is) (all_within names es t.placed k e (omega (arith, as_many)))
+    within_at = subst (IsEntryWithin (length names)) (sym is) (all_entries_are_within names es t.placed k e (omega (arith, as_many)))
 
     pub roomy_at : IsRoomy e
     roomy_at = subst IsRoomy (sym is) (t.roomy k e (omega (arith, as_many)))

@@ -23,28 +23,28 @@ table_length above [] = omega arith
 table_length above (d ∷ cs) = table_length (above ++ slots_under above d ∷ []) cs ∙ omega (arith, length-append above (slots_under above d ∷ []))
 
 -- the slots of a class are as they were
-pub slots_more : (cs : List Class) (c : Class) (k : ℕ) → k < length cs → slots_of (cs ++ c ∷ []) k ≡ slots_of cs k
+pub slots_stay_with_one_class_more : (cs : List Class) (c : Class) (k : ℕ) → k < length cs → slots_of (cs ++ c ∷ []) k ≡ slots_of cs k
 unfolding slots_of
-slots_more cs c k h =
+slots_stay_with_one_class_more cs c k h =
     ap (λ t. unwrap_or (slice_get t k) []) (table_more [] cs c)
     ∙ ap (λ p. unwrap_or p []) (get_append (slot_table_after [] cs) (slots_under (slot_table_after [] cs) c ∷ []) k (omega (arith, h, table_length [] cs)))
 
-pub found_within : (cs : List Class) (k : ℕ) (f : Class → Bool) → option_map_or f (slice_get cs k) false ≡ true → k < length cs
-found_within [] k f h = cc
-found_within (c ∷ cs) zero f h = omega arith
-found_within (c ∷ cs) (suc k) f h = let r : k < length cs = found_within cs k f h in omega (arith, r)
+pub class_found_is_in_table : (cs : List Class) (k : ℕ) (f : Class → Bool) → option_map_or f (slice_get cs k) false ≡ true → k < length cs
+class_found_is_in_table [] k f h = cc
+class_found_is_in_table (c ∷ cs) zero f h = omega arith
+class_found_is_in_table (c ∷ cs) (suc k) f h = let r : k < length cs = class_found_is_in_table cs k f h in omega (arith, r)
 
-pub instance_within : (cs : List Class) (k : ℕ) → is_instance_class cs k ≡ true → k < length cs
+pub instance_class_is_in_table : (cs : List Class) (k : ℕ) → is_instance_class cs k ≡ true → k < length cs
 unfolding is_instance_class
-instance_within cs k h = found_within cs k (λ c. not c.is_array) h
+instance_class_is_in_table cs k h = class_found_is_in_table cs k (λ c. not c.is_array) h
 
 pub instance_more : (cs : List Class) (c : Class) (k : ℕ) → is_instance_class cs k ≡ true → is_instance_class (cs ++ c ∷ []) k ≡ true
 unfolding is_instance_class
-instance_more cs c k h = ap (λ (p : Option Class). option_map_or (λ (c : Class). not c.is_array) p false) (get_append cs (c ∷ []) k (found_within cs k (λ c. not c.is_array) h)) ∙ h
+instance_more cs c k h = ap (λ (p : Option Class). option_map_or (λ (c : Class). not c.is_array) p false) (get_append cs (c ∷ []) k (class_found_is_in_table cs k (λ c. not c.is_array) h)) ∙ h
 
 pub array_more : (cs : List Class) (c : Class) (k : ℕ) → is_array_class cs k ≡ true → is_array_class (cs ++ c ∷ []) k ≡ true
 unfolding is_array_class
-array_more cs c k h = ap (λ (p : Option Class). option_map_or (λ (c : Class). c.is_array) p false) (get_append cs (c ∷ []) k (found_within cs k (λ c. c.is_array) h)) ∙ h
+array_more cs c k h = ap (λ (p : Option Class). option_map_or (λ (c : Class). c.is_array) p false) (get_append cs (c ∷ []) k (class_found_is_in_table cs k (λ c. c.is_array) h)) ∙ h
 
 -- a class that isn't refused goes on with the table
 pub classes_more : (before cs : List Class) (c : Class) → IsClassTable before cs → class_refusal widest_classes (before ++ cs) c ≡ None → (c.is_array ≡ true → (c.sup ≡ None) × (c.fields ≡ [])) → IsClassTable before (cs ++ c ∷ [])

@@ -17,9 +17,9 @@ use Rattle.heap_class.specs.declared.Refusal.TheVariants.{NoClass, ClassLimit, B
 use Rattle.heap_class.specs.Refusals.{NoneHolds}
 use Rattle.heap_class.specs.Classes.{Class, first_uses, name_table, names_in, is_name, is_instance_class, all_distinct, slots_under, slot_table_after, class_refusal, IsClassTable}
 use Rattle.heap_class.specs.Entries.{field_of_entry, class_of_entry, IsEntryWithin, IsPlaced, IsRoomy, AreSizes, IsEntryTable}
-use Rattle.heap_class.proofs.Refusals.{none_holds}
+use Rattle.heap_class.proofs.Refusals.{no_refusal_test_holds}
 use Rattle.heap_class.proofs.Slots.{table_more, table_length, classes_more}
-use Rattle.heap_class.proofs.FirstUses.{names_more, inserted_prefix, inserted_longer, inserted_length, inserted_all}
+use Rattle.heap_class.proofs.FirstUses.{names_more, inserted_prefix, inserted_longer, inserted_names_add_no_more, inserted_names_all_pass}
 
 -- ---- lists
 
@@ -32,18 +32,18 @@ all_reversed P xs h k d lt =
 pub all_of_front : {X : Type 0} (P : X → Type 0) (xs : List X) (x : X) → All P (xs ++ x ∷ []) → All P xs
 all_of_front P xs x h = subst (All P) (take_at xs (x ∷ []) (length xs) refl) (All-take P (length xs) (xs ++ x ∷ []) h)
 
-front_of : {X : Type 0} (xs : List X) (x : X) (ys : List X) → ys ≡ xs ++ x ∷ [] → take (length ys - 1) ys ≡ xs
-front_of xs x ys e =
+all_but_last_are_front : {X : Type 0} (xs : List X) (x : X) (ys : List X) → ys ≡ xs ++ x ∷ [] → take (length ys - 1) ys ≡ xs
+all_but_last_are_front xs x ys e =
     ap (take (length ys - 1)) e ∙ take_at xs (x ∷ []) (length ys - 1) (omega (arith, ap length e, length-append xs (x ∷ [])))
 
-all_named : (ns : List (List ℕ)) → list_all (is_name widest_classes) ns ≡ true → All (λ (n : List ℕ). length n ≤ name_limit) ns
+all_names_are_short : (ns : List (List ℕ)) → list_all (is_name widest_classes) ns ≡ true → All (λ (n : List ℕ). length n ≤ name_limit) ns
 unfolding is_name
-all_named [] h = All-nil (λ (n : List ℕ). length n ≤ name_limit)
-all_named (n ∷ ns) h =
+all_names_are_short [] h = All-nil (λ (n : List ℕ). length n ≤ name_limit)
+all_names_are_short (n ∷ ns) h =
     let p = and_parts (is_name widest_classes n) (list_all (is_name widest_classes) ns) h in
     let q = and_parts (nat_le 1 (length n) && nat_le (length n) name_limit) _ p.0 in
     let r = and_parts (nat_le 1 (length n)) (nat_le (length n) name_limit) q.0 in
-    All-cons (λ (n : List ℕ). length n ≤ name_limit) n ns (leb-true (length n) name_limit r.1) (all_named ns p.1)
+    All-cons (λ (n : List ℕ). length n ≤ name_limit) n ns (leb-true (length n) name_limit r.1) (all_names_are_short ns p.1)
 
 -- ---- names that stay
 
@@ -71,30 +71,30 @@ module _ (names : List (List ℕ)) (n : ℕ) where
   classes_stay [] h = refl
   classes_stay (e ∷ es) h = λ i. class_stays e (All-head (IsEntryWithin (length (take n names))) e es h) i ∷ classes_stay es (All-tail (IsEntryWithin (length (take n names))) e es h) i
 
-pub within_more : (m n : ℕ) → m ≤ n → (e : ClassEntry) → IsEntryWithin m e → IsEntryWithin n e
-within_more m n le e w = record {
+pub entry_within_more_names : (m n : ℕ) → m ≤ n → (e : ClassEntry) → IsEntryWithin m e → IsEntryWithin n e
+entry_within_more_names m n le e w = record {
   own = omega (arith, w.own);
   each = All-weaker (λ (f : OwnField). f.name < m) (λ (f : OwnField). f.name < n) (λ f lt. omega arith) e.fields.items w.each;
 }
 
-pub placed_within : (names : List (List ℕ)) (es : List ClassEntry) → IsPlaced names es → All (IsEntryWithin (length names)) es
-placed_within names [] h = All-nil (IsEntryWithin (length names))
-placed_within names (e ∷ es) h =
+pub placed_entries_are_within : (names : List (List ℕ)) (es : List ClassEntry) → IsPlaced names es → All (IsEntryWithin (length names)) es
+placed_entries_are_within names [] h = All-nil (IsEntryWithin (length names))
+placed_entries_are_within names (e ∷ es) h =
     All-cons (IsEntryWithin (length names)) e es h.0
     (All-weaker (IsEntryWithin (length (take e.names_before names))) (IsEntryWithin (length names))
-    (within_more (length (take e.names_before names)) (length names) (omega (arith, length-take e.names_before names))) es
-    (placed_within (take e.names_before names) es h.3))
+    (entry_within_more_names (length (take e.names_before names)) (length names) (omega (arith, length-take e.names_before names))) es
+    (placed_entries_are_within (take e.names_before names) es h.3))
 
 -- all places are among the names
-pub all_within : (names : List (List ℕ)) (es : List ClassEntry) → IsPlaced names (reverse es) → All (IsEntryWithin (length names)) es
-all_within names es h = all_reversed (IsEntryWithin (length names)) es (placed_within names (reverse es) h)
+pub all_entries_are_within : (names : List (List ℕ)) (es : List ClassEntry) → IsPlaced names (reverse es) → All (IsEntryWithin (length names)) es
+all_entries_are_within names es h = all_reversed (IsEntryWithin (length names)) es (placed_entries_are_within names (reverse es) h)
 
 pub names_of_placed : (names : List (List ℕ)) (es : List ClassEntry) → IsPlaced names es → name_table (map (class_of_entry names) (reverse es)) ≡ names
 unfolding name_table first_uses
 names_of_placed names [] h = sym h
 names_of_placed names (e ∷ es) h =
     let before : List (List ℕ) = take e.names_before names in
-    let within : All (IsEntryWithin (length before)) (reverse es) = all_within before (reverse es) (subst (IsPlaced before) (sym (reverse-reverse es)) h.3) in
+    let within : All (IsEntryWithin (length before)) (reverse es) = all_entries_are_within before (reverse es) (subst (IsPlaced before) (sym (reverse-reverse es)) h.3) in
     ap (λ l. name_table (map (class_of_entry names) l)) (reverse-append (e ∷ []) es)
     ∙ ap name_table (map-append (class_of_entry names) (reverse es) (e ∷ []))
     ∙ names_more (map (class_of_entry names) (reverse es)) (class_of_entry names e)
@@ -105,20 +105,20 @@ names_of_placed names (e ∷ es) h =
 pub table_names : (names : List (List ℕ)) (es : List ClassEntry) → IsEntryTable names es → name_table (map (class_of_entry names) es) ≡ names
 table_names names es t = ap (λ l. name_table (map (class_of_entry names) l)) (sym (reverse-reverse es)) ∙ names_of_placed names (reverse es) t.placed
 
-few_placed : (names : List (List ℕ)) (es : List ClassEntry) → IsPlaced names es → All IsRoomy es → length names ≤ 65 * length es
+placed_entries_have_few_names : (names : List (List ℕ)) (es : List ClassEntry) → IsPlaced names es → All IsRoomy es → length names ≤ 65 * length es
 unfolding names_in
-few_placed names [] h r = omega (arith, ap length h)
-few_placed names (e ∷ es) h r =
+placed_entries_have_few_names names [] h r = omega (arith, ap length h)
+placed_entries_have_few_names names (e ∷ es) h r =
     let before : List (List ℕ) = take e.names_before names in
-    let rest : length before ≤ 65 * length es = few_placed before es h.3 (All-tail IsRoomy e es r) in
+    let rest : length before ≤ 65 * length es = placed_entries_have_few_names before es h.3 (All-tail IsRoomy e es r) in
     let own : length e.fields.items ≤ 64 = (All-head IsRoomy e es r).few_fields in
-    omega (arith, ap length h.2, inserted_length before (names_in (class_of_entry names e)), length-map (map (field_of_entry names) e.fields.items) (λ (f : Field). f.name), length-map e.fields.items (field_of_entry names))
+    omega (arith, ap length h.2, inserted_names_add_no_more before (names_in (class_of_entry names e)), length-map (map (field_of_entry names) e.fields.items) (λ (f : Field). f.name), length-map e.fields.items (field_of_entry names))
 
 -- at most 65 names for each class
 pub few_names : (names : List (List ℕ)) (es : List ClassEntry) → IsEntryTable names es → length names ≤ 65 * length es
 few_names names es t =
     let roomy : All IsRoomy (reverse es) = all_reversed IsRoomy (reverse es) (subst (All IsRoomy) (sym (reverse-reverse es)) t.roomy) in
-    omega (arith, few_placed names (reverse es) t.placed roomy, length-reverse es)
+    omega (arith, placed_entries_have_few_names names (reverse es) t.placed roomy, length-reverse es)
 
 -- ---- a class less
 
@@ -132,7 +132,7 @@ module _ (names : List (List ℕ)) (es : List ClassEntry) (e : ClassEntry) (t : 
 
   -- the other classes stay
   pub stays_popped : map (class_of_entry names) es ≡ map (class_of_entry (take e.names_before names)) es
-  stays_popped = classes_stay names e.names_before es (all_within (take e.names_before names) es popped.3)
+  stays_popped = classes_stay names e.names_before es (all_entries_are_within (take e.names_before names) es popped.3)
 
   less : IsClassTable [] (map (class_of_entry (take e.names_before names)) es)
   less =
@@ -167,7 +167,7 @@ module _ (names : List (List ℕ)) (es : List ClassEntry) (e : ClassEntry) (t : 
   pub popped_view : (ns : List (List ℕ)) (v : List Class) → ns ≡ take e.names_before names → map (class_of_entry names) (es ++ e ∷ []) ≡ v → map (class_of_entry ns) es ≡ take (length v - 1) v
   popped_view ns v is view_is =
       let seen : v ≡ map (class_of_entry names) es ++ class_of_entry names e ∷ [] = sym view_is ∙ map-append (class_of_entry names) es (e ∷ []) in
-      ap (λ (l : List (List ℕ)). map (class_of_entry l) es) is ∙ sym stays_popped ∙ sym (front_of (map (class_of_entry names) es) (class_of_entry names e) v seen)
+      ap (λ (l : List (List ℕ)). map (class_of_entry l) es) is ∙ sym stays_popped ∙ sym (all_but_last_are_front (map (class_of_entry names) es) (class_of_entry names e) v seen)
 
 -- ---- a class more
 
@@ -187,14 +187,14 @@ module _ (names : List (List ℕ)) (es : List ClassEntry) (t : IsEntryTable name
       ∷ (nat_lt slot_limit (length (slots_under (slot_table_after [] (map (class_of_entry names) es)) c)), FieldLimit)
       ∷ [])
   unfolding class_refusal
-  tests = none_holds _ accepted
+  tests = no_refusal_test_holds _ accepted
 
   kept : take (length names) (insert_all bytes_eq names (names_in c)) ≡ names
   kept = inserted_prefix names (names_in c)
 
   others_stay : map (class_of_entry (insert_all bytes_eq names (names_in c))) es ≡ map (class_of_entry names) es
   others_stay =
-      classes_stay (insert_all bytes_eq names (names_in c)) (length names) es (subst (λ l. All (IsEntryWithin (length l)) es) (sym kept) (all_within names es t.placed))
+      classes_stay (insert_all bytes_eq names (names_in c)) (length names) es (subst (λ l. All (IsEntryWithin (length l)) es) (sym kept) (all_entries_are_within names es t.placed))
       ∙ ap (λ l. map (class_of_entry l) es) kept
 
   -- the classes with one more
@@ -232,7 +232,7 @@ module _ (names : List (List ℕ)) (es : List ClassEntry) (t : IsEntryTable name
         ∙ ap (slot_table_after []) (sym pushed_classes);
     roomy = All-push IsRoomy es e t.roomy roomy_entry;
     sized = All-push (λ (d : ClassEntry). AreSizes d.slots.items d.sizes) es e t.sized sized;
-    short = inserted_all (λ (n : List ℕ). length n ≤ name_limit) names (names_in c) t.short (all_named (names_in c) (not-false (list_all (is_name widest_classes) (names_in c)) tests.1.1.0));
+    short = inserted_names_all_pass (λ (n : List ℕ). length n ≤ name_limit) names (names_in c) t.short (all_names_are_short (names_in c) (not-false (list_all (is_name widest_classes) (names_in c)) tests.1.1.0));
     few = omega (arith, leb-false class_limit (length (map (class_of_entry names) es)) tests.1.0, length-map es (class_of_entry names), length-append es (e ∷ []));
   }
 

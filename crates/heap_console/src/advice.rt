@@ -21,14 +21,9 @@ pub(crate) enum Advice {
     Help,
 }
 
-// Returns the first word of a text.
-fn first_word(text: &str) -> Option<&str> {
-    text.split_ascii_whitespace().next()
-}
-
-// Returns the text of a row.
-fn form_in(row: &'static str) -> Option<&'static str> {
-    row.strip_prefix("row ")
+/// Returns the form of a line by its first word, if that is a keyword.
+pub(crate) fn form_of(line: &[u8]) -> Option<&'static str> {
+    form_with(first_word(str::from_utf8(line).ok()?)?)
 }
 
 // Returns the form of the line that begins with a keyword.
@@ -37,17 +32,27 @@ fn form_with(keyword: &str) -> Option<&'static str> {
     form_in(text.lines().next()?)
 }
 
-/// Returns the form of a line by its first word, if that is a keyword.
-pub(crate) fn form_of(line: &[u8]) -> Option<&'static str> {
-    form_with(first_word(str::from_utf8(line).ok()?)?)
+// Returns the text of a row.
+fn form_in(row: &'static str) -> Option<&'static str> {
+    row.strip_prefix("row ")
 }
 
-// Returns how far a word may be from a keyword that it stands for.
-fn reach(keyword: &str) -> usize {
-    if question_help(keyword.as_bytes()).is_some() && keyword != "collect" {
-        NEAR
-    } else {
-        NEAREST
+// Returns the first word of a text.
+fn first_word(text: &str) -> Option<&str> {
+    text.split_ascii_whitespace().next()
+}
+
+// Returns the advice for a line that is no command.
+pub(crate) fn advise(alloc: Global, line: &[u8]) -> Advice {
+    if let Some(form) = form_of(line) {
+        return Advice::Form(form);
+    }
+    let Some(word) = str::from_utf8(line).ok().and_then(first_word) else {
+        return Advice::Help;
+    };
+    match nearest(alloc, word) {
+        Ok(Some(form)) => Advice::Near(form),
+        Ok(None) | Err(_) => Advice::Help,
     }
 }
 
@@ -71,17 +76,12 @@ fn nearest(alloc: Global, word: &str) -> Result<Option<&'static str>, AllocError
     Ok(found)
 }
 
-// Returns the advice for a line that is no command.
-pub(crate) fn advise(alloc: Global, line: &[u8]) -> Advice {
-    if let Some(form) = form_of(line) {
-        return Advice::Form(form);
-    }
-    let Some(word) = str::from_utf8(line).ok().and_then(first_word) else {
-        return Advice::Help;
-    };
-    match nearest(alloc, word) {
-        Ok(Some(form)) => Advice::Near(form),
-        Ok(None) | Err(_) => Advice::Help,
+// Returns how far a word may be from a keyword that it stands for.
+fn reach(keyword: &str) -> usize {
+    if question_help(keyword.as_bytes()).is_some() && keyword != "collect" {
+        NEAR
+    } else {
+        NEAREST
     }
 }
 

@@ -103,50 +103,12 @@ impl Columns {
     }
 }
 
-// Adds a number of spaces to a text.
-fn add_spaces(text: &mut Vec<u8>, count: usize) -> Result<(), AllocError> {
-    for _ in 0..count {
-        text.push(b' ')?;
-    }
-    Ok(())
-}
-
-// Adds a row with its words in columns.
-fn add_row(text: &mut Vec<u8>, row: &[u8], columns: &Columns) -> Result<(), AllocError> {
-    let mut column: usize = 0;
-    let mut due: usize = 0;
-    for word in row.split(|byte| *byte == b' ') {
-        let (before, behind) = columns.spaces_beside(column, word);
-        add_spaces(text, due.saturating_add(before).saturating_add(2))?;
-        text.extend_from_slice(word)?;
-        due = behind;
-        column = column.saturating_add(1);
-    }
-    text.push(LINE_END)?;
-    Ok(())
-}
-
-// Adds rows with their words in columns, and before them their heading.
-fn add_rows(text: &mut Vec<u8>, rows: &[&[u8]], heading: &Heading) -> Result<(), AllocError> {
-    if rows.is_empty() {
-        return Ok(());
-    }
-    let heading = heading.take().as_bytes();
-    let columns = Columns::of(rows, heading);
-    if !heading.is_empty() {
-        add_row(text, heading, &columns)?;
-    }
-    for row in rows {
-        add_row(text, row, &columns)?;
-    }
-    Ok(())
-}
-
-// Adds a line that is no row.
-fn add_line(text: &mut Vec<u8>, line: &[u8]) -> Result<(), AllocError> {
-    text.extend_from_slice(line)?;
-    text.push(LINE_END)?;
-    Ok(())
+// Returns whole lines, the last without its LF, with their rows in columns. Fails if an allocation fails.
+fn lines_in_columns(alloc: Global, lines: &[u8], heading: &Heading) -> Result<Vec<u8>, AllocError> {
+    let mut text = Vec::new(alloc);
+    let mut rows = Vec::new(alloc);
+    add_lines(&mut text, &mut rows, lines, heading)?;
+    Ok(text)
 }
 
 // Appends whole lines, the last without its LF, with their rows in columns: the rows that stand together, and then the line
@@ -170,12 +132,50 @@ fn add_lines<'a>(
     add_rows(text, rows.as_slice(), heading)
 }
 
-// Returns whole lines, the last without its LF, with their rows in columns. Fails if an allocation fails.
-fn lines_in_columns(alloc: Global, lines: &[u8], heading: &Heading) -> Result<Vec<u8>, AllocError> {
-    let mut text = Vec::new(alloc);
-    let mut rows = Vec::new(alloc);
-    add_lines(&mut text, &mut rows, lines, heading)?;
-    Ok(text)
+// Adds rows with their words in columns, and before them their heading.
+fn add_rows(text: &mut Vec<u8>, rows: &[&[u8]], heading: &Heading) -> Result<(), AllocError> {
+    if rows.is_empty() {
+        return Ok(());
+    }
+    let heading = heading.take().as_bytes();
+    let columns = Columns::of(rows, heading);
+    if !heading.is_empty() {
+        add_row(text, heading, &columns)?;
+    }
+    for row in rows {
+        add_row(text, row, &columns)?;
+    }
+    Ok(())
+}
+
+// Adds a row with its words in columns.
+fn add_row(text: &mut Vec<u8>, row: &[u8], columns: &Columns) -> Result<(), AllocError> {
+    let mut column: usize = 0;
+    let mut due: usize = 0;
+    for word in row.split(|byte| *byte == b' ') {
+        let (before, behind) = columns.spaces_beside(column, word);
+        add_spaces(text, due.saturating_add(before).saturating_add(2))?;
+        text.extend_from_slice(word)?;
+        due = behind;
+        column = column.saturating_add(1);
+    }
+    text.push(LINE_END)?;
+    Ok(())
+}
+
+// Adds a number of spaces to a text.
+fn add_spaces(text: &mut Vec<u8>, count: usize) -> Result<(), AllocError> {
+    for _ in 0..count {
+        text.push(b' ')?;
+    }
+    Ok(())
+}
+
+// Adds a line that is no row.
+fn add_line(text: &mut Vec<u8>, line: &[u8]) -> Result<(), AllocError> {
+    text.extend_from_slice(line)?;
+    text.push(LINE_END)?;
+    Ok(())
 }
 
 impl<'a, O: Outlet + Drop> ColumnOutlet<'a, O> {

@@ -11,23 +11,6 @@ use std::alloc::{AllocError, Global};
 use std::io::Read;
 use std::time::Clock;
 
-// Reports why no line was read after the newest, unless the file was read to its end or to a line `end`.
-fn report_ending<F: Read + Drop, R: Clock + Eprint>(
-    lines: &LineInlet<'_, F, R>,
-    ended: Ended,
-    limits: SessionLimits,
-) {
-    let reason = match ended {
-        Ended::Quit | Ended::Eof => return,
-        Ended::TooManyReads => return lines.report_reads(limits.reads()),
-        Ended::CutLine => "the last line has no end",
-        Ended::TooLong => "the line is too long",
-        Ended::ReadFault => "a read failed after this line",
-        Ended::WriteFault | Ended::NoMemory => "out of memory",
-    };
-    lines.report_end(reason);
-}
-
 /// Serves the lines of a file as a session of these commands, within these limits, whose answers go nowhere. Reports on
 /// standard error, by the file's name and the line's number, answer and text, each line that is no command or is refused, and
 /// why reading ended early; and, if that is a terminal, about once a second how many lines were read. Fails if an allocation
@@ -56,4 +39,21 @@ pub fn load_lines<F: Read + Drop, R: Clock + Eprint, C: Commands>(
     lines.end_count();
     report_ending(&lines, ended, limits);
     Ok(ended)
+}
+
+// Reports why no line was read after the newest, unless the file was read to its end or to a line `end`.
+fn report_ending<F: Read + Drop, R: Clock + Eprint>(
+    lines: &LineInlet<'_, F, R>,
+    ended: Ended,
+    limits: SessionLimits,
+) {
+    let reason = match ended {
+        Ended::Quit | Ended::Eof => return,
+        Ended::TooManyReads => return lines.report_reads(limits.reads()),
+        Ended::CutLine => "the last line has no end",
+        Ended::TooLong => "the line is too long",
+        Ended::ReadFault => "a read failed after this line",
+        Ended::WriteFault | Ended::NoMemory => "out of memory",
+    };
+    lines.report_end(reason);
 }

@@ -35,6 +35,17 @@ impl NewestLine {
     }
 }
 
+// Makes of the newest line the newest after further bytes.
+fn add_written(line: &mut Vec<u8>, written: &[u8]) {
+    let start = last_line(written);
+    if start > 0 || (line.last() == Some(&LINE_END) && !written.is_empty()) {
+        line.clear();
+    }
+    if line.extend_from_slice(&written[start..]).is_err() {
+        line.clear();
+    }
+}
+
 // Returns where the last line of some bytes begins, which may end in an LF.
 fn last_line(written: &[u8]) -> usize
     ensures { result ≤ length written.now }
@@ -45,17 +56,6 @@ fn last_line(written: &[u8]) -> usize
     match before.iter().rposition(|byte| *byte == LINE_END) {
         Some(end) => end + 1,
         None => 0,
-    }
-}
-
-// Makes of the newest line the newest after further bytes.
-fn add_written(line: &mut Vec<u8>, written: &[u8]) {
-    let start = last_line(written);
-    if start > 0 || (line.last() == Some(&LINE_END) && !written.is_empty()) {
-        line.clear();
-    }
-    if line.extend_from_slice(&written[start..]).is_err() {
-        line.clear();
     }
 }
 

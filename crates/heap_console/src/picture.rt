@@ -29,6 +29,63 @@ const PATTERN: &[u8] =
     b"<defs><pattern id=\"dead\" width=\"4\" height=\"4\" patternUnits=\"userSpaceOnUse\">\
     <path d=\"M0 4L4 0\" stroke=\"#000\" stroke-width=\"1\"/></pattern></defs>\n";
 
+/// Returns a picture of the current state of a machine, as SVG: a row for each region and a pixel for each word, the cells in the
+/// colours of the twelve classes with the most bytes, with dead, marked and gray objects shown, and a legend with the numbers of
+/// the histogram. Of a heap with more than 256 regions it gives rows to at most 1,024, those with the most bytes, and shows only
+/// how full each other region is. It has less than 2 MB. Fails with NoMemory if an allocation fails. Looks at each cell that it
+/// shows some twenty times.
+pub fn picture_of(alloc: Global, machine: &Machine) -> Result<Vec<u8>, Refusal> {
+    let pin = machine.pin_ago(0)?;
+    let view = machine.view(&pin);
+    let histogram = count_by_class(alloc, &view)?;
+    let ranked = ranking(alloc, &histogram)?;
+    let rows = histogram.as_slice();
+    let palette = Palette::new(alloc, rows.len(), ranked.as_slice())?;
+    let drawing = Drawing {
+        machine,
+        rows,
+        ranked: ranked.as_slice(),
+        palette: &palette,
+    };
+    let mut text = Vec::new(alloc);
+    add_picture(alloc, &mut text, &view.classes(), drawing)?;
+    Ok(text)
+}
+
+// Appends the picture of a state that has these classes.
+fn add_picture(
+    alloc: Global,
+    text: &mut Vec<u8>,
+    classes: &FirstClasses<'_>,
+    drawing: Drawing<'_>,
+) -> Result<(), AllocError> {
+    let Drawing {
+        machine,
+        rows,
+        ranked,
+        palette,
+    } = drawing;
+    let world = machine.world();
+    let regions = world.regions();
+    let shown = Rows::new(alloc, regions, world.gray())?;
+    let lines = shown.count().saturating_add(bar_lines(shown.others()));
+    let legend = middle_of(lines).saturating_add(LEGEND_STEP);
+    let behind = legend.saturating_add(LEGEND_STEP.saturating_mul(class_lines(ranked)));
+    let height = behind.saturating_add(LEGEND_STEP.saturating_mul(OTHER_LINES));
+    add_head(text, height)?;
+    add_title(text, machine.place(), rows)?;
+    add_regions(text, regions, &shown, world.gray(), palette)?;
+    add_bars(text, regions, &shown)?;
+    add_rows(alloc, text, legend, classes, rows, ranked)?;
+    add_strokes(text, behind)?;
+    add(text, b"</svg>\n")
+}
+
+// Returns the number of lines that the legend has for classes.
+fn class_lines(ranked: &[usize]) -> u64 {
+    ranked.len().min(OTHER) as u64
+}
+
 // Appends the beginning of a picture of this height.
 fn add_head(text: &mut Vec<u8>, height: u64) -> Result<(), AllocError> {
     add(text, b"<svg xmlns=\"http://www.w3.org/2000/svg\" width=\"")?;
@@ -59,33 +116,6 @@ fn add_title(text: &mut Vec<u8>, place: u64, rows: &[Row]) -> Result<(), AllocEr
     add(text, b" live objects, ")?;
     add_number(text, bytes)?;
     add(text, b" bytes</text>\n")
-}
-
-// Appends the number of each region that has a row beside it.
-fn add_labels(text: &mut Vec<u8>, regions: &Regions, rows: &Rows) -> Result<(), AllocError> {
-    for region in 0..regions.count() {
-        if let Some(row) = rows.row(region) {
-            add_text_at(text, 8, middle_of(row).saturating_add(4))?;
-            add_number(text, region)?;
-            add(text, b"</text>\n")?;
-        }
-    }
-    Ok(())
-}
-
-// Appends a path of the cells of this sort.
-fn add_sort(
-    text: &mut Vec<u8>,
-    regions: &Regions,
-    rows: &Rows,
-    palette: &Palette,
-    sort: CellSort,
-    color: &[u8],
-    width: &[u8],
-) -> Result<(), AllocError> {
-    add_path_begin(text, color, width)?;
-    add_all_cells(text, regions, rows, palette, sort)?;
-    add_path_end(text)
 }
 
 // Appends the cells of the regions that have a row.
@@ -140,6 +170,42 @@ fn add_regions(
     add_path_end(text)
 }
 
+// Appends the number of each region that has a row beside it.
+fn add_labels(text: &mut Vec<u8>, regions: &Regions, rows: &Rows) -> Result<(), AllocError> {
+    for region in 0..regions.count() {
+        if let Some(row) = rows.row(region) {
+            add_text_at(text, 8, middle_of(row).saturating_add(4))?;
+            add_number(text, region)?;
+            add(text, b"</text>\n")?;
+        }
+    }
+    Ok(())
+}
+
+// A state as it is drawn: its machine, the rows of its histogram and their order, and their colours.
+#[derive(Clone, Copy)]
+struct Drawing<'a> {
+    machine: &'a Machine,
+    rows: &'a [Row],
+    ranked: &'a [usize],
+    palette: &'a Palette,
+}
+
+// Appends a path of the cells of this sort.
+fn add_sort(
+    text: &mut Vec<u8>,
+    regions: &Regions,
+    rows: &Rows,
+    palette: &Palette,
+    sort: CellSort,
+    color: &[u8],
+    width: &[u8],
+) -> Result<(), AllocError> {
+    add_path_begin(text, color, width)?;
+    add_all_cells(text, regions, rows, palette, sort)?;
+    add_path_end(text)
+}
+
 // Appends the lines of the rows that have a colour of their own, the first at this height.
 fn add_rows(
     alloc: Global,
@@ -166,70 +232,4 @@ fn add_rows(
         }
     }
     Ok(())
-}
-
-// Returns the number of lines that the legend has for classes.
-fn class_lines(ranked: &[usize]) -> u64 {
-    ranked.len().min(OTHER) as u64
-}
-
-// A state as it is drawn: its machine, the rows of its histogram and their order, and their colours.
-#[derive(Clone, Copy)]
-struct Drawing<'a> {
-    machine: &'a Machine,
-    rows: &'a [Row],
-    ranked: &'a [usize],
-    palette: &'a Palette,
-}
-
-// Appends the picture of a state that has these classes.
-fn add_picture(
-    alloc: Global,
-    text: &mut Vec<u8>,
-    classes: &FirstClasses<'_>,
-    drawing: Drawing<'_>,
-) -> Result<(), AllocError> {
-    let Drawing {
-        machine,
-        rows,
-        ranked,
-        palette,
-    } = drawing;
-    let world = machine.world();
-    let regions = world.regions();
-    let shown = Rows::new(alloc, regions, world.gray())?;
-    let lines = shown.count().saturating_add(bar_lines(shown.others()));
-    let legend = middle_of(lines).saturating_add(LEGEND_STEP);
-    let behind = legend.saturating_add(LEGEND_STEP.saturating_mul(class_lines(ranked)));
-    let height = behind.saturating_add(LEGEND_STEP.saturating_mul(OTHER_LINES));
-    add_head(text, height)?;
-    add_title(text, machine.place(), rows)?;
-    add_regions(text, regions, &shown, world.gray(), palette)?;
-    add_bars(text, regions, &shown)?;
-    add_rows(alloc, text, legend, classes, rows, ranked)?;
-    add_strokes(text, behind)?;
-    add(text, b"</svg>\n")
-}
-
-/// Returns a picture of the current state of a machine, as SVG: a row for each region and a pixel for each word, the cells in the
-/// colours of the twelve classes with the most bytes, with dead, marked and gray objects shown, and a legend with the numbers of
-/// the histogram. Of a heap with more than 256 regions it gives rows to at most 1,024, those with the most bytes, and shows only
-/// how full each other region is. It has less than 2 MB. Fails with NoMemory if an allocation fails. Looks at each cell that it
-/// shows some twenty times.
-pub fn picture_of(alloc: Global, machine: &Machine) -> Result<Vec<u8>, Refusal> {
-    let pin = machine.pin_ago(0)?;
-    let view = machine.view(&pin);
-    let histogram = count_by_class(alloc, &view)?;
-    let ranked = ranking(alloc, &histogram)?;
-    let rows = histogram.as_slice();
-    let palette = Palette::new(alloc, rows.len(), ranked.as_slice())?;
-    let drawing = Drawing {
-        machine,
-        rows,
-        ranked: ranked.as_slice(),
-        palette: &palette,
-    };
-    let mut text = Vec::new(alloc);
-    add_picture(alloc, &mut text, &view.classes(), drawing)?;
-    Ok(text)
 }

@@ -10,11 +10,11 @@ use Rattle.heap_history.specs.declared.pack.DeedPack.{DeedPack}
 use Rattle.heap_history.specs.Packs.{action_by, action_in, event_pack}
 
 -- only definitions of classes have none
-pub numbers_there : (e : Event) → event_pack e ≡ None
+pub event_without_pack_defines_class : (e : Event) → event_pack e ≡ None
     → ((name : Name) (sup : Option ℕ) (fields : List Field) → e ≡ Class name sup fields → ⊥) → ((name : Name) → e ≡ ArrayClass name → ⊥) → ⊥
-numbers_there (Class name sup fields) is one other = one name sup fields refl
-numbers_there (ArrayClass name) is one other = other name refl
-numbers_there e is one other = cc
+event_without_pack_defines_class (Class name sup fields) is one other = one name sup fields refl
+event_without_pack_defines_class (ArrayClass name) is one other = other name refl
+event_without_pack_defines_class e is one other = cc
 
 -- the numbers tell the event
 pub pack_tells : (e : Event) → IfSome (event_pack e) (λ d. action_by d ≡ Step e)
@@ -23,12 +23,12 @@ pack_tells (Class name sup fields) = tt
 pack_tells (ArrayClass name) = tt
 pack_tells e = refl
 
-pub told_by : (e : Event) (d : DeedPack) → event_pack e ≡ Some d → action_by d ≡ Step e
-told_by e d is = subst (λ (o : Option DeedPack). IfSome o (λ d. action_by d ≡ Step e)) is (pack_tells e)
+pub event_pack_tells_step : (e : Event) (d : DeedPack) → event_pack e ≡ Some d → action_by d ≡ Step e
+event_pack_tells_step e d is = subst (λ (o : Option DeedPack). IfSome o (λ d. action_by d ≡ Step e)) is (pack_tells e)
 
-same_step : (a b : Event) → Step a ≡ Step b → a ≡ b
-same_step a b e = cc
+equal_steps_have_equal_events : (a b : Event) → Step a ≡ Step b → a ≡ b
+equal_steps_have_equal_events a b e = cc
 
 -- so two events with the same numbers are one
-pub one_event : (a b : Event) (d : DeedPack) → event_pack a ≡ Some d → event_pack b ≡ Some d → a ≡ b
-one_event a b d one other = same_step a b (sym (told_by a d one) ∙ told_by b d other)
+pub equal_packs_have_equal_events : (a b : Event) (d : DeedPack) → event_pack a ≡ Some d → event_pack b ≡ Some d → a ≡ b
+equal_packs_have_equal_events a b d one other = equal_steps_have_equal_events a b (sym (event_pack_tells_step a d one) ∙ event_pack_tells_step b d other)

@@ -2,21 +2,21 @@
 use Rattle.std.proofs.Common.{◌≡◌, ℕ, ◌+◌, ◌<◌, zero, suc, List, [], ◌∷◌, ◌++◌, drop, length, refl, ap, ◌∙◌, arith}
 use Rattle.std.specs.Prelude.{Some, slice_get}
 
-pub get_drop : {X : Type 0} (d n : ℕ) (xs : List X) → slice_get (drop d xs) n ≡ slice_get xs (d + n)
-get_drop zero n xs = let same : n ≡ 0 + n = omega arith in ap (slice_get xs) same
-get_drop (suc d) n [] = refl
-get_drop (suc d) n (x ∷ xs) = let same : suc (d + n) ≡ suc d + n = omega arith in get_drop d n xs ∙ ap (slice_get (x ∷ xs)) same
+pub item_of_dropped_list : {X : Type 0} (d n : ℕ) (xs : List X) → slice_get (drop d xs) n ≡ slice_get xs (d + n)
+item_of_dropped_list zero n xs = let same : n ≡ 0 + n = omega arith in ap (slice_get xs) same
+item_of_dropped_list (suc d) n [] = refl
+item_of_dropped_list (suc d) n (x ∷ xs) = let same : suc (d + n) ≡ suc d + n = omega arith in item_of_dropped_list d n xs ∙ ap (slice_get (x ∷ xs)) same
 
-pub get_left : {X : Type 0} (n : ℕ) (xs ys : List X) → n < length xs → slice_get (xs ++ ys) n ≡ slice_get xs n
-get_left n [] ys lt = absurd (omega (arith, lt))
-get_left zero (x ∷ xs) ys lt = refl
-get_left (suc n) (x ∷ xs) ys lt = get_left n xs ys (omega (arith, lt))
+pub item_of_left_list : {X : Type 0} (n : ℕ) (xs ys : List X) → n < length xs → slice_get (xs ++ ys) n ≡ slice_get xs n
+item_of_left_list n [] ys lt = absurd (omega (arith, lt))
+item_of_left_list zero (x ∷ xs) ys lt = refl
+item_of_left_list (suc n) (x ∷ xs) ys lt = item_of_left_list n xs ys (omega (arith, lt))
 
-pub get_right : {X : Type 0} (n m : ℕ) (xs ys : List X) → m ≡ length xs + n → slice_get (xs ++ ys) m ≡ slice_get ys n
-get_right n m [] ys e = let same : m ≡ n = omega (arith, e) in ap (slice_get ys) same
-get_right n zero (x ∷ xs) ys e = absurd (omega (arith, e))
-get_right n (suc m) (x ∷ xs) ys e = get_right n m xs ys (omega (arith, e))
+pub item_of_right_list : {X : Type 0} (n m : ℕ) (xs ys : List X) → m ≡ length xs + n → slice_get (xs ++ ys) m ≡ slice_get ys n
+item_of_right_list n m [] ys e = let same : m ≡ n = omega (arith, e) in ap (slice_get ys) same
+item_of_right_list n zero (x ∷ xs) ys e = absurd (omega (arith, e))
+item_of_right_list n (suc m) (x ∷ xs) ys e = item_of_right_list n m xs ys (omega (arith, e))
 
 -- the item after those of the list
-pub get_last : {X : Type 0} (n : ℕ) (xs : List X) (x : X) → n ≡ length xs → slice_get (xs ++ x ∷ []) n ≡ Some x
-get_last n xs x e = get_right 0 n xs (x ∷ []) (omega (arith, e))
+pub item_after_list_is_last : {X : Type 0} (n : ℕ) (xs : List X) (x : X) → n ≡ length xs → slice_get (xs ++ x ∷ []) n ≡ Some x
+item_after_list_is_last n xs x e = item_of_right_list 0 n xs (x ∷ []) (omega (arith, e))

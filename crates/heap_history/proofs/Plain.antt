@@ -22,81 +22,81 @@ use Rattle.heap_trail.specs.Trail.{rewind_refusal}
 use Rattle.heap_trail.specs.Machine.{MayReply, Machine, Granted, Denied, MayStand, acted, acted_under, after_step_at, after_result, unless, after_rewind_by, is_dump_action}
 use Rattle.heap_history.specs.History.{MayEnter}
 
-is_rare : Refusal → Bool
-is_rare NoMemory = true
-is_rare ChronicleFull = true
-is_rare r = false
+is_rare_refusal : Refusal → Bool
+is_rare_refusal NoMemory = true
+is_rare_refusal ChronicleFull = true
+is_rare_refusal r = false
 
-abbrev IsPlain : Option Refusal → Type 0
-IsPlain None = Unit {0}
-IsPlain (Some r) = is_rare r ≡ false
+abbrev IsNoRareRefusal : Option Refusal → Type 0
+IsNoRareRefusal None = Unit {0}
+IsNoRareRefusal (Some r) = is_rare_refusal r ≡ false
 
-abbrev ArePlain : List (Bool × Refusal) → Type 0
-ArePlain [] = Unit {0}
-ArePlain (t ∷ ts) = (is_rare t.1 ≡ false) × ArePlain ts
+abbrev AreNoRareRefusals : List (Bool × Refusal) → Type 0
+AreNoRareRefusals [] = Unit {0}
+AreNoRareRefusals (t ∷ ts) = (is_rare_refusal t.1 ≡ false) × AreNoRareRefusals ts
 
-one_plain : (b : Bool) (r : Refusal) (rest : Option Refusal) → is_rare r ≡ false → IsPlain rest → IsPlain (cond b (Some r) rest)
-one_plain true r rest here later = here
-one_plain false r rest here later = later
+plain_refusal_before_plain_rest : (b : Bool) (r : Refusal) (rest : Option Refusal) → is_rare_refusal r ≡ false → IsNoRareRefusal rest → IsNoRareRefusal (cond b (Some r) rest)
+plain_refusal_before_plain_rest true r rest here later = here
+plain_refusal_before_plain_rest false r rest here later = later
 
-first_plain : (ts : List (Bool × Refusal)) → ArePlain ts → IsPlain (first_refusal ts)
+first_of_plain_refusals_plain : (ts : List (Bool × Refusal)) → AreNoRareRefusals ts → IsNoRareRefusal (first_refusal ts)
 unfolding first_refusal
-first_plain [] all = tt
-first_plain (t ∷ ts) all = one_plain t.0 t.1 (first_refusal ts) all.0 (first_plain ts all.1)
+first_of_plain_refusals_plain [] all = tt
+first_of_plain_refusals_plain (t ∷ ts) all = plain_refusal_before_plain_rest t.0 t.1 (first_refusal ts) all.0 (first_of_plain_refusals_plain ts all.1)
 
-event_plain : (e : Event) (w : HeapState) → IsPlain (refusal_of e w)
-unfolding is_rare refusal_of class_refusal new_refusal new_array_refusal new_prim_refusal load_refusal store_refusal put_refusal move_refusal clear_refusal snap_refusal mark_refusal drain_refusal finish_refusal sweep_refusal
-event_plain Snap w = first_plain _ (refl, tt)
-event_plain e w = first_plain _ (search rules)
+event_plain : (e : Event) (w : HeapState) → IsNoRareRefusal (refusal_of e w)
+unfolding is_rare_refusal refusal_of class_refusal new_refusal new_array_refusal new_prim_refusal load_refusal store_refusal put_refusal move_refusal clear_refusal snap_refusal mark_refusal drain_refusal finish_refusal sweep_refusal
+event_plain Snap w = first_of_plain_refusals_plain _ (refl, tt)
+event_plain e w = first_of_plain_refusals_plain _ (search rules)
 
-abbrev IsPlainReply : Reply → Type 0
-IsPlainReply (Answered a) = Unit {0}
-IsPlainReply (Place p) = Unit {0}
-IsPlainReply (Pinned pin at) = Unit {0}
-IsPlainReply (Part p) = Unit {0}
-IsPlainReply Closed = Unit {0}
-IsPlainReply (Refused r) = is_rare r ≡ false
+abbrev IsReplyWithoutRareRefusal : Reply → Type 0
+IsReplyWithoutRareRefusal (Answered a) = Unit {0}
+IsReplyWithoutRareRefusal (Place p) = Unit {0}
+IsReplyWithoutRareRefusal (Pinned pin at) = Unit {0}
+IsReplyWithoutRareRefusal (Part p) = Unit {0}
+IsReplyWithoutRareRefusal Closed = Unit {0}
+IsReplyWithoutRareRefusal (Refused r) = is_rare_refusal r ≡ false
 
-true_false : true ≡ false → {A : Type 0} → A
-true_false e = cc e
+true_is_not_false : true ≡ false → {A : Type 0} → A
+true_is_not_false e = cc e
 
-plain_enters : (r : Reply) → IsPlainReply r → MayEnter r
-unfolding is_rare
-plain_enters r p = (λ e. true_false (subst IsPlainReply e p), λ e. true_false (subst IsPlainReply e p))
+plain_enters : (r : Reply) → IsReplyWithoutRareRefusal r → MayEnter r
+unfolding is_rare_refusal
+plain_enters r p = (λ e. true_is_not_false (subst IsReplyWithoutRareRefusal e p), λ e. true_is_not_false (subst IsReplyWithoutRareRefusal e p))
 
-applied_plain : (o : Option Refusal) (e : Event) (m : Machine) → IsPlain o → IsPlainReply (after_result e m (applied_unless o e m.trail.current)).1
+applied_plain : (o : Option Refusal) (e : Event) (m : Machine) → IsNoRareRefusal o → IsReplyWithoutRareRefusal (after_result e m (applied_unless o e m.trail.current)).1
 unfolding applied_unless after_result
 applied_plain None e m p = tt
 applied_plain (Some r) e m p = p
 
-stepped_plain : (b : Bool) (e : Event) (m : Machine) → b ≡ false → IsPlainReply (after_step_at b e m).1
+stepped_plain : (b : Bool) (e : Event) (m : Machine) → b ≡ false → IsReplyWithoutRareRefusal (after_step_at b e m).1
 unfolding after_step_at applied
-stepped_plain true e m h = true_false h
+stepped_plain true e m h = true_is_not_false h
 stepped_plain false e m h = applied_plain (refusal_of e m.trail.current) e m (event_plain e m.trail.current)
 
-rewound_plain : (o : Option Refusal) (n : ℕ) (m : Machine) → IsPlain o → IsPlainReply (unless o (after_rewind_by n) m).1
+rewound_plain : (o : Option Refusal) (n : ℕ) (m : Machine) → IsNoRareRefusal o → IsReplyWithoutRareRefusal (unless o (after_rewind_by n) m).1
 unfolding unless after_rewind_by
 rewound_plain None n m p = tt
 rewound_plain (Some r) n m p = p
 
-refused_plain : (n : ℕ) (m : Machine) → IsPlain (rewind_refusal n m.trail)
-unfolding is_rare rewind_refusal
-refused_plain n m = first_plain _ (refl, tt)
+rewind_refusal_is_plain : (n : ℕ) (m : Machine) → IsNoRareRefusal (rewind_refusal n m.trail)
+unfolding is_rare_refusal rewind_refusal
+rewind_refusal_is_plain n m = first_of_plain_refusals_plain _ (refl, tt)
 
-acted_plain : (m : Machine) (a : Action) → is_dump_action a ≡ false → m.trail.place < last_place → IsPlainReply (acted m a).1
+acted_plain : (m : Machine) (a : Action) → is_dump_action a ≡ false → m.trail.place < last_place → IsReplyWithoutRareRefusal (acted m a).1
 unfolding acted
 acted_plain m (Step e) deed h = stepped_plain (nat_le last_place m.trail.place) e m (not_last m.trail.place h)
   where
     not_last : (place : ℕ) → place < last_place → nat_le last_place place ≡ false
     not_last place h = grind (arith, h)
-acted_plain m (Rewind n) deed h = rewound_plain (rewind_refusal n m.trail) n m (refused_plain n m)
-acted_plain m (OpenPin at) deed h = true_false deed
-acted_plain m (NextPiece pin time) deed h = true_false deed
-acted_plain m (ClosePin pin) deed h = true_false deed
+acted_plain m (Rewind n) deed h = rewound_plain (rewind_refusal n m.trail) n m (rewind_refusal_is_plain n m)
+acted_plain m (OpenPin at) deed h = true_is_not_false deed
+acted_plain m (NextPiece pin time) deed h = true_is_not_false deed
+acted_plain m (ClosePin pin) deed h = true_is_not_false deed
 
 -- what a machine replies before the last place may be an entry
 reply_enters : (m m' : Machine) (a : Action) (r : Reply) → is_dump_action a ≡ false → m.trail.place < last_place → acted m a ≡ (m', r) → MayEnter r
-reply_enters m m' a r deed h is = plain_enters r (subst IsPlainReply (ap (λ (x : Machine × Reply). x.1) is) (acted_plain m a deed h))
+reply_enters m m' a r deed h is = plain_enters r (subst IsReplyWithoutRareRefusal (ap (λ (x : Machine × Reply). x.1) is) (acted_plain m a deed h))
 
 -- an action that is done or refused for another reason than memory
 pub fine_enters : (m m' : Machine) (a b : Action) (r : Reply) → is_dump_action b ≡ false → m.trail.place < last_place → a ≡ b → acted m b ≡ (m', r) → MayReply m a m' r × MayEnter r

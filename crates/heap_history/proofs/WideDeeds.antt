@@ -11,7 +11,7 @@ use Rattle.heap_history.specs.declared.pack.WideDeed.TheVariants as WideDeeds
 use Rattle.heap_history.specs.Definitions.{fields_of, name_of}
 use Rattle.heap_history.specs.Kept.{is_kept_event, is_short, letter_room}
 use Rattle.heap_history.specs.Packs.{event_pack, wide_action}
-use Rattle.heap_history.proofs.EventPacks.{told_by}
+use Rattle.heap_history.proofs.EventPacks.{event_pack_tells_step}
 
 pub class_kept : (e : Event) (name : List ℕ) (sup : Option ℕ) (fields : List Field) (d : Definition) → e ≡ Class name sup fields → is_short name fields ≡ true → name_of d ≡ name → fields_of d ≡ fields
     → (is_kept_event e ≡ true) × (wide_action (WideDeeds.Class sup d) ≡ Step e)
@@ -31,6 +31,6 @@ event_kept (Class name sup fields) d is = absurd (cc)
 event_kept (ArrayClass name) d is = absurd (cc)
 event_kept e d is = refl
 
-pub numbers_kept : (e : Event) (d : DeedPack) → event_pack e ≡ Some d → (is_kept_event e ≡ true) × (wide_action (WideDeeds.Numbers d) ≡ Step e)
+pub packed_event_is_kept : (e : Event) (d : DeedPack) → event_pack e ≡ Some d → (is_kept_event e ≡ true) × (wide_action (WideDeeds.Numbers d) ≡ Step e)
 unfolding wide_action
-numbers_kept e d is = (event_kept e d is, told_by e d is)
+packed_event_is_kept e d is = (event_kept e d is, event_pack_tells_step e d is)

@@ -13,13 +13,6 @@ use heap_class::Refusal;
 use heap_trail::{Action, Machine};
 use std::snapshot::Snapshot;
 
-// Tells whether an allocation failed.
-fn is_no_memory(refusal: Refusal) -> bool
-    ensures { MatchBool result (refusal ≡ NoMemory) (refusal ≢ NoMemory) }
-{
-    matches!(refusal, Refusal::NoMemory)
-}
-
 // Does an event or a rewind and returns the answer, or None if an allocation failed.
 fn take_step(machine: &mut Machine, action: &Action) -> Option<Outcome>
     requires deed { is_dump_action action.now ≡ false }
@@ -44,6 +37,13 @@ fn take_step(machine: &mut Machine, action: &Action) -> Option<Outcome>
         },
         _ => unreachable!(),
     }
+}
+
+// Tells whether an allocation failed.
+fn is_no_memory(refusal: Refusal) -> bool
+    ensures { MatchBool result (refusal ≡ NoMemory) (refusal ≢ NoMemory) }
+{
+    matches!(refusal, Refusal::NoMemory)
 }
 
 impl Chronicle {

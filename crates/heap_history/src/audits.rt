@@ -19,32 +19,6 @@ pub enum Verdict {
     Dropped,
 }
 
-// Returns whether the receipt names an entry with this action, or None if its entry was dropped or isn't kept.
-fn names_entry(chronicle: &Chronicle, action: &Action, receipt: &Receipt) -> Option<bool>
-    requires { 0 < receipt.now.turn }
-    ensures kept { IfSome result
-        (λ b. IsKnownTurn (dropped_of chronicle.now.rolls (length chronicle.now.entries))
-        chronicle.now.entries receipt.now.turn
-        × (IsTrue b ↔ NamesEntry chronicle.now.entries action.now receipt.now)) }
-    ensures unkept { IfNone result
-        (IsKnownTurn (dropped_of chronicle.now.rolls (length chronicle.now.entries))
-        chronicle.now.entries receipt.now.turn → ⊥) }
-{
-    let at = receipt.turn as usize - 1;
-    chronicle.is_done(at, receipt.seat, action, receipt.answer)
-}
-
-// Returns whether the receipt names an entry with this action, or its entry was dropped or isn't kept.
-fn agrees(chronicle: &Chronicle, action: &Action, receipt: &Receipt) -> bool
-    requires { 0 < receipt.now.turn }
-    ensures { IsTrue result ↔
-        (IsKnownTurn (dropped_of chronicle.now.rolls (length chronicle.now.entries))
-        chronicle.now.entries receipt.now.turn
-        → NamesEntry chronicle.now.entries action.now receipt.now) }
-{
-    names_entry(chronicle, action, receipt).unwrap_or(true)
-}
-
 // Returns whether the turns rise along the list and each receipt whose entry is kept names it, with the action beside it.
 fn all_agree(chronicle: &Chronicle, claims: &[(Action, Receipt)]) -> bool
     ensures { IsTrue result ↔
@@ -59,6 +33,32 @@ fn all_agree(chronicle: &Chronicle, claims: &[(Action, Receipt)]) -> bool
         last = claim.1.turn;
     }
     true
+}
+
+// Returns whether the receipt names an entry with this action, or its entry was dropped or isn't kept.
+fn agrees(chronicle: &Chronicle, action: &Action, receipt: &Receipt) -> bool
+    requires { 0 < receipt.now.turn }
+    ensures { IsTrue result ↔
+        (IsKnownTurn (dropped_of chronicle.now.rolls (length chronicle.now.entries))
+        chronicle.now.entries receipt.now.turn
+        → NamesEntry chronicle.now.entries action.now receipt.now) }
+{
+    names_entry(chronicle, action, receipt).unwrap_or(true)
+}
+
+// Returns whether the receipt names an entry with this action, or None if its entry was dropped or isn't kept.
+fn names_entry(chronicle: &Chronicle, action: &Action, receipt: &Receipt) -> Option<bool>
+    requires { 0 < receipt.now.turn }
+    ensures kept { IfSome result
+        (λ b. IsKnownTurn (dropped_of chronicle.now.rolls (length chronicle.now.entries))
+        chronicle.now.entries receipt.now.turn
+        × (IsTrue b ↔ NamesEntry chronicle.now.entries action.now receipt.now)) }
+    ensures unkept { IfNone result
+        (IsKnownTurn (dropped_of chronicle.now.rolls (length chronicle.now.entries))
+        chronicle.now.entries receipt.now.turn → ⊥) }
+{
+    let at = receipt.turn as usize - 1;
+    chronicle.is_done(at, receipt.seat, action, receipt.answer)
 }
 
 // Returns whether no receipt is that of an entry that was dropped or isn't kept.
@@ -78,7 +78,7 @@ fn are_kept(chronicle: &Chronicle, claims: &[(Action, Receipt)]) -> bool
 impl Chronicle {
     /// Returns whether the turns rise along the list and each names an entry with the seat and the answer of its receipt and
     /// the action beside it; of a receipt whose entry was dropped or isn't kept whole nothing can be said. Takes no memory.
-    #[tactic(auto, using(crate::proofs::AuditLaws::all_named))]
+    #[tactic(auto, using(crate::proofs::AuditLaws::kept_claims_are_audited))]
     pub fn audit(&self, claims: &[(Action, Receipt)]) -> Verdict
         ensures { IsVerdict (dropped_of self.now.rolls (length self.now.entries)) self.now.entries
             claims.now result }

@@ -59,6 +59,30 @@ fn pack_at(form: Form, place: u64) -> Pack
     }
 }
 
+// Returns whether the pack tells the entry of the seat, the action and the answer, or None if it tells none.
+fn tells(
+    wides: &[WidePack],
+    pack: &Pack,
+    seat: u64,
+    action: &Action,
+    answer: Outcome,
+) -> Option<bool>
+    requires { HasPlace (length wides.now) pack.now }
+    ensures kept { IfSome result
+        (λ b. (entry_in wides.now pack.now ≢ None)
+        × (IsTrue b ↔ (entry_in wides.now pack.now ≡ Some (entry seat action.now answer)))) }
+    ensures unkept { IfNone result (entry_in wides.now pack.now ≡ None) }
+{
+    match pack.form {
+        Form::Numbers => Some(is_of(&unpack(pack), seat, action, answer)),
+        Form::Wide => {
+            let wide = &wides[pack.first as usize];
+            Some(is_wide_pack_of(wide, seat, action, answer))
+        }
+        Form::Nothing => None,
+    }
+}
+
 // Returns whether this is the entry of the seat, the action and the answer.
 fn is_of(at: &Entry, seat: u64, action: &Action, answer: Outcome) -> bool
     ensures { IsTrue result ↔ (at.now ≡ entry seat action.now answer) }
@@ -82,30 +106,6 @@ fn unpack(pack: &Pack) -> Entry
             fourth_beside(pack.told, pack.fourth),
         ),
         answer: outcome_in(pack.told, pack.reason, pack.told_first, pack.fourth),
-    }
-}
-
-// Returns whether the pack tells the entry of the seat, the action and the answer, or None if it tells none.
-fn tells(
-    wides: &[WidePack],
-    pack: &Pack,
-    seat: u64,
-    action: &Action,
-    answer: Outcome,
-) -> Option<bool>
-    requires { HasPlace (length wides.now) pack.now }
-    ensures kept { IfSome result
-        (λ b. (entry_in wides.now pack.now ≢ None)
-        × (IsTrue b ↔ (entry_in wides.now pack.now ≡ Some (entry seat action.now answer)))) }
-    ensures unkept { IfNone result (entry_in wides.now pack.now ≡ None) }
-{
-    match pack.form {
-        Form::Numbers => Some(is_of(&unpack(pack), seat, action, answer)),
-        Form::Wide => {
-            let wide = &wides[pack.first as usize];
-            Some(is_wide_pack_of(wide, seat, action, answer))
-        }
-        Form::Nothing => None,
     }
 }
 

@@ -56,20 +56,6 @@ impl Model for Chronicle {
         (entries_of c.noted.items) };
 }
 
-// Drops the entries of the older block, which is the newer one then. Returns how many they were.
-#[inline(never)]
-fn roll(older: &mut EntryBlock, newer: &mut EntryBlock) -> usize
-    ensures older { older.new.entries ≡ newer.old.entries }
-    ensures newer { newer.new.entries ≡ [] }
-    ensures room { older.old.room ≤ newer.new.room }
-    ensures dropped { result ≡ length older.old.entries }
-{
-    let dropped = older.len();
-    older.clear();
-    swap(older, newer);
-    dropped
-}
-
 // Makes way for one more entry in the newer of two blocks, before which `dropped` entries were dropped. Returns how many are
 // dropped then.
 #[inline(always)]
@@ -86,6 +72,20 @@ fn make_way(older: &mut EntryBlock, newer: &mut EntryBlock, dropped: usize) -> u
     } else {
         dropped
     }
+}
+
+// Drops the entries of the older block, which is the newer one then. Returns how many they were.
+#[inline(never)]
+fn roll(older: &mut EntryBlock, newer: &mut EntryBlock) -> usize
+    ensures older { older.new.entries ≡ newer.old.entries }
+    ensures newer { newer.new.entries ≡ [] }
+    ensures room { older.old.room ≤ newer.new.room }
+    ensures dropped { result ≡ length older.old.entries }
+{
+    let dropped = older.len();
+    older.clear();
+    swap(older, newer);
+    dropped
 }
 
 impl Chronicle {

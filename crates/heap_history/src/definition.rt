@@ -39,6 +39,21 @@ pub struct Definition {
 // The letters of several names, one after another.
 type Letters = ArrayVec<u8, LETTER_ROOM>;
 
+// Returns the letters of a name and then of the fields' names, or None if they are too many.
+fn letters_of(name: &Name, fields: &[Field]) -> Option<Letters>
+    ensures { MatchOption result (letter_room < length (all_letters name.now fields.now))
+        (λ l. l.items ≡ all_letters name.now fields.now) }
+{
+    let mut letters = ArrayVec::new();
+    if letters.try_extend_from_slice(name.as_bytes()).is_err() {
+        return None;
+    }
+    if !add_names(&mut letters, fields) {
+        return None;
+    }
+    Some(letters)
+}
+
 // Appends the names of fields. Returns whether there was room for all of them.
 fn add_names(letters: &mut Letters, fields: &[Field]) -> bool
     ensures { MatchBool result
@@ -56,21 +71,6 @@ fn add_names(letters: &mut Letters, fields: &[Field]) -> bool
     true
 }
 
-// Returns the letters of a name and then of the fields' names, or None if they are too many.
-fn letters_of(name: &Name, fields: &[Field]) -> Option<Letters>
-    ensures { MatchOption result (letter_room < length (all_letters name.now fields.now))
-        (λ l. l.items ≡ all_letters name.now fields.now) }
-{
-    let mut letters = ArrayVec::new();
-    if letters.try_extend_from_slice(name.as_bytes()).is_err() {
-        return None;
-    }
-    if !add_names(&mut letters, fields) {
-        return None;
-    }
-    Some(letters)
-}
-
 // Returns letters at the beginning of a room of a fixed size.
 fn placed_letters(letters: &[u8]) -> [u8; LETTER_ROOM]
     requires { length letters.now ≤ letter_room }
@@ -79,17 +79,6 @@ fn placed_letters(letters: &[u8]) -> [u8; LETTER_ROOM]
     let mut room = [0; LETTER_ROOM];
     room[..letters.len()].copy_from_slice(letters);
     room
-}
-
-// Returns the mark of a field.
-fn mark_of(field: &Field) -> FieldMark
-    requires { length field.now.name ≤ letter_room }
-    ensures { result ≡ mark_of field.now }
-{
-    FieldMark {
-        kind: field.kind,
-        length: field.name.as_bytes().len() as u8,
-    }
 }
 
 // Returns the marks of the fields at the beginning of a room of a fixed size.
@@ -109,26 +98,15 @@ fn placed_marks(fields: &[Field]) -> [FieldMark; FIELD_ROOM]
     marks
 }
 
-// Returns the first `count` letters, and those after them.
-fn split(letters: &[u8], count: u8) -> (&[u8], &[u8])
-    ensures first { result.0.now ≡ take count letters.now }
-    ensures after { result.1.now ≡ drop count letters.now }
+// Returns the mark of a field.
+fn mark_of(field: &Field) -> FieldMark
+    requires { length field.now.name ≤ letter_room }
+    ensures { result ≡ mark_of field.now }
 {
-    letters.split_at(min(count as usize, letters.len()))
-}
-
-// Returns whether these are the letters of the name.
-fn is_name(letters: &[u8], name: &Name) -> bool
-    ensures { IsTrue result ↔ (letters.now ≡ name.now) }
-{
-    letters == name.as_bytes()
-}
-
-// Returns whether this is the field of the name and the kind.
-fn is_field(letters: &[u8], kind: Kind, field: &Field) -> bool
-    ensures { IsTrue result ↔ (record { name = letters.now; kind = kind } ≡ field.now) }
-{
-    is_same_kind(kind, field.kind) && is_name(letters, &field.name)
+    FieldMark {
+        kind: field.kind,
+        length: field.name.as_bytes().len() as u8,
+    }
 }
 
 // Returns whether these are the fields that the marks and the letters tell.
@@ -147,6 +125,28 @@ fn are_fields(marks: &[FieldMark], letters: &[u8], fields: &[Field]) -> bool
         left = after;
     }
     true
+}
+
+// Returns the first `count` letters, and those after them.
+fn split(letters: &[u8], count: u8) -> (&[u8], &[u8])
+    ensures first { result.0.now ≡ take count letters.now }
+    ensures after { result.1.now ≡ drop count letters.now }
+{
+    letters.split_at(min(count as usize, letters.len()))
+}
+
+// Returns whether this is the field of the name and the kind.
+fn is_field(letters: &[u8], kind: Kind, field: &Field) -> bool
+    ensures { IsTrue result ↔ (record { name = letters.now; kind = kind } ≡ field.now) }
+{
+    is_same_kind(kind, field.kind) && is_name(letters, &field.name)
+}
+
+// Returns whether these are the letters of the name.
+fn is_name(letters: &[u8], name: &Name) -> bool
+    ensures { IsTrue result ↔ (letters.now ≡ name.now) }
+{
+    letters == name.as_bytes()
 }
 
 impl Definition {

@@ -30,21 +30,6 @@ pub(crate) fn deed_pack(deed: Deed, first: u64, second: u64, third: u64, fourth:
     }
 }
 
-// Returns a new array of values by its numbers.
-#[inline(always)]
-fn new_prim(m: u64, r: u64, kind: Kind, len: u64) -> DeedPack
-    ensures { Some result ≡ event_pack (NewPrim m r kind len) }
-{
-    DeedPack {
-        deed: Deed::NewPrim,
-        kind,
-        first: m,
-        second: r,
-        third: len,
-        fourth: 0,
-    }
-}
-
 /// Returns the numbers of an event, or None if it has lists. Takes no memory.
 #[inline(always)]
 pub fn pack_event(event: &Event) -> Option<DeedPack>
@@ -85,29 +70,30 @@ pub fn pack_event(event: &Event) -> Option<DeedPack>
     }
 }
 
-// Returns the numbers of a deed, or None if it has lists or is a dumper's.
+// Returns a new array of values by its numbers.
 #[inline(always)]
-#[tactic(auto, using(crate::proofs::EventPacks::pack_tells))]
-fn pack_action(action: &Action) -> Option<DeedPack>
-    ensures { IfSome result (λ d. action_by d ≡ action.now) }
+fn new_prim(m: u64, r: u64, kind: Kind, len: u64) -> DeedPack
+    ensures { Some result ≡ event_pack (NewPrim m r kind len) }
 {
-    match action {
-        Action::Step(event) => pack_event(event),
-        Action::Rewind(n) => Some(deed_pack(Deed::Rewind, *n, 0, 0, 0)),
-        _ => None,
+    DeedPack {
+        deed: Deed::NewPrim,
+        kind,
+        first: m,
+        second: r,
+        third: len,
+        fourth: 0,
     }
 }
 
-// Returns an answer of this sort.
+// Returns the numbers of an answer.
 #[inline(always)]
-fn answer_pack(told: Told, first: u64, second: u64) -> AnswerPack
-    ensures { result ≡ record { told = told; reason = 0; first = first; second = second } }
+pub(crate) fn pack_outcome(outcome: Outcome) -> AnswerPack
+    ensures { outcome_by result ≡ outcome }
 {
-    AnswerPack {
-        told,
-        reason: 0,
-        first,
-        second,
+    match outcome {
+        Outcome::Answered(answer) => pack_answer(answer),
+        Outcome::Place(place) => answer_pack(Told::Place, place, 0),
+        Outcome::Refused(refusal) => pack_refusal(refusal),
     }
 }
 
@@ -125,6 +111,19 @@ fn pack_answer(answer: Answer) -> AnswerPack
         Answer::Pushed(count) => answer_pack(Told::Pushed, count, 0),
         Answer::Condemned(count) => answer_pack(Told::Condemned, count, 0),
         Answer::Swept { dead, emptied } => pack_swept(dead, emptied),
+    }
+}
+
+// Returns an answer of this sort.
+#[inline(always)]
+fn answer_pack(told: Told, first: u64, second: u64) -> AnswerPack
+    ensures { result ≡ record { told = told; reason = 0; first = first; second = second } }
+{
+    AnswerPack {
+        told,
+        reason: 0,
+        first,
+        second,
     }
 }
 
@@ -156,16 +155,11 @@ fn pack_refusal(refusal: Refusal) -> AnswerPack
     }
 }
 
-// Returns the numbers of an answer.
-#[inline(always)]
-pub(crate) fn pack_outcome(outcome: Outcome) -> AnswerPack
-    ensures { outcome_by result ≡ outcome }
+// Returns the deed's fourth number, by the number in the place that it shares with the answer's second one.
+pub(crate) fn fourth_beside(told: Told, shared: u64) -> u64
+    ensures { result ≡ fourth_beside told shared }
 {
-    match outcome {
-        Outcome::Answered(answer) => pack_answer(answer),
-        Outcome::Place(place) => answer_pack(Told::Place, place, 0),
-        Outcome::Refused(refusal) => pack_refusal(refusal),
-    }
+    if has_second(told) { 0 } else { shared }
 }
 
 // Returns whether the answer has a second number.
@@ -179,11 +173,44 @@ fn has_second(told: Told) -> bool
     }
 }
 
-// Returns the deed's fourth number, by the number in the place that it shares with the answer's second one.
-pub(crate) fn fourth_beside(told: Told, shared: u64) -> u64
-    ensures { result ≡ fourth_beside told shared }
+/// Returns an entry by its numbers, or None if it has lists, too many numbers, or a seat above 65,535. Takes no memory.
+#[inline(always)]
+pub fn pack_of(entry: &Entry) -> Option<Pack>
+    ensures { IfSome result (λ p. TellsEntry p entry.now) }
 {
-    if has_second(told) { 0 } else { shared }
+    let seat = entry.seat;
+    if seat > u16::MAX as u64 {
+        return None;
+    }
+    let deed = pack_action(&entry.action)?;
+    pack_numbers(seat as u16, deed, pack_outcome(entry.answer))
+}
+
+// Returns the numbers of a deed, or None if it has lists or is a dumper's.
+#[inline(always)]
+#[tactic(auto, using(crate::proofs::EventPacks::pack_tells))]
+fn pack_action(action: &Action) -> Option<DeedPack>
+    ensures { IfSome result (λ d. action_by d ≡ action.now) }
+{
+    match action {
+        Action::Step(event) => pack_event(event),
+        Action::Rewind(n) => Some(deed_pack(Deed::Rewind, *n, 0, 0, 0)),
+        _ => None,
+    }
+}
+
+// Returns the pack of a deed and an answer, or None if both have a number for the place that they share.
+#[inline(always)]
+fn pack_numbers(seat: u16, deed: DeedPack, answer: AnswerPack) -> Option<Pack>
+    ensures { IfSome result (λ p. TellsEntry p (entry seat (action_by deed) (outcome_by answer))) }
+{
+    if !has_second(answer.told) {
+        return Some(join_packs(seat, deed, answer, deed.fourth));
+    }
+    if deed.fourth != 0 {
+        return None;
+    }
+    Some(join_packs(seat, deed, answer, answer.second))
 }
 
 // Returns the pack of a deed and an answer with this number in the place that they share.
@@ -206,31 +233,4 @@ fn join_packs(seat: u16, deed: DeedPack, answer: AnswerPack, shared: u64) -> Pac
         told: answer.told,
         reason: answer.reason,
     }
-}
-
-// Returns the pack of a deed and an answer, or None if both have a number for the place that they share.
-#[inline(always)]
-fn pack_numbers(seat: u16, deed: DeedPack, answer: AnswerPack) -> Option<Pack>
-    ensures { IfSome result (λ p. TellsEntry p (entry seat (action_by deed) (outcome_by answer))) }
-{
-    if !has_second(answer.told) {
-        return Some(join_packs(seat, deed, answer, deed.fourth));
-    }
-    if deed.fourth != 0 {
-        return None;
-    }
-    Some(join_packs(seat, deed, answer, answer.second))
-}
-
-/// Returns an entry by its numbers, or None if it has lists, too many numbers, or a seat above 65,535. Takes no memory.
-#[inline(always)]
-pub fn pack_of(entry: &Entry) -> Option<Pack>
-    ensures { IfSome result (λ p. TellsEntry p entry.now) }
-{
-    let seat = entry.seat;
-    if seat > u16::MAX as u64 {
-        return None;
-    }
-    let deed = pack_action(&entry.action)?;
-    pack_numbers(seat as u16, deed, pack_outcome(entry.answer))
 }

@@ -11,20 +11,55 @@ use heap_class::{ClassNo, Fields, Kind, LostCause, Name, Refusal};
 use heap_step::{Answer, Event};
 use heap_trail::Action;
 
-// Returns whether two lists of fields are equal.
-#[tactic(auto, using(crate::proofs::Fields::fields_decide))]
-fn are_same_fields(a: &Fields, b: &Fields) -> bool
-    ensures { IsTrue result ↔ (a.now ≡ b.now) }
+// Returns whether two kinds are equal.
+pub(crate) fn is_same_kind(a: Kind, b: Kind) -> bool
+    ensures { IsTrue result ↔ (a ≡ b) }
 {
-    *a == *b
+    a == b
 }
 
-// Returns whether two names are equal.
-#[tactic(auto, using(crate::proofs::Fields::names_decide))]
-fn is_same_name(a: &Name, b: &Name) -> bool
+/// Returns whether two events are equal.
+pub fn is_same_event(a: &Event, b: &Event) -> bool
     ensures { IsTrue result ↔ (a.now ≡ b.now) }
 {
-    *a == *b
+    match pack_event(a) {
+        Some(one) => match pack_event(b) {
+            Some(other) => is_same_deed(one, other),
+            None => false,
+        },
+        None => is_same_definition(a, b),
+    }
+}
+
+// Returns whether two deeds have the same sort, kind and numbers.
+fn is_same_deed(a: DeedPack, b: DeedPack) -> bool
+    ensures { IsTrue result ↔ (a ≡ b) }
+{
+    is_same_sort(a.deed, b.deed)
+        && is_same_kind(a.kind, b.kind)
+        && a.first == b.first
+        && a.second == b.second
+        && a.third == b.third
+        && a.fourth == b.fourth
+}
+
+// Returns whether two sorts of deeds are equal.
+fn is_same_sort(a: Deed, b: Deed) -> bool
+    ensures { IsTrue result ↔ (a ≡ b) }
+{
+    a == b
+}
+
+// Returns whether two events that have lists are equal.
+fn is_same_definition(a: &Event, b: &Event) -> bool
+    requires { event_pack a.now ≡ None }
+    ensures { IsTrue result ↔ (a.now ≡ b.now) }
+{
+    match a {
+        Event::Class { name, sup, fields } => is_class(b, name, *sup, fields),
+        Event::ArrayClass { name } => is_array_class(b, name),
+        _ => unreachable!(),
+    }
 }
 
 // Returns whether the event is a definition of this class.
@@ -41,6 +76,22 @@ fn is_class(other: &Event, name: &Name, sup: Option<ClassNo>, fields: &Fields) -
     }
 }
 
+// Returns whether two names are equal.
+#[tactic(auto, using(crate::proofs::Fields::names_decide))]
+fn is_same_name(a: &Name, b: &Name) -> bool
+    ensures { IsTrue result ↔ (a.now ≡ b.now) }
+{
+    *a == *b
+}
+
+// Returns whether two lists of fields are equal.
+#[tactic(auto, using(crate::proofs::Fields::fields_decide))]
+fn are_same_fields(a: &Fields, b: &Fields) -> bool
+    ensures { IsTrue result ↔ (a.now ≡ b.now) }
+{
+    *a == *b
+}
+
 // Returns whether the event is a definition of this array class.
 fn is_array_class(other: &Event, name: &Name) -> bool
     ensures { IsTrue result ↔ (other.now ≡ Event.ArrayClass name.now) }
@@ -48,57 +99,6 @@ fn is_array_class(other: &Event, name: &Name) -> bool
     match other {
         Event::ArrayClass { name: its_name } => is_same_name(its_name, name),
         _ => false,
-    }
-}
-
-// Returns whether two sorts of deeds are equal.
-fn is_same_sort(a: Deed, b: Deed) -> bool
-    ensures { IsTrue result ↔ (a ≡ b) }
-{
-    a == b
-}
-
-// Returns whether two kinds are equal.
-pub(crate) fn is_same_kind(a: Kind, b: Kind) -> bool
-    ensures { IsTrue result ↔ (a ≡ b) }
-{
-    a == b
-}
-
-// Returns whether two deeds have the same sort, kind and numbers.
-fn is_same_deed(a: DeedPack, b: DeedPack) -> bool
-    ensures { IsTrue result ↔ (a ≡ b) }
-{
-    is_same_sort(a.deed, b.deed)
-        && is_same_kind(a.kind, b.kind)
-        && a.first == b.first
-        && a.second == b.second
-        && a.third == b.third
-        && a.fourth == b.fourth
-}
-
-// Returns whether two events that have lists are equal.
-fn is_same_definition(a: &Event, b: &Event) -> bool
-    requires { event_pack a.now ≡ None }
-    ensures { IsTrue result ↔ (a.now ≡ b.now) }
-{
-    match a {
-        Event::Class { name, sup, fields } => is_class(b, name, *sup, fields),
-        Event::ArrayClass { name } => is_array_class(b, name),
-        _ => unreachable!(),
-    }
-}
-
-/// Returns whether two events are equal.
-pub fn is_same_event(a: &Event, b: &Event) -> bool
-    ensures { IsTrue result ↔ (a.now ≡ b.now) }
-{
-    match pack_event(a) {
-        Some(one) => match pack_event(b) {
-            Some(other) => is_same_deed(one, other),
-            None => false,
-        },
-        None => is_same_definition(a, b),
     }
 }
 
@@ -151,21 +151,6 @@ pub fn details(refusal: Refusal) -> (u64, u64)
     }
 }
 
-// Returns whether two refusals are equal.
-#[tactic(auto, using(crate::proofs::Refusals::one_refusal))]
-fn is_same_refusal(a: Refusal, b: Refusal) -> bool
-    ensures { IsTrue result ↔ (a ≡ b) }
-{
-    a.number() == b.number() && details(a) == details(b)
-}
-
-// Returns whether two answers of steps are equal.
-fn is_same_told(a: Answer, b: Answer) -> bool
-    ensures { IsTrue result ↔ (a ≡ b) }
-{
-    a == b
-}
-
 /// Returns whether two answers are equal.
 pub fn is_same_answer(a: Outcome, b: Outcome) -> bool
     ensures { IsTrue result ↔ (a ≡ b) }
@@ -184,4 +169,19 @@ pub fn is_same_answer(a: Outcome, b: Outcome) -> bool
             _ => false,
         },
     }
+}
+
+// Returns whether two answers of steps are equal.
+fn is_same_told(a: Answer, b: Answer) -> bool
+    ensures { IsTrue result ↔ (a ≡ b) }
+{
+    a == b
+}
+
+// Returns whether two refusals are equal.
+#[tactic(auto, using(crate::proofs::Refusals::one_refusal))]
+fn is_same_refusal(a: Refusal, b: Refusal) -> bool
+    ensures { IsTrue result ↔ (a ≡ b) }
+{
+    a.number() == b.number() && details(a) == details(b)
 }

@@ -15,6 +15,35 @@ use heap_class::{ClassNo, Kind, LostCause, Refusal};
 use heap_step::{Answer, Event};
 use heap_trail::Action;
 
+/// Returns the deed of this sort with these numbers. Takes no memory.
+pub fn action_in(deed: Deed, kind: Kind, first: u64, second: u64, third: u64, fourth: u64) -> Action
+    ensures { result ≡ action_in deed kind first second third fourth }
+{
+    match deed {
+        Deed::New => Action::Step(Event::New {
+            m: first,
+            r: second,
+            class: third,
+        }),
+        Deed::NewArray => new_array(first, second, third, fourth),
+        Deed::NewPrim => new_prim(first, second, kind, third),
+        Deed::Load => load(first, second, third, fourth),
+        Deed::Store => store(first, second, third, fourth),
+        Deed::Put => put(first, second, third, fourth),
+        Deed::Move => copy(first, second, third, fourth),
+        Deed::Clear => Action::Step(Event::Clear {
+            m: first,
+            r: second,
+        }),
+        Deed::Snap => Action::Step(Event::Snap),
+        Deed::Mark => Action::Step(Event::Mark),
+        Deed::Drain => Action::Step(Event::Drain),
+        Deed::Finish => Action::Step(Event::Finish),
+        Deed::Sweep => Action::Step(Event::Sweep { region: first }),
+        Deed::Rewind => Action::Rewind(first),
+    }
+}
+
 // Returns the action that makes an object array.
 fn new_array(m: u64, r: u64, class: ClassNo, len: u64) -> Action
     ensures { result ≡ Step (NewArray m r class len) }
@@ -72,44 +101,31 @@ fn copy(m: u64, to: u64, from_m: u64, from: u64) -> Action
     })
 }
 
-/// Returns the deed of this sort with these numbers. Takes no memory.
-pub fn action_in(deed: Deed, kind: Kind, first: u64, second: u64, third: u64, fourth: u64) -> Action
-    ensures { result ≡ action_in deed kind first second third fourth }
+/// Returns the answer of this sort with these numbers.
+pub fn outcome_in(told: Told, reason: u8, first: u64, second: u64) -> Outcome
+    ensures { result ≡ outcome_in told reason first second }
 {
-    match deed {
-        Deed::New => Action::Step(Event::New {
-            m: first,
-            r: second,
-            class: third,
-        }),
-        Deed::NewArray => new_array(first, second, third, fourth),
-        Deed::NewPrim => new_prim(first, second, kind, third),
-        Deed::Load => load(first, second, third, fourth),
-        Deed::Store => store(first, second, third, fourth),
-        Deed::Put => put(first, second, third, fourth),
-        Deed::Move => copy(first, second, third, fourth),
-        Deed::Clear => Action::Step(Event::Clear {
-            m: first,
-            r: second,
-        }),
-        Deed::Snap => Action::Step(Event::Snap),
-        Deed::Mark => Action::Step(Event::Mark),
-        Deed::Drain => Action::Step(Event::Drain),
-        Deed::Finish => Action::Step(Event::Finish),
-        Deed::Sweep => Action::Step(Event::Sweep { region: first }),
-        Deed::Rewind => Action::Rewind(first),
+    match told {
+        Told::Class => Outcome::Answered(Answer::Class(first)),
+        Told::Object => Outcome::Answered(Answer::Object(first)),
+        Told::Null => Outcome::Answered(Answer::Null),
+        Told::Value => Outcome::Answered(Answer::Value(first)),
+        Told::Done => Outcome::Answered(Answer::Done),
+        Told::Pushed => Outcome::Answered(Answer::Pushed(first)),
+        Told::Condemned => Outcome::Answered(Answer::Condemned(first)),
+        Told::Swept => swept(first, false),
+        Told::Emptied => swept(first, true),
+        Told::Place => Outcome::Place(first),
+        Told::Refused => Outcome::Refused(refusal_from(reason, first, 0)),
+        Told::RefusedInFull => Outcome::Refused(refusal_from(reason, first, second)),
     }
 }
 
-// Returns the cause of this number.
-fn cause_from(number: u64) -> LostCause
-    ensures { result ≡ cause_from number }
+// Returns the answer of a sweep.
+fn swept(dead: u64, emptied: bool) -> Outcome
+    ensures { result ≡ Said (Swept emptied dead) }
 {
-    match number {
-        0 => LostCause::Rewound,
-        1 => LostCause::Memory,
-        _ => LostCause::Closed,
-    }
+    Outcome::Answered(Answer::Swept { dead, emptied })
 }
 
 // Returns the refusal of this number with these details.
@@ -154,29 +170,13 @@ fn refusal_from(number: u8, first: u64, second: u64) -> Refusal
     }
 }
 
-// Returns the answer of a sweep.
-fn swept(dead: u64, emptied: bool) -> Outcome
-    ensures { result ≡ Said (Swept emptied dead) }
+// Returns the cause of this number.
+fn cause_from(number: u64) -> LostCause
+    ensures { result ≡ cause_from number }
 {
-    Outcome::Answered(Answer::Swept { dead, emptied })
-}
-
-/// Returns the answer of this sort with these numbers.
-pub fn outcome_in(told: Told, reason: u8, first: u64, second: u64) -> Outcome
-    ensures { result ≡ outcome_in told reason first second }
-{
-    match told {
-        Told::Class => Outcome::Answered(Answer::Class(first)),
-        Told::Object => Outcome::Answered(Answer::Object(first)),
-        Told::Null => Outcome::Answered(Answer::Null),
-        Told::Value => Outcome::Answered(Answer::Value(first)),
-        Told::Done => Outcome::Answered(Answer::Done),
-        Told::Pushed => Outcome::Answered(Answer::Pushed(first)),
-        Told::Condemned => Outcome::Answered(Answer::Condemned(first)),
-        Told::Swept => swept(first, false),
-        Told::Emptied => swept(first, true),
-        Told::Place => Outcome::Place(first),
-        Told::Refused => Outcome::Refused(refusal_from(reason, first, 0)),
-        Told::RefusedInFull => Outcome::Refused(refusal_from(reason, first, second)),
+    match number {
+        0 => LostCause::Rewound,
+        1 => LostCause::Memory,
+        _ => LostCause::Closed,
     }
 }

@@ -19,6 +19,42 @@ use heap_class::ClassNo;
 use heap_step::Event;
 use heap_trail::Action;
 
+/// Returns the wide pack of an entry, or None if the entry isn't kept. Takes no memory.
+pub fn wide_of(entry: &Entry) -> Option<WidePack>
+    ensures { MatchOption result (is_kept entry.now ≡ false)
+        (λ w. (is_kept entry.now ≡ true) × (wide_entry w ≡ entry.now)) }
+{
+    let deed = wide_deed(&entry.action)?;
+    Some(WidePack {
+        seat: entry.seat,
+        deed,
+        answer: pack_outcome(entry.answer),
+    })
+}
+
+// Returns the wide deed of an action, or None if it isn't kept.
+fn wide_deed(action: &Action) -> Option<WideDeed>
+    ensures { MatchOption result (is_kept_action action.now ≡ false)
+        (λ d. (is_kept_action action.now ≡ true) × (wide_action d ≡ action.now)) }
+{
+    match action {
+        Action::Step(event) => wide_event(event),
+        Action::Rewind(n) => Some(WideDeed::Numbers(deed_pack(Deed::Rewind, *n, 0, 0, 0))),
+        _ => None,
+    }
+}
+
+// Returns the wide deed of an event, or None if it isn't kept.
+fn wide_event(event: &Event) -> Option<WideDeed>
+    ensures { MatchOption result (is_kept_event event.now ≡ false)
+        (λ d. (is_kept_event event.now ≡ true) × (wide_action d ≡ Step event.now)) }
+{
+    match pack_event(event) {
+        Some(deed) => Some(WideDeed::Numbers(deed)),
+        None => wide_definition(event),
+    }
+}
+
 // Returns the wide deed of a definition, or None if it isn't kept.
 fn wide_definition(event: &Event) -> Option<WideDeed>
     requires { event_pack event.now ≡ None }
@@ -39,40 +75,43 @@ fn wide_definition(event: &Event) -> Option<WideDeed>
     }
 }
 
-// Returns the wide deed of an event, or None if it isn't kept.
-fn wide_event(event: &Event) -> Option<WideDeed>
-    ensures { MatchOption result (is_kept_event event.now ≡ false)
-        (λ d. (is_kept_event event.now ≡ true) × (wide_action d ≡ Step event.now)) }
+/// Returns whether this is the wide pack of the seat, the action and the answer. Takes no memory.
+pub fn is_wide_pack_of(wide: &WidePack, seat: u64, action: &Action, answer: Outcome) -> bool
+    ensures { IsTrue result ↔ (wide_entry wide.now ≡ entry seat action.now answer) }
 {
-    match pack_event(event) {
-        Some(deed) => Some(WideDeed::Numbers(deed)),
-        None => wide_definition(event),
+    wide.seat == seat && is_deed_of(&wide.deed, action) && tells_answer(wide.answer, answer)
+}
+
+// Returns whether this is the wide deed of the action.
+fn is_deed_of(deed: &WideDeed, action: &Action) -> bool
+    ensures { IsTrue result ↔ (wide_action deed.now ≡ action.now) }
+{
+    match deed {
+        WideDeed::Numbers(numbers) => tells_action(*numbers, action),
+        WideDeed::Class { sup, definition } => match action {
+            Action::Step(event) => defines_class(definition, *sup, event),
+            _ => false,
+        },
+        WideDeed::ArrayClass(definition) => match action {
+            Action::Step(event) => defines_array_class(definition, event),
+            _ => false,
+        },
     }
 }
 
-// Returns the wide deed of an action, or None if it isn't kept.
-fn wide_deed(action: &Action) -> Option<WideDeed>
-    ensures { MatchOption result (is_kept_action action.now ≡ false)
-        (λ d. (is_kept_action action.now ≡ true) × (wide_action d ≡ action.now)) }
+// Returns whether the numbers are those of the action.
+fn tells_action(deed: DeedPack, action: &Action) -> bool
+    ensures { IsTrue result ↔ (action_by deed ≡ action.now) }
 {
-    match action {
-        Action::Step(event) => wide_event(event),
-        Action::Rewind(n) => Some(WideDeed::Numbers(deed_pack(Deed::Rewind, *n, 0, 0, 0))),
-        _ => None,
-    }
-}
-
-/// Returns the wide pack of an entry, or None if the entry isn't kept. Takes no memory.
-pub fn wide_of(entry: &Entry) -> Option<WidePack>
-    ensures { MatchOption result (is_kept entry.now ≡ false)
-        (λ w. (is_kept entry.now ≡ true) × (wide_entry w ≡ entry.now)) }
-{
-    let deed = wide_deed(&entry.action)?;
-    Some(WidePack {
-        seat: entry.seat,
-        deed,
-        answer: pack_outcome(entry.answer),
-    })
+    let its_action = action_in(
+        deed.deed,
+        deed.kind,
+        deed.first,
+        deed.second,
+        deed.third,
+        deed.fourth,
+    );
+    is_same_action(&its_action, action)
 }
 
 // Returns whether the event is the definition of a class with this super.
@@ -100,49 +139,10 @@ fn defines_array_class(definition: &Definition, event: &Event) -> bool
     }
 }
 
-// Returns whether the numbers are those of the action.
-fn tells_action(deed: DeedPack, action: &Action) -> bool
-    ensures { IsTrue result ↔ (action_by deed ≡ action.now) }
-{
-    let its_action = action_in(
-        deed.deed,
-        deed.kind,
-        deed.first,
-        deed.second,
-        deed.third,
-        deed.fourth,
-    );
-    is_same_action(&its_action, action)
-}
-
-// Returns whether this is the wide deed of the action.
-fn is_deed_of(deed: &WideDeed, action: &Action) -> bool
-    ensures { IsTrue result ↔ (wide_action deed.now ≡ action.now) }
-{
-    match deed {
-        WideDeed::Numbers(numbers) => tells_action(*numbers, action),
-        WideDeed::Class { sup, definition } => match action {
-            Action::Step(event) => defines_class(definition, *sup, event),
-            _ => false,
-        },
-        WideDeed::ArrayClass(definition) => match action {
-            Action::Step(event) => defines_array_class(definition, event),
-            _ => false,
-        },
-    }
-}
-
 // Returns whether the numbers are those of the answer.
 fn tells_answer(pack: AnswerPack, answer: Outcome) -> bool
     ensures { IsTrue result ↔ (outcome_by pack ≡ answer) }
 {
     let its_answer = outcome_in(pack.told, pack.reason, pack.first, pack.second);
     is_same_answer(its_answer, answer)
-}
-
-/// Returns whether this is the wide pack of the seat, the action and the answer. Takes no memory.
-pub fn is_wide_pack_of(wide: &WidePack, seat: u64, action: &Action, answer: Outcome) -> bool
-    ensures { IsTrue result ↔ (wide_entry wide.now ≡ entry seat action.now answer) }
-{
-    wide.seat == seat && is_deed_of(&wide.deed, action) && tells_answer(wide.answer, answer)
 }

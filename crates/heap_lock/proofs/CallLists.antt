@@ -23,8 +23,8 @@ calls_push : (es : List Entry) (e : Entry) → map call_of (es ++ e ∷ []) ≡ 
 calls_push [] e = refl
 calls_push (x ∷ es) e = ap (λ l. call_of x ∷ l) (calls_push es e)
 
-leads_more : (config : HeapSettings) (cs : List Call) (m m' : Machine) (c : Call) → LeadsTo config cs m → MayReply m c.0 m' c.1 → LeadsTo config (cs ++ c ∷ []) m'
-leads_more config cs m m' c leads may =
+calls_lead_one_further : (config : HeapSettings) (cs : List Call) (m m' : Machine) (c : Call) → LeadsTo config cs m → MayReply m c.0 m' c.1 → LeadsTo config (cs ++ c ∷ []) m'
+calls_lead_one_further config cs m m' c leads may =
     let start = opening_machine config.limits config.ids config.regions config.mutators config.keep in
     subst (λ (x : List Action × List Reply). MayDrive start x.0 x.1 m') (λ i. (sym (actions_push cs c) i, sym (replies_push cs c) i))
     (driven_more start (map (λ (x : Call). x.0) cs) (map (λ (x : Call). x.1) cs) m m' c.0 c.1 leads may)
@@ -36,34 +36,34 @@ acts_push cs c b is =
     ∙ ap (λ (l : List Call). filter (λ (x : Call). not (is_dump_action x.0)) cs ++ l) (ap (λ (d : Bool). if not d then c ∷ [] else []) is)
 
 -- an act, with its entry
-pub acted_more : (config : HeapSettings) (m m' : Machine) (es : List Entry) (cs : List Call) (e : Entry) → IsLedger config m es cs → is_dump_action e.action ≡ false → MayReply m e.action m' (reply_of e.answer)
+pub act_with_entry_in_ledger : (config : HeapSettings) (m m' : Machine) (es : List Entry) (cs : List Call) (e : Entry) → IsLedger config m es cs → is_dump_action e.action ≡ false → MayReply m e.action m' (reply_of e.answer)
     → IsLedger config m' (es ++ e ∷ []) (cs ++ call_of e ∷ [])
-acted_more config m m' es cs e l deed may = record {
-  leads = leads_more config cs m m' (call_of e) l.leads may;
+act_with_entry_in_ledger config m m' es cs e l deed may = record {
+  leads = calls_lead_one_further config cs m m' (call_of e) l.leads may;
   acts = acts_push cs (call_of e) false deed ∙ ap (λ x. x ++ call_of e ∷ []) l.acts ∙ sym (calls_push es e);
 }
 
 -- a dumper's call, which has none
-pub dumped_more : (config : HeapSettings) (m m' : Machine) (es : List Entry) (cs : List Call) (c : Call) → IsLedger config m es cs → is_dump_action c.0 ≡ true → MayReply m c.0 m' c.1 → IsLedger config m' es (cs ++ c ∷ [])
-dumped_more config m m' es cs c l dump may = record {
-  leads = leads_more config cs m m' c l.leads may;
+pub dump_call_in_ledger : (config : HeapSettings) (m m' : Machine) (es : List Entry) (cs : List Call) (c : Call) → IsLedger config m es cs → is_dump_action c.0 ≡ true → MayReply m c.0 m' c.1 → IsLedger config m' es (cs ++ c ∷ [])
+dump_call_in_ledger config m m' es cs c l dump may = record {
+  leads = calls_lead_one_further config cs m m' c l.leads may;
   acts = acts_push cs c true dump ∙ append-nil _ ∙ l.acts;
 }
 
 -- no call leads to the opening machine
-pub none_yet : (config : HeapSettings) → IsLedger config (opening_machine config.limits config.ids config.regions config.mutators config.keep) [] []
+pub opening_ledger_has_no_calls : (config : HeapSettings) → IsLedger config (opening_machine config.limits config.ids config.regions config.mutators config.keep) [] []
 unfolding acts_in
-none_yet config = record { leads = driven_none _; acts = refl }
+opening_ledger_has_no_calls config = record { leads = driven_none _; acts = refl }
 
 -- ---- a list of calls in two
 
 abbrev pub Leads : Machine → List Call → Machine → Type 0
 Leads m cs n = MayDrive m (map (λ c. c.0) cs) (map (λ c. c.1) cs) n
 
-pub leads_head : (m n : Machine) (c : Call) (cs : List Call) → Leads m (c ∷ cs) n → (k : Machine) × MayReply m c.0 k c.1 × Leads k cs n
+pub first_call_leads_to_middle : (m n : Machine) (c : Call) (cs : List Call) → Leads m (c ∷ cs) n → (k : Machine) × MayReply m c.0 k c.1 × Leads k cs n
 unfolding machine_after replies_of
-leads_head m n c cs ([], actions, marks, replies, ends) = absurd (cc actions)
-leads_head m n c cs (x ∷ marked, actions, marks, replies, ends) =
+first_call_leads_to_middle m n c cs ([], actions, marks, replies, ends) = absurd (cc actions)
+first_call_leads_to_middle m n c cs (x ∷ marked, actions, marks, replies, ends) =
     let first : x.0 ≡ c.0 = cc actions in
     let rest : map (λ a. a.0) marked ≡ map (λ (y : Call). y.0) cs = cc actions in
     let reply : c.1 ≡ (acted_under m x).1 = cc replies in
@@ -73,9 +73,9 @@ leads_head m n c cs (x ∷ marked, actions, marks, replies, ends) =
       (marked, rest, marks.1, later, ends),
     )
 
-leads_cons : (m k n : Machine) (c : Call) (cs : List Call) → MayReply m c.0 k c.1 → Leads k cs n → Leads m (c ∷ cs) n
+calls_lead_from_first_call : (m k n : Machine) (c : Call) (cs : List Call) → MayReply m c.0 k c.1 → Leads k cs n → Leads m (c ∷ cs) n
 unfolding machine_after replies_of
-leads_cons m k n c cs may l = (
+calls_lead_from_first_call m k n c cs may l = (
   (c.0, may.0) ∷ l.0,
   ap (λ t. c.0 ∷ t) l.1,
   (may.1, subst (λ (x : Machine). AreAllocations x l.0) (sym (ap (λ (x : Machine × Reply). x.0) may.2)) l.2),
@@ -84,16 +84,16 @@ leads_cons m k n c cs may l = (
 )
 
 -- the machine between
-pub leads_split : (m n : Machine) (cs ds : List Call) → Leads m (cs ++ ds) n → (k : Machine) × Leads m cs k × Leads k ds n
-leads_split m n [] ds l = (m, driven_none m, l)
-leads_split m n (c ∷ cs) ds l =
-    let h = leads_head m n c (cs ++ ds) l in
-    let t = leads_split h.0 n cs ds h.2 in
-    (t.0, leads_cons m h.0 t.0 c cs h.1 t.1, t.2)
+pub calls_split_at_middle_machine : (m n : Machine) (cs ds : List Call) → Leads m (cs ++ ds) n → (k : Machine) × Leads m cs k × Leads k ds n
+calls_split_at_middle_machine m n [] ds l = (m, driven_none m, l)
+calls_split_at_middle_machine m n (c ∷ cs) ds l =
+    let h = first_call_leads_to_middle m n c (cs ++ ds) l in
+    let t = calls_split_at_middle_machine h.0 n cs ds h.2 in
+    (t.0, calls_lead_from_first_call m h.0 t.0 c cs h.1 t.1, t.2)
 
 -- some machine replied so to the last call
-pub last_replied : (m n : Machine) (cs : List Call) (c : Call) → Leads m (cs ++ c ∷ []) n → (k : Machine) × (l : Machine) × MayReply k c.0 l c.1
-last_replied m n cs c l =
-    let s = leads_split m n cs (c ∷ []) l in
-    let h = leads_head s.0 n c [] s.2 in
+pub last_call_was_replied : (m n : Machine) (cs : List Call) (c : Call) → Leads m (cs ++ c ∷ []) n → (k : Machine) × (l : Machine) × MayReply k c.0 l c.1
+last_call_was_replied m n cs c l =
+    let s = calls_split_at_middle_machine m n cs (c ∷ []) l in
+    let h = first_call_leads_to_middle s.0 n c [] s.2 in
     (s.0, h.0, h.1)

@@ -18,34 +18,34 @@ use Rattle.heap_lock.specs.LedgerViews.{calls_of}
 use Rattle.heap_lock.specs.Ledgers.{all_in, calls_in, HasCalls, HasLedger, IsLedgerView, CallsAs}
 use Rattle.heap_history.specs.Chronicles.{ChronicleState}
 use Rattle.heap_lock.specs.LockStates.{LockState, IsDumperAct, IsUnderLock, lock_state}
-use Rattle.heap_lock.proofs.CallLists.{acted_more, dumped_more}
+use Rattle.heap_lock.proofs.CallLists.{act_with_entry_in_ledger, dump_call_in_ledger}
 
-done_moves : (m m' : Machine) (a : Action) (r : Reply) → acted m a ≡ (m', r) → MayReply m a m' r
+plain_action_may_reply : (m m' : Machine) (a : Action) (r : Reply) → acted m a ≡ (m', r) → MayReply m a m' r
 unfolding acted_under
-done_moves m m' a r is = (Granted, tt, is)
+plain_action_may_reply m m' a r is = (Granted, tt, is)
 
-refused_moves : (m m' : Machine) (a : Action) (e : Refusal) → MayFail m a m' e → m' ≡ m → MayReply m a m' (Refused e)
+refused_action_may_reply : (m m' : Machine) (a : Action) (e : Refusal) → MayFail m a m' e → m' ≡ m → MayReply m a m' (Refused e)
 unfolding acted_under
-refused_moves m m' a e (inl is) same = done_moves m m' a (Refused e) is
-refused_moves m m' a e (inr t) same = (Denied, t.0, λ i. (sym same i, Refused (sym t.1 i)))
+refused_action_may_reply m m' a e (inl is) same = plain_action_may_reply m m' a (Refused e) is
+refused_action_may_reply m m' a e (inr t) same = (Denied, t.0, λ i. (sym same i, Refused (sym t.1 i)))
 
-all_as : (l l' : Ledger) (calls : List Call) → CallsAs l l' calls → all_in l' ≡ calls
-all_as l l' calls as' = ap (λ m. calls_of m.0) as'.1.1
+all_calls_of_ledger : (l l' : Ledger) (calls : List Call) → CallsAs l l' calls → all_in l' ≡ calls
+all_calls_of_ledger l l' calls as' = ap (λ m. calls_of m.0) as'.1.1
 
 -- a ledger that has these calls now
-pub gained : (config : HeapSettings) (table : TableId) (m : Machine) (es : List Entry) (l l' : Ledger) (calls : List Call) → HasCalls table (all_in l) l → IsLedger config m es calls → CallsAs l l' calls → HasLedger config table m es l'
-gained config table m es l l' calls has is as' =
-    let all = all_as l l' calls as' in
+pub ledger_holds_these_calls : (config : HeapSettings) (table : TableId) (m : Machine) (es : List Entry) (l l' : Ledger) (calls : List Call) → HasCalls table (all_in l) l → IsLedger config m es calls → CallsAs l l' calls → HasLedger config table m es l'
+ledger_holds_these_calls config table m es l l' calls has is as' =
+    let all = all_calls_of_ledger l l' calls as' in
     ((has.0, as'.0 ∙ has.1, (as'.1.0 ∙ has.2.0, as'.1.1 ∙ ap (λ cs. (Full cs, [])) (sym all))), subst (IsLedger config m es) (sym all) is)
 
 -- a ledger that gained the call of an act has all calls
-pub acted_has : (config : HeapSettings) (table : TableId) (m m' : Machine) (es : List Entry) (l l' : Ledger) (e : Entry) → HasLedger config table m es l → is_dump_action e.action ≡ false → MayReply m e.action m' (reply_of e.answer)
+pub ledger_holds_call_of_act : (config : HeapSettings) (table : TableId) (m m' : Machine) (es : List Entry) (l l' : Ledger) (e : Entry) → HasLedger config table m es l → is_dump_action e.action ≡ false → MayReply m e.action m' (reply_of e.answer)
     → CallsAs l l' (all_in l ++ call_of e ∷ []) → HasLedger config table m' (es ++ e ∷ []) l'
-acted_has config table m m' es l l' e has deed may as' = gained config table m' (es ++ e ∷ []) l l' (all_in l ++ call_of e ∷ []) has.0 (acted_more config m m' es (all_in l) e has.1 deed may) as'
+ledger_holds_call_of_act config table m m' es l l' e has deed may as' = ledger_holds_these_calls config table m' (es ++ e ∷ []) l l' (all_in l ++ call_of e ∷ []) has.0 (act_with_entry_in_ledger config m m' es (all_in l) e has.1 deed may) as'
 
 -- the ledger's own table is the one it is to have
-pub own_table : (table : TableId) (calls : List Call) (l : Ledger) → HasCalls table calls l → HasCalls (table_of l) calls l
-own_table table calls l h = subst (λ t. HasCalls t calls l) (sym h.1) h
+pub ledger_has_own_table : (table : TableId) (calls : List Call) (l : Ledger) → HasCalls table calls l → HasCalls (table_of l) calls l
+ledger_has_own_table table calls l h = subst (λ t. HasCalls t calls l) (sym h.1) h
 
 -- the reply that a call's result is
 abbrev pub replied : {A : Type 0} → (A → Reply) → Result A Refusal → Reply
@@ -53,42 +53,42 @@ replied reply (Ok p) = reply p
 replied reply (Err e) = Refused e
 
 -- whatever a call's result is, the machine may reply it
-pub may_reply : {A : Type 0} (m m' : Machine) (a : Action) (reply : A → Reply) (r : Result A Refusal)
+pub result_may_be_replied : {A : Type 0} (m m' : Machine) (a : Action) (reply : A → Reply) (r : Result A Refusal)
     → IfOk r (λ p. acted m a ≡ (m', reply p)) → IfErr r (λ e. MayFail m a m' e) → OnErr r (m' ≡ m) → MayReply m a m' (replied reply r)
-may_reply m m' a reply (Ok p) done refused same = done_moves m m' a (reply p) done
-may_reply m m' a reply (Err e) done refused same = refused_moves m m' a e refused same
+result_may_be_replied m m' a reply (Ok p) done refused same = plain_action_may_reply m m' a (reply p) done
+result_may_be_replied m m' a reply (Err e) done refused same = refused_action_may_reply m m' a e refused same
 
 -- a ledger that gained the call has all calls
-pub dumped_has : (config : HeapSettings) (table : TableId) (m m' : Machine) (es : List Entry) (l l' : Ledger) (c : Call) → HasLedger config table m es l → is_dump_action c.0 ≡ true → MayReply m c.0 m' c.1
+pub ledger_holds_dump_call : (config : HeapSettings) (table : TableId) (m m' : Machine) (es : List Entry) (l l' : Ledger) (c : Call) → HasLedger config table m es l → is_dump_action c.0 ≡ true → MayReply m c.0 m' c.1
     → CallsAs l l' (all_in l ++ c ∷ []) → HasLedger config table m' es l'
-dumped_has config table m m' es l l' c has dump may as' =
-    let more : IsLedger config m' es (all_in l ++ c ∷ []) = dumped_more config m m' es (all_in l) c has.1 dump may in
-    gained config table m' es l l' (all_in l ++ c ∷ []) has.0 more as'
+ledger_holds_dump_call config table m m' es l l' c has dump may as' =
+    let more : IsLedger config m' es (all_in l ++ c ∷ []) = dump_call_in_ledger config m m' es (all_in l) c has.1 dump may in
+    ledger_holds_these_calls config table m' es l l' (all_in l ++ c ∷ []) has.0 more as'
 
-pub dumped_done : {A : Type 0} (k : LockState) (m m' : Machine) (ch : ChronicleState) (l l' : Ledger) (a : Action) (reply : A → Reply) (r : Result A Refusal)
+pub dumper_act_done_under_lock : {A : Type 0} (k : LockState) (m m' : Machine) (ch : ChronicleState) (l l' : Ledger) (a : Action) (reply : A → Reply) (r : Result A Refusal)
     → lock_state m ch (all_in l) ≡ k → MayReply m a m' (replied reply r) → CallsAs l l' (all_in l ++ (a, replied reply r) ∷ [])
     → IfOk r (λ p. IsDumperAct a k (reply p) (lock_state m' ch (all_in l'))) × IfErr r (λ e. IsDumperAct a k (Refused e) (lock_state m' ch (all_in l')))
-dumped_done k m m' ch l l' a reply (Ok p) was may as' =
-    (subst (λ (h : LockState). IsDumperAct a h (reply p) (lock_state m' ch (all_in l'))) was (may, refl, all_as l l' _ as', refl), tt)
-dumped_done k m m' ch l l' a reply (Err e) was may as' =
-    (tt, subst (λ (h : LockState). IsDumperAct a h (Refused e) (lock_state m' ch (all_in l'))) was (may, refl, all_as l l' _ as', refl))
+dumper_act_done_under_lock k m m' ch l l' a reply (Ok p) was may as' =
+    (subst (λ (h : LockState). IsDumperAct a h (reply p) (lock_state m' ch (all_in l'))) was (may, refl, all_calls_of_ledger l l' _ as', refl), tt)
+dumper_act_done_under_lock k m m' ch l l' a reply (Err e) was may as' =
+    (tt, subst (λ (h : LockState). IsDumperAct a h (Refused e) (lock_state m' ch (all_in l'))) was (may, refl, all_calls_of_ledger l l' _ as', refl))
 
 -- a call that takes no memory
-pub plainly : {A : Type 0} (m m' : Machine) (a : Action) (r : Result A Refusal) → IfErr r (λ e. acted m a ≡ (m', Refused e)) → IfErr r (λ e. MayFail m a m' e)
-plainly m m' a (Ok p) refused = tt
-plainly m m' a (Err e) refused = inl refused
+pub memoryless_error_may_fail : {A : Type 0} (m m' : Machine) (a : Action) (r : Result A Refusal) → IfErr r (λ e. acted m a ≡ (m', Refused e)) → IfErr r (λ e. MayFail m a m' e)
+memoryless_error_may_fail m m' a (Ok p) refused = tt
+memoryless_error_may_fail m m' a (Err e) refused = inl refused
 
 -- all calls of a heap under its lock are a legal ledger
-pub legal_of : (config : HeapSettings) (tables : List TableId) (table : TableId) (m : Machine) (es : List Entry) (seat_tables : List SeatTable) (l : Ledger) → IsUnderLock config tables m es seat_tables → HasLedger config table m es l → IsLegalLedger config (all_in l)
-legal_of config tables table m es seat_tables l k has = (m, es, has.1, k.legal)
+pub ledger_under_lock_is_legal : (config : HeapSettings) (tables : List TableId) (table : TableId) (m : Machine) (es : List Entry) (seat_tables : List SeatTable) (l : Ledger) → IsUnderLock config tables m es seat_tables → HasLedger config table m es l → IsLegalLedger config (all_in l)
+ledger_under_lock_is_legal config tables table m es seat_tables l k has = (m, es, has.1, k.legal)
 
 -- one who has seen all calls of the ledger has seen a legal ledger
-pub viewed : (config : HeapSettings) (tables : List TableId) (table : TableId) (m : Machine) (es : List Entry) (seat_tables : List SeatTable) (l : Ledger) (b : Badge LedgerView) → IsUnderLock config tables m es seat_tables → HasLedger config table m es l → IsLedgerView (table_of l) (all_in l) b
+pub viewed_ledger_is_legal : (config : HeapSettings) (tables : List TableId) (table : TableId) (m : Machine) (es : List Entry) (seat_tables : List SeatTable) (l : Ledger) (b : Badge LedgerView) → IsUnderLock config tables m es seat_tables → HasLedger config table m es l → IsLedgerView (table_of l) (all_in l) b
     → IsLedgerView table (calls_in b.views) b × IsLegalLedger config (calls_in b.views)
-viewed config tables table m es seat_tables l b k has s =
+viewed_ledger_is_legal config tables table m es seat_tables l b k has s =
     let here : calls_in b.views ≡ all_in l = ap calls_in s.1 in
-    ((s.0 ∙ has.0.1, s.1 ∙ ap (λ (cs : List Call). Seen cs ∷ []) (sym here)), subst (IsLegalLedger config) (sym here) (legal_of config tables table m es seat_tables l k has))
+    ((s.0 ∙ has.0.1, s.1 ∙ ap (λ (cs : List Call). Seen cs ∷ []) (sym here)), subst (IsLegalLedger config) (sym here) (ledger_under_lock_is_legal config tables table m es seat_tables l k has))
 
 -- they are those of its machine and its chronicle
-pub heap_of : (config : HeapSettings) (tables : List TableId) (table : TableId) (m : Machine) (es : List Entry) (seat_tables : List SeatTable) (l : Ledger) → IsUnderLock config tables m es seat_tables → HasLedger config table m es l → IsHeapLedger config m es (all_in l)
-heap_of config tables table m es seat_tables l k has = (has.1, k.legal)
+pub ledger_under_lock_is_heaps : (config : HeapSettings) (tables : List TableId) (table : TableId) (m : Machine) (es : List Entry) (seat_tables : List SeatTable) (l : Ledger) → IsUnderLock config tables m es seat_tables → HasLedger config table m es l → IsHeapLedger config m es (all_in l)
+ledger_under_lock_is_heaps config tables table m es seat_tables l k has = (has.1, k.legal)

@@ -20,58 +20,58 @@ use Rattle.heap_history.specs.declared.entry.Entry.{Entry}
 use Rattle.heap_history.specs.declared.entry.Outcome.{Outcome}
 use Rattle.heap_history.specs.History.{entry, reply_of, opening, machine_at, trail_after, reply_at, MayEnter, IsDue, IsLegalHistory, history_trail, entries_by}
 use Rattle.heap_lock.specs.LockStates.{AllSeated, table_at, IsSeatTable, IsUnderLock}
-use Rattle.heap_trail.proofs.ByTrail.{acts_alike, dumps_leave, place_after}
+use Rattle.heap_trail.proofs.ByTrail.{acts_alike, dumps_leave, place_rises_at_most_one}
 
 -- an act that is entered leaves the trail and is answered by the trail alone
-pub by_trail : (m m' : Machine) (a : Action) (r : Reply) → is_dump_action a ≡ false → MayReply m a m' r → MayEnter r → (m'.trail ≡ trail_after m.keep m.trail a) × (r ≡ reply_at m.keep m.trail a) × (m'.keep ≡ m.keep) × (m'.ids ≡ m.ids)
+pub entered_act_follows_trail : (m m' : Machine) (a : Action) (r : Reply) → is_dump_action a ≡ false → MayReply m a m' r → MayEnter r → (m'.trail ≡ trail_after m.keep m.trail a) × (r ≡ reply_at m.keep m.trail a) × (m'.keep ≡ m.keep) × (m'.ids ≡ m.ids)
 unfolding trail_after reply_at
-by_trail m m' a r deed (mark, stands, is) enters = acts_alike Eight m m' a mark r deed is enters.0
+entered_act_follows_trail m m' a r deed (mark, stands, is) enters = acts_alike Eight m m' a mark r deed is enters.0
 
-trail_place : (keep : ℕ) (t : Trail) (a : Action) → (trail_after keep t a).place ≤ t.place + 1
+action_raises_place_by_one : (keep : ℕ) (t : Trail) (a : Action) → (trail_after keep t a).place ≤ t.place + 1
 unfolding trail_after
-trail_place keep t a = place_after (machine_at keep t) a
+action_raises_place_by_one keep t a = place_rises_at_most_one (machine_at keep t) a
 
-pub goes_on : (keep : ℕ) (t : Trail) (es : List Entry) (e : Entry) → IsLegalHistory keep t es → IsDue keep (history_trail keep t es) e → IsLegalHistory keep t (es ++ e ∷ [])
+pub due_entry_extends_legal_history : (keep : ℕ) (t : Trail) (es : List Entry) (e : Entry) → IsLegalHistory keep t es → IsDue keep (history_trail keep t es) e → IsLegalHistory keep t (es ++ e ∷ [])
 unfolding history_trail
-goes_on keep t [] e legal due = (due, tt)
-goes_on keep t (f ∷ es) e legal due = (legal.0, goes_on keep (trail_after keep t f.action) es e legal.1 due)
+due_entry_extends_legal_history keep t [] e legal due = (due, tt)
+due_entry_extends_legal_history keep t (f ∷ es) e legal due = (legal.0, due_entry_extends_legal_history keep (trail_after keep t f.action) es e legal.1 due)
 
 -- the last entry of a legal history is due there
-pub last_due : (keep : ℕ) (t : Trail) (es : List Entry) (e : Entry) → IsLegalHistory keep t (es ++ e ∷ []) → IsDue keep (history_trail keep t es) e
+pub last_entry_of_history_due : (keep : ℕ) (t : Trail) (es : List Entry) (e : Entry) → IsLegalHistory keep t (es ++ e ∷ []) → IsDue keep (history_trail keep t es) e
 unfolding history_trail
-last_due keep t [] e h = h.0
-last_due keep t (f ∷ es) e h = last_due keep (trail_after keep t f.action) es e h.1
+last_entry_of_history_due keep t [] e h = h.0
+last_entry_of_history_due keep t (f ∷ es) e h = last_entry_of_history_due keep (trail_after keep t f.action) es e h.1
 
-pub ends_at : (keep : ℕ) (t : Trail) (es : List Entry) (e : Entry) → history_trail keep t (es ++ e ∷ []) ≡ trail_after keep (history_trail keep t es) e.action
+pub history_trail_of_one_more : (keep : ℕ) (t : Trail) (es : List Entry) (e : Entry) → history_trail keep t (es ++ e ∷ []) ≡ trail_after keep (history_trail keep t es) e.action
 unfolding history_trail
-ends_at keep t [] e = refl
-ends_at keep t (f ∷ es) e = ends_at keep (trail_after keep t f.action) es e
+history_trail_of_one_more keep t [] e = refl
+history_trail_of_one_more keep t (f ∷ es) e = history_trail_of_one_more keep (trail_after keep t f.action) es e
 
 -- the place is the number of entries at most
-pub place_within : (keep : ℕ) (t : Trail) (es : List Entry) → (history_trail keep t es).place ≤ t.place + length es
+pub history_place_within_entries : (keep : ℕ) (t : Trail) (es : List Entry) → (history_trail keep t es).place ≤ t.place + length es
 unfolding history_trail
-place_within keep t [] = omega arith
-place_within keep t (e ∷ es) = omega (arith, place_within keep (trail_after keep t e.action) es, trail_place keep t e.action)
+history_place_within_entries keep t [] = omega arith
+history_place_within_entries keep t (e ∷ es) = omega (arith, history_place_within_entries keep (trail_after keep t e.action) es, action_raises_place_by_one keep t e.action)
 
-seated_push : (n : ℕ) (es : List Entry) (e : Entry) → AllSeated n es → e.seat < n → AllSeated n (es ++ e ∷ [])
-seated_push n [] e h lt = (lt, tt)
-seated_push n (x ∷ es) e h lt = (h.0, seated_push n es e h.1 lt)
+entries_seated_with_one_more : (n : ℕ) (es : List Entry) (e : Entry) → AllSeated n es → e.seat < n → AllSeated n (es ++ e ∷ [])
+entries_seated_with_one_more n [] e h lt = (lt, tt)
+entries_seated_with_one_more n (x ∷ es) e h lt = (h.0, entries_seated_with_one_more n es e h.1 lt)
 
-enumerate_push : (n : ℕ) (es : List Entry) (e : Entry) → enumerate_from n (es ++ e ∷ []) ≡ enumerate_from n es ++ (n + length es, e) ∷ []
-enumerate_push n [] e = ap (λ k. (k, e) ∷ []) (omega arith)
-enumerate_push n (x ∷ es) e = ap (λ l. (n, x) ∷ l) (enumerate_push (n + 1) es e ∙ ap (λ k. enumerate_from (n + 1) es ++ (k, e) ∷ []) (omega arith))
+numbered_entries_of_one_more : (n : ℕ) (es : List Entry) (e : Entry) → enumerate_from n (es ++ e ∷ []) ≡ enumerate_from n es ++ (n + length es, e) ∷ []
+numbered_entries_of_one_more n [] e = ap (λ k. (k, e) ∷ []) (omega arith)
+numbered_entries_of_one_more n (x ∷ es) e = ap (λ l. (n, x) ∷ l) (numbered_entries_of_one_more (n + 1) es e ∙ ap (λ k. enumerate_from (n + 1) es ++ (k, e) ∷ []) (omega arith))
 
-pub entries_here : (n : ℕ) (es : List Entry) (e : Entry) → e.seat ≡ n → entries_by n (es ++ e ∷ []) ≡ entries_by n es ++ (1 + length es, e) ∷ []
+pub seat_entries_with_own_entry : (n : ℕ) (es : List Entry) (e : Entry) → e.seat ≡ n → entries_by n (es ++ e ∷ []) ≡ entries_by n es ++ (1 + length es, e) ∷ []
 unfolding entries_by
-entries_here n es e is =
-    ap (filter (λ (p : ℕ × Entry). p.1.seat == n)) (enumerate_push 1 es e)
+seat_entries_with_own_entry n es e is =
+    ap (filter (λ (p : ℕ × Entry). p.1.seat == n)) (numbered_entries_of_one_more 1 es e)
     ∙ filter-append (λ (p : ℕ × Entry). p.1.seat == n) (enumerate_from 1 es) ((1 + length es, e) ∷ [])
     ∙ ap (λ (l : List (ℕ × Entry)). filter (λ (p : ℕ × Entry). p.1.seat == n) (enumerate_from 1 es) ++ l) (ap (λ (b : Bool). if b then (1 + length es, e) ∷ [] else []) (eq-eqb e.seat n is))
 
-pub entries_other : (n : ℕ) (es : List Entry) (e : Entry) → e.seat ≢ n → entries_by n (es ++ e ∷ []) ≡ entries_by n es
+pub seat_entries_without_other_entry : (n : ℕ) (es : List Entry) (e : Entry) → e.seat ≢ n → entries_by n (es ++ e ∷ []) ≡ entries_by n es
 unfolding entries_by
-entries_other n es e ne =
-    ap (filter (λ (p : ℕ × Entry). p.1.seat == n)) (enumerate_push 1 es e)
+seat_entries_without_other_entry n es e ne =
+    ap (filter (λ (p : ℕ × Entry). p.1.seat == n)) (numbered_entries_of_one_more 1 es e)
     ∙ filter-append (λ (p : ℕ × Entry). p.1.seat == n) (enumerate_from 1 es) ((1 + length es, e) ∷ [])
     ∙ ap (λ (l : List (ℕ × Entry)). filter (λ (p : ℕ × Entry). p.1.seat == n) (enumerate_from 1 es) ++ l) (ap (λ (b : Bool). if b then (1 + length es, e) ∷ [] else []) (ne_eqb e.seat n ne))
     ∙ append-nil _
@@ -80,51 +80,51 @@ pub seat_table_of : (config : HeapSettings) (tables : List TableId) (m : Machine
 seat_table_of config tables m es seat_tables n d k lt is = k.booked n d (at_index seat_tables n d (omega (arith, k.count, lt)) is)
 
 -- the place of a machine under its chronicle is the number of entries at most
-pub within_entries : (config : HeapSettings) (tables : List TableId) (m : Machine) (es : List Entry) (seat_tables : List SeatTable) → IsUnderLock config tables m es seat_tables → m.trail.place ≤ length es
-within_entries config tables m es seat_tables k = omega (arith, place_within config.keep (opening config) es, ap (λ (t : Trail). t.place) k.folds)
+pub machine_place_within_entries : (config : HeapSettings) (tables : List TableId) (m : Machine) (es : List Entry) (seat_tables : List SeatTable) → IsUnderLock config tables m es seat_tables → m.trail.place ≤ length es
+machine_place_within_entries config tables m es seat_tables k = omega (arith, history_place_within_entries config.keep (opening config) es, ap (λ (t : Trail). t.place) k.folds)
 
 -- an entry with the machine's reply is due
-pub is_due : (config : HeapSettings) (tables : List TableId) (m m' : Machine) (es : List Entry) (seat_tables : List SeatTable) (e : Entry) → IsUnderLock config tables m es seat_tables → is_dump_action e.action ≡ false → MayReply m e.action m' (reply_of e.answer) → MayEnter (reply_of e.answer)
+pub entry_with_reply_is_due : (config : HeapSettings) (tables : List TableId) (m m' : Machine) (es : List Entry) (seat_tables : List SeatTable) (e : Entry) → IsUnderLock config tables m es seat_tables → is_dump_action e.action ≡ false → MayReply m e.action m' (reply_of e.answer) → MayEnter (reply_of e.answer)
     → IsDue config.keep (history_trail config.keep (opening config) es) e
-is_due config tables m m' es seat_tables e k deed move enters = record {
+entry_with_reply_is_due config tables m m' es seat_tables e k deed move enters = record {
   deed = deed;
-  answer = (by_trail m m' e.action (reply_of e.answer) deed move enters).1 ∙ (λ i. reply_at (k.keep i) (k.folds i) e.action);
+  answer = (entered_act_follows_trail m m' e.action (reply_of e.answer) deed move enters).1 ∙ (λ i. reply_at (k.keep i) (k.folds i) e.action);
   enters = enters;
 }
 
 -- one entry more, with the seat's table
-pub kept_more : (config : HeapSettings) (tables : List TableId) (m m' : Machine) (es : List Entry) (seat_tables : List SeatTable) (e : Entry) (d' : SeatTable) → IsUnderLock config tables m es seat_tables → e.seat < length tables
+pub entry_kept_with_seat_table : (config : HeapSettings) (tables : List TableId) (m m' : Machine) (es : List Entry) (seat_tables : List SeatTable) (e : Entry) (d' : SeatTable) → IsUnderLock config tables m es seat_tables → e.seat < length tables
     → is_dump_action e.action ≡ false → MayReply m e.action m' (reply_of e.answer) → MayEnter (reply_of e.answer) → IsSeatTable (table_at tables e.seat) (entries_by e.seat (es ++ e ∷ [])) d' → IsUnderLock config tables m' (es ++ e ∷ []) (set seat_tables e.seat d')
-kept_more config tables m m' es seat_tables e d' k lt deed move enters seat_table =
-    let alike = by_trail m m' e.action (reply_of e.answer) deed move enters in record {
-      legal = goes_on config.keep (opening config) es e k.legal (is_due config tables m m' es seat_tables e k deed move enters);
+entry_kept_with_seat_table config tables m m' es seat_tables e d' k lt deed move enters seat_table =
+    let alike = entered_act_follows_trail m m' e.action (reply_of e.answer) deed move enters in record {
+      legal = due_entry_extends_legal_history config.keep (opening config) es e k.legal (entry_with_reply_is_due config tables m m' es seat_tables e k deed move enters);
       keep = alike.2 ∙ k.keep;
       ids = alike.3 ∙ k.ids;
-      folds = alike.0 ∙ (λ i. trail_after (k.keep i) (k.folds i) e.action) ∙ sym (ends_at config.keep (opening config) es e);
-      seated = seated_push (length tables) es e k.seated lt;
+      folds = alike.0 ∙ (λ i. trail_after (k.keep i) (k.folds i) e.action) ∙ sym (history_trail_of_one_more config.keep (opening config) es e);
+      seated = entries_seated_with_one_more (length tables) es e k.seated lt;
       count = length-set seat_tables e.seat d' ∙ k.count;
       booked = λ n d at. ⊎_elim
           (λ (u : (n ≡ e.seat) × (d' ≡ d)). subst (λ (x : ℕ × SeatTable). IsSeatTable (table_at tables x.0) (entries_by x.0 (es ++ e ∷ [])) x.1) (λ i. (sym u.0 i, u.1 i)) seat_table)
-          (λ (u : (n ≢ e.seat) × (get_elem? seat_tables n ≡ some d)). subst (λ l. IsSeatTable (table_at tables n) l d) (sym (entries_other n es e (λ q. u.0 (sym q)))) (k.booked n d u.1))
+          (λ (u : (n ≢ e.seat) × (get_elem? seat_tables n ≡ some d)). subst (λ l. IsSeatTable (table_at tables n) l d) (sym (seat_entries_without_other_entry n es e (λ q. u.0 (sym q)))) (k.booked n d u.1))
           (at_set seat_tables e.seat n d' d at);
     }
 
 -- what a move of the kept machine makes of its trail, and that its answer is due there
-pub moved_as : (config : HeapSettings) (tables : List TableId) (m m' : Machine) (es : List Entry) (seat_tables : List SeatTable) (seat : ℕ) (a : Action) (o : Outcome) → IsUnderLock config tables m es seat_tables → is_dump_action a ≡ false → MayReply m a m' (reply_of o) → MayEnter (reply_of o)
+pub move_of_kept_machine_is_due : (config : HeapSettings) (tables : List TableId) (m m' : Machine) (es : List Entry) (seat_tables : List SeatTable) (seat : ℕ) (a : Action) (o : Outcome) → IsUnderLock config tables m es seat_tables → is_dump_action a ≡ false → MayReply m a m' (reply_of o) → MayEnter (reply_of o)
     → (m'.trail ≡ trail_after config.keep m.trail a) × IsDue config.keep m.trail (entry seat a o)
-moved_as config tables m m' es seat_tables seat a o k deed move enters =
-    let alike = by_trail m m' a (reply_of o) deed move enters in
+move_of_kept_machine_is_due config tables m m' es seat_tables seat a o k deed move enters =
+    let alike = entered_act_follows_trail m m' a (reply_of o) deed move enters in
     (alike.0 ∙ ap (λ n. trail_after n m.trail a) k.keep, record { deed = deed; answer = alike.1 ∙ ap (λ n. reply_at n m.trail a) k.keep; enters = enters })
 
 -- the machine after a dumper's action may be kept in the place of the one before
-pub kept_dumped : (config : HeapSettings) (tables : List TableId) (m m' : Machine) (es : List Entry) (seat_tables : List SeatTable) (a : Action) (r : Reply) → IsUnderLock config tables m es seat_tables → is_dump_action a ≡ true → MayReply m a m' r → IsUnderLock config tables m' es seat_tables
-kept_dumped config tables m m' es seat_tables a r k dump (mark, stands, is) =
+pub dumped_machine_under_lock : (config : HeapSettings) (tables : List TableId) (m m' : Machine) (es : List Entry) (seat_tables : List SeatTable) (a : Action) (r : Reply) → IsUnderLock config tables m es seat_tables → is_dump_action a ≡ true → MayReply m a m' r → IsUnderLock config tables m' es seat_tables
+dumped_machine_under_lock config tables m m' es seat_tables a r k dump (mark, stands, is) =
     let left = dumps_leave m m' a mark r dump is in
     record { legal = k.legal; keep = left.1 ∙ k.keep; ids = left.2 ∙ k.ids; folds = left.0 ∙ k.folds; seated = k.seated; count = k.count; booked = k.booked }
 
 -- a table that has the same entries again
-pub kept_as : (config : HeapSettings) (tables : List TableId) (m : Machine) (es : List Entry) (seat_tables : List SeatTable) (seat : ℕ) (d' : SeatTable) → IsUnderLock config tables m es seat_tables → IsSeatTable (table_at tables seat) (entries_by seat es) d' → IsUnderLock config tables m es (set seat_tables seat d')
-kept_as config tables m es seat_tables seat d' k seat_table =
+pub entries_kept_with_equal_table : (config : HeapSettings) (tables : List TableId) (m : Machine) (es : List Entry) (seat_tables : List SeatTable) (seat : ℕ) (d' : SeatTable) → IsUnderLock config tables m es seat_tables → IsSeatTable (table_at tables seat) (entries_by seat es) d' → IsUnderLock config tables m es (set seat_tables seat d')
+entries_kept_with_equal_table config tables m es seat_tables seat d' k seat_table =
     record {
       legal = k.legal;
       keep = k.keep;

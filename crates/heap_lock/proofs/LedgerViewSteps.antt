@@ -10,43 +10,43 @@ use Rattle.heap_lock.specs.declared.ledger_view.LedgerView.TheVariants.{Full, Se
 use Rattle.heap_lock.specs.Calls.{Call}
 use Rattle.heap_lock.specs.LedgerViews.{calls_of, full_of, seen_of, both_views, IsLedgerSide, IsOneLedger, Added, Compared}
 
-abbrev Kept : State (Unit {0}) LedgerView → Type 0
-Kept s = IsOneLedger s.views
+abbrev LedgerIsKept : State (Unit {0}) LedgerView → Type 0
+LedgerIsKept s = IsOneLedger s.views
 
 -- a view of another seat fits the ledger with more calls, whichever seat is its own then
-idle : (own : ℕ) (all more : List Call) (seat : ℕ) (v : LedgerView) → seat ≢ own → IsLedgerSide own all seat v → IsLedgerSide own (all ++ more) seat v
-idle own all more seat (Full xs) ne h = absurd (ne h.0)
-idle own all more seat (Seen ys) ne h = (h.0 ++ more, sym (append_assoc ys h.0 more) ∙ ap (λ l. l ++ more) h.1)
-idle own all more seat (Both xs ys) ne h = absurd (ne h.0)
-idle own all more seat NoCalls ne h = tt
+other_seat_fits_longer_ledger : (own : ℕ) (all more : List Call) (seat : ℕ) (v : LedgerView) → seat ≢ own → IsLedgerSide own all seat v → IsLedgerSide own (all ++ more) seat v
+other_seat_fits_longer_ledger own all more seat (Full xs) ne h = absurd (ne h.0)
+other_seat_fits_longer_ledger own all more seat (Seen ys) ne h = (h.0 ++ more, sym (append_assoc ys h.0 more) ∙ ap (λ l. l ++ more) h.1)
+other_seat_fits_longer_ledger own all more seat (Both xs ys) ne h = absurd (ne h.0)
+other_seat_fits_longer_ledger own all more seat NoCalls ne h = tt
 
-pub begins : IsOneLedger (Full [] ∷ [])
-begins = (0, [], one)
+pub full_view_begins_ledger : IsOneLedger (Full [] ∷ [])
+full_view_begins_ledger = (0, [], one)
   where
     one : (seat : ℕ) (v : LedgerView) → get_elem? (Full [] ∷ []) seat ≡ some v → IsLedgerSide 0 [] seat v
     one zero v e = subst (IsLedgerSide 0 [] 0) (some-injective _ _ e) (refl, refl)
     one (suc n) v e = absurd (some-ne-none v (sym e))
 
 -- the own view becomes another one that fits
-changed : (views : List LedgerView) (own : ℕ) (all more : List Call) (w : LedgerView) → ((seat : ℕ) (v : LedgerView) → get_elem? views seat ≡ some v → IsLedgerSide own all seat v) → IsLedgerSide own (all ++ more) own w
+own_view_changed_with_calls : (views : List LedgerView) (own : ℕ) (all more : List Call) (w : LedgerView) → ((seat : ℕ) (v : LedgerView) → get_elem? views seat ≡ some v → IsLedgerSide own all seat v) → IsLedgerSide own (all ++ more) own w
     → (seat : ℕ) (v : LedgerView) → get_elem? (set views own w) seat ≡ some v → IsLedgerSide own (all ++ more) seat v
-changed views own all more w each mine seat v e = ⊎_elim
+own_view_changed_with_calls views own all more w each mine seat v e = ⊎_elim
     (λ (t : (seat ≡ own) × (w ≡ v)). subst (λ (x : ℕ × LedgerView). IsLedgerSide own (all ++ more) x.0 x.1) (λ i. (sym t.0 i, t.1 i)) mine)
-    (λ (t : (seat ≢ own) × (get_elem? views seat ≡ some v)). idle own all more seat v t.0 (each seat v t.1))
+    (λ (t : (seat ≢ own) × (get_elem? views seat ≡ some v)). other_seat_fits_longer_ledger own all more seat v t.0 (each seat v t.1))
     (at_set views own seat w v e)
 
-same_all : (own : ℕ) (all : List Call) (views : List LedgerView) → ((seat : ℕ) (v : LedgerView) → get_elem? views seat ≡ some v → IsLedgerSide own (all ++ []) seat v) → (seat : ℕ) (v : LedgerView) → get_elem? views seat ≡ some v → IsLedgerSide own all seat v
-same_all own all views each = subst (λ l. (seat : ℕ) (v : LedgerView) → get_elem? views seat ≡ some v → IsLedgerSide own l seat v) (append-nil all) each
+ledger_with_no_calls_more : (own : ℕ) (all : List Call) (views : List LedgerView) → ((seat : ℕ) (v : LedgerView) → get_elem? views seat ≡ some v → IsLedgerSide own (all ++ []) seat v) → (seat : ℕ) (v : LedgerView) → get_elem? views seat ≡ some v → IsLedgerSide own all seat v
+ledger_with_no_calls_more own all views each = subst (λ l. (seat : ℕ) (v : LedgerView) → get_elem? views seat ≡ some v → IsLedgerSide own l seat v) (append-nil all) each
 
-kept_as : (views : List LedgerView) (own : ℕ) (all : List Call) (w : LedgerView) → ((seat : ℕ) (v : LedgerView) → get_elem? views seat ≡ some v → IsLedgerSide own all seat v) → IsLedgerSide own all own w
+own_view_changed_without_calls : (views : List LedgerView) (own : ℕ) (all : List Call) (w : LedgerView) → ((seat : ℕ) (v : LedgerView) → get_elem? views seat ≡ some v → IsLedgerSide own all seat v) → IsLedgerSide own all own w
     → (seat : ℕ) (v : LedgerView) → get_elem? (set views own w) seat ≡ some v → IsLedgerSide own all seat v
-kept_as views own all w each mine = same_all own all (set views own w) (changed views own all [] w each (subst (λ l. IsLedgerSide own l own w) (sym (append-nil all)) mine))
+own_view_changed_without_calls views own all w each mine = ledger_with_no_calls_more own all (set views own w) (own_view_changed_with_calls views own all [] w each (subst (λ l. IsLedgerSide own l own w) (sym (append-nil all)) mine))
 
-splits : (id : ℕ) (xs : List Call) → Splits Kept id (Full xs) (Full xs) (Seen xs)
-splits id xs s h at =
+full_view_splits_off_seen : (id : ℕ) (xs : List Call) → Splits LedgerIsKept id (Full xs) (Full xs) (Seen xs)
+full_view_splits_off_seen id xs s h at =
     let mine = h.2 id (Full xs) at in
     let here : h.0 ≡ id = sym mine.0 in
-    let each = kept_as s.views h.0 h.1 (Full xs) h.2 (refl, mine.1) in (
+    let each = own_view_changed_without_calls s.views h.0 h.1 (Full xs) h.2 (refl, mine.1) in (
       h.0,
       h.1,
       λ seat v e. ⊎_elim
@@ -55,8 +55,8 @@ splits id xs s h at =
           (at_snoc (set s.views id (Full xs)) (Seen xs) v seat e),
     )
 
-joins : (id other : ℕ) (xs ys : List Call) → Joins Kept id (Full xs) other (Seen ys) (Both xs ys) NoCalls
-joins id other xs ys s h at apart there =
+full_view_joins_seen : (id other : ℕ) (xs ys : List Call) → Joins LedgerIsKept id (Full xs) other (Seen ys) (Both xs ys) NoCalls
+full_view_joins_seen id other xs ys s h at apart there =
     let mine = h.2 id (Full xs) at in
     let w = Both xs ys in
     let theirs = ⊎_elim
@@ -64,7 +64,7 @@ joins id other xs ys s h at apart there =
     (λ (t : (other ≢ id) × (get_elem? s.views other ≡ some (Seen ys))). h.2 other (Seen ys) t.1)
     (at_set s.views id other w (Seen ys) there)
     in
-    let each = kept_as s.views h.0 h.1 w h.2 (refl, mine.1, theirs) in
+    let each = own_view_changed_without_calls s.views h.0 h.1 w h.2 (refl, mine.1, theirs) in
     let each' = subst (λ (n : ℕ). (seat : ℕ) (v : LedgerView) → get_elem? (set s.views n w) seat ≡ some v → IsLedgerSide h.0 h.1 seat v) (sym mine.0) each in (
       h.0,
       h.1,
@@ -74,11 +74,11 @@ joins id other xs ys s h at apart there =
           (at_set (set s.views id w) other seat NoCalls v e),
     )
 
-adds : (slots id : ℕ) (xs : List Call) (call : Call) → Allows Kept slots id (Full xs, []) 0 (λ n. n) (λ found n. Added call (Full xs, []) n)
-adds slots id xs call s h len at small =
+full_view_adds_call : (slots id : ℕ) (xs : List Call) (call : Call) → Allows LedgerIsKept slots id (Full xs, []) 0 (λ n. n) (λ found n. Added call (Full xs, []) n)
+full_view_adds_call slots id xs call s h len at small =
     let mine = h.2 id (Full xs) at in
     let w = Full (xs ++ call ∷ []) in
-    let each = changed s.views h.0 h.1 (call ∷ []) w h.2 (refl, ap (λ l. l ++ call ∷ []) mine.1) in (
+    let each = own_view_changed_with_calls s.views h.0 h.1 (call ∷ []) w h.2 (refl, ap (λ l. l ++ call ∷ []) mine.1) in (
       w,
       keeps,
       tt,
@@ -86,11 +86,11 @@ adds slots id xs call s h len at small =
       (refl, refl),
     )
 
-compares : (slots id : ℕ) (xs ys : List Call) → Allows Kept slots id (Both xs ys, []) 0 (λ n. n) (λ found n. Compared (Both xs ys, []) n)
-compares slots id xs ys s h len at small =
+both_views_compare_calls : (slots id : ℕ) (xs ys : List Call) → Allows LedgerIsKept slots id (Both xs ys, []) 0 (λ n. n) (λ found n. Compared (Both xs ys, []) n)
+both_views_compare_calls slots id xs ys s h len at small =
     let mine = h.2 id (Both xs ys) at in
     let w = Full xs in
-    let each = kept_as s.views h.0 h.1 w h.2 (refl, mine.1) in (
+    let each = own_view_changed_without_calls s.views h.0 h.1 w h.2 (refl, mine.1) in (
       w,
       keeps,
       tt,
@@ -99,30 +99,30 @@ compares slots id xs ys s h len at small =
     )
 
 -- the steps, at views that are known
-pub splits_as : (id : ℕ) (v : LedgerView) (xs : List Call) → v ≡ Full xs → Splits Kept id v (full_of v) (seen_of v)
-splits_as id v xs is = subst (λ (u : LedgerView). Splits Kept id u (full_of u) (seen_of u)) (sym is) (splits id xs)
+pub view_splits_if_full : (id : ℕ) (v : LedgerView) (xs : List Call) → v ≡ Full xs → Splits LedgerIsKept id v (full_of v) (seen_of v)
+view_splits_if_full id v xs is = subst (λ (u : LedgerView). Splits LedgerIsKept id u (full_of u) (seen_of u)) (sym is) (full_view_splits_off_seen id xs)
 
-pub joins_as : (id other : ℕ) (v w : LedgerView) (xs ys : List Call) → v ≡ Full xs → w ≡ Seen ys → Joins Kept id v other w (both_views v w) NoCalls
-joins_as id other v w xs ys is is' = subst (λ (u : LedgerView). Joins Kept id u other w (both_views u w) NoCalls) (sym is) (subst (λ (u : LedgerView). Joins Kept id (Full xs) other u (both_views (Full xs) u) NoCalls) (sym is') (joins id other xs ys))
+pub views_join_if_full_and_seen : (id other : ℕ) (v w : LedgerView) (xs ys : List Call) → v ≡ Full xs → w ≡ Seen ys → Joins LedgerIsKept id v other w (both_views v w) NoCalls
+views_join_if_full_and_seen id other v w xs ys is is' = subst (λ (u : LedgerView). Joins LedgerIsKept id u other w (both_views u w) NoCalls) (sym is) (subst (λ (u : LedgerView). Joins LedgerIsKept id (Full xs) other u (both_views (Full xs) u) NoCalls) (sym is') (full_view_joins_seen id other xs ys))
 
-pub adds_as : (slots id : ℕ) (m : LedgerView × List (ℕ × Unit {0})) (xs : List Call) (call : Call) → m ≡ (Full xs, []) → Allows Kept slots id m 0 (λ n. n) (λ found n. Added call m n)
-adds_as slots id m xs call is = subst (λ (u : LedgerView × List (ℕ × Unit {0})). Allows Kept slots id u 0 (λ n. n) (λ found n. Added call u n)) (sym is) (adds slots id xs call)
+pub view_adds_call_if_full : (slots id : ℕ) (m : LedgerView × List (ℕ × Unit {0})) (xs : List Call) (call : Call) → m ≡ (Full xs, []) → Allows LedgerIsKept slots id m 0 (λ n. n) (λ found n. Added call m n)
+view_adds_call_if_full slots id m xs call is = subst (λ (u : LedgerView × List (ℕ × Unit {0})). Allows LedgerIsKept slots id u 0 (λ n. n) (λ found n. Added call u n)) (sym is) (full_view_adds_call slots id xs call)
 
-pub compares_as : (slots id : ℕ) (m : LedgerView × List (ℕ × Unit {0})) (xs ys : List Call) → m ≡ (Both xs ys, []) → Allows Kept slots id m 0 (λ n. n) (λ found n. Compared m n)
-compares_as slots id m xs ys is = subst (λ (u : LedgerView × List (ℕ × Unit {0})). Allows Kept slots id u 0 (λ n. n) (λ found n. Compared u n)) (sym is) (compares slots id xs ys)
+pub view_compares_if_both : (slots id : ℕ) (m : LedgerView × List (ℕ × Unit {0})) (xs ys : List Call) → m ≡ (Both xs ys, []) → Allows LedgerIsKept slots id m 0 (λ n. n) (λ found n. Compared m n)
+view_compares_if_both slots id m xs ys is = subst (λ (u : LedgerView × List (ℕ × Unit {0})). Allows LedgerIsKept slots id u 0 (λ n. n) (λ found n. Compared u n)) (sym is) (both_views_compare_calls slots id xs ys)
 
 -- what the steps tell, at views that are known
-pub added_as : (call : Call) (m n : LedgerView × List (ℕ × Unit {0})) (xs : List Call) → m ≡ (Full xs, []) → Added call m n → n ≡ (Full (xs ++ call ∷ []), [])
-added_as call m n xs is told =
+pub added_view_has_call : (call : Call) (m n : LedgerView × List (ℕ × Unit {0})) (xs : List Call) → m ≡ (Full xs, []) → Added call m n → n ≡ (Full (xs ++ call ∷ []), [])
+added_view_has_call call m n xs is told =
     let t = subst (λ (u : LedgerView × List (ℕ × Unit {0})). Added call u n) is told in λ k. (t.0 k, t.1 k)
 
-pub compared_as : (m n : LedgerView × List (ℕ × Unit {0})) (xs ys : List Call) → m ≡ (Both xs ys, []) → Compared m n → IsPrefix ys xs × (n ≡ (Full xs, []))
-compared_as m n xs ys is told =
+pub compared_view_is_prefix : (m n : LedgerView × List (ℕ × Unit {0})) (xs ys : List Call) → m ≡ (Both xs ys, []) → Compared m n → IsPrefix ys xs × (n ≡ (Full xs, []))
+compared_view_is_prefix m n xs ys is told =
     let t = subst (λ (u : LedgerView × List (ℕ × Unit {0})). Compared u n) is told in (t.0.0, λ k. (t.0.1 k, t.1 k))
 
-pub head_is : (views : List LedgerView) (v w : LedgerView) → views ≡ v ∷ [] → views ≡ w ∷ [] → v ≡ w
-head_is views v w p q = cc (p, q)
+pub sole_ledger_views_equal : (views : List LedgerView) (v w : LedgerView) → views ≡ v ∷ [] → views ≡ w ∷ [] → v ≡ w
+sole_ledger_views_equal views v w p q = cc (p, q)
 
 -- both views joined, where the second is known
-pub both_joined : (m : LedgerView × List (ℕ × Unit {0})) (xs ys : List Call) (w : LedgerView) (held : List (ℕ × Unit {0})) → w ≡ Seen ys → held ≡ [] → m ≡ (Both xs (calls_of w), held) → m ≡ (Both xs ys, [])
-both_joined m xs ys w held seen none joined = joined ∙ (λ k. (Both xs (calls_of (seen k)), none k))
+pub both_view_of_known_second : (m : LedgerView × List (ℕ × Unit {0})) (xs ys : List Call) (w : LedgerView) (held : List (ℕ × Unit {0})) → w ≡ Seen ys → held ≡ [] → m ≡ (Both xs (calls_of w), held) → m ≡ (Both xs ys, [])
+both_view_of_known_second m xs ys w held seen none joined = joined ∙ (λ k. (Both xs (calls_of (seen k)), none k))

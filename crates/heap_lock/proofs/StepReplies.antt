@@ -11,9 +11,9 @@ use Rattle.heap_trail.specs.declared.Reply.TheVariants.{Place}
 use Rattle.heap_trail.specs.Limits.{last_place}
 use Rattle.heap_trail.specs.Machine.{Machine, acted, after_result, after_step_at}
 
-pub no_place : (m : Machine) (e : Event) (p : ℕ) → (acted m (Step e)).1 ≡ Place p → ⊥
+pub step_replies_no_place : (m : Machine) (e : Event) (p : ℕ) → (acted m (Step e)).1 ≡ Place p → ⊥
 unfolding acted after_result after_step_at
-no_place m e p is = at (nat_le last_place m.trail.place) is
+step_replies_no_place m e p is = at (nat_le last_place m.trail.place) is
   where
     of : (x : Result (HeapState × Answer) Refusal) → (after_result e m x).1 ≡ Place p → ⊥
     of (Ok v) h = cc h

@@ -23,9 +23,9 @@ last_of_all config before after action r k k1 k2 begins same act is legal = (
   subst (λ l. IsLegalLedger config l) (sym is) legal,
 )
 
-pub witnessed : {A : Type 0} (config : HeapSettings) (before after : List Call) (action : Action) (reply : A → Reply) (result : Result A Refusal) (k k1 k2 : LockState) → IsPrefix before k.ledger → k1 ≡ k → IfOk result (λ a. IsDumperAct action k1 (reply a) k2) → IfErr result (λ e. IsDumperAct action k1 (Refused e) k2) → after ≡ k2.ledger → IsLegalLedger config k2.ledger → IsWitnessed config before action reply result after
-witnessed config before after action reply (Ok a) k k1 k2 begins same done refused is legal = record { done = last_of_all config before after action (reply a) k k1 k2 begins same done is legal; refused = tt }
-witnessed config before after action reply (Err e) k k1 k2 begins same done refused is legal = record { done = tt; refused = last_of_all config before after action (Refused e) k k1 k2 begins same refused is legal }
+pub dumper_act_is_witnessed : {A : Type 0} (config : HeapSettings) (before after : List Call) (action : Action) (reply : A → Reply) (result : Result A Refusal) (k k1 k2 : LockState) → IsPrefix before k.ledger → k1 ≡ k → IfOk result (λ a. IsDumperAct action k1 (reply a) k2) → IfErr result (λ e. IsDumperAct action k1 (Refused e) k2) → after ≡ k2.ledger → IsLegalLedger config k2.ledger → IsWitnessed config before action reply result after
+dumper_act_is_witnessed config before after action reply (Ok a) k k1 k2 begins same done refused is legal = record { done = last_of_all config before after action (reply a) k k1 k2 begins same done is legal; refused = tt }
+dumper_act_is_witnessed config before after action reply (Err e) k k1 k2 begins same done refused is legal = record { done = tt; refused = last_of_all config before after action (Refused e) k k1 k2 begins same refused is legal }
 
 -- what is so of the machine's state is so of the one that all calls leave
 pub seen_state : (config : HeapSettings) (before after : List Call) (k : LockState) (m : Machine) (is : HeapState → Type 0) → IsPrefix before k.ledger → IsHeapLedger config k.machine k.chronicle k.ledger → after ≡ k.ledger → m ≡ k.machine → is m.trail.current → SeesState config before is after
@@ -37,9 +37,9 @@ seen_state config before after k m is begins heap same here now =
     )
 
 -- a seat whose share is just what the history of these calls has of it
-pub known : (config : HeapSettings) (s : SeatModel) (k k1 : LockState) → entries_by s.number k.chronicle ≡ s.share → k1 ≡ k → IsHeapLedger config k1.machine k1.chronicle k1.ledger → AreAllCalls config k.machine s k.ledger
-known config s k k1 share same heap = (k.chronicle, subst (λ (x : LockState). IsHeapLedger config x.machine x.chronicle x.ledger) same heap, share)
+pub seat_share_knows_all_calls : (config : HeapSettings) (s : SeatModel) (k k1 : LockState) → entries_by s.number k.chronicle ≡ s.share → k1 ≡ k → IsHeapLedger config k1.machine k1.chronicle k1.ledger → AreAllCalls config k.machine s k.ledger
+seat_share_knows_all_calls config s k k1 share same heap = (k.chronicle, subst (λ (x : LockState). IsHeapLedger config x.machine x.chronicle x.ledger) same heap, share)
 
 -- and one that was shown these calls under the lock
-pub met : (config : HeapSettings) (s : SeatModel) (after : List Call) (k : LockState) → AreAllCalls config k.machine s k.ledger → after ≡ k.ledger → AreMet config s after
-met config s after k is same = (k.machine, subst (AreAllCalls config k.machine s) (sym same) is)
+pub shown_calls_are_met : (config : HeapSettings) (s : SeatModel) (after : List Call) (k : LockState) → AreAllCalls config k.machine s k.ledger → after ≡ k.ledger → AreMet config s after
+shown_calls_are_met config s after k is same = (k.machine, subst (AreAllCalls config k.machine s) (sym same) is)

@@ -19,6 +19,16 @@ pub enum Role {
     User,
 }
 
+// Returns whose event it is.
+pub(crate) fn owner_of(event: &Event) -> Role
+    ensures { result ≡ owner_of event.now }
+{
+    match pack_event(event) {
+        Some(pack) => owner(pack.deed, pack.first),
+        None => Role::User,
+    }
+}
+
 // Returns whose deed it is, by its sort and its first number.
 fn owner(deed: Deed, first: u64) -> Role
     ensures { result ≡ owner deed first }
@@ -28,16 +38,6 @@ fn owner(deed: Deed, first: u64) -> Role
         Deed::Sweep => Role::Sweeper,
         Deed::Rewind => Role::User,
         _ => Role::Mutator(first),
-    }
-}
-
-// Returns whose event it is.
-pub(crate) fn owner_of(event: &Event) -> Role
-    ensures { result ≡ owner_of event.now }
-{
-    match pack_event(event) {
-        Some(pack) => owner(pack.deed, pack.first),
-        None => Role::User,
     }
 }
 

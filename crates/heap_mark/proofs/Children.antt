@@ -7,14 +7,14 @@ use Rattle.std.proofs.lemmas.Option.{slice_get-get_or}
 use Rattle.heap_class.specs.declared.Kind.{Kind}
 use Rattle.heap_class.specs.declared.ObjKind.{ObjKind}
 use Rattle.heap_class.specs.declared.ObjKind.TheVariants.{Instance, Array, Prim}
-use Rattle.heap_class.proofs.ReferenceKinds.{no_reference}
+use Rattle.heap_class.proofs.ReferenceKinds.{kind_is_not_a_reference}
 use Rattle.heap_class.specs.Kinds.{is_reference}
 use Rattle.heap_class.specs.Classes.{Class, slots_of, slot_kinds_of}
 use Rattle.heap_region.specs.Regions.{Object, Region, object_of, references_of, slot_kinds}
 use Rattle.heap_region.proofs.References.{slot_is_reference}
 use Rattle.heap_mark.specs.MarkSteps.{MarkState, shaded, children_of}
 use Rattle.heap_mark.specs.Marker.{references_among, IsNullOrNames}
-use Rattle.heap_mark.proofs.ShadeWalks.{elements_shaded, no_references}
+use Rattle.heap_mark.proofs.ShadeWalks.{elements_shaded, slots_without_references_name_none}
 
 children_are : (classes : List Class) (regions : List Region) (x : ℕ) (o : Object) → object_of regions x ≡ Some o → children_of classes regions x ≡ references_of classes o
 unfolding children_of
@@ -34,7 +34,7 @@ array_children classes regions x o k s e is = elements_shaded s o.words ∙ ap (
 
 pub prim_children : (classes : List Class) (regions : List Region) (x : ℕ) (o : Object) (k : Kind) → object_of regions x ≡ Some o → Prim k ≡ o.kind → k ≢ Kind.Object → children_of classes regions x ≡ []
 unfolding slot_kinds_of
-prim_children classes regions x o k e is other = children_are classes regions x o e ∙ among_slots classes o ∙ ap (λ (kind : ObjKind). references_among (slot_kinds_of classes kind (length o.words)) o.words) (sym is) ∙ no_references k (length o.words) o.words (no_reference k other)
+prim_children classes regions x o k e is other = children_are classes regions x o e ∙ among_slots classes o ∙ ap (λ (kind : ObjKind). references_among (slot_kinds_of classes kind (length o.words)) o.words) (sym is) ∙ slots_without_references_name_none k (length o.words) o.words (kind_is_not_a_reference k other)
 
 -- the children of an object by its kind
 pub ruleset children_by_kind = (instance_children, array_children, prim_children)

@@ -12,7 +12,7 @@ use Rattle.heap_region.specs.Pool.{RegionPool}
 use Rattle.heap_mark.specs.MarkSteps.{MarkState, is_white, with_mark_of, shaded, each_object}
 use Rattle.heap_mark.specs.Marker.{MarkerState, at_work, after_work, IsGraySound, references_among}
 use Rattle.heap_mark.proofs.Marks.{without_marks, only_marked}
-use Rattle.heap_mark.proofs.Each.{used_each, found_each, each_cell}
+use Rattle.heap_mark.proofs.Each.{used_region_after_each_change, object_of_id_after_each_change, each_cell}
 use Rattle.heap_mark.proofs.Work.{shaded_null, sound_shaded}
 
 -- ---- what marks leave as it is
@@ -20,33 +20,33 @@ use Rattle.heap_mark.proofs.Work.{shaded_null, sound_shaded}
 abbrev as_unmarked : Object → Object
 as_unmarked o = record o { mark = false }
 
-abbrev in_cell : ℕ → UsedRegion → Option Object
-in_cell c u = option_and_then (λ (o : Option Object). o) (slice_get u.cells c)
+abbrev object_of_cell_walked : ℕ → UsedRegion → Option Object
+object_of_cell_walked c u = option_and_then (λ (o : Option Object). o) (slice_get u.cells c)
 
 named_unmarked : (regions : List Region) (x : ℕ) → object_of (without_marks regions) x ≡ option_map as_unmarked (object_of regions x)
 unfolding each_object
-named_unmarked regions x = found_each (each_object as_unmarked) as_unmarked regions x (λ u. refl) (λ u c. each_cell as_unmarked u c)
+named_unmarked regions x = object_of_id_after_each_change (each_object as_unmarked) as_unmarked regions x (λ u. refl) (λ u c. each_cell as_unmarked u c)
 
 placed_unmarked : (regions : List Region) (at : ObjRef) → object_at (without_marks regions) at ≡ option_map as_unmarked (object_at regions at)
 unfolding object_at
-placed_unmarked regions at = ap (option_and_then (in_cell at.cell)) (used_each (each_object as_unmarked) regions at.region) ∙ go (used_at regions at.region)
+placed_unmarked regions at = ap (option_and_then (object_of_cell_walked at.cell)) (used_region_after_each_change (each_object as_unmarked) regions at.region) ∙ go (used_at regions at.region)
   where
-    go : (v : Option UsedRegion) → option_and_then (in_cell at.cell) (option_map (each_object as_unmarked) v) ≡ option_map as_unmarked (option_and_then (in_cell at.cell) v)
+    go : (v : Option UsedRegion) → option_and_then (object_of_cell_walked at.cell) (option_map (each_object as_unmarked) v) ≡ option_map as_unmarked (option_and_then (object_of_cell_walked at.cell) v)
     go None = refl
     go (Some u) = each_cell as_unmarked u at.cell
 
-both_some : (p q : Option Object) → option_map as_unmarked p ≡ option_map as_unmarked q → IsSome q → IsSome p
-both_some (Some o) q e h = refl
-both_some None None e h = h
-both_some None (Some o) e h = cc
+unmarked_alike_are_both_objects : (p q : Option Object) → option_map as_unmarked p ≡ option_map as_unmarked q → IsSome q → IsSome p
+unmarked_alike_are_both_objects (Some o) q e h = refl
+unmarked_alike_are_both_objects None None e h = h
+unmarked_alike_are_both_objects None (Some o) e h = cc
 
 -- an id still names an object
-pub still_named : (now before : List Region) (x : ℕ) → without_marks now ≡ without_marks before → IsSome (object_of before x) → IsSome (object_of now x)
-still_named now before x same h = both_some (object_of now x) (object_of before x) (sym (named_unmarked now x) ∙ ap (λ rs. object_of rs x) same ∙ named_unmarked before x) h
+pub id_still_names_object_shaded : (now before : List Region) (x : ℕ) → without_marks now ≡ without_marks before → IsSome (object_of before x) → IsSome (object_of now x)
+id_still_names_object_shaded now before x same h = unmarked_alike_are_both_objects (object_of now x) (object_of before x) (sym (named_unmarked now x) ∙ ap (λ rs. object_of rs x) same ∙ named_unmarked before x) h
 
 -- the object of a place has the same kind and words
-pub still_placed : (now before : List Region) (at : ObjRef) (o : Object) → without_marks now ≡ without_marks before → object_at before at ≡ Some o → (p : Object) × (object_at now at ≡ Some p) × (p.words ≡ o.words)
-still_placed now before at o same h = go (object_at now at) refl (sym (placed_unmarked now at) ∙ ap (λ rs. object_at rs at) same ∙ placed_unmarked before at ∙ ap (option_map as_unmarked) h)
+pub shaded_object_keeps_its_words : (now before : List Region) (at : ObjRef) (o : Object) → without_marks now ≡ without_marks before → object_at before at ≡ Some o → (p : Object) × (object_at now at ≡ Some p) × (p.words ≡ o.words)
+shaded_object_keeps_its_words now before at o same h = go (object_at now at) refl (sym (placed_unmarked now at) ∙ ap (λ rs. object_at rs at) same ∙ placed_unmarked before at ∙ ap (option_map as_unmarked) h)
   where
     go : (v : Option Object) → object_at now at ≡ v → option_map as_unmarked v ≡ Some (as_unmarked o) → (p : Object) × (object_at now at ≡ Some p) × (p.words ≡ o.words)
     go None e k = cc
@@ -70,19 +70,19 @@ pub record IsUnderWay (s : MarkState) (rest : List ℕ) (before now : RegionPool
   pub sound : IsGraySound now.regions m
   pub same : without_marks now.regions ≡ without_marks before.regions
 
-pub begun : (ids : List ℕ) (before : RegionPool) (first : MarkerState) → IsGraySound before.regions first → IsUnderWay (fold shaded (at_work before.regions first) ids) ids before before first first
-begun ids before first h = record { left = refl; room = refl; pool = refl; sound = h; same = refl }
+pub shade_walk_begins : (ids : List ℕ) (before : RegionPool) (first : MarkerState) → IsGraySound before.regions first → IsUnderWay (fold shaded (at_work before.regions first) ids) ids before before first first
+shade_walk_begins ids before first h = record { left = refl; room = refl; pool = refl; sound = h; same = refl }
 
 -- one id less
-pub gone_on : (s : MarkState) (x : ℕ) (rest : List ℕ) (before now after : RegionPool) (first m n : MarkerState) → IsUnderWay s (x ∷ rest) before now first m → n ≡ after_work (shaded (at_work now.regions m) x) m → after ≡ record now { regions = (shaded (at_work now.regions m) x).regions } → IsUnderWay s rest before after first n
-gone_on s x rest before now after first m n h is pool = subst (λ (v : RegionPool). IsUnderWay s rest before v first n) (sym pool) (subst (λ (v : MarkerState). IsUnderWay s rest before (record now { regions = (shaded (at_work now.regions m) x).regions }) first v) (sym is) done)
+pub shade_walk_past_one_id : (s : MarkState) (x : ℕ) (rest : List ℕ) (before now after : RegionPool) (first m n : MarkerState) → IsUnderWay s (x ∷ rest) before now first m → n ≡ after_work (shaded (at_work now.regions m) x) m → after ≡ record now { regions = (shaded (at_work now.regions m) x).regions } → IsUnderWay s rest before after first n
+shade_walk_past_one_id s x rest before now after first m n h is pool = subst (λ (v : RegionPool). IsUnderWay s rest before v first n) (sym pool) (subst (λ (v : MarkerState). IsUnderWay s rest before (record now { regions = (shaded (at_work now.regions m) x).regions }) first v) (sym is) done)
   where
     done : IsUnderWay s rest before (record now { regions = (shaded (at_work now.regions m) x).regions }) first (after_work (shaded (at_work now.regions m) x) m)
     done = record { left = h.left; room = h.room; pool = h.pool; sound = sound_shaded now.regions m x h.sound; same = same_shaded (at_work now.regions m) x ∙ h.same }
 
 -- none left
-pub arrived : (s : MarkState) (before now : RegionPool) (first m : MarkerState) → IsUnderWay s [] before now first m → (m ≡ after_work s first) × (now ≡ record before { regions = s.regions })
-arrived s before now first m h = (
+pub shade_walk_without_ids_left : (s : MarkState) (before now : RegionPool) (first m : MarkerState) → IsUnderWay s [] before now first m → (m ≡ after_work s first) × (now ≡ record before { regions = s.regions })
+shade_walk_without_ids_left s before now first m h = (
   λ i. record { gray = (h.left i).gray; room = h.room i; log = (h.left i).log; drained = (h.left i).drained; phase = (h.left i).phase },
   λ i. record { regions = (h.left i).regions; pool = h.pool i },
 )
@@ -117,29 +117,29 @@ unfolding references_among
 elements_shaded s [] = refl
 elements_shaded s (w ∷ ws) = sym (with_null s w ws (references_among (replicate (length ws) Kind.Object) ws) (λ t. elements_shaded t ws))
 
-pub no_references : (k : Kind) (n : ℕ) (ws : List ℕ) → is_reference k ≡ false → references_among (replicate n k) ws ≡ []
+pub slots_without_references_name_none : (k : Kind) (n : ℕ) (ws : List ℕ) → is_reference k ≡ false → references_among (replicate n k) ws ≡ []
 unfolding references_among
-no_references k zero ws h = refl
-no_references k (suc n) [] h = refl
-no_references k (suc n) (w ∷ ws) h = slot_passed k (replicate n k) w ws h ∙ no_references k n ws h
+slots_without_references_name_none k zero ws h = refl
+slots_without_references_name_none k (suc n) [] h = refl
+slots_without_references_name_none k (suc n) (w ∷ ws) h = slot_passed k (replicate n k) w ws h ∙ slots_without_references_name_none k n ws h
 
 -- ---- options
 
-pub some_there : {A : Type 0} (v : Option A) (P : A → Type 0) → IsSomeAnd v P → (a : A) × (v ≡ Some a) × P a
-some_there None P h = absurd h
-some_there (Some a) P h = (a, refl, h)
+pub some_and_property_give_value : {A : Type 0} (v : Option A) (P : A → Type 0) → IsSomeAnd v P → (a : A) × (v ≡ Some a) × P a
+some_and_property_give_value None P h = absurd h
+some_and_property_give_value (Some a) P h = (a, refl, h)
 
-pub if_there : {A : Type 0} (v : Option A) (P : A → Type 0) → ((a : A) → v ≡ Some a → P a) → IfSome v P
-if_there None P h = tt
-if_there (Some a) P h = h a refl
+pub property_holds_if_some : {A : Type 0} (v : Option A) (P : A → Type 0) → ((a : A) → v ≡ Some a → P a) → IfSome v P
+property_holds_if_some None P h = tt
+property_holds_if_some (Some a) P h = h a refl
 
 -- ---- by index
 
 pub gone_on_at : (s : MarkState) (ws : List ℕ) (i w : ℕ) (before now after : RegionPool) (first m n : MarkerState) → i < length ws → w ≡ get_or ws i 0 → IsUnderWay s (drop i ws) before now first m → n ≡ after_work (shaded (at_work now.regions m) w) m → after ≡ record now { regions = (shaded (at_work now.regions m) w).regions } → IsUnderWay s (drop (i + 1) ws) before after first n
-gone_on_at s ws i w before now after first m n within is h = gone_on s w (drop (i + 1) ws) before now after first m n (subst (λ (rest : List ℕ). IsUnderWay s rest before now first m) (drop_more ws i 0 within ∙ ap (λ (v : ℕ). v ∷ drop (i + 1) ws) (sym is)) h)
+gone_on_at s ws i w before now after first m n within is h = shade_walk_past_one_id s w (drop (i + 1) ws) before now after first m n (subst (λ (rest : List ℕ). IsUnderWay s rest before now first m) (drop_more ws i 0 within ∙ ap (λ (v : ℕ). v ∷ drop (i + 1) ws) (sym is)) h)
 
-pub arrived_at : (s : MarkState) (ws : List ℕ) (i : ℕ) (before now : RegionPool) (first m : MarkerState) → i ≡ length ws → IsUnderWay s (drop i ws) before now first m → (m ≡ after_work s first) × (now ≡ record before { regions = s.regions })
-arrived_at s ws i before now first m all h = arrived s before now first m (subst (λ (rest : List ℕ). IsUnderWay s rest before now first m) (ap (λ (j : ℕ). drop j ws) all ∙ drop-length ws) h)
+pub shade_walk_past_all_words : (s : MarkState) (ws : List ℕ) (i : ℕ) (before now : RegionPool) (first m : MarkerState) → i ≡ length ws → IsUnderWay s (drop i ws) before now first m → (m ≡ after_work s first) × (now ≡ record before { regions = s.regions })
+shade_walk_past_all_words s ws i before now first m all h = shade_walk_without_ids_left s before now first m (subst (λ (rest : List ℕ). IsUnderWay s rest before now first m) (ap (λ (j : ℕ). drop j ws) all ∙ drop-length ws) h)
 
 -- by slots
 slots_at : (ks : List Kind) (ws : List ℕ) (i : ℕ) (k : Kind) (w : ℕ) → i < length ks → i < length ws → k ≡ get_or ks i Kind.Object → w ≡ get_or ws i 0 → references_among (drop i ks) (drop i ws) ≡ references_among (k ∷ drop (i + 1) ks) (w ∷ drop (i + 1) ws)
@@ -149,25 +149,25 @@ slots_at ks ws i k w kin win kind word =
     λ j. references_among (ks_at j) (ws_at j)
 
 pub field_shaded : (s : MarkState) (ks : List Kind) (ws : List ℕ) (i : ℕ) (k : Kind) (w : ℕ) (before now after : RegionPool) (first m n : MarkerState) → i < length ks → i < length ws → k ≡ get_or ks i Kind.Object → w ≡ get_or ws i 0 → is_reference k ≡ true → IsUnderWay s (references_among (drop i ks) (drop i ws)) before now first m → n ≡ after_work (shaded (at_work now.regions m) w) m → after ≡ record now { regions = (shaded (at_work now.regions m) w).regions } → IsUnderWay s (references_among (drop (i + 1) ks) (drop (i + 1) ws)) before after first n
-field_shaded s ks ws i k w before now after first m n kin win kind word refers h = gone_on s w (references_among (drop (i + 1) ks) (drop (i + 1) ws)) before now after first m n (record { left = sym (slot_shaded (at_work now.regions m) k (drop (i + 1) ks) w (drop (i + 1) ws) refers) ∙ ap (fold shaded (at_work now.regions m)) (sym (slots_at ks ws i k w kin win kind word)) ∙ h.left; room = h.room; pool = h.pool; sound = h.sound; same = h.same })
+field_shaded s ks ws i k w before now after first m n kin win kind word refers h = shade_walk_past_one_id s w (references_among (drop (i + 1) ks) (drop (i + 1) ws)) before now after first m n (record { left = sym (slot_shaded (at_work now.regions m) k (drop (i + 1) ks) w (drop (i + 1) ws) refers) ∙ ap (fold shaded (at_work now.regions m)) (sym (slots_at ks ws i k w kin win kind word)) ∙ h.left; room = h.room; pool = h.pool; sound = h.sound; same = h.same })
 
 pub field_passed : (s : MarkState) (ks : List Kind) (ws : List ℕ) (i : ℕ) (k : Kind) (before now : RegionPool) (first m : MarkerState) → i < length ks → i < length ws → k ≡ get_or ks i Kind.Object → is_reference k ≡ false → IsUnderWay s (references_among (drop i ks) (drop i ws)) before now first m → IsUnderWay s (references_among (drop (i + 1) ks) (drop (i + 1) ws)) before now first m
 field_passed s ks ws i k before now first m kin win kind other h = subst (λ (rest : List ℕ). IsUnderWay s rest before now first m) (slots_at ks ws i k (get_or ws i 0) kin win kind refl ∙ slot_passed k (drop (i + 1) ks) (get_or ws i 0) (drop (i + 1) ws) other) h
 
 pub fields_arrived : (s : MarkState) (ks : List Kind) (ws : List ℕ) (i : ℕ) (before now : RegionPool) (first m : MarkerState) → i ≡ length ks → IsUnderWay s (references_among (drop i ks) (drop i ws)) before now first m → (m ≡ after_work s first) × (now ≡ record before { regions = s.regions })
 unfolding references_among
-fields_arrived s ks ws i before now first m all h = arrived s before now first m (subst (λ (left : List Kind). IsUnderWay s (references_among left (drop i ws)) before now first m) (ap (λ (j : ℕ). drop j ks) all ∙ drop-length ks) h)
+fields_arrived s ks ws i before now first m all h = shade_walk_without_ids_left s before now first m (subst (λ (left : List Kind). IsUnderWay s (references_among left (drop i ws)) before now first m) (ap (λ (j : ℕ). drop j ks) all ∙ drop-length ks) h)
 
 -- ---- reading a word on the way
 
 pub within_words : (now before : List Region) (at : ObjRef) (o : Object) (slot : ℕ) → without_marks now ≡ without_marks before → object_at before at ≡ Some o → slot < length o.words → IsSome (object_at now at) × IfSome (object_at now at) (λ p. slot < length p.words)
-within_words now before at o slot same there within = let q : (p : Object) × (object_at now at ≡ Some p) × (p.words ≡ o.words) = still_placed now before at o same there in (rw q.1 refl, rw q.1 (omega (arith, within, ap length q.2)))
+within_words now before at o slot same there within = let q : (p : Object) × (object_at now at ≡ Some p) × (p.words ≡ o.words) = shaded_object_keeps_its_words now before at o same there in (rw q.1 refl, rw q.1 (omega (arith, within, ap length q.2)))
 
 -- so of an object that was found
 pub words_still : (P : Object → Type 0) (now before : List Region) (at : ObjRef) (slot : ℕ) → IsSomeAnd (object_at before at) P → ((o : Object) → object_at before at ≡ Some o → (without_marks now ≡ without_marks before) × (slot < length o.words)) → IsSome (object_at now at) × IfSome (object_at now at) (λ p. slot < length p.words)
 words_still P now before at slot found same =
-    let q = some_there (object_at before at) P found in
+    let q = some_and_property_give_value (object_at before at) P found in
     within_words now before at q.0 slot (same q.0 q.1).0 q.1 (same q.0 q.1).1
 
 pub word_was : (now before : List Region) (at : ObjRef) (o : Object) (slot w : ℕ) → without_marks now ≡ without_marks before → object_at before at ≡ Some o → IfSome (object_at now at) (λ p. w ≡ get_or p.words slot 0) → w ≡ get_or o.words slot 0
-word_was now before at o slot w same there told = let q : (p : Object) × (object_at now at ≡ Some p) × (p.words ≡ o.words) = still_placed now before at o same there in (rw q.1 at told) ∙ ap (λ (ws : List ℕ). get_or ws slot 0) q.2
+word_was now before at o slot w same there told = let q : (p : Object) × (object_at now at ≡ Some p) × (p.words ≡ o.words) = shaded_object_keeps_its_words now before at o same there in (rw q.1 at told) ∙ ap (λ (ws : List ℕ). get_or ws slot 0) q.2

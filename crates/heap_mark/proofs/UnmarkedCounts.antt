@@ -13,8 +13,8 @@ use Rattle.heap_mark.specs.MarkSteps.{each_region, dead_count}
 abbrev pub unmarked_count : List Region → ℕ
 unmarked_count regions = sum_by (λ x. unmarked_in (used_part x)) regions
 
-abbrev one : Option Object → ℕ
-one x = cond (is_unmarked x) 1 0
+abbrev unmarked_count_of_cell : Option Object → ℕ
+unmarked_count_of_cell x = cond (is_unmarked x) 1 0
 
 -- ---- regions
 
@@ -40,17 +40,17 @@ no_region_left regions r le = at_drop_all unmarked_count regions r le
 abbrev is_dead : ObjRef × Object → Bool
 is_dead p = not p.1.live
 
-abbrev placed : ℕ → ℕ × Option Object → Option (ObjRef × Object)
-placed r c = option_map (λ o. (record { region = r; cell = c.0 }, o)) c.1
+abbrev place_with_its_object : ℕ → ℕ × Option Object → Option (ObjRef × Object)
+place_with_its_object r c = option_map (λ o. (record { region = r; cell = c.0 }, o)) c.1
 
-cells_dead : (r n : ℕ) (cells : List (Option Object)) → count_by is_dead (filter_map (placed r) (enumerate_from n (map (option_map turned_object) cells))) ≡ count_by is_unmarked cells
+cells_dead : (r n : ℕ) (cells : List (Option Object)) → count_by is_dead (filter_map (place_with_its_object r) (enumerate_from n (map (option_map turned_object) cells))) ≡ count_by is_unmarked cells
 cells_dead r n [] = refl
 cells_dead r n (None ∷ os) =
     let zero : count_by is_unmarked os ≡ 0 + count_by is_unmarked os = omega arith in
-    cells_dead r (n + 1) os ∙ (zero ∙ sym (sum_by-cons one None os))
+    cells_dead r (n + 1) os ∙ (zero ∙ sym (sum_by-cons unmarked_count_of_cell None os))
 cells_dead r n (Some o ∷ os) =
-    sum_by-cons (λ (p : ObjRef × Object). cond (is_dead p) 1 0) (record { region = r; cell = n }, turned_object o) (filter_map (placed r) (enumerate_from (n + 1) (map (option_map turned_object) os)))
-    ∙ (ap (λ (k : ℕ). cond (not o.mark) 1 0 + k) (cells_dead r (n + 1) os) ∙ sym (sum_by-cons one (Some o) os))
+    sum_by-cons (λ (p : ObjRef × Object). cond (is_dead p) 1 0) (record { region = r; cell = n }, turned_object o) (filter_map (place_with_its_object r) (enumerate_from (n + 1) (map (option_map turned_object) os)))
+    ∙ (ap (λ (k : ℕ). cond (not o.mark) 1 0 + k) (cells_dead r (n + 1) os) ∙ sym (sum_by-cons unmarked_count_of_cell (Some o) os))
 
 region_dead : (r : ℕ) (x : Region) → count_by is_dead (objects_of_region (r, in_used turned_region x)) ≡ unmarked_in (used_part x)
 unfolding objects_of_region in_used turned_region

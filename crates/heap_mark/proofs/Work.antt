@@ -10,11 +10,11 @@ use Rattle.heap_region.specs.Pool.{RegionPool}
 use Rattle.heap_region.specs.Legal.{IsRegionPool}
 use Rattle.heap_region.proofs.Ids.{null_names_none}
 use Rattle.heap_region.proofs.ChangedLookups.{object_at_ref}
-use Rattle.heap_region.proofs.References.{member_cases}
+use Rattle.heap_region.proofs.References.{member_is_head_or_later}
 use Rattle.heap_mark.specs.MarkSteps.{MarkState, is_white, with_mark_of, shaded}
 use Rattle.heap_mark.specs.Marker.{MarkerState, at_work, after_work, NamesMarked, IsGraySound}
-use Rattle.heap_mark.proofs.Shades.{IsWhite, IsShadedAt, as_marked, object_white, shades_one, distinct_one}
-use Rattle.heap_mark.proofs.Room.{few_ids}
+use Rattle.heap_mark.proofs.Shades.{IsWhite, IsShadedAt, as_marked, object_white, shades_one, gray_distinct_after_one_shade}
+use Rattle.heap_mark.proofs.Room.{distinct_ids_fit_the_cells}
 
 -- ---- one id
 
@@ -41,15 +41,15 @@ shaded_white s x at e white =
 
 -- ---- the stack stays sound
 
-pub dark : (regions : List Region) (m : MarkerState) → IsGraySound regions m → (y : ℕ) → Contains m.gray y → IsWhite regions y → ⊥
-dark regions m h y c w = let n : NamesMarked regions y = h.marked y c in differ n.0 w.0 (n.1) w.1 n.2 w.2
+pub no_gray_object_is_white : (regions : List Region) (m : MarkerState) → IsGraySound regions m → (y : ℕ) → Contains m.gray y → IsWhite regions y → ⊥
+no_gray_object_is_white regions m h y c w = let n : NamesMarked regions y = h.marked y c in differ n.0 w.0 (n.1) w.1 n.2 w.2
   where
     differ : (o p : Object) → object_of regions y ≡ Some o → object_of regions y ≡ Some p → o.mark ≡ true → p.mark ≡ false → ⊥
     differ o p a b t f = let e : o ≡ p = cc in let m : p.mark ≡ true = ap (λ (q : Object). q.mark) (sym e) ∙ t in cc
 
 pub sound_shaded : (regions : List Region) (m : MarkerState) (x : ℕ) → IsGraySound regions m → IsGraySound (shaded (at_work regions m) x).regions (after_work (shaded (at_work regions m) x) m)
 sound_shaded regions m x h = record {
-  distinct = distinct_one s x h.distinct (dark regions m h);
+  distinct = gray_distinct_after_one_shade s x h.distinct (no_gray_object_is_white regions m h);
   marked = λ y c. named y ((shades_one s x).each y) ((shades_one s x).new_gray y c);
   ids = subst (λ n. 256 * n ≤ m.room) (sym (shades_one s x).count) h.ids;
 }
@@ -69,17 +69,17 @@ sound_shaded regions m x h = record {
 pub room_left : (p : RegionPool) (m : MarkerState) (x : ℕ) → IsRegionPool p → IsGraySound p.regions m → IsWhite p.regions x → length m.gray < m.room
 unfolding shaded
 room_left p m x legal h white =
-    let few : length (x ∷ m.gray) ≤ 256 * length p.regions = few_ids p (x ∷ m.gray) legal distinct named in
+    let few : length (x ∷ m.gray) ≤ 256 * length p.regions = distinct_ids_fit_the_cells p (x ∷ m.gray) legal distinct named in
     omega (arith, few, h.ids)
   where
     distinct : IsDistinct nat_eq (x ∷ m.gray)
-    distinct = subst (IsDistinct nat_eq) gray (distinct_one (at_work p.regions m) x h.distinct (dark p.regions m h))
+    distinct = subst (IsDistinct nat_eq) gray (gray_distinct_after_one_shade (at_work p.regions m) x h.distinct (no_gray_object_is_white p.regions m h))
       where
         gray : (shaded (at_work p.regions m) x).gray ≡ x ∷ m.gray
         gray = ap (λ (b : Bool). (if b then record (at_work p.regions m) { regions = with_mark_of true x p.regions; gray = x ∷ m.gray } else at_work p.regions m).gray) (object_white p.regions x white)
 
     named : (y : ℕ) → Contains (x ∷ m.gray) y → IsSome (object_of p.regions y)
-    named y c = elim (member_cases x m.gray y c) [ inl e ↦ rw (e, white.1) refl | inr d ↦ rw (h.marked y d).1 refl ]
+    named y c = elim (member_is_head_or_later x m.gray y c) [ inl e ↦ rw (e, white.1) refl | inr d ↦ rw (h.marked y d).1 refl ]
 
 -- what an object's mark is, by what its place tells
 pub told_mark : (regions : List Region) (x : ℕ) (at : ObjRef) (live mark : Bool) → ref_of regions x ≡ Some at → IsSome (object_of regions x) → IfSome (object_at regions at) (λ o. (live ≡ o.live) × (mark ≡ o.mark)) → (o : Object) × (object_of regions x ≡ Some o) × (mark ≡ o.mark)

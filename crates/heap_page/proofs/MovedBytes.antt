@@ -8,26 +8,26 @@ use Rattle.http_server.specs.History.{History, IsQuiet, after_read, after_sent}
 use Rattle.heap_page.specs.Moves.{Moves, Receives, Sends}
 
 -- a read that failed took nothing
-kept_taken : (a b : Option (List ℕ)) → Keeps a b → Consumes a b []
-kept_taken None b p = tt
-kept_taken (Some x) None p = absurd p
-kept_taken (Some x) (Some y) p = sym p
+failed_read_took_nothing : (a b : Option (List ℕ)) → Keeps a b → Consumes a b []
+failed_read_took_nothing None b p = tt
+failed_read_took_nothing (Some x) None p = absurd p
+failed_read_took_nothing (Some x) (Some y) p = sym p
 
 -- a write that failed put nothing
-kept_put : (w v : Option (List ℕ)) → Keeps w v → Appends w v []
-kept_put None v p = tt
-kept_put (Some x) None p = absurd p
-kept_put (Some x) (Some y) p = p ∙ sym (append-nil x)
+failed_write_puts_nothing : (w v : Option (List ℕ)) → Keeps w v → Appends w v []
+failed_write_puts_nothing None v p = tt
+failed_write_puts_nothing (Some x) None p = absurd p
+failed_write_puts_nothing (Some x) (Some y) p = p ∙ sym (append-nil x)
 
 -- what is left alone is kept
-kept : (a : Option (List ℕ)) → Keeps a a
-kept None = tt
-kept (Some x) = refl
+left_alone_is_kept : (a : Option (List ℕ)) → Keeps a a
+left_alone_is_kept None = tt
+left_alone_is_kept (Some x) = refl
 
 pub nothing_received : (a b : Option (List ℕ)) (h g : History) → (g ≡ h) × Keeps a b → Receives a b h g
 nothing_received a b h g p = record {
   bytes = [];
-  taken = kept_taken a b p.1;
+  taken = failed_read_took_nothing a b p.1;
   received = ap (λ (k : History). k.received) p.0 ∙ sym (append-nil h.received);
   sent = ap (λ (k : History). k.sent) p.0;
   calls = ap (λ (k : History). k.calls) p.0;
@@ -46,7 +46,7 @@ some_received a b h g n p = record {
 pub nothing_sent : (w v : Option (List ℕ)) (c d : Connection) → (d ≡ c) × Keeps w v → Sends w v (history c) (history d)
 nothing_sent w v c d p = record {
   bytes = [];
-  put = kept_put w v p.1;
+  put = failed_write_puts_nothing w v p.1;
   sent = ap (λ k. (history k).sent) p.0 ∙ sym (append-nil (history c).sent);
   received = ap (λ k. (history k).received) p.0;
   calls = ap (λ k. (history k).calls) p.0;
@@ -67,14 +67,14 @@ received_moves a b w h g r = record {
   taken = r.taken;
   received = r.received;
   went = [];
-  put = kept_put w w (kept w);
+  put = failed_write_puts_nothing w w (left_alone_is_kept w);
   sent = r.sent ∙ sym (append-nil h.sent);
 }
 
 pub sent_moves : (a w v : Option (List ℕ)) (h g : History) → Sends w v h g → Moves a a w v h g
 sent_moves a w v h g s = record {
   came = [];
-  taken = kept_taken a a (kept a);
+  taken = failed_read_took_nothing a a (left_alone_is_kept a);
   received = s.received ∙ sym (append-nil h.received);
   went = s.bytes;
   put = s.put;

@@ -21,6 +21,34 @@ pub enum Asked {
     Refused(StatusCode),
 }
 
+/// Returns what a request asks for. A request by another name of the host, or from a page of another server, is refused 403 before
+/// anything else of it is looked at; one without the key is refused 401.
+pub fn asked_of(request: &Request<Bytes>, terms: &PageTerms) -> Asked
+    ensures { result ≡ asked_of terms.now (head_of request.now) }
+{
+    if !is_admitted(request, terms) {
+        return Asked::Refused(StatusCode::FORBIDDEN);
+    }
+    let uri = request.uri();
+    if uri.query().is_some() {
+        return Asked::Refused(StatusCode::NOT_FOUND);
+    }
+    asked_by(
+        uri.path(),
+        request.method().as_str(),
+        has_key(request.headers(), terms),
+    )
+}
+
+// Tells whether a request comes by a name of this server and from no other page, and asks for no other server.
+fn is_admitted(request: &Request<Bytes>, terms: &PageTerms) -> bool
+    ensures { result ≡ is_admitted terms.now (head_of request.now) }
+{
+    let headers = request.headers();
+    request.uri().authority().is_none()
+        && (has_own_host(headers, terms) && has_own_origin(headers, terms))
+}
+
 // Tells whether there is only one host, and it is this server.
 fn has_own_host(headers: &HeaderMap, terms: &PageTerms) -> bool
     ensures { result ≡ has_own_host terms.now (get_all headers.now (codes "host")) }
@@ -48,19 +76,20 @@ fn has_own_origin(headers: &HeaderMap, terms: &PageTerms) -> bool
     }
 }
 
-// Tells whether the request has the key.
-fn has_key(headers: &HeaderMap, terms: &PageTerms) -> bool
-    ensures { result ≡ has_key terms.now (get_all headers.now (codes "x-heapdbg-key")) }
+// Returns what is asked by this path and method, with the key or not.
+fn asked_by(path: &str, method: &str, keyed: bool) -> Asked
+    ensures { result ≡ asked_by path.now method.now keyed }
 {
-    let mut values = headers
-        .get_all(HeaderName::from_static("x-heapdbg-key"))
-        .iter();
-    let first = values.next();
-    let second = values.next();
-    match (first, second) {
-        (Some(value), None) => terms.is_key(value.as_bytes()),
-        _ => false,
+    if path == "/" {
+        return asked_page(method);
     }
+    if path == "/ask" {
+        return asked_with(method, keyed, Asked::Line);
+    }
+    if path == "/dump" {
+        return asked_with(method, keyed, Asked::Dump);
+    }
+    Asked::Refused(StatusCode::NOT_FOUND)
 }
 
 // Returns what is asked of the page by this method.
@@ -87,46 +116,17 @@ fn asked_with(method: &str, keyed: bool, asked: Asked) -> Asked
     }
 }
 
-// Returns what is asked by this path and method, with the key or not.
-fn asked_by(path: &str, method: &str, keyed: bool) -> Asked
-    ensures { result ≡ asked_by path.now method.now keyed }
+// Tells whether the request has the key.
+fn has_key(headers: &HeaderMap, terms: &PageTerms) -> bool
+    ensures { result ≡ has_key terms.now (get_all headers.now (codes "x-heapdbg-key")) }
 {
-    if path == "/" {
-        return asked_page(method);
+    let mut values = headers
+        .get_all(HeaderName::from_static("x-heapdbg-key"))
+        .iter();
+    let first = values.next();
+    let second = values.next();
+    match (first, second) {
+        (Some(value), None) => terms.is_key(value.as_bytes()),
+        _ => false,
     }
-    if path == "/ask" {
-        return asked_with(method, keyed, Asked::Line);
-    }
-    if path == "/dump" {
-        return asked_with(method, keyed, Asked::Dump);
-    }
-    Asked::Refused(StatusCode::NOT_FOUND)
-}
-
-// Tells whether a request comes by a name of this server and from no other page, and asks for no other server.
-fn is_admitted(request: &Request<Bytes>, terms: &PageTerms) -> bool
-    ensures { result ≡ is_admitted terms.now (head_of request.now) }
-{
-    let headers = request.headers();
-    request.uri().authority().is_none()
-        && (has_own_host(headers, terms) && has_own_origin(headers, terms))
-}
-
-/// Returns what a request asks for. A request by another name of the host, or from a page of another server, is refused 403 before
-/// anything else of it is looked at; one without the key is refused 401.
-pub fn asked_of(request: &Request<Bytes>, terms: &PageTerms) -> Asked
-    ensures { result ≡ asked_of terms.now (head_of request.now) }
-{
-    if !is_admitted(request, terms) {
-        return Asked::Refused(StatusCode::FORBIDDEN);
-    }
-    let uri = request.uri();
-    if uri.query().is_some() {
-        return Asked::Refused(StatusCode::NOT_FOUND);
-    }
-    asked_by(
-        uri.path(),
-        request.method().as_str(),
-        has_key(request.headers(), terms),
-    )
 }

@@ -31,60 +31,6 @@ pub enum Turn {
     Over,
 }
 
-// Tells what a read or a write that failed means for its client.
-fn turn_of_fault(error: &io::Error) -> Turn {
-    match error.kind() {
-        ErrorKind::WouldBlock | ErrorKind::Interrupted => Turn::Quiet,
-        _ => Turn::Over,
-    }
-}
-
-// Reads once. The end of the input moves the connection on, too.
-#[tactic(auto, using(crate::proofs::MovedBytes::nothing_received, crate::proofs::MovedBytes::some_received))]
-fn receive<R: Read>(connection: &mut Connection, reader: &mut R) -> Turn
-    ensures received { Receives (R.remaining reader.old) (R.remaining reader.new)
-        (history connection.old) (history connection.new) }
-    ensures config { config_of connection.new ≡ config_of connection.old }
-{
-    match connection.read_from(reader) {
-        Ok(_) => Turn::Moved,
-        Err(error) => turn_of_fault(&error),
-    }
-}
-
-// Writes once. A client that takes nothing has left.
-#[tactic(auto, using(crate::proofs::MovedBytes::nothing_sent, crate::proofs::MovedBytes::some_sent))]
-fn send<W: Write>(connection: &mut Connection, writer: &mut W) -> Turn
-    ensures sent { Sends (W.contents writer.old) (W.contents writer.new) (history connection.old)
-        (history connection.new) }
-    ensures config { config_of connection.new ≡ config_of connection.old }
-{
-    match connection.write_to(writer) {
-        Ok(0) => Turn::Over,
-        Ok(_) => Turn::Moved,
-        Err(error) => turn_of_fault(&error),
-    }
-}
-
-// Writes some of what waits to be sent, or reads once if nothing does.
-#[tactic(auto, using(crate::proofs::MovedBytes::received_moves, crate::proofs::MovedBytes::sent_moves))]
-fn move_bytes<R: Read, W: Write>(
-    connection: &mut Connection,
-    reader: &mut R,
-    writer: &mut W,
-) -> Turn
-    ensures moved { Moves (R.remaining reader.old) (R.remaining reader.new)
-        (W.contents writer.old) (W.contents writer.new) (history connection.old)
-        (history connection.new) }
-    ensures calls { (history connection.new).calls ≡ (history connection.old).calls }
-    ensures config { config_of connection.new ≡ config_of connection.old }
-{
-    if connection.wants_write() {
-        return send(connection, writer);
-    }
-    receive(connection, reader)
-}
-
 /// Writes some of what waits to be sent, or reads once if nothing does, and has the service answer the requests that have come
 /// whole, in order. Returns Over if HTTP has nothing more to do.
 #[tactic(auto, using(crate::proofs::MovedBytes::answered_moves))]
@@ -109,6 +55,60 @@ pub fn exchange<S: Service, R: Read, W: Write>(
         return Turn::Over;
     }
     moved
+}
+
+// Writes some of what waits to be sent, or reads once if nothing does.
+#[tactic(auto, using(crate::proofs::MovedBytes::received_moves, crate::proofs::MovedBytes::sent_moves))]
+fn move_bytes<R: Read, W: Write>(
+    connection: &mut Connection,
+    reader: &mut R,
+    writer: &mut W,
+) -> Turn
+    ensures moved { Moves (R.remaining reader.old) (R.remaining reader.new)
+        (W.contents writer.old) (W.contents writer.new) (history connection.old)
+        (history connection.new) }
+    ensures calls { (history connection.new).calls ≡ (history connection.old).calls }
+    ensures config { config_of connection.new ≡ config_of connection.old }
+{
+    if connection.wants_write() {
+        return send(connection, writer);
+    }
+    receive(connection, reader)
+}
+
+// Writes once. A client that takes nothing has left.
+#[tactic(auto, using(crate::proofs::MovedBytes::nothing_sent, crate::proofs::MovedBytes::some_sent))]
+fn send<W: Write>(connection: &mut Connection, writer: &mut W) -> Turn
+    ensures sent { Sends (W.contents writer.old) (W.contents writer.new) (history connection.old)
+        (history connection.new) }
+    ensures config { config_of connection.new ≡ config_of connection.old }
+{
+    match connection.write_to(writer) {
+        Ok(0) => Turn::Over,
+        Ok(_) => Turn::Moved,
+        Err(error) => turn_of_fault(&error),
+    }
+}
+
+// Tells what a read or a write that failed means for its client.
+fn turn_of_fault(error: &io::Error) -> Turn {
+    match error.kind() {
+        ErrorKind::WouldBlock | ErrorKind::Interrupted => Turn::Quiet,
+        _ => Turn::Over,
+    }
+}
+
+// Reads once. The end of the input moves the connection on, too.
+#[tactic(auto, using(crate::proofs::MovedBytes::nothing_received, crate::proofs::MovedBytes::some_received))]
+fn receive<R: Read>(connection: &mut Connection, reader: &mut R) -> Turn
+    ensures received { Receives (R.remaining reader.old) (R.remaining reader.new)
+        (history connection.old) (history connection.new) }
+    ensures config { config_of connection.new ≡ config_of connection.old }
+{
+    match connection.read_from(reader) {
+        Ok(_) => Turn::Moved,
+        Err(error) => turn_of_fault(&error),
+    }
 }
 
 // A client: its socket, what HTTP knows of it, and when bytes last moved.

@@ -88,43 +88,6 @@ fn fill_page(response: &mut Response) -> Result<(), AllocError>
     response.body.push(Bytes::from_static(PAGE))
 }
 
-// Fills a response with a body of this type.
-fn fill(response: &mut Response, kind: HeaderValue, text: Vec<u8>) -> Result<(), AllocError>
-    requires { IsResponse 200 fixed_fields [] response.old }
-    ensures { OnOk result (IsResponse 200 (typed_fields kind.bytes) text.items response.new) }
-{
-    response.add_header(HeaderName::from_static("content-type"), kind)?;
-    let Ok(bytes) = Bytes::from_vec(text) else {
-        return Err(AllocError);
-    };
-    response.body.push(bytes)
-}
-
-// Returns the status of a dump that is refused.
-fn dump_status(refusal: Refusal) -> StatusCode
-    ensures { result ≡ dump_status refusal }
-{
-    match refusal {
-        Refusal::NoMemory => StatusCode::SERVICE_UNAVAILABLE,
-        _ => StatusCode::CONFLICT,
-    }
-}
-
-// Fills a response with the name of a refusal.
-fn fill_refusal(response: &mut Response, refusal: Refusal) -> Result<(), AllocError>
-    requires { IsResponse 200 fixed_fields [] response.old }
-    ensures { OnOk result (IsRefusalResponse refusal response.new) }
-{
-    response.status = dump_status(refusal);
-    response.add_header(
-        HeaderName::from_static("content-type"),
-        HeaderValue::from_static("text/plain; charset=us-ascii"),
-    )?;
-    response
-        .body
-        .push(Bytes::from_static(refusal.name().as_bytes()))
-}
-
 // Fills a response with the dump of a state of a machine, or with the reason why there is none.
 fn dump_response(
     alloc: Global,
@@ -144,6 +107,58 @@ fn dump_response(
         }
         Err(refusal) => fill_refusal(response, refusal),
     }
+}
+
+// Fills a response with a body of this type.
+fn fill(response: &mut Response, kind: HeaderValue, text: Vec<u8>) -> Result<(), AllocError>
+    requires { IsResponse 200 fixed_fields [] response.old }
+    ensures { OnOk result (IsResponse 200 (typed_fields kind.bytes) text.items response.new) }
+{
+    response.add_header(HeaderName::from_static("content-type"), kind)?;
+    let Ok(bytes) = Bytes::from_vec(text) else {
+        return Err(AllocError);
+    };
+    response.body.push(bytes)
+}
+
+// Fills a response with the name of a refusal.
+fn fill_refusal(response: &mut Response, refusal: Refusal) -> Result<(), AllocError>
+    requires { IsResponse 200 fixed_fields [] response.old }
+    ensures { OnOk result (IsRefusalResponse refusal response.new) }
+{
+    response.status = dump_status(refusal);
+    response.add_header(
+        HeaderName::from_static("content-type"),
+        HeaderValue::from_static("text/plain; charset=us-ascii"),
+    )?;
+    response
+        .body
+        .push(Bytes::from_static(refusal.name().as_bytes()))
+}
+
+// Returns the status of a dump that is refused.
+fn dump_status(refusal: Refusal) -> StatusCode
+    ensures { result ≡ dump_status refusal }
+{
+    match refusal {
+        Refusal::NoMemory => StatusCode::SERVICE_UNAVAILABLE,
+        _ => StatusCode::CONFLICT,
+    }
+}
+
+// Fills a response with the answer of a line about the heap under its lock.
+fn answer_response<L: Heap>(
+    alloc: Global,
+    kept: &Kept<L>,
+    line: &[u8],
+    response: &mut Response,
+) -> Result<(), AllocError>
+    requires { IsResponse 200 fixed_fields [] response.old }
+    ensures { OnOk result
+        (IsAnswerResponse line.now kept.now.machine kept.now.chronicle response.new) }
+{
+    let answer = answer_held(alloc, kept, line);
+    fill_printed(alloc, answer, response)
 }
 
 // Returns the answer of a line about the heap under its lock.
@@ -166,21 +181,6 @@ fn fill_printed(
 {
     let kind = HeaderValue::from_static("text/plain; charset=us-ascii");
     fill(response, kind, printed(alloc, answer)?)
-}
-
-// Fills a response with the answer of a line about the heap under its lock.
-fn answer_response<L: Heap>(
-    alloc: Global,
-    kept: &Kept<L>,
-    line: &[u8],
-    response: &mut Response,
-) -> Result<(), AllocError>
-    requires { IsResponse 200 fixed_fields [] response.old }
-    ensures { OnOk result
-        (IsAnswerResponse line.now kept.now.machine kept.now.chronicle response.new) }
-{
-    let answer = answer_held(alloc, kept, line);
-    fill_printed(alloc, answer, response)
 }
 
 impl<'a, L: Heap, R: Wait> PageService<'a, L, R> {

@@ -22,55 +22,6 @@ pub struct PagePort {
     pub terms: PageTerms,
 }
 
-// Lets the client go that has been quiet for longest, if there are as many as may be.
-fn make_room(clients: &mut Vec<Client>, now: Instant) {
-    if clients.len() < CLIENT_LIMIT {
-        return;
-    }
-    let mut quietest = 0;
-    for i in 0..clients.len() {
-        if clients[i].quiet(now) > clients[quietest].quiet(now) {
-            quietest = i;
-        }
-    }
-    let _ = clients.swap_remove(quietest);
-}
-
-// Accepts a client, if one has come. Returns whether one has.
-fn accept(alloc: Global, port: &PagePort, clients: &mut Vec<Client>, now: Instant) -> bool {
-    let Ok(stream) = port.listener.accept() else {
-        return false;
-    };
-    make_room(clients, now);
-    if let Ok(client) = Client::new(alloc, port.keys, stream, now) {
-        let _ = clients.push(client);
-    }
-    true
-}
-
-// Gives each client a turn. Returns whether bytes moved.
-fn serve_clients<L: Heap, R: Wait>(
-    service: &mut PageService<'_, L, R>,
-    clients: &mut Vec<Client>,
-    now: Instant,
-) -> bool {
-    let mut moved = false;
-    let mut i = 0;
-    while i < clients.len() {
-        match clients[i].turn(service, now) {
-            Turn::Over => {
-                let _ = clients.swap_remove(i);
-            }
-            Turn::Moved => {
-                moved = true;
-                i += 1;
-            }
-            Turn::Quiet => i += 1,
-        }
-    }
-    moved
-}
-
 /// Answers the clients of a page until the stop word is set. Takes the lock for each question and each dump, while it is made, and
 /// holds none while bytes move. A client that sends and takes nothing for 20 seconds is let go, and so is the one that has been quiet for
 /// longest when a seventeenth comes. Answers nobody if there is no clock. May wait.
@@ -98,4 +49,53 @@ pub fn tend_page<L: Heap, R: Clock + Wait>(
         }
     }
     unreachable!()
+}
+
+// Accepts a client, if one has come. Returns whether one has.
+fn accept(alloc: Global, port: &PagePort, clients: &mut Vec<Client>, now: Instant) -> bool {
+    let Ok(stream) = port.listener.accept() else {
+        return false;
+    };
+    make_room(clients, now);
+    if let Ok(client) = Client::new(alloc, port.keys, stream, now) {
+        let _ = clients.push(client);
+    }
+    true
+}
+
+// Lets the client go that has been quiet for longest, if there are as many as may be.
+fn make_room(clients: &mut Vec<Client>, now: Instant) {
+    if clients.len() < CLIENT_LIMIT {
+        return;
+    }
+    let mut quietest = 0;
+    for i in 0..clients.len() {
+        if clients[i].quiet(now) > clients[quietest].quiet(now) {
+            quietest = i;
+        }
+    }
+    let _ = clients.swap_remove(quietest);
+}
+
+// Gives each client a turn. Returns whether bytes moved.
+fn serve_clients<L: Heap, R: Wait>(
+    service: &mut PageService<'_, L, R>,
+    clients: &mut Vec<Client>,
+    now: Instant,
+) -> bool {
+    let mut moved = false;
+    let mut i = 0;
+    while i < clients.len() {
+        match clients[i].turn(service, now) {
+            Turn::Over => {
+                let _ = clients.swap_remove(i);
+            }
+            Turn::Moved => {
+                moved = true;
+                i += 1;
+            }
+            Turn::Quiet => i += 1,
+        }
+    }
+    moved
 }

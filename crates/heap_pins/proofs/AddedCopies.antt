@@ -57,9 +57,9 @@ pub record PutsNext (dead : List (ℕ × Object)) (i : ℕ) (d : ℕ × Object) 
   pub fit : AreFit g.cell_size (length g.cells) (drop (i + 1) dead)
   pub rest : with_dead (drop (i + 1) dead) g ≡ with_dead (drop i dead) f
 
-pub puts_next : (dead : List (ℕ × Object)) (i : ℕ) (d : ℕ × Object) (f g : Frozen) → i < length dead → d ≡ slice_index_or dead i d → AreFit f.cell_size (length f.cells) (drop i dead) → g ≡ frozen_with d.0 (Some d.1) f → PutsNext dead i d f g
+pub next_dead_is_put : (dead : List (ℕ × Object)) (i : ℕ) (d : ℕ × Object) (f g : Frozen) → i < length dead → d ≡ slice_index_or dead i d → AreFit f.cell_size (length f.cells) (drop i dead) → g ≡ frozen_with d.0 (Some d.1) f → PutsNext dead i d f g
 unfolding with_dead
-puts_next dead i d f g lt e fit is =
+next_dead_is_put dead i d f g lt e fit is =
     let here = drop_here dead i d lt e in
     let a : AreFit f.cell_size (length f.cells) (d ∷ drop (i + 1) dead) = subst (AreFit f.cell_size (length f.cells)) here fit in
     record {
@@ -71,10 +71,10 @@ puts_next dead i d f g lt e fit is =
 
 -- ---- a record that touches no region
 
-pub kept_other : (left : Undo) (v : HeapState) (p : PinContents) → ((at : ObjRef) (slot old : ℕ) → left ≢ Put at slot old) → ((at : ObjRef) (slot old : ℕ) (logged : Bool) → left ≢ Store at slot old logged)
+pub other_records_keep_the_pin : (left : Undo) (v : HeapState) (p : PinContents) → ((at : ObjRef) (slot old : ℕ) → left ≢ Put at slot old) → ((at : ObjRef) (slot old : ℕ) (logged : Bool) → left ≢ Store at slot old logged)
     → ((region : ℕ) (dead : List (ℕ × Object)) → left ≢ Sweep region dead) → ((region : ℕ) (storage : UsedRegion) → left ≢ Reclaim region storage) → p ≡ kept left v p
 unfolding kept kept_if
-kept_other left v p a b c d = by_region (λ u. left ≡ u → p ≡ kept u v p)
+other_records_keep_the_pin left v p a b c d = by_region (λ u. left ≡ u → p ≡ kept u v p)
     (λ at slot old e. absurd (a at slot old e))
     (λ at slot old logged e. absurd (b at slot old logged e))
     (λ region dead e. absurd (c region dead e))
@@ -83,6 +83,6 @@ kept_other left v p a b c d = by_region (λ u. left ≡ u → p ≡ kept u v p)
     left refl
 
 -- what holds anyhow holds at a refusal
-pub on_err : {A E P : Type 0} (r : Result A E) → P → OnErr r P
-on_err (Ok a) p = tt
-on_err (Err e) p = p
+pub truth_holds_at_refusal : {A E P : Type 0} (r : Result A E) → P → OnErr r P
+truth_holds_at_refusal (Ok a) p = tt
+truth_holds_at_refusal (Err e) p = p

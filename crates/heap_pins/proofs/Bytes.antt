@@ -16,15 +16,15 @@ use Rattle.heap_step.specs.declared.Undo.TheVariants.{New, Sweep}
 use Rattle.heap_pins.specs.Pin.{PinContents, place}
 use Rattle.heap_pins.specs.States.{HasBytesBefore, HasRegion, IsSetFrom, AreBytesWritten, byte_before}
 use Rattle.heap_pins.specs.Walk.{cell_state, dead_state, states_before}
-use Rattle.heap_pins.proofs.LiveCounts.{few_cells}
-use Rattle.heap_pins.proofs.LiveBytes.{place_is}
+use Rattle.heap_pins.proofs.LiveCounts.{cell_table_below_257_cells}
+use Rattle.heap_pins.proofs.LiveBytes.{place_of_number_by_cell}
 use Rattle.heap_pins.proofs.AddedCopies.{drop_here}
 
-pub none_set : (f : ℕ → ℕ) (start : ℕ) (old : List ℕ) → IsSetFrom f start 0 old old
-none_set f start old = record { within = λ c lt. absurd (omega (arith, lt)); others = λ k out. refl }
+pub no_byte_is_set : (f : ℕ → ℕ) (start : ℕ) (old : List ℕ) → IsSetFrom f start 0 old old
+no_byte_is_set f start old = record { within = λ c lt. absurd (omega (arith, lt)); others = λ k out. refl }
 
-pub one_set : (f : ℕ → ℕ) (start n : ℕ) (old bytes : List ℕ) (y : ℕ) → IsSetFrom f start n old bytes → start + n < length bytes → y ≡ f n → IsSetFrom f start (n + 1) old (set bytes (start + n) y)
-one_set f start n old bytes y h lt e = record {
+pub one_byte_more_is_set : (f : ℕ → ℕ) (start n : ℕ) (old bytes : List ℕ) (y : ℕ) → IsSetFrom f start n old bytes → start + n < length bytes → y ≡ f n → IsSetFrom f start (n + 1) old (set bytes (start + n) y)
+one_byte_more_is_set f start n old bytes y h lt e = record {
   within = λ c less. elim (same_or_not c n) [
     | inl same ↦ get_or-set_at bytes (start + n) (start + c) y 0 (omega (arith, same)) lt ∙ e ∙ ap f (sym same)
     | inr ne ↦ get_or-set_other bytes (start + n) (start + c) y 0 (λ q. ne (omega (arith, q))) ∙ h.within c (omega (arith, less, ne))
@@ -109,11 +109,11 @@ pub record AreWritten (regions : List Region) (r : ℕ) (bytes : List ℕ) : Typ
   pub done : (k : ℕ) → k < 256 * r → get_or bytes k 0 ≡ cell_state (object_at regions (place k))
   pub rest : (k : ℕ) → 256 * r ≤ k → get_or bytes k 0 ≡ 0
 
-place_in : (r k : ℕ) → 256 * r ≤ k → k < 256 * (r + 1) → (place k).region ≡ r
-place_in r k from to = omega (arith, from, to)
+place_lies_in_region : (r k : ℕ) → 256 * r ≤ k → k < 256 * (r + 1) → (place k).region ≡ r
+place_lies_in_region r k from to = omega (arith, from, to)
 
-none_past : (regions : List Region) (at : ObjRef) → length (cells_of (used_at regions at.region)) ≤ at.cell → object_at regions at ≡ None
-none_past regions at past = object_of_used regions at ∙ go (used_at regions at.region) past
+no_object_past_region_cells : (regions : List Region) (at : ObjRef) → length (cells_of (used_at regions at.region)) ≤ at.cell → object_at regions at ≡ None
+no_object_past_region_cells regions at past = object_of_used regions at ∙ go (used_at regions at.region) past
   where
     past_cells : (cells : List (Option Object)) (c : ℕ) → length cells ≤ c → get_or cells c None ≡ None
     past_cells [] c le = refl
@@ -143,20 +143,20 @@ region_written regions r old bytes h w few = record {
         let is : k ≡ 256 * r + (k - 256 * r) = omega (arith, from) in
         ap (λ j. get_or bytes j 0) is ∙ w.within (k - 256 * r) (omega (arith, from, within)) ∙ ap (λ j. cell_state (object_at regions (place j))) (sym is)
     go k lt (inr from) (inr past) =
-        let region : (place k).region ≡ r = place_in r k from lt in
-        w.others k (inr past) ∙ h.rest k from ∙ ap cell_state (sym (none_past regions (place k) (subst (λ j. length (cells_of (used_at regions j)) ≤ k % 256) (sym region) (omega (arith, past, from, lt)))))
+        let region : (place k).region ≡ r = place_lies_in_region r k from lt in
+        w.others k (inr past) ∙ h.rest k from ∙ ap cell_state (sym (no_object_past_region_cells regions (place k) (subst (λ j. length (cells_of (used_at regions j)) ≤ k % 256) (sym region) (omega (arith, past, from, lt)))))
 
 -- or of which there are none
 -- the bytes of a region in use are those of its cells
-pub written_in : (regions : List Region) (r : ℕ) (u : UsedRegion) (old bytes : List ℕ) → used_at regions r ≡ Some u → length u.cells ≤ 256 → IsSetFrom (λ cell. cell_state (cell_object u cell)) (256 * r) (length u.cells) old bytes → AreBytesWritten regions r old bytes
-written_in regions r u old bytes used few set =
+pub bytes_of_used_region_written : (regions : List Region) (r : ℕ) (u : UsedRegion) (old bytes : List ℕ) → used_at regions r ≡ Some u → length u.cells ≤ 256 → IsSetFrom (λ cell. cell_state (cell_object u cell)) (256 * r) (length u.cells) old bytes → AreBytesWritten regions r old bytes
+bytes_of_used_region_written regions r u old bytes used few set =
     subst (λ n. IsSetFrom (λ cell. cell_state (object_at regions (place (256 * r + cell)))) (256 * r) n old bytes) (sym (ap (λ s. length (cells_of s)) used)) (record {
       within = λ c lt. set.within c lt ∙ sym (ap cell_state (here c lt));
       others = set.others;
     })
   where
     here : (c : ℕ) → c < length u.cells → object_at regions (place (256 * r + c)) ≡ cell_object u c
-    here c lt = ap (object_at regions) (place_is r c (256 * r + c) (omega (arith, lt, few)) refl) ∙ object_here regions (record { region = r; cell = c }) u used
+    here c lt = ap (object_at regions) (place_of_number_by_cell r c (256 * r + c) (omega (arith, lt, few)) refl) ∙ object_here regions (record { region = r; cell = c }) u used
 
 pub region_empty : (regions : List Region) (r : ℕ) (bytes : List ℕ) → AreWritten regions r bytes → used_at regions r ≡ None → AreWritten regions (r + 1) bytes
 region_empty regions r bytes h e = region_written regions r bytes bytes h
@@ -165,16 +165,16 @@ region_empty regions r bytes h e = region_written regions r bytes bytes h
     none : length (cells_of (used_at regions r)) ≡ 0
     none = ap (λ s. length (cells_of s)) e
 
-pub few_there : (s : RegionPool) (r : ℕ) → IsRegionPool s → length (cells_of (used_at s.regions r)) ≤ 256
-few_there s r legal = go (used_at s.regions r) refl
+pub cells_of_region_few : (s : RegionPool) (r : ℕ) → IsRegionPool s → length (cells_of (used_at s.regions r)) ≤ 256
+cells_of_region_few s r legal = go (used_at s.regions r) refl
   where
     go : (x : Option UsedRegion) → used_at s.regions r ≡ x → length (cells_of x) ≤ 256
     go None e = omega arith
-    go (Some u) e = few_cells u (legal.tables r u e)
+    go (Some u) e = cell_table_below_257_cells u (legal.tables r u e)
 
-pub none_used : (x : Option UsedRegion) (size : Option ℕ) → size ≡ option_map (λ u. u.cell_size) x → is_some size ≡ false → x ≡ None
-none_used None size e none = refl
-none_used (Some u) size e none = absurd (clash (sym (ap is_some e) ∙ none))
+pub region_without_size_is_unused : (x : Option UsedRegion) (size : Option ℕ) → size ≡ option_map (λ u. u.cell_size) x → is_some size ≡ false → x ≡ None
+region_without_size_is_unused None size e none = refl
+region_without_size_is_unused (Some u) size e none = absurd (clash (sym (ap is_some e) ∙ none))
   where
     clash : true ≡ false → ⊥
     clash c = cc

@@ -7,25 +7,25 @@ use Rattle.heap_step.specs.Apply.{state_after}
 use Rattle.heap_step.specs.Records.{undone, undo_record}
 use Rattle.heap_step.specs.Laws.{IsTakenBack}
 use Rattle.heap_pins.specs.Laws.{EventExtends, RecordExtends}
-use Rattle.heap_pins.proofs.RecordCases.{by_lists}
+use Rattle.heap_pins.proofs.RecordCases.{records_by_lists_they_keep}
 
-pub all_taken : {A : Type 0} (xs : List A) → take (length xs) xs ≡ xs
-all_taken [] = refl
-all_taken (x ∷ xs) = ap (λ ys. x ∷ ys) (all_taken xs)
+pub take_of_whole_list : {A : Type 0} (xs : List A) → take (length xs) xs ≡ xs
+take_of_whole_list [] = refl
+take_of_whole_list (x ∷ xs) = ap (λ ys. x ∷ ys) (take_of_whole_list xs)
 
-taken_again : {A : Type 0} (n : ℕ) (xs : List A) → take (length (take n xs)) xs ≡ take n xs
-taken_again zero [] = refl
-taken_again zero (x ∷ xs) = refl
-taken_again (suc n) [] = refl
-taken_again (suc n) (x ∷ xs) = ap (λ ys. x ∷ ys) (taken_again n xs)
+take_of_length_of_taken : {A : Type 0} (n : ℕ) (xs : List A) → take (length (take n xs)) xs ≡ take n xs
+take_of_length_of_taken zero [] = refl
+take_of_length_of_taken zero (x ∷ xs) = refl
+take_of_length_of_taken (suc n) [] = refl
+take_of_length_of_taken (suc n) (x ∷ xs) = ap (λ ys. x ∷ ys) (take_of_length_of_taken n xs)
 
 pub record_extends : (left : Undo) (v : HeapState) → RecordExtends left v
 unfolding undone
-record_extends left v = by_lists (λ u. RecordExtends u v)
-    (λ m r old. all_taken v.classes)
-    (λ at fresh m r old. all_taken v.classes)
-    (taken_again (length v.classes - 1) v.classes)
-    (λ u k. rw (k.classes v) (all_taken v.classes))
+record_extends left v = records_by_lists_they_keep (λ u. RecordExtends u v)
+    (λ m r old. take_of_whole_list v.classes)
+    (λ at fresh m r old. take_of_whole_list v.classes)
+    (take_of_length_of_taken (length v.classes - 1) v.classes)
+    (λ u k. rw (k.classes v) (take_of_whole_list v.classes))
     left
 
 pub event_extends : (e : Event) (w : HeapState) → IsTakenBack e w → EventExtends e w

@@ -10,7 +10,7 @@ use Rattle.heap_region.specs.Layout.{word_set}
 use Rattle.heap_region.specs.Pool.{RegionPool, restored}
 use Rattle.heap_region.specs.RegionCopies.{Frozen, frozen, frozen_word_set, region_frozen}
 use Rattle.heap_region.proofs.ChangedLookups.{same_or_not}
-use Rattle.heap_region.proofs.Lookups.{used_there}
+use Rattle.heap_region.proofs.Lookups.{used_region_after_its_change}
 use Rattle.heap_region.proofs.ShownRegions.{updated_cells}
 use Rattle.heap_sweep.specs.Sweep.{unswept, unswept_region}
 use Rattle.heap_world.specs.State.{HeapState, pool_of}
@@ -20,8 +20,8 @@ use Rattle.heap_pins.specs.Covers.{Covers}
 use Rattle.heap_pins.specs.Pin.{PinContents}
 use Rattle.heap_pins.specs.KeptCopies.{touched, with_dead, patched, copy_for, kept_at, kept_if, kept}
 use Rattle.heap_pins.specs.Shows.{KeepsRegion, KeepsFor}
-use Rattle.heap_pins.proofs.CoveringCopies.{covers_same, covers_none, none_left}
-use Rattle.heap_pins.proofs.RecordCases.{by_region, named, none_named, touches_none}
+use Rattle.heap_pins.proofs.CoveringCopies.{same_copy_covers, absent_copy_is_covered, covered_by_none_is_none}
+use Rattle.heap_pins.proofs.RecordCases.{by_region, equal_options_name_same_region, no_region_is_named, record_that_touches_no_region}
 
 -- ---- the touched region
 
@@ -32,7 +32,7 @@ changed_frozen change patch same (Some u) = ap Some (same u)
 word_copied : (at : ObjRef) (slot old : ℕ) (regions : List Region) → region_frozen (with_word at slot old regions) at.region ≡ option_map (frozen_word_set at.cell slot old) (region_frozen regions at.region)
 unfolding region_frozen with_word with_object frozen_word_set
 word_copied at slot old regions =
-    ap (option_map frozen) (used_there at.region (λ u. record u { cells = updated at.cell (option_map (word_set slot old)) u.cells }) regions)
+    ap (option_map frozen) (used_region_after_its_change at.region (λ u. record u { cells = updated at.cell (option_map (word_set slot old)) u.cells }) regions)
     ∙ changed_frozen (λ u. record u { cells = updated at.cell (option_map (word_set slot old)) u.cells }) _ (λ u. ap (λ cs. let f : Frozen = record { cell_size = u.cell_size; cells = cs } in f) (updated_cells at.cell (word_set slot old) u.cells)) (used_at regions at.region)
 
 dead_back : (dead : List (ℕ × Object)) (size : ℕ) (cells : List (Option Object)) → record { cell_size = size; cells = fold (λ cells d. slice_set cells d.0 (Some d.1)) cells dead } ≡ with_dead dead (record { cell_size = size; cells = cells })
@@ -43,20 +43,20 @@ dead_back (d ∷ dead) size cells = dead_back dead size (slice_set cells d.0 (So
 sweep_copied : (region : ℕ) (dead : List (ℕ × Object)) (s : RegionPool) → region_frozen (unswept region dead s).regions region ≡ option_map (with_dead dead) (region_frozen s.regions region)
 unfolding region_frozen unswept unswept_region
 sweep_copied region dead s =
-    ap (option_map frozen) (used_there region (unswept_region dead) s.regions)
+    ap (option_map frozen) (used_region_after_its_change region (unswept_region dead) s.regions)
     ∙ changed_frozen (unswept_region dead) (with_dead dead) (λ u. dead_back dead u.cell_size u.cells) (used_at s.regions region)
 
-put_back : (r : ℕ) (u : UsedRegion) (regions : List Region) → (used_at (set regions r (InUse u)) r ≡ None) ⊎ (used_at (set regions r (InUse u)) r ≡ Some u)
+set_region_used_or_absent : (r : ℕ) (u : UsedRegion) (regions : List Region) → (used_at (set regions r (InUse u)) r ≡ None) ⊎ (used_at (set regions r (InUse u)) r ≡ Some u)
 unfolding used_at
-put_back r u [] = inl refl
-put_back zero u (x ∷ regions) = inr refl
-put_back (suc r) u (x ∷ regions) = put_back r u regions
+set_region_used_or_absent r u [] = inl refl
+set_region_used_or_absent zero u (x ∷ regions) = inr refl
+set_region_used_or_absent (suc r) u (x ∷ regions) = set_region_used_or_absent r u regions
 
 reclaim_copied : (region : ℕ) (storage : UsedRegion) (s : RegionPool) → Covers (region_frozen (restored region storage s).regions region) (Some (frozen storage))
 unfolding region_frozen restored
-reclaim_copied region storage s = elim (put_back region storage s.regions) [
-  | inl e ↦ covers_none _ _ (ap (option_map frozen) e)
-  | inr e ↦ covers_same _ _ (sym (ap (option_map frozen) e))
+reclaim_copied region storage s = elim (set_region_used_or_absent region storage s.regions) [
+  | inl e ↦ absent_copy_is_covered _ _ (ap (option_map frozen) e)
+  | inr e ↦ same_copy_covers _ _ (sym (ap (option_map frozen) e))
 ]
 
 -- the copy has all of the region before the step
@@ -65,34 +65,34 @@ unfolding touched undone copy_for patched
 copy_covers left v r = by_region (λ u. touched u ≡ Some r → Covers (region_frozen (undone u v).regions r) (copy_for u v r))
     (λ at slot old. word at slot old)
     (λ at slot old logged. word at slot old)
-    (λ region dead t. subst (λ q. Covers (region_frozen (unswept region dead (pool_of v)).regions q) (option_map (with_dead dead) (region_frozen v.regions q))) (named region r t) (covers_same _ _ (sym (sweep_copied region dead (pool_of v)))))
-    (λ region storage t. subst (λ q. Covers (region_frozen (restored region storage (pool_of v)).regions q) (Some (frozen storage))) (named region r t) (reclaim_copied region storage (pool_of v)))
-    (λ u n. touches_none u n r _)
+    (λ region dead t. subst (λ q. Covers (region_frozen (unswept region dead (pool_of v)).regions q) (option_map (with_dead dead) (region_frozen v.regions q))) (equal_options_name_same_region region r t) (same_copy_covers _ _ (sym (sweep_copied region dead (pool_of v)))))
+    (λ region storage t. subst (λ q. Covers (region_frozen (restored region storage (pool_of v)).regions q) (Some (frozen storage))) (equal_options_name_same_region region r t) (reclaim_copied region storage (pool_of v)))
+    (λ u n. record_that_touches_no_region u n r _)
     left
   where
     word : (at : ObjRef) (slot old : ℕ) → Some at.region ≡ Some r → Covers (region_frozen (with_word at slot old v.regions) r) (option_map (frozen_word_set at.cell slot old) (region_frozen v.regions r))
-    word at slot old t = subst (λ q. Covers (region_frozen (with_word at slot old v.regions) q) (option_map (frozen_word_set at.cell slot old) (region_frozen v.regions q))) (named at.region r t) (covers_same _ _ (sym (word_copied at slot old v.regions)))
+    word at slot old t = subst (λ q. Covers (region_frozen (with_word at slot old v.regions) q) (option_map (frozen_word_set at.cell slot old) (region_frozen v.regions q))) (equal_options_name_same_region at.region r t) (same_copy_covers _ _ (sym (word_copied at slot old v.regions)))
 
 -- ---- the pin with it
 
-past_end : (regions : List Region) (r : ℕ) → length regions ≤ r → region_frozen regions r ≡ None
+no_region_past_the_list : (regions : List Region) (r : ℕ) → length regions ≤ r → region_frozen regions r ≡ None
 unfolding region_frozen used_at
-past_end [] r h = refl
-past_end (x ∷ regions) zero h = absurd (omega (arith, h))
-past_end (x ∷ regions) (suc r) h = past_end regions r (omega (arith, h))
+no_region_past_the_list [] r h = refl
+no_region_past_the_list (x ∷ regions) zero h = absurd (omega (arith, h))
+no_region_past_the_list (x ∷ regions) (suc r) h = no_region_past_the_list regions r (omega (arith, h))
 
 abbrev copy_at : List (Option Frozen) → ℕ → Option Frozen
 copy_at copies r = slice_index_or copies r None
 
-set_past : (copies : List (Option Frozen)) (q r : ℕ) (c : Option Frozen) → length copies ≤ q → copy_at (slice_set copies q c) r ≡ copy_at copies r
-set_past [] q r c h = refl
-set_past (x ∷ copies) zero r c h = absurd (omega (arith, h))
-set_past (x ∷ copies) (suc q) zero c h = refl
-set_past (x ∷ copies) (suc q) (suc r) c h = set_past copies q r c (omega (arith, h))
+copy_set_past_the_list : (copies : List (Option Frozen)) (q r : ℕ) (c : Option Frozen) → length copies ≤ q → copy_at (slice_set copies q c) r ≡ copy_at copies r
+copy_set_past_the_list [] q r c h = refl
+copy_set_past_the_list (x ∷ copies) zero r c h = absurd (omega (arith, h))
+copy_set_past_the_list (x ∷ copies) (suc q) zero c h = refl
+copy_set_past_the_list (x ∷ copies) (suc q) (suc r) c h = copy_set_past_the_list copies q r c (omega (arith, h))
 
-not_some : (x : Option Frozen) → is_some x ≡ false → x ≡ None
-not_some None e = refl
-not_some (Some f) e = cc
+not_some_copy_is_none : (x : Option Frozen) → is_some x ≡ false → x ≡ None
+not_some_copy_is_none None e = refl
+not_some_copy_is_none (Some f) e = cc
 
 is_not_none : (x : Option Frozen) → is_some x ≡ true → x ≡ None → ⊥
 is_not_none None e n = cc
@@ -104,8 +104,8 @@ module _ (left : Undo) (v : HeapState) (p : PinContents) (sized : length p.copie
   each_at q t true e r = inl refl
   each_at q t false e r = elim (same_or_not r q) [
     | inl same ↦ elim (cases_lt q (length p.copies)) [
-      | inl lt ↦ inr (ap (copy_at p.copies) same ∙ not_some (copy_at p.copies q) e, rw same (subst (Covers (region_frozen (undone left v).regions q)) (sym (get_or-set_same p.copies q (copy_for left v q) None lt)) (copy_covers left v q t)))
-      | inr past ↦ inl (set_past p.copies q r (copy_for left v q) (omega arith))
+      | inl lt ↦ inr (ap (copy_at p.copies) same ∙ not_some_copy_is_none (copy_at p.copies q) e, rw same (subst (Covers (region_frozen (undone left v).regions q)) (sym (get_or-set_same p.copies q (copy_for left v q) None lt)) (copy_covers left v q t)))
+      | inr past ↦ inl (copy_set_past_the_list p.copies q r (copy_for left v q) (omega arith))
     ]
     | inr ne ↦ inl (get_or-set_other p.copies q r (copy_for left v q) None ne)
   ]
@@ -114,8 +114,8 @@ module _ (left : Undo) (v : HeapState) (p : PinContents) (sized : length p.copie
   unfolding kept_at
   done_at q t true e none = absurd (is_not_none (copy_at p.copies q) e none)
   done_at q t false e none = elim (cases_lt q (length p.copies)) [
-    | inl lt ↦ none_left (region_frozen (undone left v).regions q) (copy_for left v q) (sym (get_or-set_same p.copies q (copy_for left v q) None lt) ∙ none) (copy_covers left v q t)
-    | inr past ↦ past_end (undone left v).regions q (omega (arith, sized))
+    | inl lt ↦ covered_by_none_is_none (region_frozen (undone left v).regions q) (copy_for left v q) (sym (get_or-set_same p.copies q (copy_for left v q) None lt) ∙ none) (copy_covers left v q t)
+    | inr past ↦ no_region_past_the_list (undone left v).regions q (omega (arith, sized))
   ]
 
   alike_at : (q : ℕ) (c : Option Frozen) (b : Bool) → ((kept_at q c b p).classes ≡ p.classes) × ((kept_at q c b p).registers ≡ p.registers) × ((kept_at q c b p).live ≡ p.live) × (length (kept_at q c b p).copies ≡ length p.copies)
@@ -125,7 +125,7 @@ module _ (left : Undo) (v : HeapState) (p : PinContents) (sized : length p.copie
 
   keeps_if : (x : Option ℕ) → touched left ≡ x → KeepsFor left v p (kept_if x left v p)
   unfolding kept_if
-  keeps_if None t = record { classes = refl; registers = refl; live = refl; as_many = refl; each = λ r. inl refl; done = λ r e. none_named r _ (sym t ∙ e) }
+  keeps_if None t = record { classes = refl; registers = refl; live = refl; as_many = refl; each = λ r. inl refl; done = λ r e. no_region_is_named r _ (sym t ∙ e) }
   keeps_if (Some q) t =
       let b : Bool = is_some (copy_at p.copies q) in
       let a = alike_at q (copy_for left v q) b in
@@ -135,10 +135,10 @@ module _ (left : Undo) (v : HeapState) (p : PinContents) (sized : length p.copie
         live = a.2;
         as_many = a.3;
         each = each_at q t b refl;
-        done = λ r e none. (let same : q ≡ r = named q r (sym t ∙ e) in subst (λ k. region_frozen (undone left v).regions k ≡ None) same (done_at q t b refl (subst (λ k. copy_at (kept_at q (copy_for left v q) b p).copies k ≡ None) (sym same) none)));
+        done = λ r e none. (let same : q ≡ r = equal_options_name_same_region q r (sym t ∙ e) in subst (λ k. region_frozen (undone left v).regions k ≡ None) same (done_at q t b refl (subst (λ k. copy_at (kept_at q (copy_for left v q) b p).copies k ≡ None) (sym same) none)));
       }
 
 -- a pin with a place for each region keeps what it has to
-pub kept_keeps : (left : Undo) (v : HeapState) (p : PinContents) → length p.copies ≡ length (undone left v).regions → KeepsFor left v p (kept left v p)
+pub kept_pin_keeps_for_step : (left : Undo) (v : HeapState) (p : PinContents) → length p.copies ≡ length (undone left v).regions → KeepsFor left v p (kept left v p)
 unfolding kept
-kept_keeps left v p sized = keeps_if left v p sized (touched left) refl
+kept_pin_keeps_for_step left v p sized = keeps_if left v p sized (touched left) refl

@@ -16,7 +16,7 @@ use Rattle.heap_world.specs.Legal.{IsLegal, HasKind}
 use Rattle.hprof_text.specs.Image.{DumpedObject, IsDumpable, IsKnown}
 use Rattle.heap_pins.specs.Images.{dumped_objects, image_of}
 use Rattle.heap_pins.proofs.LiveCounts.{Stands, live_stand, few_live, small_object}
-use Rattle.heap_class.proofs.Slots.{found_within}
+use Rattle.heap_class.proofs.Slots.{class_found_is_in_table}
 
 -- ---- limits
 
@@ -40,56 +40,56 @@ few_classes_after before (c ∷ cs) t few =
 
 known : (classes : List Class) (kind : ObjKind) (n : ℕ) → HasKind classes kind n → IsKnown classes kind n
 unfolding is_instance_class is_array_class
-known classes (Instance k) n h = (found_within classes k (λ c. not c.is_array) h.0, h.1)
-known classes (Array k) n h = found_within classes k (λ c. c.is_array) h.0
+known classes (Instance k) n h = (class_found_is_in_table classes k (λ c. not c.is_array) h.0, h.1)
+known classes (Array k) n h = class_found_is_in_table classes k (λ c. c.is_array) h.0
 known classes (Prim kind) n h = tt
 
 -- an object as a dump shows it
-abbrev shown : List Region → ObjRef × Object → DumpedObject
-shown regions p = record { id = id_of regions p.0; kind = p.1.kind; words = p.1.words }
+abbrev object_as_dump_shows_it : List Region → ObjRef × Object → DumpedObject
+object_as_dump_shows_it regions p = record { id = id_of regions p.0; kind = p.1.kind; words = p.1.words }
 
-pub dumpable : (w : HeapState) → IsLegal w → IsDumpable (image_of w)
+pub legal_heap_is_dumpable : (w : HeapState) → IsLegal w → IsDumpable (image_of w)
 unfolding image_of dumped_objects
-dumpable w legal = record {
+legal_heap_is_dumpable w legal = record {
   classes = legal.classes;
   few_classes = omega (arith, few_classes_after [] w.classes legal.classes (omega arith));
   few_registers = omega (arith, legal.sized.mutators.2, legal.sized.mutators.3);
-  few_objects = omega (arith, few_live w.regions legal.regions.tables legal.sized.regions.1, length-map (live_objects w.regions) (shown w.regions));
-  known = All-map (λ (o : DumpedObject). IsKnown w.classes o.kind (length o.words)) (shown w.regions) (live_objects w.regions)
+  few_objects = omega (arith, few_live w.regions legal.regions.tables legal.sized.regions.1, length-map (live_objects w.regions) (object_as_dump_shows_it w.regions));
+  known = All-map (λ (o : DumpedObject). IsKnown w.classes o.kind (length o.words)) (object_as_dump_shows_it w.regions) (live_objects w.regions)
       (All-weaker (Stands w.regions) (λ p. IsKnown w.classes p.1.kind (length p.1.words)) (λ p there. known w.classes p.1.kind (length p.1.words) (legal.objects p.0 p.1 there).kind) (live_objects w.regions) (live_stand w.regions));
-  small = All-map (λ (o : DumpedObject). length o.words ≤ 1024) (shown w.regions) (live_objects w.regions)
+  small = All-map (λ (o : DumpedObject). length o.words ≤ 1024) (object_as_dump_shows_it w.regions) (live_objects w.regions)
       (All-weaker (Stands w.regions) (λ p. length p.1.words ≤ 1024) (λ p there. small_object w.regions legal.regions.tables p.0 p.1 there) (live_objects w.regions) (live_stand w.regions));
 }
 
 -- each place has one object
-pub as_many : (w : HeapState) → length (live_places w.regions) ≡ length (image_of w).objects
+pub each_live_place_has_object : (w : HeapState) → length (live_places w.regions) ≡ length (image_of w).objects
 unfolding image_of dumped_objects live_places
-as_many w = length-map (live_objects w.regions) (λ p. p.0) ∙ sym (length-map (live_objects w.regions) (shown w.regions))
+each_live_place_has_object w = length-map (live_objects w.regions) (λ p. p.0) ∙ sym (length-map (live_objects w.regions) (object_as_dump_shows_it w.regions))
 
 -- ---- one object
 
-found_in : (regions : List Region) (ps : List (ObjRef × Object)) (at : ObjRef) (i : ℕ) → All (Stands regions) ps → slice_get (map (λ p. p.0) ps) i ≡ Some at
-    → (o : Object) × (object_at regions at ≡ Some o) × (slice_get (map (shown regions) ps) i ≡ Some (shown regions (at, o)))
-found_in regions [] at i all h = cc
-found_in regions (p ∷ ps) at zero all h =
+place_has_object_and_dump : (regions : List Region) (ps : List (ObjRef × Object)) (at : ObjRef) (i : ℕ) → All (Stands regions) ps → slice_get (map (λ p. p.0) ps) i ≡ Some at
+    → (o : Object) × (object_at regions at ≡ Some o) × (slice_get (map (object_as_dump_shows_it regions) ps) i ≡ Some (object_as_dump_shows_it regions (at, o)))
+place_has_object_and_dump regions [] at i all h = cc
+place_has_object_and_dump regions (p ∷ ps) at zero all h =
     let e : p.0 ≡ at = cc in
-    (p.1, subst (λ (b : ObjRef). object_at regions b ≡ Some p.1) e (All-head (Stands regions) p ps all), ap (λ (b : ObjRef). Some (shown regions (b, p.1))) e)
-found_in regions (p ∷ ps) at (suc i) all h = found_in regions ps at i (All-tail (Stands regions) p ps all) h
+    (p.1, subst (λ (b : ObjRef). object_at regions b ≡ Some p.1) e (All-head (Stands regions) p ps all), ap (λ (b : ObjRef). Some (object_as_dump_shows_it regions (b, p.1))) e)
+place_has_object_and_dump regions (p ∷ ps) at (suc i) all h = place_has_object_and_dump regions ps at i (All-tail (Stands regions) p ps all) h
 
 -- what holds of the object at a place holds of what the dump shows
-pub shown_there : (w : HeapState) (at : ObjRef) (Q : Object → Type 0) (R : DumpedObject → Type 0) → ((o : Object) → Q o → R (shown w.regions (at, o))) → IfSome (object_at w.regions at) Q
+pub dumped_object_at_live_place : (w : HeapState) (at : ObjRef) (Q : Object → Type 0) (R : DumpedObject → Type 0) → ((o : Object) → Q o → R (object_as_dump_shows_it w.regions (at, o))) → IfSome (object_at w.regions at) Q
     → (i : ℕ) → slice_get (live_places w.regions) i ≡ Some at → IfSome (slice_get (image_of w).objects i) R
 unfolding image_of dumped_objects live_places
-shown_there w at Q R f q i h =
-    let s = found_in w.regions (live_objects w.regions) at i (live_stand w.regions) h in
+dumped_object_at_live_place w at Q R f q i h =
+    let s = place_has_object_and_dump w.regions (live_objects w.regions) at i (live_stand w.regions) h in
     let o : Q s.0 = subst (λ (x : Option Object). IfSome x Q) s.1 q in
     subst (λ (x : Option DumpedObject). IfSome x R) (sym s.2) (f s.0 o)
 
 -- the id
-pub id_there : (w : HeapState) (at : ObjRef) (i : ℕ) → slice_get (live_places w.regions) i ≡ Some at → IfSome (slice_get (image_of w).objects i) (λ o. id_of w.regions at ≡ o.id)
+pub dumped_id_at_live_place : (w : HeapState) (at : ObjRef) (i : ℕ) → slice_get (live_places w.regions) i ≡ Some at → IfSome (slice_get (image_of w).objects i) (λ o. id_of w.regions at ≡ o.id)
 unfolding image_of dumped_objects live_places
-id_there w at i h =
-    let s = found_in w.regions (live_objects w.regions) at i (live_stand w.regions) h in
+dumped_id_at_live_place w at i h =
+    let s = place_has_object_and_dump w.regions (live_objects w.regions) at i (live_stand w.regions) h in
     subst (λ (x : Option DumpedObject). IfSome x (λ o. id_of w.regions at ≡ o.id)) (sym s.2) refl
 
 -- each live place has an object

@@ -7,14 +7,14 @@ use Rattle.heap_pins.specs.Images.{image_of}
 use Rattle.heap_pins.specs.Pin.{PinContents, places_from, pin_image}
 use Rattle.heap_pins.specs.KeptCopies.{kept}
 use Rattle.heap_pins.specs.Shows.{IsPinOf, ShowsState, KeepsFor, OfFirst, Holds}
-use Rattle.heap_pins.proofs.ShownStates.{shows_before, shows_after}
-use Rattle.heap_pins.proofs.CopiedRegions.{kept_keeps}
+use Rattle.heap_pins.proofs.ShownStates.{kept_pin_shows_state_before, kept_pin_shows_state_after}
+use Rattle.heap_pins.proofs.CopiedRegions.{kept_pin_keeps_for_step}
 use Rattle.heap_pins.proofs.ShownImages.{image_is}
 
-of_weaker : (P Q : HeapState → Type 0) → ((x : HeapState) → P x → Q x) → (n : ℕ) (xs : List HeapState) → OfFirst P n xs → OfFirst Q n xs
-of_weaker P Q f n [] h = tt
-of_weaker P Q f zero (x ∷ xs) h = f x h
-of_weaker P Q f (suc n) (x ∷ xs) h = (f x h.0, of_weaker P Q f n xs h.1)
+weaker_property_of_first_states : (P Q : HeapState → Type 0) → ((x : HeapState) → P x → Q x) → (n : ℕ) (xs : List HeapState) → OfFirst P n xs → OfFirst Q n xs
+weaker_property_of_first_states P Q f n [] h = tt
+weaker_property_of_first_states P Q f zero (x ∷ xs) h = f x h
+weaker_property_of_first_states P Q f (suc n) (x ∷ xs) h = (f x h.0, weaker_property_of_first_states P Q f n xs h.1)
 
 of_fewer : (P : HeapState → Type 0) (n k : ℕ) (xs : List HeapState) → OfFirst P n xs → OfFirst P n (take k xs)
 of_fewer P n zero [] h = tt
@@ -23,13 +23,13 @@ of_fewer P n (suc k) [] h = tt
 of_fewer P zero (suc k) (x ∷ xs) h = h
 of_fewer P (suc n) (suc k) (x ∷ xs) h = (h.0, of_fewer P n k xs h.1)
 
-pub first_of : (P : HeapState → Type 0) (n : ℕ) (x : HeapState) (xs : List HeapState) → OfFirst P n (x ∷ xs) → P x
-first_of P zero x xs h = h
-first_of P (suc n) x xs h = h.0
+pub property_of_first_state : (P : HeapState → Type 0) (n : ℕ) (x : HeapState) (xs : List HeapState) → OfFirst P n (x ∷ xs) → P x
+property_of_first_state P zero x xs h = h
+property_of_first_state P (suc n) x xs h = h.0
 
 -- what the pin shows is the image of its state
 pub held_image : (p : PinContents) (u : HeapState) (n : ℕ) (w : HeapState) (past : List HeapState) → Holds p u n (w ∷ past) → pin_image p w ≡ image_of u
-held_image p u n w past h = image_is p u w h.pin (first_of (ShowsState p u) n w past h.shows)
+held_image p u n w past h = image_is p u w h.pin (property_of_first_state (ShowsState p u) n w past h.shows)
 
 -- the pin keeps what it has to
 still_pin : (left : Undo) (v : HeapState) (p q : PinContents) (u : HeapState) → KeepsFor left v p q → IsPinOf p u → IsPinOf q u
@@ -47,13 +47,13 @@ pub pin_stepped : (left : Undo) (v : HeapState) (p : PinContents) (u : HeapState
 pin_stepped left v p u n k past h =
     let w : HeapState = undone left v in
     let q : PinContents = kept left v p in
-    let before : ShowsState p u w = first_of (ShowsState p u) n w past h.shows in
-    let keeps : KeepsFor left v p q = kept_keeps left v p (h.pin.copies ∙ sym before.count) in
+    let before : ShowsState p u w = property_of_first_state (ShowsState p u) n w past h.shows in
+    let keeps : KeepsFor left v p q = kept_pin_keeps_for_step left v p (h.pin.copies ∙ sym before.count) in
     record {
       pin = still_pin left v p q u keeps h.pin;
       shows = (
-        shows_after left v p q u keeps before,
-        of_fewer (ShowsState q u) n k (w ∷ past) (of_weaker (ShowsState p u) (ShowsState q u) (λ x. shows_before left v p q u x keeps before) n (w ∷ past) h.shows),
+        kept_pin_shows_state_after left v p q u keeps before,
+        of_fewer (ShowsState q u) n k (w ∷ past) (weaker_property_of_first_states (ShowsState p u) (ShowsState q u) (λ x. kept_pin_shows_state_before left v p q u x keeps before) n (w ∷ past) h.shows),
       );
     }
 

@@ -9,38 +9,38 @@ use Rattle.heap_region.proofs.ShownRegions.{object_here}
 use Rattle.hprof_text.specs.Image.{DumpedObject}
 use Rattle.heap_pins.specs.Pin.{PinContents, place, places_from, copy_or_now, region_seen, cell_dumped, object_seen}
 use Rattle.heap_pins.specs.Shows.{IsSeen}
-use Rattle.heap_pins.proofs.NextPlace.{ComesAfter, comes_after}
+use Rattle.heap_pins.proofs.NextPlace.{ComesAfter, each_place_has_a_successor}
 
-some_same : {f g : Frozen} → Some f ≡ Some g → f ≡ g
-some_same e = cc
+equal_options_hold_equal_copies : {f g : Frozen} → Some f ≡ Some g → f ≡ g
+equal_options_hold_equal_copies e = cc
 
 -- there is a copy
-pub copy_seen : (p : PinContents) (regions : List Region) (at : ObjRef) (f : Frozen) → slice_index_or p.copies at.region None ≡ Some f → region_seen p regions at.region ≡ Some f
+pub pin_sees_its_copy : (p : PinContents) (regions : List Region) (at : ObjRef) (f : Frozen) → slice_index_or p.copies at.region None ≡ Some f → region_seen p regions at.region ≡ Some f
 unfolding region_seen
-copy_seen p regions at f e = ap (λ x. copy_or_now x (region_frozen regions at.region)) e
+pin_sees_its_copy p regions at f e = ap (λ x. copy_or_now x (region_frozen regions at.region)) e
 
 pub copy_has : (p : PinContents) (regions : List Region) (at : ObjRef) (f : Frozen) → IsSeen p regions at → slice_index_or p.copies at.region None ≡ Some f → IsSome (frozen_object f at.cell)
-copy_has p regions at f s e = subst (λ (g : Frozen). IsSome (frozen_object g at.cell)) (some_same (sym s.2 ∙ copy_seen p regions at f e)) s.3
+copy_has p regions at f s e = subst (λ (g : Frozen). IsSome (frozen_object g at.cell)) (equal_options_hold_equal_copies (sym s.2 ∙ pin_sees_its_copy p regions at f e)) s.3
 
 -- there is none
 pub region_as_is : (p : PinContents) (regions : List Region) (at : ObjRef) → slice_index_or p.copies at.region None ≡ None → region_seen p regions at.region ≡ region_frozen regions at.region
 unfolding region_seen
 region_as_is p regions at e = ap (λ x. copy_or_now x (region_frozen regions at.region)) e
 
-in_use : (regions : List Region) (at : ObjRef) (f : Frozen) → region_frozen regions at.region ≡ Some f → frozen_object f at.cell ≡ object_at regions at
+frozen_object_is_the_object : (regions : List Region) (at : ObjRef) (f : Frozen) → region_frozen regions at.region ≡ Some f → frozen_object f at.cell ≡ object_at regions at
 unfolding region_frozen
-in_use regions at f e = go (used_at regions at.region) refl e
+frozen_object_is_the_object regions at f e = go (used_at regions at.region) refl e
   where
     go : (x : Option UsedRegion) → used_at regions at.region ≡ x → option_map frozen x ≡ Some f → frozen_object f at.cell ≡ object_at regions at
     go None u e = absurd (cc)
-    go (Some u) used e = ap (λ (g : Frozen). frozen_object g at.cell) (sym (some_same e)) ∙ sym (object_here regions at u used)
+    go (Some u) used e = ap (λ (g : Frozen). frozen_object g at.cell) (sym (equal_options_hold_equal_copies e)) ∙ sym (object_here regions at u used)
 
 pub region_has : (p : PinContents) (regions : List Region) (at : ObjRef) → IsSeen p regions at → slice_index_or p.copies at.region None ≡ None → IsSome (object_at regions at)
-region_has p regions at s e = subst (λ x. IsSome x) (in_use regions at s.1 (sym (region_as_is p regions at e) ∙ s.2)) s.3
+region_has p regions at s e = subst (λ x. IsSome x) (frozen_object_is_the_object regions at s.1 (sym (region_as_is p regions at e) ∙ s.2)) s.3
 
 -- what holds of the object holds of what a dump shows
-seen_by : (at : ObjRef) (f : Frozen) (Q : Object → Type 0) (R : DumpedObject → Type 0) → ((o : Object) (x : ℕ) → Q o → R (record { id = x; kind = o.kind; words = o.words })) → IfSome (frozen_object f at.cell) Q → IfSome (cell_dumped at f) R
-seen_by at f Q R each q = go (frozen_object f at.cell) q
+property_of_dumped_cell : (at : ObjRef) (f : Frozen) (Q : Object → Type 0) (R : DumpedObject → Type 0) → ((o : Object) (x : ℕ) → Q o → R (record { id = x; kind = o.kind; words = o.words })) → IfSome (frozen_object f at.cell) Q → IfSome (cell_dumped at f) R
+property_of_dumped_cell at f Q R each q = go (frozen_object f at.cell) q
   where
     go : (x : Option Object) → IfSome x Q → IfSome (option_map {T = Object} {U = DumpedObject} (λ o. record { id = object_base + 8 * (1024 * at.region + at.cell * f.cell_size); kind = o.kind; words = o.words }) x) R
     go None q = tt
@@ -49,14 +49,14 @@ seen_by at f Q R each q = go (frozen_object f at.cell) q
 pub copy_reads : (p : PinContents) (regions : List Region) (at : ObjRef) (f : Frozen) (Q : Object → Type 0) (R : DumpedObject → Type 0) → ((o : Object) (x : ℕ) → Q o → R (record { id = x; kind = o.kind; words = o.words })) → slice_index_or p.copies at.region None ≡ Some f
     → IfSome (frozen_object f at.cell) Q → IfSome (object_seen p regions at) R
 unfolding object_seen
-copy_reads p regions at f Q R each e q = subst (λ (x : Option Frozen). IfSome (option_and_then (cell_dumped at) x) R) (sym (copy_seen p regions at f e)) (seen_by at f Q R each q)
+copy_reads p regions at f Q R each e q = subst (λ (x : Option Frozen). IfSome (option_and_then (cell_dumped at) x) R) (sym (pin_sees_its_copy p regions at f e)) (property_of_dumped_cell at f Q R each q)
 
 pub region_reads : (p : PinContents) (regions : List Region) (at : ObjRef) (Q : Object → Type 0) (R : DumpedObject → Type 0) → ((o : Object) (x : ℕ) → Q o → R (record { id = x; kind = o.kind; words = o.words })) → IsSeen p regions at → slice_index_or p.copies at.region None ≡ None
     → IfSome (object_at regions at) Q → IfSome (object_seen p regions at) R
 unfolding object_seen
 region_reads p regions at Q R each s e q =
     subst (λ (x : Option Frozen). IfSome (option_and_then (cell_dumped at) x) R) (sym s.2)
-    (seen_by at s.1 Q R each (subst (λ (x : Option Object). IfSome x Q) (sym (in_use regions at s.1 (sym (region_as_is p regions at e) ∙ s.2))) q))
+    (property_of_dumped_cell at s.1 Q R each (subst (λ (x : Option Object). IfSome x Q) (sym (frozen_object_is_the_object regions at s.1 (sym (region_as_is p regions at e) ∙ s.2))) q))
 
 -- ---- the id
 
@@ -69,7 +69,7 @@ copy_named at f n e = go (frozen_object f at.cell)
 
 pub copy_id : (p : PinContents) (regions : List Region) (at : ObjRef) (f : Frozen) (n : ℕ) → slice_index_or p.copies at.region None ≡ Some f → n ≡ object_base + 8 * (1024 * at.region + at.cell * f.cell_size) → IfSome (object_seen p regions at) (λ o. n ≡ o.id)
 unfolding object_seen
-copy_id p regions at f n e is = subst (λ (x : Option Frozen). IfSome (option_and_then (cell_dumped at) x) (λ o. n ≡ o.id)) (sym (copy_seen p regions at f e)) (copy_named at f n is)
+copy_id p regions at f n e is = subst (λ (x : Option Frozen). IfSome (option_and_then (cell_dumped at) x) (λ o. n ≡ o.id)) (sym (pin_sees_its_copy p regions at f e)) (copy_named at f n is)
 
 id_as_is : (regions : List Region) (at : ObjRef) (f : Frozen) → region_frozen regions at.region ≡ Some f → id_of regions at ≡ object_base + 8 * (1024 * at.region + at.cell * f.cell_size)
 unfolding region_frozen id_of
@@ -77,7 +77,7 @@ id_as_is regions at f e = ap (λ n. object_base + 8 * (1024 * at.region + at.cel
   where
     go : (x : Option UsedRegion) → option_map frozen x ≡ Some f → option_map_or (λ (u : UsedRegion). u.cell_size) x 0 ≡ f.cell_size
     go None e = cc
-    go (Some u) e = ap (λ (g : Frozen). g.cell_size) (some_same e)
+    go (Some u) e = ap (λ (g : Frozen). g.cell_size) (equal_options_hold_equal_copies e)
 
 pub region_id : (p : PinContents) (regions : List Region) (at : ObjRef) (n : ℕ) → IsSeen p regions at → slice_index_or p.copies at.region None ≡ None → n ≡ id_of regions at → IfSome (object_seen p regions at) (λ o. n ≡ o.id)
 unfolding object_seen
@@ -87,13 +87,13 @@ region_id p regions at n s e is =
 
 -- ---- the next place
 
-place_number : (k : ℕ) → 256 * (place k).region + (place k).cell ≡ k
-place_number k = omega arith
+number_of_place_is_itself : (k : ℕ) → 256 * (place k).region + (place k).cell ≡ k
+number_of_place_is_itself k = omega arith
 
-pub next_from : (live : List ℕ) (i number : ℕ) (at : ObjRef) → number ≡ 256 * at.region + at.cell + 1 → slice_get (places_from 0 live) i ≡ Some at → (number ≤ length live) × (slice_get (places_from 0 live) (i + 1) ≡ slice_get (places_from number (drop number live)) 0)
-next_from live i number at e h =
-    let c : ComesAfter 0 live i at = comes_after 0 live i at h in
-    let n : 256 * at.region + at.cell ≡ 0 + c.byte = ap (λ (b : ObjRef). 256 * b.region + b.cell) c.here ∙ place_number (0 + c.byte) in
+pub next_live_place_from_number : (live : List ℕ) (i number : ℕ) (at : ObjRef) → number ≡ 256 * at.region + at.cell + 1 → slice_get (places_from 0 live) i ≡ Some at → (number ≤ length live) × (slice_get (places_from 0 live) (i + 1) ≡ slice_get (places_from number (drop number live)) 0)
+next_live_place_from_number live i number at e h =
+    let c : ComesAfter 0 live i at = each_place_has_a_successor 0 live i at h in
+    let n : 256 * at.region + at.cell ≡ 0 + c.byte = ap (λ (b : ObjRef). 256 * b.region + b.cell) c.here ∙ number_of_place_is_itself (0 + c.byte) in
     let m : c.byte + 1 ≡ number = omega (arith, n, e) in
     let z : 0 + c.byte + 1 ≡ number = omega (arith, n, e) in
     (omega (arith, c.within, m), ap (slice_get (places_from 0 live)) (let y : i + 1 ≡ suc i = omega arith in y) ∙ c.after ∙ (λ t. slice_get (places_from (z t) (drop (m t) live)) 0))

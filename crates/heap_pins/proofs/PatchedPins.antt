@@ -34,9 +34,9 @@ pub copy_put : (p q i : PinContents) (r : ℕ) (x y : Option Frozen) → i ≡ q
 copy_put p q i r x y is taken = ap (with_copy r y) (is ∙ taken) ∙ ap (λ l. record p { copies = l }) (set-set p.copies r x y)
 
 -- what the pin sees where it has a copy, and where it has none
-pub seen_there : (p : PinContents) (regions : List Region) (r : ℕ) (x y : Option Frozen) → r < length p.copies → x ≡ slice_index_or p.copies r x → x ≡ y → region_seen p regions r ≡ copy_or_now y (region_frozen regions r)
+pub region_seen_by_its_copy : (p : PinContents) (regions : List Region) (r : ℕ) (x y : Option Frozen) → r < length p.copies → x ≡ slice_index_or p.copies r x → x ≡ y → region_seen p regions r ≡ copy_or_now y (region_frozen regions r)
 unfolding region_seen
-seen_there p regions r x y lt e is = ap (λ z. copy_or_now z (region_frozen regions r)) (copy_is p.copies r x lt e ∙ is)
+region_seen_by_its_copy p regions r x y lt e is = ap (λ z. copy_or_now z (region_frozen regions r)) (copy_is p.copies r x lt e ∙ is)
 
 pub frozen_used : (regions : List Region) (r : ℕ) → IsSome (region_frozen regions r) → IsSome (used_at regions r)
 unfolding region_frozen

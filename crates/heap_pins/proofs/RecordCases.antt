@@ -11,11 +11,11 @@ use Rattle.heap_step.specs.Records.{undone}
 use Rattle.heap_pins.specs.KeptCopies.{touched, with_dead, patched, copy_for}
 use Rattle.heap_pins.specs.Walk.{walked_copy, registers_before, classes_before}
 
-pub named : (q r : ℕ) → Some q ≡ Some r → q ≡ r
-named q r e = cc
+pub equal_options_name_same_region : (q r : ℕ) → Some q ≡ Some r → q ≡ r
+equal_options_name_same_region q r e = cc
 
-pub none_named : (r : ℕ) (P : Type 0) → None ≡ Some r → P
-none_named r P e = absurd (clash e)
+pub no_region_is_named : (r : ℕ) (P : Type 0) → None ≡ Some r → P
+no_region_is_named r P e = absurd (clash e)
   where
     clash : None ≡ Some r → ⊥
     clash e = cc
@@ -28,8 +28,8 @@ pub record TouchesNone (left : Undo) : Type 0 where
   pub patch : (f : Frozen) → patched left f ≡ f
 
 -- so it touches none that is named
-pub touches_none : (left : Undo) → TouchesNone left → (r : ℕ) (P : Type 0) → touched left ≡ Some r → P
-touches_none left n r P t = none_named r P (sym n.none ∙ t)
+pub record_that_touches_no_region : (left : Undo) → TouchesNone left → (r : ℕ) (P : Type 0) → touched left ≡ Some r → P
+record_that_touches_no_region left n r P t = no_region_is_named r P (sym n.none ∙ t)
 
 -- each record that touches a region, and the others
 pub by_region : (P : Undo → Type 0) → ((at : ObjRef) (slot old : ℕ) → P (Put at slot old)) → ((at : ObjRef) (slot old : ℕ) (logged : Bool) → P (Store at slot old logged)) → ((region : ℕ) (dead : List (ℕ × Object)) → P (Sweep region dead))
@@ -71,9 +71,9 @@ pub record KeepsLists (left : Undo) : Type 0 where
   pub count : (n : ℕ) → classes_before left n ≡ n
 
 -- each record that changes registers or classes, and the others
-pub by_lists : (P : Undo → Type 0) → ((m r old : ℕ) → P (Reg m r old)) → ((at : ObjRef) (fresh : Bool) (m r old : ℕ) → P (New at fresh m r old)) → P Class → ((left : Undo) → KeepsLists left → P left) → (left : Undo) → P left
+pub records_by_lists_they_keep : (P : Undo → Type 0) → ((m r old : ℕ) → P (Reg m r old)) → ((at : ObjRef) (fresh : Bool) (m r old : ℕ) → P (New at fresh m r old)) → P Class → ((left : Undo) → KeepsLists left → P left) → (left : Undo) → P left
 unfolding undone registers_before classes_before
-by_lists P reg new class other (Reg m r old) = reg m r old
-by_lists P reg new class other (New at fresh m r old) = new at fresh m r old
-by_lists P reg new class other Class = class
-by_lists P reg new class other left = other left (record { registers = λ v. refl; classes = λ v. refl; words = λ rs. refl; count = λ n. refl })
+records_by_lists_they_keep P reg new class other (Reg m r old) = reg m r old
+records_by_lists_they_keep P reg new class other (New at fresh m r old) = new at fresh m r old
+records_by_lists_they_keep P reg new class other Class = class
+records_by_lists_they_keep P reg new class other left = other left (record { registers = λ v. refl; classes = λ v. refl; words = λ rs. refl; count = λ n. refl })

@@ -10,9 +10,9 @@ use Rattle.heap_region.specs.Regions.{Object, UsedRegion, Region, Empty, FitsWor
 use Rattle.heap_region.specs.Legal.{IsCellTable}
 use Rattle.heap_region.specs.Pool.{RegionPool}
 use Rattle.heap_region.specs.RegionCopies.{Frozen, frozen, region_frozen}
-use Rattle.heap_region.proofs.Lookups.{used_there, used_below}
+use Rattle.heap_region.proofs.Lookups.{used_region_after_its_change, used_region_is_listed}
 use Rattle.heap_sweep.specs.Sweep.{dead_part, live_part, dead_cells, dead_at, is_emptied, swept_region, sweep_refusal}
-use Rattle.heap_sweep.proofs.Ready.{pending_used, swept_kept}
+use Rattle.heap_sweep.proofs.Ready.{pending_used, swept_region_that_stays}
 use Rattle.heap_world.specs.State.{HeapState, pool_of}
 use Rattle.heap_world.specs.Legal.{IsLegal}
 use Rattle.heap_world.specs.Events.{after_sweep}
@@ -22,15 +22,15 @@ use Rattle.heap_step.specs.Laws.{IsStep}
 use Rattle.heap_step.proofs.CreationUndo.{pool_empty}
 use Rattle.heap_step.proofs.EventLaws.{keeps_legal}
 use Rattle.heap_step.proofs.Fits.{IsSwept}
-use Rattle.heap_step.proofs.Steps.{put_there, store_there, sweep_before, reclaim_head}
+use Rattle.heap_step.proofs.Steps.{put_record_names_an_object, store_there, sweep_before, reclaim_head}
 use Rattle.heap_pins.specs.KeptCopies.{touched}
-use Rattle.heap_pins.proofs.RecordCases.{by_region, named, touches_none}
+use Rattle.heap_pins.proofs.RecordCases.{by_region, equal_options_name_same_region, record_that_touches_no_region}
 use Rattle.heap_pins.specs.Shows.{AreFit, FitIn}
 use Rattle.heap_region.proofs.ShownRegions.{used_by_object}
 
 -- the region of an object is one of the regions
 pub object_within : (regions : List Region) (at : ObjRef) → IsSome (object_at regions at) → at.region < length regions
-object_within regions at some = used_below regions at.region (used_by_object regions at some)
+object_within regions at some = used_region_is_listed regions at.region (used_by_object regions at some)
 
 -- ---- what a sweep took out
 
@@ -56,9 +56,9 @@ record IsSweptRegion (region : ℕ) (dead : List (ℕ × Object)) (w : HeapState
   table : IsCellTable old
   dead_is : dead ≡ dead_cells old
 
-swept_is : (region : ℕ) (dead : List (ℕ × Object)) (w : HeapState) → IsSwept region dead w → IsSweptRegion region dead w
+swept_heap_has_swept_region : (region : ℕ) (dead : List (ℕ × Object)) (w : HeapState) → IsSwept region dead w → IsSweptRegion region dead w
 unfolding after_sweep dead_at
-swept_is region dead w s =
+swept_heap_has_swept_region region dead w s =
     let before : HeapState = s.0 in
     let legal : IsLegal before = s.1 in
     let accepted : sweep_refusal region (pool_of before) ≡ None = s.2 in
@@ -66,18 +66,18 @@ swept_is region dead w s =
     let p = pending_used region (pool_of before) accepted in
     record {
       old = p.0;
-      used = ap (λ (v : HeapState). used_at v.regions region) s.5 ∙ ap (λ (t : RegionPool). used_at t.regions region) (swept_kept region (pool_of before) kept) ∙ used_there region swept_region before.regions ∙ ap (option_map swept_region) p.1;
+      used = ap (λ (v : HeapState). used_at v.regions region) s.5 ∙ ap (λ (t : RegionPool). used_at t.regions region) (swept_region_that_stays region (pool_of before) kept) ∙ used_region_after_its_change region swept_region before.regions ∙ ap (option_map swept_region) p.1;
       table = legal.regions.tables region p.0 p.1;
       dead_is = s.4 ∙ ap (λ (x : Option UsedRegion). option_map_or dead_cells x []) p.1;
     }
 
 pub sweep_used : (e : Event) (before after : HeapState) (left : Undo) → IsStep e before after left → (region : ℕ) (dead : List (ℕ × Object)) → left ≡ Undo.Sweep region dead → IsSome (used_at after.regions region)
-sweep_used e before after left s region dead is = subst (λ (x : Option UsedRegion). IsSome x) (sym (swept_is region dead after (sweep_before e before after left s region dead is)).used) (search)
+sweep_used e before after left s region dead is = subst (λ (x : Option UsedRegion). IsSome x) (sym (swept_heap_has_swept_region region dead after (sweep_before e before after left s region dead is)).used) (search)
 
 pub sweep_fit : (e : Event) (before after : HeapState) (left : Undo) → IsStep e before after left → (region : ℕ) (dead : List (ℕ × Object)) → left ≡ Undo.Sweep region dead → FitIn (region_frozen after.regions region) dead
 unfolding region_frozen
 sweep_fit e before after left s region dead is f there =
-    let w = swept_is region dead after (sweep_before e before after left s region dead is) in
+    let w = swept_heap_has_swept_region region dead after (sweep_before e before after left s region dead is) in
     let same : frozen (swept_region w.old) ≡ f = some_same (sym (ap (option_map frozen) w.used) ∙ there) in
     subst (λ (g : Frozen). AreFit g.cell_size (length g.cells) dead) same (subst (λ ds. AreFit (swept_region w.old).cell_size (length (swept_region w.old).cells) ds) (sym w.dead_is) (region_fit w.old w.table))
   where
@@ -93,15 +93,15 @@ reclaim_within e before after left s region storage is =
 
 -- ---- the region that a step touched
 
-pub touched_within : (e : Event) (before after : HeapState) (left : Undo) → IsStep e before after left → (region : ℕ) → touched left ≡ Some region → region < length after.regions
+pub touched_region_is_in_heap : (e : Event) (before after : HeapState) (left : Undo) → IsStep e before after left → (region : ℕ) → touched left ≡ Some region → region < length after.regions
 unfolding touched
-touched_within e before after left s region = by_region (λ u. left ≡ u → touched u ≡ Some region → region < length after.regions)
-    (λ at slot old is t. within at.region t (object_within after.regions at (put_there e before after left s at slot old is)))
+touched_region_is_in_heap e before after left s region = by_region (λ u. left ≡ u → touched u ≡ Some region → region < length after.regions)
+    (λ at slot old is t. within at.region t (object_within after.regions at (put_record_names_an_object e before after left s at slot old is)))
     (λ at slot old logged is t. within at.region t (object_within after.regions at (store_there e before after left s at slot old logged is)))
-    (λ r dead is t. within r t (used_below after.regions r (sweep_used e before after left s r dead is)))
+    (λ r dead is t. within r t (used_region_is_listed after.regions r (sweep_used e before after left s r dead is)))
     (λ r storage is t. within r t (reclaim_within e before after left s r storage is))
-    (λ u n is. touches_none u n region _)
+    (λ u n is. record_that_touches_no_region u n region _)
     left refl
   where
     within : (x : ℕ) → Some x ≡ Some region → x < length after.regions → region < length after.regions
-    within x is lt = subst (λ n. n < length after.regions) (named x region is) lt
+    within x is lt = subst (λ n. n < length after.regions) (equal_options_name_same_region x region is) lt

@@ -13,9 +13,9 @@ use Rattle.heap_pins.specs.Covers.{Covers}
 use Rattle.heap_pins.specs.KeptCopies.{touched}
 use Rattle.heap_pins.specs.Pin.{PinContents, copy_or_now, region_seen}
 use Rattle.heap_pins.specs.Shows.{ShowsState, KeepsFor}
-use Rattle.heap_pins.proofs.CoveringCopies.{covers_none, covers_then, none_left}
+use Rattle.heap_pins.proofs.CoveringCopies.{absent_copy_is_covered, copy_covers_through_another, covered_by_none_is_none}
 use Rattle.heap_pins.proofs.Classes.{record_extends}
-use Rattle.heap_pins.proofs.Others.{keeps_others, length_undone}
+use Rattle.heap_pins.proofs.Others.{keeps_others, undoing_keeps_region_count}
 
 pub option_or_not : (x : Option ℕ) (r : ℕ) → (x ≡ Some r) ⊎ (x ≢ Some r)
 option_or_not None r = inr (λ e. clash e)
@@ -24,8 +24,8 @@ option_or_not None r = inr (λ e. clash e)
     clash e = cc
 option_or_not (Some q) r = elim (same_or_not q r) [ inl e ↦ inl (ap Some e) | inr ne ↦ inr (λ e. ne (cc e)) ]
 
-none_covered : (u before : Option Frozen) → Covers before None → Covers u before → u ≡ None
-none_covered u before c s = none_left u before (none_left before None refl c) s
+covered_by_nothing_is_none : (u before : Option Frozen) → Covers before None → Covers u before → u ≡ None
+covered_by_nothing_is_none u before c s = covered_by_none_is_none u before (covered_by_none_is_none before None refl c) s
 
 -- ---- a region
 
@@ -35,15 +35,15 @@ kept_region a b now before u (inl e) shows here = subst (λ x. Covers u (copy_or
 kept_region a b now before u (inr k) shows here = go b k.1 (subst (λ x. Covers u (copy_or_now x before)) k.0 shows)
   where
     go : (b : Option Frozen) → Covers before b → Covers u before → Covers u (copy_or_now b now)
-    go None c s = covers_none u now (none_covered u before c s)
-    go (Some g) c s = covers_then u before (Some g) s c
+    go None c s = absent_copy_is_covered u now (covered_by_nothing_is_none u before c s)
+    go (Some g) c s = copy_covers_through_another u before (Some g) s c
 
 -- ---- states before
 
 -- a state beside which the old pin shows u, while it shows it too before the step
-pub shows_before : (left : Undo) (v : HeapState) (p q : PinContents) (u x : HeapState) → KeepsFor left v p q → ShowsState p u (undone left v) → ShowsState p u x → ShowsState q u x
+pub kept_pin_shows_state_before : (left : Undo) (v : HeapState) (p q : PinContents) (u x : HeapState) → KeepsFor left v p q → ShowsState p u (undone left v) → ShowsState p u x → ShowsState q u x
 unfolding region_seen
-shows_before left v p q u x k before here = record {
+kept_pin_shows_state_before left v p q u x k before here = record {
   count = here.count;
   classes = here.classes;
   objects = λ r. kept_region (slice_index_or p.copies r None) (slice_index_or q.copies r None) (region_frozen x.regions r) (region_frozen (undone left v).regions r) (region_frozen u.regions r) (k.each r) (before.objects r) (here.objects r);
@@ -57,10 +57,10 @@ first_classes us ws vs e f =
     let few : length us ≤ length ws = omega (arith, length-take (length us) ws, ap length e) in
     sym (take-take (length us) (length ws) vs few) ∙ ap (take (length us)) f ∙ e
 
-pub shows_after : (left : Undo) (v : HeapState) (p q : PinContents) (u : HeapState) → KeepsFor left v p q → ShowsState p u (undone left v) → ShowsState q u v
+pub kept_pin_shows_state_after : (left : Undo) (v : HeapState) (p q : PinContents) (u : HeapState) → KeepsFor left v p q → ShowsState p u (undone left v) → ShowsState q u v
 unfolding region_seen
-shows_after left v p q u k before = record {
-  count = length_undone left v ∙ before.count;
+kept_pin_shows_state_after left v p q u k before = record {
+  count = undoing_keeps_region_count left v ∙ before.count;
   classes = first_classes u.classes w.classes v.classes before.classes (record_extends left v);
   objects = λ r. objects r (slice_index_or q.copies r None) refl;
 }
@@ -69,7 +69,7 @@ shows_after left v p q u k before = record {
     w = undone left v
 
     shown : (r : ℕ) → Covers (region_frozen u.regions r) (copy_or_now (slice_index_or q.copies r None) (region_frozen w.regions r))
-    shown r = (shows_before left v p q u w k before before).objects r
+    shown r = (kept_pin_shows_state_before left v p q u w k before before).objects r
 
     objects : (r : ℕ) (b : Option Frozen) → slice_index_or q.copies r None ≡ b → Covers (region_frozen u.regions r) (copy_or_now (slice_index_or q.copies r None) (region_frozen v.regions r))
     objects r (Some g) e = rw e (rw e at (shown r))
@@ -79,5 +79,5 @@ shows_after left v p q u k before = record {
         here = rw e at (shown r)
 
         go : (touched left ≡ Some r) ⊎ (touched left ≢ Some r) → Covers (region_frozen u.regions r) (region_frozen v.regions r)
-        go (inl t) = covers_none _ _ (none_left (region_frozen u.regions r) (region_frozen w.regions r) (k.done r t e) here)
-        go (inr t) = covers_then (region_frozen u.regions r) (region_frozen w.regions r) (region_frozen v.regions r) here (keeps_others left v r t)
+        go (inl t) = absent_copy_is_covered _ _ (covered_by_none_is_none (region_frozen u.regions r) (region_frozen w.regions r) (k.done r t e) here)
+        go (inr t) = copy_covers_through_another (region_frozen u.regions r) (region_frozen w.regions r) (region_frozen v.regions r) here (keeps_others left v r t)

@@ -5,18 +5,18 @@ use Rattle.std.specs.Prelude.{◌==◌, slice_set, option_and_then, option_map, 
 use Rattle.std.specs.Option.{option_map_or}
 use Rattle.std.proofs.lemmas.List.{get_or-set_same, get_or-set_other}
 use Rattle.std.proofs.lemmas.Bool.{eqb-true, eq-eqb, ne_eqb}
-use Rattle.heap_region.proofs.References.{get_set}
-use Rattle.heap_region.proofs.PriorObjects.{same_place as place_or_not}
+use Rattle.heap_region.proofs.References.{set_item_is_got}
+use Rattle.heap_region.proofs.PriorObjects.{places_equal_or_different as place_or_not}
 use Rattle.heap_class.specs.declared.ObjRef.{ObjRef}
 use Rattle.heap_region.specs.Regions.{Object, UsedRegion, Region, Empty, InUse, used_part, used_at, object_at, cell_object, slot_object, ref_of, with_region, with_object, with_word, with_mark}
 use Rattle.heap_region.specs.Layout.{word_set}
 use Rattle.heap_region.specs.Pool.{RegionPool, unallocated, freed, released, restored, cell_freed}
 use Rattle.heap_region.proofs.ChangedLookups.{same_or_not}
-use Rattle.heap_region.proofs.Lookups.{used_there, used_elsewhere, object_elsewhere, object_there}
+use Rattle.heap_region.proofs.Lookups.{used_region_after_its_change, used_region_after_other_change, object_elsewhere, object_after_its_change}
 use Rattle.heap_region.proofs.ShownRegions.{object_of_used}
 use Rattle.heap_region.proofs.FoundObjects.{restored_elsewhere, released_elsewhere, freed_elsewhere}
 use Rattle.heap_world.specs.MarkSteps.{each_object, each_region, with_mark_of, unsnapped, unshaded, unmarked, undrained, unfinished, unfinished_region}
-use Rattle.heap_world.proofs.Each.{used_each}
+use Rattle.heap_world.proofs.Each.{used_region_after_each_change}
 use Rattle.heap_sweep.specs.Sweep.{unswept, unswept_region}
 use Rattle.heap_world.specs.State.{HeapState, pool_of}
 use Rattle.heap_step.specs.declared.Undo.{Undo}
@@ -28,15 +28,15 @@ use Rattle.heap_region.specs.RegionCopies.{Frozen, frozen, region_frozen}
 use Rattle.heap_pins.specs.Shows.{AreFit, FitIn}
 use Rattle.heap_pins.proofs.RoomForCopies.{sweep_used, sweep_fit, reclaim_within}
 use Rattle.heap_pins.specs.Walk.{cell_state, same_place, dead_state, states_before, registers_before, classes_before, TellsBefore}
-use Rattle.heap_pins.proofs.Others.{keeps_others, emptied}
-use Rattle.heap_pins.proofs.RecordCases.{by_lists}
-use Rattle.heap_pins.proofs.WalkSteps.{walked_covers}
+use Rattle.heap_pins.proofs.Others.{keeps_others, region_set_empty_is_unused}
+use Rattle.heap_pins.proofs.RecordCases.{records_by_lists_they_keep}
+use Rattle.heap_pins.proofs.WalkSteps.{walked_copy_covers_state_before}
 
 -- ---- registers and classes
 
 pub registers_are : (left : Undo) (x : HeapState) → (undone left x).registers ≡ registers_before left x.registers
 unfolding undone registers_before
-registers_are left x = by_lists (λ u. (undone u x).registers ≡ registers_before u x.registers)
+registers_are left x = records_by_lists_they_keep (λ u. (undone u x).registers ≡ registers_before u x.registers)
     (λ m k old. refl)
     (λ at fresh m k old. refl)
     refl
@@ -45,7 +45,7 @@ registers_are left x = by_lists (λ u. (undone u x).registers ≡ registers_befo
 
 pub classes_are : (left : Undo) (x : HeapState) → length (undone left x).classes ≡ classes_before left (length x.classes)
 unfolding undone classes_before
-classes_are left x = by_lists (λ u. length (undone u x).classes ≡ classes_before u (length x.classes))
+classes_are left x = records_by_lists_they_keep (λ u. length (undone u x).classes ≡ classes_before u (length x.classes))
     (λ m k old. refl)
     (λ at fresh m k old. refl)
     (omega (arith, length-take (length x.classes - 1) x.classes))
@@ -54,96 +54,96 @@ classes_are left x = by_lists (λ u. length (undone u x).classes ≡ classes_bef
 
 -- ---- what is there
 
-abbrev states_of : List Region → ObjRef → ℕ
-states_of regions b = cell_state (object_at regions b)
+abbrev cell_states_of_regions : List Region → ObjRef → ℕ
+cell_states_of_regions regions b = cell_state (object_at regions b)
 
 -- a change of an object that keeps `live`
-kept_state : (f : Object → Object) → ((o : Object) → (f o).live ≡ o.live) → (x : Option Object) → cell_state (option_map f x) ≡ cell_state x
-kept_state f keeps None = refl
-kept_state f keeps (Some o) = ap (λ b. if b then 1 else 2) (keeps o)
+change_keeping_live_keeps_state : (f : Object → Object) → ((o : Object) → (f o).live ≡ o.live) → (x : Option Object) → cell_state (option_map f x) ≡ cell_state x
+change_keeping_live_keeps_state f keeps None = refl
+change_keeping_live_keeps_state f keeps (Some o) = ap (λ b. if b then 1 else 2) (keeps o)
 
-changed_state : (f : Object → Object) → ((o : Object) → (f o).live ≡ o.live) → (at : ObjRef) (regions : List Region) (b : ObjRef) → states_of (with_object at f regions) b ≡ states_of regions b
-changed_state f keeps at regions b = go (place_or_not b at)
+changed_object_keeps_cell_states : (f : Object → Object) → ((o : Object) → (f o).live ≡ o.live) → (at : ObjRef) (regions : List Region) (b : ObjRef) → cell_states_of_regions (with_object at f regions) b ≡ cell_states_of_regions regions b
+changed_object_keeps_cell_states f keeps at regions b = go (place_or_not b at)
   where
-    go : (b ≡ at) ⊎ (b ≢ at) → states_of (with_object at f regions) b ≡ states_of regions b
-    go (inl e) = ap (states_of (with_object at f regions)) e ∙ ap cell_state (object_there at f regions) ∙ kept_state f keeps (object_at regions at) ∙ ap (states_of regions) (sym e)
+    go : (b ≡ at) ⊎ (b ≢ at) → cell_states_of_regions (with_object at f regions) b ≡ cell_states_of_regions regions b
+    go (inl e) = ap (cell_states_of_regions (with_object at f regions)) e ∙ ap cell_state (object_after_its_change at f regions) ∙ change_keeping_live_keeps_state f keeps (object_at regions at) ∙ ap (cell_states_of_regions regions) (sym e)
     go (inr ne) = ap cell_state (object_elsewhere at b f regions (λ q. ne (sym q)))
 
-word_state : (at : ObjRef) (slot old : ℕ) (regions : List Region) (b : ObjRef) → states_of (with_word at slot old regions) b ≡ states_of regions b
+word_state : (at : ObjRef) (slot old : ℕ) (regions : List Region) (b : ObjRef) → cell_states_of_regions (with_word at slot old regions) b ≡ cell_states_of_regions regions b
 unfolding with_word
-word_state at slot old = changed_state (word_set slot old) (λ o. refl) at
+word_state at slot old = changed_object_keeps_cell_states (word_set slot old) (λ o. refl) at
 
-mark_state : (m : Bool) (x : ℕ) (regions : List Region) (b : ObjRef) → states_of (with_mark_of m x regions) b ≡ states_of regions b
+mark_keeps_cell_states : (m : Bool) (x : ℕ) (regions : List Region) (b : ObjRef) → cell_states_of_regions (with_mark_of m x regions) b ≡ cell_states_of_regions regions b
 unfolding with_mark_of with_mark
-mark_state m x regions b = go (ref_of regions x)
+mark_keeps_cell_states m x regions b = go (ref_of regions x)
   where
-    go : (p : Option ObjRef) → states_of (option_map_or (λ at. with_mark m at regions) p regions) b ≡ states_of regions b
+    go : (p : Option ObjRef) → cell_states_of_regions (option_map_or (λ at. with_mark m at regions) p regions) b ≡ cell_states_of_regions regions b
     go None = refl
-    go (Some at) = changed_state (λ o. record o { mark = m }) (λ o. refl) at regions b
+    go (Some at) = changed_object_keeps_cell_states (λ o. record o { mark = m }) (λ o. refl) at regions b
 
-marks_state : (xs : List ℕ) (regions : List Region) (b : ObjRef) → states_of (fold (λ regions x. with_mark_of false x regions) regions xs) b ≡ states_of regions b
-marks_state [] regions b = refl
-marks_state (x ∷ xs) regions b = marks_state xs (with_mark_of false x regions) b ∙ mark_state false x regions b
+marks_keep_cell_states : (xs : List ℕ) (regions : List Region) (b : ObjRef) → cell_states_of_regions (fold (λ regions x. with_mark_of false x regions) regions xs) b ≡ cell_states_of_regions regions b
+marks_keep_cell_states [] regions b = refl
+marks_keep_cell_states (x ∷ xs) regions b = marks_keep_cell_states xs (with_mark_of false x regions) b ∙ mark_keeps_cell_states false x regions b
 
 -- each object of each region is changed
-each_found : (f : Object → Object) (cells : List (Option Object)) (c : ℕ) → get_or (map (option_map f) cells) c None ≡ option_map f (get_or cells c None)
-each_found f [] c = refl
-each_found f (x ∷ cells) zero = refl
-each_found f (x ∷ cells) (suc c) = each_found f cells c
+object_of_changed_cell : (f : Object → Object) (cells : List (Option Object)) (c : ℕ) → get_or (map (option_map f) cells) c None ≡ option_map f (get_or cells c None)
+object_of_changed_cell f [] c = refl
+object_of_changed_cell f (x ∷ cells) zero = refl
+object_of_changed_cell f (x ∷ cells) (suc c) = object_of_changed_cell f cells c
 
 each_slot : (f : Object → Object) (g : UsedRegion → UsedRegion) → ((u : UsedRegion) → (g u).cells ≡ map (option_map f) u.cells) → (s : Option UsedRegion) (c : ℕ) → slot_object (option_map g s) c ≡ option_map f (slot_object s c)
 each_slot f g cells None c = refl
-each_slot f g cells (Some u) c = ap (λ l. get_or l c None) (cells u) ∙ each_found f u.cells c
+each_slot f g cells (Some u) c = ap (λ l. get_or l c None) (cells u) ∙ object_of_changed_cell f u.cells c
 
-each_at : (f : Object → Object) (g : UsedRegion → UsedRegion) → ((u : UsedRegion) → (g u).cells ≡ map (option_map f) u.cells) → (regions : List Region) (b : ObjRef) → object_at (each_region g regions) b ≡ option_map f (object_at regions b)
-each_at f g cells regions b =
-    object_of_used (each_region g regions) b ∙ ap (λ s. slot_object s b.cell) (used_each g regions b.region) ∙ each_slot f g cells (used_at regions b.region) b.cell
+object_of_changed_region : (f : Object → Object) (g : UsedRegion → UsedRegion) → ((u : UsedRegion) → (g u).cells ≡ map (option_map f) u.cells) → (regions : List Region) (b : ObjRef) → object_at (each_region g regions) b ≡ option_map f (object_at regions b)
+object_of_changed_region f g cells regions b =
+    object_of_used (each_region g regions) b ∙ ap (λ s. slot_object s b.cell) (used_region_after_each_change g regions b.region) ∙ each_slot f g cells (used_at regions b.region) b.cell
     ∙ ap (option_map f) (sym (object_of_used regions b))
 
-snap_state : (regions : List Region) (b : ObjRef) → states_of (each_region (each_object (λ o. record o { mark = false })) regions) b ≡ states_of regions b
+snap_state : (regions : List Region) (b : ObjRef) → cell_states_of_regions (each_region (each_object (λ o. record o { mark = false })) regions) b ≡ cell_states_of_regions regions b
 unfolding each_object
-snap_state regions b = ap cell_state (each_at (λ o. record o { mark = false }) (each_object (λ o. record o { mark = false })) (λ u. refl) regions b) ∙ kept_state (λ o. record o { mark = false }) (λ o. refl) (object_at regions b)
+snap_state regions b = ap cell_state (object_of_changed_region (λ o. record o { mark = false }) (each_object (λ o. record o { mark = false })) (λ u. refl) regions b) ∙ change_keeping_live_keeps_state (λ o. record o { mark = false }) (λ o. refl) (object_at regions b)
 
-settled_state : (x : Option Object) → cell_state (option_map {T = Object} (λ o. record o { live = true; mark = o.live }) x) ≡ (if cell_state x == 0 then 0 else 1)
-settled_state None = refl
-settled_state (Some o) = go o.live
+state_of_cell_before_finish : (x : Option Object) → cell_state (option_map {T = Object} (λ o. record o { live = true; mark = o.live }) x) ≡ (if cell_state x == 0 then 0 else 1)
+state_of_cell_before_finish None = refl
+state_of_cell_before_finish (Some o) = go o.live
   where
     go : (b : Bool) → ◌≡◌ {A = ℕ} 1 (if (if b then 1 else 2) == 0 then 0 else 1)
     go true = refl
     go false = refl
 
-finish_state : (regions : List Region) (b : ObjRef) → states_of (each_region unfinished_region regions) b ≡ (if states_of regions b == 0 then 0 else 1)
+cell_states_before_finish : (regions : List Region) (b : ObjRef) → cell_states_of_regions (each_region unfinished_region regions) b ≡ (if cell_states_of_regions regions b == 0 then 0 else 1)
 unfolding unfinished_region each_object
-finish_state regions b = ap cell_state (each_at (λ o. record o { live = true; mark = o.live }) unfinished_region (λ u. refl) regions b) ∙ settled_state (object_at regions b)
+cell_states_before_finish regions b = ap cell_state (object_of_changed_region (λ o. record o { live = true; mark = o.live }) unfinished_region (λ u. refl) regions b) ∙ state_of_cell_before_finish (object_at regions b)
 
 -- ---- a region that is changed
 
 -- a test of numbers
-when_same : (a b : ℕ) (x y z : ℕ) → (a ≡ b → z ≡ x) → (a ≢ b → z ≡ y) → z ≡ (if a == b then x else y)
-when_same a b x y z same other = elim (same_or_not a b) [
+choice_by_equal_numbers : (a b : ℕ) (x y z : ℕ) → (a ≡ b → z ≡ x) → (a ≢ b → z ≡ y) → z ≡ (if a == b then x else y)
+choice_by_equal_numbers a b x y z same other = elim (same_or_not a b) [
   | inl e ↦ same e ∙ ap (λ t. if t then x else y) (sym (eq-eqb a b e))
   | inr ne ↦ other ne ∙ ap (λ t. if t then x else y) (sym (ne_eqb a b ne))
 ]
 
-none_in : (regions : List Region) (b : ObjRef) → used_at regions b.region ≡ None → states_of regions b ≡ 0
-none_in regions b e = ap cell_state (object_of_used regions b ∙ ap (λ s. slot_object s b.cell) e)
+unused_region_has_state_zero : (regions : List Region) (b : ObjRef) → used_at regions b.region ≡ None → cell_states_of_regions regions b ≡ 0
+unused_region_has_state_zero regions b e = ap cell_state (object_of_used regions b ∙ ap (λ s. slot_object s b.cell) e)
 
-used_alike : (regions others : List Region) (b : ObjRef) → used_at regions b.region ≡ used_at others b.region → states_of regions b ≡ states_of others b
-used_alike regions others b e = ap cell_state (object_of_used regions b ∙ ap (λ s. slot_object s b.cell) e ∙ sym (object_of_used others b))
+equal_regions_have_equal_states : (regions others : List Region) (b : ObjRef) → used_at regions b.region ≡ used_at others b.region → cell_states_of_regions regions b ≡ cell_states_of_regions others b
+equal_regions_have_equal_states regions others b e = ap cell_state (object_of_used regions b ∙ ap (λ s. slot_object s b.cell) e ∙ sym (object_of_used others b))
 
-release_state : (at : ObjRef) (s : RegionPool) (b : ObjRef) → states_of (released at.region s).regions b ≡ (if b.region == at.region then 0 else states_of s.regions b)
+release_state : (at : ObjRef) (s : RegionPool) (b : ObjRef) → cell_states_of_regions (released at.region s).regions b ≡ (if b.region == at.region then 0 else cell_states_of_regions s.regions b)
 unfolding released
-release_state at s b = when_same b.region at.region 0 (states_of s.regions b) (states_of (set s.regions at.region Empty) b)
-    (λ e. none_in (set s.regions at.region Empty) b (ap (used_at (set s.regions at.region Empty)) e ∙ emptied at.region s.regions))
-    (λ ne. used_alike (set s.regions at.region Empty) s.regions b (released_elsewhere at.region b.region s (λ e. ne (sym e))))
+release_state at s b = choice_by_equal_numbers b.region at.region 0 (cell_states_of_regions s.regions b) (cell_states_of_regions (set s.regions at.region Empty) b)
+    (λ e. unused_region_has_state_zero (set s.regions at.region Empty) b (ap (used_at (set s.regions at.region Empty)) e ∙ region_set_empty_is_unused at.region s.regions))
+    (λ ne. equal_regions_have_equal_states (set s.regions at.region Empty) s.regions b (released_elsewhere at.region b.region s (λ e. ne (sym e))))
 
 -- ---- a test of places
 
-at_place : (a b : ObjRef) → a ≡ b → same_place a b ≡ true
-at_place a b e = rw (eq-eqb a.region b.region (ap (λ (r : ObjRef). r.region) e), eq-eqb a.cell b.cell (ap (λ (r : ObjRef). r.cell) e)) refl
+equal_places_are_same_place : (a b : ObjRef) → a ≡ b → same_place a b ≡ true
+equal_places_are_same_place a b e = rw (eq-eqb a.region b.region (ap (λ (r : ObjRef). r.region) e), eq-eqb a.cell b.cell (ap (λ (r : ObjRef). r.cell) e)) refl
 
-off_place : (a b : ObjRef) → a ≢ b → same_place a b ≡ false
-off_place a b ne = go (a.region == b.region) (a.cell == b.cell) refl refl
+unequal_places_not_same_place : (a b : ObjRef) → a ≢ b → same_place a b ≡ false
+unequal_places_not_same_place a b ne = go (a.region == b.region) (a.cell == b.cell) refl refl
   where
     go : (x y : Bool) → (a.region == b.region) ≡ x → (a.cell == b.cell) ≡ y → (x && y) ≡ false
     go true true d e = absurd (ne (λ i. record { region = eqb-true a.region b.region d i; cell = eqb-true a.cell b.cell e i }))
@@ -152,35 +152,35 @@ off_place a b ne = go (a.region == b.region) (a.cell == b.cell) refl refl
 
 -- ---- a cell that is given up
 
-vacated : (cells : List (Option Object)) (c : ℕ) → get_or (set cells c None) c None ≡ None
-vacated [] c = refl
-vacated (x ∷ cells) zero = refl
-vacated (x ∷ cells) (suc c) = vacated cells c
+cell_set_none_is_none : (cells : List (Option Object)) (c : ℕ) → get_or (set cells c None) c None ≡ None
+cell_set_none_is_none [] c = refl
+cell_set_none_is_none (x ∷ cells) zero = refl
+cell_set_none_is_none (x ∷ cells) (suc c) = cell_set_none_is_none cells c
 
 freed_slot : (cell : ℕ) (s : Option UsedRegion) → slot_object (option_map (λ u. cell_freed u cell) s) cell ≡ None
 freed_slot cell None = refl
-freed_slot cell (Some u) = vacated u.cells cell
+freed_slot cell (Some u) = cell_set_none_is_none u.cells cell
 
-free_state : (at : ObjRef) (s : RegionPool) (b : ObjRef) → states_of (freed at s).regions b ≡ (if same_place b at then 0 else states_of s.regions b)
+cell_states_after_freeing : (at : ObjRef) (s : RegionPool) (b : ObjRef) → cell_states_of_regions (freed at s).regions b ≡ (if same_place b at then 0 else cell_states_of_regions s.regions b)
 unfolding freed
-free_state at s b = go (place_or_not b at)
+cell_states_after_freeing at s b = go (place_or_not b at)
   where
     gone : object_at (freed at s).regions at ≡ None
-    gone = object_of_used _ at ∙ ap (λ x. slot_object x at.cell) (used_there at.region (λ u. cell_freed u at.cell) s.regions) ∙ freed_slot at.cell (used_at s.regions at.region)
+    gone = object_of_used _ at ∙ ap (λ x. slot_object x at.cell) (used_region_after_its_change at.region (λ u. cell_freed u at.cell) s.regions) ∙ freed_slot at.cell (used_at s.regions at.region)
 
-    go : (b ≡ at) ⊎ (b ≢ at) → states_of (freed at s).regions b ≡ (if same_place b at then 0 else states_of s.regions b)
-    go (inl e) = ap (states_of (freed at s).regions) e ∙ ap cell_state gone ∙ ap (λ t. if t then 0 else states_of s.regions b) (sym (at_place b at e))
-    go (inr ne) = ap cell_state (freed_elsewhere at b s (λ e. ne (sym e))) ∙ ap (λ t. if t then 0 else states_of s.regions b) (sym (off_place b at ne))
+    go : (b ≡ at) ⊎ (b ≢ at) → cell_states_of_regions (freed at s).regions b ≡ (if same_place b at then 0 else cell_states_of_regions s.regions b)
+    go (inl e) = ap (cell_states_of_regions (freed at s).regions) e ∙ ap cell_state gone ∙ ap (λ t. if t then 0 else cell_states_of_regions s.regions b) (sym (equal_places_are_same_place b at e))
+    go (inr ne) = ap cell_state (freed_elsewhere at b s (λ e. ne (sym e))) ∙ ap (λ t. if t then 0 else cell_states_of_regions s.regions b) (sym (unequal_places_not_same_place b at ne))
 
-unalloc_state : (left : Undo) (at : ObjRef) (fresh : Bool) (m k old : ℕ) (x : HeapState) (b : ObjRef) → states_of (unallocated at fresh (pool_of x)).regions b ≡ states_before (New at fresh m k old) (states_of x.regions) b
+unalloc_state : (left : Undo) (at : ObjRef) (fresh : Bool) (m k old : ℕ) (x : HeapState) (b : ObjRef) → cell_states_of_regions (unallocated at fresh (pool_of x)).regions b ≡ states_before (New at fresh m k old) (cell_states_of_regions x.regions) b
 unfolding unallocated states_before
 unalloc_state left at true m k old x b = release_state at (pool_of x) b
-unalloc_state left at false m k old x b = free_state at (pool_of x) b
+unalloc_state left at false m k old x b = cell_states_after_freeing at (pool_of x) b
 
 -- ---- what a sweep gives back
 
 cell_set : (cells : List (Option Object)) (i c : ℕ) (o : Object) → i < length cells → cell_state (get_or (set cells i (Some o)) c None) ≡ (if i == c then cell_state (Some o) else cell_state (get_or cells c None))
-cell_set cells i c o lt = when_same i c (cell_state (Some o)) (cell_state (get_or cells c None)) (cell_state (get_or (set cells i (Some o)) c None))
+cell_set cells i c o lt = choice_by_equal_numbers i c (cell_state (Some o)) (cell_state (get_or cells c None)) (cell_state (get_or (set cells i (Some o)) c None))
     (λ e. ap cell_state (ap (λ j. get_or (set cells i (Some o)) j None) (sym e) ∙ get_or-set_same cells i (Some o) None lt))
     (λ ne. ap cell_state (get_or-set_other cells i c (Some o) None (λ e. ne (sym e))))
 
@@ -197,40 +197,40 @@ unfolding unswept_region
 sweep_slot dead None c some fit = absurd (cc)
 sweep_slot dead (Some u) c some fit = dead_states dead u.cell_size u.cells c (fit (frozen u) refl)
 
-sweep_state : (region : ℕ) (dead : List (ℕ × Object)) (s : RegionPool) (b : ObjRef) → IsSome (used_at s.regions region) → FitIn (region_frozen s.regions region) dead
-    → states_of (unswept region dead s).regions b ≡ (if b.region == region then dead_state dead b.cell (states_of s.regions b) else states_of s.regions b)
+cell_states_before_sweep : (region : ℕ) (dead : List (ℕ × Object)) (s : RegionPool) (b : ObjRef) → IsSome (used_at s.regions region) → FitIn (region_frozen s.regions region) dead
+    → cell_states_of_regions (unswept region dead s).regions b ≡ (if b.region == region then dead_state dead b.cell (cell_states_of_regions s.regions b) else cell_states_of_regions s.regions b)
 unfolding unswept region_frozen
-sweep_state region dead s b some fit = when_same b.region region (dead_state dead b.cell (states_of s.regions b)) (states_of s.regions b) (states_of (with_region region (unswept_region dead) s.regions) b)
-    (λ e. ap cell_state (object_of_used (with_region region (unswept_region dead) s.regions) b ∙ ap (λ x. slot_object x b.cell) (ap (used_at (with_region region (unswept_region dead) s.regions)) e ∙ used_there region (unswept_region dead) s.regions))
+cell_states_before_sweep region dead s b some fit = choice_by_equal_numbers b.region region (dead_state dead b.cell (cell_states_of_regions s.regions b)) (cell_states_of_regions s.regions b) (cell_states_of_regions (with_region region (unswept_region dead) s.regions) b)
+    (λ e. ap cell_state (object_of_used (with_region region (unswept_region dead) s.regions) b ∙ ap (λ x. slot_object x b.cell) (ap (used_at (with_region region (unswept_region dead) s.regions)) e ∙ used_region_after_its_change region (unswept_region dead) s.regions))
     ∙ sweep_slot dead (used_at s.regions region) b.cell some fit
     ∙ ap (λ x. dead_state dead b.cell (cell_state x)) (ap (λ r. slot_object (used_at s.regions r) b.cell) (sym e) ∙ sym (object_of_used s.regions b)))
-    (λ ne. used_alike (with_region region (unswept_region dead) s.regions) s.regions b (used_elsewhere region b.region (unswept_region dead) s.regions (λ e. ne (sym e))))
+    (λ ne. equal_regions_have_equal_states (with_region region (unswept_region dead) s.regions) s.regions b (used_region_after_other_change region b.region (unswept_region dead) s.regions (λ e. ne (sym e))))
 
-put_there : (r : ℕ) (u : UsedRegion) (regions : List Region) → r < length regions → used_at (set regions r (InUse u)) r ≡ Some u
+region_set_is_used : (r : ℕ) (u : UsedRegion) (regions : List Region) → r < length regions → used_at (set regions r (InUse u)) r ≡ Some u
 unfolding used_at
-put_there r u regions lt = ap (option_and_then used_part) (get_set regions r (InUse u) lt)
+region_set_is_used r u regions lt = ap (option_and_then used_part) (set_item_is_got regions r (InUse u) lt)
 
-reclaim_state : (region : ℕ) (storage : UsedRegion) (s : RegionPool) (b : ObjRef) → region < length s.regions → states_of (restored region storage s).regions b ≡ (if b.region == region then cell_state (cell_object storage b.cell) else states_of s.regions b)
+cell_states_before_reclaim : (region : ℕ) (storage : UsedRegion) (s : RegionPool) (b : ObjRef) → region < length s.regions → cell_states_of_regions (restored region storage s).regions b ≡ (if b.region == region then cell_state (cell_object storage b.cell) else cell_states_of_regions s.regions b)
 unfolding restored
-reclaim_state region storage s b lt = when_same b.region region (cell_state (cell_object storage b.cell)) (states_of s.regions b) (states_of (set s.regions region (InUse storage)) b)
-    (λ e. ap cell_state (object_of_used (set s.regions region (InUse storage)) b ∙ ap (λ x. slot_object x b.cell) (ap (used_at (set s.regions region (InUse storage))) e ∙ put_there region storage s.regions lt)))
-    (λ ne. used_alike (set s.regions region (InUse storage)) s.regions b (restored_elsewhere region b.region storage s (λ e. ne (sym e))))
+cell_states_before_reclaim region storage s b lt = choice_by_equal_numbers b.region region (cell_state (cell_object storage b.cell)) (cell_states_of_regions s.regions b) (cell_states_of_regions (set s.regions region (InUse storage)) b)
+    (λ e. ap cell_state (object_of_used (set s.regions region (InUse storage)) b ∙ ap (λ x. slot_object x b.cell) (ap (used_at (set s.regions region (InUse storage))) e ∙ region_set_is_used region storage s.regions lt)))
+    (λ ne. equal_regions_have_equal_states (set s.regions region (InUse storage)) s.regions b (restored_elsewhere region b.region storage s (λ e. ne (sym e))))
 
 -- ---- each record of a step
 
-states_undone : (e : Event) (before x : HeapState) (left : Undo) → IsStep e before x left → (b : ObjRef) → states_of (undone left x).regions b ≡ states_before left (states_of x.regions) b
+cell_states_before_step : (e : Event) (before x : HeapState) (left : Undo) → IsStep e before x left → (b : ObjRef) → cell_states_of_regions (undone left x).regions b ≡ states_before left (cell_states_of_regions x.regions) b
 unfolding undone unsnapped unmarked undrained unshaded unfinished states_before
-states_undone e before x (Put at slot old) s b = word_state at slot old x.regions b
-states_undone e before x (Store at slot old logged) s b = word_state at slot old x.regions b
-states_undone e before x (Reg m k old) s b = refl
-states_undone e before x (New at fresh m k old) s b = unalloc_state (New at fresh m k old) at fresh m k old x b
-states_undone e before x Class s b = refl
-states_undone e before x Snap s b = snap_state x.regions b
-states_undone e before x (Mark parent pushed) s b = marks_state (take pushed x.gray) x.regions b
-states_undone e before x (Drain pushed) s b = marks_state (take pushed x.gray) x.regions b
-states_undone e before x (Finish log) s b = finish_state x.regions b
-states_undone e before x (Sweep region dead) s b = sweep_state region dead (pool_of x) b (sweep_used e before x (Sweep region dead) s region dead refl) (sweep_fit e before x (Sweep region dead) s region dead refl)
-states_undone e before x (Reclaim region storage) s b = reclaim_state region storage (pool_of x) b (reclaim_within e before x (Reclaim region storage) s region storage refl)
+cell_states_before_step e before x (Put at slot old) s b = word_state at slot old x.regions b
+cell_states_before_step e before x (Store at slot old logged) s b = word_state at slot old x.regions b
+cell_states_before_step e before x (Reg m k old) s b = refl
+cell_states_before_step e before x (New at fresh m k old) s b = unalloc_state (New at fresh m k old) at fresh m k old x b
+cell_states_before_step e before x Class s b = refl
+cell_states_before_step e before x Snap s b = snap_state x.regions b
+cell_states_before_step e before x (Mark parent pushed) s b = marks_keep_cell_states (take pushed x.gray) x.regions b
+cell_states_before_step e before x (Drain pushed) s b = marks_keep_cell_states (take pushed x.gray) x.regions b
+cell_states_before_step e before x (Finish log) s b = cell_states_before_finish x.regions b
+cell_states_before_step e before x (Sweep region dead) s b = cell_states_before_sweep region dead (pool_of x) b (sweep_used e before x (Sweep region dead) s region dead refl) (sweep_fit e before x (Sweep region dead) s region dead refl)
+cell_states_before_step e before x (Reclaim region storage) s b = cell_states_before_reclaim region storage (pool_of x) b (reclaim_within e before x (Reclaim region storage) s region storage refl)
 
 -- ---- all that a record tells
 
@@ -240,7 +240,7 @@ tells_before e before x left law s =
     subst (λ (w : HeapState). TellsBefore left w x) back (record {
       registers = registers_are left x;
       classes = classes_are left x;
-      states = states_undone e before x left s;
+      states = cell_states_before_step e before x left s;
       others = keeps_others left x;
-      touched_region = λ r g. walked_covers left x r g;
+      touched_region = λ r g. walked_copy_covers_state_before left x r g;
     })

@@ -11,48 +11,48 @@ use Rattle.heap_pins.specs.KeptCopies.{touched}
 use Rattle.heap_pins.specs.Pin.{PinContents, copy_or_now, region_seen}
 use Rattle.heap_pins.specs.Shows.{ShowsState, OfFirst}
 use Rattle.heap_pins.specs.Walk.{WalksFor}
-use Rattle.heap_pins.proofs.Classes.{record_extends, all_taken}
-use Rattle.heap_pins.proofs.CoveringCopies.{covers_same, covers_none, covers_then, none_left}
-use Rattle.heap_pins.proofs.Others.{keeps_others, length_undone}
+use Rattle.heap_pins.proofs.Classes.{record_extends, take_of_whole_list}
+use Rattle.heap_pins.proofs.CoveringCopies.{same_copy_covers, absent_copy_is_covered, copy_covers_through_another, covered_by_none_is_none}
+use Rattle.heap_pins.proofs.Others.{keeps_others, undoing_keeps_region_count}
 use Rattle.heap_pins.proofs.ShownStates.{option_or_not, first_classes}
-use Rattle.heap_pins.proofs.WalkSteps.{walked_covers}
+use Rattle.heap_pins.proofs.WalkSteps.{walked_copy_covers_state_before}
 
 -- a copy that covers a region does so beside any state
-copy_seen : (a g now : Option Frozen) → Covers a g → Covers a (copy_or_now g now)
-copy_seen a (Some f) now h = h
-copy_seen a None now h = covers_none a now (none_left a None refl h)
+covering_copy_covers_beside_state : (a g now : Option Frozen) → Covers a g → Covers a (copy_or_now g now)
+covering_copy_covers_beside_state a (Some f) now h = h
+covering_copy_covers_beside_state a None now h = absent_copy_is_covered a now (covered_by_none_is_none a None refl h)
 
 -- beside a state that came since, and the current one is such a state
-pub walk_shows : (left : Undo) (x w s : HeapState) (p q : PinContents) → WalksFor left w p q → ShowsState p x w → ShowsState p x s → ShowsState q (undone left x) s
+pub walk_shows_beside_later_state : (left : Undo) (x w s : HeapState) (p q : PinContents) → WalksFor left w p q → ShowsState p x w → ShowsState p x s → ShowsState q (undone left x) s
 unfolding region_seen
-walk_shows left x w s p q k now here = record {
-  count = here.count ∙ length_undone left x;
+walk_shows_beside_later_state left x w s p q k now here = record {
+  count = here.count ∙ undoing_keeps_region_count left x;
   classes = first_classes (undone left x).classes x.classes s.classes (record_extends left x) here.classes;
   objects = λ r. go r (option_or_not (touched left) r);
 }
   where
     go : (r : ℕ) → (touched left ≡ Some r) ⊎ (touched left ≢ Some r) → Covers (region_frozen (undone left x).regions r) (copy_or_now (slice_index_or q.copies r None) (region_frozen s.regions r))
     go r (inl t) = subst (λ g. Covers (region_frozen (undone left x).regions r) (copy_or_now g (region_frozen s.regions r))) (sym (k.patched_region r t))
-        (copy_seen _ _ _ (walked_covers left x r (region_seen p w.regions r) t (now.objects r)))
+        (covering_copy_covers_beside_state _ _ _ (walked_copy_covers_state_before left x r (region_seen p w.regions r) t (now.objects r)))
     go r (inr t) = subst (λ g. Covers (region_frozen (undone left x).regions r) (copy_or_now g (region_frozen s.regions r))) (sym (k.others r t))
-        (covers_then _ _ _ (keeps_others left x r t) (here.objects r))
+        (copy_covers_through_another _ _ _ (keeps_others left x r t) (here.objects r))
 
 -- beside the state itself
-pub walk_itself : (left : Undo) (x w : HeapState) (p q : PinContents) → WalksFor left w p q → ShowsState p x w → ShowsState p x x → ShowsState q (undone left x) (undone left x)
+pub walk_shows_beside_itself : (left : Undo) (x w : HeapState) (p q : PinContents) → WalksFor left w p q → ShowsState p x w → ShowsState p x x → ShowsState q (undone left x) (undone left x)
 unfolding region_seen
-walk_itself left x w p q k now here = record {
+walk_shows_beside_itself left x w p q k now here = record {
   count = refl;
-  classes = all_taken (undone left x).classes;
+  classes = take_of_whole_list (undone left x).classes;
   objects = λ r. go r (option_or_not (touched left) r);
 }
   where
     kept : (r : ℕ) (g : Option Frozen) → Covers (region_frozen (undone left x).regions r) (region_frozen x.regions r) → Covers (region_frozen x.regions r) (copy_or_now g (region_frozen x.regions r)) → Covers (region_frozen (undone left x).regions r) (copy_or_now g (region_frozen (undone left x).regions r))
-    kept r (Some f) a b = covers_then _ _ _ a b
-    kept r None a b = covers_same _ _ refl
+    kept r (Some f) a b = copy_covers_through_another _ _ _ a b
+    kept r None a b = same_copy_covers _ _ refl
 
     go : (r : ℕ) → (touched left ≡ Some r) ⊎ (touched left ≢ Some r) → Covers (region_frozen (undone left x).regions r) (copy_or_now (slice_index_or q.copies r None) (region_frozen (undone left x).regions r))
     go r (inl t) = subst (λ g. Covers (region_frozen (undone left x).regions r) (copy_or_now g (region_frozen (undone left x).regions r))) (sym (k.patched_region r t))
-        (copy_seen _ _ _ (walked_covers left x r (region_seen p w.regions r) t (now.objects r)))
+        (covering_copy_covers_beside_state _ _ _ (walked_copy_covers_state_before left x r (region_seen p w.regions r) t (now.objects r)))
     go r (inr t) = subst (λ g. Covers (region_frozen (undone left x).regions r) (copy_or_now g (region_frozen (undone left x).regions r))) (sym (k.others r t))
         (kept r (slice_index_or p.copies r None) (keeps_others left x r t) (here.objects r))
 

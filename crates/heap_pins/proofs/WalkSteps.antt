@@ -11,31 +11,31 @@ use Rattle.heap_step.specs.Records.{undone}
 use Rattle.heap_pins.specs.Covers.{HasAll, Covers}
 use Rattle.heap_pins.specs.KeptCopies.{touched, with_dead, patched, copy_for}
 use Rattle.heap_pins.specs.Walk.{walked_copy}
-use Rattle.heap_pins.proofs.CoveringCopies.{covers_then}
+use Rattle.heap_pins.proofs.CoveringCopies.{copy_covers_through_another}
 use Rattle.heap_pins.proofs.CopiedRegions.{copy_covers}
-use Rattle.heap_pins.proofs.RecordCases.{by_patch, by_region, touches_none}
+use Rattle.heap_pins.proofs.RecordCases.{by_patch, by_region, record_that_touches_no_region}
 
 -- what stands in a cell of both stands so after both are written there
 abbrev Stands : List (Option Object) → List (Option Object) → Type 0
 Stands fs gs = (c : ℕ) (o : Object) → slice_index_or fs c None ≡ Some o → (p : Object) × (slice_index_or gs c None ≡ Some p) × (p.kind ≡ o.kind) × (p.words ≡ o.words)
 
-written : (fs gs : List (Option Object)) (i : ℕ) (x y : Option Object) → length gs ≡ length fs → Stands fs gs → ((o : Object) → x ≡ Some o → (p : Object) × (y ≡ Some p) × (p.kind ≡ o.kind) × (p.words ≡ o.words)) → Stands (set fs i x) (set gs i y)
-written [] gs i x y same h at c o e = absurd (clash e)
+cell_written_in_both_stands : (fs gs : List (Option Object)) (i : ℕ) (x y : Option Object) → length gs ≡ length fs → Stands fs gs → ((o : Object) → x ≡ Some o → (p : Object) × (y ≡ Some p) × (p.kind ≡ o.kind) × (p.words ≡ o.words)) → Stands (set fs i x) (set gs i y)
+cell_written_in_both_stands [] gs i x y same h at c o e = absurd (clash e)
   where
     clash : None ≡ Some o → ⊥
     clash e = cc
-written (f ∷ fs) [] i x y same h at c o e = cc
-written (f ∷ fs) (g ∷ gs) zero x y same h at zero o e = at o e
-written (f ∷ fs) (g ∷ gs) zero x y same h at (suc c) o e = h (suc c) o e
-written (f ∷ fs) (g ∷ gs) (suc i) x y same h at zero o e = h zero o e
-written (f ∷ fs) (g ∷ gs) (suc i) x y same h at (suc c) o e = written fs gs i x y (omega (arith, same)) (λ c. h (suc c)) at c o e
+cell_written_in_both_stands (f ∷ fs) [] i x y same h at c o e = cc
+cell_written_in_both_stands (f ∷ fs) (g ∷ gs) zero x y same h at zero o e = at o e
+cell_written_in_both_stands (f ∷ fs) (g ∷ gs) zero x y same h at (suc c) o e = h (suc c) o e
+cell_written_in_both_stands (f ∷ fs) (g ∷ gs) (suc i) x y same h at zero o e = h zero o e
+cell_written_in_both_stands (f ∷ fs) (g ∷ gs) (suc i) x y same h at (suc c) o e = cell_written_in_both_stands fs gs i x y (omega (arith, same)) (λ c. h (suc c)) at c o e
 
 word_at : (f g : Frozen) (cell slot word : ℕ) → HasAll f g → HasAll (frozen_word_set cell slot word f) (frozen_word_set cell slot word g)
 unfolding frozen_word_set
 word_at f g cell slot word h = record {
   size = h.size;
   count = length-set g.cells cell _ ∙ h.count ∙ sym (length-set f.cells cell _);
-  objects = written f.cells g.cells cell _ _ h.count h.objects (λ o. go (frozen_object f cell) (frozen_object g cell) (h.objects cell) o);
+  objects = cell_written_in_both_stands f.cells g.cells cell _ _ h.count h.objects (λ o. go (frozen_object f cell) (frozen_object g cell) (h.objects cell) o);
 }
   where
     go : (x y : Option Object) → ((o : Object) → x ≡ Some o → (p : Object) × (y ≡ Some p) × (p.kind ≡ o.kind) × (p.words ≡ o.words)) → (o : Object) → option_map (word_set slot word) x ≡ Some o
@@ -55,7 +55,7 @@ dead_at [] f g h = h
 dead_at (d ∷ dead) f g h = dead_at dead (frozen_with d.0 (Some d.1) f) (frozen_with d.0 (Some d.1) g) (record {
   size = h.size;
   count = length-set g.cells d.0 (Some d.1) ∙ h.count ∙ sym (length-set f.cells d.0 (Some d.1));
-  objects = written f.cells g.cells d.0 (Some d.1) (Some d.1) h.count h.objects (λ o e. (o, e, refl, refl));
+  objects = cell_written_in_both_stands f.cells g.cells d.0 (Some d.1) (Some d.1) h.count h.objects (λ o e. (o, e, refl, refl));
 })
 
 -- both patched by one record
@@ -80,13 +80,13 @@ patched_covers left (Some x) b h f e =
     (patched left c.0, ap (option_map (patched left)) c.1, subst (λ z. HasAll z (patched left c.0)) s (has_patched left x c.0 c.2))
 
 -- the pin's part of the touched region, of which it had all after the step, has all before it once patched
-pub walked_covers : (left : Undo) (x : HeapState) (r : ℕ) (g : Option Frozen) → touched left ≡ Some r → Covers (region_frozen x.regions r) g → Covers (region_frozen (undone left x).regions r) (walked_copy left g)
+pub walked_copy_covers_state_before : (left : Undo) (x : HeapState) (r : ℕ) (g : Option Frozen) → touched left ≡ Some r → Covers (region_frozen x.regions r) g → Covers (region_frozen (undone left x).regions r) (walked_copy left g)
 unfolding walked_copy copy_for
-walked_covers left x r g = by_patch (λ u. touched u ≡ Some r → Covers (region_frozen x.regions r) g → Covers (region_frozen (undone u x).regions r) (walked_copy u g))
+walked_copy_covers_state_before left x r g = by_patch (λ u. touched u ≡ Some r → Covers (region_frozen x.regions r) g → Covers (region_frozen (undone u x).regions r) (walked_copy u g))
     (λ u q p t h.
     let before = region_frozen (undone u x).regions r in
     let copied : Covers before (option_map (patched u) (region_frozen x.regions r)) = subst (Covers before) (p.copy x r) (copy_covers u x r t) in
-    subst (Covers before) (sym (p.walk g)) (covers_then _ _ _ copied (patched_covers u (region_frozen x.regions r) g h)))
+    subst (Covers before) (sym (p.walk g)) (copy_covers_through_another _ _ _ copied (patched_covers u (region_frozen x.regions r) g h)))
     (λ region storage t h. copy_covers (Reclaim region storage) x r t)
-    (λ u n. touches_none u n r _)
+    (λ u n. record_that_touches_no_region u n r _)
     left

@@ -15,13 +15,13 @@ use Rattle.heap_pins.specs.Pin.{PinContents, region_seen}
 use Rattle.heap_pins.specs.Shows.{ShowsState, AreFit, FitIn}
 use Rattle.heap_pins.specs.States.{AreStates, HasRegion}
 use Rattle.heap_pins.specs.WalkedPins.{SeesSlot, SeesRoom}
-use Rattle.heap_pins.proofs.LiveCounts.{few_cells, stands_in}
+use Rattle.heap_pins.proofs.LiveCounts.{cell_table_below_257_cells, standing_object_is_in_cell}
 
 -- ---- a slot
 
-slot_there : (f g : Frozen) (cell slot : ℕ) (y : Option Object) → HasAll f g → slice_index_or f.cells cell None ≡ y → IsSome y → IfSome y (λ o. slot < length o.words) → slot < length (frozen_words g cell)
-slot_there f g cell slot None h e some within = absurd (cc)
-slot_there f g cell slot (Some o) h e some within =
+slot_is_within_frozen_words : (f g : Frozen) (cell slot : ℕ) (y : Option Object) → HasAll f g → slice_index_or f.cells cell None ≡ y → IsSome y → IfSome y (λ o. slot < length o.words) → slot < length (frozen_words g cell)
+slot_is_within_frozen_words f g cell slot None h e some within = absurd (cc)
+slot_is_within_frozen_words f g cell slot (Some o) h e some within =
     let p = h.objects cell o e in
     subst (λ z. slot < length (words_of z)) (sym p.1) (subst (λ ws. slot < length ws) (sym p.3) within)
 
@@ -31,7 +31,7 @@ sees_slot p x w at slot shows some within = go (used_at x.regions at.region) (sh
   where
     go : (s : Option UsedRegion) → Covers (option_map frozen s) (region_seen p w.regions at.region) → IsSome (slot_object s at.cell) → IfSome (slot_object s at.cell) (λ o. slot < length o.words) → SeesSlot p w.regions at slot
     go None c some within = absurd (cc)
-    go (Some u) c some within = let g = c (frozen u) refl in (g.0, g.1, slot_there (frozen u) g.0 at.cell slot (cell_object u at.cell) g.2 refl some within)
+    go (Some u) c some within = let g = c (frozen u) refl in (g.0, g.1, slot_is_within_frozen_words (frozen u) g.0 at.cell slot (cell_object u at.cell) g.2 refl some within)
 
 -- ---- dead objects
 
@@ -45,10 +45,10 @@ sees_room p x w region dead shows some fit = go (used_at x.regions region) (show
         let g = c (frozen u) refl in
         (g.0, g.1, subst (λ size. AreFit size (length g.0.cells) dead) (sym g.2.size) (subst (λ count. AreFit u.cell_size count dead) (sym g.2.count) (fit (frozen u) refl)))
 
-fit_within : (size count : ℕ) (dead : List (ℕ × Object)) → count ≤ 256 → AreFit size count dead → All (λ d. d.0 < 256) dead
-fit_within size count [] few fit k e lt = absurd (omega (arith, lt))
-fit_within size count (d ∷ dead) few fit zero e lt = omega (arith, few, fit.0)
-fit_within size count (d ∷ dead) few fit (suc k) e lt = fit_within size count dead few fit.2 k e (omega (arith, lt))
+fitting_dead_cells_below_256 : (size count : ℕ) (dead : List (ℕ × Object)) → count ≤ 256 → AreFit size count dead → All (λ d. d.0 < 256) dead
+fitting_dead_cells_below_256 size count [] few fit k e lt = absurd (omega (arith, lt))
+fitting_dead_cells_below_256 size count (d ∷ dead) few fit zero e lt = omega (arith, few, fit.0)
+fitting_dead_cells_below_256 size count (d ∷ dead) few fit (suc k) e lt = fitting_dead_cells_below_256 size count dead few fit.2 k e (omega (arith, lt))
 
 pub dead_within : (x : HeapState) (region : ℕ) (dead : List (ℕ × Object)) → IsLegal x → IsSome (used_at x.regions region) → FitIn (region_frozen x.regions region) dead → All (λ d. d.0 < 256) dead
 unfolding region_frozen
@@ -56,22 +56,22 @@ dead_within x region dead legal some fit = go (used_at x.regions region) refl so
   where
     go : (s : Option UsedRegion) → used_at x.regions region ≡ s → IsSome s → FitIn (option_map frozen s) dead → All (λ d. d.0 < 256) dead
     go None e some fit = absurd (cc)
-    go (Some u) e some fit = fit_within u.cell_size (length u.cells) dead (few_cells u (legal.regions.tables region u e)) (fit (frozen u) refl)
+    go (Some u) e some fit = fitting_dead_cells_below_256 u.cell_size (length u.cells) dead (cell_table_below_257_cells u (legal.regions.tables region u e)) (fit (frozen u) refl)
 
 -- ---- bytes and registers
 
 pub region_bytes : (bytes : List ℕ) (regions : List Region) (r : ℕ) → AreStates bytes regions → r < length regions → HasRegion bytes r
 region_bytes bytes regions r s lt = omega (arith, s.count, lt)
 
-pub cell_within : (x : HeapState) (at : ObjRef) → IsLegal x → IsSome (object_at x.regions at) → at.cell < 256
-cell_within x at legal some = go (object_at x.regions at) refl some
+pub cell_of_object_below_256 : (x : HeapState) (at : ObjRef) → IsLegal x → IsSome (object_at x.regions at) → at.cell < 256
+cell_of_object_below_256 x at legal some = go (object_at x.regions at) refl some
   where
     go : (y : Option Object) → object_at x.regions at ≡ y → IsSome y → at.cell < 256
     go None e some = absurd (cc)
     go (Some o) e some =
-        let s = stands_in x.regions at o e in
+        let s = standing_object_is_in_cell x.regions at o e in
         let there : at.cell < length s.0.cells = slice_get_within s.0.cells at.cell (Some o) s.2 in
-        let few : length s.0.cells ≤ 256 = few_cells s.0 (legal.regions.tables at.region s.0 s.1) in
+        let few : length s.0.cells ≤ 256 = cell_table_below_257_cells s.0 (legal.regions.tables at.region s.0 s.1) in
         omega (arith, there, few)
 
 pub register_within : (x : HeapState) (m r : ℕ) → is_register x m r ≡ true → register_index m r < length x.registers

@@ -20,15 +20,28 @@ const LIVE: u8 = 1;
 // The byte of the cell of an object that is not live.
 const DEAD: u8 = 2;
 
-// Returns the byte of a cell of a region in use.
-#[inline(always)]
-fn cell_state(storage: &Storage, cell: u64) -> u8
-    ensures { result ≡ cell_state (cell_object storage.now cell) }
+// Returns the bytes of all cells, 256 for each region. Fails with NoMemory if the allocation fails. Reads only the cells of
+// regions in use.
+pub(crate) fn cell_states(alloc: Global, regions: &Regions) -> Result<Vec<u8>, Refusal>
+    ensures made { IfOk result (λ v. AreStates v.items regions.now.regions) }
+    ensures refused { IfErr result (λ e. e ≡ NoMemory) }
 {
-    match storage.liveness(cell) {
-        Some(true) => LIVE,
-        Some(false) => DEAD,
-        None => EMPTY,
+    let count = 256 * regions.count() as usize;
+    let mut states = vec![in alloc; EMPTY; count]?;
+    write_regions(&mut states, regions);
+    Ok(states)
+}
+
+// Writes the bytes of all regions.
+fn write_regions(states: &mut [u8], regions: &Regions)
+    requires sized { length states.old ≡ cell_limit * length regions.now.regions }
+    requires empty { AreEmpty states.old }
+    ensures { AreStates states.new regions.now.regions }
+{
+    for region in 0..regions.count() {
+        if let Some(storage) = regions.region(region) {
+            write_region(states, storage, region);
+        }
     }
 }
 
@@ -45,29 +58,16 @@ fn write_region(states: &mut [u8], storage: &Storage, region: u64)
     }
 }
 
-// Writes the bytes of all regions.
-fn write_regions(states: &mut [u8], regions: &Regions)
-    requires sized { length states.old ≡ cell_limit * length regions.now.regions }
-    requires empty { AreEmpty states.old }
-    ensures { AreStates states.new regions.now.regions }
+// Returns the byte of a cell of a region in use.
+#[inline(always)]
+fn cell_state(storage: &Storage, cell: u64) -> u8
+    ensures { result ≡ cell_state (cell_object storage.now cell) }
 {
-    for region in 0..regions.count() {
-        if let Some(storage) = regions.region(region) {
-            write_region(states, storage, region);
-        }
+    match storage.liveness(cell) {
+        Some(true) => LIVE,
+        Some(false) => DEAD,
+        None => EMPTY,
     }
-}
-
-// Returns the bytes of all cells, 256 for each region. Fails with NoMemory if the allocation fails. Reads only the cells of
-// regions in use.
-pub(crate) fn cell_states(alloc: Global, regions: &Regions) -> Result<Vec<u8>, Refusal>
-    ensures made { IfOk result (λ v. AreStates v.items regions.now.regions) }
-    ensures refused { IfErr result (λ e. e ≡ NoMemory) }
-{
-    let count = 256 * regions.count() as usize;
-    let mut states = vec![in alloc; EMPTY; count]?;
-    write_regions(&mut states, regions);
-    Ok(states)
 }
 
 // Empties the cells of a region.
@@ -93,13 +93,6 @@ pub(crate) fn make_live(states: &mut [u8])
     }
 }
 
-// Returns the byte of the cell of this object.
-fn object_state(object: &ObjectCopy) -> u8
-    ensures { result ≡ (if object.now.live then 1 else 2) }
-{
-    if object.bits().0 { LIVE } else { DEAD }
-}
-
 // Writes the bytes of dead objects that are back in a region.
 pub(crate) fn restore_dead(states: &mut [u8], region: u16, dead: &[(u64, ObjectCopy)])
     requires region { HasRegion states.old region }
@@ -112,16 +105,11 @@ pub(crate) fn restore_dead(states: &mut [u8], region: u16, dead: &[(u64, ObjectC
     }
 }
 
-// Returns the byte of a cell of a region that has no live object.
-fn dead_state(storage: &Storage, cell: u64) -> u8
-    requires { HasNoLive storage.now }
-    ensures { result ≡ cell_state (cell_object storage.now cell) }
+// Returns the byte of the cell of this object.
+fn object_state(object: &ObjectCopy) -> u8
+    ensures { result ≡ (if object.now.live then 1 else 2) }
 {
-    if storage.has_object(cell) {
-        DEAD
-    } else {
-        EMPTY
-    }
+    if object.bits().0 { LIVE } else { DEAD }
 }
 
 // Writes the bytes of a region that is back, and had no live object.
@@ -133,5 +121,17 @@ pub(crate) fn restore_region(states: &mut [u8], region: u16, storage: &Storage)
     let first = 256 * region as usize;
     for cell in 0..256 {
         states[first + cell] = dead_state(storage, cell as u64);
+    }
+}
+
+// Returns the byte of a cell of a region that has no live object.
+fn dead_state(storage: &Storage, cell: u64) -> u8
+    requires { HasNoLive storage.now }
+    ensures { result ≡ cell_state (cell_object storage.now cell) }
+{
+    if storage.has_object(cell) {
+        DEAD
+    } else {
+        EMPTY
     }
 }

@@ -9,7 +9,7 @@ use Rattle.heap_class.specs.declared.ObjKind.{ObjKind}
 use Rattle.heap_class.specs.declared.ObjKind.TheVariants.{Instance, Array, Prim}
 use Rattle.heap_class.specs.declared.ObjRef.{ObjRef}
 use Rattle.heap_class.specs.Classes.{Class, is_array_class, is_instance_class}
-use Rattle.heap_class.proofs.Slots.{found_within}
+use Rattle.heap_class.proofs.Slots.{class_found_is_in_table}
 use Rattle.heap_region.specs.Regions.{Object, object_at, with_word}
 use Rattle.heap_world.specs.Legal.{HasKind, IsLegal}
 use Rattle.heap_world.specs.State.{HeapState}
@@ -17,7 +17,7 @@ use Rattle.heap_step.specs.declared.Event.{Event}
 use Rattle.heap_step.specs.declared.Undo.{Undo}
 use Rattle.heap_step.specs.declared.Undo.TheVariants.{Put, Store, New}
 use Rattle.heap_step.specs.Laws.{IsStep}
-use Rattle.heap_step.proofs.Steps.{put_is, store_is}
+use Rattle.heap_step.proofs.Steps.{put_taken_back_is_before, store_is}
 use Rattle.heap_trail.specs.Trail.{Trail, retained, state_ago}
 use Rattle.heap_trail.proofs.RetainedRecords.{HasRecord}
 use Rattle.hprof_text.specs.Image.{IsKnown}
@@ -75,7 +75,7 @@ same_word e before after left at k now st h c = when_false _ _ c (record_tells e
 
 -- the word before any step that didn't make the object
 pub before_is : (e : Event) (before after : HeapState) (left : Undo) (at : ObjRef) (k now : ℕ) → IsStep e before after left → slot_word after at k ≡ Some now → made_by left at ≡ false → slot_word before at k ≡ Some (word_before left at k now)
-before_is e before after (Put a s old) at k now st h m = write_before before after a at s k old now (sym (ap (λ (w : HeapState). w.regions) (put_is e before after (Put a s old) st a s old refl))) h
+before_is e before after (Put a s old) at k now st h m = write_before before after a at s k old now (sym (ap (λ (w : HeapState). w.regions) (put_taken_back_is_before e before after (Put a s old) st a s old refl))) h
 before_is e before after (Store a s old logged) at k now st h m = write_before before after a at s k old now (sym (ap (λ (w : HeapState). w.regions) (store_is e before after (Store a s old logged) st a s old logged refl))) h
 before_is e before after (New a fresh r m' old) at k now st h m = same_word e before after (New a fresh r m' old) at k now st h m
 before_is e before after left at k now st h m = same_word e before after left at k now st h refl
@@ -131,8 +131,8 @@ all_retained t at s n now changes e a =
 
 pub kind_known : (classes : List Class) (kind : ObjKind) (n : ℕ) → HasKind classes kind n → IsKnown classes kind n
 unfolding is_instance_class is_array_class
-kind_known classes (Instance k) n h = (found_within classes k (λ c. not c.is_array) h.0, h.1)
-kind_known classes (Array k) n h = found_within classes k (λ c. c.is_array) h.0
+kind_known classes (Instance k) n h = (class_found_is_in_table classes k (λ c. not c.is_array) h.0, h.1)
+kind_known classes (Array k) n h = class_found_is_in_table classes k (λ c. c.is_array) h.0
 kind_known classes (Prim kind) n h = tt
 
 -- the slot of an object that is there: its kind is known, and it has the slot

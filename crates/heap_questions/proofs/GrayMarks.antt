@@ -13,7 +13,7 @@ use Rattle.heap_region.specs.Limits.{cell_sizes}
 use Rattle.heap_region.specs.Pool.{RegionPool}
 use Rattle.heap_region.specs.Regions.{Object, Region, UsedRegion, id_of, object_at, object_of, ref_of, used_at}
 use Rattle.heap_region.proofs.Ids.{ref_back, ref_is}
-use Rattle.heap_region.proofs.Lookups.{used_below}
+use Rattle.heap_region.proofs.Lookups.{used_region_is_listed}
 use Rattle.heap_region.proofs.ShownRegions.{object_here, used_by_object}
 use Rattle.heap_world.specs.State.{HeapState}
 use Rattle.heap_questions.specs.Cells.{AreMarksOf, cell_number, is_gray}
@@ -54,7 +54,7 @@ placed s at legal i = go (used_at s.regions at.region) refl (used_by_object s.re
         let c : at.cell < length u.cells = cell_there u.cells at.cell (subst IsSome (object_here s.regions at u e) i) in
         let few = table_few u table in
         record {
-          region = used_below s.regions at.region (subst IsSome (sym e) refl);
+          region = used_region_is_listed s.regions at.region (subst IsSome (sym e) refl);
           cell = omega (arith, c, few);
           back = ref_back s.regions at u e (omega (arith, c, table.cells));
         }

@@ -14,13 +14,13 @@ use Rattle.heap_class.specs.Classes.{Class, slot_kinds_of, slots_of}
 use Rattle.heap_class.specs.Kinds.{is_reference}
 use Rattle.heap_region.specs.Regions.{InUse, Object, Region, UsedRegion, id_of, live_objects, object_at, object_of, objects_in, objects_of_region, ref_of, references_of, slot_kinds}
 use Rattle.heap_region.proofs.Ids.{ref_back, ref_is, null_names_none}
-use Rattle.heap_region.proofs.ChangedLookups.{object_at_ref, place_found}
-use Rattle.heap_region.proofs.References.{found_in, is_found_in, member_cases, member_head, member_none, member_tail, place_of_member, references_by_slots}
+use Rattle.heap_region.proofs.ChangedLookups.{object_at_ref, place_of_object_of_id}
+use Rattle.heap_region.proofs.References.{member_stands_at_reference_slot, is_found_in, member_is_head_or_later, list_has_its_head, empty_list_has_no_member, list_has_items_of_tail, place_of_member, references_by_slots}
 use Rattle.heap_world.specs.Legal.{IsLegal, IsLive}
 use Rattle.heap_world.specs.Reach.{IsObject, IsPath, Names, Reaches, end_of_path}
 use Rattle.heap_world.specs.State.{HeapState}
-use Rattle.heap_world.proofs.Registers.{namer, names_of, object_not_null}
-use Rattle.heap_world.proofs.Shelter.{reach_induction, end_more}
+use Rattle.heap_world.proofs.Registers.{naming_id_names_an_object, names_of, object_not_null}
+use Rattle.heap_world.proofs.Shelter.{reach_induction, end_of_longer_path}
 use Rattle.heap_trail.specs.Image.{DumpedObject}
 use Rattle.heap_pins.specs.Images.{dumped_objects, image_of}
 use Rattle.heap_pins.proofs.LiveCounts.{Stands, live_stand}
@@ -29,8 +29,8 @@ use Rattle.heap_questions.proofs.Reaching.{leads_more}
 use Rattle.heap_questions.proofs.TracedPaths.{first_object}
 use Rattle.heap_questions.specs.Losses.{PathIsReach}
 use Rattle.heap_questions.proofs.Sizes.{table_of, used_of}
-use Rattle.heap_region.proofs.Laws.{cell_there}
-use Rattle.heap_region.proofs.Lookups.{used_is}
+use Rattle.heap_region.proofs.Laws.{cell_of_object_of_region}
+use Rattle.heap_region.proofs.Lookups.{used_region_stands_in_list}
 use Rattle.heap_questions.proofs.NamedObjects.{element_kind}
 
 -- ---- what an image shows is there
@@ -66,7 +66,7 @@ first_is regions x (p ∷ ps) d s l e = go (id_of regions p.0 == x) refl e (firs
 pub id_back : (w : HeapState) (at : ObjRef) (o : Object) → IsLegal w → object_at w.regions at ≡ Some o → ref_of w.regions (id_of w.regions at) ≡ Some at
 id_back w at o legal h =
     let u = used_of w.regions at (subst IsSome (sym h) refl) in
-    let l = slice_get_within u.0.cells at.cell (Some o) (cell_there w.regions at u.0 o u.1 h) in
+    let l = slice_get_within u.0.cells at.cell (Some o) (cell_of_object_of_region w.regions at u.0 o u.1 h) in
     ref_back w.regions at u.0 u.1 (omega (arith, l, (table_of w at.region u.0 legal u.1).cells))
 
 -- the object of the image is this one of the state
@@ -113,11 +113,11 @@ cells_there r m zero (Some p ∷ cells) o h =
     let same : p ≡ o = same_Some p o (same_Some (Some p) (Some o) h) in
     let e : m ≡ m + 0 = omega arith in
     subst (λ c. Contains (in_cells r m (Some p ∷ cells)) (record { region = r; cell = c }, o)) e
-    (subst (λ (q : Object). Contains (in_cells r m (Some p ∷ cells)) (record { region = r; cell = m }, q)) same (member_head (record { region = r; cell = m }, p) (in_cells r (m + 1) cells)))
+    (subst (λ (q : Object). Contains (in_cells r m (Some p ∷ cells)) (record { region = r; cell = m }, q)) same (list_has_its_head (record { region = r; cell = m }, p) (in_cells r (m + 1) cells)))
 cells_there r m (suc k) (Some p ∷ cells) o h =
     let e : m + 1 + k ≡ m + suc k = omega arith in
     subst (λ c. Contains (in_cells r m (Some p ∷ cells)) (record { region = r; cell = c }, o)) e
-    (member_tail (record { region = r; cell = m }, p) (in_cells r (m + 1) cells) (record { region = r; cell = m + 1 + k }, o) (cells_there r (m + 1) k cells o h))
+    (list_has_items_of_tail (record { region = r; cell = m }, p) (in_cells r (m + 1) cells) (record { region = r; cell = m + 1 + k }, o) (cells_there r (m + 1) k cells o h))
 
 region_there : (r : ℕ) (u : UsedRegion) (c : ℕ) (o : Object) → slice_get u.cells c ≡ Some (Some o) → Contains (objects_of_region (r, InUse u)) (record { region = r; cell = c }, o)
 unfolding objects_of_region
@@ -137,18 +137,18 @@ regions_there n (suc k) (y ∷ rest) x q h c =
     (regions_there (n + 1) k rest x q h (subst (λ m. Contains (objects_of_region (m, x)) q) e c))
 
 filter_there : (xs : List (ObjRef × Object)) (q : ObjRef × Object) → Contains xs q → IsLiveOne q → Contains (filter (λ p. p.1.live) xs) q
-filter_there [] q c l = absurd (member_none q c)
-filter_there (x ∷ xs) q c l = go x.1.live refl (member_cases x xs q c) (λ d. filter_there xs q d l)
+filter_there [] q c l = absurd (empty_list_has_no_member q c)
+filter_there (x ∷ xs) q c l = go x.1.live refl (member_is_head_or_later x xs q c) (λ d. filter_there xs q d l)
   where
     go : (b : Bool) → x.1.live ≡ b → (q ≡ x) ⊎ Contains xs q → (Contains xs q → Contains (filter (λ p. p.1.live) xs) q) → Contains (cond b (x ∷ filter (λ p. p.1.live) xs) (filter (λ p. p.1.live) xs)) q
-    go true e (inl h) rest = subst (λ (p : ObjRef × Object). Contains (x ∷ filter (λ p. p.1.live) xs) p) (sym h) (member_head x (filter (λ p. p.1.live) xs))
-    go true e (inr d) rest = member_tail x (filter (λ p. p.1.live) xs) q (rest d)
+    go true e (inl h) rest = subst (λ (p : ObjRef × Object). Contains (x ∷ filter (λ p. p.1.live) xs) p) (sym h) (list_has_its_head x (filter (λ p. p.1.live) xs))
+    go true e (inr d) rest = list_has_items_of_tail x (filter (λ p. p.1.live) xs) q (rest d)
     go false e (inl h) rest = absurd (true≢false (sym l ∙ ap (λ (p : ObjRef × Object). p.1.live) h ∙ e))
     go false e (inr d) rest = rest d
 
 find_there : (regions : List Region) (x : ℕ) (xs : List (ObjRef × Object)) (q : ObjRef × Object) → Contains xs q → id_of regions q.0 ≡ x → IsSome (find (λ o. o.id == x) (map (shown regions) xs))
-find_there regions x [] q c e = absurd (member_none q c)
-find_there regions x (p ∷ ps) q c e = go (id_of regions p.0 == x) refl (member_cases p ps q c) (λ d. find_there regions x ps q d e)
+find_there regions x [] q c e = absurd (empty_list_has_no_member q c)
+find_there regions x (p ∷ ps) q c e = go (id_of regions p.0 == x) refl (member_is_head_or_later p ps q c) (λ d. find_there regions x ps q d e)
   where
     go : (b : Bool) → (id_of regions p.0 == x) ≡ b → (q ≡ p) ⊎ Contains ps q → (Contains ps q → IsSome (find (λ o. o.id == x) (map (shown regions) ps))) → IsSome (cond b (Some (shown regions p)) (find (λ o. o.id == x) (map (shown regions) ps)))
     go true h m rest = refl
@@ -158,11 +158,11 @@ find_there regions x (p ∷ ps) q c e = go (id_of regions p.0 == x) refl (member
 live_shown : (w : HeapState) (x : ℕ) → IsLive w x → HasId (image_of w) x
 unfolding object_with image_of dumped_objects live_objects objects_in
 live_shown w x l =
-    let p = place_found w.regions x l.0 l.1 in
+    let p = place_of_object_of_id w.regions x l.0 l.1 in
     let u = used_of w.regions p.0 (subst IsSome (sym p.2) refl) in
-    let c = region_there p.0.region u.0 p.0.cell l.0 (cell_there w.regions p.0 u.0 l.0 u.1 p.2) in
+    let c = region_there p.0.region u.0 p.0.cell l.0 (cell_of_object_of_region w.regions p.0 u.0 l.0 u.1 p.2) in
     let e : p.0.region ≡ 0 + p.0.region = omega arith in
-    let m = regions_there 0 p.0.region w.regions (InUse u.0) (p.0, l.0) (used_is w.regions p.0.region u.0 u.1) (subst (λ r. Contains (objects_of_region (r, InUse u.0)) (p.0, l.0)) e c) in
+    let m = regions_there 0 p.0.region w.regions (InUse u.0) (p.0, l.0) (used_region_stands_in_list w.regions p.0.region u.0 u.1) (subst (λ r. Contains (objects_of_region (r, InUse u.0)) (p.0, l.0)) e c) in
     find_there w.regions x (filter (λ p. p.1.live) (flat_map objects_of_region (enumerate_from 0 w.regions))) (p.0, l.0) (filter_there (flat_map objects_of_region (enumerate_from 0 w.regions)) (p.0, l.0) m l.2) (ref_is w.regions x p.0 p.1)
 
 -- ---- slots
@@ -205,11 +205,11 @@ names_there w x s y d i h nz = go (slot_refers w.classes d.kind s) refl h
 slot_there : (w : HeapState) (x y : ℕ) (d : DumpedObject) → IsShownAs w x d → Names w x y → (s : ℕ) × (slot_names w.classes d s ≡ Some y)
 unfolding slot_names slot_kinds
 slot_there w x y d i n =
-    let a = namer w x y n in
+    let a = naming_id_names_an_object w x y n in
     let same : a.0 ≡ i.object = same_Some a.0 i.object (sym a.1 ∙ i.there) in
     let c = subst (λ (o : Object). Contains (references_of w.classes o) y) same a.2 in
     let o = i.object in
-    let r = found_in (slot_kinds w.classes o) o.words y (subst (λ (ys : List ℕ). Contains ys y) (references_by_slots w.classes o) c) in
+    let r = member_stands_at_reference_slot (slot_kinds w.classes o) o.words y (subst (λ (ys : List ℕ). Contains ys y) (references_by_slots w.classes o) c) in
     let b = at_reference w.classes o.kind (length o.words) r.0 r.1 (slice_get_within o.words r.0 y r.4) r.2 r.3 in
     (r.0, ap (λ (b : Bool). cond b (slice_get d.words r.0) None) (ap (λ (k : ObjKind). slot_refers w.classes k r.0) i.kind ∙ b) ∙ ap (λ (ws : List ℕ). slice_get ws r.0) i.words ∙ r.4)
 
@@ -220,7 +220,7 @@ path_more w x [] z p n o = (p, n, o)
 path_more w x (y ∷ ys) z p n o = (p.0, p.1, path_more w y ys z p.2 n o)
 
 pub reaches_next : (w : HeapState) (x y : ℕ) → Reaches w x → Names w x y → IsObject w y → Reaches w y
-reaches_next w x y r n o = (r.0, r.1 ++ y ∷ [], r.2, path_more w r.0 r.1 y r.3 (subst (λ e. Names w e y) (sym r.4) n) o, end_more r.0 r.1 y)
+reaches_next w x y r n o = (r.0, r.1 ++ y ∷ [], r.2, path_more w r.0 r.1 y r.3 (subst (λ e. Names w e y) (sym r.4) n) o, end_of_longer_path r.0 r.1 y)
 
 is_object : (w : HeapState) (x : ℕ) → IsLegal w → HasId (image_of w) x → IsObject w x
 is_object w x legal h = let d = some_shown w x legal h in subst IsSome (sym d.2.there) refl

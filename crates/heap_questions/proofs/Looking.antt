@@ -9,7 +9,7 @@ use Rattle.heap_class.specs.Limits.{array_limit}
 use Rattle.heap_class.specs.declared.ObjKind.{ObjKind}
 use Rattle.hprof_text.specs.Image.{Image, DumpedObject, IsDumpable, IsKnown}
 use Rattle.hprof_text.proofs.ViewedObjects.{here}
-use Rattle.hprof_text.proofs.Loops.{some_item}
+use Rattle.hprof_text.proofs.Loops.{item_of_list_within}
 use Rattle.heap_questions.specs.Graph.{HasId, slot_refers, named, object_with, slot_names}
 use Rattle.heap_questions.specs.Search.{AreNodes, HasAllRoots, HasRoots, HasChildren, IsFound, IsNear, IsOfferedTo, IsOrdered, IsSearching, IsWithin, node_with}
 use Rattle.heap_questions.specs.declared.nodes.Node.{Node}
@@ -52,7 +52,7 @@ pub record StandsFor (image : Image) (places : List ObjRef) (nodes : List Node) 
 pub stands : (image : Image) (places : List ObjRef) (nodes : List Node) (f : Found) (at : ObjRef) → AreNodes image places nodes → node_with nodes f.id ≡ Some f.node → ((n : Node) → slice_get nodes f.node ≡ Some n → at ≡ n.at) → StandsFor image places nodes f at
 stands image places nodes f at n e p =
     let w = node_within nodes f.id f.node e in
-    let m = some_item nodes f.node w in
+    let m = item_of_list_within nodes f.node w in
     record { within = w; placed = node_place image places nodes f.node m.0 n m.1 ∙ ap Some (sym (p m.0 m.1)); object = object_of_node image places nodes f.id f.node n e }
 
 -- what is read of a queue at a place is what was found there

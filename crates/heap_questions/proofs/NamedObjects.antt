@@ -12,7 +12,7 @@ use Rattle.heap_class.specs.declared.ObjKind.{ObjKind}
 use Rattle.heap_class.specs.declared.ObjKind.TheVariants.{Prim}
 use Rattle.heap_class.specs.declared.ObjRef.{ObjRef}
 use Rattle.hprof_text.specs.Image.{Image, DumpedObject, IsDumpable}
-use Rattle.hprof_text.proofs.Loops.{some_item}
+use Rattle.hprof_text.proofs.Loops.{item_of_list_within}
 use Rattle.hprof_text.proofs.ViewedObjects.{IsHere, here, is_there}
 use Rattle.heap_questions.specs.Graph.{object_with}
 use Rattle.heap_questions.specs.Referrers.{dumped}
@@ -77,7 +77,7 @@ shown_is image x i y kind words o others h a b k w =
 
 pub node_placed : (image : Image) (places : List ObjRef) (nodes : List Node) (x j : ℕ) (at : ObjRef) → AreNodes image places nodes → node_with nodes x ≡ Some j → ((n : Node) → slice_get nodes j ≡ Some n → at ≡ n.at) → slice_get places j ≡ Some at
 node_placed image places nodes x j at n e p =
-    let m = some_item nodes j (node_within nodes x j e) in
+    let m = item_of_list_within nodes j (node_within nodes x j e) in
     node_place image places nodes j m.0 n m.1 ∙ ap Some (sym (p m.0 m.1))
 
 pub node_listed : (image : Image) (places : List ObjRef) (nodes : List Node) (x j : ℕ) (at : ObjRef) → AreNodes image places nodes → node_with nodes x ≡ Some j → ((n : Node) → slice_get nodes j ≡ Some n → at ≡ n.at) → Contains places at
@@ -85,20 +85,20 @@ node_listed image places nodes x j at n e p = is_there places j at (node_placed 
 
 pub node_kind : (image : Image) (places : List ObjRef) (nodes : List Node) (x j : ℕ) (kind : ObjKind) → AreNodes image places nodes → node_with nodes x ≡ Some j → IfSome (slice_get image.objects j) (λ o. kind ≡ o.kind) → Some kind ≡ option_map (λ o. o.kind) (object_with image x)
 node_kind image places nodes x j kind n e k =
-    let o = some_item image.objects j (omega (arith, node_within nodes x j e, as_many image places nodes n)) in
+    let o = item_of_list_within image.objects j (omega (arith, node_within nodes x j e, as_many image places nodes n)) in
     ap Some (said_of (λ o. kind ≡ o.kind) (slice_get image.objects j) o.0 o.1 k)
     ∙ sym (ap (option_map (λ (o : DumpedObject). o.kind)) (object_of_node image places nodes x j n e ∙ o.1))
 
 -- the object of a node that was found has the id
 id_of_node : (image : Image) (places : List ObjRef) (nodes : List Node) (x j : ℕ) (o : DumpedObject) → AreNodes image places nodes → node_with nodes x ≡ Some j → slice_get image.objects j ≡ Some o → x ≡ o.id
 id_of_node image places nodes x j o h e g =
-    let m = some_item nodes j (node_within nodes x j e) in
+    let m = item_of_list_within nodes j (node_within nodes x j e) in
     sym (node_at nodes x j m.0 e m.1)
     ∙ same_Some m.0.id o.id (sym (ap (option_map (λ (n : Node). n.id)) m.1) ∙ sym (slice_get-map (λ (n : Node). n.id) nodes j) ∙ ap (λ l. slice_get l j) h.ids ∙ slice_get-map (λ (o : DumpedObject). o.id) image.objects j ∙ ap (option_map (λ (o : DumpedObject). o.id)) g)
 
 pub node_object : (image : Image) (places : List ObjRef) (nodes : List Node) (x j : ℕ) (kind : ObjKind) (words : List ℕ) → AreNodes image places nodes → node_with nodes x ≡ Some j → IfSome (slice_get image.objects j) (λ o. kind ≡ o.kind) → IfSome (slice_get image.objects j) (λ o. words ≡ o.words) → Some (dumped x kind words) ≡ object_with image x
 node_object image places nodes x j kind words n e k w =
-    let o = some_item image.objects j (omega (arith, node_within nodes x j e, as_many image places nodes n)) in
+    let o = item_of_list_within image.objects j (omega (arith, node_within nodes x j e, as_many image places nodes n)) in
     ap (λ z. Some (dumped z kind words)) (id_of_node image places nodes x j o.0 n e o.1)
     ∙ ap₂ (λ m ws. Some (dumped o.0.id m ws)) (said_of (λ (o : DumpedObject). kind ≡ o.kind) (slice_get image.objects j) o.0 o.1 k) (said_of (λ (o : DumpedObject). words ≡ o.words) (slice_get image.objects j) o.0 o.1 w)
     ∙ sym (object_of_node image places nodes x j n e ∙ o.1)

@@ -9,7 +9,7 @@ use Rattle.std.proofs.lemmas.Option.{get_or_from_slice_get, none-some, same_Some
 use Rattle.heap_step.specs.declared.Undo.{Undo}
 use Rattle.heap_trail.specs.Laws.{IsTrail}
 use Rattle.heap_trail.specs.Trail.{Trail, retained}
-use Rattle.heap_trail.proofs.RetainedStates.{as_many}
+use Rattle.heap_trail.proofs.RetainedStates.{as_many_records_as_states}
 use Rattle.heap_questions.specs.declared.past.steps.PastStep.{PastStep}
 use Rattle.heap_questions.specs.Newest.{past_step, steps_back}
 
@@ -63,5 +63,5 @@ back_all keep t ago count n trail is = go (cases_lt count (retained t - ago))
     go (inl few) = ap (steps_back t ago) (is ∙ min-eq_left (let e : count ≤ retained t - ago = omega (arith, few) in e))
     go (inr many) =
         let all : n ≡ retained t - ago = is ∙ min-eq_right many in
-        let records = as_many t.current t.past t.records trail.steps in
+        let records = as_many_records_as_states t.current t.past t.records trail.steps in
         ap (map (λ (p : ℕ × Undo). past_step t p.0 p.1)) (zip_all ago n count (drop ago t.records) (omega (arith, all, records, length-drop ago t.records)) (omega (arith, all, many)))

@@ -10,7 +10,7 @@ use Rattle.std.proofs.lemmas.List.Quantifiers.{position-Some}
 use Rattle.std.proofs.lemmas.Bool.{cases_lt, lt-ltb, le-ltb, eqb-true, false≢true}
 use Rattle.heap_class.specs.declared.ObjRef.{ObjRef}
 use Rattle.hprof_text.specs.Image.{Image, DumpedObject}
-use Rattle.hprof_text.proofs.Loops.{some_item}
+use Rattle.hprof_text.proofs.Loops.{item_of_list_within}
 use Rattle.heap_questions.specs.Graph.{HasId, object_with}
 use Rattle.heap_questions.specs.Search.{AreNodes, node_with}
 use Rattle.heap_questions.specs.declared.nodes.Node.{Node}
@@ -88,7 +88,7 @@ pub ids_more : (image : Image) (nodes new : List Node) (at : ObjRef) (x : ℕ) �
     → new ≡ nodes ++ record { at = at; id = x } ∷ [] → map (λ n. n.id) new ≡ map (λ o. o.id) (take (length new) image.objects)
 ids_more image nodes new at x h d a e =
     let n : Node = record { at = at; id = x } in
-    let o = some_item image.objects (length nodes) h in
+    let o = item_of_list_within image.objects (length nodes) h in
     let P : Option DumpedObject → Type 0 = λ y. IfSome y (λ o. x ≡ o.id) in
     let same : x ≡ o.0.id = subst P o.1 d in
     ap (map (λ n. n.id)) e ∙ map_push (λ n. n.id) nodes n ∙ ap₂ (λ l y. l ++ y ∷ []) a same
@@ -111,5 +111,5 @@ all_nodes image places nodes a b l n =
 pub object_found : (image : Image) (places : List ObjRef) (nodes : List Node) (x j : ℕ) → AreNodes image places nodes → node_with nodes x ≡ Some j → HasId image x
 object_found image places nodes x j n e =
     let w = node_within nodes x j e in
-    let o = some_item image.objects j (omega (arith, w, as_many image places nodes n)) in
+    let o = item_of_list_within image.objects j (omega (arith, w, as_many image places nodes n)) in
     subst IsSome (sym (object_of_node image places nodes x j n e ∙ o.1)) (search rules)

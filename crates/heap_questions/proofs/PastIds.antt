@@ -4,7 +4,7 @@ use Rattle.std.specs.Option.{option_map_or}
 use Rattle.std.proofs.lemmas.Bool.{cases_eq, false≢true}
 use Rattle.std.proofs.lemmas.Option.{none-some, same_Some}
 use Rattle.heap_class.specs.declared.ObjRef.{ObjRef}
-use Rattle.hprof_text.proofs.Loops.{some_item}
+use Rattle.hprof_text.proofs.Loops.{item_of_list_within}
 use Rattle.heap_region.specs.Regions.{Object, Region, UsedRegion, id_of, object_at, used_at}
 use Rattle.heap_region.specs.RegionCopies.{region_frozen}
 use Rattle.heap_region.proofs.ChangedLookups.{object_at_ref}
@@ -18,12 +18,12 @@ use Rattle.heap_step.specs.Laws.{IsStep}
 use Rattle.heap_pins.specs.KeptCopies.{patched, touched}
 use Rattle.heap_pins.specs.Covers.{Covers}
 use Rattle.heap_pins.specs.Walk.{TellsBefore}
-use Rattle.heap_pins.proofs.CoveringCopies.{covers_same}
+use Rattle.heap_pins.proofs.CoveringCopies.{same_copy_covers}
 use Rattle.heap_pins.proofs.RecordCases.{by_patch}
 use Rattle.heap_trail.specs.Laws.{IsTrail}
 use Rattle.heap_trail.specs.Trail.{Trail, retained, state_ago}
 use Rattle.heap_trail.proofs.RetainedRecords.{HasRecord, has_record}
-use Rattle.heap_trail.proofs.RetainedStates.{as_many, steps_legal}
+use Rattle.heap_trail.proofs.RetainedStates.{as_many_records_as_states, recorded_state_is_legal}
 use Rattle.heap_questions.specs.Losses.{StoodFor, UnreachedFor, id_now}
 use Rattle.heap_questions.proofs.ImagePaths.{id_back}
 use Rattle.heap_questions.proofs.Sizes.{covered_size, patched_size, same_regions, used_of}
@@ -49,7 +49,7 @@ unfolding touched region_frozen
 sized left before after r u t n e = by_patch (λ k. TellsBefore k before after → left ≡ k → StaysSized after r u)
     (λ k region p t is. elim (cases_eq r region) [
       | inl q ↦
-          let covers = t.touched_region r (region_frozen after.regions r) (p.region ∙ ap Some (sym q)) (covers_same _ _ refl) in
+          let covers = t.touched_region r (region_frozen after.regions r) (p.region ∙ ap Some (sym q)) (same_copy_covers _ _ refl) in
           patched_size (patched k) p.size (used_at before.regions r) (used_at after.regions r) u (subst (Covers (region_frozen before.regions r)) (p.walk (region_frozen after.regions r)) covers) e
       | inr q ↦ untouched_sized k before after r u t (λ z. q (sym (same_Some region r (sym p.region ∙ z)))) e
     ])
@@ -88,11 +88,11 @@ stands_object w at legal h =
 -- the step that led to the state of n steps ago
 pub came_ago : (keep : ℕ) (t : Trail) (n : ℕ) → IsTrail keep t → n < retained t → (left : Undo) × HasRecord t n left
 came_ago keep t n trail l =
-    let left = some_item t.records n (omega (arith, l, as_many t.current t.past t.records trail.steps)) in
+    let left = item_of_list_within t.records n (omega (arith, l, as_many_records_as_states t.current t.past t.records trail.steps)) in
     (left.0, has_record keep t n left.0 trail left.1)
 
 pub legal_ago : (keep : ℕ) (t : Trail) (n : ℕ) → IsTrail keep t → n ≤ retained t → IsLegal (state_ago n t)
-legal_ago keep t zero trail l = subst IsLegal (sym (now_is t)) (steps_legal t.current t.past t.records trail.steps)
+legal_ago keep t zero trail l = subst IsLegal (sym (now_is t)) (recorded_state_is_legal t.current t.past t.records trail.steps)
 legal_ago keep t (suc n) trail l = subst (λ k. IsLegal (state_ago k t)) (add-one n) (came_ago keep t n trail (omega (arith, l))).1.1.legal
 
 -- the object had the id that it has now

@@ -10,11 +10,11 @@ use Rattle.heap_region.specs.Limits.{region_words}
 use Rattle.heap_region.specs.Pool.{RegionPool}
 use Rattle.heap_region.specs.RegionCopies.{frozen, region_frozen}
 use Rattle.heap_region.specs.Regions.{Object, Region, UsedRegion, cell_object, id_of, object_at, object_base, object_of, ref_of, used_at}
-use Rattle.heap_region.proofs.Allocation.{id_lies, id_place}
-use Rattle.heap_region.proofs.ChangedLookups.{object_at_ref, place_found}
+use Rattle.heap_region.proofs.Allocation.{region_around_id_in_use, ref_of_id_from_region}
+use Rattle.heap_region.proofs.ChangedLookups.{object_at_ref, place_of_object_of_id}
 use Rattle.heap_region.proofs.FoundObjects.{ref_region, region_around}
-use Rattle.heap_region.proofs.Ids.{cell_within, ref_is}
-use Rattle.heap_region.proofs.Laws.{cell_there}
+use Rattle.heap_region.proofs.Ids.{cell_begins_within_region, ref_is}
+use Rattle.heap_region.proofs.Laws.{cell_of_object_of_region}
 use Rattle.heap_world.specs.Legal.{IsLegal}
 use Rattle.heap_world.specs.State.{HeapState, pool_of}
 use Rattle.heap_step.specs.declared.Event.{Event}
@@ -24,7 +24,7 @@ use Rattle.heap_step.specs.Laws.{IsStep}
 use Rattle.heap_step.proofs.Steps.{reclaim_inhabited}
 use Rattle.heap_pins.specs.KeptCopies.{touched}
 use Rattle.heap_pins.specs.Walk.{TellsBefore, cell_state, dead_state, states_before, walked_copy}
-use Rattle.heap_pins.proofs.CoveringCopies.{covers_same}
+use Rattle.heap_pins.proofs.CoveringCopies.{same_copy_covers}
 use Rattle.heap_trail.specs.declared.Action.TheVariants.{Rewind}
 use Rattle.heap_trail.specs.Laws.{IsTrail}
 use Rattle.heap_trail.specs.Machine.{Machine, Allocation, Granted, acted_under, machine_after}
@@ -178,7 +178,7 @@ reclaimed_cells : (region : ℕ) (storage : UsedRegion) (e : Event) (before afte
 unfolding touched walked_copy region_frozen
 reclaimed_cells region storage e before after r u s q used =
     let t = told e before after (Reclaim region storage) s in
-    let c = t.touched_region r (region_frozen after.regions r) (ap Some q) (covers_same _ _ refl) in
+    let c = t.touched_region r (region_frozen after.regions r) (ap Some q) (same_copy_covers _ _ refl) in
     ap (λ n. region_words / n) (reclaimed_size (used_at before.regions r) storage u c used) ∙ whole_size u (table_of before r u s.legal used)
 
 pub size_step : (left : Undo) (e : Event) (before after : HeapState) (r n : ℕ) → IsStep e before after left → HasCellSize after r n → HasCellSize before r (size_before left r n)
@@ -209,8 +209,8 @@ some_size : (w : HeapState) (at : ObjRef) (size : ℕ) → IsLegal w → HasCell
 some_size w at size legal h there =
     let o = some_there (object_at w.regions at) there in
     let u = used_of w.regions at there in
-    let l = slice_get_within u.0.cells at.cell (Some o.0) (cell_there w.regions at u.0 o.0 u.1 o.1) in
-    let c = (cell_within at.cell u.0.cell_size (omega (arith, l, (table_of w at.region u.0 legal u.1).cells))).1 in
+    let l = slice_get_within u.0.cells at.cell (Some o.0) (cell_of_object_of_region w.regions at u.0 o.0 u.1 o.1) in
+    let c = (cell_begins_within_region at.cell u.0.cell_size (omega (arith, l, (table_of w at.region u.0 legal u.1).cells))).1 in
     omega (arith, c, h u.0 u.1)
   where
     some_there : (x : Option Object) → IsSome x → (o : Object) × (x ≡ Some o)
@@ -237,7 +237,7 @@ cell_found w x size at cell legal h c r there = go cell c
     place : at ≡ sized_cell size at.region x
     place =
         let around : at.region ≡ region_around x = ref_region w.regions x at r in
-        let p = id_place w.regions x u.0 (named_some w.regions x at r there) (subst (λ k. used_at w.regions k ≡ Some u.0) around u.1) in
+        let p = ref_of_id_from_region w.regions x u.0 (named_some w.regions x at r there) (subst (λ k. used_at w.regions k ≡ Some u.0) around u.1) in
         same_Some at _ (sym r ∙ p)
         ∙ (λ i. let b : ObjRef = record { region = sym around i; cell = (x - object_base) / 8 % 1024 / sym (h u.0 u.1) i } in b)
 
@@ -267,6 +267,6 @@ found_none regions x cell finds none = go (object_of regions x) refl
     go : (o : Option Object) → object_of regions x ≡ o → o ≡ None
     go None e = refl
     go (Some o) e =
-        let p = place_found regions x o e in
+        let p = place_of_object_of_id regions x o e in
         let there : IsSome (object_at regions p.0) = subst (λ (y : Option Object). IsSome y) (sym p.2) refl in
         absurd (false≢true (sym (none p.0 (finds p.0 p.1 there)) ∙ there))

@@ -11,7 +11,7 @@ use Rattle.heap_world.specs.Legal.{IsLegal}
 use Rattle.heap_world.specs.State.{HeapState}
 use Rattle.heap_pins.specs.Pin.{PinContents, object_seen}
 use Rattle.heap_pins.specs.Shows.{IsSeen}
-use Rattle.heap_pins.proofs.ShownImages.{object_is}
+use Rattle.heap_pins.proofs.ShownImages.{object_seen_as_dump_shows}
 use Rattle.hprof_text.specs.Image.{DumpedObject, IsKnown}
 use Rattle.heap_questions.specs.declared.past.seen.SeenSlot.{SeenSlot}
 use Rattle.heap_questions.specs.Changes.{slot_word}
@@ -71,7 +71,7 @@ slot_seen w at s n word o classes kind legal here same many l e cs =
 pub of_shown : (P : DumpedObject → Type 0) (u w : HeapState) (p : PinContents) (at : ObjRef) (o : Object) → IsShownBeside w p u → object_at u.regions at ≡ Some o → IfSome (object_seen p w.regions at) P
     → (d : DumpedObject) × (d.kind ≡ o.kind) × (d.words ≡ o.words) × P d
 of_shown P u w p at o h here told =
-    let e = object_is p u w at o h.1 here in
+    let e = object_seen_as_dump_shows p u w at o h.1 here in
     (_, refl, refl, subst (λ (x : Option DumpedObject). IfSome x P) e told)
 
 pub classes_beside : (u w : HeapState) (p : PinContents) → IsShownBeside w p u → take p.classes w.classes ≡ u.classes

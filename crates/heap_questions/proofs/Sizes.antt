@@ -9,13 +9,13 @@ use Rattle.std.proofs.lemmas.List.{length-set, length_push, get_or_push, get_or-
 use Rattle.std.proofs.lemmas.List.Elements.{All-push, All-set}
 use Rattle.std.proofs.lemmas.Option.{none-some, same_Some, slice_get_within}
 use Rattle.heap_class.specs.declared.ObjRef.{ObjRef}
-use Rattle.heap_region.proofs.Lookups.{used_below}
+use Rattle.heap_region.proofs.Lookups.{used_region_is_listed}
 use Rattle.heap_region.specs.RegionCopies.{Frozen, frozen, frozen_word_set, region_frozen}
 use Rattle.heap_region.specs.Legal.{IsCellTable}
 use Rattle.heap_region.specs.Limits.{cell_sizes, region_words}
 use Rattle.heap_region.specs.Regions.{Object, Region, UsedRegion, id_of, object_at, object_base, used_at}
-use Rattle.heap_region.proofs.Lookups.{used_below}
-use Rattle.heap_region.proofs.References.{member_cases, member_none}
+use Rattle.heap_region.proofs.Lookups.{used_region_is_listed}
+use Rattle.heap_region.proofs.References.{member_is_head_or_later, empty_list_has_no_member}
 use Rattle.heap_world.specs.State.{HeapState}
 use Rattle.heap_world.specs.Legal.{IsLegal}
 use Rattle.heap_step.specs.declared.Event.{Event}
@@ -24,31 +24,31 @@ use Rattle.heap_step.specs.declared.Undo.TheVariants.{Put, Store, New, Sweep, Re
 use Rattle.heap_step.specs.Laws.{IsStep}
 use Rattle.heap_step.specs.Records.{undone}
 use Rattle.heap_step.proofs.EventLaws.{undo_takes_back}
-use Rattle.heap_step.proofs.Steps.{new_there, put_there, reclaim_inhabited, store_there}
+use Rattle.heap_step.proofs.Steps.{new_record_names_an_object, put_record_names_an_object, reclaim_inhabited, store_there}
 use Rattle.heap_pins.specs.Covers.{Covers}
 use Rattle.heap_pins.specs.KeptCopies.{patched, touched, with_dead}
 use Rattle.heap_pins.specs.Walk.{TellsBefore, walked_copy}
-use Rattle.heap_pins.proofs.CoveringCopies.{covers_same}
+use Rattle.heap_pins.proofs.CoveringCopies.{same_copy_covers}
 use Rattle.heap_pins.proofs.RecordCases.{by_region, dead_size}
 use Rattle.heap_pins.proofs.RoomForCopies.{object_within, reclaim_within}
-use Rattle.heap_pins.proofs.Others.{length_undone}
+use Rattle.heap_pins.proofs.Others.{undoing_keeps_region_count}
 use Rattle.heap_questions.specs.Newest.{AreCellSizes, id_by, storage_cell_size, sizes_before, written_at}
 use Rattle.heap_questions.proofs.ToldObjects.{told}
 
 -- ---- a whole region
 
 size_is : (n c : ℕ) → Contains cell_sizes n → c ≡ region_words / n → region_words / c ≡ n
-size_is n c m e = elim (member_cases 4 (16 ∷ 64 ∷ 256 ∷ 1024 ∷ []) n m) [
+size_is n c m e = elim (member_is_head_or_later 4 (16 ∷ 64 ∷ 256 ∷ 1024 ∷ []) n m) [
   | inl h ↦ let g : c ≡ 256 = e ∙ ap (λ x. region_words / x) h in ap (λ x. region_words / x) g ∙ sym h
-  | inr m ↦ elim (member_cases 16 (64 ∷ 256 ∷ 1024 ∷ []) n m) [
+  | inr m ↦ elim (member_is_head_or_later 16 (64 ∷ 256 ∷ 1024 ∷ []) n m) [
     | inl h ↦ let g : c ≡ 64 = e ∙ ap (λ x. region_words / x) h in ap (λ x. region_words / x) g ∙ sym h
-    | inr m ↦ elim (member_cases 64 (256 ∷ 1024 ∷ []) n m) [
+    | inr m ↦ elim (member_is_head_or_later 64 (256 ∷ 1024 ∷ []) n m) [
       | inl h ↦ let g : c ≡ 16 = e ∙ ap (λ x. region_words / x) h in ap (λ x. region_words / x) g ∙ sym h
-      | inr m ↦ elim (member_cases 256 (1024 ∷ []) n m) [
+      | inr m ↦ elim (member_is_head_or_later 256 (1024 ∷ []) n m) [
         | inl h ↦ let g : c ≡ 4 = e ∙ ap (λ x. region_words / x) h in ap (λ x. region_words / x) g ∙ sym h
-        | inr m ↦ elim (member_cases 1024 [] n m) [
+        | inr m ↦ elim (member_is_head_or_later 1024 [] n m) [
           | inl h ↦ let g : c ≡ 1 = e ∙ ap (λ x. region_words / x) h in ap (λ x. region_words / x) g ∙ sym h
-          | inr m ↦ absurd (member_none n m)
+          | inr m ↦ absurd (empty_list_has_no_member n m)
         ]
       ]
     ]
@@ -111,7 +111,7 @@ reclaim_tells : (region : ℕ) (storage : UsedRegion) (before after : HeapState)
 unfolding touched walked_copy region_frozen
 reclaim_tells region storage before after sizes r u t s l whole e = elim (cases_eq r region) [
   | inl q ↦
-      let c = t.touched_region r (region_frozen after.regions r) (ap Some (sym q)) (covers_same _ _ refl) in
+      let c = t.touched_region r (region_frozen after.regions r) (ap Some (sym q)) (same_copy_covers _ _ refl) in
       let m = reclaimed_size (used_at before.regions r) storage u c e in
       ap (λ k. get_or (set sizes region (storage_cell_size storage)) k 0) q
       ∙ get_or-set_same sizes region (storage_cell_size storage) 0 l
@@ -139,15 +139,15 @@ tells : (left : Undo) (before after : HeapState) (sizes : List ℕ) (r : ℕ) (u
 unfolding touched walked_copy patched
 tells left before after sizes r u t s l whole e = by_region (λ k. TellsBefore k before after → left ≡ k → Tells k sizes r u)
     (λ at slot old t is. elim (cases_eq r at.region) [
-      | inl q ↦ patch_tells (Put at slot old) (frozen_word_set at.cell slot old) (word_size at.cell slot old) before after sizes r u (t.touched_region r (region_frozen after.regions r) (ap Some (sym q)) (covers_same _ _ refl)) s e
+      | inl q ↦ patch_tells (Put at slot old) (frozen_word_set at.cell slot old) (word_size at.cell slot old) before after sizes r u (t.touched_region r (region_frozen after.regions r) (ap Some (sym q)) (same_copy_covers _ _ refl)) s e
       | inr q ↦ others_tell (Put at slot old) before after sizes r u t s (λ z. q (sym (same_Some at.region r z))) e
     ])
     (λ at slot old logged t is. elim (cases_eq r at.region) [
-      | inl q ↦ patch_tells (Store at slot old logged) (frozen_word_set at.cell slot old) (word_size at.cell slot old) before after sizes r u (t.touched_region r (region_frozen after.regions r) (ap Some (sym q)) (covers_same _ _ refl)) s e
+      | inl q ↦ patch_tells (Store at slot old logged) (frozen_word_set at.cell slot old) (word_size at.cell slot old) before after sizes r u (t.touched_region r (region_frozen after.regions r) (ap Some (sym q)) (same_copy_covers _ _ refl)) s e
       | inr q ↦ others_tell (Store at slot old logged) before after sizes r u t s (λ z. q (sym (same_Some at.region r z))) e
     ])
     (λ region dead t is. elim (cases_eq r region) [
-      | inl q ↦ patch_tells (Sweep region dead) (with_dead dead) (dead_size dead) before after sizes r u (t.touched_region r (region_frozen after.regions r) (ap Some (sym q)) (covers_same _ _ refl)) s e
+      | inl q ↦ patch_tells (Sweep region dead) (with_dead dead) (dead_size dead) before after sizes r u (t.touched_region r (region_frozen after.regions r) (ap Some (sym q)) (same_copy_covers _ _ refl)) s e
       | inr q ↦ others_tell (Sweep region dead) before after sizes r u t s (λ z. q (sym (same_Some region r z))) e
     ])
     (λ region storage t is. reclaim_tells region storage before after sizes r u t s (l region storage is) whole e)
@@ -206,15 +206,15 @@ pub sizes_all : (w : HeapState) (sizes : List ℕ) (n : ℕ) → n ≡ length w.
 sizes_all w sizes n e a = record {
   many = a.many ∙ e;
   small = a.small;
-  used = λ r u h. a.used r u (omega (arith, e, used_below w.regions r (subst IsSome (sym h) refl))) h;
+  used = λ r u h. a.used r u (omega (arith, e, used_region_is_listed w.regions r (subst IsSome (sym h) refl))) h;
 }
 
 -- ---- the step before
 
 there_is : (left : Undo) (e : Event) (before after : HeapState) (at : ObjRef) → IsStep e before after left → written_at left ≡ Some at → IsSome (object_at after.regions at)
-there_is (Put a slot old) e before after at s h = subst (λ (p : ObjRef). IsSome (object_at after.regions p)) (same_Some a at h) (put_there e before after (Put a slot old) s a slot old refl)
+there_is (Put a slot old) e before after at s h = subst (λ (p : ObjRef). IsSome (object_at after.regions p)) (same_Some a at h) (put_record_names_an_object e before after (Put a slot old) s a slot old refl)
 there_is (Store a slot old logged) e before after at s h = subst (λ (p : ObjRef). IsSome (object_at after.regions p)) (same_Some a at h) (store_there e before after (Store a slot old logged) s a slot old logged refl)
-there_is (New a fresh m r old) e before after at s h = subst (λ (p : ObjRef). IsSome (object_at after.regions p)) (same_Some a at h) (new_there e before after (New a fresh m r old) s a fresh m r old refl)
+there_is (New a fresh m r old) e before after at s h = subst (λ (p : ObjRef). IsSome (object_at after.regions p)) (same_Some a at h) (new_record_names_an_object e before after (New a fresh m r old) s a fresh m r old refl)
 there_is left e before after at s h = absurd (none-some at h)
 
 -- the region of the object is within the sizes
@@ -255,7 +255,7 @@ less_words n l = div-le_self region_words n
 pub same_regions : (left : Undo) (e : Event) (before after : HeapState) → IsStep e before after left → length before.regions ≡ length after.regions
 same_regions left e before after s =
     ap (λ (w : HeapState). length w.regions) (sym (undo_takes_back e before s.legal s.accepted) ∙ sym (ap₂ (λ (l : Undo) (w : HeapState). undone l w) s.recorded s.gave))
-    ∙ sym (length_undone left after)
+    ∙ sym (undoing_keeps_region_count left after)
 
 -- the sizes before the step
 pub sizes_step : (left : Undo) (e : Event) (before after : HeapState) (sizes : List ℕ) → IsStep e before after left → AreCellSizes after sizes → AreCellSizes before (sizes_before left sizes)

@@ -13,7 +13,7 @@ use Rattle.heap_questions.specs.declared.search.Found.{Found}
 use Rattle.heap_questions.specs.declared.search.Via.{Via}
 use Rattle.heap_questions.specs.declared.search.Via.TheVariants.{Register, Slot}
 use Rattle.std.proofs.lemmas.List.Sums.{fails_before_first}
-use Rattle.hprof_text.proofs.Loops.{some_item}
+use Rattle.hprof_text.proofs.Loops.{item_of_list_within}
 use Rattle.heap_questions.proofs.LongerLists.{got_same}
 use Rattle.heap_questions.proofs.NodePlaces.{found_within, place_found}
 
@@ -150,7 +150,7 @@ pub path_traced : (image : Image) (queue found traced : List Found) (index x reg
 path_traced image queue found traced index x register slots a b s e t =
     let p : position (λ f. f.id == x) queue ≡ Some index = ap (λ (q : List Found). position (λ f. f.id == x) q) (sym a) ∙ sym e in
     let w = found_within (λ f. f.id == x) queue index p in
-    let f = some_item queue index w in
+    let f = item_of_list_within queue index w in
     let q = position-Some (λ f. f.id == x) queue index f.0 p in
     let same : f.0.id ≡ x = eqb-true f.0.id x (ap (λ f. f.id == x) (sym (get_or_from_slice_get queue index f.0 f.0 f.1)) ∙ q.1) in
     let l = t f.0 (reached_as image queue traced (sym b) s) (ap (λ (q : List Found). slice_get q index) b ∙ f.1) in (

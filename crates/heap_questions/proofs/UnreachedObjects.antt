@@ -5,20 +5,20 @@ use Rattle.std.specs.Option.{option_map_or}
 use Rattle.std.proofs.lemmas.Bool.{false≢true}
 use Rattle.std.proofs.lemmas.List.{length-replicate}
 use Rattle.std.proofs.lemmas.Option.{same_Some, slice_get_within}
-use Rattle.heap_region.proofs.PriorObjects.{same_place}
+use Rattle.heap_region.proofs.PriorObjects.{places_equal_or_different}
 use Rattle.heap_class.specs.declared.ObjKind.{ObjKind}
 use Rattle.heap_class.specs.declared.ObjKind.TheVariants.{Array, Instance, Prim}
 use Rattle.heap_class.specs.declared.ObjRef.{ObjRef}
 use Rattle.heap_class.specs.Classes.{Class, array_class, instance_class, slots_of}
-use Rattle.heap_class.proofs.Refusals.{none_holds}
+use Rattle.heap_class.proofs.Refusals.{no_refusal_test_holds}
 use Rattle.heap_region.specs.Regions.{Object, Region, UsedRegion, id_of, object_at, object_of, ref_of, references_of, slot_kinds, used_at, with_object, with_word}
 use Rattle.heap_region.specs.Pool.{RegionPool, allocated, new_place, taken}
 use Rattle.heap_region.proofs.AllocatedRegions.{IsNewCell, new_cell}
-use Rattle.heap_region.proofs.ChangedLookups.{place_found, same_or_not}
-use Rattle.heap_region.proofs.FoundObjects.{ref_taken, taken_elsewhere, taken_there}
-use Rattle.heap_region.proofs.Ids.{ref_back, found_elsewhere, found_there, null_names_none}
-use Rattle.heap_region.proofs.Lookups.{used_there}
-use Rattle.heap_region.proofs.References.{found_in, reference_was, references_by_slots, references_in}
+use Rattle.heap_region.proofs.ChangedLookups.{place_of_object_of_id, same_or_not}
+use Rattle.heap_region.proofs.FoundObjects.{ref_taken, object_in_other_than_taken_cell, object_in_taken_cell}
+use Rattle.heap_region.proofs.Ids.{ref_back, object_of_id_after_other_change, object_of_id_after_its_change, null_names_none}
+use Rattle.heap_region.proofs.Lookups.{used_region_after_its_change}
+use Rattle.heap_region.proofs.References.{member_stands_at_reference_slot, reference_was, references_by_slots, references_in}
 use Rattle.heap_world.specs.Phase.{Phase}
 use Rattle.heap_world.specs.Phase.TheVariants.{Marking}
 use Rattle.heap_world.specs.MarkSteps.{children_of, drained_once, each_region, finished, finished_region, marked, snapped}
@@ -27,21 +27,21 @@ use Rattle.heap_world.specs.Events.{after_class, after_drain, after_finish, afte
 use Rattle.heap_world.specs.Legal.{HasKind, IsLegal, IsLive}
 use Rattle.heap_world.specs.Reach.{IsObject, Names, Reaches}
 use Rattle.heap_world.specs.State.{HeapState, pool_of, register, with_pool, with_register, word_of}
-use Rattle.heap_world.proofs.Clauses.{clauses_of}
-use Rattle.heap_world.proofs.Finish.{named_settled, settled, references_settled}
+use Rattle.heap_world.proofs.Clauses.{legal_heap_has_clauses}
+use Rattle.heap_world.proofs.Finish.{object_named_after_finish, settled, references_settled}
 use Rattle.heap_world.proofs.Marks.{begun, shaded_heap}
-use Rattle.heap_world.proofs.Registers.{member_set, namer, names_of, register_member, second_register, slot_names}
+use Rattle.heap_world.proofs.Registers.{member_of_set_list, naming_id_names_an_object, names_of, register_member, second_register, slot_names}
 use Rattle.heap_world.proofs.Shelter.{reach_induction}
 use Rattle.heap_world.proofs.Sweep.{sweep_leaves_live}
 use Rattle.heap_world.proofs.WordWrites.{IsReferenceSlot, with_object_word, written}
-use Rattle.heap_world.proofs.WriteEvents.{WriteForm, place_is, put_form, store_form}
+use Rattle.heap_world.proofs.WriteEvents.{WriteForm, place_of_id_by_ref, form_after_put, store_form}
 use Rattle.heap_step.specs.declared.Event.{Event}
 use Rattle.heap_step.specs.declared.Event.TheVariants.{ArrayClass, Clear, Drain, Finish, Load, Mark, Move, New, NewArray, NewPrim, Put, Snap, Store, Sweep}
 use Rattle.heap_step.specs.Apply.{refusal_of, state_after}
-use Rattle.heap_step.proofs.CreationUndo.{head_empty, pool_empty}
+use Rattle.heap_step.proofs.CreationUndo.{free_list_head_is_empty, pool_empty}
 use Rattle.heap_questions.specs.Losses.{StaysUnreached}
 use Rattle.heap_questions.proofs.ImagePaths.{reaches_next}
-use Rattle.heap_world.proofs.ClassEvents.{kinds_more}
+use Rattle.heap_world.proofs.ClassEvents.{slot_kinds_with_one_class_more}
 
 -- ---- from one state to another
 
@@ -61,7 +61,7 @@ reaches_register : (w : HeapState) (x : ℕ) → Contains w.registers x → IsOb
 reaches_register w x c there = (x, [], c, there, refl)
 
 namer_there : (w : HeapState) (x y : ℕ) → Names w x y → IsObject w x
-namer_there w x y n = let o = namer w x y n in subst IsSome (sym o.1) refl
+namer_there w x y n = let o = naming_id_names_an_object w x y n in subst IsSome (sym o.1) refl
 
 reached_before : (w v : HeapState) → HoldsReached w v → NamesLess w v → ReachesLess w v
 reached_before w v roots names x there r = reach_induction v (λ x. IsObject w x → Reaches w x)
@@ -87,7 +87,7 @@ references_more : (cs : List Class) (c : Class) (o : Object) → HasKind cs o.ki
 unfolding slot_kinds
 references_more cs c o h =
     references_by_slots (cs ++ c ∷ []) o
-    ∙ ap (λ ks. references_in ks o.words) (kinds_more cs c o.kind (length o.words) h)
+    ∙ ap (λ ks. references_in ks o.words) (slot_kinds_with_one_class_more cs c o.kind (length o.words) h)
     ∙ sym (references_by_slots cs o)
 
 class_less : (w : HeapState) (c : Class) → IsLegal w → ReachesLess w (after_class c w)
@@ -99,8 +99,8 @@ class_less w c legal = reached_before w v (λ x d there. reaches_register w x d 
 
     names : NamesLess w v
     names x y n =
-        let b = namer v x y n in
-        let p = place_found w.regions x b.0 b.1 in
+        let b = naming_id_names_an_object v x y n in
+        let p = place_of_object_of_id w.regions x b.0 b.1 in
         inl (names_of w x y b.0 b.1 (subst (λ l. Contains l y) (references_more w.classes c b.0 (legal.objects p.0 b.0 p.2).kind) b.2))
 
 -- ---- registers
@@ -108,7 +108,7 @@ class_less w c legal = reached_before w v (λ x d there. reaches_register w x d 
 -- a register may hold what was reached
 write_less : (w : HeapState) (m r a : ℕ) → (IsObject w a → Reaches w a) → ReachesLess w (with_register m r a w)
 write_less w m r a h = reached_before w (with_register m r a w)
-    (λ x c there. elim (member_set w.registers (8 * m + r) a x c) [
+    (λ x c there. elim (member_of_set_list w.registers (8 * m + r) a x c) [
       | inl e ↦ subst (Reaches w) (sym e) (h (subst (IsObject w) e there))
       | inr d ↦ reaches_register w x d there
     ])
@@ -117,14 +117,14 @@ write_less w m r a h = reached_before w (with_register m r a w)
 move_less : (w : HeapState) (m to from_m from : ℕ) → move_refusal m to from_m from w ≡ None → ReachesLess w (after_move m to from_m from w)
 unfolding move_refusal after_move
 move_less w m to from_m from accepted = write_less w m to (register w from_m from)
-    (λ there. reaches_register w (register w from_m from) (register_member w from_m from (second_register _ _ (none_holds _ accepted).0)) there)
+    (λ there. reaches_register w (register w from_m from) (register_member w from_m from (second_register _ _ (no_refusal_test_holds _ accepted).0)) there)
 
 clear_less : (w : HeapState) (m r : ℕ) → ReachesLess w (with_register m r 0 w)
 clear_less w m r = write_less w m r 0 (λ there. absurd (null_is_none w 0 refl there))
 
 load_less : (w : HeapState) (m to from slot : ℕ) → load_refusal m to from slot w ≡ None → ReachesLess w (after_load m to from slot w)
 unfolding load_refusal after_load
-load_less w m to from slot accepted = go (register_member w m from (second_register _ _ (none_holds _ accepted).0)) (is_reference_slot w (register w m from) slot) refl
+load_less w m to from slot accepted = go (register_member w m from (second_register _ _ (no_refusal_test_holds _ accepted).0)) (is_reference_slot w (register w m from) slot) refl
   where
     go : Contains w.registers (register w m from) → (b : Bool) → is_reference_slot w (register w m from) slot ≡ b → ReachesLess w (if b then with_register m to (word_of w (register w m from) slot) w else w)
     go held true e = write_less w m to (word_of w (register w m from) slot)
@@ -155,7 +155,7 @@ drain_less w = shaded_less w w.gray (w.drained + 1) w.phase (slice_index w.log w
 
 settled_children : (classes : List Class) (w : HeapState) (x : ℕ) → children_of classes (each_region finished_region w.regions) x ≡ children_of classes w.regions x
 unfolding children_of
-settled_children classes w x = ap (λ (p : Option Object). option_map_or (references_of classes) p []) (named_settled w.regions x) ∙ go (object_of w.regions x)
+settled_children classes w x = ap (λ (p : Option Object). option_map_or (references_of classes) p []) (object_named_after_finish w.regions x) ∙ go (object_of w.regions x)
   where
     go : (p : Option Object) → option_map_or (references_of classes) (option_map settled p) [] ≡ option_map_or (references_of classes) p []
     go None = refl
@@ -175,22 +175,22 @@ written_names w at x o slot word log p e may y z n = go (same_or_not y x)
     f = with_object_word slot word
 
     a : (b : Object) × (object_of (with_object at f w.regions) y ≡ Some b) × Contains (references_of w.classes b) z
-    a = namer (written w at slot word log) y z n
+    a = naming_id_names_an_object (written w at slot word log) y z n
 
     go : (y ≡ x) ⊎ (y ≢ x) → Names w y z ⊎ Contains w.registers z
     go (inl q) =
-        let here : object_of (with_object at f w.regions) y ≡ Some (f o) = found_there w.regions y at f (ap (ref_of w.regions) q ∙ p) ∙ ap (λ k. option_map f (object_of w.regions k)) q ∙ ap (option_map f) e in
+        let here : object_of (with_object at f w.regions) y ≡ Some (f o) = object_of_id_after_its_change w.regions y at f (ap (ref_of w.regions) q ∙ p) ∙ ap (λ k. option_map f (object_of w.regions k)) q ∙ ap (option_map f) e in
         let same : a.0 ≡ f o = same_Some a.0 (f o) (sym a.1 ∙ here) in
         elim (reference_was w.classes o slot word z (subst (λ (b : Object). Contains (references_of w.classes b) z) same a.2)) [
           | inl was ↦ inl (names_of w y z o (ap (object_of w.regions) q ∙ e) was)
           | inr new ↦ inr (subst (Contains w.registers) (sym new.0) (may new.1))
         ]
-    go (inr m) = inl (names_of w y z a.0 (sym (found_elsewhere w.regions x y at f p (λ q. m (sym q))) ∙ a.1) a.2)
+    go (inr m) = inl (names_of w y z a.0 (sym (object_of_id_after_other_change w.regions x y at f p (λ q. m (sym q))) ∙ a.1) a.2)
 
 form_less : (w v : HeapState) (x slot word : ℕ) → WriteForm w x slot word v → ReachesLess w v
 form_less w v x slot word f =
-    let p = place_found w.regions x f.0 f.2 in
-    subst (ReachesLess w) (sym f.4) (subst (λ at. ReachesLess w (written w at slot word f.1)) (sym (place_is w x p.0 p.1))
+    let p = place_of_object_of_id w.regions x f.0 f.2 in
+    subst (ReachesLess w) (sym f.4) (subst (λ at. ReachesLess w (written w at slot word f.1)) (sym (place_of_id_by_ref w x p.0 p.1))
     (reached_before w (written w p.0 slot word f.1) (λ y c there. reaches_register w y c there) (written_names w p.0 x f.0 slot word f.1 p.1 f.2 f.3.reference)))
 
 -- ---- a new object
@@ -204,7 +204,7 @@ unfolding object_of object_at taken
 is_new w legal at fresh o place = subst (IsNew w at o) (sym c.is_taken) (record { named = λ x. go x (ref_of before x) refl; was_none = none })
   where
     c : IsNewCell at fresh o (pool_of w)
-    c = new_cell at fresh o (pool_of w) place (head_empty w legal at) (pool_empty w legal at)
+    c = new_cell at fresh o (pool_of w) place (free_list_head_is_empty w legal at) (pool_empty w legal at)
 
     before : List Region
     before = c.before.regions
@@ -217,9 +217,9 @@ is_new w legal at fresh o place = subst (IsNew w at o) (sym c.is_taken) (record 
 
     go : (x : ℕ) (r : Option ObjRef) → ref_of before x ≡ r → (object_of after x ≡ object_of w.regions x) ⊎ (object_of after x ≡ Some o)
     go x None e = inl (ap (option_and_then (object_at after)) (ref_taken at o c.before x ∙ e) ∙ sym (ap (option_and_then (object_at before)) e) ∙ c.found x)
-    go x (Some b) e = elim (same_place at b) [
-      | inl q ↦ inr (ap (option_and_then (object_at after)) (ref_taken at o c.before x ∙ e) ∙ ap (object_at after) (sym q) ∙ taken_there at o c.before c.region None c.used c.empty)
-      | inr n ↦ inl (ap (option_and_then (object_at after)) (ref_taken at o c.before x ∙ e) ∙ taken_elsewhere at b o c.before n ∙ sym (ap (option_and_then (object_at before)) e) ∙ c.found x)
+    go x (Some b) e = elim (places_equal_or_different at b) [
+      | inl q ↦ inr (ap (option_and_then (object_at after)) (ref_taken at o c.before x ∙ e) ∙ ap (object_at after) (sym q) ∙ object_in_taken_cell at o c.before c.region None c.used c.empty)
+      | inr n ↦ inl (ap (option_and_then (object_at after)) (ref_taken at o c.before x ∙ e) ∙ object_in_other_than_taken_cell at b o c.before n ∙ sym (ap (option_and_then (object_at before)) e) ∙ c.found x)
     ]
 
     whole : (u : UsedRegion) → (used_at w.regions at.region ≡ Some u) ⊎ (length u.cells ≡ 1024 / u.cell_size) → length u.cells ≡ 1024 / u.cell_size
@@ -232,7 +232,7 @@ is_new w legal at fresh o place = subst (IsNew w at o) (sym c.is_taken) (record 
     back : ref_of after (id_of after at) ≡ Some at
     back =
         let within : at.cell < 1024 / c.region.cell_size = omega (arith, slice_get_within c.region.cells at.cell None c.empty, whole c.region c.cells) in
-        ref_back after at (change c.region) (used_there at.region change before ∙ ap (option_map change) c.used) within
+        ref_back after at (change c.region) (used_region_after_its_change at.region change before ∙ ap (option_map change) c.used) within
 
     none : object_of w.regions (id_of after at) ≡ None
     none = sym (c.found (id_of after at)) ∙ ap (option_and_then (object_at before)) (sym (ref_taken at o c.before (id_of after at)) ∙ back) ∙ bare
@@ -247,7 +247,7 @@ names_none : (w : HeapState) (classes : List Class) (kind : ObjKind) (n y : ℕ)
 unfolding new_object
 names_none w classes kind n y c =
     let o : Object = new_object kind n w in
-    let r = found_in (slot_kinds classes o) o.words y (subst (λ l. Contains l y) (references_by_slots classes o) c) in
+    let r = member_stands_at_reference_slot (slot_kinds classes o) o.words y (subst (λ l. Contains l y) (references_by_slots classes o) c) in
     let l = slice_get_within (replicate n 0) r.0 y r.4 in
     r.5 (sym (same_Some 0 y (sym (zero_there n r.0 (omega (arith, l, length-replicate {A = ℕ} n 0))) ∙ r.4)))
 
@@ -272,14 +272,14 @@ made_less w legal m r n kind at fresh place = reached_before w v roots names
     new = is_new w legal at fresh o (ap (λ k. new_place k (pool_of w)) (length-replicate {A = ℕ} n 0) ∙ place)
 
     roots : HoldsReached w v
-    roots x c there = elim (member_set w.registers (8 * m + r) (id_of s.regions at) x c) [
+    roots x c there = elim (member_of_set_list w.registers (8 * m + r) (id_of s.regions at) x c) [
       | inl e ↦ absurd (not_object w x (ap (object_of w.regions) e ∙ new.was_none) there)
       | inr d ↦ reaches_register w x d there
     ]
 
     names : NamesLess w v
     names x y q =
-        let b = namer v x y q in
+        let b = naming_id_names_an_object v x y q in
         elim (new.named x) [
           | inl e ↦ inl (names_of w x y b.0 (sym e ∙ b.1) b.2)
           | inr e ↦ absurd (names_none w w.classes kind n y (subst (λ (p : Object). Contains (references_of w.classes p) y) (same_Some b.0 o (sym b.1 ∙ e)) b.2))
@@ -313,7 +313,7 @@ sweep_less w region legal accepted x there r = (reach_induction (after_sweep reg
 
     next : (x y : ℕ) → IsLive w x × Reaches w x → Names v x y → IsObject v y → IsLive w y × Reaches w y
     next x y q n o =
-        let b = namer v x y n in
+        let b = naming_id_names_an_object v x y n in
         let named : Names w x y = names_of w x y b.0 (sym (sweep_leaves_live w region x accepted q.0) ∙ b.1) b.2 in
         let l = legal.slots_live x y q.0 named in
         (l, reaches_next w x y q.1 named (live_there y l))
@@ -328,8 +328,8 @@ reaches_less (New m r class) w legal accepted = new_less w legal m r (length (sl
 reaches_less (NewArray m r class len) w legal accepted = new_less w legal m r len (Array class)
 reaches_less (NewPrim m r kind len) w legal accepted = new_less w legal m r len (Prim kind)
 reaches_less (Load m to from slot) w legal accepted = load_less w m to from slot accepted
-reaches_less (Store m target slot source) w legal accepted = form_less w _ (register w m target) slot (register w m source) (store_form w m target slot source (clauses_of w legal) accepted)
-reaches_less (Put m target slot value) w legal accepted = form_less w _ (register w m target) slot value (put_form w m target slot value (clauses_of w legal) accepted)
+reaches_less (Store m target slot source) w legal accepted = form_less w _ (register w m target) slot (register w m source) (store_form w m target slot source (legal_heap_has_clauses w legal) accepted)
+reaches_less (Put m target slot value) w legal accepted = form_less w _ (register w m target) slot value (form_after_put w m target slot value (legal_heap_has_clauses w legal) accepted)
 reaches_less (Move m to from_m from) w legal accepted = move_less w m to from_m from accepted
 reaches_less (Clear m r) w legal accepted = clear_less w m r
 reaches_less Snap w legal accepted = snap_less w

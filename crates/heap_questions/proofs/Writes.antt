@@ -4,16 +4,16 @@ use Rattle.std.specs.Prelude.{slice_get, slice_set, option_map, option_and_then,
 use Rattle.std.proofs.lemmas.Bool.{cases_eq, eqb-true, eq-eqb, ne_eqb, and_parts, false≢true}
 use Rattle.std.proofs.lemmas.Option.{none-some, same_Some, slice_get_within}
 use Rattle.heap_class.proofs.Lists.{got_set_elsewhere}
-use Rattle.heap_region.proofs.References.{get_set}
+use Rattle.heap_region.proofs.References.{set_item_is_got}
 use Rattle.heap_class.specs.declared.ObjRef.{ObjRef}
-use Rattle.heap_region.proofs.Lookups.{object_elsewhere, object_there}
+use Rattle.heap_region.proofs.Lookups.{object_elsewhere, object_after_its_change}
 use Rattle.heap_region.specs.Regions.{Object, Region, UsedRegion, cell_object, object_at, with_word}
 use Rattle.heap_world.specs.State.{HeapState}
 use Rattle.heap_step.specs.declared.Event.{Event}
 use Rattle.heap_step.specs.declared.Undo.{Undo}
 use Rattle.heap_step.specs.declared.Undo.TheVariants.{Put, Store, New, Finish, Sweep, Reclaim}
 use Rattle.heap_step.specs.Laws.{IsStep}
-use Rattle.heap_step.proofs.Steps.{put_is, store_is}
+use Rattle.heap_step.proofs.Steps.{put_taken_back_is_before, store_is}
 use Rattle.heap_pins.specs.KeptCopies.{touched}
 use Rattle.heap_pins.specs.Walk.{TellsBefore, cell_state, dead_state, states_before}
 use Rattle.heap_questions.specs.Changes.{changed_by, made_by, slot_word}
@@ -61,15 +61,15 @@ unfolding with_word
 written_here before after at s old now e h =
     let o = object_of_word after at s now h in
     let f : Object → Object = λ o. record o { words = slice_set o.words s old } in
-    let b : object_at before.regions at ≡ Some (f o.0) = ap (λ (rs : List Region). object_at rs at) e ∙ object_there at f after.regions ∙ ap (option_map f) o.1 in
-    word_of_object before at s (f o.0) b ∙ get_set o.0.words s old (slice_get_within o.0.words s now o.2)
+    let b : object_at before.regions at ≡ Some (f o.0) = ap (λ (rs : List Region). object_at rs at) e ∙ object_after_its_change at f after.regions ∙ ap (option_map f) o.1 in
+    word_of_object before at s (f o.0) b ∙ set_item_is_got o.0.words s old (slice_get_within o.0.words s now o.2)
 
 pub other_slot : (before after : HeapState) (at : ObjRef) (s k old now : ℕ) → before.regions ≡ with_word at s old after.regions → s ≢ k → slot_word after at k ≡ Some now → slot_word before at k ≡ Some now
 unfolding with_word
 other_slot before after at s k old now e n h =
     let o = object_of_word after at k now h in
     let f : Object → Object = λ o. record o { words = slice_set o.words s old } in
-    let b : object_at before.regions at ≡ Some (f o.0) = ap (λ (rs : List Region). object_at rs at) e ∙ object_there at f after.regions ∙ ap (option_map f) o.1 in
+    let b : object_at before.regions at ≡ Some (f o.0) = ap (λ (rs : List Region). object_at rs at) e ∙ object_after_its_change at f after.regions ∙ ap (option_map f) o.1 in
     word_of_object before at k (f o.0) b ∙ got_set_elsewhere s k o.0.words old n ∙ o.2
 
 pub other_place : (before after : HeapState) (a at : ObjRef) (s k old now : ℕ) → before.regions ≡ with_word a s old after.regions → at ≢ a → slot_word after at k ≡ Some now → slot_word before at k ≡ Some now
@@ -181,7 +181,7 @@ finish_state log at f n e = absurd (no (sym (ap (λ (b : Bool). cond b 0 1) (ne_
 
 pub record_tells : (e : Event) (before after : HeapState) (left : Undo) (at : ObjRef) (k now : ℕ) → IsStep e before after left → slot_word after at k ≡ Some now → Tells (changed_by left at k now) before at k now
 unfolding touched states_before
-record_tells e before after (Put a s old) at k now st h = write_tells before after a at s k old now (sym (ap (λ (w : HeapState). w.regions) (put_is e before after (Put a s old) st a s old refl))) h
+record_tells e before after (Put a s old) at k now st h = write_tells before after a at s k old now (sym (ap (λ (w : HeapState). w.regions) (put_taken_back_is_before e before after (Put a s old) st a s old refl))) h
 record_tells e before after (Store a s old logged) at k now st h = write_tells before after a at s k old now (sym (ap (λ (w : HeapState). w.regions) (store_is e before after (Store a s old logged) st a s old logged refl))) h
 record_tells e before after (New a fresh m r old) at k now st h =
     let t = told e before after (New a fresh m r old) st in

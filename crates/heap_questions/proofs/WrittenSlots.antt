@@ -15,15 +15,15 @@ use Rattle.heap_step.specs.declared.Undo.TheVariants.{Put, Store, New}
 use Rattle.heap_step.specs.Laws.{IsStep}
 use Rattle.heap_step.specs.Records.{undone}
 use Rattle.heap_step.proofs.EventLaws.{undo_takes_back}
-use Rattle.heap_step.proofs.Steps.{put_is, put_there, put_within, store_is, store_there, store_within}
+use Rattle.heap_step.proofs.Steps.{put_taken_back_is_before, put_record_names_an_object, put_record_slot_within_object, store_is, store_there, store_within}
 use Rattle.heap_pins.specs.Pin.{PinContents, object_seen}
 use Rattle.heap_pins.specs.Shows.{IsSeen, ShowsState}
 use Rattle.heap_pins.specs.WalkedPins.{CanWalk, IsFreshPin, IsWalked, IsWalkedBack}
-use Rattle.heap_pins.proofs.HeldPins.{first_of}
-use Rattle.heap_pins.proofs.LiveCounts.{stands_in}
-use Rattle.heap_pins.proofs.RecordWalks.{walked_on}
+use Rattle.heap_pins.proofs.HeldPins.{property_of_first_state}
+use Rattle.heap_pins.proofs.LiveCounts.{standing_object_is_in_cell}
+use Rattle.heap_pins.proofs.RecordWalks.{pin_walk_goes_one_back}
 use Rattle.heap_pins.proofs.RoomForCopies.{object_within}
-use Rattle.heap_pins.proofs.ShownImages.{IsFound, found, object_is, shown}
+use Rattle.heap_pins.proofs.ShownImages.{IsFound, object_shown_by_pin_found, object_seen_as_dump_shows, shown}
 use Rattle.hprof_text.specs.Image.{DumpedObject}
 use Rattle.heap_trail.specs.Trail.{Trail, retained, state_ago}
 use Rattle.heap_trail.proofs.RetainedRecords.{HasRecord}
@@ -51,7 +51,7 @@ unfolding state_ago
 opened t w p now h = subst (λ (v : HeapState). IsWalked p v 0 (v ∷ t.past)) now (h t.past)
 
 shows_ago : (t : Trail) (n : ℕ) (w : HeapState) (p : PinContents) → w ≡ t.current → IsPinAgo p t n → ShowsState p (state_ago n t) w
-shows_ago t n w p now h = subst (ShowsState p (state_ago n t)) (sym now) (first_of (ShowsState p (state_ago n t)) n t.current t.past h.shows)
+shows_ago t n w p now h = subst (ShowsState p (state_ago n t)) (sym now) (property_of_first_state (ShowsState p (state_ago n t)) n t.current t.past h.shows)
 
 pub can_walk : (t : Trail) (n : ℕ) (left : Undo) (w : HeapState) (p : PinContents) → w ≡ t.current → IsPinAgo p t n → HasRecord t n left → CanWalk left w p
 can_walk t n left w p now h r =
@@ -63,7 +63,7 @@ walked_one t n left w p q now l h r b =
     let x = state_ago n t in
     let back = back_is r.0 (state_ago (n + 1) t) x left r.1 in
     subst (λ (v : HeapState). IsWalked q v (n + 1) (t.current ∷ t.past)) back
-    (walked_on left r.0 x t.current p q n t.past (subst (λ (v : HeapState). IsStep r.0 v x left) (sym back) r.1) (subst (λ (v : HeapState). IsWalkedBack left v p q) now b)
+    (pin_walk_goes_one_back left r.0 x t.current p q n t.past (subst (λ (v : HeapState). IsStep r.0 v x left) (sym back) r.1) (subst (λ (v : HeapState). IsWalkedBack left v p q) now b)
     (state_there t (n + 1) (omega (arith, l)) ∙ ap Some (sym back)) h)
 
 pub shown_beside : (t : Trail) (n : ℕ) (w : HeapState) (p : PinContents) → w ≡ t.current → IsPinAgo p t n → IsShownBeside w p (state_ago n t)
@@ -71,8 +71,8 @@ shown_beside t n w p now h = (h.pin, shows_ago t n w p now h)
 
 pub seen_beside : (u w : HeapState) (p : PinContents) (at : ObjRef) (o : Object) → IsShownBeside w p u → object_at u.regions at ≡ Some o → IsSeen p w.regions at
 seen_beside u w p at o h here =
-    let x = stands_in u.regions at o here in
-    let f : IsFound p w.regions at x.0.cell_size o = found p u w at x.0 o h.1 x.1 x.2 in
+    let x = standing_object_is_in_cell u.regions at o here in
+    let f : IsFound p w.regions at x.0.cell_size o = object_shown_by_pin_found p u w at x.0 o h.1 x.1 x.2 in
     (subst (λ k. at.region < k) (sym h.0.copies) (object_within u.regions at (ap is_some here)), f.region, f.seen, ap is_some f.there)
 
 -- ---- the object that a record names
@@ -94,7 +94,7 @@ here_by w a at slot s p q h l = subst (λ (b : ObjRef). HasSlot w b s) p (subst 
 written_there : (e : Event) (before after : HeapState) (left : Undo) (s : ℕ) (at : ObjRef) (old : ℕ) → IsStep e before after left → overwritten left s ≡ Some (at, old) → HasSlot after at s
 written_there e before after (Put a slot x) s at old st h =
     let p = of_test (slot == s) a at x old h in
-    here_by after a at slot s p.1 (eqb-true slot s p.0) (put_there e before after (Put a slot x) st a slot x refl) (put_within e before after (Put a slot x) st a slot x refl)
+    here_by after a at slot s p.1 (eqb-true slot s p.0) (put_record_names_an_object e before after (Put a slot x) st a slot x refl) (put_record_slot_within_object e before after (Put a slot x) st a slot x refl)
 written_there e before after (Store a slot x logged) s at old st h =
     let p = of_test (slot == s) a at x old h in
     here_by after a at slot s p.1 (eqb-true slot s p.0) (store_there e before after (Store a slot x logged) st a slot x logged refl) (store_within e before after (Store a slot x logged) st a slot x logged refl)
@@ -112,7 +112,7 @@ old_here before after a at slot s x old now p q r e h =
 old_is : (e : Event) (before after : HeapState) (left : Undo) (s : ℕ) (at : ObjRef) (old now : ℕ) → IsStep e before after left → overwritten left s ≡ Some (at, old) → slot_word after at s ≡ Some now → slot_word before at s ≡ Some old
 old_is e before after (Put a slot x) s at old now st h w =
     let p = of_test (slot == s) a at x old h in
-    old_here before after a at slot s x old now p.1 (eqb-true slot s p.0) p.2 (sym (ap (λ (v : HeapState). v.regions) (put_is e before after (Put a slot x) st a slot x refl))) w
+    old_here before after a at slot s x old now p.1 (eqb-true slot s p.0) p.2 (sym (ap (λ (v : HeapState). v.regions) (put_taken_back_is_before e before after (Put a slot x) st a slot x refl))) w
 old_is e before after (Store a slot x logged) s at old now st h w =
     let p = of_test (slot == s) a at x old h in
     old_here before after a at slot s x old now p.1 (eqb-true slot s p.0) p.2 (sym (ap (λ (v : HeapState). v.regions) (store_is e before after (Store a slot x logged) st a slot x logged refl))) w
@@ -166,7 +166,7 @@ seen_or d = unwrap_or d (record { id = 0; kind = Instance 0; words = [] })
 pub sees_written : (t : Trail) (n s : ℕ) (left : Undo) (w : HeapState) (p : PinContents) → IsShownBeside w p (state_ago n t) → HasRecord t n left → SeesOverwritten p w left s
 sees_written t n s left w p h r a e =
     let o = written_there r.0 (state_ago (n + 1) t) (state_ago n t) left s a.0 a.1 r.1 e in
-    let seen = sym (object_is p (state_ago n t) w a.0 o.0 h.1 o.1) in (
+    let seen = sym (object_seen_as_dump_shows p (state_ago n t) w a.0 o.0 h.1 o.1) in (
       (seen_beside (state_ago n t) w p a.0 o.0 h o.1, subst (λ (d : Option DumpedObject). IsSome d) seen refl),
       subst (λ (d : Option DumpedObject). s < length (seen_or d).words) seen o.2,
     )
@@ -244,7 +244,7 @@ writes_ago t n k s left w p place is h r = go (overwritten left s) refl
     go None e = λ at x i. none-some (at, x.old) (sym e ∙ change_is t n left k s at x r i)
     go (Some a) e =
         let o = written_there r.0 (state_ago (n + 1) t) (state_ago n t) left s a.0 a.1 r.1 e in
-        subst (λ (d : Option DumpedObject). AreWritesAgo t k s n (changing_write k s place a.1 (seen_or d))) (sym (object_is p (state_ago n t) w a.0 o.0 h.1 o.1))
+        subst (λ (d : Option DumpedObject). AreWritesAgo t k s n (changing_write k s place a.1 (seen_or d))) (sym (object_seen_as_dump_shows p (state_ago n t) w a.0 o.0 h.1 o.1))
         (tested t n k s left a.0 o.0 a.1 place is r e o.1 o.2)
 
 -- ---- step by step

@@ -27,13 +27,6 @@ pub enum CellState {
     Dead,
 }
 
-// Returns the number of a cell among those of all regions.
-fn cell_number(at: ObjRef) -> usize
-    ensures { result ≡ cell_number at }
-{
-    at.region as usize * CELLS_EACH + at.cell as usize
-}
-
 // Returns for each cell whether a gray object stands there. Fails with NoMemory.
 fn gray_marks(alloc: Global, world: &World) -> Result<Vec<bool>, Refusal>
     ensures marks { IfOk result (λ marks. AreMarksOf world.now.regions world.now.gray marks.items) }
@@ -49,6 +42,13 @@ fn gray_marks(alloc: Global, world: &World) -> Result<Vec<bool>, Refusal>
         }
     }
     Ok(marks)
+}
+
+// Returns the number of a cell among those of all regions.
+fn cell_number(at: ObjRef) -> usize
+    ensures { result ≡ cell_number at }
+{
+    at.region as usize * CELLS_EACH + at.cell as usize
 }
 
 /// The cells of a heap, and what they hold. Contracts see the heap.

@@ -20,6 +20,18 @@ pub(crate) fn is_reached(nodes: &NodeList, seen: &[bool], id: u64) -> bool
     }
 }
 
+/// Counts the objects of a view that no register reaches, in the rows in which `count_by_class` counts all. Fails with
+/// NoMemory if an allocation fails. Reads each object at most twice.
+pub fn count_garbage<V: View>(alloc: Global, view: &V) -> Result<Histogram, Refusal>
+    ensures rows { IfOk result (λ h. IsGarbage (V.ids view.now) (V.image view.now) h) }
+    ensures refused { IfErr result (λ e. e ≡ NoMemory) }
+{
+    let nodes = NodeList::new(alloc, view)?;
+    let reach = search(alloc, view, &nodes)?;
+    let marks = reached_marks(alloc, &nodes, reach.seen.as_slice())?;
+    count_unmarked(alloc, view, marks.as_slice())
+}
+
 // Returns for each node whether the node with its id was found. Fails with NoMemory.
 fn reached_marks(alloc: Global, nodes: &NodeList, seen: &[bool]) -> Result<Vec<bool>, Refusal>
     ensures marks { IfOk result (λ marks. marks.items
@@ -32,16 +44,4 @@ fn reached_marks(alloc: Global, nodes: &NodeList, seen: &[bool]) -> Result<Vec<b
         marks.push(is_reached(nodes, seen, id))?;
     }
     Ok(marks)
-}
-
-/// Counts the objects of a view that no register reaches, in the rows in which `count_by_class` counts all. Fails with
-/// NoMemory if an allocation fails. Reads each object at most twice.
-pub fn count_garbage<V: View>(alloc: Global, view: &V) -> Result<Histogram, Refusal>
-    ensures rows { IfOk result (λ h. IsGarbage (V.ids view.now) (V.image view.now) h) }
-    ensures refused { IfErr result (λ e. e ≡ NoMemory) }
-{
-    let nodes = NodeList::new(alloc, view)?;
-    let reach = search(alloc, view, &nodes)?;
-    let marks = reached_marks(alloc, &nodes, reach.seen.as_slice())?;
-    count_unmarked(alloc, view, marks.as_slice())
 }

@@ -11,11 +11,19 @@ use heap_class::Refusal;
 use hprof_text::View;
 use std::alloc::Global;
 
-// Tells whether the node with this id was found, and isn't among those of the older view.
-fn is_kept(before: &NodeList, nodes: &NodeList, seen: &[bool], id: u64) -> bool
-    ensures { result ≡ is_kept before.now nodes.now seen.now id }
+/// Counts the objects of the newer view that registers reach there and whose ids no object of the older view has, in the rows in
+/// which `count_by_class` counts all. Fails with NoMemory if an allocation fails. Reads each object of the newer view at most
+/// three times, and each id of the older view once.
+pub fn count_kept<V: View>(alloc: Global, older: &V, newer: &V) -> Result<Histogram, Refusal>
+    ensures rows { IfOk result
+        (λ h. AreKept (V.ids newer.now) (V.image older.now) (V.image newer.now) h) }
+    ensures refused { IfErr result (λ e. e ≡ NoMemory) }
 {
-    before.find(id).is_none() && is_reached(nodes, seen, id)
+    let before = NodeList::new(alloc, older)?;
+    let nodes = NodeList::new(alloc, newer)?;
+    let reach = search(alloc, newer, &nodes)?;
+    let marks = others(alloc, &before, &nodes, reach.seen.as_slice())?;
+    count_unmarked(alloc, newer, marks.as_slice())
 }
 
 // Returns for each node whether it isn't such a node. Fails with NoMemory.
@@ -37,17 +45,9 @@ fn others(
     Ok(marks)
 }
 
-/// Counts the objects of the newer view that registers reach there and whose ids no object of the older view has, in the rows in
-/// which `count_by_class` counts all. Fails with NoMemory if an allocation fails. Reads each object of the newer view at most
-/// three times, and each id of the older view once.
-pub fn count_kept<V: View>(alloc: Global, older: &V, newer: &V) -> Result<Histogram, Refusal>
-    ensures rows { IfOk result
-        (λ h. AreKept (V.ids newer.now) (V.image older.now) (V.image newer.now) h) }
-    ensures refused { IfErr result (λ e. e ≡ NoMemory) }
+// Tells whether the node with this id was found, and isn't among those of the older view.
+fn is_kept(before: &NodeList, nodes: &NodeList, seen: &[bool], id: u64) -> bool
+    ensures { result ≡ is_kept before.now nodes.now seen.now id }
 {
-    let before = NodeList::new(alloc, older)?;
-    let nodes = NodeList::new(alloc, newer)?;
-    let reach = search(alloc, newer, &nodes)?;
-    let marks = others(alloc, &before, &nodes, reach.seen.as_slice())?;
-    count_unmarked(alloc, newer, marks.as_slice())
+    before.find(id).is_none() && is_reached(nodes, seen, id)
 }

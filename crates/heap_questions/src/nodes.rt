@@ -87,6 +87,49 @@ fn are_rising(nodes: &[Node]) -> bool
     true
 }
 
+// Finds the first node with this id. If ids rise, the guess may tell where it stands.
+fn node_with(nodes: &[Node], rising: bool, guess: usize, id: u64) -> Option<usize>
+    requires { IsTrue rising → AreRising nodes.now }
+    ensures { result ≡ node_with nodes.now id }
+{
+    if !rising {
+        return nodes.iter().position(|node| node.id == id);
+    }
+    let first = first_from(nodes, guess, id);
+    if first < nodes.len() && nodes[first].id == id {
+        Some(first)
+    } else {
+        None
+    }
+}
+
+// Finds the first node whose id is at least this, of nodes whose ids rise: at the guess if it is right, and else by halves.
+fn first_from(nodes: &[Node], guess: usize, id: u64) -> usize
+    requires { AreRising nodes.now }
+    ensures within { result ≤ length nodes.now }
+    ensures below { AreSmallerBefore nodes.now result id }
+    ensures above { AreFrom nodes.now result id }
+{
+    if guess > nodes.len() {
+        return first_by_halves(nodes, id);
+    }
+    if ends_below(nodes, guess, id) && begins_from(nodes, guess, id) {
+        guess
+    } else {
+        first_by_halves(nodes, id)
+    }
+}
+
+// Finds the first node whose id is at least this by halves, of nodes whose ids rise.
+fn first_by_halves(nodes: &[Node], id: u64) -> usize
+    requires { AreRising nodes.now }
+    ensures within { result ≤ length nodes.now }
+    ensures below { AreSmallerBefore nodes.now result id }
+    ensures above { AreFrom nodes.now result id }
+{
+    nodes.partition_point(|node| node.id < id)
+}
+
 // Tells whether the nodes before this place have smaller ids, of nodes whose ids rise.
 fn ends_below(nodes: &[Node], place: usize, id: u64) -> bool
     requires rising { AreRising nodes.now }
@@ -111,85 +154,12 @@ fn begins_from(nodes: &[Node], place: usize, id: u64) -> bool
     id <= nodes[place].id
 }
 
-// Finds the first node whose id is at least this by halves, of nodes whose ids rise.
-fn first_by_halves(nodes: &[Node], id: u64) -> usize
-    requires { AreRising nodes.now }
-    ensures within { result ≤ length nodes.now }
-    ensures below { AreSmallerBefore nodes.now result id }
-    ensures above { AreFrom nodes.now result id }
-{
-    nodes.partition_point(|node| node.id < id)
-}
-
-// Finds the first node whose id is at least this, of nodes whose ids rise: at the guess if it is right, and else by halves.
-fn first_from(nodes: &[Node], guess: usize, id: u64) -> usize
-    requires { AreRising nodes.now }
-    ensures within { result ≤ length nodes.now }
-    ensures below { AreSmallerBefore nodes.now result id }
-    ensures above { AreFrom nodes.now result id }
-{
-    if guess > nodes.len() {
-        return first_by_halves(nodes, id);
-    }
-    if ends_below(nodes, guess, id) && begins_from(nodes, guess, id) {
-        guess
-    } else {
-        first_by_halves(nodes, id)
-    }
-}
-
-// Finds the first node with this id. If ids rise, the guess may tell where it stands.
-fn node_with(nodes: &[Node], rising: bool, guess: usize, id: u64) -> Option<usize>
-    requires { IsTrue rising → AreRising nodes.now }
-    ensures { result ≡ node_with nodes.now id }
-{
-    if !rising {
-        return nodes.iter().position(|node| node.id == id);
-    }
-    let first = first_from(nodes, guess, id);
-    if first < nodes.len() && nodes[first].id == id {
-        Some(first)
-    } else {
-        None
-    }
-}
-
-// Returns the number of steps from an id to another, which may be any number if the other is smaller.
-fn steps_between(first: u64, id: u64) -> u64
-    ensures { result ≤ 2 ^ 61 }
-{
-    id.wrapping_sub(first) / ID_STEP
-}
-
-// Returns how many hints the nodes need: one for each 64 steps from the first id to the last, but not for more than a heap has
-// words.
-fn hint_count(nodes: &[Node]) -> usize
-    ensures { result ≤ hint_limit }
-{
-    match (nodes.first(), nodes.last()) {
-        (Some(first), Some(last)) => {
-            let steps = steps_between(first.id, last.id).min(HEAP_WORDS);
-            (steps / HINT_STEPS) as usize + 1
-        }
-        _ => 0,
-    }
-}
-
 // Returns the id of the first node, or 0 if there is none.
 fn first_id(nodes: &[Node]) -> u64 {
     match nodes.first() {
         Some(node) => node.id,
         None => 0,
     }
-}
-
-// Returns how many nodes stand at the first `steps` steps of a hint.
-fn nodes_below(hint: Hint, steps: u32) -> usize
-    requires { steps < 64 }
-    ensures { result ≤ 64 }
-{
-    let below = (1u64 << steps) - 1;
-    (hint.bits & below).count_ones() as usize
 }
 
 // Returns the node that the hints tell for an id that is `steps` steps from the first.
@@ -203,13 +173,13 @@ fn hint_at(hints: &[Hint], steps: u64) -> usize {
     }
 }
 
-// Adds a node that stands at one of the steps of a hint.
-fn hint_with(hint: Hint, node: u32, step: u32) -> Hint
-    requires { step < 64 }
+// Returns how many nodes stand at the first `steps` steps of a hint.
+fn nodes_below(hint: Hint, steps: u32) -> usize
+    requires { steps < 64 }
+    ensures { result ≤ 64 }
 {
-    let before = if hint.bits == 0 { node } else { hint.before };
-    let bits = hint.bits | 1u64 << step;
-    Hint { before, bits }
+    let below = (1u64 << steps) - 1;
+    (hint.bits & below).count_ones() as usize
 }
 
 // Returns the hints of nodes of which the first has this id. Fails with NoMemory.
@@ -228,6 +198,36 @@ fn hints_of(alloc: Global, nodes: &[Node], first: u64) -> Result<Vec<Hint>, Refu
         }
     }
     Ok(hints)
+}
+
+// Returns how many hints the nodes need: one for each 64 steps from the first id to the last, but not for more than a heap has
+// words.
+fn hint_count(nodes: &[Node]) -> usize
+    ensures { result ≤ hint_limit }
+{
+    match (nodes.first(), nodes.last()) {
+        (Some(first), Some(last)) => {
+            let steps = steps_between(first.id, last.id).min(HEAP_WORDS);
+            (steps / HINT_STEPS) as usize + 1
+        }
+        _ => 0,
+    }
+}
+
+// Returns the number of steps from an id to another, which may be any number if the other is smaller.
+fn steps_between(first: u64, id: u64) -> u64
+    ensures { result ≤ 2 ^ 61 }
+{
+    id.wrapping_sub(first) / ID_STEP
+}
+
+// Adds a node that stands at one of the steps of a hint.
+fn hint_with(hint: Hint, node: u32, step: u32) -> Hint
+    requires { step < 64 }
+{
+    let before = if hint.bits == 0 { node } else { hint.before };
+    let bits = hint.bits | 1u64 << step;
+    Hint { before, bits }
 }
 
 // Returns the id of a node.

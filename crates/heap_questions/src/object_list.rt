@@ -22,20 +22,19 @@ pub struct ListedObject {
     pub unreached: bool,
 }
 
-// Adds an object, if it is wanted. Fails with NoMemory.
-fn push_wanted(
-    all: &mut Vec<ListedObject>,
-    wanted: bool,
-    object: ListedObject,
-) -> Result<(), Refusal>
-    ensures added { OnOk result
-        (all.new.items ≡ all.old.items ++ (if wanted then object ∷ [] else [])) }
+/// Lists the objects of a view that are wanted, in the order of a dump. Fails with NoMemory if an allocation fails. Reads each
+/// object at most twice.
+pub fn list_wanted<V: View>(
+    alloc: Global,
+    view: &V,
+    wanted: Wanted,
+) -> Result<Vec<ListedObject>, Refusal>
+    ensures all { IfOk result (λ all. AreObjectsWanted wanted (V.image view.now) all.items) }
     ensures refused { IfErr result (λ e. e ≡ NoMemory) }
 {
-    if wanted {
-        all.push(object)?;
-    }
-    Ok(())
+    let nodes = NodeList::new(alloc, view)?;
+    let reach = search(alloc, view, &nodes)?;
+    list_nodes(alloc, view, &nodes, reach.seen.as_slice(), wanted)
 }
 
 // Lists the objects of a view that are wanted. The nodes must be the view's, and those that a search found be marked. Fails with
@@ -71,19 +70,20 @@ fn list_nodes<V: View>(
     Ok(all)
 }
 
-/// Lists the objects of a view that are wanted, in the order of a dump. Fails with NoMemory if an allocation fails. Reads each
-/// object at most twice.
-pub fn list_wanted<V: View>(
-    alloc: Global,
-    view: &V,
-    wanted: Wanted,
-) -> Result<Vec<ListedObject>, Refusal>
-    ensures all { IfOk result (λ all. AreObjectsWanted wanted (V.image view.now) all.items) }
+// Adds an object, if it is wanted. Fails with NoMemory.
+fn push_wanted(
+    all: &mut Vec<ListedObject>,
+    wanted: bool,
+    object: ListedObject,
+) -> Result<(), Refusal>
+    ensures added { OnOk result
+        (all.new.items ≡ all.old.items ++ (if wanted then object ∷ [] else [])) }
     ensures refused { IfErr result (λ e. e ≡ NoMemory) }
 {
-    let nodes = NodeList::new(alloc, view)?;
-    let reach = search(alloc, view, &nodes)?;
-    list_nodes(alloc, view, &nodes, reach.seen.as_slice(), wanted)
+    if wanted {
+        all.push(object)?;
+    }
+    Ok(())
 }
 
 /// Lists the objects of a view, in the order of a dump. Fails with NoMemory if an allocation fails. Reads each object at most

@@ -19,18 +19,34 @@ pub struct Path {
     pub slots: Vec<u64>,
 }
 
-// Returns the number of a register or of a place of a queue.
-fn number_of(place: u32) -> u64
-    ensures { result ≡ place }
+/// Returns a shortest path from a register to the object with this id, or None if no register reaches one: of all the shortest
+/// the first by register, then by slot. Reads each object at most twice. Fails with NoMemory.
+pub fn shortest_path<V: View>(alloc: Global, view: &V, id: u64) -> Result<Option<Path>, Refusal>
+    ensures path { IfOk result (λ found. IfSome found (λ p.
+        IsPathTo (V.image view.now) p.register p.slots.items id)) }
+    ensures shortest { IfOk result (λ found. IfSome found (λ p.
+        IsShortest (V.image view.now) p.slots.items id)) }
+    ensures first { IfOk result (λ found. IfSome found (λ p.
+        IsFirstPath (V.image view.now) p.register p.slots.items id)) }
+    ensures none { IfOk result (λ found. IfNone found (IsUnreached (V.image view.now) id)) }
+    ensures refused { IfErr result (λ e. e ≡ NoMemory) }
 {
-    place as u64
+    let nodes = NodeList::new(alloc, view)?;
+    let reach = search(alloc, view, &nodes)?;
+    match found_with(reach.queue.as_slice(), id) {
+        Some(index) => {
+            let path = trace(alloc, reach.queue.as_slice(), index)?;
+            Ok(Some(path))
+        }
+        None => Ok(None),
+    }
 }
 
-// Returns the number of a slot.
-fn slot_number(slot: u16) -> u64
-    ensures { result ≡ slot }
+// Finds the first that has this id of what was found.
+fn found_with(queue: &[Found], id: u64) -> Option<usize>
+    ensures { result ≡ position (λ f. f.id == id) queue.now }
 {
-    slot as u64
+    queue.iter().position(|found| found.id == id)
 }
 
 // Returns the path on which an object was found. Fails with NoMemory.
@@ -62,32 +78,16 @@ fn trace(alloc: Global, queue: &[Found], index: usize) -> Result<Path, Refusal>
     }
 }
 
-// Finds the first that has this id of what was found.
-fn found_with(queue: &[Found], id: u64) -> Option<usize>
-    ensures { result ≡ position (λ f. f.id == id) queue.now }
+// Returns the number of a register or of a place of a queue.
+fn number_of(place: u32) -> u64
+    ensures { result ≡ place }
 {
-    queue.iter().position(|found| found.id == id)
+    place as u64
 }
 
-/// Returns a shortest path from a register to the object with this id, or None if no register reaches one: of all the shortest
-/// the first by register, then by slot. Reads each object at most twice. Fails with NoMemory.
-pub fn shortest_path<V: View>(alloc: Global, view: &V, id: u64) -> Result<Option<Path>, Refusal>
-    ensures path { IfOk result (λ found. IfSome found (λ p.
-        IsPathTo (V.image view.now) p.register p.slots.items id)) }
-    ensures shortest { IfOk result (λ found. IfSome found (λ p.
-        IsShortest (V.image view.now) p.slots.items id)) }
-    ensures first { IfOk result (λ found. IfSome found (λ p.
-        IsFirstPath (V.image view.now) p.register p.slots.items id)) }
-    ensures none { IfOk result (λ found. IfNone found (IsUnreached (V.image view.now) id)) }
-    ensures refused { IfErr result (λ e. e ≡ NoMemory) }
+// Returns the number of a slot.
+fn slot_number(slot: u16) -> u64
+    ensures { result ≡ slot }
 {
-    let nodes = NodeList::new(alloc, view)?;
-    let reach = search(alloc, view, &nodes)?;
-    match found_with(reach.queue.as_slice(), id) {
-        Some(index) => {
-            let path = trace(alloc, reach.queue.as_slice(), index)?;
-            Ok(Some(path))
-        }
-        None => Ok(None),
-    }
+    slot as u64
 }

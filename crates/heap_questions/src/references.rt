@@ -37,45 +37,6 @@ pub(crate) fn is_reference_slot(
     }
 }
 
-// Adds the slots of an object that name `id`. Fails with NoMemory.
-fn add_slots(
-    classes: &FirstClasses<'_>,
-    object: u64,
-    kind: ObjKind,
-    words: &[u64],
-    id: u64,
-    all: &mut Vec<Referrer>,
-) -> Result<(), Refusal>
-    requires { IsKnown classes.now kind (length words.now) }
-    ensures added { OnOk result (all.new.items ≡ all.old.items
-        ++ naming_slots classes.now id (dumped object kind words.now)) }
-    ensures refused { IfErr result (λ e. e ≡ NoMemory) }
-{
-    for slot in 0..words.len() {
-        if words[slot] == id && is_reference_slot(classes, kind, words.len() as u64, slot as u64) {
-            all.push(Referrer::Slot {
-                object,
-                slot: slot as u64,
-            })?;
-        }
-    }
-    Ok(())
-}
-
-// Adds the registers that name `id`. Fails with NoMemory.
-fn add_registers(registers: &[u64], id: u64, all: &mut Vec<Referrer>) -> Result<(), Refusal>
-    ensures added { OnOk result (all.new.items
-        ≡ all.old.items ++ naming_registers id registers.now) }
-    ensures refused { IfErr result (λ e. e ≡ NoMemory) }
-{
-    for r in 0..registers.len() {
-        if registers[r] == id {
-            all.push(Referrer::Register(r as u64))?;
-        }
-    }
-    Ok(())
-}
-
 /// Returns all registers and slots that name `id`: registers by number, then slots in the order of a dump. Fails with
 /// NoMemory if an allocation fails. Reads each object once.
 pub fn referrers<V: View>(alloc: Global, view: &V, id: u64) -> Result<Vec<Referrer>, Refusal>
@@ -100,4 +61,43 @@ pub fn referrers<V: View>(alloc: Global, view: &V, id: u64) -> Result<Vec<Referr
         here = view.next(at);
     }
     Ok(all)
+}
+
+// Adds the registers that name `id`. Fails with NoMemory.
+fn add_registers(registers: &[u64], id: u64, all: &mut Vec<Referrer>) -> Result<(), Refusal>
+    ensures added { OnOk result (all.new.items
+        ≡ all.old.items ++ naming_registers id registers.now) }
+    ensures refused { IfErr result (λ e. e ≡ NoMemory) }
+{
+    for r in 0..registers.len() {
+        if registers[r] == id {
+            all.push(Referrer::Register(r as u64))?;
+        }
+    }
+    Ok(())
+}
+
+// Adds the slots of an object that name `id`. Fails with NoMemory.
+fn add_slots(
+    classes: &FirstClasses<'_>,
+    object: u64,
+    kind: ObjKind,
+    words: &[u64],
+    id: u64,
+    all: &mut Vec<Referrer>,
+) -> Result<(), Refusal>
+    requires { IsKnown classes.now kind (length words.now) }
+    ensures added { OnOk result (all.new.items ≡ all.old.items
+        ++ naming_slots classes.now id (dumped object kind words.now)) }
+    ensures refused { IfErr result (λ e. e ≡ NoMemory) }
+{
+    for slot in 0..words.len() {
+        if words[slot] == id && is_reference_slot(classes, kind, words.len() as u64, slot as u64) {
+            all.push(Referrer::Slot {
+                object,
+                slot: slot as u64,
+            })?;
+        }
+    }
+    Ok(())
 }

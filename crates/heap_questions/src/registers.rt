@@ -18,17 +18,6 @@ pub struct NamedObject {
     pub kind: Option<ObjKind>,
 }
 
-// Returns the kind of the object with this id, or None if there is none.
-fn kind_with<V: View>(view: &V, nodes: &NodeList, id: u64) -> Option<ObjKind>
-    requires { AreNodes (V.image view.now) (V.places view.now) nodes.now }
-    ensures { result ≡ option_map (λ o. o.kind) (object_with (V.image view.now) id) }
-{
-    match nodes.find(id) {
-        Some(node) => Some(view.kind(nodes.place(node))),
-        None => None,
-    }
-}
-
 /// Returns what each register names, in order. Fails with NoMemory if an allocation fails. Reads each id once.
 pub fn named_by_registers<V: View>(alloc: Global, view: &V) -> Result<Vec<NamedObject>, Refusal>
     ensures named { IfOk result (λ all. all.items
@@ -44,4 +33,15 @@ pub fn named_by_registers<V: View>(alloc: Global, view: &V) -> Result<Vec<NamedO
         all.push(NamedObject { id, kind })?;
     }
     Ok(all)
+}
+
+// Returns the kind of the object with this id, or None if there is none.
+fn kind_with<V: View>(view: &V, nodes: &NodeList, id: u64) -> Option<ObjKind>
+    requires { AreNodes (V.image view.now) (V.places view.now) nodes.now }
+    ensures { result ≡ option_map (λ o. o.kind) (object_with (V.image view.now) id) }
+{
+    match nodes.find(id) {
+        Some(node) => Some(view.kind(nodes.place(node))),
+        None => None,
+    }
 }

@@ -59,20 +59,6 @@ pub fn kind_row(kind: Kind) -> usize
     }
 }
 
-// Returns the number of the row in which an object of this kind is counted.
-#[tactic(auto, unfolding(crate::specs::Histogram::row_number))]
-fn row_number(classes: &FirstClasses<'_>, kind: ObjKind, words: u64) -> usize
-    requires { IsKnown classes.now kind words }
-    ensures value { result ≡ row_number kind }
-    ensures within { result < class_rows + length classes.now }
-{
-    let _count = classes.len();
-    match kind {
-        ObjKind::Instance(class) | ObjKind::Array(class) => CLASS_ROWS + class as usize,
-        ObjKind::Prim(kind) => kind_row(kind),
-    }
-}
-
 /// Returns the bytes that the values of an object of this kind with this many slots take in a dump. Takes no memory.
 #[tactic(auto, unfolding(crate::specs::Histogram::value_size))]
 pub fn value_size(ids: IdSize, classes: &FirstClasses<'_>, kind: ObjKind, words: u64) -> u64
@@ -89,28 +75,6 @@ pub fn value_size(ids: IdSize, classes: &FirstClasses<'_>, kind: ObjKind, words:
         ObjKind::Array(_) => ids.bytes() * words,
         ObjKind::Prim(kind) => kind.width(ids) * words,
     }
-}
-
-// Counts an object of `bytes` bytes in its row, unless it is marked.
-fn count(rows: &mut Vec<Row>, index: usize, bytes: u64, marked: bool)
-    requires within { index < length rows.old.items }
-    requires objects { (row_at rows.old.items index).objects < 2 ^ 32 }
-    requires bytes { (row_at rows.old.items index).bytes + bytes < 2 ^ 62 }
-    ensures { rows.new.items ≡ counted_unless marked index bytes rows.old.items }
-{
-    if marked {
-        return;
-    }
-    let row = &mut rows[index];
-    row.objects += 1;
-    row.bytes += bytes;
-}
-
-// Returns the mark at this place. Past the last there is none.
-fn mark_at(marks: &[bool], index: usize) -> bool
-    ensures { result ≡ slice_index_or marks.now index false }
-{
-    index < marks.len() && marks[index]
 }
 
 // Counts the objects of a view that aren't marked. Fails with NoMemory. Reads each object once.
@@ -142,6 +106,42 @@ pub(crate) fn count_unmarked<V: View>(
         here = view.next(at);
     }
     Ok(Histogram(rows))
+}
+
+// Returns the number of the row in which an object of this kind is counted.
+#[tactic(auto, unfolding(crate::specs::Histogram::row_number))]
+fn row_number(classes: &FirstClasses<'_>, kind: ObjKind, words: u64) -> usize
+    requires { IsKnown classes.now kind words }
+    ensures value { result ≡ row_number kind }
+    ensures within { result < class_rows + length classes.now }
+{
+    let _count = classes.len();
+    match kind {
+        ObjKind::Instance(class) | ObjKind::Array(class) => CLASS_ROWS + class as usize,
+        ObjKind::Prim(kind) => kind_row(kind),
+    }
+}
+
+// Counts an object of `bytes` bytes in its row, unless it is marked.
+fn count(rows: &mut Vec<Row>, index: usize, bytes: u64, marked: bool)
+    requires within { index < length rows.old.items }
+    requires objects { (row_at rows.old.items index).objects < 2 ^ 32 }
+    requires bytes { (row_at rows.old.items index).bytes + bytes < 2 ^ 62 }
+    ensures { rows.new.items ≡ counted_unless marked index bytes rows.old.items }
+{
+    if marked {
+        return;
+    }
+    let row = &mut rows[index];
+    row.objects += 1;
+    row.bytes += bytes;
+}
+
+// Returns the mark at this place. Past the last there is none.
+fn mark_at(marks: &[bool], index: usize) -> bool
+    ensures { result ≡ slice_index_or marks.now index false }
+{
+    index < marks.len() && marks[index]
 }
 
 /// Counts the objects of a view: those of class `k` in row `CLASS_ROWS + k`, and arrays of values in the row of their kind. Fails

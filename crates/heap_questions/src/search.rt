@@ -48,26 +48,25 @@ pub(crate) fn found_at(queue: &[Found], index: usize) -> Found
     queue[index]
 }
 
-// Adds an object to what was found, unless it was found before or there is none with this id. Fails with NoMemory.
-fn offer(nodes: &NodeList, reach: &mut Reach, id: u64, depth: u32, via: Via) -> Result<(), Refusal>
-    requires many { length reach.old.seen.items ≡ length nodes.now }
-    requires few { length nodes.now ≤ object_limit }
-    ensures done { OnOk result (IsOfferedTo nodes.now id depth via
-        reach.old.seen.items reach.old.queue.items reach.new.seen.items reach.new.queue.items) }
+// Finds all that the registers reach, breadth first. The nodes must be the view's. Fails with NoMemory. Reads each object
+// once.
+pub(crate) fn search<V: View>(alloc: Global, view: &V, nodes: &NodeList) -> Result<Reach, Refusal>
+    requires { AreNodes (V.image view.now) (V.places view.now) nodes.now }
+    ensures searched { IfOk result (λ r. IsSearched (V.image view.now) r.queue.items) }
+    ensures seen { IfOk result (λ r. AreSeen nodes.now r.seen.items r.queue.items) }
+    ensures order { IfOk result (λ r. HasSearchOrder (V.image view.now) r.queue.items) }
     ensures refused { IfErr result (λ e. e ≡ NoMemory) }
 {
-    if let Some(node) = nodes.find(id) {
-        if !reach.seen[node] {
-            reach.seen[node] = true;
-            reach.queue.push(Found {
-                node: node as u32,
-                id,
-                depth,
-                via,
-            })?;
-        }
+    let seen = vec![in alloc; false; nodes.len()]?;
+    let queue = Vec::with_capacity(alloc, nodes.len())?;
+    let mut reach = Reach { seen, queue };
+    find_roots(view, nodes, &mut reach)?;
+    let mut head = 0;
+    while head < reach.queue.len() {
+        expand(view, nodes, &mut reach, head)?;
+        head += 1;
     }
-    Ok(())
+    Ok(reach)
 }
 
 // Finds what the registers name. Fails with NoMemory.
@@ -88,6 +87,28 @@ fn find_roots<V: View>(view: &V, nodes: &NodeList, reach: &mut Reach) -> Result<
     let registers = view.registers();
     for r in 0..registers.len() {
         offer(nodes, reach, registers[r], 0, Via::Register(r as u32))?;
+    }
+    Ok(())
+}
+
+// Adds an object to what was found, unless it was found before or there is none with this id. Fails with NoMemory.
+fn offer(nodes: &NodeList, reach: &mut Reach, id: u64, depth: u32, via: Via) -> Result<(), Refusal>
+    requires many { length reach.old.seen.items ≡ length nodes.now }
+    requires few { length nodes.now ≤ object_limit }
+    ensures done { OnOk result (IsOfferedTo nodes.now id depth via
+        reach.old.seen.items reach.old.queue.items reach.new.seen.items reach.new.queue.items) }
+    ensures refused { IfErr result (λ e. e ≡ NoMemory) }
+{
+    if let Some(node) = nodes.find(id) {
+        if !reach.seen[node] {
+            reach.seen[node] = true;
+            reach.queue.push(Found {
+                node: node as u32,
+                id,
+                depth,
+                via,
+            })?;
+        }
     }
     Ok(())
 }
@@ -131,25 +152,4 @@ fn expand<V: View>(
         }
     }
     Ok(())
-}
-
-// Finds all that the registers reach, breadth first. The nodes must be the view's. Fails with NoMemory. Reads each object
-// once.
-pub(crate) fn search<V: View>(alloc: Global, view: &V, nodes: &NodeList) -> Result<Reach, Refusal>
-    requires { AreNodes (V.image view.now) (V.places view.now) nodes.now }
-    ensures searched { IfOk result (λ r. IsSearched (V.image view.now) r.queue.items) }
-    ensures seen { IfOk result (λ r. AreSeen nodes.now r.seen.items r.queue.items) }
-    ensures order { IfOk result (λ r. HasSearchOrder (V.image view.now) r.queue.items) }
-    ensures refused { IfErr result (λ e. e ≡ NoMemory) }
-{
-    let seen = vec![in alloc; false; nodes.len()]?;
-    let queue = Vec::with_capacity(alloc, nodes.len())?;
-    let mut reach = Reach { seen, queue };
-    find_roots(view, nodes, &mut reach)?;
-    let mut head = 0;
-    while head < reach.queue.len() {
-        expand(view, nodes, &mut reach, head)?;
-        head += 1;
-    }
-    Ok(reach)
 }

@@ -29,16 +29,6 @@ pub(crate) fn is_of_class(kind: ObjKind, class: ClassNo) -> bool
     }
 }
 
-// Tells whether an object with these words has a word in a slot.
-fn holds(words: &[u64], slot: u64, word: u64) -> bool
-    ensures { result ≡ holds words.now slot word }
-{
-    match words.get(slot as usize) {
-        Some(held) => *held == word,
-        None => false,
-    }
-}
-
 // Tells whether an object of this kind with these words is listed.
 pub(crate) fn is_wanted(wanted: Wanted, kind: ObjKind, words: &[u64]) -> bool
     ensures { result ≡ is_wanted wanted kind words.now }
@@ -48,5 +38,15 @@ pub(crate) fn is_wanted(wanted: Wanted, kind: ObjKind, words: &[u64]) -> bool
         Wanted::OfClass(class) => is_of_class(kind, class),
         Wanted::Holding { class, slot, word } => is_of_class(kind, class)
             && holds(words, slot, word),
+    }
+}
+
+// Tells whether an object with these words has a word in a slot.
+fn holds(words: &[u64], slot: u64, word: u64) -> bool
+    ensures { result ≡ holds words.now slot word }
+{
+    match words.get(slot as usize) {
+        Some(held) => *held == word,
+        None => false,
     }
 }

@@ -5,7 +5,7 @@ use Rattle.std.proofs.lemmas.List.{length-replicate}
 use Rattle.heap_class.specs.declared.ObjRef.{ObjRef}
 use Rattle.heap_region.specs.Regions.{Object, UsedRegion, Empty, used_at, object_at, object_of, cell_size_for}
 use Rattle.heap_region.specs.Pool.{RegionPool, fresh_region, new_place, taken, restored, allocated}
-use Rattle.heap_region.proofs.FoundObjects.{taken_keeps, restored_there, fresh_found}
+use Rattle.heap_region.proofs.FoundObjects.{named_object_stays_after_taking, restored_there, fresh_region_brings_no_object}
 use Rattle.heap_region.proofs.Places.{IsNextFree, IsNextFresh, new_place_is, HeadIsEmpty, PoolIsEmpty}
 
 -- a region has a cell of each size
@@ -53,7 +53,7 @@ new_cell at fresh o s place head pool = go fresh (new_place_is (length o.words) 
       used = restored_there at.region (fresh_region size) s Empty (pool e.1.0);
       empty = ap (slice_get (replicate {A = Option Object} (1024 / size) None)) e.1.1 ∙ first_cell (1024 / size) (has_cell (length o.words));
       size = refl;
-      found = λ x. fresh_found at.region size x s (pool e.1.0);
+      found = λ x. fresh_region_brings_no_object at.region size x s (pool e.1.0);
       cells = inr (length-replicate (1024 / size) None);
     }
     go false (inl e) = record { before = s; region = e.1.0; is_taken = refl; used = e.1.1; empty = head e.1.0 e.1.1 e.1.3; size = e.1.2; found = λ x. refl; cells = inl e.1.1 }
@@ -66,4 +66,4 @@ unfolding object_at
 allocated_keeps at fresh o s place head pool x p found =
     let c : IsNewCell at fresh o s = new_cell at fresh o s place head pool in
     ap (λ (t : RegionPool). object_of t.regions x) c.is_taken
-    ∙ taken_keeps at o c.before x p (ap (option_and_then (λ (u : UsedRegion). option_and_then (λ (o : Option Object). o) (slice_get u.cells at.cell))) c.used ∙ ap (option_and_then (λ (o : Option Object). o)) c.empty) (c.found x ∙ found)
+    ∙ named_object_stays_after_taking at o c.before x p (ap (option_and_then (λ (u : UsedRegion). option_and_then (λ (o : Option Object). o) (slice_get u.cells at.cell))) c.used ∙ ap (option_and_then (λ (o : Option Object). o)) c.empty) (c.found x ∙ found)

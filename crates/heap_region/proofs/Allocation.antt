@@ -17,8 +17,8 @@ use Rattle.heap_region.specs.Table.{HasObject}
 use Rattle.heap_region.proofs.UpdatedLists.{updated_set}
 use Rattle.heap_region.proofs.Places.{IsNextFree, IsNextFresh, new_place_is}
 use Rattle.heap_region.proofs.AllocatedRegions.{has_cell}
-use Rattle.heap_region.proofs.Clauses.{size_holds}
-use Rattle.heap_region.proofs.Ids.{ref_is, id_above}
+use Rattle.heap_region.proofs.Clauses.{cell_size_holds_words}
+use Rattle.heap_region.proofs.Ids.{ref_is, id_is_at_least_base}
 use Rattle.heap_region.proofs.FoundObjects.{region_around, ref_region}
 use Rattle.heap_region.proofs.ShownRegions.{used_by_object}
 
@@ -37,36 +37,36 @@ sized_for n = go (nat_le n 4) (nat_le n 16) (nat_le n 64) (nat_le n 256) (nat_le
 
 -- ---- refusals
 
-pub refused_large : (n : ℕ) (s : RegionPool) → 1024 < n → alloc_refusal n s ≡ Some TooLarge
+pub object_too_large_is_refused : (n : ℕ) (s : RegionPool) → 1024 < n → alloc_refusal n s ≡ Some TooLarge
 unfolding alloc_refusal first_refusal
-refused_large n s lt = ap (λ b. cond b (Some TooLarge) (cond (is_none (new_place n s)) (Some HeapFull) None)) (lt-ltb 1024 n lt)
+object_too_large_is_refused n s lt = ap (λ b. cond b (Some TooLarge) (cond (is_none (new_place n s)) (Some HeapFull) None)) (lt-ltb 1024 n lt)
 
-not_large : (n : ℕ) (s : RegionPool) → n ≤ 1024 → alloc_refusal n s ≡ cond (is_none (new_place n s)) (Some HeapFull) None
+refusal_of_object_not_large : (n : ℕ) (s : RegionPool) → n ≤ 1024 → alloc_refusal n s ≡ cond (is_none (new_place n s)) (Some HeapFull) None
 unfolding alloc_refusal first_refusal
-not_large n s le = ap (λ b. cond b (Some TooLarge) (cond (is_none (new_place n s)) (Some HeapFull) None)) (le-ltb 1024 n le)
+refusal_of_object_not_large n s le = ap (λ b. cond b (Some TooLarge) (cond (is_none (new_place n s)) (Some HeapFull) None)) (le-ltb 1024 n le)
 
-pub refused_full : (n : ℕ) (s : RegionPool) → n ≤ 1024 → new_place n s ≡ None → alloc_refusal n s ≡ Some HeapFull
-refused_full n s le none = not_large n s le ∙ ap (λ p. cond (is_none p) (Some HeapFull) None) none
+pub full_heap_refuses_object : (n : ℕ) (s : RegionPool) → n ≤ 1024 → new_place n s ≡ None → alloc_refusal n s ≡ Some HeapFull
+full_heap_refuses_object n s le none = refusal_of_object_not_large n s le ∙ ap (λ p. cond (is_none p) (Some HeapFull) None) none
 
-pub not_refused : (n : ℕ) (s : RegionPool) (p : ObjRef × Bool) → n ≤ 1024 → new_place n s ≡ Some p → alloc_refusal n s ≡ None
-not_refused n s p le some = not_large n s le ∙ ap (λ p. cond (is_none p) (Some HeapFull) None) some
+pub object_with_place_not_refused : (n : ℕ) (s : RegionPool) (p : ObjRef × Bool) → n ≤ 1024 → new_place n s ≡ Some p → alloc_refusal n s ≡ None
+object_with_place_not_refused n s p le some = refusal_of_object_not_large n s le ∙ ap (λ p. cond (is_none p) (Some HeapFull) None) some
 
 -- ---- places
 
 abbrev pub first_free : ℕ → RegionPool → Option ObjRef
 first_free n s = slice_get (filter_map (free_place (cell_size_for n)) (enumerate_from 0 s.regions)) 0
 
-pub placed_free : (n : ℕ) (s : RegionPool) (at : ObjRef) → first_free n s ≡ Some at → new_place n s ≡ Some (at, false)
+pub new_object_takes_free_cell : (n : ℕ) (s : RegionPool) (at : ObjRef) → first_free n s ≡ Some at → new_place n s ≡ Some (at, false)
 unfolding new_place place_or_fresh
-placed_free n s at some = ap (λ x. place_or_fresh x (slice_get s.pool 0)) some
+new_object_takes_free_cell n s at some = ap (λ x. place_or_fresh x (slice_get s.pool 0)) some
 
-pub placed_fresh : (n : ℕ) (s : RegionPool) (r : ℕ) → first_free n s ≡ None → slice_get s.pool 0 ≡ Some r → new_place n s ≡ Some (record { region = r; cell = 0 }, true)
+pub new_object_takes_fresh_region : (n : ℕ) (s : RegionPool) (r : ℕ) → first_free n s ≡ None → slice_get s.pool 0 ≡ Some r → new_place n s ≡ Some (record { region = r; cell = 0 }, true)
 unfolding new_place place_or_fresh
-placed_fresh n s r none some = ap (λ x. place_or_fresh x (slice_get s.pool 0)) none ∙ ap (place_or_fresh None) some
+new_object_takes_fresh_region n s r none some = ap (λ x. place_or_fresh x (slice_get s.pool 0)) none ∙ ap (place_or_fresh None) some
 
-pub placed_nowhere : (n : ℕ) (s : RegionPool) → first_free n s ≡ None → slice_get s.pool 0 ≡ None → new_place n s ≡ None
+pub new_object_has_no_place : (n : ℕ) (s : RegionPool) → first_free n s ≡ None → slice_get s.pool 0 ≡ None → new_place n s ≡ None
 unfolding new_place place_or_fresh
-placed_nowhere n s none empty = ap (λ x. place_or_fresh x (slice_get s.pool 0)) none ∙ ap (place_or_fresh None) empty
+new_object_has_no_place n s none empty = ap (λ x. place_or_fresh x (slice_get s.pool 0)) none ∙ ap (place_or_fresh None) empty
 
 pub fresh_by_place : (n : ℕ) (s : RegionPool) (at : ObjRef) → new_place n s ≡ Some (at, true) → is_fresh n s ≡ true
 unfolding is_fresh
@@ -77,7 +77,7 @@ pub place_ready : (n : ℕ) (s : RegionPool) (at : ObjRef) → n ≤ 1024 → ne
 place_ready n s at le place = go (new_place_is n s at false place)
   where
     go : ((false ≡ false) × IsNextFree n s.regions at) ⊎ ((false ≡ true) × IsNextFresh s.pool at) → IsSomeAnd (used_at s.regions at.region) (λ u. (slice_get u.free 0 ≡ Some at.cell) × FitsWords u.cell_size n)
-    go (inl e) = subst (λ s. IsSomeAnd s (λ u. (slice_get u.free 0 ≡ Some at.cell) × FitsWords u.cell_size n)) (sym e.1.1) (e.1.3, (subst (λ k. n ≤ k) (sym e.1.2) (size_holds n le), e.1.2))
+    go (inl e) = subst (λ s. IsSomeAnd s (λ u. (slice_get u.free 0 ≡ Some at.cell) × FitsWords u.cell_size n)) (sym e.1.1) (e.1.3, (subst (λ k. n ≤ k) (sym e.1.2) (cell_size_holds_words n le), e.1.2))
     go (inr e) = cc
 
 -- ---- the state
@@ -105,9 +105,9 @@ fresh_heads n = go (1024 / cell_size_for n) (has_cell n)
     go zero lt = absurd (omega arith)
     go (suc k) lt = refl
 
-pub fresh_has : (n : ℕ) (o : Object) → HasObject (cell_filled (fresh_region (cell_size_for n)) 0 o)
+pub fresh_region_has_first_object : (n : ℕ) (o : Object) → HasObject (cell_filled (fresh_region (cell_size_for n)) 0 o)
 unfolding fresh_region
-fresh_has n o = go (1024 / cell_size_for n) (has_cell n)
+fresh_region_has_first_object n o = go (1024 / cell_size_for n) (has_cell n)
   where
     go : (k : ℕ) → 0 < k → (cell : ℕ) × IsSome (get_or (set (replicate {A = Option Object} k None) 0 (Some o)) cell None)
     go zero lt = absurd (omega arith)
@@ -116,14 +116,14 @@ fresh_has n o = go (1024 / cell_size_for n) (has_cell n)
 -- ---- ids
 
 -- the region of an id's object
-pub id_lies : (regions : List Region) (x : ℕ) → IsSome (object_of regions x) → (object_base ≤ x) × IsSome (used_at regions (region_around x))
+pub region_around_id_in_use : (regions : List Region) (x : ℕ) → IsSome (object_of regions x) → (object_base ≤ x) × IsSome (used_at regions (region_around x))
 unfolding object_of
-id_lies regions x some = go (ref_of regions x) refl some
+region_around_id_in_use regions x some = go (ref_of regions x) refl some
   where
     go : (r : Option ObjRef) → ref_of regions x ≡ r → IsSome (option_and_then (object_at regions) r) → (object_base ≤ x) × IsSome (used_at regions (region_around x))
     go None is some = absurd (cc)
     go (Some at) is some = (
-      subst (λ y. object_base ≤ y) (ref_is regions x at is) (id_above regions at),
+      subst (λ y. object_base ≤ y) (ref_is regions x at is) (id_is_at_least_base regions at),
       subst (λ r. IsSome (used_at regions r)) (ref_region regions x at is) (used_by_object regions at some),
     )
 
@@ -132,48 +132,48 @@ unfolding ref_of
 ref_around regions x at is = (cond_some _ _ _ is).1
 
 -- its place
-pub id_place : (regions : List Region) (x : ℕ) (u : UsedRegion) → IsSome (object_of regions x) → used_at regions (region_around x) ≡ Some u → ref_of regions x ≡ Some (record { region = region_around x; cell = (x - object_base) / 8 % 1024 / u.cell_size })
+pub ref_of_id_from_region : (regions : List Region) (x : ℕ) (u : UsedRegion) → IsSome (object_of regions x) → used_at regions (region_around x) ≡ Some u → ref_of regions x ≡ Some (record { region = region_around x; cell = (x - object_base) / 8 % 1024 / u.cell_size })
 unfolding object_of cell_around
-id_place regions x u some used = go (ref_of regions x) refl some
+ref_of_id_from_region regions x u some used = go (ref_of regions x) refl some
   where
     go : (r : Option ObjRef) → ref_of regions x ≡ r → IsSome (option_and_then (object_at regions) r) → ref_of regions x ≡ Some (record { region = region_around x; cell = (x - object_base) / 8 % 1024 / u.cell_size })
     go None is some = absurd (cc)
     go (Some at) is some = is ∙ ap Some (sym (ref_around regions x at is) ∙ ap (λ (v : Option UsedRegion). let b : ObjRef = record { region = region_around x; cell = (x - object_base) / 8 % 1024 / option_map_or (λ u. u.cell_size) v 1024 } in b) used)
 
 -- an id that doesn't name an object
-pub names_none : (regions : List Region) (x : ℕ) → (IsSome (object_of regions x) → ⊥) → object_of regions x ≡ None
-names_none regions x never = go (object_of regions x) never
+pub id_that_names_no_object : (regions : List Region) (x : ℕ) → (IsSome (object_of regions x) → ⊥) → object_of regions x ≡ None
+id_that_names_no_object regions x never = go (object_of regions x) never
   where
     go : (o : Option Object) → (IsSome o → ⊥) → o ≡ None
     go None never = refl
     go (Some o) never = absurd (never refl)
 
 -- an id below all others, or in no region in use
-pub none_below : (regions : List Region) (x : ℕ) → x < object_base → object_of regions x ≡ None
-none_below regions x lt = names_none regions x (λ some. omega (arith, (id_lies regions x some).0))
+pub id_below_base_names_none : (regions : List Region) (x : ℕ) → x < object_base → object_of regions x ≡ None
+id_below_base_names_none regions x lt = id_that_names_no_object regions x (λ some. omega (arith, (region_around_id_in_use regions x some).0))
 
-pub none_outside : (regions : List Region) (x : ℕ) → used_at regions (region_around x) ≡ None → object_of regions x ≡ None
-none_outside regions x none = names_none regions x (λ some. both_ways false refl (ap is_some (sym none) ∙ (id_lies regions x some).1))
+pub id_outside_regions_names_none : (regions : List Region) (x : ℕ) → used_at regions (region_around x) ≡ None → object_of regions x ≡ None
+id_outside_regions_names_none regions x none = id_that_names_no_object regions x (λ some. both_ways false refl (ap is_some (sym none) ∙ (region_around_id_in_use regions x some).1))
 
 -- the cell of a region in use in which the word of an id lies
 abbrev pub cell_in : ℕ → UsedRegion → ObjRef
 cell_in x u = record { region = region_around x; cell = (x - object_base) / 8 % 1024 / u.cell_size }
 
 -- is its place if the id is the cell's
-pub id_found : (regions : List Region) (x : ℕ) (u : UsedRegion) → used_at regions (region_around x) ≡ Some u → id_of regions (cell_in x u) ≡ x → ref_of regions x ≡ Some (cell_in x u)
+pub id_of_cell_gives_ref : (regions : List Region) (x : ℕ) (u : UsedRegion) → used_at regions (region_around x) ≡ Some u → id_of regions (cell_in x u) ≡ x → ref_of regions x ≡ Some (cell_in x u)
 unfolding ref_of cell_around
-id_found regions x u used is =
+id_of_cell_gives_ref regions x u used is =
     ap (λ (v : Option UsedRegion). let b : ObjRef = record { region = region_around x; cell = (x - object_base) / 8 % 1024 / option_map_or (λ u. u.cell_size) v 1024 } in cond (id_of regions b == x) (Some b) None) used
     ∙ ap (λ b. cond b (Some (cell_in x u)) None) (eq-eqb _ _ is)
 
 -- and no place of an object otherwise, or where the cell has none
 pub none_by_id : (regions : List Region) (x : ℕ) (u : UsedRegion) → used_at regions (region_around x) ≡ Some u → id_of regions (cell_in x u) ≢ x → object_of regions x ≡ None
-none_by_id regions x u used other = names_none regions x (λ some. other (ref_is regions x (cell_in x u) (id_place regions x u some used)))
+none_by_id regions x u used other = id_that_names_no_object regions x (λ some. other (ref_is regions x (cell_in x u) (ref_of_id_from_region regions x u some used)))
 
 pub none_in_cell : (regions : List Region) (x : ℕ) (u : UsedRegion) → used_at regions (region_around x) ≡ Some u → is_some (object_at regions (cell_in x u)) ≡ false → object_of regions x ≡ None
 unfolding object_of
-none_in_cell regions x u used none = names_none regions x (λ some. both_ways (is_some (object_at regions (cell_in x u))) none (ap (λ (r : Option ObjRef). is_some (option_and_then (object_at regions) r)) (sym (id_place regions x u some used)) ∙ some))
+none_in_cell regions x u used none = id_that_names_no_object regions x (λ some. both_ways (is_some (object_at regions (cell_in x u))) none (ap (λ (r : Option ObjRef). is_some (option_and_then (object_at regions) r)) (sym (ref_of_id_from_region regions x u some used)) ∙ some))
 
-pub id_is : (regions : List Region) (at : ObjRef) (size : ℕ) → size ≡ option_map_or (λ u. u.cell_size) (used_at regions at.region) 0 → 268435456 + 8 * (1024 * at.region + at.cell * size) ≡ id_of regions at
+pub id_of_ref_from_cell_size : (regions : List Region) (at : ObjRef) (size : ℕ) → size ≡ option_map_or (λ u. u.cell_size) (used_at regions at.region) 0 → 268435456 + 8 * (1024 * at.region + at.cell * size) ≡ id_of regions at
 unfolding id_of
-id_is regions at size e = ap (λ k. 268435456 + 8 * (1024 * at.region + at.cell * k)) e
+id_of_ref_from_cell_size regions at size e = ap (λ k. 268435456 + 8 * (1024 * at.region + at.cell * k)) e

@@ -12,16 +12,16 @@ pub record IsAlmost (t : List ℕ) (region k n : ℕ) : Type 0 where
   pub there : n < length t → get_or t n 0 ≡ k
 
 -- a class whose lowest region isn't the one that changed
-almost_kept : (t : List ℕ) (region class k n : ℕ) → IsLowest t k 0 n → n ≢ region → IsAlmost (set t region class) region k n
-almost_kept t region class k n low ne = record {
+unchanged_lowest_region_is_almost : (t : List ℕ) (region class k n : ℕ) → IsLowest t k 0 n → n ≢ region → IsAlmost (set t region class) region k n
+unchanged_lowest_region_is_almost t region class k n low ne = record {
   high = omega (arith, low.high, length-set t region class);
   before = λ j lt other e. low.before j (omega arith) lt (sym (get_or-set_other t region j class 0 other) ∙ e);
   there = λ lt. get_or-set_other t region n class 0 ne ∙ low.there (omega (arith, lt, length-set t region class));
 }
 
 -- the class that the region had, where it was the lowest, and the next was searched
-almost_next : (t : List ℕ) (region class k next : ℕ) → IsLowest t k 0 region → IsLowest (set t region class) k region next → IsAlmost (set t region class) region k next
-almost_next t region class k next low found = record {
+next_lowest_region_is_almost : (t : List ℕ) (region class k next : ℕ) → IsLowest t k 0 region → IsLowest (set t region class) k region next → IsAlmost (set t region class) region k next
+next_lowest_region_is_almost t region class k next low found = record {
   high = found.high;
   before = λ j lt other e. elim (cases_lt j region) [
     | inl below ↦ low.before j (omega arith) below (sym (get_or-set_other t region j class 0 other) ∙ e)
@@ -31,8 +31,8 @@ almost_next t region class k next low found = record {
 }
 
 -- the region isn't of the class
-exact : (t : List ℕ) (region k n : ℕ) → IsAlmost t region k n → get_or t region 0 ≢ k → IsLowest t k 0 n
-exact t region k n almost ne = record {
+lowest_when_region_of_other_class : (t : List ℕ) (region k n : ℕ) → IsAlmost t region k n → get_or t region 0 ≢ k → IsLowest t k 0 n
+lowest_when_region_of_other_class t region k n almost ne = record {
   low = omega arith;
   high = almost.high;
   before = λ j _ lt e. elim (cases_eq j region) [
@@ -43,8 +43,8 @@ exact t region k n almost ne = record {
 }
 
 -- the region is of the class, and is lower
-lower : (t : List ℕ) (region k n : ℕ) → IsAlmost t region k n → region < n → get_or t region 0 ≡ k → IsLowest t k 0 region
-lower t region k n almost lt is = record {
+changed_region_is_new_lowest : (t : List ℕ) (region k n : ℕ) → IsAlmost t region k n → region < n → get_or t region 0 ≡ k → IsLowest t k 0 region
+changed_region_is_new_lowest t region k n almost lt is = record {
   low = omega arith;
   high = omega (arith, lt, almost.high);
   before = λ j _ l e. almost.before j (omega (arith, l, lt)) (λ same. absurd (omega (arith, same, l))) e;
@@ -52,8 +52,8 @@ lower t region k n almost lt is = record {
 }
 
 -- the region isn't lower
-stays : (t : List ℕ) (region k n : ℕ) → IsAlmost t region k n → n ≤ region → IsLowest t k 0 n
-stays t region k n almost le = record {
+lowest_stays_below_changed_region : (t : List ℕ) (region k n : ℕ) → IsAlmost t region k n → n ≤ region → IsLowest t k 0 n
+lowest_stays_below_changed_region t region k n almost le = record {
   low = omega arith;
   high = almost.high;
   before = λ j _ l e. almost.before j l (λ same. absurd (omega (arith, same, l, le))) e;
@@ -67,63 +67,63 @@ abbrev pub AreAlmost : List ℕ → ℕ → List ℕ → Type 0
 AreAlmost t region lowest = (k : ℕ) → k < 256 → IsAlmost t region k (get_or lowest k 0)
 
 -- a class whose lowest region changed is the one that the region had
-had : (t lowest : List ℕ) (region was k : ℕ) → IsLowest t k 0 (get_or lowest k 0) → region < length t → get_or t region 0 ≡ was → get_or lowest k 0 ≡ region → k ≡ was
-had t lowest region was k low within is e =
+class_whose_lowest_region_changed : (t lowest : List ℕ) (region was k : ℕ) → IsLowest t k 0 (get_or lowest k 0) → region < length t → get_or t region 0 ≡ was → get_or lowest k 0 ≡ region → k ≡ was
+class_whose_lowest_region_changed t lowest region was k low within is e =
     sym (low.there (omega (arith, e, within))) ∙ (ap (λ i. get_or t i 0) e ∙ is)
 
-pub kept_all : (t lowest : List ℕ) (region was class : ℕ) → AreLowest t lowest → region < length t → get_or t region 0 ≡ was → get_or lowest was 0 ≢ region → AreAlmost (set t region class) region lowest
-kept_all t lowest region was class low within is ne k lt =
-    almost_kept t region class k (get_or lowest k 0) (low k lt)
-    (λ e. ne (ap (λ i. get_or lowest i 0) (sym (had t lowest region was k (low k lt) within is e)) ∙ e))
+pub lowest_regions_kept_almost : (t lowest : List ℕ) (region was class : ℕ) → AreLowest t lowest → region < length t → get_or t region 0 ≡ was → get_or lowest was 0 ≢ region → AreAlmost (set t region class) region lowest
+lowest_regions_kept_almost t lowest region was class low within is ne k lt =
+    unchanged_lowest_region_is_almost t region class k (get_or lowest k 0) (low k lt)
+    (λ e. ne (ap (λ i. get_or lowest i 0) (sym (class_whose_lowest_region_changed t lowest region was k (low k lt) within is e)) ∙ e))
 
-pub next_all : (t lowest : List ℕ) (region was class next : ℕ) → AreLowest t lowest → region < length t → get_or t region 0 ≡ was → was < 256 → length lowest ≡ 256 → get_or lowest was 0 ≡ region → IsLowest (set t region class) was region next → AreAlmost (set t region class) region (set lowest was next)
-next_all t lowest region was class next low within is few sized at found k lt =
+pub lowest_regions_almost_after_search : (t lowest : List ℕ) (region was class next : ℕ) → AreLowest t lowest → region < length t → get_or t region 0 ≡ was → was < 256 → length lowest ≡ 256 → get_or lowest was 0 ≡ region → IsLowest (set t region class) was region next → AreAlmost (set t region class) region (set lowest was next)
+lowest_regions_almost_after_search t lowest region was class next low within is few sized at found k lt =
     elim (cases_eq k was) [
-      | inl same ↦ rw (same, get_or-set_same lowest was next 0 (omega (arith, few, sized))) (almost_next t region class was next (subst (λ n. IsLowest t was 0 n) at (low was few)) found)
-      | inr other ↦ rw (get_or-set_other lowest was k next 0 other) (almost_kept t region class k (get_or lowest k 0) (low k lt) (λ e. other (had t lowest region was k (low k lt) within is e)))
+      | inl same ↦ rw (same, get_or-set_same lowest was next 0 (omega (arith, few, sized))) (next_lowest_region_is_almost t region class was next (subst (λ n. IsLowest t was 0 n) at (low was few)) found)
+      | inr other ↦ rw (get_or-set_other lowest was k next 0 other) (unchanged_lowest_region_is_almost t region class k (get_or lowest k 0) (low k lt) (λ e. other (class_whose_lowest_region_changed t lowest region was k (low k lt) within is e)))
     ]
 
-pub lower_all : (t lowest : List ℕ) (region class : ℕ) → AreAlmost (set t region class) region lowest → region < length t → class < 256 → length lowest ≡ 256 → region < get_or lowest class 0 → AreLowest (set t region class) (set lowest class region)
-lower_all t lowest region class almost within few sized under k lt =
+pub changed_region_becomes_lowest : (t lowest : List ℕ) (region class : ℕ) → AreAlmost (set t region class) region lowest → region < length t → class < 256 → length lowest ≡ 256 → region < get_or lowest class 0 → AreLowest (set t region class) (set lowest class region)
+changed_region_becomes_lowest t lowest region class almost within few sized under k lt =
     let here = get_or-set_same t region class 0 within in
     elim (cases_eq k class) [
-      | inl same ↦ rw (same, get_or-set_same lowest class region 0 (omega (arith, few, sized))) (lower (set t region class) region class (get_or lowest class 0) (almost class few) under here)
-      | inr other ↦ rw (get_or-set_other lowest class k region 0 other) (exact (set t region class) region k (get_or lowest k 0) (almost k lt) (λ e. other (sym e ∙ here)))
+      | inl same ↦ rw (same, get_or-set_same lowest class region 0 (omega (arith, few, sized))) (changed_region_is_new_lowest (set t region class) region class (get_or lowest class 0) (almost class few) under here)
+      | inr other ↦ rw (get_or-set_other lowest class k region 0 other) (lowest_when_region_of_other_class (set t region class) region k (get_or lowest k 0) (almost k lt) (λ e. other (sym e ∙ here)))
     ]
 
-pub stays_all : (t lowest : List ℕ) (region class : ℕ) → AreAlmost (set t region class) region lowest → region < length t → get_or lowest class 0 ≤ region → AreLowest (set t region class) lowest
-stays_all t lowest region class almost within over k lt =
+pub lowest_regions_stay_after_change : (t lowest : List ℕ) (region class : ℕ) → AreAlmost (set t region class) region lowest → region < length t → get_or lowest class 0 ≤ region → AreLowest (set t region class) lowest
+lowest_regions_stay_after_change t lowest region class almost within over k lt =
     let here = get_or-set_same t region class 0 within in
     elim (cases_eq k class) [
-      | inl same ↦ stays (set t region class) region k (get_or lowest k 0) (almost k lt) (rw same over)
-      | inr other ↦ exact (set t region class) region k (get_or lowest k 0) (almost k lt) (λ e. other (sym e ∙ here))
+      | inl same ↦ lowest_stays_below_changed_region (set t region class) region k (get_or lowest k 0) (almost k lt) (rw same over)
+      | inr other ↦ lowest_when_region_of_other_class (set t region class) region k (get_or lowest k 0) (almost k lt) (λ e. other (sym e ∙ here))
     ]
 
 -- ---- a new table
 
-pub none_length : (count : ℕ) → length (replicate {A = ℕ} count 0) ≡ count
-none_length count = length-replicate {A = ℕ} count 0
+pub length_of_zero_classes : (count : ℕ) → length (replicate {A = ℕ} count 0) ≡ count
+length_of_zero_classes count = length-replicate {A = ℕ} count 0
 
-none_at : (count j : ℕ) → j < count → get_or (replicate {A = ℕ} count 0) j 0 ≡ 0
-none_at count j lt = get_or-replicate {A = ℕ} count j 0 0 lt
+zero_class_at_each_place : (count j : ℕ) → j < count → get_or (replicate {A = ℕ} count 0) j 0 ≡ 0
+zero_class_at_each_place count j lt = get_or-replicate {A = ℕ} count j 0 0 lt
 
 -- class 0 has each region, the others have none
-pub opened : (count : ℕ) → AreLowest (replicate count 0) (set (replicate 256 count) 0 0)
-opened count k lt =
+pub opened_table_has_lowest_regions : (count : ℕ) → AreLowest (replicate count 0) (set (replicate 256 count) 0 0)
+opened_table_has_lowest_regions count k lt =
     elim (cases_eq k 0) [
       | inl same ↦ rw (same, get_or-set_same (replicate 256 count) 0 0 0 (omega arith)) (record {
         low = omega arith;
         high = omega arith;
         before = λ j _ l e. absurd (omega (arith, l));
-        there = λ l. none_at count 0 (omega (arith, l, none_length count));
+        there = λ l. zero_class_at_each_place count 0 (omega (arith, l, length_of_zero_classes count));
       })
       | inr other ↦ rw (get_or-set_other (replicate 256 count) 0 k 0 0 other, get_or-replicate 256 k count 0 lt) (record {
         low = omega arith;
-        high = omega (arith, none_length count);
-        before = λ j _ l e. other (sym e ∙ none_at count j l);
-        there = λ l. absurd (omega (arith, l, none_length count));
+        high = omega (arith, length_of_zero_classes count);
+        before = λ j _ l e. other (sym e ∙ zero_class_at_each_place count j l);
+        there = λ l. absurd (omega (arith, l, length_of_zero_classes count));
       })
     ]
 
-pub few_set : (t : List ℕ) (region class : ℕ) → length t ≤ region_limit → length (set t region class) ≤ region_limit
-few_set t region class few = omega (arith, few, length-set t region class)
+pub class_table_stays_short : (t : List ℕ) (region class : ℕ) → length t ≤ region_limit → length (set t region class) ≤ region_limit
+class_table_stays_short t region class few = omega (arith, few, length-set t region class)

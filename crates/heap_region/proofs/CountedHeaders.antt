@@ -10,12 +10,12 @@ use Rattle.heap_region.specs.declared.counts.Counts.{Counts}
 
 -- ---- a header is written
 
-set_count : (q : Option Header → Bool) (hs : List (Option Header)) (cell : ℕ) (x : Option Header) → cell < length hs → count_by q (set hs cell x) + one_if (q (get_or hs cell None)) ≡ count_by q hs + one_if (q x)
-set_count q hs cell x lt = sum_by-set (λ x. cond (q x) 1 0) hs cell x None lt
+header_count_after_set : (q : Option Header → Bool) (hs : List (Option Header)) (cell : ℕ) (x : Option Header) → cell < length hs → count_by q (set hs cell x) + one_if (q (get_or hs cell None)) ≡ count_by q hs + one_if (q x)
+header_count_after_set q hs cell x lt = sum_by-set (λ x. cond (q x) 1 0) hs cell x None lt
 
 -- a header that is there is counted
-has_one : (q : Option Header → Bool) (hs : List (Option Header)) (cell : ℕ) → cell < length hs → q None ≡ false → one_if (q (get_or hs cell None)) ≤ count_by q hs
-has_one q hs cell lt none = omega (arith, set_count q hs cell None lt, ap one_if none)
+counted_header_is_at_least_one : (q : Option Header → Bool) (hs : List (Option Header)) (cell : ℕ) → cell < length hs → q None ≡ false → one_if (q (get_or hs cell None)) ≤ count_by q hs
+counted_header_is_at_least_one q hs cell lt none = omega (arith, header_count_after_set q hs cell None lt, ap one_if none)
 
 -- each count is at most 256
 pub record AreFew (c : Counts) : Type 0 where
@@ -23,8 +23,8 @@ pub record AreFew (c : Counts) : Type 0 where
   pub unmarked : c.unmarked ≤ 256
   pub dead : c.dead ≤ 256
 
-pub counted_few : (hs : List (Option Header)) (c : Counts) → IsCounted hs c → AreFew c
-counted_few hs c is = record {
+pub counts_of_headers_are_few : (hs : List (Option Header)) (c : Counts) → IsCounted hs c → AreFew c
+counts_of_headers_are_few hs c is = record {
   objects = omega (arith, is.objects, is.few, count_by-le-length is_some hs);
   unmarked = omega (arith, is.unmarked, is.few, count_by-le-length header_unmarked hs);
   dead = omega (arith, is.dead, is.few, count_by-le-length header_dead hs);
@@ -36,11 +36,11 @@ pub record AreMore (c : Counts) (was : Option Header) : Type 0 where
   pub unmarked : one_if (header_unmarked was) ≤ c.unmarked
   pub dead : one_if (header_dead was) ≤ c.dead
 
-pub counted_here : (hs : List (Option Header)) (c : Counts) (cell : ℕ) (was : Option Header) → cell < length hs → was ≡ get_or hs cell None → IsCounted hs c → AreMore c was
-counted_here hs c cell was lt is counted = rw is (record {
-  objects = omega (arith, counted.objects, has_one is_some hs cell lt refl);
-  unmarked = omega (arith, counted.unmarked, has_one header_unmarked hs cell lt refl);
-  dead = omega (arith, counted.dead, has_one header_dead hs cell lt refl);
+pub counts_include_this_header : (hs : List (Option Header)) (c : Counts) (cell : ℕ) (was : Option Header) → cell < length hs → was ≡ get_or hs cell None → IsCounted hs c → AreMore c was
+counts_include_this_header hs c cell was lt is counted = rw is (record {
+  objects = omega (arith, counted.objects, counted_header_is_at_least_one is_some hs cell lt refl);
+  unmarked = omega (arith, counted.unmarked, counted_header_is_at_least_one header_unmarked hs cell lt refl);
+  dead = omega (arith, counted.dead, counted_header_is_at_least_one header_dead hs cell lt refl);
 })
 
 -- the counts d are the counts c without the old header and with the new one
@@ -49,24 +49,24 @@ pub record Differ (c d : Counts) (old new : Option Header) : Type 0 where
   pub unmarked : d.unmarked + one_if (header_unmarked old) ≡ c.unmarked + one_if (header_unmarked new)
   pub dead : d.dead + one_if (header_dead old) ≡ c.dead + one_if (header_dead new)
 
-pub counted_set : (hs : List (Option Header)) (c d : Counts) (cell : ℕ) (was x : Option Header) → cell < length hs → was ≡ get_or hs cell None → IsCounted hs c → Differ c d was x → IsCounted (set hs cell x) d
-counted_set hs c d cell was x lt is counted differ =
+pub counts_after_header_set : (hs : List (Option Header)) (c d : Counts) (cell : ℕ) (was x : Option Header) → cell < length hs → was ≡ get_or hs cell None → IsCounted hs c → Differ c d was x → IsCounted (set hs cell x) d
+counts_after_header_set hs c d cell was x lt is counted differ =
     let differ = rw is at differ in
     record {
-      objects = omega (arith, set_count is_some hs cell x lt, counted.objects, differ.objects);
-      unmarked = omega (arith, set_count header_unmarked hs cell x lt, counted.unmarked, differ.unmarked);
-      dead = omega (arith, set_count header_dead hs cell x lt, counted.dead, differ.dead);
+      objects = omega (arith, header_count_after_set is_some hs cell x lt, counted.objects, differ.objects);
+      unmarked = omega (arith, header_count_after_set header_unmarked hs cell x lt, counted.unmarked, differ.unmarked);
+      dead = omega (arith, header_count_after_set header_dead hs cell x lt, counted.dead, differ.dead);
       few = omega (arith, counted.few, length-set hs cell x);
     }
 
 -- ---- a turn
 
 -- a count of all, where the cells are told one by one
-alike : (p q : Option Header → Bool) (f : Header → Header) → p None ≡ q None → ((h : Header) → p (Some (f h)) ≡ q (Some h)) → (hs : List (Option Header)) → count_by p (map (option_map f) hs) ≡ count_by q hs
-alike p q f none is [] = refl
-alike p q f none is (x ∷ hs) =
+mapped_headers_have_equal_counts : (p q : Option Header → Bool) (f : Header → Header) → p None ≡ q None → ((h : Header) → p (Some (f h)) ≡ q (Some h)) → (hs : List (Option Header)) → count_by p (map (option_map f) hs) ≡ count_by q hs
+mapped_headers_have_equal_counts p q f none is [] = refl
+mapped_headers_have_equal_counts p q f none is (x ∷ hs) =
     sum_by-cons (λ (x : Option Header). cond (p x) 1 0) (option_map f x) (map (option_map f) hs)
-    ∙ (ap₂ (λ (b : Bool) (n : ℕ). cond b 1 0 + n) (go x) (alike p q f none is hs)
+    ∙ (ap₂ (λ (b : Bool) (n : ℕ). cond b 1 0 + n) (go x) (mapped_headers_have_equal_counts p q f none is hs)
     ∙ sym (sum_by-cons (λ (x : Option Header). cond (q x) 1 0) x hs))
   where
     go : (x : Option Header) → p (option_map f x) ≡ q x
@@ -74,13 +74,13 @@ alike p q f none is (x ∷ hs) =
     go (Some h) = is h
 
 -- those of which the test holds and those of which it doesn't are all
-split : (p q : Option Header → Bool) → p None ≡ false → q None ≡ false → ((h : Header) → p (Some h) ≡ not (q (Some h))) → (hs : List (Option Header)) → count_by p hs + count_by q hs ≡ count_by is_some hs
-split p q no_p no_q is [] = refl
-split p q no_p no_q is (x ∷ hs) =
+passing_and_failing_make_all : (p q : Option Header → Bool) → p None ≡ false → q None ≡ false → ((h : Header) → p (Some h) ≡ not (q (Some h))) → (hs : List (Option Header)) → count_by p hs + count_by q hs ≡ count_by is_some hs
+passing_and_failing_make_all p q no_p no_q is [] = refl
+passing_and_failing_make_all p q no_p no_q is (x ∷ hs) =
     let of_p = sum_by-cons (λ (x : Option Header). cond (p x) 1 0) x hs in
     let of_q = sum_by-cons (λ (x : Option Header). cond (q x) 1 0) x hs in
     let of_all = sum_by-cons (λ (x : Option Header). cond (is_some x) 1 0) x hs in
-    omega (arith, of_p, of_q, of_all, split p q no_p no_q is hs, go x)
+    omega (arith, of_p, of_q, of_all, passing_and_failing_make_all p q no_p no_q is hs, go x)
   where
     both : (b c : Bool) → b ≡ not c → one_if b + one_if c ≡ 1
     both true true e = cc
@@ -96,47 +96,47 @@ abbrev is_marked : Option Header → Bool
 is_marked None = false
 is_marked (Some h) = h.mark
 
-twice : (b : Bool) → b ≡ not (not b)
-twice true = refl
-twice false = refl
+not_not_is_itself : (b : Bool) → b ≡ not (not b)
+not_not_is_itself true = refl
+not_not_is_itself false = refl
 
 pub dead_among : (hs : List (Option Header)) (c : Counts) → IsCounted hs c → c.dead ≤ c.objects
-dead_among hs c is = omega (arith, is.dead, is.objects, split header_live header_dead refl refl (λ h. twice h.live) hs)
+dead_among hs c is = omega (arith, is.dead, is.objects, passing_and_failing_make_all header_live header_dead refl refl (λ h. not_not_is_itself h.live) hs)
 
 pub live_among : (hs : List (Option Header)) (c : Counts) → IsCounted hs c → count_by header_live hs + c.dead ≡ c.objects
-live_among hs c is = omega (arith, is.dead, is.objects, split header_live header_dead refl refl (λ h. twice h.live) hs)
+live_among hs c is = omega (arith, is.dead, is.objects, passing_and_failing_make_all header_live header_dead refl refl (λ h. not_not_is_itself h.live) hs)
 
 pub unmarked_among : (hs : List (Option Header)) (c : Counts) → IsCounted hs c → c.unmarked ≤ c.objects
-unmarked_among hs c is = omega (arith, is.unmarked, is.objects, split is_marked header_unmarked refl refl (λ h. twice h.mark) hs)
+unmarked_among hs c is = omega (arith, is.unmarked, is.objects, passing_and_failing_make_all is_marked header_unmarked refl refl (λ h. not_not_is_itself h.mark) hs)
 
-pub counted_turned : (hs : List (Option Header)) (c d : Counts) → IsCounted hs c → d.objects ≡ c.objects → d.unmarked + c.dead ≡ c.objects → d.dead ≡ c.unmarked → IsCounted (map (option_map turned_header) hs) d
-counted_turned hs c d is objects unmarked dead = record {
-  objects = omega (arith, alike is_some is_some turned_header refl (λ h. refl) hs, objects, is.objects);
-  unmarked = omega (arith, alike header_unmarked header_live turned_header refl (λ h. sym (twice h.live)) hs, split header_live header_dead refl refl (λ h. twice h.live) hs, unmarked, is.dead, is.objects);
-  dead = omega (arith, alike header_dead header_unmarked turned_header refl (λ h. refl) hs, dead, is.unmarked);
+pub counts_of_turned_headers : (hs : List (Option Header)) (c d : Counts) → IsCounted hs c → d.objects ≡ c.objects → d.unmarked + c.dead ≡ c.objects → d.dead ≡ c.unmarked → IsCounted (map (option_map turned_header) hs) d
+counts_of_turned_headers hs c d is objects unmarked dead = record {
+  objects = omega (arith, mapped_headers_have_equal_counts is_some is_some turned_header refl (λ h. refl) hs, objects, is.objects);
+  unmarked = omega (arith, mapped_headers_have_equal_counts header_unmarked header_live turned_header refl (λ h. sym (not_not_is_itself h.live)) hs, passing_and_failing_make_all header_live header_dead refl refl (λ h. not_not_is_itself h.live) hs, unmarked, is.dead, is.objects);
+  dead = omega (arith, mapped_headers_have_equal_counts header_dead header_unmarked turned_header refl (λ h. refl) hs, dead, is.unmarked);
   few = omega (arith, is.few, length-map hs (option_map turned_header));
 }
 
 pub counted_turned_back : (hs : List (Option Header)) (c d : Counts) → IsCounted hs c → d.objects ≡ c.objects → d.unmarked ≡ c.dead → d.dead + c.unmarked ≡ c.objects → IsCounted (map (option_map turned_back_header) hs) d
 counted_turned_back hs c d is objects unmarked dead = record {
-  objects = omega (arith, alike is_some is_some turned_back_header refl (λ h. refl) hs, objects, is.objects);
-  unmarked = omega (arith, alike header_unmarked header_dead turned_back_header refl (λ h. refl) hs, unmarked, is.dead);
-  dead = omega (arith, alike header_dead is_marked turned_back_header refl (λ h. sym (twice h.mark)) hs, split is_marked header_unmarked refl refl (λ h. twice h.mark) hs, dead, is.unmarked, is.objects);
+  objects = omega (arith, mapped_headers_have_equal_counts is_some is_some turned_back_header refl (λ h. refl) hs, objects, is.objects);
+  unmarked = omega (arith, mapped_headers_have_equal_counts header_unmarked header_dead turned_back_header refl (λ h. refl) hs, unmarked, is.dead);
+  dead = omega (arith, mapped_headers_have_equal_counts header_dead is_marked turned_back_header refl (λ h. sym (not_not_is_itself h.mark)) hs, passing_and_failing_make_all is_marked header_unmarked refl refl (λ h. not_not_is_itself h.mark) hs, dead, is.unmarked, is.objects);
   few = omega (arith, is.few, length-map hs (option_map turned_back_header));
 }
 
 -- ---- free cells
 
-none_among : (q : Option Header → Bool) → q None ≡ false → (n : ℕ) → count_by q (replicate n None) ≡ 0
-none_among q none zero = refl
-none_among q none (suc n) =
+no_header_counted_in_blank : (q : Option Header → Bool) → q None ≡ false → (n : ℕ) → count_by q (replicate n None) ≡ 0
+no_header_counted_in_blank q none zero = refl
+no_header_counted_in_blank q none (suc n) =
     let first = sum_by-cons (λ (x : Option Header). cond (q x) 1 0) None (replicate n None) in
-    omega (arith, first, ap one_if none, none_among q none n)
+    omega (arith, first, ap one_if none, no_header_counted_in_blank q none n)
 
 pub vacant_counted : (n : ℕ) (c : Counts) → IsCounted [] c → n ≤ 256 → IsCounted (replicate n None) c
 vacant_counted n c is few = record {
-  objects = is.objects ∙ sym (none_among is_some refl n);
-  unmarked = is.unmarked ∙ sym (none_among header_unmarked refl n);
-  dead = is.dead ∙ sym (none_among header_dead refl n);
+  objects = is.objects ∙ sym (no_header_counted_in_blank is_some refl n);
+  unmarked = is.unmarked ∙ sym (no_header_counted_in_blank header_unmarked refl n);
+  dead = is.dead ∙ sym (no_header_counted_in_blank header_dead refl n);
   few = omega (arith, few, length-replicate {A = Option Header} n None);
 }

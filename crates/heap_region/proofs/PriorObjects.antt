@@ -5,16 +5,16 @@ use Rattle.std.specs.Prelude.{slice_get, option_map}
 use Rattle.heap_class.specs.declared.ObjRef.{ObjRef}
 use Rattle.heap_region.specs.Regions.{Object, UsedRegion, Region, Empty, InUse, used_at, object_at, updated, in_used, with_region, with_object}
 use Rattle.heap_region.proofs.UpdatedLists.{updated_elsewhere, updated_there}
-use Rattle.heap_region.proofs.Lookups.{object_elsewhere, object_there, used_elsewhere, used_there}
+use Rattle.heap_region.proofs.Lookups.{object_elsewhere, object_after_its_change, used_region_after_other_change, used_region_after_its_change}
 use Rattle.heap_region.proofs.ChangedLookups.{same_or_not}
 
-some_map : {A : Type 0} (f : A → A) (p : Option A) (y : A) → option_map f p ≡ Some y → (x : A) × (p ≡ Some x) × (y ≡ f x)
-some_map f None y h = cc
-some_map f (Some x) y h = (x, refl, cc)
+option_before_a_map : {A : Type 0} (f : A → A) (p : Option A) (y : A) → option_map f p ≡ Some y → (x : A) × (p ≡ Some x) × (y ≡ f x)
+option_before_a_map f None y h = cc
+option_before_a_map f (Some x) y h = (x, refl, cc)
 
 -- two places are one or not
-pub same_place : (a b : ObjRef) → (a ≡ b) ⊎ (a ≢ b)
-same_place a b = go (same_or_not a.region b.region) (same_or_not a.cell b.cell)
+pub places_equal_or_different : (a b : ObjRef) → (a ≡ b) ⊎ (a ≢ b)
+places_equal_or_different a b = go (same_or_not a.region b.region) (same_or_not a.cell b.cell)
   where
     go : (a.region ≡ b.region) ⊎ (a.region ≢ b.region) → (a.cell ≡ b.cell) ⊎ (a.cell ≢ b.cell) → (a ≡ b) ⊎ (a ≢ b)
     go (inl p) (inl q) = inl (λ i. record { region = p i; cell = q i })
@@ -28,17 +28,17 @@ used_was_region f rs a r v h = go (same_or_not r a)
   where
     go : (r ≡ a) ⊎ (r ≢ a) → (u : UsedRegion) × (used_at rs r ≡ Some u) × (((r ≡ a) × (v ≡ f u)) ⊎ ((r ≢ a) × (v ≡ u)))
     go (inl e) =
-        let p = some_map f (used_at rs a) v (sym (used_there a f rs) ∙ ap (used_at (with_region a f rs)) (sym e) ∙ h) in
+        let p = option_before_a_map f (used_at rs a) v (sym (used_region_after_its_change a f rs) ∙ ap (used_at (with_region a f rs)) (sym e) ∙ h) in
         (p.0, ap (used_at rs) e ∙ p.1, inl (e, p.2))
-    go (inr n) = (v, sym (used_elsewhere a r f rs (λ q. n (sym q))) ∙ h, inr (n, refl))
+    go (inr n) = (v, sym (used_region_after_other_change a r f rs (λ q. n (sym q))) ∙ h, inr (n, refl))
 
 pub object_was : (f : Object → Object) (rs : List Region) (at b : ObjRef) (o' : Object) → object_at (with_object at f rs) b ≡ Some o'
     → (o : Object) × (object_at rs b ≡ Some o) × (((b ≡ at) × (o' ≡ f o)) ⊎ ((b ≢ at) × (o' ≡ o)))
-object_was f rs at b o' h = go (same_place b at)
+object_was f rs at b o' h = go (places_equal_or_different b at)
   where
     go : (b ≡ at) ⊎ (b ≢ at) → (o : Object) × (object_at rs b ≡ Some o) × (((b ≡ at) × (o' ≡ f o)) ⊎ ((b ≢ at) × (o' ≡ o)))
     go (inl e) =
-        let p = some_map f (object_at rs at) o' (sym (object_there at f rs) ∙ ap (object_at (with_object at f rs)) (sym e) ∙ h) in
+        let p = option_before_a_map f (object_at rs at) o' (sym (object_after_its_change at f rs) ∙ ap (object_at (with_object at f rs)) (sym e) ∙ h) in
         (p.0, ap (object_at rs) e ∙ p.1, inl (e, p.2))
     go (inr n) = (o', sym (object_elsewhere at b f rs (λ q. n (sym q))) ∙ h, inr (n, refl))
 
@@ -51,8 +51,8 @@ part_with_region Q f keep rs a r h = go (same_or_not r a)
     over (Some u) q = keep u q
 
     go : (r ≡ a) ⊎ (r ≢ a) → IfSome (used_at (with_region a f rs) r) Q
-    go (inl e) = subst (λ k. IfSome (used_at (with_region a f rs) k) Q) (sym e) (subst (λ p. IfSome p Q) (sym (used_there a f rs)) (over (used_at rs a) (subst (λ k. IfSome (used_at rs k) Q) e h)))
-    go (inr n) = subst (λ p. IfSome p Q) (sym (used_elsewhere a r f rs (λ q. n (sym q)))) h
+    go (inl e) = subst (λ k. IfSome (used_at (with_region a f rs) k) Q) (sym e) (subst (λ p. IfSome p Q) (sym (used_region_after_its_change a f rs)) (over (used_at rs a) (subst (λ k. IfSome (used_at rs k) Q) e h)))
+    go (inr n) = subst (λ p. IfSome p Q) (sym (used_region_after_other_change a r f rs (λ q. n (sym q)))) h
 
 pub part_with_object : (Q : UsedRegion → Type 0) → ((u : UsedRegion) (cs : List (Option Object)) → Q u → Q (record u { cells = cs })) → (f : Object → Object) (rs : List Region) (at : ObjRef) (r : ℕ) → IfSome (used_at rs r) Q → IfSome (used_at (with_object at f rs) r) Q
 unfolding with_object

@@ -9,29 +9,29 @@ use Rattle.heap_region.specs.Pool.{RegionPool, taken, freed, released, restored,
 use Rattle.heap_region.specs.Layout.{words_of, changed_at, cell_filled, pending_set}
 use Rattle.heap_region.specs.Live.{cells_of}
 use Rattle.heap_region.specs.Table.{shown_region}
-use Rattle.heap_region.proofs.Tables.{used_of_object}
+use Rattle.heap_region.proofs.Tables.{slot_of_object_is_used}
 
 -- an item of a list, by either word
-pub get_joined : {X : Type 0} (xs : List (Option X)) (i : ℕ) → option_and_then (λ (x : Option X). x) (slice_get xs i) ≡ get_or xs i None
-get_joined [] i = refl
-get_joined (x ∷ xs) zero = refl
-get_joined (x ∷ xs) (suc i) = get_joined xs i
+pub joined_option_is_get_or : {X : Type 0} (xs : List (Option X)) (i : ℕ) → option_and_then (λ (x : Option X). x) (slice_get xs i) ≡ get_or xs i None
+joined_option_is_get_or [] i = refl
+joined_option_is_get_or (x ∷ xs) zero = refl
+joined_option_is_get_or (x ∷ xs) (suc i) = joined_option_is_get_or xs i
 
-pub get_shown : (slots : List (Option UsedRegion)) (r : ℕ) → slice_get (map shown_region slots) r ≡ option_map shown_region (slice_get slots r)
-get_shown [] r = refl
-get_shown (s ∷ slots) zero = refl
-get_shown (s ∷ slots) (suc r) = get_shown slots r
+pub shown_region_at_slot : (slots : List (Option UsedRegion)) (r : ℕ) → slice_get (map shown_region slots) r ≡ option_map shown_region (slice_get slots r)
+shown_region_at_slot [] r = refl
+shown_region_at_slot (s ∷ slots) zero = refl
+shown_region_at_slot (s ∷ slots) (suc r) = shown_region_at_slot slots r
 
-part_shown : (s : Option UsedRegion) → used_part (shown_region s) ≡ s
-part_shown None = refl
-part_shown (Some u) = refl
+used_part_of_shown_region : (s : Option UsedRegion) → used_part (shown_region s) ≡ s
+used_part_of_shown_region None = refl
+used_part_of_shown_region (Some u) = refl
 
 -- a region in use
-pub used_shown : (slots : List (Option UsedRegion)) (r : ℕ) → used_at (map shown_region slots) r ≡ get_or slots r None
+pub used_region_is_slot : (slots : List (Option UsedRegion)) (r : ℕ) → used_at (map shown_region slots) r ≡ get_or slots r None
 unfolding used_at
-used_shown [] r = refl
-used_shown (s ∷ slots) zero = part_shown s
-used_shown (s ∷ slots) (suc r) = used_shown slots r
+used_region_is_slot [] r = refl
+used_region_is_slot (s ∷ slots) zero = used_part_of_shown_region s
+used_region_is_slot (s ∷ slots) (suc r) = used_region_is_slot slots r
 
 -- an object of a region that is in use or not
 pub object_of_used : (regions : List Region) (at : ObjRef) → object_at regions at ≡ slot_object (used_at regions at.region) at.cell
@@ -40,10 +40,10 @@ object_of_used regions at = go (used_at regions at.region)
   where
     go : (s : Option UsedRegion) → option_and_then (λ (u : UsedRegion). option_and_then (λ (o : Option Object). o) (slice_get u.cells at.cell)) s ≡ slot_object s at.cell
     go None = refl
-    go (Some u) = get_joined u.cells at.cell
+    go (Some u) = joined_option_is_get_or u.cells at.cell
 
 pub object_shown : (slots : List (Option UsedRegion)) (at : ObjRef) → object_at (map shown_region slots) at ≡ slot_object (get_or slots at.region None) at.cell
-object_shown slots at = object_of_used (map shown_region slots) at ∙ ap (λ s. slot_object s at.cell) (used_shown slots at.region)
+object_shown slots at = object_of_used (map shown_region slots) at ∙ ap (λ s. slot_object s at.cell) (used_region_is_slot slots at.region)
 
 -- an object of a region that is known
 pub object_here : (regions : List Region) (at : ObjRef) (u : UsedRegion) → used_at regions at.region ≡ Some u → object_at regions at ≡ cell_object u at.cell
@@ -51,19 +51,19 @@ object_here regions at u used = object_of_used regions at ∙ ap (λ s. slot_obj
 
 -- a region with an object is in use
 pub used_by_object : (regions : List Region) (at : ObjRef) → IsSome (object_at regions at) → IsSome (used_at regions at.region)
-used_by_object regions at some = used_of_object (used_at regions at.region) at.cell (subst IsSome (object_of_used regions at) some)
+used_by_object regions at some = slot_of_object_is_used (used_at regions at.region) at.cell (subst IsSome (object_of_used regions at) some)
 
 -- a region that is changed
-in_shown : (f : UsedRegion → UsedRegion) (s : Option UsedRegion) → in_used f (shown_region s) ≡ shown_region (option_map f s)
+change_of_shown_region : (f : UsedRegion → UsedRegion) (s : Option UsedRegion) → in_used f (shown_region s) ≡ shown_region (option_map f s)
 unfolding in_used
-in_shown f None = refl
-in_shown f (Some u) = refl
+change_of_shown_region f None = refl
+change_of_shown_region f (Some u) = refl
 
-pub with_shown : (slots : List (Option UsedRegion)) (r : ℕ) (f : UsedRegion → UsedRegion) → with_region r f (map shown_region slots) ≡ map shown_region (set slots r (option_map f (get_or slots r None)))
+pub shown_regions_with_one_changed : (slots : List (Option UsedRegion)) (r : ℕ) (f : UsedRegion → UsedRegion) → with_region r f (map shown_region slots) ≡ map shown_region (set slots r (option_map f (get_or slots r None)))
 unfolding with_region updated
-with_shown [] r f = refl
-with_shown (s ∷ slots) zero f = ap (λ x. x ∷ map shown_region slots) (in_shown f s)
-with_shown (s ∷ slots) (suc r) f = ap (λ xs. shown_region s ∷ xs) (with_shown slots r f)
+shown_regions_with_one_changed [] r f = refl
+shown_regions_with_one_changed (s ∷ slots) zero f = ap (λ x. x ∷ map shown_region slots) (change_of_shown_region f s)
+shown_regions_with_one_changed (s ∷ slots) (suc r) f = ap (λ xs. shown_region s ∷ xs) (shown_regions_with_one_changed slots r f)
 
 -- a cell that is changed
 pub updated_cells : (cell : ℕ) (f : Object → Object) (cells : List (Option Object)) → updated cell (option_map f) cells ≡ set cells cell (option_map f (get_or cells cell None))
@@ -73,8 +73,8 @@ updated_cells zero f (x ∷ cells) = refl
 updated_cells (suc cell) f (x ∷ cells) = ap (λ xs. x ∷ xs) (updated_cells cell f cells)
 
 -- no region in use, no object
-pub none_unused : (regions : List Region) (at : ObjRef) → used_at regions at.region ≡ None → object_at regions at ≡ None
-none_unused regions at unused = object_of_used regions at ∙ ap (λ s. slot_object s at.cell) unused
+pub unused_region_has_no_object : (regions : List Region) (at : ObjRef) → used_at regions at.region ≡ None → object_at regions at ≡ None
+unused_region_has_no_object regions at unused = object_of_used regions at ∙ ap (λ s. slot_object s at.cell) unused
 
 -- the cells of a region that is known
 pub cells_here : (regions : List Region) (r : ℕ) (u : UsedRegion) → used_at regions r ≡ Some u → cells_of (used_at regions r) ≡ u.cells
@@ -82,9 +82,9 @@ cells_here regions r u used = ap cells_of used
 
 -- ---- an object that is known to be there
 
-pub length_known : (o : Option Object) (n : ℕ) → n ≡ length (words_of o) → IfSome o (λ o. n ≡ length o.words)
-length_known None n e = tt
-length_known (Some o) n e = e
+pub length_of_known_words : (o : Option Object) (n : ℕ) → n ≡ length (words_of o) → IfSome o (λ o. n ≡ length o.words)
+length_of_known_words None n e = tt
+length_of_known_words (Some o) n e = e
 
 pub slot_known : (o : Option Object) (slot : ℕ) → IsSome o → IfSome o (λ o. slot < length o.words) → slot < length (words_of o)
 slot_known None slot some lt = absurd (cc)
@@ -95,17 +95,17 @@ word_known None slot w e = tt
 word_known (Some o) slot w e = e
 
 -- what a call finds of an object and of its region
-pub ruleset object_lookups = (used_by_object, object_here, length_known, slot_known, word_known)
+pub ruleset object_lookups = (used_by_object, object_here, length_of_known_words, slot_known, word_known)
 
 -- ---- a change of one region
 
-pub taken_shown : (slots : List (Option UsedRegion)) (pool : List ℕ) (at : ObjRef) (o : Object) → taken at o (record { regions = map shown_region slots; pool = pool }) ≡ record { regions = map shown_region (set slots at.region (option_map (λ u. cell_filled u at.cell o) (get_or slots at.region None))); pool = pool }
+pub shown_regions_with_taken_cell : (slots : List (Option UsedRegion)) (pool : List ℕ) (at : ObjRef) (o : Object) → taken at o (record { regions = map shown_region slots; pool = pool }) ≡ record { regions = map shown_region (set slots at.region (option_map (λ u. cell_filled u at.cell o) (get_or slots at.region None))); pool = pool }
 unfolding taken
-taken_shown slots pool at o = ap (λ (rs : List Region). let s : RegionPool = record { regions = rs; pool = pool } in s) (with_shown slots at.region (λ u. cell_filled u at.cell o))
+shown_regions_with_taken_cell slots pool at o = ap (λ (rs : List Region). let s : RegionPool = record { regions = rs; pool = pool } in s) (shown_regions_with_one_changed slots at.region (λ u. cell_filled u at.cell o))
 
 pub freed_shown : (slots : List (Option UsedRegion)) (pool : List ℕ) (at : ObjRef) → freed at (record { regions = map shown_region slots; pool = pool }) ≡ record { regions = map shown_region (set slots at.region (option_map (λ u. cell_freed u at.cell) (get_or slots at.region None))); pool = pool }
 unfolding freed
-freed_shown slots pool at = ap (λ (rs : List Region). let s : RegionPool = record { regions = rs; pool = pool } in s) (with_shown slots at.region (λ u. cell_freed u at.cell))
+freed_shown slots pool at = ap (λ (rs : List Region). let s : RegionPool = record { regions = rs; pool = pool } in s) (shown_regions_with_one_changed slots at.region (λ u. cell_freed u at.cell))
 
 pub released_shown : (slots : List (Option UsedRegion)) (pool : List ℕ) (r : ℕ) → released r (record { regions = map shown_region slots; pool = pool }) ≡ record { regions = map shown_region (set slots r None); pool = r ∷ pool }
 unfolding released
@@ -115,10 +115,10 @@ pub restored_shown : (slots : List (Option UsedRegion)) (pool : List ℕ) (r : �
 unfolding restored
 restored_shown slots pool r u = ap (λ (rs : List Region). let s : RegionPool = record { regions = rs; pool = drop 1 pool } in s) (sym (map-set shown_region slots r (Some u)))
 
-pub changed_shown : (slots : List (Option UsedRegion)) (at : ObjRef) (f : Object → Object) → with_object at f (map shown_region slots) ≡ map shown_region (set slots at.region (option_map (λ u. changed_at u at.cell f) (get_or slots at.region None)))
+pub shown_regions_with_changed_object : (slots : List (Option UsedRegion)) (at : ObjRef) (f : Object → Object) → with_object at f (map shown_region slots) ≡ map shown_region (set slots at.region (option_map (λ u. changed_at u at.cell f) (get_or slots at.region None)))
 unfolding with_object
-changed_shown slots at f =
-    with_shown slots at.region (λ u. record u { cells = updated at.cell (option_map f) u.cells })
+shown_regions_with_changed_object slots at f =
+    shown_regions_with_one_changed slots at.region (λ u. record u { cells = updated at.cell (option_map f) u.cells })
     ∙ ap (λ s. map shown_region (set slots at.region s)) (go (get_or slots at.region None))
   where
     go : (s : Option UsedRegion) → option_map {T = UsedRegion} (λ u. record u { cells = updated at.cell (option_map f) u.cells }) s ≡ option_map (λ u. changed_at u at.cell f) s
@@ -127,4 +127,4 @@ changed_shown slots at f =
 
 pub pending_shown : (slots : List (Option UsedRegion)) (r : ℕ) (pending : Bool) → with_pending pending r (map shown_region slots) ≡ map shown_region (set slots r (option_map (pending_set pending) (get_or slots r None)))
 unfolding with_pending
-pending_shown slots r pending = with_shown slots r (pending_set pending)
+pending_shown slots r pending = shown_regions_with_one_changed slots r (pending_set pending)

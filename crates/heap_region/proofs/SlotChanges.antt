@@ -8,8 +8,8 @@ use Rattle.heap_region.specs.Changes.{with_pending}
 use Rattle.heap_region.specs.Pool.{RegionPool, taken, freed, cell_freed}
 use Rattle.heap_region.specs.Layout.{IsWholeRegion, changed_at, cell_filled, pending_set}
 use Rattle.heap_region.specs.Table.{shown_region, free_class_of, IsRegionTable, IsGood}
-use Rattle.heap_region.proofs.ShownRegions.{used_shown, object_shown, taken_shown, freed_shown, changed_shown, pending_shown, with_shown}
-use Rattle.heap_region.proofs.Tables.{table_changed, table_kept, in_use_within, used_from, used_of_object, take_ready, taken_good, vacated_good, changed_good, mapped_some, room_kept, pending_kept}
+use Rattle.heap_region.proofs.ShownRegions.{used_region_is_slot, object_shown, shown_regions_with_taken_cell, freed_shown, shown_regions_with_changed_object, pending_shown, shown_regions_with_one_changed}
+use Rattle.heap_region.proofs.Tables.{table_changed, table_with_region_of_same_room, in_use_within, slot_with_property_is_used, slot_of_object_is_used, take_ready, good_region_with_taken_cell, good_region_with_freed_cell, good_region_with_changed_object, mapped_some, room_kept, pending_kept}
 
 -- the regions that these slots show, with their pool
 abbrev pub seen : List (Option UsedRegion) → List ℕ → RegionPool
@@ -17,12 +17,12 @@ seen slots pool = record { regions = map shown_region slots; pool = pool }
 
 -- the slot of a region in use
 pub slot_used : (slots : List (Option UsedRegion)) (r : ℕ) → IsSome (used_at (map shown_region slots) r) → (used_at (map shown_region slots) r ≡ get_or slots r None) × (r < length slots)
-slot_used slots r some = (used_shown slots r, in_use_within slots r (rw (used_shown slots r) at some))
+slot_used slots r some = (used_region_is_slot slots r, in_use_within slots r (rw (used_region_is_slot slots r) at some))
 
 -- the slot of an object's region
 pub slot_of_object : (slots : List (Option UsedRegion)) (at : ObjRef) → IsSome (object_at (map shown_region slots) at) → (object_at (map shown_region slots) at ≡ slot_object (get_or slots at.region None) at.cell) × IsSome (get_or slots at.region None) × (at.region < length slots)
 slot_of_object slots at some =
-    let used : IsSome (get_or slots at.region None) = used_of_object _ _ (rw (object_shown slots at) at some) in
+    let used : IsSome (get_or slots at.region None) = slot_of_object_is_used _ _ (rw (object_shown slots at) at some) in
     (object_shown slots at, used, in_use_within slots at.region used)
 
 -- each region has a free class
@@ -30,20 +30,20 @@ pub length_of_classes : (slots : List (Option UsedRegion)) → length (map free_
 length_of_classes slots = length-map slots free_class_of
 
 -- what is read of a place of the table, whatever stands for one that is missing
-pub place_read : {X : Type 0} (slots : List (Option X)) (r : ℕ) (s : Option X) → r < length slots → get_or slots r s ≡ get_or slots r None
-place_read [] r s lt = absurd (omega arith)
-place_read (x ∷ slots) zero s lt = refl
-place_read (x ∷ slots) (suc r) s lt = place_read slots r s (omega arith)
+pub place_read_with_any_default : {X : Type 0} (slots : List (Option X)) (r : ℕ) (s : Option X) → r < length slots → get_or slots r s ≡ get_or slots r None
+place_read_with_any_default [] r s lt = absurd (omega arith)
+place_read_with_any_default (x ∷ slots) zero s lt = refl
+place_read_with_any_default (x ∷ slots) (suc r) s lt = place_read_with_any_default slots r s (omega arith)
 
 -- what a call finds of the region that it changes
-pub ruleset used_slots = (slot_used, place_read, length_of_classes)
+pub ruleset used_slots = (slot_used, place_read_with_any_default, length_of_classes)
 
 -- and of one that an object is in
-pub ruleset object_slots = (slot_of_object, place_read, length_of_classes)
+pub ruleset object_slots = (slot_of_object, place_read_with_any_default, length_of_classes)
 
 -- the slot of a region that has come into view by a call, of a region in use
 pub changed_slot : (slots : List (Option UsedRegion)) (r : ℕ) (f : UsedRegion → UsedRegion) (found new : Option UsedRegion) → r < length slots → found ≡ get_or slots r found → new ≡ option_map f found → new ≡ option_map f (get_or slots r None)
-changed_slot slots r f found new lt read is = is ∙ ap (option_map f) (read ∙ place_read slots r found lt)
+changed_slot slots r f found new lt read is = is ∙ ap (option_map f) (read ∙ place_read_with_any_default slots r found lt)
 
 module _ (slots : List (Option UsedRegion)) (free_classes pool : List ℕ) (capacity : ℕ) (table : IsRegionTable slots free_classes pool capacity) (s : RegionPool) (view : seen slots pool ≡ s) where
   -- an object is changed in its place
@@ -53,8 +53,8 @@ module _ (slots : List (Option UsedRegion)) (free_classes pool : List ℕ) (capa
       let slot : (object_at (map shown_region slots) at ≡ slot_object old at.cell) × IsSome old × (at.region < length slots) = slot_of_object slots at (rw (← view) at there) in
       let now : new ≡ option_map (λ u. changed_at u at.cell f) old = changed_slot slots at.region (λ u. changed_at u at.cell f) found new slot.2 read is in
       let kept = room_kept old at.cell f slot.1 in (
-        rw now (table_kept slots free_classes pool capacity at.region _ table slot.1 kept.0 (changed_good old at.cell f (table.good at.region) (rw now at whole)) kept.1),
-        rw (← view, now) (ap (λ rs. let p : RegionPool = record { regions = rs; pool = pool } in p) (sym (changed_shown slots at f))),
+        rw now (table_with_region_of_same_room slots free_classes pool capacity at.region _ table slot.1 kept.0 (good_region_with_changed_object old at.cell f (table.good at.region) (rw now at whole)) kept.1),
+        rw (← view, now) (ap (λ rs. let p : RegionPool = record { regions = rs; pool = pool } in p) (sym (shown_regions_with_changed_object slots at f))),
       )
 
   -- the `pending` bit of a region is written
@@ -65,7 +65,7 @@ module _ (slots : List (Option UsedRegion)) (free_classes pool : List ℕ) (capa
       let used : IsSome old = rw (← view, slot.0) at some in
       let now : new ≡ option_map (pending_set pending) old = changed_slot slots r (pending_set pending) found new slot.1 read is in
       let kept = pending_kept old pending used (table.good r) in (
-        rw now (table_kept slots free_classes pool capacity r _ table used kept.0 kept.1 kept.2),
+        rw now (table_with_region_of_same_room slots free_classes pool capacity r _ table used kept.0 kept.1 kept.2),
         rw (← view, now) (ap (λ rs. let p : RegionPool = record { regions = rs; pool = pool } in p) (sym (pending_shown slots r pending))),
       )
 
@@ -77,15 +77,15 @@ module _ (slots : List (Option UsedRegion)) (free_classes pool : List ℕ) (capa
       let used : IsSome old = rw (← view, slot.0) at some in
       let now : new ≡ option_map f old = changed_slot slots r f found new slot.1 read is in
       let kept = keeps old used (table.good r) in (
-        rw now (table_kept slots free_classes pool capacity r _ table used kept.0 kept.1 kept.2),
-        rw (← view, now) (ap (λ rs. let p : RegionPool = record { regions = rs; pool = pool } in p) (sym (with_shown slots r f))),
+        rw now (table_with_region_of_same_room slots free_classes pool capacity r _ table used kept.0 kept.1 kept.2),
+        rw (← view, now) (ap (λ rs. let p : RegionPool = record { regions = rs; pool = pool } in p) (sym (shown_regions_with_one_changed slots r f))),
       )
 
   -- what a call found of a region in use
   pub region_found : {A : Type 0} (g : Option UsedRegion → A) (r : ℕ) → IsSome (used_at s.regions r) → (found : Option UsedRegion) → found ≡ get_or slots r found → g found ≡ g (used_at s.regions r)
   region_found g r some found read =
       let slot = slot_used slots r (rw (← view) at some) in
-      rw (← view) (ap g (read ∙ place_read slots r found slot.1 ∙ sym slot.0))
+      rw (← view) (ap g (read ∙ place_read_with_any_default slots r found slot.1 ∙ sym slot.0))
 
   -- what the table and the free classes keep once the changed region was read again
   reread : (r : ℕ) (f : UsedRegion → UsedRegion) → IsSome (get_or slots r None) → (found new now : Option UsedRegion) → found ≡ get_or slots r found → new ≡ option_map f found → now ≡ get_or (set slots r new) r now → IfSome now (λ u. IsWholeRegion u) → (IfSome (option_map f (get_or slots r None)) (λ u. IsWholeRegion u) → IsGood (option_map f (get_or slots r None))) → IsRegionTable (set slots r new) (set free_classes r (free_class_of now)) pool capacity
@@ -100,11 +100,11 @@ module _ (slots : List (Option UsedRegion)) (free_classes pool : List ℕ) (capa
   pub object_taken : (at : ObjRef) (o : Object) (n : ℕ) → IsSomeAnd (used_at s.regions at.region) (λ u. (slice_get u.free 0 ≡ Some at.cell) × FitsWords u.cell_size n) → (found new now : Option UsedRegion) → found ≡ get_or slots at.region found → new ≡ option_map (λ u. cell_filled u at.cell o) found → now ≡ get_or (set slots at.region new) at.region now → IfSome now (λ u. IsWholeRegion u) → IsRegionTable (set slots at.region new) (set free_classes at.region (free_class_of now)) pool capacity × (seen (set slots at.region new) pool ≡ taken at o s)
   object_taken at o n ready found new now read is again whole =
       let old : Option UsedRegion = get_or slots at.region None in
-      let need = rw (← view, used_shown slots at.region) at ready in
-      let used : IsSome old = used_from _ _ need in
+      let need = rw (← view, used_region_is_slot slots at.region) at ready in
+      let used : IsSome old = slot_with_property_is_used _ _ need in
       let next : new ≡ option_map (λ u. cell_filled u at.cell o) old = changed_slot slots at.region (λ u. cell_filled u at.cell o) found new (in_use_within slots at.region used) read is in (
-        reread at.region (λ u. cell_filled u at.cell o) used found new now read is again whole (λ w. taken_good old at.cell n o (table.good at.region) (take_ready old at.cell n need) w),
-        rw (← view, next) (sym (taken_shown slots pool at o)),
+        reread at.region (λ u. cell_filled u at.cell o) used found new now read is again whole (λ w. good_region_with_taken_cell old at.cell n o (table.good at.region) (take_ready old at.cell n need) w),
+        rw (← view, next) (sym (shown_regions_with_taken_cell slots pool at o)),
       )
 
   -- an object leaves its cell, and another stays in the region
@@ -115,6 +115,6 @@ module _ (slots : List (Option UsedRegion)) (free_classes pool : List ℕ) (capa
       let next : new ≡ option_map (λ u. cell_freed u at.cell) old = changed_slot slots at.region (λ u. cell_freed u at.cell) found new slot.2 read is in
       let there_too : IsSome (slot_object (get_or slots b.region None) b.cell) = rw (← view, object_shown slots b) at stays in
       let kept : IsSome (slot_object old b.cell) = subst (λ k. IsSome (slot_object (get_or slots k None) b.cell)) beside there_too in (
-        reread at.region (λ u. cell_freed u at.cell) slot.1 found new now read is again whole (λ w. vacated_good old at.cell b.cell (λ e. other (λ k. record { region = beside k; cell = e k })) kept w),
+        reread at.region (λ u. cell_freed u at.cell) slot.1 found new now read is again whole (λ w. good_region_with_freed_cell old at.cell b.cell (λ e. other (λ k. record { region = beside k; cell = e k })) kept w),
         rw (← view, next) (sym (freed_shown slots pool at)),
       )

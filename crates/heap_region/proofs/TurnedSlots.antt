@@ -9,47 +9,47 @@ use Rattle.heap_region.specs.Turns.{turned_object, turned_back_object, turned_re
 abbrev KeepsWords : (Object → Object) → Type 0
 KeepsWords g = (o : Object) → (g o).words ≡ o.words
 
-abbrev changed : (Object → Object) → UsedRegion → UsedRegion
-changed g u = record u { cells = map (option_map g) u.cells; pending = not u.pending }
+abbrev region_with_mapped_objects : (Object → Object) → UsedRegion → UsedRegion
+region_with_mapped_objects g u = record u { cells = map (option_map g) u.cells; pending = not u.pending }
 
-same_vacant : (g : Object → Object) (cells : List (Option Object)) → map is_none (map (option_map g) cells) ≡ map is_none cells
-same_vacant g [] = refl
-same_vacant g (None ∷ cells) = ap (λ bs. true ∷ bs) (same_vacant g cells)
-same_vacant g (Some o ∷ cells) = ap (λ bs. false ∷ bs) (same_vacant g cells)
+vacant_after_object_map : (g : Object → Object) (cells : List (Option Object)) → map is_none (map (option_map g) cells) ≡ map is_none cells
+vacant_after_object_map g [] = refl
+vacant_after_object_map g (None ∷ cells) = ap (λ bs. true ∷ bs) (vacant_after_object_map g cells)
+vacant_after_object_map g (Some o ∷ cells) = ap (λ bs. false ∷ bs) (vacant_after_object_map g cells)
 
-same_fits : (g : Object → Object) → KeepsWords g → (size : ℕ) (cells : List (Option Object)) (cell : ℕ) → ObjectFits size (get_or cells cell None) → ObjectFits size (get_or (map (option_map g) cells) cell None)
-same_fits g words size [] cell fits = fits
-same_fits g words size (None ∷ cells) zero fits = fits
-same_fits g words size (Some o ∷ cells) zero fits = rw (words o) fits
-same_fits g words size (o ∷ cells) (suc cell) fits = same_fits g words size cells cell fits
+object_map_keeps_fit : (g : Object → Object) → KeepsWords g → (size : ℕ) (cells : List (Option Object)) (cell : ℕ) → ObjectFits size (get_or cells cell None) → ObjectFits size (get_or (map (option_map g) cells) cell None)
+object_map_keeps_fit g words size [] cell fits = fits
+object_map_keeps_fit g words size (None ∷ cells) zero fits = fits
+object_map_keeps_fit g words size (Some o ∷ cells) zero fits = rw (words o) fits
+object_map_keeps_fit g words size (o ∷ cells) (suc cell) fits = object_map_keeps_fit g words size cells cell fits
 
-still_there : (g : Object → Object) (cells : List (Option Object)) (cell : ℕ) → IsSome (get_or cells cell None) → IsSome (get_or (map (option_map g) cells) cell None)
-still_there g [] cell some = some
-still_there g (None ∷ cells) zero some = some
-still_there g (Some o ∷ cells) zero some = search rules
-still_there g (o ∷ cells) (suc cell) some = still_there g cells cell some
+object_map_keeps_object : (g : Object → Object) (cells : List (Option Object)) (cell : ℕ) → IsSome (get_or cells cell None) → IsSome (get_or (map (option_map g) cells) cell None)
+object_map_keeps_object g [] cell some = some
+object_map_keeps_object g (None ∷ cells) zero some = some
+object_map_keeps_object g (Some o ∷ cells) zero some = search rules
+object_map_keeps_object g (o ∷ cells) (suc cell) some = object_map_keeps_object g cells cell some
 
-changed_good : (g : Object → Object) → KeepsWords g → (x : Option UsedRegion) → IsSome x → IsGood x → IsSome (option_map (changed g) x) × IsGood (option_map (changed g) x) × (free_class_of (option_map (changed g) x) ≡ free_class_of x)
-changed_good g words None some good = (some, good, refl)
-changed_good g words (Some u) some good = (
+mapped_objects_keep_region_good : (g : Object → Object) → KeepsWords g → (x : Option UsedRegion) → IsSome x → IsGood x → IsSome (option_map (region_with_mapped_objects g) x) × IsGood (option_map (region_with_mapped_objects g) x) × (free_class_of (option_map (region_with_mapped_objects g) x) ≡ free_class_of x)
+mapped_objects_keep_region_good g words None some good = (some, good, refl)
+mapped_objects_keep_region_good g words (Some u) some good = (
   search rules,
   (
     record {
       sized = good.0.sized;
       covers = rw (length-map u.cells (option_map g)) good.0.covers;
       apart = good.0.apart;
-      vacant = λ cell. good.0.vacant cell ∙ ap (λ bs. get_or bs cell false) (sym (same_vacant g u.cells));
-      fits = λ cell. same_fits g words u.cell_size u.cells cell (good.0.fits cell);
+      vacant = λ cell. good.0.vacant cell ∙ ap (λ bs. get_or bs cell false) (sym (vacant_after_object_map g u.cells));
+      fits = λ cell. object_map_keeps_fit g words u.cell_size u.cells cell (good.0.fits cell);
     },
-    (good.1.0, still_there g u.cells good.1.0 good.1.1),
+    (good.1.0, object_map_keeps_object g u.cells good.1.0 good.1.1),
   ),
   refl,
 )
 
-pub turned_good : (x : Option UsedRegion) → IsSome x → IsGood x → IsSome (option_map turned_region x) × IsGood (option_map turned_region x) × (free_class_of (option_map turned_region x) ≡ free_class_of x)
+pub turned_region_stays_good : (x : Option UsedRegion) → IsSome x → IsGood x → IsSome (option_map turned_region x) × IsGood (option_map turned_region x) × (free_class_of (option_map turned_region x) ≡ free_class_of x)
 unfolding turned_region
-turned_good = changed_good turned_object (λ o. refl)
+turned_region_stays_good = mapped_objects_keep_region_good turned_object (λ o. refl)
 
 pub turned_back_good : (x : Option UsedRegion) → IsSome x → IsGood x → IsSome (option_map turned_back_region x) × IsGood (option_map turned_back_region x) × (free_class_of (option_map turned_back_region x) ≡ free_class_of x)
 unfolding turned_back_region
-turned_back_good = changed_good turned_back_object (λ o. refl)
+turned_back_good = mapped_objects_keep_region_good turned_back_object (λ o. refl)

@@ -102,7 +102,7 @@ impl FrozenRegion {
 
     /// Puts an object into the cell, whether or not the cell had one. The cells must have the least size that holds it. Takes
     /// no memory.
-    #[tactic(auto, using(crate::proofs::Cells::place_lies))]
+    #[tactic(auto, using(crate::proofs::Cells::shown_cell_lies_within_words))]
     pub fn put(&mut self, cell: u64, object: &ObjectCopy)
         requires within { cell < length self.old.cells }
         requires fits { FitsWords self.old.cell_size (length object.now.words) }

@@ -481,7 +481,7 @@ impl Storage {
     }
 
     // Puts a new object into the cell, which heads the free list.
-    #[tactic(auto, using(crate::proofs::CellChanges::head_lies))]
+    #[tactic(auto, using(crate::proofs::CellChanges::free_head_lies_within_region))]
     pub(crate) fn take(&mut self, cell: usize, kind: ObjKind, len: usize, mark: bool)
         requires head { Heads cell self.old.free }
         requires fits { FitsWords self.old.cell_size len }
@@ -501,7 +501,7 @@ impl Storage {
     }
 
     // Puts an object back into the cell, which heads the free list.
-    #[tactic(auto, using(crate::proofs::CellChanges::head_lies))]
+    #[tactic(auto, using(crate::proofs::CellChanges::free_head_lies_within_region))]
     pub(crate) fn unfree(&mut self, cell: usize, object: &ObjectCopy)
         requires head { Heads cell self.old.free }
         requires fits { FitsWords self.old.cell_size (length object.now.words) }

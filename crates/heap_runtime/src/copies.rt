@@ -9,17 +9,21 @@ use heap_history::unpacking::action_in;
 use heap_lock::{Action, Event};
 use std::alloc::{AllocError, Global};
 
-// Returns a copy of fields. Fails if an allocation fails.
-fn copy_fields(alloc: Global, fields: &[Field]) -> Result<Vec<Field>, AllocError>
-    ensures { IfOk result (λ v. v.items ≡ fields.now) }
+/// Returns the action of a copy of an event. Takes memory only for the definition of a class, and fails if there is none.
+pub fn step_of(alloc: Global, event: &Event) -> Result<Action, AllocError>
+    ensures { IfOk result (λ a. a ≡ Step event.now) }
 {
-    let mut copies = Vec::with_capacity(alloc, fields.len())?;
-    for field in fields {
-        let name = field.name.duplicate(alloc)?;
-        let kind = field.kind;
-        copies.push(Field { name, kind })?;
+    match pack_event(event) {
+        Some(pack) => Ok(action_in(
+            pack.deed,
+            pack.kind,
+            pack.first,
+            pack.second,
+            pack.third,
+            pack.fourth,
+        )),
+        None => Ok(Action::Step(copy_definition(alloc, event)?)),
     }
-    Ok(copies)
 }
 
 // Returns a copy of an event that has lists. Fails if an allocation fails.
@@ -44,19 +48,15 @@ fn copy_definition(alloc: Global, event: &Event) -> Result<Event, AllocError>
     }
 }
 
-/// Returns the action of a copy of an event. Takes memory only for the definition of a class, and fails if there is none.
-pub fn step_of(alloc: Global, event: &Event) -> Result<Action, AllocError>
-    ensures { IfOk result (λ a. a ≡ Step event.now) }
+// Returns a copy of fields. Fails if an allocation fails.
+fn copy_fields(alloc: Global, fields: &[Field]) -> Result<Vec<Field>, AllocError>
+    ensures { IfOk result (λ v. v.items ≡ fields.now) }
 {
-    match pack_event(event) {
-        Some(pack) => Ok(action_in(
-            pack.deed,
-            pack.kind,
-            pack.first,
-            pack.second,
-            pack.third,
-            pack.fourth,
-        )),
-        None => Ok(Action::Step(copy_definition(alloc, event)?)),
+    let mut copies = Vec::with_capacity(alloc, fields.len())?;
+    for field in fields {
+        let name = field.name.duplicate(alloc)?;
+        let kind = field.kind;
+        copies.push(Field { name, kind })?;
     }
+    Ok(copies)
 }

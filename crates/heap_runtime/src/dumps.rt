@@ -85,130 +85,6 @@ struct Written<'a, L: Heap, O: Outlet + Drop, R: Wait> {
     feed: FeedSeat,
 }
 
-// Shows a watcher this number of bytes, and asks to cancel its dump if the watcher wants that.
-fn show<W: DumpWatcher>(watcher: &mut W, bytes: u64, cancel: &Cancel<'_>, asker: &mut AskSeat)
-    requires { asker.old.meter ≡ cancel.now }
-    ensures meter { asker.new.meter ≡ cancel.now }
-    ensures said { (word : Bool) × W.says watcher.old bytes word watcher.new
-        × (asker.new.known ≡ true → (asker.old.known ≡ true) ⊎ (word ≡ false)) }
-{
-    if !watcher.see(bytes) {
-        cancel.ask(asker);
-    }
-}
-
-// Shows a watcher the bytes that are out until the dump has ended, and asks to cancel it if the watcher wants that. Returns the
-// watcher, and the seat that asked only if it wanted that.
-fn watch<W: DumpWatcher + Drop>(watching: Watching<'_, W>, has_ended: &AtomicU64) -> (W, AskSeat)
-    ensures meter { result.1.meter ≡ watching.entry.meter.now }
-    ensures said { result.1.known ≡ true → SaidNo W.says watching.entry.watcher result.0 }
-{
-    let Watching {
-        mut watcher,
-        meter,
-        mut reader,
-        mut asker,
-    } = watching;
-    let progress = meter.progress();
-    let cancel = meter.cancel();
-    for _ in 0..u64::MAX {
-        let is_last = has_ended.load(Ordering::SeqCst) == 1;
-        show(
-            &mut watcher,
-            progress.read(&mut reader),
-            &cancel,
-            &mut asker,
-        );
-        if is_last {
-            break;
-        }
-        yield_now();
-    }
-    (watcher, asker)
-}
-
-// Puts out the dump of the current state. Returns how that ended, with the dumper, which has made the calls for it and no others.
-fn write<'a, L: Heap + Send + Sync, O: Outlet + Drop, R: Threads + Wait + Sync>(
-    rt: &R,
-    alloc: Global,
-    dumper: Dumper<'a, L, R>,
-    time: u64,
-    sending: Sending<'_, O>,
-) -> Written<'a, L, O, R>
-    ensures written { IsDumped L.config time result.feed.known dumper.entry
-        (O.seen sending.entry.outlet) result.end (O.seen result.outlet) result.dumper }
-    ensures feed { result.feed.meter ≡ sending.entry.seats.meter.now }
-{
-    let Sending { mut outlet, seats } = sending;
-    let mut asking = dumper;
-    let pin = match asking.open_pin(None) {
-        Ok(pinned) => pinned.pin,
-        Err(refusal) => {
-            return Written {
-                end: Err(refusal),
-                outlet,
-                dumper: asking,
-                feed: seats.feed,
-            };
-        }
-    };
-    let live = LivePin {
-        dumper: asking,
-        pin,
-        time,
-    };
-    let (pumped, left, mut closing) = stream(rt, alloc, live, &mut outlet, seats);
-    let _ = closing.close_pin(pin);
-    Written {
-        end: Ok(pumped),
-        outlet,
-        dumper: closing,
-        feed: left.feed,
-    }
-}
-
-// Puts out the dump while another thread watches it, which alone can ask to cancel it.
-fn write_watched<
-    'a,
-    L: Heap + Send + Sync,
-    O: Outlet + Drop,
-    W: DumpWatcher + Drop + Send,
-    R: Threads + Wait + Sync,
->(
-    rt: &R,
-    alloc: Global,
-    dumper: Dumper<'a, L, R>,
-    time: u64,
-    sending: Sending<'_, O>,
-    watching: Watching<'_, W>,
-) -> (Dumped<O, W>, Dumper<'a, L, R>)
-    requires { watching.meter.now ≡ sending.seats.meter.now }
-    ensures dumped { (found : Bool) × IsDumped L.config time found dumper.entry
-        (O.seen sending.entry.outlet) result.0.end (O.seen result.0.outlet) result.1 }
-    ensures cancelled { IsCancelledBy W.says watching.entry.watcher result.0.watcher result.0.end }
-{
-    let ended = &AtomicU64::new(0);
-    let cancel = watching.meter.cancel();
-    let ((watcher, asker), written) = join(
-        rt,
-        move || watch(watching, ended),
-        move || -> Written<'_, L, O, R>
-            requires { IsSync R.row }
-        {
-            let written = write(rt, alloc, dumper, time, sending);
-            ended.store(1, Ordering::SeqCst);
-            written
-        },
-    );
-    cancel.settle(written.feed, asker);
-    let dumped = Dumped {
-        end: written.end,
-        outlet: written.outlet,
-        watcher,
-    };
-    (dumped, written.dumper)
-}
-
 /// Puts out the dump of the current state, with `time` in its header. Opens a pin and a meter, streams as `stream` does, and
 /// closes the pin, unless somebody else did. A second thread tells the watcher how many bytes are out, and cancels the dump if
 /// it says so; nothing else does. The dump is of a state with all that the dumper had seen. Returns the dumper, too, which has
@@ -259,5 +135,129 @@ fn refused<O: Outlet + Drop, W: DumpWatcher + Drop>(outlet: O, watcher: W) -> Du
         end: Err(Refusal::NoMemory),
         outlet,
         watcher,
+    }
+}
+
+// Puts out the dump while another thread watches it, which alone can ask to cancel it.
+fn write_watched<
+    'a,
+    L: Heap + Send + Sync,
+    O: Outlet + Drop,
+    W: DumpWatcher + Drop + Send,
+    R: Threads + Wait + Sync,
+>(
+    rt: &R,
+    alloc: Global,
+    dumper: Dumper<'a, L, R>,
+    time: u64,
+    sending: Sending<'_, O>,
+    watching: Watching<'_, W>,
+) -> (Dumped<O, W>, Dumper<'a, L, R>)
+    requires { watching.meter.now ≡ sending.seats.meter.now }
+    ensures dumped { (found : Bool) × IsDumped L.config time found dumper.entry
+        (O.seen sending.entry.outlet) result.0.end (O.seen result.0.outlet) result.1 }
+    ensures cancelled { IsCancelledBy W.says watching.entry.watcher result.0.watcher result.0.end }
+{
+    let ended = &AtomicU64::new(0);
+    let cancel = watching.meter.cancel();
+    let ((watcher, asker), written) = join(
+        rt,
+        move || watch(watching, ended),
+        move || -> Written<'_, L, O, R>
+            requires { IsSync R.row }
+        {
+            let written = write(rt, alloc, dumper, time, sending);
+            ended.store(1, Ordering::SeqCst);
+            written
+        },
+    );
+    cancel.settle(written.feed, asker);
+    let dumped = Dumped {
+        end: written.end,
+        outlet: written.outlet,
+        watcher,
+    };
+    (dumped, written.dumper)
+}
+
+// Shows a watcher the bytes that are out until the dump has ended, and asks to cancel it if the watcher wants that. Returns the
+// watcher, and the seat that asked only if it wanted that.
+fn watch<W: DumpWatcher + Drop>(watching: Watching<'_, W>, has_ended: &AtomicU64) -> (W, AskSeat)
+    ensures meter { result.1.meter ≡ watching.entry.meter.now }
+    ensures said { result.1.known ≡ true → SaidNo W.says watching.entry.watcher result.0 }
+{
+    let Watching {
+        mut watcher,
+        meter,
+        mut reader,
+        mut asker,
+    } = watching;
+    let progress = meter.progress();
+    let cancel = meter.cancel();
+    for _ in 0..u64::MAX {
+        let is_last = has_ended.load(Ordering::SeqCst) == 1;
+        show(
+            &mut watcher,
+            progress.read(&mut reader),
+            &cancel,
+            &mut asker,
+        );
+        if is_last {
+            break;
+        }
+        yield_now();
+    }
+    (watcher, asker)
+}
+
+// Shows a watcher this number of bytes, and asks to cancel its dump if the watcher wants that.
+fn show<W: DumpWatcher>(watcher: &mut W, bytes: u64, cancel: &Cancel<'_>, asker: &mut AskSeat)
+    requires { asker.old.meter ≡ cancel.now }
+    ensures meter { asker.new.meter ≡ cancel.now }
+    ensures said { (word : Bool) × W.says watcher.old bytes word watcher.new
+        × (asker.new.known ≡ true → (asker.old.known ≡ true) ⊎ (word ≡ false)) }
+{
+    if !watcher.see(bytes) {
+        cancel.ask(asker);
+    }
+}
+
+// Puts out the dump of the current state. Returns how that ended, with the dumper, which has made the calls for it and no others.
+fn write<'a, L: Heap + Send + Sync, O: Outlet + Drop, R: Threads + Wait + Sync>(
+    rt: &R,
+    alloc: Global,
+    dumper: Dumper<'a, L, R>,
+    time: u64,
+    sending: Sending<'_, O>,
+) -> Written<'a, L, O, R>
+    ensures written { IsDumped L.config time result.feed.known dumper.entry
+        (O.seen sending.entry.outlet) result.end (O.seen result.outlet) result.dumper }
+    ensures feed { result.feed.meter ≡ sending.entry.seats.meter.now }
+{
+    let Sending { mut outlet, seats } = sending;
+    let mut asking = dumper;
+    let pin = match asking.open_pin(None) {
+        Ok(pinned) => pinned.pin,
+        Err(refusal) => {
+            return Written {
+                end: Err(refusal),
+                outlet,
+                dumper: asking,
+                feed: seats.feed,
+            };
+        }
+    };
+    let live = LivePin {
+        dumper: asking,
+        pin,
+        time,
+    };
+    let (pumped, left, mut closing) = stream(rt, alloc, live, &mut outlet, seats);
+    let _ = closing.close_pin(pin);
+    Written {
+        end: Ok(pumped),
+        outlet,
+        dumper: closing,
+        feed: left.feed,
     }
 }

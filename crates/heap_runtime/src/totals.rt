@@ -19,42 +19,6 @@ pub struct Totals {
     pub finished: usize,
 }
 
-// Returns whether a claim is that of an object that was made.
-#[tactic(auto, unfolding(crate::specs::Totals::is_making))]
-fn is_made(claim: &Claim) -> bool
-    ensures { result ≡ is_making claim.now }
-{
-    let (action, receipt) = claim;
-    let is_new = matches!(
-        action,
-        Action::Step(Event::New { .. } | Event::NewArray { .. } | Event::NewPrim { .. })
-    );
-    is_new && matches!(receipt.answer, Outcome::Answered(_))
-}
-
-// Returns whether a claim is that of a cycle that was finished.
-#[tactic(auto, unfolding(crate::specs::Totals::is_finishing))]
-fn is_finished(claim: &Claim) -> bool
-    ensures { result ≡ is_finishing claim.now }
-{
-    let (action, receipt) = claim;
-    matches!(action, Action::Step(Event::Finish)) && matches!(receipt.answer, Outcome::Answered(_))
-}
-
-// Returns the number of objects that were made.
-fn count_made(claims: &[Claim]) -> usize
-    ensures { result ≡ count_by is_making claims.now }
-{
-    claims.iter().filter(|claim| is_made(claim)).count()
-}
-
-// Returns the number of cycles that were finished.
-fn count_finished(claims: &[Claim]) -> usize
-    ensures { result ≡ count_by is_finishing claims.now }
-{
-    claims.iter().filter(|claim| is_finished(claim)).count()
-}
-
 /// Returns what the actors did, by their claims. Takes no memory.
 pub fn total_all<L: Heap, R: Wait>(actors: &[Actor<'_, L, R>]) -> Totals
     ensures { IsTotal actors.now result }
@@ -73,6 +37,42 @@ pub fn total_all<L: Heap, R: Wait>(actors: &[Actor<'_, L, R>]) -> Totals
         made,
         finished,
     }
+}
+
+// Returns the number of objects that were made.
+fn count_made(claims: &[Claim]) -> usize
+    ensures { result ≡ count_by is_making claims.now }
+{
+    claims.iter().filter(|claim| is_made(claim)).count()
+}
+
+// Returns whether a claim is that of an object that was made.
+#[tactic(auto, unfolding(crate::specs::Totals::is_making))]
+fn is_made(claim: &Claim) -> bool
+    ensures { result ≡ is_making claim.now }
+{
+    let (action, receipt) = claim;
+    let is_new = matches!(
+        action,
+        Action::Step(Event::New { .. } | Event::NewArray { .. } | Event::NewPrim { .. })
+    );
+    is_new && matches!(receipt.answer, Outcome::Answered(_))
+}
+
+// Returns the number of cycles that were finished.
+fn count_finished(claims: &[Claim]) -> usize
+    ensures { result ≡ count_by is_finishing claims.now }
+{
+    claims.iter().filter(|claim| is_finished(claim)).count()
+}
+
+// Returns whether a claim is that of a cycle that was finished.
+#[tactic(auto, unfolding(crate::specs::Totals::is_finishing))]
+fn is_finished(claim: &Claim) -> bool
+    ensures { result ≡ is_finishing claim.now }
+{
+    let (action, receipt) = claim;
+    matches!(action, Action::Step(Event::Finish)) && matches!(receipt.answer, Outcome::Answered(_))
 }
 
 /// Returns what the actors did, by their claims, if the claims of each stand in the history of the heap, one actor audited after

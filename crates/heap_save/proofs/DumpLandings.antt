@@ -27,126 +27,126 @@ use Rattle.heap_save.specs.Saves.{HasBegun, LandsNowhere, LandsLate, is_unasked}
 
 -- ---- a dump
 
-abbrev since_then : List ℕ → ℕ → Outgoing
-since_then put f = record { out = put; failures = f }
+abbrev output_since_then : List ℕ → ℕ → Outgoing
+output_since_then put f = record { out = put; failures = f }
 
-abbrev nothing : Outgoing
-nothing = record { out = []; failures = 0 }
+abbrev empty_output : Outgoing
+empty_output = record { out = []; failures = 0 }
 
-ends_long : (a b c : List ℕ) → 0 < length c → 0 < length (a ++ b ++ c)
-ends_long a b c some = omega (arith, some, length-append a (b ++ c), length-append b c, length-append (a ++ b) c, length-append a b)
+text_with_end_is_not_empty : (a b c : List ℕ) → 0 < length c → 0 < length (a ++ b ++ c)
+text_with_end_is_not_empty a b c some = omega (arith, some, length-append a (b ++ c), length-append b c, length-append (a ++ b) c, length-append a b)
 
-end_long : 0 < length end_record
+end_record_is_not_empty : 0 < length end_record
 unfolding end_record
-end_long = omega (arith, length-record_of 0x2c [])
+end_record_is_not_empty = omega (arith, length-record_of 0x2c [])
 
-long : (ids : IdSize) (image : Image) (time : ℕ) → 0 < length (dump_text ids image time)
+dump_text_is_not_empty : (ids : IdSize) (image : Image) (time : ℕ) → 0 < length (dump_text ids image time)
 unfolding dump_text
-long ids image time = ends_long (opening_records ids image time) (concat (segment_records (sub_records ids image))) end_record end_long
+dump_text_is_not_empty ids image time = text_with_end_is_not_empty (opening_records ids image time) (concat (segment_records (sub_records ids image))) end_record end_record_is_not_empty
 
 -- how a dump ended, and how many puts failed
-abbrev Tells : Machine → Machine → ℕ → Pumped → Type 0
-Tells m m' f (Done n) = (f ≡ 0) × (0 < n)
-Tells m m' f (OutletFailed n) = (f ≡ 1) × (m' ≡ with_number_used m)
-Tells m m' f (Lost cause n) = f ≡ 0
-Tells m m' f (Cancelled n) = ⊥
+abbrev TellsDumpEnd : Machine → Machine → ℕ → Pumped → Type 0
+TellsDumpEnd m m' f (Done n) = (f ≡ 0) × (0 < n)
+TellsDumpEnd m m' f (OutletFailed n) = (f ≡ 1) × (m' ≡ with_number_used m)
+TellsDumpEnd m m' f (Lost cause n) = f ≡ 0
+TellsDumpEnd m m' f (Cancelled n) = ⊥
 
-abbrev IsTold : Machine → Machine → List ℕ → ℕ → Pumped → Type 0
-IsTold m m' put f r = (bytes_of r ≡ length put) × Tells m m' f r
+abbrev IsDumpToldByBytes : Machine → Machine → List ℕ → ℕ → Pumped → Type 0
+IsDumpToldByBytes m m' put f r = (bytes_of r ≡ length put) × TellsDumpEnd m m' f r
 
-told_lost : (m m' : Machine) (put : List ℕ) (f : ℕ) (cause : LostCause) (r : Pumped) → since_then put f ≡ nothing → r ≡ Lost cause 0 → IsTold m m' put f r
-told_lost m m' put f cause r same is = subst (λ x. IsTold m m' put f x) (sym is) (sym (ap (λ (o : Outgoing). length o.out) same), ap (λ (o : Outgoing). o.failures) same)
+lost_dump_is_told : (m m' : Machine) (put : List ℕ) (f : ℕ) (cause : LostCause) (r : Pumped) → output_since_then put f ≡ empty_output → r ≡ Lost cause 0 → IsDumpToldByBytes m m' put f r
+lost_dump_is_told m m' put f cause r same is = subst (λ x. IsDumpToldByBytes m m' put f x) (sym is) (sym (ap (λ (o : Outgoing). length o.out) same), ap (λ (o : Outgoing). o.failures) same)
 
-told_text : (m m' : Machine) (text put : List ℕ) (f : ℕ) (r : Pumped) → 0 < length text → m' ≡ with_number_used m → PutsText text nothing (since_then put f) r → IsTold m m' put f r
-told_text m m' text put f (Done n) some used p = (p.counted ∙ sym (ap (λ (l : List ℕ). length l) p.grows), (p.fits.1, omega (arith, p.counted, ap (λ (l : List ℕ). length l) p.fits.0, some)))
-told_text m m' text put f (OutletFailed n) some used p = (p.counted ∙ sym (ap (λ (l : List ℕ). length l) p.grows), (omega (arith, p.fits), used))
-told_text m m' text put f (Lost cause n) some used p = (p.counted ∙ sym (ap (λ (l : List ℕ). length l) p.grows), p.fits.1)
-told_text m m' text put f (Cancelled n) some used p = absurd p.fits
+put_text_is_told : (m m' : Machine) (text put : List ℕ) (f : ℕ) (r : Pumped) → 0 < length text → m' ≡ with_number_used m → PutsText text empty_output (output_since_then put f) r → IsDumpToldByBytes m m' put f r
+put_text_is_told m m' text put f (Done n) some used p = (p.counted ∙ sym (ap (λ (l : List ℕ). length l) p.grows), (p.fits.1, omega (arith, p.counted, ap (λ (l : List ℕ). length l) p.fits.0, some)))
+put_text_is_told m m' text put f (OutletFailed n) some used p = (p.counted ∙ sym (ap (λ (l : List ℕ). length l) p.grows), (omega (arith, p.fits), used))
+put_text_is_told m m' text put f (Lost cause n) some used p = (p.counted ∙ sym (ap (λ (l : List ℕ). length l) p.grows), p.fits.1)
+put_text_is_told m m' text put f (Cancelled n) some used p = absurd p.fits
 
-told_by : (q : Option Refusal) (time : ℕ) (m m' : Machine) (put : List ℕ) (f : ℕ) (r : Pumped) → DumpsUnless q time m m' nothing (since_then put f) r → IsTold m m' put f r
-told_by (Some e) time m m' put f r h = told_lost m m' put f Closed r h.0.1 h.1
-told_by None time m m' put f r (inl h) = told_lost m m' put f Memory r h.0.1 h.1
-told_by None time m m' put f r (inr h) = told_text m m' (dump_text m.ids (image_of m.trail.current) time) put f r (long m.ids (image_of m.trail.current) time) h.0 h.1
+unrefused_dump_is_told : (q : Option Refusal) (time : ℕ) (m m' : Machine) (put : List ℕ) (f : ℕ) (r : Pumped) → DumpsUnless q time m m' empty_output (output_since_then put f) r → IsDumpToldByBytes m m' put f r
+unrefused_dump_is_told (Some e) time m m' put f r h = lost_dump_is_told m m' put f Closed r h.0.1 h.1
+unrefused_dump_is_told None time m m' put f r (inl h) = lost_dump_is_told m m' put f Memory r h.0.1 h.1
+unrefused_dump_is_told None time m m' put f r (inr h) = put_text_is_told m m' (dump_text m.ids (image_of m.trail.current) time) put f r (dump_text_is_not_empty m.ids (image_of m.trail.current) time) h.0 h.1
 
-told : (time : ℕ) (m m' : Machine) (put : List ℕ) (f : ℕ) (r : Pumped) → IsPlaceDumped time m m' nothing (since_then put f) r → IsTold m m' put f r
-told time m m' put f r h = told_by (open_refusal m.trail.place m.trail m.pins) time m m' put f r h
+place_dump_is_told : (time : ℕ) (m m' : Machine) (put : List ℕ) (f : ℕ) (r : Pumped) → IsPlaceDumped time m m' empty_output (output_since_then put f) r → IsDumpToldByBytes m m' put f r
+place_dump_is_told time m m' put f r h = unrefused_dump_is_told (open_refusal m.trail.place m.trail m.pins) time m m' put f r h
 
 -- what is said of a dump from nothing is said of one into an outlet that goes on
-fits_on : (text out : List ℕ) (g g' f : ℕ) (r : Pumped) → g' ≡ g + f → FitsText text out 0 f r → FitsText text out g g' r
-fits_on text out g g' f (Done n) is h = (h.0, omega (arith, is, h.1))
-fits_on text out g g' f (OutletFailed n) is h = omega (arith, is, h)
-fits_on text out g g' f (Lost cause n) is h = (h.0, omega (arith, is, h.1))
-fits_on text out g g' f (Cancelled n) is h = absurd h
+text_fits_on_top_of_output : (text out : List ℕ) (g g' f : ℕ) (r : Pumped) → g' ≡ g + f → FitsText text out 0 f r → FitsText text out g g' r
+text_fits_on_top_of_output text out g g' f (Done n) is h = (h.0, omega (arith, is, h.1))
+text_fits_on_top_of_output text out g g' f (OutletFailed n) is h = omega (arith, is, h)
+text_fits_on_top_of_output text out g g' f (Lost cause n) is h = (h.0, omega (arith, is, h.1))
+text_fits_on_top_of_output text out g g' f (Cancelled n) is h = absurd h
 
-text_on : (text : List ℕ) (start now : Outgoing) (put : List ℕ) (f : ℕ) (r : Pumped) → Since start now put f → PutsText text nothing (since_then put f) r → PutsText text start now r
-text_on text start now put f r since p = record {
+text_put_on_top : (text : List ℕ) (start now : Outgoing) (put : List ℕ) (f : ℕ) (r : Pumped) → Since start now put f → PutsText text empty_output (output_since_then put f) r → PutsText text start now r
+text_put_on_top text start now put f r since p = record {
   out = p.out;
   grows = since.0 ∙ ap (λ l. start.out ++ l) p.grows;
   begins = p.begins;
   counted = p.counted;
-  fits = fits_on text p.out start.failures now.failures f r since.1 p.fits;
+  fits = text_fits_on_top_of_output text p.out start.failures now.failures f r since.1 p.fits;
 }
 
-same_on : (start now : Outgoing) (put : List ℕ) (f : ℕ) → Since start now put f → since_then put f ≡ nothing → now ≡ start
-same_on start now put f since same =
+unchanged_output_since_start : (start now : Outgoing) (put : List ℕ) (f : ℕ) → Since start now put f → output_since_then put f ≡ empty_output → now ≡ start
+unchanged_output_since_start start now put f since same =
     let out : now.out ≡ start.out = since.0 ∙ ap (λ (o : Outgoing). start.out ++ o.out) same ∙ append-nil start.out in
     let failures : now.failures ≡ start.failures = omega (arith, since.1, ap (λ (o : Outgoing). o.failures) same) in
     λ i. record { out = out i; failures = failures i }
 
-goes_on : (q : Option Refusal) (time : ℕ) (m m' : Machine) (start now : Outgoing) (put : List ℕ) (f : ℕ) (r : Pumped) → Since start now put f
-    → DumpsUnless q time m m' nothing (since_then put f) r → DumpsUnless q time m m' start now r
-goes_on (Some e) time m m' start now put f r since h = ((h.0.0, same_on start now put f since h.0.1), h.1)
-goes_on None time m m' start now put f r since (inl h) = inl ((h.0.0, same_on start now put f since h.0.1), h.1)
-goes_on None time m m' start now put f r since (inr h) = inr (h.0, text_on (dump_text m.ids (image_of m.trail.current) time) start now put f r since h.1)
+dump_on_top_of_output : (q : Option Refusal) (time : ℕ) (m m' : Machine) (start now : Outgoing) (put : List ℕ) (f : ℕ) (r : Pumped) → Since start now put f
+    → DumpsUnless q time m m' empty_output (output_since_then put f) r → DumpsUnless q time m m' start now r
+dump_on_top_of_output (Some e) time m m' start now put f r since h = ((h.0.0, unchanged_output_since_start start now put f since h.0.1), h.1)
+dump_on_top_of_output None time m m' start now put f r since (inl h) = inl ((h.0.0, unchanged_output_since_start start now put f since h.0.1), h.1)
+dump_on_top_of_output None time m m' start now put f r since (inr h) = inr (h.0, text_put_on_top (dump_text m.ids (image_of m.trail.current) time) start now put f r since h.1)
 
-dumped_on : (time : ℕ) (m m' : Machine) (start now : Outgoing) (put : List ℕ) (f : ℕ) (r : Pumped) → Since start now put f → IsPlaceDumped time m m' nothing (since_then put f) r → IsPlaceDumped time m m' start now r
-dumped_on time m m' start now put f r since h = goes_on (open_refusal m.trail.place m.trail m.pins) time m m' start now put f r since h
+place_dumped_on_top : (time : ℕ) (m m' : Machine) (start now : Outgoing) (put : List ℕ) (f : ℕ) (r : Pumped) → Since start now put f → IsPlaceDumped time m m' empty_output (output_since_then put f) r → IsPlaceDumped time m m' start now r
+place_dumped_on_top time m m' start now put f r since h = dump_on_top_of_output (open_refusal m.trail.place m.trail m.pins) time m m' start now put f r since h
 
 -- ---- where it lands
 
-nothing_since : (start : Outgoing) (put : List ℕ) (f : ℕ) → put ≡ [] → f ≡ 0 → Since start start put f
-nothing_since start put f empty zero = (sym (ap (λ l. start.out ++ l) empty ∙ append-nil start.out), omega (arith, zero))
+nothing_put_since_start : (start : Outgoing) (put : List ℕ) (f : ℕ) → put ≡ [] → f ≡ 0 → Since start start put f
+nothing_put_since_start start put f empty zero = (sym (ap (λ l. start.out ++ l) empty ∙ append-nil start.out), omega (arith, zero))
 
-some_is : (n : ℕ) → 0 < n → (n == 0) ≡ true → ⊥
-some_is n some e = grind (arith, nat_tests)
+positive_does_not_test_zero : (n : ℕ) → 0 < n → (n == 0) ≡ true → ⊥
+positive_does_not_test_zero n some e = grind (arith, nat_tests)
 
-not_so : false ≡ true → ⊥
-not_so e = cc
+false_is_not_true : false ≡ true → ⊥
+false_is_not_true e = cc
 
-nowhere_lost : (makes : Option Outgoing → Type 0) (time : ℕ) (m m' : Machine) (put : List ℕ) (f : ℕ) (r : Pumped) → put ≡ [] → f ≡ 0 → IsTold m m' put f r → IsPlaceDumped time m m' nothing (since_then put f) r → LandsNowhere makes time m m' r
-nowhere_lost makes time m m' put f (Done n) empty zero t d = absurd (omega (arith, t.0, t.1.1, ap (λ (l : List ℕ). length l) empty))
-nowhere_lost makes time m m' put f (OutletFailed n) empty zero t d = absurd (omega (arith, t.1.0, zero))
-nowhere_lost makes time m m' put f (Lost cause n) empty zero t d =
-    (omega (arith, t.0, ap (λ (l : List ℕ). length l) empty), λ w. dumped_on time m m' w w put f (Lost cause n) (nothing_since w put f empty zero) d)
-nowhere_lost makes time m m' put f (Cancelled n) empty zero t d = absurd t.1
+lost_dump_lands_nowhere : (makes : Option Outgoing → Type 0) (time : ℕ) (m m' : Machine) (put : List ℕ) (f : ℕ) (r : Pumped) → put ≡ [] → f ≡ 0 → IsDumpToldByBytes m m' put f r → IsPlaceDumped time m m' empty_output (output_since_then put f) r → LandsNowhere makes time m m' r
+lost_dump_lands_nowhere makes time m m' put f (Done n) empty zero t d = absurd (omega (arith, t.0, t.1.1, ap (λ (l : List ℕ). length l) empty))
+lost_dump_lands_nowhere makes time m m' put f (OutletFailed n) empty zero t d = absurd (omega (arith, t.1.0, zero))
+lost_dump_lands_nowhere makes time m m' put f (Lost cause n) empty zero t d =
+    (omega (arith, t.0, ap (λ (l : List ℕ). length l) empty), λ w. place_dumped_on_top time m m' w w put f (Lost cause n) (nothing_put_since_start w put f empty zero) d)
+lost_dump_lands_nowhere makes time m m' put f (Cancelled n) empty zero t d = absurd t.1
 
-nowhere_failed : (makes : Option Outgoing → Type 0) (time : ℕ) (m m' : Machine) (put : List ℕ) (f : ℕ) (r : Pumped) (X : Type 0) → put ≡ [] → 0 < f → makes None → IsTold m m' put f r → LandsNowhere makes time m m' r × (is_unasked (Some r) ≡ true → X)
-nowhere_failed makes time m m' put f (Done n) X empty some unmade t = absurd (omega (arith, t.1.0, some))
-nowhere_failed makes time m m' put f (OutletFailed n) X empty some unmade t = ((omega (arith, t.0, ap (λ (l : List ℕ). length l) empty), unmade, t.1.1), λ is. absurd (not_so is))
-nowhere_failed makes time m m' put f (Lost cause n) X empty some unmade t = absurd (omega (arith, t.1, some))
-nowhere_failed makes time m m' put f (Cancelled n) X empty some unmade t = absurd t.1
+failed_dump_lands_nowhere : (makes : Option Outgoing → Type 0) (time : ℕ) (m m' : Machine) (put : List ℕ) (f : ℕ) (r : Pumped) (X : Type 0) → put ≡ [] → 0 < f → makes None → IsDumpToldByBytes m m' put f r → LandsNowhere makes time m m' r × (is_unasked (Some r) ≡ true → X)
+failed_dump_lands_nowhere makes time m m' put f (Done n) X empty some unmade t = absurd (omega (arith, t.1.0, some))
+failed_dump_lands_nowhere makes time m m' put f (OutletFailed n) X empty some unmade t = ((omega (arith, t.0, ap (λ (l : List ℕ). length l) empty), unmade, t.1.1), λ is. absurd (false_is_not_true is))
+failed_dump_lands_nowhere makes time m m' put f (Lost cause n) X empty some unmade t = absurd (omega (arith, t.1, some))
+failed_dump_lands_nowhere makes time m m' put f (Cancelled n) X empty some unmade t = absurd t.1
 
-begun : (m m' : Machine) (put : List ℕ) (f : ℕ) (r : Pumped) (X : Type 0) → 0 < length put + f → IsTold m m' put f r → HasBegun r × (is_unasked (Some r) ≡ true → X)
-begun m m' put f (Done n) X some t = (tt, λ is. absurd (not_so is))
-begun m m' put f (OutletFailed n) X some t = (tt, λ is. absurd (not_so is))
-begun m m' put f (Lost cause n) X some t =
+dump_with_bytes_has_begun : (m m' : Machine) (put : List ℕ) (f : ℕ) (r : Pumped) (X : Type 0) → 0 < length put + f → IsDumpToldByBytes m m' put f r → HasBegun r × (is_unasked (Some r) ≡ true → X)
+dump_with_bytes_has_begun m m' put f (Done n) X some t = (tt, λ is. absurd (false_is_not_true is))
+dump_with_bytes_has_begun m m' put f (OutletFailed n) X some t = (tt, λ is. absurd (false_is_not_true is))
+dump_with_bytes_has_begun m m' put f (Lost cause n) X some t =
     let more : 0 < n = omega (arith, t.0, t.1, some) in
-    (more, λ is. absurd (some_is n more is))
-begun m m' put f (Cancelled n) X some t = absurd t.1
+    (more, λ is. absurd (positive_does_not_test_zero n more is))
+dump_with_bytes_has_begun m m' put f (Cancelled n) X some t = absurd t.1
 
-pub landed : {P O : Type 0} (was : P → Type 0) (makes : P → Option Outgoing → Type 0) (seen : O → Outgoing) (time : ℕ) (m m' : Machine) (place : P) (opening : Opening O) (put : List ℕ) (f : ℕ) (r : Pumped)
-    → IsLate was makes seen place opening put f → IsPlaceDumped time m m' nothing (since_then put f) r → LandsLate was makes seen time m m' place (outlet_in opening) r
-landed was makes seen time m m' place Unasked put f r (before, empty, zero) d =
-    (place, before, nowhere_lost (makes place) time m m' put f r empty zero (told time m m' put f r d) d, λ is. before)
-landed was makes seen time m m' place (Made o) put f r (first, before, (start, made, since), some) d =
-    let b = begun m m' put f r (was place) some (told time m m' put f r d) in
-    (first, before, (b.0, (start, made, dumped_on time m m' start (seen o) put f r since d)), b.1)
-landed was makes seen time m m' place Refused put f r (first, before, unmade, empty, some) d =
-    let b = nowhere_failed (makes first) time m m' put f r (was place) empty some unmade (told time m m' put f r d) in
+pub late_opening_lands_dump : {P O : Type 0} (was : P → Type 0) (makes : P → Option Outgoing → Type 0) (seen : O → Outgoing) (time : ℕ) (m m' : Machine) (place : P) (opening : Opening O) (put : List ℕ) (f : ℕ) (r : Pumped)
+    → IsLate was makes seen place opening put f → IsPlaceDumped time m m' empty_output (output_since_then put f) r → LandsLate was makes seen time m m' place (outlet_in opening) r
+late_opening_lands_dump was makes seen time m m' place Unasked put f r (before, empty, zero) d =
+    (place, before, lost_dump_lands_nowhere (makes place) time m m' put f r empty zero (place_dump_is_told time m m' put f r d) d, λ is. before)
+late_opening_lands_dump was makes seen time m m' place (Made o) put f r (first, before, (start, made, since), some) d =
+    let b = dump_with_bytes_has_begun m m' put f r (was place) some (place_dump_is_told time m m' put f r d) in
+    (first, before, (b.0, (start, made, place_dumped_on_top time m m' start (seen o) put f r since d)), b.1)
+late_opening_lands_dump was makes seen time m m' place Refused put f r (first, before, unmade, empty, some) d =
+    let b = failed_dump_lands_nowhere (makes first) time m m' put f r (was place) empty some unmade (place_dump_is_told time m m' put f r d) in
     (first, before, b.0, b.1)
 
 -- the place and the outlet as they were handed out
-pub handed_out : {P O : Type 0} (was : P → Type 0) (makes : P → Option Outgoing → Type 0) (seen : O → Outgoing) (time : ℕ) (m m' : Machine) (place place' : P) (outlet outlet' : Option O) (r : Pumped) → place' ≡ place → outlet' ≡ outlet
+pub landing_with_handed_outlet : {P O : Type 0} (was : P → Type 0) (makes : P → Option Outgoing → Type 0) (seen : O → Outgoing) (time : ℕ) (m m' : Machine) (place place' : P) (outlet outlet' : Option O) (r : Pumped) → place' ≡ place → outlet' ≡ outlet
     → LandsLate was makes seen time m m' place outlet r → LandsLate was makes seen time m m' place' outlet' r
-handed_out was makes seen time m m' place place' outlet outlet' r here there h =
+landing_with_handed_outlet was makes seen time m m' place place' outlet outlet' r here there h =
     subst (λ p. LandsLate was makes seen time m m' p outlet' r) (sym here) (subst (λ o. LandsLate was makes seen time m m' place o r) (sym there) h)

@@ -4,5 +4,5 @@ use Rattle.dump_pump.specs.Outlets.{Outgoing}
 use Rattle.session_text.specs.Writes.{IsTextWritten}
 
 -- the bytes may be told in another way
-pub written_as : (xs ys : List ℕ) (a b : Outgoing) (r : Bool) → xs ≡ ys → IsTextWritten xs a b r → IsTextWritten ys a b r
-written_as xs ys a b r e h = subst (λ l. IsTextWritten l a b r) e h
+pub equal_bytes_written_alike : (xs ys : List ℕ) (a b : Outgoing) (r : Bool) → xs ≡ ys → IsTextWritten xs a b r → IsTextWritten ys a b r
+equal_bytes_written_alike xs ys a b r e h = subst (λ l. IsTextWritten l a b r) e h

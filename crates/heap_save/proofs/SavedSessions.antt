@@ -15,17 +15,17 @@ use Rattle.session_text.specs.Writes.{IsTextWritten}
 use Rattle.heap_save.specs.Saves.{IsSaved, EndsSave, Lands, LandsNowhere, last_line}
 
 -- after a session in which each line was run, a dump and a last line
-pub saved_so : (makes : Option Outgoing → Type 0) (first time : ℕ) (left m' : Machine) (between w' : Outgoing) (outlet : Option Outgoing) (talked ended : Ended) (r : Pumped) (written : Bool)
+pub session_saved_with_last_line : (makes : Option Outgoing → Type 0) (first time : ℕ) (left m' : Machine) (between w' : Outgoing) (outlet : Option Outgoing) (talked ended : Ended) (r : Pumped) (written : Bool)
     → is_whole_session talked ≡ true → Lands makes time (own_closed first left) m' outlet r
     → IsTextWritten (last_line r) between w' written → ended ≡ ended_of talked written → EndsSave makes first time left m' between w' outlet talked ended (Some r) (is_whole_session talked)
-saved_so makes first time left m' between w' outlet talked ended r written whole lands said is =
+session_saved_with_last_line makes first time left m' between w' outlet talked ended r written whole lands said is =
     subst (λ q. EndsSave makes first time left m' between w' outlet talked ended (Some r) q) (sym whole) (r, lands, refl, (written, said, is))
 
 -- a session, and what was done after it
-pub saved_whole : (limits : SessionLimits) (makes : Option Outgoing → Type 0) (first own time : ℕ) (m left m' : Machine) (a b : Incoming) (w between w' : Outgoing) (outlet : Option Outgoing) (talked ended : Ended) (pumped : Option Pumped)
+pub session_and_landing_saved : (limits : SessionLimits) (makes : Option Outgoing → Type 0) (first own time : ℕ) (m left m' : Machine) (a b : Incoming) (w between w' : Outgoing) (outlet : Option Outgoing) (talked ended : Ended) (pumped : Option Pumped)
     → own ≡ first → IsSession limits m time a b w between left talked → EndsSession limits a b w between talked
     → EndsSave makes own time left m' between w' outlet talked ended pumped (is_whole_session talked) → IsSaved limits makes first time m m' a b w w' outlet ended pumped
-saved_whole limits makes first own time m left m' a b w between w' outlet talked ended pumped same session ends goes = record {
+session_and_landing_saved limits makes first own time m left m' a b w between w' outlet talked ended pumped same session ends goes = record {
   talked = talked;
   left = left;
   between = between;
@@ -35,9 +35,9 @@ saved_whole limits makes first own time m left m' a b w between w' outlet talked
 }
 
 -- what is done after a session is the same wherever an outlet may be made
-pub ends_anywhere : (makes others : Option Outgoing → Type 0) (first time : ℕ) (left m' : Machine) (between w' : Outgoing) (outlet : Option Outgoing) (talked ended : Ended) (pumped : Option Pumped) (whole : Bool)
+pub save_ends_alike_anywhere : (makes others : Option Outgoing → Type 0) (first time : ℕ) (left m' : Machine) (between w' : Outgoing) (outlet : Option Outgoing) (talked ended : Ended) (pumped : Option Pumped) (whole : Bool)
     → ((o : Option Outgoing) → makes o → others o) → EndsSave makes first time left m' between w' outlet talked ended pumped whole → EndsSave others first time left m' between w' outlet talked ended pumped whole
-ends_anywhere makes others first time left m' between w' outlet talked ended pumped whole more h = go whole h
+save_ends_alike_anywhere makes others first time left m' between w' outlet talked ended pumped whole more h = go whole h
   where
     nowhere_there : (n n' : Machine) (r : Pumped) → LandsNowhere makes time n n' r → LandsNowhere others time n n' r
     nowhere_there n n' (Done k) h = h

@@ -8,27 +8,6 @@ use dump_pump::{Outlet, Pumped};
 use machine_dump::LostCause;
 use session_text::write_all;
 
-// Puts out a number and the end of its line.
-fn write_number<O: Outlet>(writer: &mut O, number: u64) -> bool
-    ensures { IsTextWritten (line (decimal number)) (O.seen writer.old) (O.seen writer.new) result }
-{
-    if !write_all(writer, itoa::Buffer::new().format(number).as_bytes()) {
-        return false;
-    }
-    write_all(writer, b"\n")
-}
-
-// Puts out words and a number as a line.
-fn write_line<O: Outlet>(writer: &mut O, words: &[u8], number: u64) -> bool
-    ensures { IsTextWritten (words.now ++ line (decimal number)) (O.seen writer.old)
-        (O.seen writer.new) result }
-{
-    if !write_all(writer, words) {
-        return false;
-    }
-    write_number(writer, number)
-}
-
 // Puts out the last line: how the dump ended, and the number of bytes that the outlet took. A dump that was cancelled has no
 // such line.
 pub(crate) fn write_last<O: Outlet>(writer: &mut O, pumped: Pumped) -> bool
@@ -45,4 +24,25 @@ pub(crate) fn write_last<O: Outlet>(writer: &mut O, pumped: Pumped) -> bool
         },
         Pumped::Cancelled { bytes: _ } => unreachable!(),
     }
+}
+
+// Puts out words and a number as a line.
+fn write_line<O: Outlet>(writer: &mut O, words: &[u8], number: u64) -> bool
+    ensures { IsTextWritten (words.now ++ line (decimal number)) (O.seen writer.old)
+        (O.seen writer.new) result }
+{
+    if !write_all(writer, words) {
+        return false;
+    }
+    write_number(writer, number)
+}
+
+// Puts out a number and the end of its line.
+fn write_number<O: Outlet>(writer: &mut O, number: u64) -> bool
+    ensures { IsTextWritten (line (decimal number)) (O.seen writer.old) (O.seen writer.new) result }
+{
+    if !write_all(writer, itoa::Buffer::new().format(number).as_bytes()) {
+        return false;
+    }
+    write_all(writer, b"\n")
 }

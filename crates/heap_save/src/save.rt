@@ -40,24 +40,6 @@ pub struct Saved<P, O> {
     pub outlet: Option<O>,
 }
 
-// Dumps the current state into the outlet of a place, which is asked for it when there is something to put out.
-fn dump_late<P: Outlets, B: Origin<P>, G: Gauge, R: Threads + Wait + Sync>(
-    rt: &R,
-    alloc: Global,
-    machine: &mut Machine,
-    dump: LastDump<'_, P, G>,
-) -> (Pumped, P, Option<P::Out>)
-    requires { B.was dump.place }
-    ensures { LandsLate B.was P.makes P.Out.seen dump.entry.time machine.old machine.new result.1
-        result.2 result.0 }
-{
-    let LastDump { place, gauge, time } = dump;
-    let late: LateOutlet<P, B> = LateOutlet::new(place);
-    let (pumped, taken) = stream_place(rt, alloc, machine, time, late, gauge);
-    let (place, outlet) = taken.into_parts();
-    (pumped, place, outlet)
-}
-
 // Closes the pins that were opened through these commands, and dumps the current state into the outlet of a place.
 fn dump_last<P: Outlets, G: Gauge, R: Threads + Wait + Sync>(
     rt: &R,
@@ -74,6 +56,24 @@ fn dump_last<P: Outlets, G: Gauge, R: Threads + Wait + Sync>(
 {
     local.close_all();
     dump_late::<P, Brand, G, R>(rt, alloc, &mut local.machine, dump)
+}
+
+// Dumps the current state into the outlet of a place, which is asked for it when there is something to put out.
+fn dump_late<P: Outlets, B: Origin<P>, G: Gauge, R: Threads + Wait + Sync>(
+    rt: &R,
+    alloc: Global,
+    machine: &mut Machine,
+    dump: LastDump<'_, P, G>,
+) -> (Pumped, P, Option<P::Out>)
+    requires { B.was dump.place }
+    ensures { LandsLate B.was P.makes P.Out.seen dump.entry.time machine.old machine.new result.1
+        result.2 result.0 }
+{
+    let LastDump { place, gauge, time } = dump;
+    let late: LateOutlet<P, B> = LateOutlet::new(place);
+    let (pumped, taken) = stream_place(rt, alloc, machine, time, late, gauge);
+    let (place, outlet) = taken.into_parts();
+    (pumped, place, outlet)
 }
 
 // Returns how a save ended whose session ended so, and whose last line was written or not.

@@ -8,7 +8,7 @@ use Rattle.heap_lock.specs.Receipt.{Receipt}
 use Rattle.heap_lock.specs.LockStates.{SeatModel, IsReceived, IsNoEntry, Stands}
 use Rattle.heap_server.specs.JoinedActs.{IsReply, IsActed}
 
-pub acted : (config : HeapSettings) (s s' : SeatModel) (a : Action) (done : Result Receipt Refusal) (r : Reply) → IfOk done (λ x. IsReceived a s x s')
+pub received_reply_is_acted : (config : HeapSettings) (s s' : SeatModel) (a : Action) (done : Result Receipt Refusal) (r : Reply) → IfOk done (λ x. IsReceived a s x s')
     → IfOk done (λ x. Stands config s' x.turn a x.answer) → IfErr done (λ e. (s' ≡ s) × IsNoEntry e) → IsReply done r → IsActed config s a r s'
-acted config s s' a (Ok x) r got stands refused is = inl (x, got, stands, is)
-acted config s s' a (Err e) r got stands refused is = inr (e, refused.0, refused.1, is)
+received_reply_is_acted config s s' a (Ok x) r got stands refused is = inl (x, got, stands, is)
+received_reply_is_acted config s s' a (Err e) r got stands refused is = inr (e, refused.0, refused.1, is)

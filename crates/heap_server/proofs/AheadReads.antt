@@ -13,19 +13,19 @@ use Rattle.heap_server.specs.Ahead.{IsAhead, IsDecided}
 -- ---- known bytes
 
 -- what was taken is consumed
-pub consumed : (t t' more : List ℕ) (l l' : Option (List ℕ)) → t' ≡ t ++ more → Keeps (option_map (λ xs. t ++ xs) l) (option_map (λ xs. t' ++ xs) l') → Consumes l l' more
-consumed t t' more None l' is h = tt
-consumed t t' more (Some x) None is h = absurd h
-consumed t t' more (Some x) (Some y) is h = append_cancel_left t x (more ++ y) (sym h ∙ ap (λ k. k ++ y) is ∙ append_assoc t more y)
+pub taken_bytes_are_consumed : (t t' more : List ℕ) (l l' : Option (List ℕ)) → t' ≡ t ++ more → Keeps (option_map (λ xs. t ++ xs) l) (option_map (λ xs. t' ++ xs) l') → Consumes l l' more
+taken_bytes_are_consumed t t' more None l' is h = tt
+taken_bytes_are_consumed t t' more (Some x) None is h = absurd h
+taken_bytes_are_consumed t t' more (Some x) (Some y) is h = append_cancel_left t x (more ++ y) (sym h ∙ ap (λ k. k ++ y) is ∙ append_assoc t more y)
 
-kept_by : (l m m' : Option (List ℕ)) (bs more : List ℕ) → Keeps l (prepend_known bs m) → Consumes m m' more → Keeps l (prepend_known (bs ++ more) m')
-kept_by None m m' bs more p q = tt
-kept_by (Some x) None m' bs more p q = absurd p
-kept_by (Some x) (Some y) None bs more p q = absurd q
-kept_by (Some x) (Some y) (Some z) bs more p q = append_assoc bs more z ∙ ap (λ k. bs ++ k) (sym q) ∙ p
+read_ahead_kept_by_consumed : (l m m' : Option (List ℕ)) (bs more : List ℕ) → Keeps l (prepend_known bs m) → Consumes m m' more → Keeps l (prepend_known (bs ++ more) m')
+read_ahead_kept_by_consumed None m m' bs more p q = tt
+read_ahead_kept_by_consumed (Some x) None m' bs more p q = absurd p
+read_ahead_kept_by_consumed (Some x) (Some y) None bs more p q = absurd q
+read_ahead_kept_by_consumed (Some x) (Some y) (Some z) bs more p q = append_assoc bs more z ∙ ap (λ k. bs ++ k) (sym q) ∙ p
 
-kept_on : (a b b' : Incoming) (bs more : List ℕ) → Keeps a.left (prepend_known bs b.left) → b'.taken ≡ b.taken ++ more → Keeps (whole b) (whole b') → Keeps a.left (prepend_known (bs ++ more) b'.left)
-kept_on a b b' bs more p is h = kept_by a.left b.left b'.left bs more p (consumed b.taken b'.taken more b.left b'.left is h)
+read_ahead_still_kept : (a b b' : Incoming) (bs more : List ℕ) → Keeps a.left (prepend_known bs b.left) → b'.taken ≡ b.taken ++ more → Keeps (whole b) (whole b') → Keeps a.left (prepend_known (bs ++ more) b'.left)
+read_ahead_still_kept a b b' bs more p is h = read_ahead_kept_by_consumed a.left b.left b'.left bs more p (taken_bytes_are_consumed b.taken b'.taken more b.left b'.left is h)
 
 -- ---- reading ahead
 
@@ -46,74 +46,74 @@ reading_begins limit room a = record {
   reads = omega arith;
 }
 
-taken_on : (bytes bytes' more t t' t'' : List ℕ) → t' ≡ t ++ bytes → t'' ≡ t' ++ more → bytes' ≡ bytes ++ more → t'' ≡ t ++ bytes'
-taken_on bytes bytes' more t t' t'' was on is = on ∙ ap (λ l. l ++ more) was ∙ append_assoc t bytes more ∙ ap (λ l. t ++ l) (sym is)
+taken_bytes_go_further : (bytes bytes' more t t' t'' : List ℕ) → t' ≡ t ++ bytes → t'' ≡ t' ++ more → bytes' ≡ bytes ++ more → t'' ≡ t ++ bytes'
+taken_bytes_go_further bytes bytes' more t t' t'' was on is = on ∙ ap (λ l. l ++ more) was ∙ append_assoc t bytes more ∙ ap (λ l. t ++ l) (sym is)
 
-came : (limit : ℕ) (bytes bytes' : List ℕ) (end i n : ℕ) (a b b' : Incoming) → IsReading limit bytes end i a b → IsInletRead bytes bytes' b b' (Take.Got n) → Keeps a.left (prepend_known bytes' b'.left)
-came limit bytes bytes' end i n a b b' h (more, some, is, taken, reads, failures, keeps) =
-    subst (λ l. Keeps a.left (prepend_known l b'.left)) (sym is) (kept_on a b b' bytes more h.kept taken keeps)
+bytes_that_came_are_kept : (limit : ℕ) (bytes bytes' : List ℕ) (end i n : ℕ) (a b b' : Incoming) → IsReading limit bytes end i a b → IsInletRead bytes bytes' b b' (Take.Got n) → Keeps a.left (prepend_known bytes' b'.left)
+bytes_that_came_are_kept limit bytes bytes' end i n a b b' h (more, some, is, taken, reads, failures, keeps) =
+    subst (λ l. Keeps a.left (prepend_known l b'.left)) (sym is) (read_ahead_still_kept a b b' bytes more h.kept taken keeps)
 
 -- a read more, and no LF yet
 pub reading_goes : (limit : ℕ) (bytes bytes' : List ℕ) (end i n : ℕ) (a b b' : Incoming) → IsReading limit bytes end i a b → IsInletRead bytes bytes' b b' (Take.Got n) → 0 < n → end + n ≤ limit → IsReading limit bytes' (end + n) (i + 1) a b'
 reading_goes limit bytes bytes' end i n a b b' h r some most = record {
-  taken = taken_on bytes bytes' r.0 a.taken b.taken b'.taken h.taken r.3 r.2;
-  kept = came limit bytes bytes' end i n a b b' h r;
+  taken = taken_bytes_go_further bytes bytes' r.0 a.taken b.taken b'.taken h.taken r.3 r.2;
+  kept = bytes_that_came_are_kept limit bytes bytes' end i n a b b' h r;
   failures = r.5 ∙ h.failures;
   most = most;
   reads = omega (arith, h.reads, some);
 }
 
 -- a read that gave more took some bytes
-pub grew : (bytes bytes' : List ℕ) (end n : ℕ) (b b' : Incoming) → IsInletRead bytes bytes' b b' (Take.Got n) → length bytes ≡ end → length bytes' ≡ end + n → 0 < n
-grew bytes bytes' end n b b' r was is = omega (arith, r.1, was, is, ap length r.2, length-append bytes r.0)
+pub read_that_gave_more_grew : (bytes bytes' : List ℕ) (end n : ℕ) (b b' : Incoming) → IsInletRead bytes bytes' b b' (Take.Got n) → length bytes ≡ end → length bytes' ≡ end + n → 0 < n
+read_that_gave_more_grew bytes bytes' end n b b' r was is = omega (arith, r.1, was, is, ap length r.2, length-append bytes r.0)
 
-decided : (limit : ℕ) (o : Option ℕ) (bytes : List ℕ) → MatchOption o (NoLf bytes) (λ n. IsLineAt n bytes) → (is_some o ≡ true) ⊎ (limit < length bytes) → IsDecided limit bytes
-decided limit None bytes none (inl e) = absurd (cc e)
-decided limit None bytes none (inr lt) = inr (lt, none)
-decided limit (Some n) bytes at why = inl (n, at)
+line_or_limit_is_decided : (limit : ℕ) (o : Option ℕ) (bytes : List ℕ) → MatchOption o (NoLf bytes) (λ n. IsLineAt n bytes) → (is_some o ≡ true) ⊎ (limit < length bytes) → IsDecided limit bytes
+line_or_limit_is_decided limit None bytes none (inl e) = absurd (cc e)
+line_or_limit_is_decided limit None bytes none (inr lt) = inr (lt, none)
+line_or_limit_is_decided limit (Some n) bytes at why = inl (n, at)
 
-pub line_came : (limit : ℕ) (o : Option ℕ) (bytes bytes' : List ℕ) (end i n : ℕ) (a b b' : Incoming) → IsReading limit bytes end i a b → IsInletRead bytes bytes' b b' (Take.Got n) → MatchOption o (NoLf bytes') (λ n. IsLineAt n bytes') → (is_some o ≡ true) ⊎ (limit < length bytes') → IsAhead limit bytes' false a b'
-line_came limit o bytes bytes' end i n a b b' h r found why = record {
-  taken = taken_on bytes bytes' r.0 a.taken b.taken b'.taken h.taken r.3 r.2;
-  kept = came limit bytes bytes' end i n a b b' h r;
-  ends = λ e. inl (decided limit o bytes' found why);
+pub line_read_is_ahead : (limit : ℕ) (o : Option ℕ) (bytes bytes' : List ℕ) (end i n : ℕ) (a b b' : Incoming) → IsReading limit bytes end i a b → IsInletRead bytes bytes' b b' (Take.Got n) → MatchOption o (NoLf bytes') (λ n. IsLineAt n bytes') → (is_some o ≡ true) ⊎ (limit < length bytes') → IsAhead limit bytes' false a b'
+line_read_is_ahead limit o bytes bytes' end i n a b b' h r found why = record {
+  taken = taken_bytes_go_further bytes bytes' r.0 a.taken b.taken b'.taken h.taken r.3 r.2;
+  kept = bytes_that_came_are_kept limit bytes bytes' end i n a b b' h r;
+  ends = λ e. inl (line_or_limit_is_decided limit o bytes' found why);
   fails = λ e. absurd (cc e);
 }
 
-pub end_came : (limit : ℕ) (bytes bytes' : List ℕ) (end i : ℕ) (a b b' : Incoming) → IsReading limit bytes end i a b → IsInletRead bytes bytes' b b' Take.End → IsAhead limit bytes' false a b'
-end_came limit bytes bytes' end i a b b' h (is, nothing, taken, reads, failures, keeps) = record {
+pub read_end_is_ahead : (limit : ℕ) (bytes bytes' : List ℕ) (end i : ℕ) (a b b' : Incoming) → IsReading limit bytes end i a b → IsInletRead bytes bytes' b b' Take.End → IsAhead limit bytes' false a b'
+read_end_is_ahead limit bytes bytes' end i a b b' h (is, nothing, taken, reads, failures, keeps) = record {
   taken = taken ∙ h.taken ∙ ap (λ l. a.taken ++ l) (sym is);
-  kept = subst (λ l. Keeps a.left (prepend_known l b'.left)) (append-nil bytes ∙ sym is) (kept_on a b b' bytes [] h.kept (taken ∙ sym (append-nil b.taken)) keeps);
+  kept = subst (λ l. Keeps a.left (prepend_known l b'.left)) (append-nil bytes ∙ sym is) (read_ahead_still_kept a b b' bytes [] h.kept (taken ∙ sym (append-nil b.taken)) keeps);
   ends = λ e. inr nothing;
   fails = λ e. absurd (cc e);
 }
 
-pub fault_came : (limit : ℕ) (bytes bytes' : List ℕ) (end i : ℕ) (a b b' : Incoming) → IsReading limit bytes end i a b → IsInletRead bytes bytes' b b' Take.Failed → IsAhead limit bytes' true a b'
-fault_came limit bytes bytes' end i a b b' h (is, taken, reads, failures, keeps) = record {
+pub read_fault_is_ahead : (limit : ℕ) (bytes bytes' : List ℕ) (end i : ℕ) (a b b' : Incoming) → IsReading limit bytes end i a b → IsInletRead bytes bytes' b b' Take.Failed → IsAhead limit bytes' true a b'
+read_fault_is_ahead limit bytes bytes' end i a b b' h (is, taken, reads, failures, keeps) = record {
   taken = taken ∙ h.taken ∙ ap (λ l. a.taken ++ l) (sym is);
-  kept = subst (λ l. Keeps a.left (prepend_known l b'.left)) (append-nil bytes ∙ sym is) (kept_on a b b' bytes [] h.kept (taken ∙ sym (append-nil b.taken)) keeps);
+  kept = subst (λ l. Keeps a.left (prepend_known l b'.left)) (append-nil bytes ∙ sym is) (read_ahead_still_kept a b b' bytes [] h.kept (taken ∙ sym (append-nil b.taken)) keeps);
   ends = λ e. absurd (cc e);
   fails = λ e. failures ∙ ap (λ k. k + 1) h.failures;
 }
 
 -- ---- giving it again
 
-drop_on : (start n : ℕ) (bs : List ℕ) → drop start bs ≡ take n (drop start bs) ++ drop (start + n) bs
-drop_on start n bs = sym (take-append-drop n (drop start bs)) ∙ ap (λ l. take n (drop start bs) ++ l) (drop-drop n start bs)
+dropped_bytes_from_further_on : (start n : ℕ) (bs : List ℕ) → drop start bs ≡ take n (drop start bs) ++ drop (start + n) bs
+dropped_bytes_from_further_on start n bs = sym (take-append-drop n (drop start bs)) ∙ ap (λ l. take n (drop start bs) ++ l) (drop-drop n start bs)
 
-pub given_on : (start n : ℕ) (bs room : List ℕ) (l : Option (List ℕ)) → take n room ≡ take n (drop start bs) → Consumes (prepend_known (drop start bs) l) (prepend_known (drop (start + n) bs) l) (take n room)
-given_on start n bs room None is = tt
-given_on start n bs room (Some x) is =
-    ap (λ k. k ++ x) (drop_on start n bs ∙ ap (λ k. k ++ drop (start + n) bs) (sym is)) ∙ append_assoc (take n room) (drop (start + n) bs) x
+pub bytes_ahead_given_further : (start n : ℕ) (bs room : List ℕ) (l : Option (List ℕ)) → take n room ≡ take n (drop start bs) → Consumes (prepend_known (drop start bs) l) (prepend_known (drop (start + n) bs) l) (take n room)
+bytes_ahead_given_further start n bs room None is = tt
+bytes_ahead_given_further start n bs room (Some x) is =
+    ap (λ k. k ++ x) (dropped_bytes_from_further_on start n bs ∙ ap (λ k. k ++ drop (start + n) bs) (sym is)) ∙ append_assoc (take n room) (drop (start + n) bs) x
 
 -- nothing is left of it
-pub past : (start : ℕ) (bs : List ℕ) → length bs ≤ start → drop start bs ≡ []
-past start bs le = drop_all start bs le
+pub nothing_left_past_bytes : (start : ℕ) (bs : List ℕ) → length bs ≤ start → drop start bs ≡ []
+nothing_left_past_bytes start bs le = drop_all start bs le
 
-pub read_on : (start : ℕ) (bs : List ℕ) (a b : Incoming) (t : Take) (room : List ℕ) → length bs ≤ start → IsTake room a b t → IsTriedRead (prepend_known (drop start bs) a.left) (prepend_known (drop (start + 0) bs) b.left) t room
-read_on start bs a b t room le h =
-    let none : drop start bs ≡ [] = past start bs le in
-    let none' : drop (start + 0) bs ≡ [] = past (start + 0) bs (omega (arith, le)) in
+pub read_past_bytes_ahead : (start : ℕ) (bs : List ℕ) (a b : Incoming) (t : Take) (room : List ℕ) → length bs ≤ start → IsTake room a b t → IsTriedRead (prepend_known (drop start bs) a.left) (prepend_known (drop (start + 0) bs) b.left) t room
+read_past_bytes_ahead start bs a b t room le h =
+    let none : drop start bs ≡ [] = nothing_left_past_bytes start bs le in
+    let none' : drop (start + 0) bs ≡ [] = nothing_left_past_bytes (start + 0) bs (omega (arith, le)) in
     subst (λ (l : List ℕ). IsTriedRead (prepend_known l a.left) (prepend_known (drop (start + 0) bs) b.left) t room) (sym none)
     (subst (λ (l : List ℕ). IsTriedRead (prepend_known [] a.left) (prepend_known l b.left) t room) (sym none')
     (subst (λ (o : Option (List ℕ)). IsTriedRead o (prepend_known [] b.left) t room) (sym (prepend_known-nil a.left))
@@ -129,6 +129,6 @@ read_on start bs a b t room le h =
     kept (Some x) (Some y) h = sym h
 
     tried : (t : Take) → IsTake room a b t → IsTriedRead a.left b.left t room
-    tried (Take.Got n) h = (h.0, h.1, consumed a.taken b.taken (take n room) a.left b.left h.2 h.5)
-    tried Take.End h = (kept a.left b.left (consumed a.taken b.taken [] a.left b.left (h.1 ∙ sym (append-nil a.taken)) h.4), at_end b.left h.0)
-    tried Take.Failed h = kept a.left b.left (consumed a.taken b.taken [] a.left b.left (h.0 ∙ sym (append-nil a.taken)) h.3)
+    tried (Take.Got n) h = (h.0, h.1, taken_bytes_are_consumed a.taken b.taken (take n room) a.left b.left h.2 h.5)
+    tried Take.End h = (kept a.left b.left (taken_bytes_are_consumed a.taken b.taken [] a.left b.left (h.1 ∙ sym (append-nil a.taken)) h.4), at_end b.left h.0)
+    tried Take.Failed h = kept a.left b.left (taken_bytes_are_consumed a.taken b.taken [] a.left b.left (h.0 ∙ sym (append-nil a.taken)) h.3)

@@ -22,9 +22,9 @@ ServesSeat limits config questions time secret bytes failed b b' c w c' w' end =
     ServesClient limits (AnswersCommand (seat_acts config) (seat_answers config questions) time) (Begins (seat_acts config) (seat_answers config questions) time) secret bytes failed b b' c w c' w' end
 
 -- a session on these terms is one that answers questions, if they say so
-pub attended : (config : HeapSettings) (terms : Terms) (questions failed : Bool) (bytes : List ℕ) (a b b' : Incoming) (s s' : SeatModel) (seen : List Call) (c c' : Station) (w w' : Outgoing) (end : SessionEnd) → terms.questions ≡ questions → IsAhead (longest_line terms.limits) bytes failed a b → IsLegalLedger config seen
+pub session_on_terms_is_attended : (config : HeapSettings) (terms : Terms) (questions failed : Bool) (bytes : List ℕ) (a b b' : Incoming) (s s' : SeatModel) (seen : List Call) (c c' : Station) (w w' : Outgoing) (end : SessionEnd) → terms.questions ≡ questions → IsAhead (longest_line terms.limits) bytes failed a b → IsLegalLedger config seen
     → c ≡ record { seat = s; seen = seen } → s' ≡ c'.seat → ServesSeat terms.limits config questions terms.time terms.secret bytes failed b b' c w c' w' end → IsAttended config terms s a b' w w' s' end
-attended config terms questions failed bytes a b b' s s' seen c c' w w' end is ahead legal first last serves =
+session_on_terms_is_attended config terms questions failed bytes a b b' s s' seen c c' w w' end is ahead legal first last serves =
     let from : Station = record { seat = s; seen = seen } in
     let left : ServesSeat terms.limits config questions terms.time terms.secret bytes failed b b' c w (record { seat = s'; seen = c'.seen }) w' end = subst (λ (x : SeatModel). ServesSeat terms.limits config questions terms.time terms.secret bytes failed b b' c w (record { seat = x; seen = c'.seen }) w' end) (sym last) serves in
     let begun : ServesSeat terms.limits config questions terms.time terms.secret bytes failed b b' from w (record { seat = s'; seen = c'.seen }) w' end = subst (λ (x : Station). ServesSeat terms.limits config questions terms.time terms.secret bytes failed b b' x w (record { seat = s'; seen = c'.seen }) w' end) first left in
@@ -40,9 +40,9 @@ attended config terms questions failed bytes a b b' s s' seen c c' w w' end is a
     })
 
 -- a session of a heap that stays, and the closings at its end
-pub stayed : (config : HeapSettings) (terms : Terms) (failed : Bool) (bytes : List ℕ) (a b b' : Incoming) (s s' : SeatModel) (seen seen' : List Call) (c c' : StayingStation) (w w' : Outgoing) (end : SessionEnd) → IsAhead (longest_line terms.limits) bytes failed a b → IsLegalLedger config seen
+pub staying_session_is_attended : (config : HeapSettings) (terms : Terms) (failed : Bool) (bytes : List ℕ) (a b b' : Incoming) (s s' : SeatModel) (seen seen' : List Call) (c c' : StayingStation) (w w' : Outgoing) (end : SessionEnd) → IsAhead (longest_line terms.limits) bytes failed a b → IsLegalLedger config seen
     → c ≡ record { seat = s; seen = seen; pins = []; questions = terms.questions } → s' ≡ c'.seat → ClosesEach config c'.pins c'.seen seen' → ServesClient terms.limits (staying_says config terms) (staying_begins config terms) terms.secret bytes failed b b' c w c' w' end → IsAttendedStaying config terms s a b' w w' s' end
-stayed config terms failed bytes a b b' s s' seen seen' c c' w w' end ahead legal first last closes serves =
+staying_session_is_attended config terms failed bytes a b b' s s' seen seen' c c' w w' end ahead legal first last closes serves =
     inl (record {
       bytes = bytes;
       failed = failed;
@@ -60,31 +60,31 @@ stayed config terms failed bytes a b b' s s' seen seen' c c' w w' end ahead lega
 -- ---- sessions that are told as idle
 
 -- nobody is turned away so
-not_away : (limits : SessionLimits) (secret : Option (List ℕ)) (bytes : List ℕ) → TurnsAway limits secret bytes Idle → ⊥
-not_away limits (Some word) bytes away = cc away.1
-not_away limits None bytes away = cc away.1
+nobody_turned_away_idle : (limits : SessionLimits) (secret : Option (List ℕ)) (bytes : List ℕ) → TurnsAway limits secret bytes Idle → ⊥
+nobody_turned_away_idle limits (Some word) bytes away = cc away.1
+nobody_turned_away_idle limits None bytes away = cc away.1
 
 -- no session ends so by itself
-never_idle : (config : HeapSettings) (terms : Terms) (stays : Bool) (a b : Incoming) (s s' : SeatModel) (w w' : Outgoing) → IsAttendedOn stays config terms s a b w w' s' Idle → ⊥
-never_idle config terms false a b s s' w w' (inl served) = not_away terms.limits terms.secret served.bytes served.serves.0
-never_idle config terms false a b s s' w w' (inr none) = cc none.0
-never_idle config terms true a b s s' w w' (inl served) = not_away terms.limits terms.secret served.bytes served.serves.0
-never_idle config terms true a b s s' w w' (inr none) = cc none.0
+attended_session_never_idle : (config : HeapSettings) (terms : Terms) (stays : Bool) (a b : Incoming) (s s' : SeatModel) (w w' : Outgoing) → IsAttendedOn stays config terms s a b w w' s' Idle → ⊥
+attended_session_never_idle config terms false a b s s' w w' (inl served) = nobody_turned_away_idle terms.limits terms.secret served.bytes served.serves.0
+attended_session_never_idle config terms false a b s s' w w' (inr none) = cc none.0
+attended_session_never_idle config terms true a b s s' w w' (inl served) = nobody_turned_away_idle terms.limits terms.secret served.bytes served.serves.0
+attended_session_never_idle config terms true a b s s' w w' (inr none) = cc none.0
 
-plain : (config : HeapSettings) (terms : Terms) (stays : Bool) (a b : Incoming) (s s' : SeatModel) (w w' : Outgoing) (end : SessionEnd) → IsAttendedOn stays config terms s a b w w' s' end → IsAttendedOn stays config terms s a b w w' s' (plain_end end)
-plain config terms stays a b s s' w w' (Ran ended) h = h
-plain config terms stays a b s s' w w' Http h = h
-plain config terms stays a b s s' w w' Stranger h = h
-plain config terms stays a b s s' w w' Idle h = absurd (never_idle config terms stays a b s s' w w' h)
+attended_with_plain_end : (config : HeapSettings) (terms : Terms) (stays : Bool) (a b : Incoming) (s s' : SeatModel) (w w' : Outgoing) (end : SessionEnd) → IsAttendedOn stays config terms s a b w w' s' end → IsAttendedOn stays config terms s a b w w' s' (plain_end end)
+attended_with_plain_end config terms stays a b s s' w w' (Ran ended) h = h
+attended_with_plain_end config terms stays a b s s' w w' Http h = h
+attended_with_plain_end config terms stays a b s s' w w' Stranger h = h
+attended_with_plain_end config terms stays a b s s' w w' Idle h = absurd (attended_session_never_idle config terms stays a b s s' w w' h)
 
 -- a session is told as it ended, or as idle
-told_so : (config : HeapSettings) (terms : Terms) (stays : Bool) (a b : Incoming) (s s' : SeatModel) (w w' : Outgoing) (end told : SessionEnd) → IsAttendedOn stays config terms s a b w w' s' end → IsToldAs terms.idle end told
+session_told_as_ended : (config : HeapSettings) (terms : Terms) (stays : Bool) (a b : Incoming) (s s' : SeatModel) (w w' : Outgoing) (end told : SessionEnd) → IsAttendedOn stays config terms s a b w w' s' end → IsToldAs terms.idle end told
     → IsLimited terms told × IsAttendedOn stays config terms s a b w w' s' (plain_end told)
-told_so config terms stays a b s s' w w' end told h (inl same) = (
-  (λ is. absurd (never_idle config terms stays a b s s' w w' (subst (λ e. IsAttendedOn stays config terms s a b w w' s' e) (sym same ∙ is) h))),
-  subst (λ e. IsAttendedOn stays config terms s a b w w' s' (plain_end e)) (sym same) (plain config terms stays a b s s' w w' end h),
+session_told_as_ended config terms stays a b s s' w w' end told h (inl same) = (
+  (λ is. absurd (attended_session_never_idle config terms stays a b s s' w w' (subst (λ e. IsAttendedOn stays config terms s a b w w' s' e) (sym same ∙ is) h))),
+  subst (λ e. IsAttendedOn stays config terms s a b w w' s' (plain_end e)) (sym same) (attended_with_plain_end config terms stays a b s s' w w' end h),
 )
-told_so config terms stays a b s s' w w' end told h (inr idle) = (
+session_told_as_ended config terms stays a b s s' w w' end told h (inr idle) = (
   (λ is. idle.2),
   subst (λ e. IsAttendedOn stays config terms s a b w w' s' (plain_end e)) (sym idle.1) (subst (λ e. IsAttendedOn stays config terms s a b w w' s' e) idle.0 h),
 )
@@ -93,7 +93,7 @@ told_so config terms stays a b s s' w w' end told h (inr idle) = (
 pub client_told : (config : HeapSettings) (terms : Terms) (stays : Bool) (s s' : SeatModel) (end told : SessionEnd) (a b given : Incoming) (w w' sent : Outgoing) → a.taken ≡ [] → w.out ≡ [] → IsAttendedOn stays config terms s a b w w' s' end → IsToldAs terms.idle end told → given ≡ b → sent ≡ w'
     → IsLimited terms told × (x : Incoming) × (y : Outgoing) × (x.taken ≡ []) × (y.out ≡ []) × IsAttendedOn stays config terms s x given y sent s' (plain_end told)
 client_told config terms stays s s' end told a b given w w' sent taken out h so gave put =
-    let both = told_so config terms stays a b s s' w w' end told h so in (
+    let both = session_told_as_ended config terms stays a b s s' w w' end told h so in (
       both.0,
       a,
       w,

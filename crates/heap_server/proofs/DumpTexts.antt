@@ -17,7 +17,7 @@ use Rattle.dump_pump.specs.Sources.{part_limit}
 use Rattle.heap_lock.specs.Calls.{Call, IsLegalLedger, Witnesses}
 use Rattle.heap_lock.specs.LockStates.{SeatModel}
 use Rattle.heap_lock.specs.Laws.{state_at}
-use Rattle.heap_lock.proofs.PinTexts.{give_text}
+use Rattle.heap_lock.proofs.PinTexts.{given_pieces_tell_dump}
 use Rattle.session_text.specs.Replies.{data_lines, reply_text, piece_in, pin_in}
 use Rattle.session_text.specs.Dumps.{Dumps, DumpsOn, ClosesAfter, total_line}
 use Rattle.heap_server.specs.JoinedActs.{OpensMet}
@@ -26,43 +26,43 @@ use Rattle.heap_server.specs.DumpAnswers.{ActsJoined, lines_of_pieces, EndsData,
 -- ---- what was seen
 
 -- more was seen, and if what was seen before may be all calls of a heap, so may this
-abbrev Sees : HeapSettings → List Call → List Call → Type 0
-Sees config before after = IsPrefix before after × (IsLegalLedger config before → IsLegalLedger config after)
+abbrev SeesLegalCalls : HeapSettings → List Call → List Call → Type 0
+SeesLegalCalls config before after = IsPrefix before after × (IsLegalLedger config before → IsLegalLedger config after)
 
-sees_same : {S : Type 0} (config : HeapSettings) (seen : S → List Call) (c d : S) → d ≡ c → Sees config (seen c) (seen d)
-sees_same {S} config seen c d is = subst (λ (x : S). Sees config (seen c) (seen x)) (sym is) (([], append-nil (seen c)), λ legal. legal)
+same_state_sees_same_calls : {S : Type 0} (config : HeapSettings) (seen : S → List Call) (c d : S) → d ≡ c → SeesLegalCalls config (seen c) (seen d)
+same_state_sees_same_calls {S} config seen c d is = subst (λ (x : S). SeesLegalCalls config (seen c) (seen x)) (sym is) (([], append-nil (seen c)), λ legal. legal)
 
-sees_more : (config : HeapSettings) (xs ys zs : List Call) → Sees config xs ys → Sees config ys zs → Sees config xs zs
-sees_more config xs ys zs p q =
+calls_seen_in_turn : (config : HeapSettings) (xs ys zs : List Call) → SeesLegalCalls config xs ys → SeesLegalCalls config ys zs → SeesLegalCalls config xs zs
+calls_seen_in_turn config xs ys zs p q =
     ((p.0.0 ++ q.0.0, sym (append_assoc xs p.0.0 q.0.0) ∙ ap (λ l. l ++ q.0.0) p.0.1 ∙ q.0.1), λ legal. q.1 (p.1 legal))
 
-sees_call : (config : HeapSettings) (before : List Call) (a : Action) (r : Reply) (after : List Call) → Witnesses config before a r after → Sees config before after
-sees_call config before a r after w =
+witnessed_call_is_seen : (config : HeapSettings) (before : List Call) (a : Action) (r : Reply) (after : List Call) → Witnesses config before a r after → SeesLegalCalls config before after
+witnessed_call_is_seen config before a r after w =
     ((w.0 ++ (a, r) ∷ [], sym (append_assoc before w.0 ((a, r) ∷ [])) ∙ sym w.1), λ legal. w.2)
 
 -- ---- the pieces of a dump
 
-or_true : (b : Bool) → (b || true) ≡ true
-or_true true = refl
-or_true false = refl
+or_with_true_gives_true : (b : Bool) → (b || true) ≡ true
+or_with_true_gives_true true = refl
+or_with_true_gives_true false = refl
 
-not_whole : {A : Type 0} → false ≡ true → A
-not_whole {A} e = absurd (clash e)
+false_is_never_true : {A : Type 0} → false ≡ true → A
+false_is_never_true {A} e = absurd (clash e)
   where
     clash : false ≡ true → ⊥
     clash e = cc
 
 -- the text of a dump that had this number of bytes before, by the pieces that it is given
-abbrev IsGivenDump : ℕ → List ℕ → Type 0
-IsGivenDump so_far text =
+abbrev IsTextOfGivenDump : ℕ → List ℕ → Type 0
+IsTextOfGivenDump so_far text =
     (given : List Piece) × (whole : Bool) × (end : List ℕ) × (text ≡ lines_of_pieces given ++ end)
     × EndsData (so_far + length (joined given)) whole end
     × (whole ≡ true → list_any (λ (p : Piece). p.last) given ≡ true)
 
-abbrev TellsDump : {S : Type 0} → HeapSettings → (S → List Call) → ℕ → S → List ℕ → S → Type 0
-TellsDump config seen so_far c text d = IsGivenDump so_far text × Sees config (seen c) (seen d)
+abbrev TellsTextOfDump : {S : Type 0} → HeapSettings → (S → List Call) → ℕ → S → List ℕ → S → Type 0
+TellsTextOfDump config seen so_far c text d = IsTextOfGivenDump so_far text × SeesLegalCalls config (seen c) (seen d)
 
-last_piece : (so_far : ℕ) (p : Piece) (rest text : List ℕ) → text ≡ data_lines p.bytes ++ rest → p.last ≡ true → rest ≡ total_line (so_far + length p.bytes) → IsGivenDump so_far text
+last_piece : (so_far : ℕ) (p : Piece) (rest text : List ℕ) → text ≡ data_lines p.bytes ++ rest → p.last ≡ true → rest ≡ total_line (so_far + length p.bytes) → IsTextOfGivenDump so_far text
 last_piece so_far p rest text is last total = (
   p ∷ [],
   true,
@@ -72,39 +72,39 @@ last_piece so_far p rest text is last total = (
   λ w. ap (λ b. b || false) last,
 )
 
-one_piece : (so_far : ℕ) (p : Piece) (rest text : List ℕ) → text ≡ data_lines p.bytes ++ rest → IsGivenDump (so_far + length p.bytes) rest → IsGivenDump so_far text
-one_piece so_far p rest text is g =
+one_piece_and_given_rest : (so_far : ℕ) (p : Piece) (rest text : List ℕ) → text ≡ data_lines p.bytes ++ rest → IsTextOfGivenDump (so_far + length p.bytes) rest → IsTextOfGivenDump so_far text
+one_piece_and_given_rest so_far p rest text is g =
     let count : (so_far + length p.bytes) + length (joined g.0) ≡ so_far + length (p.bytes ++ joined g.0) = omega (arith, length-append p.bytes (joined g.0)) in (
       p ∷ g.0,
       g.1,
       g.2,
       is ∙ ap (λ l. data_lines p.bytes ++ l) g.3 ∙ sym (append_assoc (data_lines p.bytes) (lines_of_pieces g.0) g.2),
       subst (λ n. EndsData n g.1 g.2) count g.4,
-      λ w. ap (λ b. p.last || b) (g.5 w) ∙ or_true p.last,
+      λ w. ap (λ b. p.last || b) (g.5 w) ∙ or_with_true_gives_true p.last,
     )
 
-no_piece : (so_far : ℕ) (r : Reply) (text : List ℕ) → piece_in r ≡ None → text ≡ reply_text r → IsGivenDump so_far text
-no_piece so_far r text none is = ([], false, text, refl, inr (r, none, is), λ w. not_whole w)
+refused_piece_gives_no_dump : (so_far : ℕ) (r : Reply) (text : List ℕ) → piece_in r ≡ None → text ≡ reply_text r → IsTextOfGivenDump so_far text
+refused_piece_gives_no_dump so_far r text none is = ([], false, text, refl, inr (r, none, is), λ w. false_is_never_true w)
 
-on_tells : {S : Type 0} (config : HeapSettings) (seen : S → List Call) (more : S → ℕ → List ℕ → S → Type 0) (r : Reply) (o : Option Piece) (next d : S) (so_far : ℕ) (text : List ℕ) → piece_in r ≡ o → ((k : ℕ) (x : List ℕ) → more next k x d → TellsDump config seen k next x d) → DumpsOn more r o next so_far text d → TellsDump config seen so_far next text d
-on_tells config seen more r None next d so_far text is go s = (no_piece so_far r text is s.0, sees_same config seen next d s.1)
-on_tells config seen more r (Some p) next d so_far text is go s =
+dump_goes_on_telling : {S : Type 0} (config : HeapSettings) (seen : S → List Call) (more : S → ℕ → List ℕ → S → Type 0) (r : Reply) (o : Option Piece) (next d : S) (so_far : ℕ) (text : List ℕ) → piece_in r ≡ o → ((k : ℕ) (x : List ℕ) → more next k x d → TellsTextOfDump config seen k next x d) → DumpsOn more r o next so_far text d → TellsTextOfDump config seen so_far next text d
+dump_goes_on_telling config seen more r None next d so_far text is go s = (refused_piece_gives_no_dump so_far r text is s.0, same_state_sees_same_calls config seen next d s.1)
+dump_goes_on_telling config seen more r (Some p) next d so_far text is go s =
     elim s.2 [
-      | inl e ↦ (last_piece so_far p s.0 text s.1 e.0 e.1, sees_same config seen next d e.2)
-      | inr e ↦ let t = go (so_far + length p.bytes) s.0 e.1 in (one_piece so_far p s.0 text s.1 t.0, t.1)
+      | inl e ↦ (last_piece so_far p s.0 text s.1 e.0 e.1, same_state_sees_same_calls config seen next d e.2)
+      | inr e ↦ let t = go (so_far + length p.bytes) s.0 e.1 in (one_piece_and_given_rest so_far p s.0 text s.1 t.0, t.1)
     ]
 
-tells : {S : Type 0} (config : HeapSettings) (seat : S → SeatModel) (seen : S → List Call) (pin time n : ℕ) (c d : S) (so_far : ℕ) (text : List ℕ) → Dumps (ActsJoined config seat seen) pin time n c so_far text d → TellsDump config seen so_far c text d
-tells config seat seen pin time zero c d so_far text s =
-    (([], false, [], s.0, inl refl, λ w. not_whole w), sees_same config seen c d s.1)
-tells config seat seen pin time (suc n) c d so_far text s =
-    let called = sees_call config (seen c) (NextPiece pin time) s.0 (seen s.1) s.2.1 in
-    let t = on_tells config seen (Dumps (ActsJoined config seat seen) pin time n) s.0 (piece_in s.0) s.1 d so_far text refl (λ k x more. tells config seat seen pin time n s.1 d k x more) s.3 in
-    (t.0, sees_more config (seen c) (seen s.1) (seen d) called t.1)
+dump_tells_its_text : {S : Type 0} (config : HeapSettings) (seat : S → SeatModel) (seen : S → List Call) (pin time n : ℕ) (c d : S) (so_far : ℕ) (text : List ℕ) → Dumps (ActsJoined config seat seen) pin time n c so_far text d → TellsTextOfDump config seen so_far c text d
+dump_tells_its_text config seat seen pin time zero c d so_far text s =
+    (([], false, [], s.0, inl refl, λ w. false_is_never_true w), same_state_sees_same_calls config seen c d s.1)
+dump_tells_its_text config seat seen pin time (suc n) c d so_far text s =
+    let called = witnessed_call_is_seen config (seen c) (NextPiece pin time) s.0 (seen s.1) s.2.1 in
+    let t = dump_goes_on_telling config seen (Dumps (ActsJoined config seat seen) pin time n) s.0 (piece_in s.0) s.1 d so_far text refl (λ k x more. dump_tells_its_text config seat seen pin time n s.1 d k x more) s.3 in
+    (t.0, calls_seen_in_turn config (seen c) (seen s.1) (seen d) called t.1)
 
 -- ---- the text of a state
 
-exact_text : (config : HeapSettings) (pin time : ℕ) (seen : List Call) (text : List ℕ) → IsGivenDump 0 text → IsLegalLedger config seen → IsDumpAnswer config pin time seen text
+exact_text : (config : HeapSettings) (pin time : ℕ) (seen : List Call) (text : List ℕ) → IsTextOfGivenDump 0 text → IsLegalLedger config seen → IsDumpAnswer config pin time seen text
 exact_text config pin time seen text g legal =
     let total : 0 + length (joined g.0) ≡ length (joined g.0) = omega arith in
     record {
@@ -114,7 +114,7 @@ exact_text config pin time seen text g legal =
       lines = g.3;
       ends = subst (λ n. EndsData n g.1 g.2) total g.4;
       exact = λ place before after all.
-          let told = give_text config before after all.at pin place time (subst (IsLegalLedger config) all.opened legal) all.asks in
+          let told = given_pieces_tell_dump config before after all.at pin place time (subst (IsLegalLedger config) all.opened legal) all.asks in
           let joins = subst (λ (ps : List Piece). (rest : List ℕ) × (joined ps ++ rest ≡ dump_text config.ids (image_of (state_at config before place)) time) × (list_any (λ (p : Piece). p.last) ps ≡ true → rest ≡ [])) all.pieces told in
           (joins.0, joins.1, λ w. joins.2 (g.5 w));
     }
@@ -122,12 +122,12 @@ exact_text config pin time seen text g legal =
 legal_dump : {S : Type 0} (config : HeapSettings) (seat : S → SeatModel) (seen : S → List Call) (pin time n : ℕ) (c d : S) (so_far : ℕ) (text : List ℕ) → Dumps (ActsJoined config seat seen) pin time n c so_far text d → 0 < n → IsLegalLedger config (seen d)
 legal_dump config seat seen pin time zero c d so_far text s some = absurd (omega (arith, some))
 legal_dump config seat seen pin time (suc n) c d so_far text s some =
-    let t = on_tells config seen (Dumps (ActsJoined config seat seen) pin time n) s.0 (piece_in s.0) s.1 d so_far text refl (λ k x more. tells config seat seen pin time n s.1 d k x more) s.3 in
+    let t = dump_goes_on_telling config seen (Dumps (ActsJoined config seat seen) pin time n) s.0 (piece_in s.0) s.1 d so_far text refl (λ k x more. dump_tells_its_text config seat seen pin time n s.1 d k x more) s.3 in
     t.1.1 s.2.1.2
 
 pub pin_dump : {S : Type 0} (config : HeapSettings) (seat : S → SeatModel) (seen : S → List Call) (pin time : ℕ) (c d : S) (text : List ℕ) → AnswersPinDump config seat seen pin time c text d
 pin_dump config seat seen pin time c d text s =
-    exact_text config pin time (seen d) text (tells config seat seen pin time part_limit c d 0 text s).0 (legal_dump config seat seen pin time part_limit c d 0 text s (omega arith))
+    exact_text config pin time (seen d) text (dump_tells_its_text config seat seen pin time part_limit c d 0 text s).0 (legal_dump config seat seen pin time part_limit c d 0 text s (omega arith))
 
 -- ---- `dump -`
 
@@ -143,9 +143,9 @@ opened_dump : {S : Type 0} (config : HeapSettings) (seat : S → SeatModel) (see
 opened_dump config seat seen time pin r c opened d text is o s =
     let w = o.3 in
     let place = place_of_pin r pin is in
-    let t = tells config seat seen pin time part_limit opened s.0 0 text s.2 in
-    let closed = sees_call config (seen s.0) (ClosePin pin) s.1 (seen d) s.3.1 in
-    let all = (sees_more config (seen opened) (seen s.0) (seen d) t.1 closed).0 in
+    let t = dump_tells_its_text config seat seen pin time part_limit opened s.0 0 text s.2 in
+    let closed = witnessed_call_is_seen config (seen s.0) (ClosePin pin) s.1 (seen d) s.3.1 in
+    let all = (calls_seen_in_turn config (seen opened) (seen s.0) (seen d) t.1 closed).0 in
     let before = o.0 ++ w.0 in (
       pin,
       place.0,
@@ -159,10 +159,10 @@ opened_dump config seat seen time pin r c opened d text is o s =
       exact_text config pin time (seen d) text t.0 s.3.1.2,
     )
 
-after_open : {S : Type 0} (config : HeapSettings) (seat : S → SeatModel) (seen : S → List Call) (time : ℕ) (r : Reply) (o : Option ℕ) (c opened d : S) (text : List ℕ) → pin_in r ≡ o → OpensMet config (seat c) (seen c) None r (seen opened) → ClosesAfter (ActsJoined config seat seen) time r o part_limit opened text d → IsUnopened text ⊎ IsOpenedDump config (seat c) time (seen c) (seen d) text
-after_open config seat seen time r None c opened d text is w s = inl (r, is, s.0)
-after_open config seat seen time r (Some pin) c opened d text is w s = inr (opened_dump config seat seen time pin r c opened d text is w s)
+opened_dump_tells_its_text : {S : Type 0} (config : HeapSettings) (seat : S → SeatModel) (seen : S → List Call) (time : ℕ) (r : Reply) (o : Option ℕ) (c opened d : S) (text : List ℕ) → pin_in r ≡ o → OpensMet config (seat c) (seen c) None r (seen opened) → ClosesAfter (ActsJoined config seat seen) time r o part_limit opened text d → IsUnopened text ⊎ IsOpenedDump config (seat c) time (seen c) (seen d) text
+opened_dump_tells_its_text config seat seen time r None c opened d text is w s = inl (r, is, s.0)
+opened_dump_tells_its_text config seat seen time r (Some pin) c opened d text is w s = inr (opened_dump config seat seen time pin r c opened d text is w s)
 
-pub new_dump : {S : Type 0} (config : HeapSettings) (seat : S → SeatModel) (seen : S → List Call) (time : ℕ) (c d : S) (text : List ℕ) → AnswersNewDump config seat seen time c text d
-new_dump config seat seen time c d text s =
-    after_open config seat seen time s.0 (pin_in s.0) c s.1 d text refl s.2.1 s.3
+pub new_dump_tells_its_text : {S : Type 0} (config : HeapSettings) (seat : S → SeatModel) (seen : S → List Call) (time : ℕ) (c d : S) (text : List ℕ) → AnswersNewDump config seat seen time c text d
+new_dump_tells_its_text config seat seen time c d text s =
+    opened_dump_tells_its_text config seat seen time s.0 (pin_in s.0) c s.1 d text refl s.2.1 s.3

@@ -10,38 +10,38 @@ use Rattle.session_grammar.specs.Lines.{IsLineAt, NoLf}
 use Rattle.heap_server.specs.Http.{asks_http, first_line, is_request, is_request_line}
 
 -- what stands before an LF is the first line
-line_before : (l rest : List ℕ) → NoLf l → first_line (l ++ 10 ∷ rest) ≡ Some l
-line_before [] rest none = refl
-line_before (b ∷ l) rest none =
+bytes_before_feed_are_line : (l rest : List ℕ) → NoLf l → first_line (l ++ 10 ∷ rest) ≡ Some l
+bytes_before_feed_are_line [] rest none = refl
+bytes_before_feed_are_line (b ∷ l) rest none =
     let isnt : (b == 10) ≡ false = All-head (λ x. (x == 10) ≡ false) b l none in
     ap (λ (c : Bool). if c then Some [] else option_map (λ l. b ∷ l) (first_line (l ++ 10 ∷ rest))) isnt
-    ∙ ap (λ (o : Option (List ℕ)). option_map (λ l. b ∷ l) o) (line_before l rest (All-tail (λ x. (x == 10) ≡ false) b l none))
+    ∙ ap (λ (o : Option (List ℕ)). option_map (λ l. b ∷ l) o) (bytes_before_feed_are_line l rest (All-tail (λ x. (x == 10) ≡ false) b l none))
 
-no_line : (l : List ℕ) → NoLf l → first_line l ≡ None
-no_line [] none = refl
-no_line (b ∷ l) none =
+bytes_without_feed_no_first_line : (l : List ℕ) → NoLf l → first_line l ≡ None
+bytes_without_feed_no_first_line [] none = refl
+bytes_without_feed_no_first_line (b ∷ l) none =
     let isnt : (b == 10) ≡ false = All-head (λ x. (x == 10) ≡ false) b l none in
     ap (λ (c : Bool). if c then Some [] else option_map (λ l. b ∷ l) (first_line l)) isnt
-    ∙ ap (λ (o : Option (List ℕ)). option_map (λ l. b ∷ l) o) (no_line l (All-tail (λ x. (x == 10) ≡ false) b l none))
+    ∙ ap (λ (o : Option (List ℕ)). option_map (λ l. b ∷ l) o) (bytes_without_feed_no_first_line l (All-tail (λ x. (x == 10) ≡ false) b l none))
 
-pub asks_none : (most : ℕ) (l : List ℕ) → NoLf l → asks_http most l ≡ false
-asks_none most l none = ap (λ (o : Option (List ℕ)). option_map_or (is_request most) o false) (no_line l none)
+pub bytes_without_feed_ask_no_http : (most : ℕ) (l : List ℕ) → NoLf l → asks_http most l ≡ false
+bytes_without_feed_ask_no_http most l none = ap (λ (o : Option (List ℕ)). option_map_or (is_request most) o false) (bytes_without_feed_no_first_line l none)
 
-pub line_at : (n : ℕ) (bytes : List ℕ) → IsLineAt n bytes → first_line bytes ≡ Some (take n bytes)
-line_at n bytes at = ap first_line at.2 ∙ line_before (take n bytes) (drop (n + 1) bytes) at.1
+pub line_at_is_first_line : (n : ℕ) (bytes : List ℕ) → IsLineAt n bytes → first_line bytes ≡ Some (take n bytes)
+line_at_is_first_line n bytes at = ap first_line at.2 ∙ bytes_before_feed_are_line (take n bytes) (drop (n + 1) bytes) at.1
 
-pub asks_at : (most n : ℕ) (bytes : List ℕ) → IsLineAt n bytes → asks_http most bytes ≡ is_request most (take n bytes)
-asks_at most n bytes at = ap (λ (o : Option (List ℕ)). option_map_or (is_request most) o false) (line_at n bytes at)
+pub http_asked_by_line_at : (most n : ℕ) (bytes : List ℕ) → IsLineAt n bytes → asks_http most bytes ≡ is_request most (take n bytes)
+http_asked_by_line_at most n bytes at = ap (λ (o : Option (List ℕ)). option_map_or (is_request most) o false) (line_at_is_first_line n bytes at)
 
 -- a line that isn't too long, and one that is
 pub asks_line : (most n : ℕ) (bytes : List ℕ) → IsLineAt n bytes → n ≤ most → asks_http most bytes ≡ is_request_line (without_cr (take n bytes))
 asks_line most n bytes at le =
     let size : length (take n bytes) ≡ n = length-take-le n bytes (omega (arith, at.0)) in
     let fits : nat_le (length (take n bytes)) most ≡ true = le-leb (length (take n bytes)) most (omega (arith, size, le)) in
-    asks_at most n bytes at ∙ ap (λ c. c && is_request_line (without_cr (take n bytes))) fits
+    http_asked_by_line_at most n bytes at ∙ ap (λ c. c && is_request_line (without_cr (take n bytes))) fits
 
-pub asks_long : (most n : ℕ) (bytes : List ℕ) → IsLineAt n bytes → most < n → asks_http most bytes ≡ false
-asks_long most n bytes at lt =
+pub long_line_asks_no_http : (most n : ℕ) (bytes : List ℕ) → IsLineAt n bytes → most < n → asks_http most bytes ≡ false
+long_line_asks_no_http most n bytes at lt =
     let size : length (take n bytes) ≡ n = length-take-le n bytes (omega (arith, at.0)) in
     let over : nat_le (length (take n bytes)) most ≡ false = lt-leb (length (take n bytes)) most (omega (arith, size, lt)) in
-    asks_at most n bytes at ∙ ap (λ c. c && is_request_line (without_cr (take n bytes))) over
+    http_asked_by_line_at most n bytes at ∙ ap (λ c. c && is_request_line (without_cr (take n bytes))) over

@@ -23,16 +23,16 @@ use Rattle.heap_lock.specs.Outcome.TheVariants as outcome
 use Rattle.heap_lock.specs.Receipt.{Receipt}
 use Rattle.heap_lock.specs.History.{MayEnter, entry, reply_of, entries_by}
 use Rattle.heap_lock.specs.LockStates.{SeatModel, IsAct, IsNoEntry, IsRefused, LockState}
-use Rattle.heap_lock.proofs.StepReplies.{no_place}
+use Rattle.heap_lock.proofs.StepReplies.{step_replies_no_place}
 use Rattle.question_text.specs.declared.cycle.CycleCounts.{CycleCounts}
 use Rattle.question_text.specs.Collections.{IsShortage, RunsCycle, TakenStep}
 use Rattle.question_text.proofs.CycleSteps.{short}
 use Rattle.heap_server.specs.JoinedAnswers.{Gains, IsHeapOfSeat, RunsCycleOfHeap, entries_of_steps}
 
 -- a step that is refused leaves the machine
-step_refused : (m n : Machine) (e : Event) (r : Refusal) → acted m (Step e) ≡ (n, Refused r) → n ≡ m
+refused_step_leaves_machine : (m n : Machine) (e : Event) (r : Refusal) → acted m (Step e) ≡ (n, Refused r) → n ≡ m
 unfolding acted after_result after_step_at
-step_refused m n e r is = at (nat_le last_place m.trail.place) is
+refused_step_leaves_machine m n e r is = at (nat_le last_place m.trail.place) is
   where
     of : (x : Result (HeapState × Answer) Refusal) → after_result e m x ≡ (n, Refused r) → n ≡ m
     of (Ok v) h = let clash : Answered v.1 ≡ Refused r = ap (λ (x : Machine × Reply). x.1) h in absurd (cc clash)
@@ -42,12 +42,12 @@ step_refused m n e r is = at (nat_le last_place m.trail.place) is
     at true h = sym (ap (λ (x : Machine × Reply). x.0) h)
     at false h = of (applied e m.trail.current) h
 
-pub refused_stays : (m n : Machine) (e : Event) (r : Refusal) → MayReply m (Step e) n (Refused r) → (n ≡ m) × MayFail m (Step e) m r
+pub step_reply_refused_leaves_machine : (m n : Machine) (e : Event) (r : Refusal) → MayReply m (Step e) n (Refused r) → (n ≡ m) × MayFail m (Step e) m r
 unfolding acted_under is_accepted
-refused_stays m n e r h = go h.0 h.1 h.2
+step_reply_refused_leaves_machine m n e r h = go h.0 h.1 h.2
   where
     go : (mark : Allocation) → MayStand m (Step e, mark) → acted_under m (Step e, mark) ≡ (n, Refused r) → (n ≡ m) × MayFail m (Step e) m r
-    go Granted s is = let same : n ≡ m = step_refused m n e r is in (same, inl (is ∙ ap (λ (k : Machine). let x : Machine × Reply = (k, Refused r) in x) same))
+    go Granted s is = let same : n ≡ m = refused_step_leaves_machine m n e r is in (same, inl (is ∙ ap (λ (k : Machine). let x : Machine × Reply = (k, Refused r) in x) same))
     go Denied s is =
         let told : Refused NoMemory ≡ Refused r = ap (λ (x : Machine × Reply). x.1) is in
         let same : NoMemory ≡ r = cc told in
@@ -62,29 +62,29 @@ unfolding acted_under
 not_at_place m n e p h = go h.0 h.2
   where
     go : (mark : Allocation) → acted_under m (Step e, mark) ≡ (n, Place p) → ⊥
-    go Granted is = no_place m e p (ap (λ (x : Machine × Reply). x.1) is)
+    go Granted is = step_replies_no_place m e p (ap (λ (x : Machine × Reply). x.1) is)
     go Denied is = let clash : Refused NoMemory ≡ Place p = ap (λ (x : Machine × Reply). x.1) is in cc clash
-    go (LosesPins pins) is = no_place m e p (ap (λ (x : Machine × Reply). x.1) is)
+    go (LosesPins pins) is = step_replies_no_place m e p (ap (λ (x : Machine × Reply). x.1) is)
 
 -- ---- an outcome that is one of its variants
 
-pub answered_as : (m n : Machine) (e : Event) (o : Outcome) (a : Answer) → MayReply m (Step e) n (reply_of o) → o ≡ outcome.Answered a → MayReply m (Step e) n (Answered a)
-answered_as m n e o a h is = subst (λ (x : Outcome). MayReply m (Step e) n (reply_of x)) is h
+pub outcome_answered_is_reply : (m n : Machine) (e : Event) (o : Outcome) (a : Answer) → MayReply m (Step e) n (reply_of o) → o ≡ outcome.Answered a → MayReply m (Step e) n (Answered a)
+outcome_answered_is_reply m n e o a h is = subst (λ (x : Outcome). MayReply m (Step e) n (reply_of x)) is h
 
-pub refused_as : (m n : Machine) (e : Event) (o : Outcome) (r : Refusal) → MayReply m (Step e) n (reply_of o) → o ≡ outcome.Refused r → (n ≡ m) × MayFail m (Step e) m r
-refused_as m n e o r h is = refused_stays m n e r (subst (λ (x : Outcome). MayReply m (Step e) n (reply_of x)) is h)
+pub refused_reply_leaves_machine : (m n : Machine) (e : Event) (o : Outcome) (r : Refusal) → MayReply m (Step e) n (reply_of o) → o ≡ outcome.Refused r → (n ≡ m) × MayFail m (Step e) m r
+refused_reply_leaves_machine m n e o r h is = step_reply_refused_leaves_machine m n e r (subst (λ (x : Outcome). MayReply m (Step e) n (reply_of x)) is h)
 
-pub never_placed : (m n : Machine) (e : Event) (o : Outcome) (p : ℕ) → MayReply m (Step e) n (reply_of o) → o ≡ outcome.Place p → ⊥
-never_placed m n e o p h is = not_at_place m n e p (subst (λ (x : Outcome). MayReply m (Step e) n (reply_of x)) is h)
+pub step_reply_is_never_place : (m n : Machine) (e : Event) (o : Outcome) (p : ℕ) → MayReply m (Step e) n (reply_of o) → o ≡ outcome.Place p → ⊥
+step_reply_is_never_place m n e o p h is = not_at_place m n e p (subst (λ (x : Outcome). MayReply m (Step e) n (reply_of x)) is h)
 
 -- which refusal without an entry it is
-pub no_entry : (k : LockState) (e : Refusal) → IsRefused k e → IsNoEntry e
-no_entry k e (inl h) = inl h.0
-no_entry k e (inr h) = inr h.0
+pub refused_act_has_no_entry : (k : LockState) (e : Refusal) → IsRefused k e → IsNoEntry e
+refused_act_has_no_entry k e (inl h) = inl h.0
+refused_act_has_no_entry k e (inr h) = inr h.0
 
 -- an act that the state allows is never refused with an entry
-pub never_refused : (m n : Machine) (e : Event) (o : Outcome) (r : Refusal) → refusal_of e m.trail.current ≡ None → MayReply m (Step e) n (reply_of o) → MayEnter (reply_of o) → o ≡ outcome.Refused r → ⊥
-never_refused m n e o r free h enters is = go (short m e r free (refused_as m n e o r h is).1)
+pub allowed_act_never_refused : (m n : Machine) (e : Event) (o : Outcome) (r : Refusal) → refusal_of e m.trail.current ≡ None → MayReply m (Step e) n (reply_of o) → MayEnter (reply_of o) → o ≡ outcome.Refused r → ⊥
+allowed_act_never_refused m n e o r free h enters is = go (short m e r free (refused_reply_leaves_machine m n e o r h is).1)
   where
     told : (x : Refusal) → r ≡ x → reply_of o ≡ Refused x
     told x same = ap (λ (y : Outcome). reply_of y) is ∙ ap (λ (y : Refusal). Refused y) same
@@ -99,17 +99,17 @@ enumerate_push : (n : ℕ) (es : List Entry) (e : Entry) → enumerate_from n (e
 enumerate_push n [] e = ap (λ (k : ℕ). (k, e) ∷ []) (omega arith)
 enumerate_push n (x ∷ es) e = ap (λ l. (n, x) ∷ l) (enumerate_push (n + 1) es e ∙ ap (λ k. enumerate_from (n + 1) es ++ (k, e) ∷ []) (omega arith))
 
-pub gains_none : (k : LockState) (s : SeatModel) → Gains k s [] k s
-gains_none k s = record {
+pub lock_gains_no_entries : (k : LockState) (s : SeatModel) → Gains k s [] k s
+lock_gains_no_entries k s = record {
   chronicle = sym (append-nil k.chronicle);
   calls = sym (append-nil k.ledger);
   seat = sym (ap (λ (l : List (ℕ × Entry)). let c : SeatModel = record s { share = l } in c) (append-nil s.share));
   rolls = refl;
 }
 
-gains_more : (k : LockState) (s : SeatModel) (es : List Entry) (e : Entry) (turn : ℕ) (l : LockState) (t : SeatModel) (l' : LockState) (t' : SeatModel) → Gains k s es l t → l'.chronicle ≡ l.chronicle ++ e ∷ [] → l'.ledger ≡ l.ledger ++ call_of e ∷ [] → turn ≡ length l'.chronicle → t' ≡ record t { share = t.share ++ (turn, e) ∷ [] } → l'.rolls ≡ l.rolls
+lock_gains_one_entry_more : (k : LockState) (s : SeatModel) (es : List Entry) (e : Entry) (turn : ℕ) (l : LockState) (t : SeatModel) (l' : LockState) (t' : SeatModel) → Gains k s es l t → l'.chronicle ≡ l.chronicle ++ e ∷ [] → l'.ledger ≡ l.ledger ++ call_of e ∷ [] → turn ≡ length l'.chronicle → t' ≡ record t { share = t.share ++ (turn, e) ∷ [] } → l'.rolls ≡ l.rolls
     → Gains k s (es ++ e ∷ []) l' t'
-gains_more k s es e turn l t l' t' g chronicle ledger is share rolls =
+lock_gains_one_entry_more k s es e turn l t l' t' g chronicle ledger is share rolls =
     let first = length k.chronicle + 1 in
     let place : turn ≡ first + length es = omega (arith, is, ap length chronicle, length_push l.chronicle e, ap length g.chronicle, length-append k.chronicle es) in
     let turns : enumerate_from first es ++ (turn, e) ∷ [] ≡ enumerate_from first (es ++ e ∷ []) = ap (λ (n : ℕ). enumerate_from first es ++ (n, e) ∷ []) place ∙ sym (enumerate_push first es e) in
@@ -126,7 +126,7 @@ gains_more k s es e turn l t l' t' g chronicle ledger is share rolls =
 pub step_gained : (k : LockState) (s : SeatModel) (steps : List TakenStep) (l : LockState) (t : SeatModel) (event : Event) (a : Answer) (r : Receipt) (l' : LockState) (t' : SeatModel) → IsAct (Step event) l t r l' t' → r.answer ≡ outcome.Answered a → Gains k s (entries_of_steps s.number steps) l t → Gains k s (entries_of_steps s.number (steps ++ (event, a) ∷ [])) l' t'
 step_gained k s steps l t event a r l' t' act told g =
     let e = entry t.number (Step event) r.answer in
-    let more = gains_more k s (entries_of_steps s.number steps) e r.turn l t l' t' g act.0 act.1 act.4 act.5 act.6 in
+    let more = lock_gains_one_entry_more k s (entries_of_steps s.number steps) e r.turn l t l' t' g act.0 act.1 act.4 act.5 act.6 in
     let number : t.number ≡ s.number = ap (λ (c : SeatModel). c.number) g.seat in
     let same : e ≡ entry s.number (Step event) (outcome.Answered a) = ap₂ (λ (n : ℕ) (o : Outcome). entry n (Step event) o) number told in
     let all = map-append (λ (step : TakenStep). entry s.number (Step step.0) (outcome.Answered step.1)) steps ((event, a) ∷ []) in
@@ -140,21 +140,21 @@ none_gained k s steps l t l' t' lock seat g =
 
 -- ---- a cycle
 
-abbrev IsHeap : HeapSettings → LockState → Type 0
-IsHeap config k = IsHeapLedger config k.machine k.chronicle k.ledger
+abbrev IsHeapUnderLock : HeapSettings → LockState → Type 0
+IsHeapUnderLock config k = IsHeapLedger config k.machine k.chronicle k.ledger
 
 -- a cycle between two moments under one lock, at each of which chronicle and seat were compared and the witness saw all calls
-pub heap_cycle : (config : HeapSettings) (seen seen' : List Call) (cycle : Result CycleCounts Refusal) (steps : List TakenStep) (k k1 k2 l l1 : LockState) (s s1 t t1 : SeatModel) → entries_by s.number k.chronicle ≡ s.share → k1 ≡ k → s1 ≡ s → IsHeap config k1 → IsPrefix seen k1.ledger → k2 ≡ k1
-    → RunsCycle IsNoEntry k2.machine steps cycle l.machine → Gains k2 s1 (entries_of_steps s1.number steps) l t → entries_by t.number l.chronicle ≡ t.share → l1 ≡ l → t1 ≡ t → IsHeap config l1 → seen' ≡ l1.ledger → RunsCycleOfHeap config s seen cycle t1 seen'
+pub heap_cycle : (config : HeapSettings) (seen seen' : List Call) (cycle : Result CycleCounts Refusal) (steps : List TakenStep) (k k1 k2 l l1 : LockState) (s s1 t t1 : SeatModel) → entries_by s.number k.chronicle ≡ s.share → k1 ≡ k → s1 ≡ s → IsHeapUnderLock config k1 → IsPrefix seen k1.ledger → k2 ≡ k1
+    → RunsCycle IsNoEntry k2.machine steps cycle l.machine → Gains k2 s1 (entries_of_steps s1.number steps) l t → entries_by t.number l.chronicle ≡ t.share → l1 ≡ l → t1 ≡ t → IsHeapUnderLock config l1 → seen' ≡ l1.ledger → RunsCycleOfHeap config s seen cycle t1 seen'
 heap_cycle config seen seen' cycle steps k k1 k2 l l1 s s1 t t1 share same seat heap begins shown runs gains share' same' seat' heap' sees =
     let es = entries_of_steps s.number steps in
-    let to : IsHeapOfSeat config l.machine l.chronicle l.ledger t = (subst (IsHeap config) same' heap', share') in
+    let to : IsHeapOfSeat config l.machine l.chronicle l.ledger t = (subst (IsHeapUnderLock config) same' heap', share') in
     record {
       first = k;
       steps = steps;
       last = l;
       begins = subst (λ (x : LockState). IsPrefix seen x.ledger) same begins;
-      from = (subst (IsHeap config) same heap, share);
+      from = (subst (IsHeapUnderLock config) same heap, share);
       runs = subst (λ (x : LockState). RunsCycle IsNoEntry x.machine steps cycle l.machine) (shown ∙ same) runs;
       gains = subst (λ (x : SeatModel). Gains k s es l x) (sym seat') (subst (λ (x : LockState). Gains x s es l t) (shown ∙ same) (subst (λ (x : SeatModel). Gains k2 x (entries_of_steps x.number steps) l t) seat gains));
       to = subst (λ (x : SeatModel). IsHeapOfSeat config l.machine l.chronicle l.ledger x) (sym seat') to;

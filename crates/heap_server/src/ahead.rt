@@ -33,14 +33,29 @@ pub(crate) struct Ahead {
     failed: bool,
 }
 
-// Reads once behind the first `end` bytes of a room.
-fn read_more<I: Inlet>(inlet: &mut I, room: &mut [u8], end: usize) -> Take
-    requires { end < length room.old }
-    ensures read { IsInletRead (take end room.old) (take (end + count_of result) room.new)
-        (I.seen inlet.old) (I.seen inlet.new) result }
-    ensures fits { end + count_of result ≤ length room.new }
+/// Reads until the first line is whole or too long for the session, the end comes, or a read fails. Fails if an allocation fails,
+/// and has read nothing then.
+pub(crate) fn read_line<I: Inlet>(
+    alloc: Global,
+    inlet: &mut I,
+    limits: SessionLimits,
+) -> Result<Ahead, AllocError>
+    ensures { IfOk result
+        (λ a. IsAhead (longest_line limits) a.bytes.items a.failed (I.seen inlet.old)
+        (I.seen inlet.new)) }
 {
-    inlet.take(&mut room[end..])
+    let most = limits.longest_line();
+    let mut bytes = vec![in alloc; 0; most + MORE_ROOM]?;
+    let mut sizes = Vec::with_capacity(alloc, most + 1)?;
+    let (end, failed) = fill(inlet, bytes.as_mut_slice(), &mut sizes, most);
+    bytes.truncate(end);
+    bytes.shrink_to_fit();
+    sizes.shrink_to_fit();
+    Ok(Ahead {
+        bytes,
+        sizes,
+        failed,
+    })
 }
 
 // Reads into a room until the first line is whole or has more than `most` bytes, the end comes, or a read fails. Returns the number of
@@ -74,29 +89,14 @@ fn fill<I: Inlet>(
     unreachable!()
 }
 
-/// Reads until the first line is whole or too long for the session, the end comes, or a read fails. Fails if an allocation fails,
-/// and has read nothing then.
-pub(crate) fn read_line<I: Inlet>(
-    alloc: Global,
-    inlet: &mut I,
-    limits: SessionLimits,
-) -> Result<Ahead, AllocError>
-    ensures { IfOk result
-        (λ a. IsAhead (longest_line limits) a.bytes.items a.failed (I.seen inlet.old)
-        (I.seen inlet.new)) }
+// Reads once behind the first `end` bytes of a room.
+fn read_more<I: Inlet>(inlet: &mut I, room: &mut [u8], end: usize) -> Take
+    requires { end < length room.old }
+    ensures read { IsInletRead (take end room.old) (take (end + count_of result) room.new)
+        (I.seen inlet.old) (I.seen inlet.new) result }
+    ensures fits { end + count_of result ≤ length room.new }
 {
-    let most = limits.longest_line();
-    let mut bytes = vec![in alloc; 0; most + MORE_ROOM]?;
-    let mut sizes = Vec::with_capacity(alloc, most + 1)?;
-    let (end, failed) = fill(inlet, bytes.as_mut_slice(), &mut sizes, most);
-    bytes.truncate(end);
-    bytes.shrink_to_fit();
-    sizes.shrink_to_fit();
-    Ok(Ahead {
-        bytes,
-        sizes,
-        failed,
-    })
+    inlet.take(&mut room[end..])
 }
 
 impl Ahead {
@@ -207,23 +207,6 @@ impl<I: Inlet + Drop, B: AheadOrigin> AheadInlet<I, B> {
     }
 }
 
-// Copies the next part of what was read ahead, behind the first `start` bytes, to the front of a room. Returns its size.
-fn copy_part(ahead: &Ahead, start: usize, part: usize, room: &mut [u8]) -> usize
-    requires room { 0 < length room.old }
-    requires more { start < length ahead.now.bytes.items }
-    ensures some { (0 < result) × (result ≤ length room.new) }
-    ensures within { start + result ≤ length ahead.now.bytes.items }
-    ensures bytes { take result room.new ≡ take result (drop start ahead.now.bytes.items) }
-{
-    let left = (ahead.bytes.len() - start).min(room.len());
-    let n = match ahead.sizes.get(part) {
-        Some(size) => (*size as usize + 1).min(left),
-        None => left,
-    };
-    room[..n].copy_from_slice(&ahead.bytes[start..start + n]);
-    n
-}
-
 // Gives the next part of what was read ahead, behind the first `start` bytes; or fails if the last read ahead did, or reads on. Tells
 // how many of the bytes ahead were given.
 fn take_on<I: Inlet>(
@@ -250,6 +233,23 @@ fn take_on<I: Inlet>(
         return (Take::Failed, 0);
     }
     (inlet.take(room), 0)
+}
+
+// Copies the next part of what was read ahead, behind the first `start` bytes, to the front of a room. Returns its size.
+fn copy_part(ahead: &Ahead, start: usize, part: usize, room: &mut [u8]) -> usize
+    requires room { 0 < length room.old }
+    requires more { start < length ahead.now.bytes.items }
+    ensures some { (0 < result) × (result ≤ length room.new) }
+    ensures within { start + result ≤ length ahead.now.bytes.items }
+    ensures bytes { take result room.new ≡ take result (drop start ahead.now.bytes.items) }
+{
+    let left = (ahead.bytes.len() - start).min(room.len());
+    let n = match ahead.sizes.get(part) {
+        Some(size) => (*size as usize + 1).min(left),
+        None => left,
+    };
+    room[..n].copy_from_slice(&ahead.bytes[start..start + n]);
+    n
 }
 
 impl<I: Inlet + Drop, B: AheadOrigin> Inlet for AheadInlet<I, B> {

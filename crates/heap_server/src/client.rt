@@ -132,20 +132,6 @@ fn send_from<R: Wait, I: Inlet + Drop, T: Outlet + Drop>(
     }
 }
 
-// Sends the line of a word, if there is one. Returns whether all of it is out.
-fn send_word<O: Outlet>(secret: Option<Secret>, socket: &mut O) -> bool
-    ensures { SendsWord secret (O.seen socket.old) (O.seen socket.new) result }
-{
-    match secret {
-        Some(word) => {
-            let line = word.line();
-            let bytes = line.as_bytes();
-            put_all(socket, bytes) >= bytes.len()
-        }
-        None => true,
-    }
-}
-
 // Sends the line of a word, if there is one, and then input, as `send_input` does. A write that fails ends the sending and is no fault.
 // Returns whether the input failed.
 fn send_all<R: Wait, I: Inlet, O: Outlet>(
@@ -162,6 +148,20 @@ fn send_all<R: Wait, I: Inlet, O: Outlet>(
         return false;
     }
     send_input(rt, input, socket, input_failed)
+}
+
+// Sends the line of a word, if there is one. Returns whether all of it is out.
+fn send_word<O: Outlet>(secret: Option<Secret>, socket: &mut O) -> bool
+    ensures { SendsWord secret (O.seen socket.old) (O.seen socket.new) result }
+{
+    match secret {
+        Some(word) => {
+            let line = word.line();
+            let bytes = line.as_bytes();
+            put_all(socket, bytes) >= bytes.len()
+        }
+        None => true,
+    }
 }
 
 // Sends all input, and then a line's end and the line `end`, also after a fault of the input, which is noted before. A write that

@@ -24,28 +24,6 @@ pub enum SessionEnd {
     Idle,
 }
 
-// Returns what is left of the bytes that were read ahead of a client that is served. Fails with how its session ends if the client is
-// turned away: if the first line isn't the secret word, or, without one, begins an HTTP request.
-fn admit(ahead: Ahead, secret: Option<Secret>, limits: SessionLimits) -> Result<Ahead, SessionEnd>
-    ensures { MatchResult result
-        (λ a. Admits limits secret ahead.bytes.items a.bytes.items × (a.failed ≡ ahead.failed))
-        (λ end. TurnsAway limits secret ahead.bytes.items end) }
-{
-    match secret {
-        Some(word) => match word.line_size(ahead.bytes.as_slice()) {
-            Some(size) => Ok(ahead.behind(size)),
-            None => Err(SessionEnd::Stranger),
-        },
-        None => {
-            if asks_http(ahead.bytes.as_slice(), limits.longest_line()) {
-                Err(SessionEnd::Http)
-            } else {
-                Ok(ahead)
-            }
-        }
-    }
-}
-
 /// Serves a client whose first line was read ahead, as `serve` does, on these terms. If they have a secret word, that line has
 /// to be the word, and the session begins behind it; else it may not begin an HTTP request. A client whose first line is
 /// another is turned away: nothing more is read, and nothing is run or put out. Fails with NoMemory, before a line is run, if
@@ -72,6 +50,28 @@ pub(crate) fn serve_client<I: Inlet + Drop, O: Outlet, C: Commands>(
         alloc, inlet, ahead, outlet, commands, time, limits,
     );
     (SessionEnd::Ran(ended), inlet)
+}
+
+// Returns what is left of the bytes that were read ahead of a client that is served. Fails with how its session ends if the client is
+// turned away: if the first line isn't the secret word, or, without one, begins an HTTP request.
+fn admit(ahead: Ahead, secret: Option<Secret>, limits: SessionLimits) -> Result<Ahead, SessionEnd>
+    ensures { MatchResult result
+        (λ a. Admits limits secret ahead.bytes.items a.bytes.items × (a.failed ≡ ahead.failed))
+        (λ end. TurnsAway limits secret ahead.bytes.items end) }
+{
+    match secret {
+        Some(word) => match word.line_size(ahead.bytes.as_slice()) {
+            Some(size) => Ok(ahead.behind(size)),
+            None => Err(SessionEnd::Stranger),
+        },
+        None => {
+            if asks_http(ahead.bytes.as_slice(), limits.longest_line()) {
+                Err(SessionEnd::Http)
+            } else {
+                Ok(ahead)
+            }
+        }
+    }
 }
 
 // Serves a client whose first line was read ahead and doesn't turn it away. Gives the inlet back.

@@ -48,6 +48,22 @@ impl<'a, L: Heap> Steps for HeldHeap<'a, L> {
     }
 }
 
+// Takes the steps of `collect` for one who holds the lock, each an act of the seat, and returns its answer.
+pub(crate) fn collect_held<L: Heap>(
+    alloc: Global,
+    kept: &mut Kept<L>,
+    seat: &mut Seat<L>,
+    witness: &mut Witness<L>,
+) -> LineAnswer
+    requires { seat.old.role ≡ User }
+    ensures collects { IsCollectionOfHeap L.config seat.old witness.old (line_answer_text result)
+        seat.new witness.new }
+    ensures role { seat.new.role ≡ User }
+{
+    let cycle = cycle_from(kept, seat, witness);
+    collect_answer(alloc, cycle)
+}
+
 // Runs a cycle for one who holds the lock. The witness sees the calls before it, and then those of its steps.
 fn cycle_from<L: Heap>(
     kept: &mut Kept<L>,
@@ -65,20 +81,4 @@ fn cycle_from<L: Heap>(
     held.kept.agree(seat);
     held.kept.show(witness);
     cycle
-}
-
-// Takes the steps of `collect` for one who holds the lock, each an act of the seat, and returns its answer.
-pub(crate) fn collect_held<L: Heap>(
-    alloc: Global,
-    kept: &mut Kept<L>,
-    seat: &mut Seat<L>,
-    witness: &mut Witness<L>,
-) -> LineAnswer
-    requires { seat.old.role ≡ User }
-    ensures collects { IsCollectionOfHeap L.config seat.old witness.old (line_answer_text result)
-        seat.new witness.new }
-    ensures role { seat.new.role ≡ User }
-{
-    let cycle = cycle_from(kept, seat, witness);
-    collect_answer(alloc, cycle)
 }

@@ -13,18 +13,6 @@ const LF: u8 = b'\n';
 // The number of bytes of ` HTTP/1.` and a digit.
 const VERSION_SIZE: usize = 9;
 
-// Tells whether a line ends in ` HTTP/1.` and a digit.
-fn is_request_line(line: &[u8]) -> bool
-    ensures { result ≡ is_request_line line.now }
-{
-    let size = line.len();
-    if size < VERSION_SIZE {
-        return false;
-    }
-    let version = &line[size - VERSION_SIZE..size - 1];
-    is_word(version, b" HTTP/1.") && line[size - 1].is_ascii_digit()
-}
-
 /// Returns the place of the first LF, or None.
 pub(crate) fn line_end(bytes: &[u8]) -> Option<usize>
     ensures { MatchOption result (NoLf bytes.now) (λ n. IsLineAt n bytes.now) }
@@ -40,4 +28,16 @@ pub(crate) fn asks_http(bytes: &[u8], most: usize) -> bool
         return false;
     };
     end <= most && is_request_line(without_cr(&bytes[..end]))
+}
+
+// Tells whether a line ends in ` HTTP/1.` and a digit.
+fn is_request_line(line: &[u8]) -> bool
+    ensures { result ≡ is_request_line line.now }
+{
+    let size = line.len();
+    if size < VERSION_SIZE {
+        return false;
+    }
+    let version = &line[size - VERSION_SIZE..size - 1];
+    is_word(version, b" HTTP/1.") && line[size - 1].is_ascii_digit()
 }

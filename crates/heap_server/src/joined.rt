@@ -42,6 +42,17 @@ impl<'a, L: Heap, R: Wait> Model for Joined<'a, L, R> {
     ghost invariant = { λ j. j.seat.role ≡ User };
 }
 
+// Returns the reply to an act.
+fn reply_to_act(done: Result<Receipt, Refusal>) -> Reply
+    ensures reply { IsReply done result }
+    ensures small { IsSmall result }
+{
+    match done {
+        Ok(receipt) => reply(receipt.answer),
+        Err(refusal) => Reply::Refused(refusal),
+    }
+}
+
 // Returns the reply that an outcome is.
 fn reply(outcome: Outcome) -> Reply
     ensures { result ≡ reply_of outcome }
@@ -53,15 +64,11 @@ fn reply(outcome: Outcome) -> Reply
     }
 }
 
-// Returns the reply to an act.
-fn reply_to_act(done: Result<Receipt, Refusal>) -> Reply
-    ensures reply { IsReply done result }
-    ensures small { IsSmall result }
+// Drops the pins that aren't open.
+fn retain_open(machine: &Machine, pins: &mut Vec<u64>)
+    ensures { pins.new.items ≡ filter (is_open machine.now) pins.old.items }
 {
-    match done {
-        Ok(receipt) => reply(receipt.answer),
-        Err(refusal) => Reply::Refused(refusal),
-    }
+    pins.retain(|pin| is_open(machine, *pin));
 }
 
 // Tells whether a pin is open.
@@ -76,13 +83,6 @@ fn is_open(machine: &Machine, pin: u64) -> bool
         index += 1;
     }
     false
-}
-
-// Drops the pins that aren't open.
-fn retain_open(machine: &Machine, pins: &mut Vec<u64>)
-    ensures { pins.new.items ≡ filter (is_open machine.now) pins.old.items }
-{
-    pins.retain(|pin| is_open(machine, *pin));
 }
 
 impl<'a, L: Heap, R: Wait> Joined<'a, L, R> {

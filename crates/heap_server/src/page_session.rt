@@ -72,47 +72,6 @@ impl<'a, I: Inlet, O: Outlet, C: Commands> Talk for Loan<'a, I, O, C> {
     }
 }
 
-// Serves a session while a thread answers the clients of the page. Returns how it ended, or None if the thread can't be
-// started, and what it was to be served with.
-fn talk_beside<L: Heap + Send + Sync, R: Clock + Eprint + Threads + Wait + Sync, T: Talk + Drop>(
-    rt: &R,
-    alloc: Global,
-    shared: &Shared<L>,
-    page: PagePort,
-    session: T,
-) -> (T, Option<Ended>)
-    ensures talked { IfSome result.1 (λ ended. T.talks session ended result.0) }
-    ensures silent { IfNone result.1 (result.0 ≡ session) }
-{
-    let word = AtomicBool::new(false);
-    let stop = &word;
-    let nothing: Option<Secret> = None;
-    let secret = &nothing;
-    thread::scope(
-        thread::scope_env(),
-        rt,
-        move |scope| -> (T, Option<Ended>)
-            ensures talked { IfSome result.1 (λ ended. T.talks session ended result.0) }
-            ensures silent { IfNone result.1 (result.0 ≡ session) }
-        {
-            let begun = Beside::begin(scope, rt, alloc, shared, None, secret, Some(page), 0, stop);
-            let Ok(beside) = begun else {
-                return (session, None);
-            };
-            let (session, ended) = session.talk();
-            beside.end(rt, stop);
-            (session, Some(ended))
-        },
-    )
-}
-
-// Ends the loans of a session, so that their lenders know the last values.
-fn give_back<I, O, C>(reader: &mut I, writer: &mut O, commands: &mut C)
-    ensures reader { reader.new ≡ reader.old }
-    ensures writer { writer.new ≡ writer.old }
-    ensures commands { commands.new ≡ commands.old }
-{}
-
 /// Serves a session between a reader and a writer as `serve` does, while a thread answers the clients of the heap's page: from
 /// before the first read until the session has ended. Fails if the thread can't be started, and has read and written nothing
 /// then. May wait.
@@ -160,3 +119,44 @@ where
         None => Err(AllocError),
     }
 }
+
+// Serves a session while a thread answers the clients of the page. Returns how it ended, or None if the thread can't be
+// started, and what it was to be served with.
+fn talk_beside<L: Heap + Send + Sync, R: Clock + Eprint + Threads + Wait + Sync, T: Talk + Drop>(
+    rt: &R,
+    alloc: Global,
+    shared: &Shared<L>,
+    page: PagePort,
+    session: T,
+) -> (T, Option<Ended>)
+    ensures talked { IfSome result.1 (λ ended. T.talks session ended result.0) }
+    ensures silent { IfNone result.1 (result.0 ≡ session) }
+{
+    let word = AtomicBool::new(false);
+    let stop = &word;
+    let nothing: Option<Secret> = None;
+    let secret = &nothing;
+    thread::scope(
+        thread::scope_env(),
+        rt,
+        move |scope| -> (T, Option<Ended>)
+            ensures talked { IfSome result.1 (λ ended. T.talks session ended result.0) }
+            ensures silent { IfNone result.1 (result.0 ≡ session) }
+        {
+            let begun = Beside::begin(scope, rt, alloc, shared, None, secret, Some(page), 0, stop);
+            let Ok(beside) = begun else {
+                return (session, None);
+            };
+            let (session, ended) = session.talk();
+            beside.end(rt, stop);
+            (session, Some(ended))
+        },
+    )
+}
+
+// Ends the loans of a session, so that their lenders know the last values.
+fn give_back<I, O, C>(reader: &mut I, writer: &mut O, commands: &mut C)
+    ensures reader { reader.new ≡ reader.old }
+    ensures writer { writer.new ≡ writer.old }
+    ensures commands { commands.new ≡ commands.old }
+{}

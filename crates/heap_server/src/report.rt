@@ -9,6 +9,18 @@ use session_text::Ended;
 use std::io;
 use std::io::Write;
 
+/// Returns the word of a session's end: that of its ending, or http, secret or idle.
+pub fn word(end: SessionEnd) -> &'static str
+    ensures { result.now ≡ word_of_end end }
+{
+    match end {
+        SessionEnd::Ran(ended) => word_of_ending(ended),
+        SessionEnd::Http => "http",
+        SessionEnd::Stranger => "secret",
+        SessionEnd::Idle => "idle",
+    }
+}
+
 // Returns the word of an ending: quit, eof, cut, long, read, reads, write or memory.
 fn word_of_ending(ended: Ended) -> &'static str
     ensures { result.now ≡ word_of_ending ended }
@@ -22,18 +34,6 @@ fn word_of_ending(ended: Ended) -> &'static str
         Ended::TooManyReads => "reads",
         Ended::WriteFault => "write",
         Ended::NoMemory => "memory",
-    }
-}
-
-/// Returns the word of a session's end: that of its ending, or http, secret or idle.
-pub fn word(end: SessionEnd) -> &'static str
-    ensures { result.now ≡ word_of_end end }
-{
-    match end {
-        SessionEnd::Ran(ended) => word_of_ending(ended),
-        SessionEnd::Http => "http",
-        SessionEnd::Stranger => "secret",
-        SessionEnd::Idle => "idle",
     }
 }
 

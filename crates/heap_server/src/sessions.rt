@@ -132,6 +132,98 @@ impl<L: Heap> Promise<(SocketEnd, Seat<L>)> for AttendsFrom<L> {
     ghost kept_by = { λ p r. IsClientOf L.config p.terms p.seat.value r.1 r.0.end r.0.traffic };
 }
 
+// Serves the client of a socket from a seat, and gives the seat back. Ends by NoMemory, and does nothing, if memory for the socket is
+// refused.
+pub(crate) fn session<L: Heap, R: Clock + Wait>(
+    rt: &R,
+    alloc: Global,
+    shared: &Shared<L>,
+    seat: Seat<L>,
+    stream: TcpStream,
+    terms: Terms,
+) -> (SocketEnd, Seat<L>)
+    requires { seat.role ≡ User }
+    ensures client { IsClientOf L.config terms seat result.1 result.0.end result.0.traffic }
+    ensures role { result.1.role ≡ User }
+{
+    limit_times(rt, &stream, &terms);
+    let Ok(socket) = Half::new(alloc, stream) else {
+        return (no_memory(), seat);
+    };
+    let Ok((inlet, outlet)) = socket.directions() else {
+        return (no_memory(), seat);
+    };
+    let mut outlet = outlet;
+    let hurry = socket.hurry();
+    let done = attend_on(rt, alloc, shared, seat, inlet, &mut outlet, hurry, &terms);
+    let Attended { end, inlet, seat } = done;
+    let traffic = Some(SocketTraffic::of(&inlet, &outlet));
+    let end = told(terms.idle, socket.has_waited(), end);
+    (SocketEnd { end, traffic }, seat)
+}
+
+// Returns how the session of a socket ended for which memory was refused.
+fn no_memory() -> SocketEnd
+    ensures end { result.end ≡ SessionEnd.Ran Ended.NoMemory }
+    ensures traffic { result.traffic ≡ None }
+{
+    SocketEnd {
+        end: SessionEnd::Ran(Ended::NoMemory),
+        traffic: None,
+    }
+}
+
+// Serves one client from a seat of a heap that stays or doesn't.
+fn attend_on<L: Heap, R: Wait, I: Inlet + Drop, O: Outlet>(
+    rt: &R,
+    alloc: Global,
+    shared: &Shared<L>,
+    seat: Seat<L>,
+    inlet: I,
+    outlet: &mut O,
+    hurry: &AtomicBool,
+    terms: &Terms,
+) -> Attended<L, I>
+    requires { seat.role ≡ User }
+    ensures attended { IsAttendedOn terms.now.stays L.config terms.now seat (I.seen inlet)
+        (I.seen result.inlet) (O.seen outlet.old) (O.seen outlet.new) result.seat result.end }
+    ensures role { result.seat.role ≡ User }
+{
+    if terms.stays {
+        attend_staying(rt, alloc, shared, seat, inlet, outlet, hurry, terms)
+    } else {
+        attend(rt, alloc, shared, seat, inlet, outlet, hurry, terms)
+    }
+}
+
+// Serves one client from a seat of a heap that stays, as `attend` does, and then closes the pins that it opened and didn't keep.
+fn attend_staying<L: Heap, R: Wait, I: Inlet + Drop, O: Outlet>(
+    rt: &R,
+    alloc: Global,
+    shared: &Shared<L>,
+    seat: Seat<L>,
+    inlet: I,
+    outlet: &mut O,
+    hurry: &AtomicBool,
+    terms: &Terms,
+) -> Attended<L, I>
+    requires { seat.role ≡ User }
+    ensures attended { IsAttendedStaying L.config terms.now seat (I.seen inlet) (I.seen result.inlet)
+        (O.seen outlet.old) (O.seen outlet.new) result.seat result.end }
+    ensures role { result.seat.role ≡ User }
+{
+    let mut inlet = inlet;
+    let Ok(ahead) = read_line(alloc, &mut inlet, terms.limits) else {
+        let end = SessionEnd::Ran(Ended::NoMemory);
+        return Attended { end, inlet, seat };
+    };
+    let joined = Joined::new(shared, rt, seat, shared.witness(rt));
+    let mut staying = Paced::new(StayingSeat::new(alloc, joined, terms.questions), hurry);
+    let (end, inlet) = serve_client(alloc, inlet, ahead, outlet, &mut staying, terms);
+    let seat = staying.into_commands().into_seat();
+    Attended { end, inlet, seat }
+}
+
 // Serves one client from a seat, between an inlet and an outlet, unless its first line turns it away: if it isn't the secret word, or
 // without one, begins an HTTP request. Then it reads nothing more, and puts out and runs nothing. Each part of an answer goes out at
 // once. The word `hurry` is set while a piece of a dump is the last that was answered. Closes no pin at its end. May wait.
@@ -169,57 +261,6 @@ fn attend<L: Heap, R: Wait, I: Inlet + Drop, O: Outlet>(
     }
 }
 
-// Serves one client from a seat of a heap that stays, as `attend` does, and then closes the pins that it opened and didn't keep.
-fn attend_staying<L: Heap, R: Wait, I: Inlet + Drop, O: Outlet>(
-    rt: &R,
-    alloc: Global,
-    shared: &Shared<L>,
-    seat: Seat<L>,
-    inlet: I,
-    outlet: &mut O,
-    hurry: &AtomicBool,
-    terms: &Terms,
-) -> Attended<L, I>
-    requires { seat.role ≡ User }
-    ensures attended { IsAttendedStaying L.config terms.now seat (I.seen inlet) (I.seen result.inlet)
-        (O.seen outlet.old) (O.seen outlet.new) result.seat result.end }
-    ensures role { result.seat.role ≡ User }
-{
-    let mut inlet = inlet;
-    let Ok(ahead) = read_line(alloc, &mut inlet, terms.limits) else {
-        let end = SessionEnd::Ran(Ended::NoMemory);
-        return Attended { end, inlet, seat };
-    };
-    let joined = Joined::new(shared, rt, seat, shared.witness(rt));
-    let mut staying = Paced::new(StayingSeat::new(alloc, joined, terms.questions), hurry);
-    let (end, inlet) = serve_client(alloc, inlet, ahead, outlet, &mut staying, terms);
-    let seat = staying.into_commands().into_seat();
-    Attended { end, inlet, seat }
-}
-
-// Serves one client from a seat of a heap that stays or doesn't.
-fn attend_on<L: Heap, R: Wait, I: Inlet + Drop, O: Outlet>(
-    rt: &R,
-    alloc: Global,
-    shared: &Shared<L>,
-    seat: Seat<L>,
-    inlet: I,
-    outlet: &mut O,
-    hurry: &AtomicBool,
-    terms: &Terms,
-) -> Attended<L, I>
-    requires { seat.role ≡ User }
-    ensures attended { IsAttendedOn terms.now.stays L.config terms.now seat (I.seen inlet)
-        (I.seen result.inlet) (O.seen outlet.old) (O.seen outlet.new) result.seat result.end }
-    ensures role { result.seat.role ≡ User }
-{
-    if terms.stays {
-        attend_staying(rt, alloc, shared, seat, inlet, outlet, hurry, terms)
-    } else {
-        attend(rt, alloc, shared, seat, inlet, outlet, hurry, terms)
-    }
-}
-
 // Returns how a session is told to have ended whose reads may wait for `idle` seconds, or for any time if they are 0: as idle if a
 // read has waited so long and failed.
 fn told(idle: u64, waited: bool, end: SessionEnd) -> SessionEnd
@@ -230,82 +271,6 @@ fn told(idle: u64, waited: bool, end: SessionEnd) -> SessionEnd
     } else {
         end
     }
-}
-
-// Returns how the session of a socket ended for which memory was refused.
-fn no_memory() -> SocketEnd
-    ensures end { result.end ≡ SessionEnd.Ran Ended.NoMemory }
-    ensures traffic { result.traffic ≡ None }
-{
-    SocketEnd {
-        end: SessionEnd::Ran(Ended::NoMemory),
-        traffic: None,
-    }
-}
-
-// Serves the client of a socket from a seat, and gives the seat back. Ends by NoMemory, and does nothing, if memory for the socket is
-// refused.
-pub(crate) fn session<L: Heap, R: Clock + Wait>(
-    rt: &R,
-    alloc: Global,
-    shared: &Shared<L>,
-    seat: Seat<L>,
-    stream: TcpStream,
-    terms: Terms,
-) -> (SocketEnd, Seat<L>)
-    requires { seat.role ≡ User }
-    ensures client { IsClientOf L.config terms seat result.1 result.0.end result.0.traffic }
-    ensures role { result.1.role ≡ User }
-{
-    limit_times(rt, &stream, &terms);
-    let Ok(socket) = Half::new(alloc, stream) else {
-        return (no_memory(), seat);
-    };
-    let Ok((inlet, outlet)) = socket.directions() else {
-        return (no_memory(), seat);
-    };
-    let mut outlet = outlet;
-    let hurry = socket.hurry();
-    let done = attend_on(rt, alloc, shared, seat, inlet, &mut outlet, hurry, &terms);
-    let Attended { end, inlet, seat } = done;
-    let traffic = Some(SocketTraffic::of(&inlet, &outlet));
-    let end = told(terms.idle, socket.has_waited(), end);
-    (SocketEnd { end, traffic }, seat)
-}
-
-// Accepts clients and serves them, as `serve_clients` says.
-fn serve_seats<'s, E, L: Heap + Send + Sync, R: Clock + Threads + Wait + Sync>(
-    scope: &Scope<'s, E>,
-    rt: &'s R,
-    alloc: Global,
-    shared: &'s Shared<L>,
-    terms: &Terms,
-    seats: Seats<L>,
-    listener: TcpListener,
-    words: &'s [AtomicBool],
-) -> Result<Served, AllocError>
-    requires users { AreUsers seats }
-    requires words { length seats ≤ length words.now }
-    ensures { IfOk result (IsFor L.config L.tables terms.now seats) }
-{
-    let mut seats = seats;
-    let count = seats.count();
-    let mut sittings = Vec::with_capacity(alloc, count)?;
-    let mut sessions = Vec::with_capacity(alloc, count)?;
-    let mut refused = false;
-    while let Some(seat) = seats.take() {
-        let Ok((stream, _)) = listener.accept() else {
-            refused = true;
-            break;
-        };
-        join_ended(rt, &mut sittings, words);
-        let word = &words[sittings.len()];
-        let sitting = begin_session(scope, rt, alloc, shared, seat, stream, terms, word);
-        sittings.push_reserved(sitting);
-    }
-    drop(listener);
-    await_all(rt, sittings, &mut sessions);
-    Ok(Served { sessions, refused })
 }
 
 /// Accepts as many clients as there are seats, in turn, and serves each in a thread of its own, which is joined at the next accept
@@ -351,6 +316,41 @@ pub fn serve_clients<L: Heap + Send + Sync, R: Clock + Eprint + Threads + Wait +
             served
         },
     )
+}
+
+// Accepts clients and serves them, as `serve_clients` says.
+fn serve_seats<'s, E, L: Heap + Send + Sync, R: Clock + Threads + Wait + Sync>(
+    scope: &Scope<'s, E>,
+    rt: &'s R,
+    alloc: Global,
+    shared: &'s Shared<L>,
+    terms: &Terms,
+    seats: Seats<L>,
+    listener: TcpListener,
+    words: &'s [AtomicBool],
+) -> Result<Served, AllocError>
+    requires users { AreUsers seats }
+    requires words { length seats ≤ length words.now }
+    ensures { IfOk result (IsFor L.config L.tables terms.now seats) }
+{
+    let mut seats = seats;
+    let count = seats.count();
+    let mut sittings = Vec::with_capacity(alloc, count)?;
+    let mut sessions = Vec::with_capacity(alloc, count)?;
+    let mut refused = false;
+    while let Some(seat) = seats.take() {
+        let Ok((stream, _)) = listener.accept() else {
+            refused = true;
+            break;
+        };
+        join_ended(rt, &mut sittings, words);
+        let word = &words[sittings.len()];
+        let sitting = begin_session(scope, rt, alloc, shared, seat, stream, terms, word);
+        sittings.push_reserved(sitting);
+    }
+    drop(listener);
+    await_all(rt, sittings, &mut sessions);
+    Ok(Served { sessions, refused })
 }
 
 /// Opens a heap, and serves as many clients as it has seats, as `serve_clients` does. May wait.

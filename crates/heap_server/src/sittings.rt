@@ -135,6 +135,22 @@ impl<L: Heap> Sitting<L> {
     }
 }
 
+/// Joins each session whose thread has set its word.
+pub(crate) fn join_ended<L: Heap, R: Threads>(
+    rt: &R,
+    sittings: &mut Vec<Sitting<L>>,
+    words: &[AtomicBool],
+)
+    requires { vec_len sittings.old ≤ length words.now }
+    ensures sit { SitOn L.config L.tables sittings.old.items sittings.new.items }
+    ensures len { vec_len sittings.new ≡ vec_len sittings.old }
+    ensures room { vec_capacity sittings.new ≡ vec_capacity sittings.old }
+{
+    for i in 0..sittings.len() {
+        join_if_ended(rt, sittings, i, &words[i]);
+    }
+}
+
 // Joins a session if its thread has set its word.
 fn join_if_ended<L: Heap, R: Threads>(
     rt: &R,
@@ -151,22 +167,6 @@ fn join_if_ended<L: Heap, R: Threads>(
         return;
     }
     sittings[i].join(rt);
-}
-
-/// Joins each session whose thread has set its word.
-pub(crate) fn join_ended<L: Heap, R: Threads>(
-    rt: &R,
-    sittings: &mut Vec<Sitting<L>>,
-    words: &[AtomicBool],
-)
-    requires { vec_len sittings.old ≤ length words.now }
-    ensures sit { SitOn L.config L.tables sittings.old.items sittings.new.items }
-    ensures len { vec_len sittings.new ≡ vec_len sittings.old }
-    ensures room { vec_capacity sittings.new ≡ vec_capacity sittings.old }
-{
-    for i in 0..sittings.len() {
-        join_if_ended(rt, sittings, i, &words[i]);
-    }
 }
 
 /// Waits for each session in turn.

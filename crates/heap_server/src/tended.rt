@@ -62,20 +62,6 @@ impl<L: Heap> Promise<Seat<L>> for SweepsFrom<L> {
     ghost kept_by = { λ p seat. SweepRuns L.config p.0.value seat };
 }
 
-// Returns the roles of the marker, the sweeper and `sessions` users, in this order. Fails if they can't be allocated.
-fn roles(alloc: Global, sessions: u64) -> Result<Vec<Role>, AllocError>
-    requires { sessions ≤ session_limit }
-    ensures { IfOk result
-        (λ v. v.items ≡ role.Marker ∷ role.Sweeper ∷ replicate sessions role.User) }
-{
-    let mut users = vec![in alloc; Role::User; sessions as usize]?;
-    let mut roles = Vec::new(alloc);
-    roles.push(Role::Marker)?;
-    roles.push(Role::Sweeper)?;
-    roles.append(&mut users)?;
-    Ok(roles)
-}
-
 /// Creates a heap of these settings with the marker's seat, the sweeper's, and a user's for each of 1 to 1,000 sessions, in
 /// this order. Fails with NoMemory.
 pub fn workers_and_users(alloc: Global, config: Config, sessions: u64) -> Result<Blank, Refusal>
@@ -88,6 +74,20 @@ pub fn workers_and_users(alloc: Global, config: Config, sessions: u64) -> Result
         return Err(Refusal::NoMemory);
     };
     Blank::new(alloc, config, roles.as_slice())
+}
+
+// Returns the roles of the marker, the sweeper and `sessions` users, in this order. Fails if they can't be allocated.
+fn roles(alloc: Global, sessions: u64) -> Result<Vec<Role>, AllocError>
+    requires { sessions ≤ session_limit }
+    ensures { IfOk result
+        (λ v. v.items ≡ role.Marker ∷ role.Sweeper ∷ replicate sessions role.User) }
+{
+    let mut users = vec![in alloc; Role::User; sessions as usize]?;
+    let mut roles = Vec::new(alloc);
+    roles.push(Role::Marker)?;
+    roles.push(Role::Sweeper)?;
+    roles.append(&mut users)?;
+    Ok(roles)
 }
 
 // The threads of both workers.
@@ -180,27 +180,6 @@ pub fn serve_tended_heap<R: Clock + Eprint + Threads + Wait + Sync>(
     serve_staffed::<Brand, R>(rt, alloc, blank, plan)
 }
 
-// Returns the marker's seat, the sweeper's, and those of `most` users.
-pub(crate) fn staff_of<L: Heap>(seats: Seats<L>, most: usize) -> Staff<L>
-    requires { AreStaff most seats }
-    ensures seats { seats ≡ result.marker ∷ result.sweeper ∷ result.users }
-    ensures staff { AreStaff most (result.marker ∷ result.sweeper ∷ result.users) }
-{
-    let _most = most;
-    let mut users = seats;
-    let Some(marker) = users.take() else {
-        unreachable!()
-    };
-    let Some(sweeper) = users.take() else {
-        unreachable!()
-    };
-    Staff {
-        marker,
-        sweeper,
-        users,
-    }
-}
-
 // Opens a heap that a type names, and serves clients as `serve_tended_heap` does.
 fn serve_staffed<L: Heap + Send + Sync, R: Clock + Eprint + Threads + Wait + Sync>(
     rt: &R,
@@ -231,4 +210,25 @@ fn serve_staffed<L: Heap + Send + Sync, R: Clock + Eprint + Threads + Wait + Syn
         marker: marker.into_unnamed(),
         sweeper: sweeper.into_unnamed(),
     })
+}
+
+// Returns the marker's seat, the sweeper's, and those of `most` users.
+pub(crate) fn staff_of<L: Heap>(seats: Seats<L>, most: usize) -> Staff<L>
+    requires { AreStaff most seats }
+    ensures seats { seats ≡ result.marker ∷ result.sweeper ∷ result.users }
+    ensures staff { AreStaff most (result.marker ∷ result.sweeper ∷ result.users) }
+{
+    let _most = most;
+    let mut users = seats;
+    let Some(marker) = users.take() else {
+        unreachable!()
+    };
+    let Some(sweeper) = users.take() else {
+        unreachable!()
+    };
+    Staff {
+        marker,
+        sweeper,
+        users,
+    }
 }

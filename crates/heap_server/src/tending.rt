@@ -27,20 +27,6 @@ impl<'a> Gate for Unstopped<'a> {
     }
 }
 
-// Sleeps a millisecond.
-fn pause<R: Clock>(rt: &R) {
-    thread::sleep(rt, Duration::from_millis(1));
-}
-
-/// The work of a thread that tends the collector.
-#[derive(Clone, Copy)]
-pub enum Duty {
-    /// To go on with each cycle that others begin, by runs of a worker that begins none.
-    Mark,
-    /// To sweep the regions that wait for it, by runs of a worker that asks for no others.
-    Sweep,
-}
-
 /// Does its work until the stop word is set or an act is refused, NoMemory or ChronicleFull. Returns the seat within one act of
 /// the stop, or within a millisecond if it sleeps. May wait.
 #[tactic(auto, using(crate::proofs::WorkerRuns::works_none))]
@@ -67,23 +53,17 @@ pub fn tend<L: Heap, R: Clock + Wait>(
     unreachable!()
 }
 
-// Tells whether there is nothing to do: no cycle runs, or no region waits to be swept.
-fn is_idle<L: Heap, R: Wait>(
-    rt: &R,
-    shared: &Shared<L>,
-    witness: &mut Witness<L>,
-    duty: Duty,
-) -> bool
-    ensures { SeesState L.config witness.old (λ w. result ≡ rests_in duty w) witness.new }
-{
-    match duty {
-        Duty::Mark => matches!(shared.phase(rt, witness), Phase::Idle),
-        Duty::Sweep => shared.pending(rt, witness).is_none(),
-    }
+/// The work of a thread that tends the collector.
+#[derive(Clone, Copy)]
+pub enum Duty {
+    /// To go on with each cycle that others begin, by runs of a worker that begins none.
+    Mark,
+    /// To sweep the regions that wait for it, by runs of a worker that asks for no others.
+    Sweep,
 }
 
 // Runs the worker, or sleeps if there is nothing to do or a region has to be swept before a cycle. Returns whether to go on.
-#[tactic(auto, using(crate::proofs::WorkerRuns::rests, crate::proofs::WorkerRuns::is_marker, crate::proofs::WorkerRuns::role_stays, crate::proofs::WorkerRuns::is_sweeper, crate::proofs::WorkerRuns::role_keeps))]
+#[tactic(auto, using(crate::proofs::WorkerRuns::worker_with_nothing_rests, crate::proofs::WorkerRuns::is_marker, crate::proofs::WorkerRuns::role_stays, crate::proofs::WorkerRuns::is_sweeper, crate::proofs::WorkerRuns::role_keeps))]
 fn works_on<L: Heap, R: Clock + Wait>(
     rt: &R,
     shared: &Shared<L>,
@@ -115,4 +95,24 @@ fn works_on<L: Heap, R: Clock + Wait>(
             _ => true,
         },
     }
+}
+
+// Tells whether there is nothing to do: no cycle runs, or no region waits to be swept.
+fn is_idle<L: Heap, R: Wait>(
+    rt: &R,
+    shared: &Shared<L>,
+    witness: &mut Witness<L>,
+    duty: Duty,
+) -> bool
+    ensures { SeesState L.config witness.old (λ w. result ≡ rests_in duty w) witness.new }
+{
+    match duty {
+        Duty::Mark => matches!(shared.phase(rt, witness), Phase::Idle),
+        Duty::Sweep => shared.pending(rt, witness).is_none(),
+    }
+}
+
+// Sleeps a millisecond.
+fn pause<R: Clock>(rt: &R) {
+    thread::sleep(rt, Duration::from_millis(1));
 }

@@ -26,14 +26,14 @@ use Rattle.heap_step.specs.Laws.{IsApplied, StaysFound}
 use Rattle.heap_step.proofs.EventLaws.{keeps_legal, stays_found}
 
 -- a refusal
-pub refused_as : (e : Event) (before after : HeapState) (result : Result (Answer × Undo) Refusal) (r : Refusal) → IsErrAnd result (λ d. d ≡ r) → IsAnswered {A = Answer × Undo} (refusal_of e before) (event_may_grow e before) (Err r) → after ≡ before → IsApplied e before after result
-refused_as e before after result r is answered same =
+pub refused_event_is_applied : (e : Event) (before after : HeapState) (result : Result (Answer × Undo) Refusal) (r : Refusal) → IsErrAnd result (λ d. d ≡ r) → IsAnswered {A = Answer × Undo} (refusal_of e before) (event_may_grow e before) (Err r) → after ≡ before → IsApplied e before after result
+refused_event_is_applied e before after result r is answered same =
     let p = err_from_is_err_and result is in
     rw (p.1, p.2) (record { answered = answered; state = tt; answer = tt; recorded = tt; unchanged = same })
 
 -- an answer with its record
-pub done_is : (e : Event) (before after : HeapState) (a : Answer) (u : Undo) → refusal_of e before ≡ None → after ≡ state_after e before → a ≡ answer_of e before after → u ≡ undo_record e before → IsApplied e before after (Ok (a, u))
-done_is e before after a u accepted state answer recorded = record { answered = accepted; state = state; answer = answer; recorded = recorded; unchanged = tt }
+pub answered_event_is_applied : (e : Event) (before after : HeapState) (a : Answer) (u : Undo) → refusal_of e before ≡ None → after ≡ state_after e before → a ≡ answer_of e before after → u ≡ undo_record e before → IsApplied e before after (Ok (a, u))
+answered_event_is_applied e before after a u accepted state answer recorded = record { answered = accepted; state = state; answer = answer; recorded = recorded; unchanged = tt }
 
 -- ---- the records, and what a load answers
 
@@ -88,29 +88,29 @@ slot_answer_is w x slot word reference held kind = λ i. if kind i then object_o
 -- ---- the clauses of a result
 
 -- the event is `applied`
-pub done_of : (e : Event) (w v : HeapState) (r : Result (Answer × Undo) Refusal) → IsApplied e w v r → IfOk r (λ p. applied e w ≡ Ok (v, p.0))
+pub answered_event_as_applied : (e : Event) (w v : HeapState) (r : Result (Answer × Undo) Refusal) → IsApplied e w v r → IfOk r (λ p. applied e w ≡ Ok (v, p.0))
 unfolding applied applied_unless
-done_of e w v (Err d) h = tt
-done_of e w v (Ok p) h =
+answered_event_as_applied e w v (Err d) h = tt
+answered_event_as_applied e w v (Ok p) h =
     ap (λ (o : Option Refusal). applied_unless o e w) h.answered
     ∙ (λ i. Ok (sym h.state i, answer_of e w (sym h.state i)))
     ∙ (λ i. Ok (v, sym h.answer i))
 
 -- it is refused, or memory is wanted
-pub refused_of : (e : Event) (w v : HeapState) (r : Result (Answer × Undo) Refusal) → IsApplied e w v r → IfErr r (λ d. (applied e w ≡ Err d) ⊎ ((refusal_of e w ≡ None) × (event_may_grow e w ≡ true) × (d ≡ NoMemory)))
+pub refused_event_or_no_memory : (e : Event) (w v : HeapState) (r : Result (Answer × Undo) Refusal) → IsApplied e w v r → IfErr r (λ d. (applied e w ≡ Err d) ⊎ ((refusal_of e w ≡ None) × (event_may_grow e w ≡ true) × (d ≡ NoMemory)))
 unfolding applied applied_unless
-refused_of e w v (Ok p) h = tt
-refused_of e w v (Err d) h = elim h.answered [ inl r ↦ inl (ap (λ (o : Option Refusal). applied_unless o e w) r) | inr m ↦ inr m ]
+refused_event_or_no_memory e w v (Ok p) h = tt
+refused_event_or_no_memory e w v (Err d) h = elim h.answered [ inl r ↦ inl (ap (λ (o : Option Refusal). applied_unless o e w) r) | inr m ↦ inr m ]
 
 -- the heap is legal
-pub legal_of : (e : Event) (w v : HeapState) (r : Result (Answer × Undo) Refusal) → IsLegal w → IsApplied e w v r → IsLegal v
-legal_of e w v (Ok p) l h = subst IsLegal (sym h.state) (keeps_legal e w l h.answered)
-legal_of e w v (Err d) l h = subst IsLegal (sym h.unchanged) l
+pub applied_event_keeps_legal : (e : Event) (w v : HeapState) (r : Result (Answer × Undo) Refusal) → IsLegal w → IsApplied e w v r → IsLegal v
+applied_event_keeps_legal e w v (Ok p) l h = subst IsLegal (sym h.state) (keeps_legal e w l h.answered)
+applied_event_keeps_legal e w v (Err d) l h = subst IsLegal (sym h.unchanged) l
 
 -- what is marked or sheltered stays so
-pub found_of : (e : Event) (w v : HeapState) (r : Result (Answer × Undo) Refusal) → IsLegal w → IsApplied e w v r → OnOk r (StaysFound w v)
-found_of e w v (Ok p) l h = subst (StaysFound w) (sym h.state) (stays_found e w l h.answered)
-found_of e w v (Err d) l h = tt
+pub applied_event_keeps_found : (e : Event) (w v : HeapState) (r : Result (Answer × Undo) Refusal) → IsLegal w → IsApplied e w v r → OnOk r (StaysFound w v)
+applied_event_keeps_found e w v (Ok p) l h = subst (StaysFound w) (sym h.state) (stays_found e w l h.answered)
+applied_event_keeps_found e w v (Err d) l h = tt
 
 -- where the event is `was`
 pub as_event : (e was : Event) (w v : HeapState) (r : Result (Answer × Undo) Refusal) → e ≡ was → IsApplied was w v r → IsApplied e w v r

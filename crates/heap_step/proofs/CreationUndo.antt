@@ -17,8 +17,8 @@ use Rattle.heap_step.specs.Records.{undone}
 use Rattle.heap_step.specs.declared.Undo.{Undo}
 
 -- the cell at the head of a free list of a legal heap is empty
-pub head_empty : (w : HeapState) → IsLegal w → (at : ObjRef) → HeadIsEmpty (pool_of w) at
-head_empty w legal at = λ u used head. ((legal.regions.tables at.region u used).free.each at.cell).0 (got_is_in u.free 0 at.cell head)
+pub free_list_head_is_empty : (w : HeapState) → IsLegal w → (at : ObjRef) → HeadIsEmpty (pool_of w) at
+free_list_head_is_empty w legal at = λ u used head. ((legal.regions.tables at.region u used).free.each at.cell).0 (got_is_in u.free 0 at.cell head)
 
 -- the region at the head of the pool of a legal heap is empty
 pub pool_empty : (w : HeapState) → IsLegal w → (at : ObjRef) → PoolIsEmpty (pool_of w) at
@@ -26,7 +26,7 @@ pool_empty w legal at = λ head. (legal.regions.pool.each at.region).0 (got_is_i
 
 -- of a legal heap, the allocation of a new object is taken back
 pool_back : (w : HeapState) → IsLegal w → (n : ℕ) (at : ObjRef) (fresh : Bool) (o : Object) → new_place n (pool_of w) ≡ Some (at, fresh) → unallocated at fresh (allocated at fresh o (pool_of w)) ≡ pool_of w
-pool_back w legal n at fresh o place = allocated_back at fresh o (pool_of w) n place (head_empty w legal at) (pool_empty w legal at)
+pool_back w legal n at fresh o place = allocated_back at fresh o (pool_of w) n place (free_list_head_is_empty w legal at) (pool_empty w legal at)
 
 -- whatever its kind and its number of slots
 pub created_back : (w : HeapState) (m r n : ℕ) (kind : ObjKind) → IsLegal w → is_full n w ≡ false → undone (new_record m r n w) (after_new m r kind n w) ≡ w

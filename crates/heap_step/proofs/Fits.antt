@@ -53,6 +53,6 @@ Fits (Undo.Finish log) w = IsFinished w
 Fits (Undo.Sweep region dead) w = IsSwept region dead w
 Fits (Undo.Reclaim region storage) w = (slice_get w.pool 0 ≡ Some region) × IsInhabited storage × IsLifeless storage
 
-pub not_false : (b : Bool) → not b ≡ false → b ≡ true
-not_false true h = refl
-not_false false h = cc
+pub true_if_not_is_false : (b : Bool) → not b ≡ false → b ≡ true
+true_if_not_is_false true h = refl
+true_if_not_is_false false h = cc

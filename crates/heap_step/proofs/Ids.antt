@@ -6,18 +6,18 @@ use Rattle.std.proofs.lemmas.Bool.{cases_eq}
 use Rattle.std.proofs.lemmas.Option.{slice_get_within}
 use Rattle.heap_class.specs.declared.ObjRef.{ObjRef}
 use Rattle.heap_region.specs.Regions.{Object, UsedRegion, Region, InUse, used_at, object_at, object_base, id_of, object_of}
-use Rattle.heap_region.proofs.Ids.{cell_within, ref_is}
-use Rattle.heap_region.proofs.ChangedLookups.{place_found}
-use Rattle.heap_region.proofs.Lookups.{used_is}
+use Rattle.heap_region.proofs.Ids.{cell_begins_within_region, ref_is}
+use Rattle.heap_region.proofs.ChangedLookups.{place_of_object_of_id}
+use Rattle.heap_region.proofs.Lookups.{used_region_stands_in_list}
 use Rattle.heap_world.specs.State.{HeapState}
 use Rattle.heap_world.specs.Reach.{IsObject}
 use Rattle.heap_world.specs.Legal.{IsLegal, IsLive}
 use Rattle.heap_step.specs.Laws.{IdsFit}
 
 -- the region of an object is in use, and has its cell
-in_use : (regions : List Region) (at : ObjRef) (o : Object) → object_at regions at ≡ Some o → (u : UsedRegion) × (used_at regions at.region ≡ Some u) × (at.cell < length u.cells)
+region_of_object_in_use : (regions : List Region) (at : ObjRef) (o : Object) → object_at regions at ≡ Some o → (u : UsedRegion) × (used_at regions at.region ≡ Some u) × (at.cell < length u.cells)
 unfolding object_at
-in_use regions at o = go (used_at regions at.region)
+region_of_object_in_use regions at o = go (used_at regions at.region)
   where
     inner : (cells : List (Option Object)) (x : Option (Option Object)) → slice_get cells at.cell ≡ x → option_and_then (λ (o : Option Object). o) x ≡ Some o → at.cell < length cells
     inner cells None e h = absurd (cc)
@@ -32,12 +32,12 @@ module _ (w : HeapState) (legal : IsLegal w) where
   id_small : (x : ℕ) (o : Object) → object_of w.regions x ≡ Some o → x < 2 ^ 32
   unfolding id_of
   id_small x o e =
-      let p = place_found w.regions x o e in
+      let p = place_of_object_of_id w.regions x o e in
       let at = p.0 in
-      let u = in_use w.regions at o p.2 in
+      let u = region_of_object_in_use w.regions at o p.2 in
       let size = u.0.cell_size in
-      let c = cell_within at.cell size (subst (λ n. at.cell < n) (legal.regions.tables at.region u.0 u.1).cells u.2) in
-      let r : at.region < length w.regions = slice_get_within w.regions at.region (InUse u.0) (used_is w.regions at.region u.0 u.1) in
+      let c = cell_begins_within_region at.cell size (subst (λ n. at.cell < n) (legal.regions.tables at.region u.0 u.1).cells u.2) in
+      let r : at.region < length w.regions = slice_get_within w.regions at.region (InUse u.0) (used_region_stands_in_list w.regions at.region u.0 u.1) in
       let s = ap (λ (y : Option UsedRegion). object_base + 8 * (1024 * at.region + at.cell * option_map_or (λ (v : UsedRegion). v.cell_size) y 0)) u.1 in
       omega (arith, ref_is w.regions x at p.1, s, c.0, r, legal.sized.regions.1)
 

@@ -9,5 +9,5 @@ all_but_last xs x =
     let e : length (xs ++ x ∷ []) - 1 ≡ length xs = omega (arith, length-append xs (x ∷ [])) in
     rw e (take-append-le (length xs) xs (x ∷ []) (omega arith) ∙ take-length xs)
 
-pub more : {A : Type 0} (xs : List A) (x : A) → 0 < length (xs ++ x ∷ [])
-more xs x = omega (arith, length-append xs (x ∷ []))
+pub list_with_last_not_empty : {A : Type 0} (xs : List A) (x : A) → 0 < length (xs ++ x ∷ [])
+list_with_last_not_empty xs x = omega (arith, length-append xs (x ∷ []))

@@ -3,11 +3,11 @@ use Rattle.std.proofs.Common.{Bool, None, ap, false, refl, sym, true, ℕ, ◌&&
 use Rattle.std.proofs.lemmas.List.{length-set, set-get_or, set-set}
 use Rattle.std.specs.Prelude.{if◌then◌else◌, nat_lt}
 use mathlib.Core.Logic.{inr}
-use Rattle.heap_class.proofs.Refusals.{none_holds}
+use Rattle.heap_class.proofs.Refusals.{no_refusal_test_holds}
 use Rattle.heap_world.proofs.Clauses.{HasClauses}
-use Rattle.heap_world.proofs.RegisterEvents.{load_phase, clear_legal, load_legal, move_legal}
+use Rattle.heap_world.proofs.RegisterEvents.{load_phase, clauses_after_clear, load_legal, clauses_after_move}
 use Rattle.heap_world.proofs.Registers.{both_registers}
-use Rattle.heap_world.proofs.Shapes.{KeepsShape, same_shape}
+use Rattle.heap_world.proofs.Shapes.{KeepsShape, same_object_keeps_shape}
 use Rattle.heap_world.specs.Events.{after_load, after_move, clear_refusal, is_reference_slot, load_refusal, move_refusal}
 use Rattle.heap_world.specs.Legal.{IsMarked, Sheltered}
 use Rattle.heap_world.specs.State.{HeapState, is_register, register, with_register, word_of}
@@ -15,7 +15,7 @@ use Rattle.heap_step.specs.Apply.{refusal_of, state_after, reg_record}
 use Rattle.heap_step.specs.Laws.{IsTakenBack, StaysFound}
 use Rattle.heap_step.specs.Records.{undo_record, undone}
 use Rattle.heap_step.specs.declared.Event.{Event}
-use Rattle.heap_step.proofs.Fits.{not_false}
+use Rattle.heap_step.proofs.Fits.{true_if_not_is_false}
 use Rattle.heap_step.proofs.Soundness.{IsSound}
 
 -- a register that is written twice, the second time with what it had, is as it was
@@ -39,7 +39,7 @@ unfolding load_refusal after_load
 load_fits w m to from slot accepted = go (is_reference_slot w (register w m from) slot)
   where
     there : is_register w m to ≡ true
-    there = (both_registers _ _ (none_holds _ accepted).0).0
+    there = (both_registers _ _ (no_refusal_test_holds _ accepted).0).0
 
     go : (b : Bool) → is_register (if b then with_register m to (word_of w (register w m from) slot) w else w) m to ≡ true
     go true = written_register w m to _ there
@@ -58,8 +58,8 @@ unfolding after_load
 load_shape w m to from slot x = go (is_reference_slot w (register w m from) slot)
   where
     go : (b : Bool) → KeepsShape w (if b then with_register m to (word_of w (register w m from) slot) w else w) x
-    go true = same_shape w (with_register m to (word_of w (register w m from) slot) w) x refl
-    go false = same_shape w w x refl
+    go true = same_object_keeps_shape w (with_register m to (word_of w (register w m from) slot) w) x refl
+    go false = same_object_keeps_shape w w x refl
 
 pub load_sound : (m : ℕ) (to : ℕ) (from : ℕ) (slot : ℕ) → IsSound (Event.Load m to from slot)
 unfolding refusal_of state_after undo_record undone reg_record
@@ -72,24 +72,24 @@ load_sound m to from slot = record {
   run = λ w i. inr (sym (load_phase w m to from slot) ∙ i);
 }
 
-pub move_sound : (m : ℕ) (to : ℕ) (from_m : ℕ) (from : ℕ) → IsSound (Event.Move m to from_m from)
+pub move_event_is_sound : (m : ℕ) (to : ℕ) (from_m : ℕ) (from : ℕ) → IsSound (Event.Move m to from_m from)
 unfolding refusal_of state_after undo_record undone reg_record after_move move_refusal
-move_sound m to from_m from = record {
-  legal = λ w. move_legal w m to from_m from;
+move_event_is_sound m to from_m from = record {
+  legal = λ w. clauses_after_move w m to from_m from;
   back = λ w legal accepted. register_back w m to (register w from_m from);
-  fits = λ w legal accepted. written_register w m to _ (both_registers _ _ (none_holds _ accepted).0).0;
+  fits = λ w legal accepted. written_register w m to _ (both_registers _ _ (no_refusal_test_holds _ accepted).0).0;
   found = λ w l accepted i j x h. h;
-  shape = λ w l accepted x live. same_shape w (with_register m to (register w from_m from) w) x refl;
+  shape = λ w l accepted x live. same_object_keeps_shape w (with_register m to (register w from_m from) w) x refl;
   run = λ w. inr;
 }
 
-pub clear_sound : (m : ℕ) (r : ℕ) → IsSound (Event.Clear m r)
+pub clear_event_is_sound : (m : ℕ) (r : ℕ) → IsSound (Event.Clear m r)
 unfolding refusal_of state_after undo_record undone reg_record clear_refusal
-clear_sound m r = record {
-  legal = λ w l accepted. clear_legal w m r l;
+clear_event_is_sound m r = record {
+  legal = λ w l accepted. clauses_after_clear w m r l;
   back = λ w legal accepted. register_back w m r 0;
-  fits = λ w legal accepted. written_register w m r 0 (not_false _ (none_holds _ accepted).0);
+  fits = λ w legal accepted. written_register w m r 0 (true_if_not_is_false _ (no_refusal_test_holds _ accepted).0);
   found = λ w l accepted i j x h. h;
-  shape = λ w l accepted x live. same_shape w (with_register m r 0 w) x refl;
+  shape = λ w l accepted x live. same_object_keeps_shape w (with_register m r 0 w) x refl;
   run = λ w. inr;
 }

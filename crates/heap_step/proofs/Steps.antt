@@ -13,41 +13,41 @@ use Rattle.heap_step.specs.declared.Event.{Event}
 use Rattle.heap_step.specs.declared.Undo.{Undo}
 use Rattle.heap_step.specs.Records.{undone, undo_record}
 use Rattle.heap_step.specs.Laws.{IsStep}
-use Rattle.heap_step.proofs.EventLaws.{sound, undo_takes_back}
+use Rattle.heap_step.proofs.EventLaws.{each_event_is_sound, undo_takes_back}
 use Rattle.heap_step.proofs.Fits.{HasSlot, IsHeld, IsSnapped, IsFinished, IsSwept, IsInhabited, IsLifeless, Fits}
 
 -- ---- what holds of the state that a step gave, where the record is `was`
 
-fits : (e : Event) (before after : HeapState) (left was : Undo) → IsStep e before after left → left ≡ was → Fits was after
-fits e before after left was s is = subst (λ u. Fits u after) (sym s.recorded ∙ is) (subst (Fits (undo_record e before)) (sym s.gave) ((sound e).fits before s.legal s.accepted))
+record_of_step_fits : (e : Event) (before after : HeapState) (left was : Undo) → IsStep e before after left → left ≡ was → Fits was after
+record_of_step_fits e before after left was s is = subst (λ u. Fits u after) (sym s.recorded ∙ is) (subst (Fits (undo_record e before)) (sym s.gave) ((each_event_is_sound e).fits before s.legal s.accepted))
 
-back_is : (e : Event) (before after : HeapState) (left was : Undo) → IsStep e before after left → left ≡ was → undone was after ≡ before
-back_is e before after left was s is = (λ i. undone ((sym is ∙ s.recorded) i) (s.gave i)) ∙ undo_takes_back e before s.legal s.accepted
+record_of_step_leads_back : (e : Event) (before after : HeapState) (left was : Undo) → IsStep e before after left → left ≡ was → undone was after ≡ before
+record_of_step_leads_back e before after left was s is = (λ i. undone ((sym is ∙ s.recorded) i) (s.gave i)) ∙ undo_takes_back e before s.legal s.accepted
 
-back_legal : (e : Event) (before after : HeapState) (left was : Undo) → IsStep e before after left → left ≡ was → IsLegal (undone was after)
-back_legal e before after left was s is = subst IsLegal (sym (back_is e before after left was s is)) s.legal
+state_before_step_is_legal : (e : Event) (before after : HeapState) (left was : Undo) → IsStep e before after left → left ≡ was → IsLegal (undone was after)
+state_before_step_is_legal e before after left was s is = subst IsLegal (sym (record_of_step_leads_back e before after left was s is)) s.legal
 
 -- ---- the record of a write
 
-there_of : (w : HeapState) (at : ObjRef) (slot : ℕ) → HasSlot w at slot → IsSome (object_at w.regions at)
-there_of w at slot h = subst (λ p. IsSome p) (sym h.1) refl
+slot_belongs_to_an_object : (w : HeapState) (at : ObjRef) (slot : ℕ) → HasSlot w at slot → IsSome (object_at w.regions at)
+slot_belongs_to_an_object w at slot h = subst (λ p. IsSome p) (sym h.1) refl
 
-within_of : (w : HeapState) (at : ObjRef) (slot : ℕ) → HasSlot w at slot → IfSome (object_at w.regions at) (λ o. slot < length o.words)
-within_of w at slot h = subst (λ p. IfSome p (λ o. slot < length o.words)) (sym h.1) h.2
+slot_lies_within_object : (w : HeapState) (at : ObjRef) (slot : ℕ) → HasSlot w at slot → IfSome (object_at w.regions at) (λ o. slot < length o.words)
+slot_lies_within_object w at slot h = subst (λ p. IfSome p (λ o. slot < length o.words)) (sym h.1) h.2
 
-pub put_there : (e : Event) (before after : HeapState) (left : Undo) → IsStep e before after left → (at : ObjRef) (slot old : ℕ) → left ≡ Undo.Put at slot old → IsSome (object_at after.regions at)
-put_there e before after left s at slot old is = there_of after at slot (fits e before after left (Undo.Put at slot old) s is)
+pub put_record_names_an_object : (e : Event) (before after : HeapState) (left : Undo) → IsStep e before after left → (at : ObjRef) (slot old : ℕ) → left ≡ Undo.Put at slot old → IsSome (object_at after.regions at)
+put_record_names_an_object e before after left s at slot old is = slot_belongs_to_an_object after at slot (record_of_step_fits e before after left (Undo.Put at slot old) s is)
 
-pub put_within : (e : Event) (before after : HeapState) (left : Undo) → IsStep e before after left → (at : ObjRef) (slot old : ℕ) → left ≡ Undo.Put at slot old → IfSome (object_at after.regions at) (λ o. slot < length o.words)
-put_within e before after left s at slot old is = within_of after at slot (fits e before after left (Undo.Put at slot old) s is)
+pub put_record_slot_within_object : (e : Event) (before after : HeapState) (left : Undo) → IsStep e before after left → (at : ObjRef) (slot old : ℕ) → left ≡ Undo.Put at slot old → IfSome (object_at after.regions at) (λ o. slot < length o.words)
+put_record_slot_within_object e before after left s at slot old is = slot_lies_within_object after at slot (record_of_step_fits e before after left (Undo.Put at slot old) s is)
 
-pub put_legal : (e : Event) (before after : HeapState) (left : Undo) → IsStep e before after left → (at : ObjRef) (slot old : ℕ) → left ≡ Undo.Put at slot old → IsLegal (record after { regions = with_word at slot old after.regions })
+pub put_taken_back_is_legal : (e : Event) (before after : HeapState) (left : Undo) → IsStep e before after left → (at : ObjRef) (slot old : ℕ) → left ≡ Undo.Put at slot old → IsLegal (record after { regions = with_word at slot old after.regions })
 unfolding undone
-put_legal e before after left s at slot old is = back_legal e before after left (Undo.Put at slot old) s is
+put_taken_back_is_legal e before after left s at slot old is = state_before_step_is_legal e before after left (Undo.Put at slot old) s is
 
-pub put_is : (e : Event) (before after : HeapState) (left : Undo) → IsStep e before after left → (at : ObjRef) (slot old : ℕ) → left ≡ Undo.Put at slot old → record after { regions = with_word at slot old after.regions } ≡ before
+pub put_taken_back_is_before : (e : Event) (before after : HeapState) (left : Undo) → IsStep e before after left → (at : ObjRef) (slot old : ℕ) → left ≡ Undo.Put at slot old → record after { regions = with_word at slot old after.regions } ≡ before
 unfolding undone
-put_is e before after left s at slot old is = back_is e before after left (Undo.Put at slot old) s is
+put_taken_back_is_before e before after left s at slot old is = record_of_step_leads_back e before after left (Undo.Put at slot old) s is
 
 -- ---- the record of a store
 
@@ -56,135 +56,135 @@ abbrev pub unstored : HeapState → ObjRef → ℕ → ℕ → Bool → HeapStat
 unstored w at slot old logged = record w { regions = with_word at slot old w.regions; log = if logged then without_last w.log else w.log }
 
 pub store_there : (e : Event) (before after : HeapState) (left : Undo) → IsStep e before after left → (at : ObjRef) (slot old : ℕ) (logged : Bool) → left ≡ Undo.Store at slot old logged → IsSome (object_at after.regions at)
-store_there e before after left s at slot old logged is = there_of after at slot (fits e before after left (Undo.Store at slot old logged) s is).0
+store_there e before after left s at slot old logged is = slot_belongs_to_an_object after at slot (record_of_step_fits e before after left (Undo.Store at slot old logged) s is).0
 
 pub store_within : (e : Event) (before after : HeapState) (left : Undo) → IsStep e before after left → (at : ObjRef) (slot old : ℕ) (logged : Bool) → left ≡ Undo.Store at slot old logged → IfSome (object_at after.regions at) (λ o. slot < length o.words)
-store_within e before after left s at slot old logged is = within_of after at slot (fits e before after left (Undo.Store at slot old logged) s is).0
+store_within e before after left s at slot old logged is = slot_lies_within_object after at slot (record_of_step_fits e before after left (Undo.Store at slot old logged) s is).0
 
 pub store_entry : (e : Event) (before after : HeapState) (left : Undo) → IsStep e before after left → (at : ObjRef) (slot old : ℕ) (logged : Bool) → left ≡ Undo.Store at slot old logged → logged ≡ true → 0 < length after.log
-store_entry e before after left s at slot old logged is = (fits e before after left (Undo.Store at slot old logged) s is).1
+store_entry e before after left s at slot old logged is = (record_of_step_fits e before after left (Undo.Store at slot old logged) s is).1
 
-pub store_legal : (e : Event) (before after : HeapState) (left : Undo) → IsStep e before after left → (at : ObjRef) (slot old : ℕ) (logged : Bool) → left ≡ Undo.Store at slot old logged → IsLegal (unstored after at slot old logged)
+pub store_taken_back_is_legal : (e : Event) (before after : HeapState) (left : Undo) → IsStep e before after left → (at : ObjRef) (slot old : ℕ) (logged : Bool) → left ≡ Undo.Store at slot old logged → IsLegal (unstored after at slot old logged)
 unfolding undone
-store_legal e before after left s at slot old logged is = back_legal e before after left (Undo.Store at slot old logged) s is
+store_taken_back_is_legal e before after left s at slot old logged is = state_before_step_is_legal e before after left (Undo.Store at slot old logged) s is
 
 pub store_is : (e : Event) (before after : HeapState) (left : Undo) → IsStep e before after left → (at : ObjRef) (slot old : ℕ) (logged : Bool) → left ≡ Undo.Store at slot old logged → unstored after at slot old logged ≡ before
 unfolding undone
-store_is e before after left s at slot old logged is = back_is e before after left (Undo.Store at slot old logged) s is
+store_is e before after left s at slot old logged is = record_of_step_leads_back e before after left (Undo.Store at slot old logged) s is
 
 -- ---- the record of a register
 
 pub reg_register : (e : Event) (before after : HeapState) (left : Undo) → IsStep e before after left → (m r old : ℕ) → left ≡ Undo.Reg m r old → is_register after m r ≡ true
-reg_register e before after left s m r old is = fits e before after left (Undo.Reg m r old) s is
+reg_register e before after left s m r old is = record_of_step_fits e before after left (Undo.Reg m r old) s is
 
 pub reg_legal : (e : Event) (before after : HeapState) (left : Undo) → IsStep e before after left → (m r old : ℕ) → left ≡ Undo.Reg m r old → IsLegal (with_register m r old after)
 unfolding undone
-reg_legal e before after left s m r old is = back_legal e before after left (Undo.Reg m r old) s is
+reg_legal e before after left s m r old is = state_before_step_is_legal e before after left (Undo.Reg m r old) s is
 
 pub reg_is : (e : Event) (before after : HeapState) (left : Undo) → IsStep e before after left → (m r old : ℕ) → left ≡ Undo.Reg m r old → with_register m r old after ≡ before
 unfolding undone
-reg_is e before after left s m r old is = back_is e before after left (Undo.Reg m r old) s is
+reg_is e before after left s m r old is = record_of_step_leads_back e before after left (Undo.Reg m r old) s is
 
 -- ---- the record of a new object
 
-pub new_there : (e : Event) (before after : HeapState) (left : Undo) → IsStep e before after left → (at : ObjRef) (fresh : Bool) (m r old : ℕ) → left ≡ Undo.New at fresh m r old → IsSome (object_at after.regions at)
-new_there e before after left s at fresh m r old is = let h : IsHeld after at m r = fits e before after left (Undo.New at fresh m r old) s is in subst (λ p. IsSome p) (sym h.0.1) refl
+pub new_record_names_an_object : (e : Event) (before after : HeapState) (left : Undo) → IsStep e before after left → (at : ObjRef) (fresh : Bool) (m r old : ℕ) → left ≡ Undo.New at fresh m r old → IsSome (object_at after.regions at)
+new_record_names_an_object e before after left s at fresh m r old is = let h : IsHeld after at m r = record_of_step_fits e before after left (Undo.New at fresh m r old) s is in subst (λ p. IsSome p) (sym h.0.1) refl
 
 pub new_register : (e : Event) (before after : HeapState) (left : Undo) → IsStep e before after left → (at : ObjRef) (fresh : Bool) (m r old : ℕ) → left ≡ Undo.New at fresh m r old → is_register after m r ≡ true
-new_register e before after left s at fresh m r old is = let h : IsHeld after at m r = fits e before after left (Undo.New at fresh m r old) s is in h.1
+new_register e before after left s at fresh m r old is = let h : IsHeld after at m r = record_of_step_fits e before after left (Undo.New at fresh m r old) s is in h.1
 
-pub new_legal : (e : Event) (before after : HeapState) (left : Undo) → IsStep e before after left → (at : ObjRef) (fresh : Bool) (m r old : ℕ) → left ≡ Undo.New at fresh m r old → IsLegal (with_register m r old (with_pool (unallocated at fresh (pool_of after)) after))
+pub new_taken_back_is_legal : (e : Event) (before after : HeapState) (left : Undo) → IsStep e before after left → (at : ObjRef) (fresh : Bool) (m r old : ℕ) → left ≡ Undo.New at fresh m r old → IsLegal (with_register m r old (with_pool (unallocated at fresh (pool_of after)) after))
 unfolding undone
-new_legal e before after left s at fresh m r old is = back_legal e before after left (Undo.New at fresh m r old) s is
+new_taken_back_is_legal e before after left s at fresh m r old is = state_before_step_is_legal e before after left (Undo.New at fresh m r old) s is
 
-pub new_is : (e : Event) (before after : HeapState) (left : Undo) → IsStep e before after left → (at : ObjRef) (fresh : Bool) (m r old : ℕ) → left ≡ Undo.New at fresh m r old → with_register m r old (with_pool (unallocated at fresh (pool_of after)) after) ≡ before
+pub new_taken_back_is_before : (e : Event) (before after : HeapState) (left : Undo) → IsStep e before after left → (at : ObjRef) (fresh : Bool) (m r old : ℕ) → left ≡ Undo.New at fresh m r old → with_register m r old (with_pool (unallocated at fresh (pool_of after)) after) ≡ before
 unfolding undone
-new_is e before after left s at fresh m r old is = back_is e before after left (Undo.New at fresh m r old) s is
+new_taken_back_is_before e before after left s at fresh m r old is = record_of_step_leads_back e before after left (Undo.New at fresh m r old) s is
 
 -- ---- the record of a class
 
-pub class_there : (e : Event) (before after : HeapState) (left : Undo) → IsStep e before after left → left ≡ Undo.Class → 0 < length after.classes
-class_there e before after left s is = fits e before after left Undo.Class s is
+pub class_record_has_a_class : (e : Event) (before after : HeapState) (left : Undo) → IsStep e before after left → left ≡ Undo.Class → 0 < length after.classes
+class_record_has_a_class e before after left s is = record_of_step_fits e before after left Undo.Class s is
 
-pub class_legal : (e : Event) (before after : HeapState) (left : Undo) → IsStep e before after left → left ≡ Undo.Class → IsLegal (record after { classes = take (length after.classes - 1) after.classes })
+pub class_taken_back_is_legal : (e : Event) (before after : HeapState) (left : Undo) → IsStep e before after left → left ≡ Undo.Class → IsLegal (record after { classes = take (length after.classes - 1) after.classes })
 unfolding undone
-class_legal e before after left s is = back_legal e before after left Undo.Class s is
+class_taken_back_is_legal e before after left s is = state_before_step_is_legal e before after left Undo.Class s is
 
 pub class_is : (e : Event) (before after : HeapState) (left : Undo) → IsStep e before after left → left ≡ Undo.Class → record after { classes = take (length after.classes - 1) after.classes } ≡ before
 unfolding undone
-class_is e before after left s is = back_is e before after left Undo.Class s is
+class_is e before after left s is = record_of_step_leads_back e before after left Undo.Class s is
 
 -- ---- the marker's records
 
 pub snap_before : (e : Event) (before after : HeapState) (left : Undo) → IsStep e before after left → left ≡ Undo.Snap → IsSnapped after
-snap_before e before after left s is = fits e before after left Undo.Snap s is
+snap_before e before after left s is = record_of_step_fits e before after left Undo.Snap s is
 
 pub snap_is : (e : Event) (before after : HeapState) (left : Undo) → IsStep e before after left → left ≡ Undo.Snap → with_marking (unsnapped (marking_of after)) after ≡ before
 unfolding undone
-snap_is e before after left s is = back_is e before after left Undo.Snap s is
+snap_is e before after left s is = record_of_step_leads_back e before after left Undo.Snap s is
 
-pub mark_within : (e : Event) (before after : HeapState) (left : Undo) → IsStep e before after left → (parent pushed : ℕ) → left ≡ Undo.Mark parent pushed → pushed ≤ length after.gray
-mark_within e before after left s parent pushed is = fits e before after left (Undo.Mark parent pushed) s is
+pub mark_record_pushes_within_gray : (e : Event) (before after : HeapState) (left : Undo) → IsStep e before after left → (parent pushed : ℕ) → left ≡ Undo.Mark parent pushed → pushed ≤ length after.gray
+mark_record_pushes_within_gray e before after left s parent pushed is = record_of_step_fits e before after left (Undo.Mark parent pushed) s is
 
-pub mark_legal : (e : Event) (before after : HeapState) (left : Undo) → IsStep e before after left → (parent pushed : ℕ) → left ≡ Undo.Mark parent pushed → IsLegal (with_marking (unmarked parent pushed (marking_of after)) after)
+pub mark_taken_back_is_legal : (e : Event) (before after : HeapState) (left : Undo) → IsStep e before after left → (parent pushed : ℕ) → left ≡ Undo.Mark parent pushed → IsLegal (with_marking (unmarked parent pushed (marking_of after)) after)
 unfolding undone
-mark_legal e before after left s parent pushed is = back_legal e before after left (Undo.Mark parent pushed) s is
+mark_taken_back_is_legal e before after left s parent pushed is = state_before_step_is_legal e before after left (Undo.Mark parent pushed) s is
 
 pub mark_is : (e : Event) (before after : HeapState) (left : Undo) → IsStep e before after left → (parent pushed : ℕ) → left ≡ Undo.Mark parent pushed → with_marking (unmarked parent pushed (marking_of after)) after ≡ before
 unfolding undone
-mark_is e before after left s parent pushed is = back_is e before after left (Undo.Mark parent pushed) s is
+mark_is e before after left s parent pushed is = record_of_step_leads_back e before after left (Undo.Mark parent pushed) s is
 
 pub drain_within : (e : Event) (before after : HeapState) (left : Undo) → IsStep e before after left → (pushed : ℕ) → left ≡ Undo.Drain pushed → pushed ≤ length after.gray
-drain_within e before after left s pushed is = (fits e before after left (Undo.Drain pushed) s is).0
+drain_within e before after left s pushed is = (record_of_step_fits e before after left (Undo.Drain pushed) s is).0
 
 pub drain_begun : (e : Event) (before after : HeapState) (left : Undo) → IsStep e before after left → (pushed : ℕ) → left ≡ Undo.Drain pushed → 0 < after.drained
-drain_begun e before after left s pushed is = (fits e before after left (Undo.Drain pushed) s is).1
+drain_begun e before after left s pushed is = (record_of_step_fits e before after left (Undo.Drain pushed) s is).1
 
-pub drain_legal : (e : Event) (before after : HeapState) (left : Undo) → IsStep e before after left → (pushed : ℕ) → left ≡ Undo.Drain pushed → IsLegal (with_marking (undrained pushed (marking_of after)) after)
+pub drain_taken_back_is_legal : (e : Event) (before after : HeapState) (left : Undo) → IsStep e before after left → (pushed : ℕ) → left ≡ Undo.Drain pushed → IsLegal (with_marking (undrained pushed (marking_of after)) after)
 unfolding undone
-drain_legal e before after left s pushed is = back_legal e before after left (Undo.Drain pushed) s is
+drain_taken_back_is_legal e before after left s pushed is = state_before_step_is_legal e before after left (Undo.Drain pushed) s is
 
 pub drain_is : (e : Event) (before after : HeapState) (left : Undo) → IsStep e before after left → (pushed : ℕ) → left ≡ Undo.Drain pushed → with_marking (undrained pushed (marking_of after)) after ≡ before
 unfolding undone
-drain_is e before after left s pushed is = back_is e before after left (Undo.Drain pushed) s is
+drain_is e before after left s pushed is = record_of_step_leads_back e before after left (Undo.Drain pushed) s is
 
 -- ---- the record of a finish
 
 pub finish_before : (e : Event) (before after : HeapState) (left : Undo) → IsStep e before after left → (log : List ℕ) → left ≡ Undo.Finish log → IsFinished after
-finish_before e before after left s log is = fits e before after left (Undo.Finish log) s is
+finish_before e before after left s log is = record_of_step_fits e before after left (Undo.Finish log) s is
 
-pub finish_legal : (e : Event) (before after : HeapState) (left : Undo) → IsStep e before after left → (log : List ℕ) → left ≡ Undo.Finish log → IsLegal (with_marking (unfinished log (marking_of after)) after)
+pub finish_taken_back_is_legal : (e : Event) (before after : HeapState) (left : Undo) → IsStep e before after left → (log : List ℕ) → left ≡ Undo.Finish log → IsLegal (with_marking (unfinished log (marking_of after)) after)
 unfolding undone
-finish_legal e before after left s log is = back_legal e before after left (Undo.Finish log) s is
+finish_taken_back_is_legal e before after left s log is = state_before_step_is_legal e before after left (Undo.Finish log) s is
 
 pub finish_is : (e : Event) (before after : HeapState) (left : Undo) → IsStep e before after left → (log : List ℕ) → left ≡ Undo.Finish log → with_marking (unfinished log (marking_of after)) after ≡ before
 unfolding undone
-finish_is e before after left s log is = back_is e before after left (Undo.Finish log) s is
+finish_is e before after left s log is = record_of_step_leads_back e before after left (Undo.Finish log) s is
 
 -- ---- the records of a sweep
 
 pub sweep_before : (e : Event) (before after : HeapState) (left : Undo) → IsStep e before after left → (region : ℕ) (dead : List (ℕ × Object)) → left ≡ Undo.Sweep region dead → IsSwept region dead after
-sweep_before e before after left s region dead is = fits e before after left (Undo.Sweep region dead) s is
+sweep_before e before after left s region dead is = record_of_step_fits e before after left (Undo.Sweep region dead) s is
 
 pub sweep_is : (e : Event) (before after : HeapState) (left : Undo) → IsStep e before after left → (region : ℕ) (dead : List (ℕ × Object)) → left ≡ Undo.Sweep region dead → with_pool (unswept region dead (pool_of after)) after ≡ before
 unfolding undone
-sweep_is e before after left s region dead is = back_is e before after left (Undo.Sweep region dead) s is
+sweep_is e before after left s region dead is = record_of_step_leads_back e before after left (Undo.Sweep region dead) s is
 
 pub reclaim_head : (e : Event) (before after : HeapState) (left : Undo) → IsStep e before after left → (region : ℕ) (storage : UsedRegion) → left ≡ Undo.Reclaim region storage → slice_get after.pool 0 ≡ Some region
-reclaim_head e before after left s region storage is = (fits e before after left (Undo.Reclaim region storage) s is).0
+reclaim_head e before after left s region storage is = (record_of_step_fits e before after left (Undo.Reclaim region storage) s is).0
 
 pub reclaim_inhabited : (e : Event) (before after : HeapState) (left : Undo) → IsStep e before after left → (region : ℕ) (storage : UsedRegion) → left ≡ Undo.Reclaim region storage → IsInhabited storage
-reclaim_inhabited e before after left s region storage is = (fits e before after left (Undo.Reclaim region storage) s is).1
+reclaim_inhabited e before after left s region storage is = (record_of_step_fits e before after left (Undo.Reclaim region storage) s is).1
 
 pub reclaim_lifeless : (e : Event) (before after : HeapState) (left : Undo) → IsStep e before after left → (region : ℕ) (storage : UsedRegion) → left ≡ Undo.Reclaim region storage → IsLifeless storage
-reclaim_lifeless e before after left s region storage is = (fits e before after left (Undo.Reclaim region storage) s is).2
+reclaim_lifeless e before after left s region storage is = (record_of_step_fits e before after left (Undo.Reclaim region storage) s is).2
 
 pub reclaim_legal : (e : Event) (before after : HeapState) (left : Undo) → IsStep e before after left → (region : ℕ) (storage : UsedRegion) → left ≡ Undo.Reclaim region storage → IsLegal (with_pool (restored region storage (pool_of after)) after)
 unfolding undone
-reclaim_legal e before after left s region storage is = back_legal e before after left (Undo.Reclaim region storage) s is
+reclaim_legal e before after left s region storage is = state_before_step_is_legal e before after left (Undo.Reclaim region storage) s is
 
 pub reclaim_is : (e : Event) (before after : HeapState) (left : Undo) → IsStep e before after left → (region : ℕ) (storage : UsedRegion) → left ≡ Undo.Reclaim region storage → with_pool (restored region storage (pool_of after)) after ≡ before
 unfolding undone
-reclaim_is e before after left s region storage is = back_is e before after left (Undo.Reclaim region storage) s is
+reclaim_is e before after left s region storage is = record_of_step_leads_back e before after left (Undo.Reclaim region storage) s is
 
-pub ruleset taken_back = (put_there, put_legal, put_is, store_there, store_is, reg_register, reg_legal, reg_is, new_there, new_register, new_is, class_there, class_legal, class_is, snap_is, mark_within, mark_is, drain_within, drain_is, finish_is, sweep_is, reclaim_head, reclaim_is)
+pub ruleset taken_back = (put_record_names_an_object, put_taken_back_is_legal, put_taken_back_is_before, store_there, store_is, reg_register, reg_legal, reg_is, new_record_names_an_object, new_register, new_taken_back_is_before, class_record_has_a_class, class_taken_back_is_legal, class_is, snap_is, mark_record_pushes_within_gray, mark_is, drain_within, drain_is, finish_is, sweep_is, reclaim_head, reclaim_is)

@@ -1,5 +1,5 @@
 //! The effect of each event on the heap, with its answer and its record.
-#![tactic(auto, using(crate::proofs::AppliedResults::refused_as), unfolding(crate::specs::Apply::refusal_of, crate::specs::Apply::event_may_grow))]
+#![tactic(auto, using(crate::proofs::AppliedResults::refused_event_is_applied), unfolding(crate::specs::Apply::refusal_of, crate::specs::Apply::event_may_grow))]
 
 ghost use Rattle.std.specs.Prelude.{◌≡◌, ℕ, List, if◌then◌else◌};
 ghost use Rattle.heap_region.specs.Regions.{Object, UsedRegion};
@@ -106,16 +106,6 @@ fn define_array(world: &mut World, name: &Name) -> Effect
     Ok((Answer::Class(class), Undo::Class))
 }
 
-// Applies an event that makes an instance of a class.
-#[inline(always)]
-pub(crate) fn create(world: &mut World, m: u64, r: u64, class: ClassNo) -> Effect
-    requires { IsLegal world.old }
-    ensures { IsApplied (Event.New m r class) world.old world.new result }
-{
-    let created = world.new_instance(m, r, class)?;
-    Ok(record_new(m as u8, r as u8, created))
-}
-
 // Applies an event that makes an object array.
 fn create_array(world: &mut World, m: u64, r: u64, class: ClassNo, len: u64) -> Effect
     requires { IsLegal world.old }
@@ -123,6 +113,21 @@ fn create_array(world: &mut World, m: u64, r: u64, class: ClassNo, len: u64) -> 
 {
     let created = world.new_array(m, r, class, len)?;
     Ok(record_new(m as u8, r as u8, created))
+}
+
+// Returns the answer and the record of a new object in register `r` of mutator `m`.
+fn record_new(m: u8, r: u8, created: Created) -> (Answer, Undo)
+    ensures answer { result.0 ≡ Answer.Object created.id }
+    ensures record { result.1 ≡ Undo.New created.at created.fresh m r created.old }
+{
+    let record = Undo::New {
+        at: created.at,
+        fresh: created.fresh,
+        m,
+        r,
+        old: created.old,
+    };
+    (Answer::Object(created.id), record)
 }
 
 // Applies an event that makes an array of values.
@@ -134,83 +139,12 @@ fn create_prim(world: &mut World, m: u64, r: u64, kind: Kind, len: u64) -> Effec
     Ok(record_new(m as u8, r as u8, created))
 }
 
-// Applies an event that reads a slot.
-#[inline(always)]
-pub(crate) fn load(world: &mut World, m: u64, to: u64, from: u64, slot: u64) -> Effect
-    requires { IsLegal world.old }
-    ensures { IsApplied (Event.Load m to from slot) world.old world.new result }
-{
-    let loaded = world.load(m, to, from, slot)?;
-    Ok((
-        slot_answer(loaded),
-        reg_record(m as u8, to as u8, loaded.old),
-    ))
-}
-
-// Applies an event that writes a reference slot.
-#[inline(always)]
-pub(crate) fn store(world: &mut World, m: u64, target: u64, slot: u64, source: u64) -> Effect
-    ensures { IsApplied (Event.Store m target slot source) world.old world.new result }
-{
-    let replaced = world.store(m, target, slot, source)?;
-    let record = Undo::Store {
-        at: replaced.at,
-        slot: slot as u16,
-        old: replaced.old,
-        logged: replaced.logged,
-    };
-    Ok((Answer::Done, record))
-}
-
-// Applies an event that writes a value slot.
-#[inline(always)]
-pub(crate) fn put(world: &mut World, m: u64, target: u64, slot: u64, value: u64) -> Effect
-    ensures { IsApplied (Event.Put m target slot value) world.old world.new result }
-{
-    let overwritten = world.put(m, target, slot, value)?;
-    let (at, slot, old) = (overwritten.at, slot as u16, overwritten.old);
-    Ok((Answer::Done, Undo::Put { at, slot, old }))
-}
-
-// Applies an event that copies a register.
-#[inline(always)]
-pub(crate) fn copy(world: &mut World, m: u64, to: u64, from_m: u64, from: u64) -> Effect
-    requires { IsLegal world.old }
-    ensures { IsApplied (Event.Move m to from_m from) world.old world.new result }
-{
-    let held = world.move_register(m, to, from_m, from)?;
-    Ok((Answer::Done, reg_record(m as u8, to as u8, held)))
-}
-
-// Applies an event that makes a register null.
-#[inline(always)]
-pub(crate) fn clear(world: &mut World, m: u64, r: u64) -> Effect
-    requires { IsLegal world.old }
-    ensures { IsApplied (Event.Clear m r) world.old world.new result }
-{
-    let held = world.clear_register(m, r)?;
-    Ok((Answer::Done, reg_record(m as u8, r as u8, held)))
-}
-
 // Applies an event that begins a marking cycle.
 fn snap(world: &mut World) -> Effect
     ensures { IsApplied Event.Snap world.old world.new result }
 {
     let pushed = world.snap()?;
     Ok((Answer::Pushed(pushed), Undo::Snap))
-}
-
-// Applies an event that marks the children of the newest gray object.
-#[inline(always)]
-pub(crate) fn mark(world: &mut World) -> Effect
-    ensures { IsApplied Event.Mark world.old world.new result }
-{
-    let marked = world.mark()?;
-    let record = Undo::Mark {
-        parent: marked.parent,
-        pushed: marked.pushed,
-    };
-    Ok((Answer::Pushed(marked.pushed), record))
 }
 
 // Applies an event that marks the object that the next entry of the log names.
@@ -259,6 +193,29 @@ fn sweep_record(reclaimed: Reclaimed) -> Undo
     }
 }
 
+// Applies an event that makes an instance of a class.
+#[inline(always)]
+pub(crate) fn create(world: &mut World, m: u64, r: u64, class: ClassNo) -> Effect
+    requires { IsLegal world.old }
+    ensures { IsApplied (Event.New m r class) world.old world.new result }
+{
+    let created = world.new_instance(m, r, class)?;
+    Ok(record_new(m as u8, r as u8, created))
+}
+
+// Applies an event that reads a slot.
+#[inline(always)]
+pub(crate) fn load(world: &mut World, m: u64, to: u64, from: u64, slot: u64) -> Effect
+    requires { IsLegal world.old }
+    ensures { IsApplied (Event.Load m to from slot) world.old world.new result }
+{
+    let loaded = world.load(m, to, from, slot)?;
+    Ok((
+        slot_answer(loaded),
+        reg_record(m as u8, to as u8, loaded.old),
+    ))
+}
+
 // Returns the answer of a load: the object for a reference, or the value.
 #[inline(always)]
 #[tactic(auto, unfolding(crate::specs::Apply::object_or_null))]
@@ -275,25 +232,68 @@ fn slot_answer(loaded: Loaded) -> Answer
     Answer::Object(loaded.word)
 }
 
-// Returns the answer and the record of a new object in register `r` of mutator `m`.
-fn record_new(m: u8, r: u8, created: Created) -> (Answer, Undo)
-    ensures answer { result.0 ≡ Answer.Object created.id }
-    ensures record { result.1 ≡ Undo.New created.at created.fresh m r created.old }
-{
-    let record = Undo::New {
-        at: created.at,
-        fresh: created.fresh,
-        m,
-        r,
-        old: created.old,
-    };
-    (Answer::Object(created.id), record)
-}
-
 // Returns the record of register `r` of mutator `m`, with its old word.
 #[inline(always)]
 fn reg_record(m: u8, r: u8, old: u64) -> Undo
     ensures { result ≡ Undo.Reg m r old }
 {
     Undo::Reg { m, r, old }
+}
+
+// Applies an event that writes a reference slot.
+#[inline(always)]
+pub(crate) fn store(world: &mut World, m: u64, target: u64, slot: u64, source: u64) -> Effect
+    ensures { IsApplied (Event.Store m target slot source) world.old world.new result }
+{
+    let replaced = world.store(m, target, slot, source)?;
+    let record = Undo::Store {
+        at: replaced.at,
+        slot: slot as u16,
+        old: replaced.old,
+        logged: replaced.logged,
+    };
+    Ok((Answer::Done, record))
+}
+
+// Applies an event that writes a value slot.
+#[inline(always)]
+pub(crate) fn put(world: &mut World, m: u64, target: u64, slot: u64, value: u64) -> Effect
+    ensures { IsApplied (Event.Put m target slot value) world.old world.new result }
+{
+    let overwritten = world.put(m, target, slot, value)?;
+    let (at, slot, old) = (overwritten.at, slot as u16, overwritten.old);
+    Ok((Answer::Done, Undo::Put { at, slot, old }))
+}
+
+// Applies an event that copies a register.
+#[inline(always)]
+pub(crate) fn copy(world: &mut World, m: u64, to: u64, from_m: u64, from: u64) -> Effect
+    requires { IsLegal world.old }
+    ensures { IsApplied (Event.Move m to from_m from) world.old world.new result }
+{
+    let held = world.move_register(m, to, from_m, from)?;
+    Ok((Answer::Done, reg_record(m as u8, to as u8, held)))
+}
+
+// Applies an event that makes a register null.
+#[inline(always)]
+pub(crate) fn clear(world: &mut World, m: u64, r: u64) -> Effect
+    requires { IsLegal world.old }
+    ensures { IsApplied (Event.Clear m r) world.old world.new result }
+{
+    let held = world.clear_register(m, r)?;
+    Ok((Answer::Done, reg_record(m as u8, r as u8, held)))
+}
+
+// Applies an event that marks the children of the newest gray object.
+#[inline(always)]
+pub(crate) fn mark(world: &mut World) -> Effect
+    ensures { IsApplied Event.Mark world.old world.new result }
+{
+    let marked = world.mark()?;
+    let record = Undo::Mark {
+        parent: marked.parent,
+        pushed: marked.pushed,
+    };
+    Ok((Answer::Pushed(marked.pushed), record))
 }

@@ -8,17 +8,17 @@ use Rattle.std.proofs.lemmas.Grind.{reverse_onto}
 use Rattle.std.proofs.lemmas.List.{append_assoc, set_at, length-set, length_push}
 use Rattle.std.proofs.lemmas.Option.{slice_get_within}
 use Rattle.heap_class.specs.declared.ObjRef.{ObjRef}
-use Rattle.heap_class.proofs.Lists.{got_set, got_set_elsewhere}
+use Rattle.heap_class.proofs.Lists.{got_item_was_set, got_set_elsewhere}
 use Rattle.heap_region.specs.Regions.{Object, UsedRegion, Region, Empty, InUse, used_at, object_at, updated, in_used, with_region, FitsWords}
 use Rattle.heap_region.specs.Pool.{RegionPool, freed, taken, cell_freed}
 use Rattle.heap_region.specs.Legal.{IsCellTable}
 use Rattle.heap_region.proofs.UpdatedLists.{updated_same, updated_twice}
-use Rattle.heap_region.proofs.Lookups.{used_there, is_used, object_found}
+use Rattle.heap_region.proofs.Lookups.{used_region_after_its_change, listed_region_is_in_use, object_found_in_used_cell}
 use Rattle.heap_region.proofs.Laws.{freed_back}
 use Rattle.heap_sweep.specs.Sweep.{live_part, dead_cells, has_live, dead_at}
 use Rattle.heap_sweep.specs.Cells.{cleared}
 use Rattle.heap_sweep.proofs.Cells.{place, dead_pairs}
-use Rattle.heap_sweep.proofs.Dead.{reverse_cons, live_found}
+use Rattle.heap_sweep.proofs.Dead.{reverse_cons, cell_of_some_live_object}
 use Rattle.heap_region.proofs.UpdatedLists.{updated_alike}
 
 -- ---- one region
@@ -48,14 +48,14 @@ pub record Keeps (k : ℕ) (u : UsedRegion) : Type 0 where
   pub fits : (c : ℕ) (o : Object) → slice_get u.cells c ≡ Some (Some o) → FitsWords u.cell_size (length o.words)
   pub few : length u.cells ≤ 256
 
-get_at : {A : Type 0} (xs ys : List A) (y : A) (n : ℕ) → length xs ≡ n → slice_get (xs ++ y ∷ ys) n ≡ Some y
-get_at [] ys y zero h = refl
-get_at [] ys y (suc n) h = absurd (omega arith)
-get_at (x ∷ xs) ys y zero h = absurd (omega arith)
-get_at (x ∷ xs) ys y (suc n) h = get_at xs ys y n (omega arith)
+item_after_list_of_length : {A : Type 0} (xs ys : List A) (y : A) (n : ℕ) → length xs ≡ n → slice_get (xs ++ y ∷ ys) n ≡ Some y
+item_after_list_of_length [] ys y zero h = refl
+item_after_list_of_length [] ys y (suc n) h = absurd (omega arith)
+item_after_list_of_length (x ∷ xs) ys y zero h = absurd (omega arith)
+item_after_list_of_length (x ∷ xs) ys y (suc n) h = item_after_list_of_length xs ys y n (omega arith)
 
-keeps_after : (k n : ℕ) (u : UsedRegion) (o : Object) → Keeps k u → slice_get u.cells n ≡ Some (Some o) → n ≢ k → Keeps k (cell_freed u n)
-keeps_after k n u o keeps there other = record {
+region_keeps_object_after_freeing : (k n : ℕ) (u : UsedRegion) (o : Object) → Keeps k u → slice_get u.cells n ≡ Some (Some o) → n ≢ k → Keeps k (cell_freed u n)
+region_keeps_object_after_freeing k n u o keeps there other = record {
   object = keeps.object;
   there = got_set_elsewhere n k u.cells None other ∙ keeps.there;
   live = keeps.live;
@@ -65,20 +65,20 @@ keeps_after k n u o keeps there other = record {
   where
     go : (c : ℕ) (p : Object) → slice_get (set u.cells n None) c ≡ Some (Some p) → (n ≡ c) ⊎ (n ≡ c → ⊥) → FitsWords u.cell_size (length p.words)
     go c p h (inl e) =
-        let gone : slice_get (set u.cells n None) c ≡ Some None = ap (slice_get (set u.cells n None)) (sym e) ∙ got_set n u.cells (Some o) None there in
+        let gone : slice_get (set u.cells n None) c ≡ Some None = ap (slice_get (set u.cells n None)) (sym e) ∙ got_item_was_set n u.cells (Some o) None there in
         absurd (cc)
     go c p h (inr d) = keeps.fits c p (sym (got_set_elsewhere n c u.cells None d) ∙ h)
 
 -- the dead ones of the cells from n on, after others
-held_after : (k : ℕ) (before cells : List (Option Object)) (n : ℕ) (u : UsedRegion) → length before ≡ n → u.cells ≡ before ++ cells → Keeps k u → AreHeld k (dead_pairs n cells) u
-held_after k before [] n u h is keeps = tt
-held_after k before (None ∷ cs) n u h is keeps = held_after k (before ++ None ∷ []) cs (n + 1) u (length_push before None ∙ omega arith) (is ∙ sym (append_assoc before (None ∷ []) cs)) keeps
-held_after k before (Some o ∷ cs) n u h is keeps = go o.live refl
-    (held_after k (before ++ Some o ∷ []) cs (n + 1) u (length_push before (Some o) ∙ omega arith) (is ∙ sym (append_assoc before (Some o ∷ []) cs)) keeps)
-    (λ gone. held_after k (before ++ None ∷ []) cs (n + 1) (cell_freed u n) (length_push before None ∙ omega arith) (ap (λ (l : List (Option Object)). set l n None) is ∙ (set_at before (Some o) cs None n h ∙ sym (append_assoc before (None ∷ []) cs))) gone)
+dead_cells_after_others_held : (k : ℕ) (before cells : List (Option Object)) (n : ℕ) (u : UsedRegion) → length before ≡ n → u.cells ≡ before ++ cells → Keeps k u → AreHeld k (dead_pairs n cells) u
+dead_cells_after_others_held k before [] n u h is keeps = tt
+dead_cells_after_others_held k before (None ∷ cs) n u h is keeps = dead_cells_after_others_held k (before ++ None ∷ []) cs (n + 1) u (length_push before None ∙ omega arith) (is ∙ sym (append_assoc before (None ∷ []) cs)) keeps
+dead_cells_after_others_held k before (Some o ∷ cs) n u h is keeps = go o.live refl
+    (dead_cells_after_others_held k (before ++ Some o ∷ []) cs (n + 1) u (length_push before (Some o) ∙ omega arith) (is ∙ sym (append_assoc before (Some o ∷ []) cs)) keeps)
+    (λ gone. dead_cells_after_others_held k (before ++ None ∷ []) cs (n + 1) (cell_freed u n) (length_push before None ∙ omega arith) (ap (λ (l : List (Option Object)). set l n None) is ∙ (set_at before (Some o) cs None n h ∙ sym (append_assoc before (None ∷ []) cs))) gone)
   where
     there : slice_get u.cells n ≡ Some (Some o)
-    there = ap (λ (l : List (Option Object)). slice_get l n) is ∙ get_at before cs (Some o) n h
+    there = ap (λ (l : List (Option Object)). slice_get l n) is ∙ item_after_list_of_length before cs (Some o) n h
 
     other : o.live ≡ false → n ≢ k
     other dead e =
@@ -98,26 +98,26 @@ held_after k before (Some o ∷ cs) n u h is keeps = go o.live refl
         within = (let few : length u.cells ≤ 256 = keeps.few in omega (arith, slice_get_within u.cells n (Some o) there));
         apart = other e;
       },
-      gone (keeps_after k n u o keeps there (other e)),
+      gone (region_keeps_object_after_freeing k n u o keeps there (other e)),
     )
 
 pub dead_held : (k : ℕ) (u : UsedRegion) → Keeps k u → AreHeld k (dead_cells u) u
 unfolding dead_cells
-dead_held k u keeps = held_after k [] u.cells 0 u refl refl keeps
+dead_held k u keeps = dead_cells_after_others_held k [] u.cells 0 u refl refl keeps
 
 -- a whole region with a live object
 pub live_keeps : (u : UsedRegion) → IsCellTable u → length u.cells ≤ 256 → has_live u ≡ true → (k : ℕ) × Keeps k u
 live_keeps u table few live =
-    let found = live_found u live in
+    let found = cell_of_some_live_object u live in
     (found.0, record { object = found.1; there = found.2; live = found.3; fits = λ c o h. (table.fits c o h, table.least c o h); few = few })
 
 -- what freeing the dead ones leaves
-cleared_after : (before cells : List (Option Object)) (n : ℕ) (u : UsedRegion) → length before ≡ n → u.cells ≡ before ++ cells → (freed_cells (dead_pairs n cells) u).cells ≡ before ++ map live_part cells
-cleared_after before [] n u h is = is
-cleared_after before (None ∷ cs) n u h is = cleared_after (before ++ None ∷ []) cs (n + 1) u (length_push before None ∙ omega arith) (is ∙ sym (append_assoc before (None ∷ []) cs)) ∙ append_assoc before (None ∷ []) (map live_part cs)
-cleared_after before (Some o ∷ cs) n u h is = go o.live
-    (cleared_after (before ++ Some o ∷ []) cs (n + 1) u (length_push before (Some o) ∙ omega arith) (is ∙ sym (append_assoc before (Some o ∷ []) cs)) ∙ append_assoc before (Some o ∷ []) (map live_part cs))
-    (cleared_after (before ++ None ∷ []) cs (n + 1) (cell_freed u n) (length_push before None ∙ omega arith) (ap (λ (l : List (Option Object)). set l n None) is ∙ (set_at before (Some o) cs None n h ∙ sym (append_assoc before (None ∷ []) cs))) ∙ append_assoc before (None ∷ []) (map live_part cs))
+cells_after_dead_are_freed : (before cells : List (Option Object)) (n : ℕ) (u : UsedRegion) → length before ≡ n → u.cells ≡ before ++ cells → (freed_cells (dead_pairs n cells) u).cells ≡ before ++ map live_part cells
+cells_after_dead_are_freed before [] n u h is = is
+cells_after_dead_are_freed before (None ∷ cs) n u h is = cells_after_dead_are_freed (before ++ None ∷ []) cs (n + 1) u (length_push before None ∙ omega arith) (is ∙ sym (append_assoc before (None ∷ []) cs)) ∙ append_assoc before (None ∷ []) (map live_part cs)
+cells_after_dead_are_freed before (Some o ∷ cs) n u h is = go o.live
+    (cells_after_dead_are_freed (before ++ Some o ∷ []) cs (n + 1) u (length_push before (Some o) ∙ omega arith) (is ∙ sym (append_assoc before (Some o ∷ []) cs)) ∙ append_assoc before (Some o ∷ []) (map live_part cs))
+    (cells_after_dead_are_freed (before ++ None ∷ []) cs (n + 1) (cell_freed u n) (length_push before None ∙ omega arith) (ap (λ (l : List (Option Object)). set l n None) is ∙ (set_at before (Some o) cs None n h ∙ sym (append_assoc before (None ∷ []) cs))) ∙ append_assoc before (None ∷ []) (map live_part cs))
   where
     go : (b : Bool) → (freed_cells (dead_pairs (n + 1) cs) u).cells ≡ before ++ Some o ∷ map live_part cs → (freed_cells (dead_pairs (n + 1) cs) (cell_freed u n)).cells ≡ before ++ None ∷ map live_part cs
         → (freed_cells (cons_option (option_map {T = Object} {U = ℕ × Object} (λ p. (n, p)) (cond b None (Some o))) (dead_pairs (n + 1) cs)) u).cells ≡ before ++ cond b (Some o) None ∷ map live_part cs
@@ -141,7 +141,7 @@ unfolding cleared dead_cells
 dead_cleared u = λ i. record {
   cell_size = freed_size (dead_pairs 0 u.cells) u i;
   pending = freed_pending (dead_pairs 0 u.cells) u i;
-  cells = cleared_after [] u.cells 0 u refl refl i;
+  cells = cells_after_dead_are_freed [] u.cells 0 u refl refl i;
   free = freed_list (dead_pairs 0 u.cells) u i;
 }
 
@@ -157,20 +157,20 @@ abbrev pub CanFree : ℕ → List (ℕ × Object) → RegionPool → Type 0
 CanFree r [] s = Unit {0}
 CanFree r (d ∷ ds) s = (d.0 < 256) × IsSome (object_at s.regions (place r d.0)) × ((other : ObjRef) × (other.region ≡ r) × (other ≢ place r d.0) × IsSome (object_at s.regions other)) × CanFree r ds (freed (place r d.0) s)
 
-used_after : (r c : ℕ) (s : RegionPool) (u : UsedRegion) → used_at s.regions r ≡ Some u → used_at (freed (place r c) s).regions r ≡ Some (cell_freed u c)
+region_used_after_freeing : (r c : ℕ) (s : RegionPool) (u : UsedRegion) → used_at s.regions r ≡ Some u → used_at (freed (place r c) s).regions r ≡ Some (cell_freed u c)
 unfolding freed
-used_after r c s u used = used_there r _ s.regions ∙ ap (option_map (λ (u : UsedRegion). cell_freed u c)) used
+region_used_after_freeing r c s u used = used_region_after_its_change r _ s.regions ∙ ap (option_map (λ (u : UsedRegion). cell_freed u c)) used
 
-pub is_there : {A : Type 0} (x : Option A) (y : A) → x ≡ Some y → IsSome x
-is_there x y e = subst IsSome (sym e) (search)
+pub value_means_is_some : {A : Type 0} (x : Option A) (y : A) → x ≡ Some y → IsSome x
+value_means_is_some x y e = subst IsSome (sym e) (search)
 
-pub can_free : (r k : ℕ) (ds : List (ℕ × Object)) (s : RegionPool) (u : UsedRegion) (o : Object) → used_at s.regions r ≡ Some u → slice_get u.cells k ≡ Some (Some o) → AreHeld k ds u → CanFree r ds s
-can_free r k [] s u o used there held = tt
-can_free r k (d ∷ ds) s u o used there held = (
+pub dead_cells_can_be_freed : (r k : ℕ) (ds : List (ℕ × Object)) (s : RegionPool) (u : UsedRegion) (o : Object) → used_at s.regions r ≡ Some u → slice_get u.cells k ≡ Some (Some o) → AreHeld k ds u → CanFree r ds s
+dead_cells_can_be_freed r k [] s u o used there held = tt
+dead_cells_can_be_freed r k (d ∷ ds) s u o used there held = (
   held.0.within,
-  is_there _ _ (object_found s.regions (place r d.0) u d.1 used held.0.there),
-  (place r k, refl, (λ e. held.0.apart (ap (λ (a : ObjRef). a.cell) (sym e))), is_there _ _ (object_found s.regions (place r k) u o used there)),
-  can_free r k ds (freed (place r d.0) s) (cell_freed u d.0) o (used_after r d.0 s u used) (got_set_elsewhere d.0 k u.cells None held.0.apart ∙ there) held.1,
+  value_means_is_some _ _ (object_found_in_used_cell s.regions (place r d.0) u d.1 used held.0.there),
+  (place r k, refl, (λ e. held.0.apart (ap (λ (a : ObjRef). a.cell) (sym e))), value_means_is_some _ _ (object_found_in_used_cell s.regions (place r k) u o used there)),
+  dead_cells_can_be_freed r k ds (freed (place r d.0) s) (cell_freed u d.0) o (region_used_after_freeing r d.0 s u used) (got_set_elsewhere d.0 k u.cells None held.0.apart ∙ there) held.1,
 )
 
 pub region_twice : (r : ℕ) (f g : UsedRegion → UsedRegion) (regions : List Region) → with_region r g (with_region r f regions) ≡ with_region r (λ u. g (f u)) regions
@@ -195,7 +195,7 @@ region_alike r f g regions h = updated_alike r (in_used f) (in_used g) regions g
   where
     go : (x : Region) → slice_get regions r ≡ Some x → in_used f x ≡ in_used g x
     go Empty e = refl
-    go (InUse u) e = ap InUse (h u (is_used regions r u e))
+    go (InUse u) e = ap InUse (h u (listed_region_is_in_use regions r u e))
 
 freed_state : (r : ℕ) (ds : List (ℕ × Object)) (s : RegionPool) → freed_each r ds s ≡ record s { regions = with_region r (freed_cells ds) s.regions }
 unfolding freed
@@ -230,14 +230,14 @@ can_take_last : (r : ℕ) (ds : List (ℕ × Object)) (d : ℕ × Object) (s : R
 can_take_last r [] d s can ready = (ready, tt)
 can_take_last r (x ∷ ds) d s can ready = (can.0, can_take_last r ds d (taken (place r x.0) x.1 s) can.1 ready)
 
-taken_last : (r : ℕ) (ds : List (ℕ × Object)) (d : ℕ × Object) (s : RegionPool) → taken_each r (ds ++ d ∷ []) s ≡ taken (place r d.0) d.1 (taken_each r ds s)
-taken_last r [] d s = refl
-taken_last r (x ∷ ds) d s = taken_last r ds d (taken (place r x.0) x.1 s)
+taken_each_with_last : (r : ℕ) (ds : List (ℕ × Object)) (d : ℕ × Object) (s : RegionPool) → taken_each r (ds ++ d ∷ []) s ≡ taken (place r d.0) d.1 (taken_each r ds s)
+taken_each_with_last r [] d s = refl
+taken_each_with_last r (x ∷ ds) d s = taken_each_with_last r ds d (taken (place r x.0) x.1 s)
 
 pub takes_back : (r k : ℕ) (ds : List (ℕ × Object)) (s : RegionPool) (u : UsedRegion) → used_at s.regions r ≡ Some u → AreHeld k ds u
     → CanTake r (reverse ds) (freed_each r ds s) × (taken_each r (reverse ds) (freed_each r ds s) ≡ s)
 takes_back r k [] s u used held = (tt, refl)
-takes_back r k (d ∷ ds) s u used held = go (takes_back r k ds (freed (place r d.0) s) (cell_freed u d.0) (used_after r d.0 s u used) held.1)
+takes_back r k (d ∷ ds) s u used held = go (takes_back r k ds (freed (place r d.0) s) (cell_freed u d.0) (region_used_after_freeing r d.0 s u used) held.1)
   where
     once : RegionPool
     once = freed (place r d.0) s
@@ -246,14 +246,14 @@ takes_back r k (d ∷ ds) s u used held = go (takes_back r k ds (freed (place r 
     turned = reverse_onto ds d []
 
     back : taken (place r d.0) d.1 once ≡ s
-    back = freed_back (place r d.0) d.1 s (object_found s.regions (place r d.0) u d.1 used held.0.there)
+    back = freed_back (place r d.0) d.1 s (object_found_in_used_cell s.regions (place r d.0) u d.1 used held.0.there)
 
     ready : IsReady r d once
-    ready = (held.0.within, subst (λ (x : Option UsedRegion). IsSomeAnd x (λ u. (slice_get u.free 0 ≡ Some d.0) × FitsWords u.cell_size (length d.1.words))) (sym (used_after r d.0 s u used)) (refl, held.0.fits))
+    ready = (held.0.within, subst (λ (x : Option UsedRegion). IsSomeAnd x (λ u. (slice_get u.free 0 ≡ Some d.0) × FitsWords u.cell_size (length d.1.words))) (sym (region_used_after_freeing r d.0 s u used)) (refl, held.0.fits))
 
     go : CanTake r (reverse ds) (freed_each r ds once) × (taken_each r (reverse ds) (freed_each r ds once) ≡ once)
         → CanTake r (reverse (d ∷ ds)) (freed_each r ds once) × (taken_each r (reverse (d ∷ ds)) (freed_each r ds once) ≡ s)
     go rest = (
       subst (λ (l : List (ℕ × Object)). CanTake r l (freed_each r ds once)) (sym turned) (can_take_last r (reverse ds) d (freed_each r ds once) rest.0 (subst (IsReady r d) (sym rest.1) ready)),
-      ap (λ (l : List (ℕ × Object)). taken_each r l (freed_each r ds once)) turned ∙ (taken_last r (reverse ds) d (freed_each r ds once) ∙ (ap (taken (place r d.0) d.1) rest.1 ∙ back)),
+      ap (λ (l : List (ℕ × Object)). taken_each r l (freed_each r ds once)) turned ∙ (taken_each_with_last r (reverse ds) d (freed_each r ds once) ∙ (ap (taken (place r d.0) d.1) rest.1 ∙ back)),
     )

@@ -8,17 +8,17 @@ use Rattle.std.proofs.lemmas.Option.{slice_get-map}
 use Rattle.heap_class.specs.declared.ObjRef.{ObjRef}
 use Rattle.heap_region.specs.Regions.{Object, UsedRegion, Region, InUse, used_at, object_at, object_of, ref_of, with_region}
 use Rattle.heap_region.specs.Pool.{RegionPool, released}
-use Rattle.heap_region.proofs.Lookups.{used_there, used_elsewhere, used_is}
+use Rattle.heap_region.proofs.Lookups.{used_region_after_its_change, used_region_after_other_change, used_region_stands_in_list}
 use Rattle.heap_region.proofs.Ids.{ref_kept}
-use Rattle.heap_region.proofs.FoundObjects.{region_around, ref_region, found_local, found_nowhere, released_there, released_elsewhere}
+use Rattle.heap_region.proofs.FoundObjects.{region_around, ref_region, found_local, id_of_region_without_object, released_there, released_elsewhere}
 use Rattle.heap_sweep.specs.Sweep.{live_part, has_live, is_emptied, swept, swept_region}
 
 -- the object in a cell of a region
-abbrev in_cell : ℕ → UsedRegion → Option Object
-in_cell c u = option_and_then (λ (o : Option Object). o) (slice_get u.cells c)
+abbrev object_of_swept_region_cell : ℕ → UsedRegion → Option Object
+object_of_swept_region_cell c u = option_and_then (λ (o : Option Object). o) (slice_get u.cells c)
 
 -- what a swept region has in a cell
-pub swept_cell : (c : ℕ) (u : UsedRegion) → in_cell c (swept_region u) ≡ live_part (in_cell c u)
+pub swept_cell : (c : ℕ) (u : UsedRegion) → object_of_swept_region_cell c (swept_region u) ≡ live_part (object_of_swept_region_cell c u)
 unfolding swept_region
 swept_cell c u = ap (option_and_then (λ (o : Option Object). o)) (slice_get-map live_part u.cells c) ∙ go (slice_get u.cells c)
   where
@@ -27,9 +27,9 @@ swept_cell c u = ap (option_and_then (λ (o : Option Object). o)) (slice_get-map
     go (Some o) = refl
 
 -- a region without live objects has none in a cell
-pub none_live : (u : UsedRegion) (c : ℕ) → has_live u ≡ false → live_part (in_cell c u) ≡ None
+pub cell_has_no_live_part : (u : UsedRegion) (c : ℕ) → has_live u ≡ false → live_part (object_of_swept_region_cell c u) ≡ None
 unfolding has_live
-none_live u c h = go u.cells c h
+cell_has_no_live_part u c h = go u.cells c h
   where
     go : (cells : List (Option Object)) (c : ℕ) → list_any (λ c. option_map_or (λ (o : Object). o.live) c false) cells ≡ false → live_part (option_and_then (λ (o : Option Object). o) (slice_get cells c)) ≡ None
     go [] c h = refl
@@ -47,54 +47,54 @@ none_live u c h = go u.cells c h
             live false e h (suc c) = rest c h
 
 -- another region's ids name what they named
-pub swept_elsewhere : (r x : ℕ) (s : RegionPool) → r ≢ region_around x → object_of (swept r s).regions x ≡ object_of s.regions x
+pub ids_outside_swept_region_stay : (r x : ℕ) (s : RegionPool) → r ≢ region_around x → object_of (swept r s).regions x ≡ object_of s.regions x
 unfolding swept
-swept_elsewhere r x s other = go (is_emptied r s)
+ids_outside_swept_region_stay r x s other = go (is_emptied r s)
   where
     go : (b : Bool) → object_of (if b then released r s else record s { regions = with_region r swept_region s.regions }).regions x ≡ object_of s.regions x
     go true = found_local (released r s).regions s.regions x (released_elsewhere r (region_around x) s other)
-    go false = found_local (with_region r swept_region s.regions) s.regions x (used_elsewhere r (region_around x) swept_region s.regions other)
+    go false = found_local (with_region r swept_region s.regions) s.regions x (used_region_after_other_change r (region_around x) swept_region s.regions other)
 
 -- an object of the region, by the id that names it
-at_place : (regions : List Region) (r x : ℕ) (u : UsedRegion) → used_at regions r ≡ Some u → r ≡ region_around x → (at : ObjRef) → ref_of regions x ≡ Some at → (at.region ≡ r) × (object_at regions at ≡ in_cell at.cell u)
+place_of_id_in_region : (regions : List Region) (r x : ℕ) (u : UsedRegion) → used_at regions r ≡ Some u → r ≡ region_around x → (at : ObjRef) → ref_of regions x ≡ Some at → (at.region ≡ r) × (object_at regions at ≡ object_of_swept_region_cell at.cell u)
 unfolding object_at
-at_place regions r x u used same at e =
+place_of_id_in_region regions r x u used same at e =
     let here : at.region ≡ r = ref_region regions x at e ∙ sym same in
-    (here, ap (λ (q : ℕ). option_and_then (in_cell at.cell) (used_at regions q)) here ∙ ap (option_and_then (in_cell at.cell)) used)
+    (here, ap (λ (q : ℕ). option_and_then (object_of_swept_region_cell at.cell) (used_at regions q)) here ∙ ap (option_and_then (object_of_swept_region_cell at.cell)) used)
 
 -- the region's own ids name what is live
-pub swept_there : (r x : ℕ) (s : RegionPool) (u : UsedRegion) → used_at s.regions r ≡ Some u → r ≡ region_around x → object_of (swept r s).regions x ≡ live_part (object_of s.regions x)
+pub ids_of_swept_region_name_live : (r x : ℕ) (s : RegionPool) (u : UsedRegion) → used_at s.regions r ≡ Some u → r ≡ region_around x → object_of (swept r s).regions x ≡ live_part (object_of s.regions x)
 unfolding swept is_emptied object_of object_at swept_region
-swept_there r x s u used same =
+ids_of_swept_region_name_live r x s u used same =
     ap (λ (v : Option UsedRegion). object_of (if option_map_or (λ v. not (has_live v)) v false then released r s else record s { regions = kept }).regions x) used ∙ go (has_live u) refl
   where
     kept : List Region
     kept = with_region r swept_region s.regions
 
-    places : (at : ObjRef) → ref_of s.regions x ≡ Some at → (at.region ≡ r) × (object_at s.regions at ≡ in_cell at.cell u)
-    places = at_place s.regions r x u used same
+    places : (at : ObjRef) → ref_of s.regions x ≡ Some at → (at.region ≡ r) × (object_at s.regions at ≡ object_of_swept_region_cell at.cell u)
+    places = place_of_id_in_region s.regions r x u used same
 
     dead : has_live u ≡ false → (p : Option ObjRef) → ref_of s.regions x ≡ p → live_part (option_and_then (object_at s.regions) p) ≡ None
     dead h None e = refl
-    dead h (Some at) e = ap live_part (places at e).1 ∙ none_live u at.cell h
+    dead h (Some at) e = ap live_part (places at e).1 ∙ cell_has_no_live_part u at.cell h
 
     live : (p : Option ObjRef) → ref_of s.regions x ≡ p → option_and_then (object_at kept) p ≡ live_part (option_and_then (object_at s.regions) p)
     live None e = refl
     live (Some at) e =
-        ap (λ (q : ℕ). option_and_then (in_cell at.cell) (used_at kept q)) (places at e).0
-        ∙ ap (option_and_then (in_cell at.cell)) (used_there r swept_region s.regions ∙ ap (option_map swept_region) used)
+        ap (λ (q : ℕ). option_and_then (object_of_swept_region_cell at.cell) (used_at kept q)) (places at e).0
+        ∙ ap (option_and_then (object_of_swept_region_cell at.cell)) (used_region_after_its_change r swept_region s.regions ∙ ap (option_map swept_region) used)
         ∙ swept_cell at.cell u ∙ sym (ap live_part (places at e).1)
 
     go : (b : Bool) → has_live u ≡ b → object_of (if not b then released r s else record s { regions = kept }).regions x ≡ live_part (object_of s.regions x)
     go false h =
-        found_nowhere (released r s).regions x (λ c. ap (option_and_then (in_cell c)) (ap (used_at (released r s).regions) (sym same) ∙ released_there r s (InUse u) (used_is s.regions r u used)))
+        id_of_region_without_object (released r s).regions x (λ c. ap (option_and_then (object_of_swept_region_cell c)) (ap (used_at (released r s).regions) (sym same) ∙ released_there r s (InUse u) (used_region_stands_in_list s.regions r u used)))
         ∙ sym (dead h (ref_of s.regions x) refl)
     go true h = ap (option_and_then (object_at kept)) (ref_kept r swept_region s.regions x (λ v. refl)) ∙ live (ref_of s.regions x) refl
 
 -- a sweep leaves each live object where its id finds it
-pub swept_spares : (r x : ℕ) (s : RegionPool) (u : UsedRegion) (o : Object) → used_at s.regions r ≡ Some u → object_of s.regions x ≡ Some o → o.live ≡ true → object_of (swept r s).regions x ≡ Some o
-swept_spares r x s u o used found live = go (cases_eq r (region_around x))
+pub sweep_spares_each_live_object : (r x : ℕ) (s : RegionPool) (u : UsedRegion) (o : Object) → used_at s.regions r ≡ Some u → object_of s.regions x ≡ Some o → o.live ≡ true → object_of (swept r s).regions x ≡ Some o
+sweep_spares_each_live_object r x s u o used found live = go (cases_eq r (region_around x))
   where
     go : (r ≡ region_around x) ⊎ (r ≡ region_around x → ⊥) → object_of (swept r s).regions x ≡ Some o
-    go (inl e) = swept_there r x s u used e ∙ ap live_part found ∙ ap (λ (l : Bool). cond l (Some o) None) live
-    go (inr d) = swept_elsewhere r x s d ∙ found
+    go (inl e) = ids_of_swept_region_name_live r x s u used e ∙ ap live_part found ∙ ap (λ (l : Bool). cond l (Some o) None) live
+    go (inr d) = ids_outside_swept_region_stay r x s d ∙ found

@@ -21,20 +21,6 @@ JAVA PROFILE 1.0.2\0\0\0\0\x08\0\0\0\0\0\0\0\0\
 \xff\0\0\0\0\x10\0\0\0\
 \x2c\0\0\0\0\0\0\0\0";
 
-// Adds an int field.
-fn push_int(alloc: Global, fields: &mut Vec<Field>, name: &[u8]) -> Result<(), AllocError> {
-    let name = Name::new(alloc, name)?;
-    let kind = Kind::Int;
-    fields.push(Field { name, kind })?;
-    Ok(())
-}
-
-// Adds two int fields, `x` and `y`.
-fn push_x_and_y(alloc: Global, fields: &mut Vec<Field>) -> Result<(), AllocError> {
-    push_int(alloc, fields, b"x")?;
-    push_int(alloc, fields, b"y")
-}
-
 /// Creates the definition of the class of points, which have two ints `x` and `y`.
 pub fn point(alloc: Global) -> Result<Event, AllocError> {
     let mut fields = Vec::new(alloc);
@@ -44,6 +30,20 @@ pub fn point(alloc: Global) -> Result<Event, AllocError> {
         sup: None,
         fields: Fields::from_vec(fields),
     })
+}
+
+// Adds two int fields, `x` and `y`.
+fn push_x_and_y(alloc: Global, fields: &mut Vec<Field>) -> Result<(), AllocError> {
+    push_int(alloc, fields, b"x")?;
+    push_int(alloc, fields, b"y")
+}
+
+// Adds an int field.
+fn push_int(alloc: Global, fields: &mut Vec<Field>, name: &[u8]) -> Result<(), AllocError> {
+    let name = Name::new(alloc, name)?;
+    let kind = Kind::Int;
+    fields.push(Field { name, kind })?;
+    Ok(())
 }
 
 /// Returns the making of an instance of the first class in a register.

@@ -12,20 +12,20 @@ actions_more : (marked : List (Action × Allocation)) (a : Action × Allocation)
 actions_more [] a = refl
 actions_more (x ∷ marked) a = ap (λ l. x.0 ∷ l) (actions_more marked a)
 
-marks_more : (m : Machine) (marked : List (Action × Allocation)) (a : Action × Allocation) → AreAllocations m marked → MayStand (machine_after m marked) a → AreAllocations m (marked ++ a ∷ [])
+allocations_with_one_action_more : (m : Machine) (marked : List (Action × Allocation)) (a : Action × Allocation) → AreAllocations m marked → MayStand (machine_after m marked) a → AreAllocations m (marked ++ a ∷ [])
 unfolding machine_after
-marks_more m [] a h s = (s, tt)
-marks_more m (x ∷ marked) a h s = (h.0, marks_more (acted_under m x).0 marked a h.1 s)
+allocations_with_one_action_more m [] a h s = (s, tt)
+allocations_with_one_action_more m (x ∷ marked) a h s = (h.0, allocations_with_one_action_more (acted_under m x).0 marked a h.1 s)
 
-replies_more : (m : Machine) (marked : List (Action × Allocation)) (a : Action × Allocation) → replies_of m (marked ++ a ∷ []) ≡ replies_of m marked ++ (acted_under (machine_after m marked) a).1 ∷ []
+replies_with_one_action_more : (m : Machine) (marked : List (Action × Allocation)) (a : Action × Allocation) → replies_of m (marked ++ a ∷ []) ≡ replies_of m marked ++ (acted_under (machine_after m marked) a).1 ∷ []
 unfolding replies_of machine_after
-replies_more m [] a = refl
-replies_more m (x ∷ marked) a = ap (λ l. (acted_under m x).1 ∷ l) (replies_more (acted_under m x).0 marked a)
+replies_with_one_action_more m [] a = refl
+replies_with_one_action_more m (x ∷ marked) a = ap (λ l. (acted_under m x).1 ∷ l) (replies_with_one_action_more (acted_under m x).0 marked a)
 
-after_more : (m : Machine) (marked : List (Action × Allocation)) (a : Action × Allocation) → machine_after m (marked ++ a ∷ []) ≡ (acted_under (machine_after m marked) a).0
+machine_after_one_action_more : (m : Machine) (marked : List (Action × Allocation)) (a : Action × Allocation) → machine_after m (marked ++ a ∷ []) ≡ (acted_under (machine_after m marked) a).0
 unfolding machine_after
-after_more m [] a = refl
-after_more m (x ∷ marked) a = after_more (acted_under m x).0 marked a
+machine_after_one_action_more m [] a = refl
+machine_after_one_action_more m (x ∷ marked) a = machine_after_one_action_more (acted_under m x).0 marked a
 
 -- one action more
 pub driven_more : (m : Machine) (actions : List Action) (replies : List Reply) (n k : Machine) (a : Action) (r : Reply) → MayDrive m actions replies n → MayReply n a k r → MayDrive m (actions ++ a ∷ []) (replies ++ r ∷ []) k
@@ -34,7 +34,7 @@ driven_more m actions replies n k a r d s =
     let reached : acted_under (machine_after m d.0) last ≡ (k, r) = ap (λ (x : Machine). acted_under x last) (sym d.4) ∙ s.2 in (
       d.0 ++ last ∷ [],
       actions_more d.0 last ∙ ap (λ l. l ++ a ∷ []) d.1,
-      marks_more m d.0 last d.2 (subst (λ (x : Machine). MayStand x last) d.4 s.1),
-      (λ i. d.3 i ++ (sym reached i).1 ∷ []) ∙ sym (replies_more m d.0 last),
-      (λ i. (sym reached i).0) ∙ sym (after_more m d.0 last),
+      allocations_with_one_action_more m d.0 last d.2 (subst (λ (x : Machine). MayStand x last) d.4 s.1),
+      (λ i. d.3 i ++ (sym reached i).1 ∷ []) ∙ sym (replies_with_one_action_more m d.0 last),
+      (λ i. (sym reached i).0) ∙ sym (machine_after_one_action_more m d.0 last),
     )

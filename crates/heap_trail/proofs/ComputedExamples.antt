@@ -31,9 +31,9 @@ pub keep_one : KeepOne
 unfolding open_heap_class open_heap_region open_heap_mark open_heap_sweep open_heap_world open_heap_step open_heap_trail
 keep_one = refl
 
-pub rewind_too_far : RewindTooFar
+pub computed_rewind_is_too_far : RewindTooFar
 unfolding open_heap_class open_heap_region open_heap_mark open_heap_sweep open_heap_world open_heap_step open_heap_trail
-rewind_too_far = refl
+computed_rewind_is_too_far = refl
 
 pub refusals_of_mutators : RefusalsOfMutators
 unfolding open_heap_class open_heap_region open_heap_mark open_heap_sweep open_heap_world open_heap_step open_heap_trail

@@ -16,7 +16,7 @@ use Rattle.heap_step.specs.Apply.{applied}
 use Rattle.hprof_text.specs.Image.{Image}
 use Rattle.hprof_text.specs.declared.Piece.{Piece}
 use Rattle.hprof_text.specs.Segments.{pieces_of, piece_of, nth_piece}
-use Rattle.hprof_text.proofs.JoinedPieces.{pieces_join}
+use Rattle.hprof_text.proofs.JoinedPieces.{pieces_join_to_dump}
 use Rattle.heap_trail.specs.declared.Action.{Action}
 use Rattle.heap_trail.specs.declared.Action.TheVariants.{Step, Rewind, OpenPin, NextPiece, ClosePin}
 use Rattle.heap_trail.specs.declared.Reply.{Reply}
@@ -26,39 +26,39 @@ use Rattle.heap_trail.specs.Trail.{rewind_refusal}
 use Rattle.heap_trail.specs.Pins.{Pins, PinState, Kept, Gone, pin_at, open_refusal, with_pin, without_pin, if_kept, each_kept, with_piece_given, after_rewind, with_lost}
 use Rattle.heap_trail.specs.Machine.{Machine, Allocation, Granted, Denied, LosesPins, after_result, after_step_at, unless, after_rewind_by, after_open, counted, after_piece, after_close, acted, acted_under}
 use Rattle.heap_trail.specs.Laws.{AsksAt, AskAt, piece_given, last_given, bytes_given, gave_last, GivesText}
-use Rattle.heap_trail.proofs.Images.{Left, left_other, left_none, step_same}
+use Rattle.heap_trail.proofs.Images.{Left, other_pin_left_by_closing, closed_pin_not_left, pins_same_after_step}
 
 -- ---- pieces from one on
 
-piece_first : (ps : List (List ℕ)) (g : ℕ) → g < length ps → unwrap_or (slice_get ps g) [] ++ concat (drop (suc g) ps) ≡ concat (drop g ps)
-piece_first [] g lt = absurd (omega (arith, lt))
-piece_first (x ∷ xs) zero lt = refl
-piece_first (x ∷ xs) (suc g) lt = piece_first xs g (omega (arith, lt))
+next_piece_and_rest_joined : (ps : List (List ℕ)) (g : ℕ) → g < length ps → unwrap_or (slice_get ps g) [] ++ concat (drop (suc g) ps) ≡ concat (drop g ps)
+next_piece_and_rest_joined [] g lt = absurd (omega (arith, lt))
+next_piece_and_rest_joined (x ∷ xs) zero lt = refl
+next_piece_and_rest_joined (x ∷ xs) (suc g) lt = next_piece_and_rest_joined xs g (omega (arith, lt))
 
-pub none_left : (ps : List (List ℕ)) (g : ℕ) → length ps ≤ g → drop g ps ≡ []
-none_left [] zero le = refl
-none_left [] (suc g) le = refl
-none_left (x ∷ xs) zero le = absurd (omega (arith, le))
-none_left (x ∷ xs) (suc g) le = none_left xs g (omega (arith, le))
+pub no_pieces_left_to_drop : (ps : List (List ℕ)) (g : ℕ) → length ps ≤ g → drop g ps ≡ []
+no_pieces_left_to_drop [] zero le = refl
+no_pieces_left_to_drop [] (suc g) le = refl
+no_pieces_left_to_drop (x ∷ xs) zero le = absurd (omega (arith, le))
+no_pieces_left_to_drop (x ∷ xs) (suc g) le = no_pieces_left_to_drop xs g (omega (arith, le))
 
-none_there : (ps : List (List ℕ)) (g : ℕ) → length ps ≤ g → unwrap_or (slice_get ps g) [] ≡ []
-none_there [] g le = refl
-none_there (x ∷ xs) zero le = absurd (omega (arith, le))
-none_there (x ∷ xs) (suc g) le = none_there xs g (omega (arith, le))
+no_piece_past_the_last : (ps : List (List ℕ)) (g : ℕ) → length ps ≤ g → unwrap_or (slice_get ps g) [] ≡ []
+no_piece_past_the_last [] g le = refl
+no_piece_past_the_last (x ∷ xs) zero le = absurd (omega (arith, le))
+no_piece_past_the_last (x ∷ xs) (suc g) le = no_piece_past_the_last xs g (omega (arith, le))
 
-nothing_after : (xs ys : List ℕ) → xs ++ ys ≡ [] → ys ≡ []
-nothing_after [] ys e = e
-nothing_after (x ∷ xs) ys e = absurd (clash e)
+nothing_follows_in_empty_join : (xs ys : List ℕ) → xs ++ ys ≡ [] → ys ≡ []
+nothing_follows_in_empty_join [] ys e = e
+nothing_follows_in_empty_join (x ∷ xs) ys e = absurd (clash e)
   where
     clash : x ∷ (xs ++ ys) ≡ [] → ⊥
     clash e = cc
 
 -- ---- a pin after a change of all
 
-each_list : (f : ℕ → ℕ → Image → ℕ → PinState) (pin : ℕ) (xs : List (ℕ × PinState))
+changed_pin_found_in_list : (f : ℕ → ℕ → Image → ℕ → PinState) (pin : ℕ) (xs : List (ℕ × PinState))
     → option_map (λ (e : ℕ × PinState). e.1) (find (λ e. e.0 == pin) (map {B = ℕ × PinState} (λ e. (e.0, if_kept (f e.0) e.1)) xs)) ≡ option_map (if_kept (f pin)) (option_map (λ (e : ℕ × PinState). e.1) (find (λ e. e.0 == pin) xs))
-each_list f pin [] = refl
-each_list f pin (x ∷ xs) = go (x.0 == pin) refl (each_list f pin xs)
+changed_pin_found_in_list f pin [] = refl
+changed_pin_found_in_list f pin (x ∷ xs) = go (x.0 == pin) refl (changed_pin_found_in_list f pin xs)
   where
     go : (b : Bool) → (x.0 == pin) ≡ b
         → option_map (λ (e : ℕ × PinState). e.1) (find (λ e. e.0 == pin) (map {B = ℕ × PinState} (λ e. (e.0, if_kept (f e.0) e.1)) xs)) ≡ option_map (if_kept (f pin)) (option_map (λ (e : ℕ × PinState). e.1) (find (λ e. e.0 == pin) xs))
@@ -66,17 +66,17 @@ each_list f pin (x ∷ xs) = go (x.0 == pin) refl (each_list f pin xs)
     go true e rest = ap (λ n. Some (if_kept (f n) x.1)) (eqb-true x.0 pin e)
     go false e rest = rest
 
-pub at_each : (f : ℕ → ℕ → Image → ℕ → PinState) (pin : ℕ) (ps : Pins) → pin_at pin (each_kept f ps) ≡ option_map (if_kept (f pin)) (pin_at pin ps)
+pub changed_pin_by_number : (f : ℕ → ℕ → Image → ℕ → PinState) (pin : ℕ) (ps : Pins) → pin_at pin (each_kept f ps) ≡ option_map (if_kept (f pin)) (pin_at pin ps)
 unfolding pin_at each_kept
-at_each f pin ps = each_list f pin ps.open_pins
+changed_pin_by_number f pin ps = changed_pin_found_in_list f pin ps.open_pins
 
-opened_list : (pin : ℕ) (xs : List (ℕ × PinState)) (y : ℕ × PinState) → y.0 ≢ pin → option_map (λ (e : ℕ × PinState). e.1) (find (λ e. e.0 == pin) (xs ++ y ∷ [])) ≡ option_map (λ (e : ℕ × PinState). e.1) (find (λ e. e.0 == pin) xs)
-opened_list pin [] y ne = go (y.0 == pin) refl
+pin_found_beside_opened_one : (pin : ℕ) (xs : List (ℕ × PinState)) (y : ℕ × PinState) → y.0 ≢ pin → option_map (λ (e : ℕ × PinState). e.1) (find (λ e. e.0 == pin) (xs ++ y ∷ [])) ≡ option_map (λ (e : ℕ × PinState). e.1) (find (λ e. e.0 == pin) xs)
+pin_found_beside_opened_one pin [] y ne = go (y.0 == pin) refl
   where
     go : (b : Bool) → (y.0 == pin) ≡ b → option_map (λ (e : ℕ × PinState). e.1) (cond b (Some y) None) ≡ None
     go true e = absurd (ne (eqb-true y.0 pin e))
     go false e = refl
-opened_list pin (x ∷ xs) y ne = go (x.0 == pin) (opened_list pin xs y ne)
+pin_found_beside_opened_one pin (x ∷ xs) y ne = go (x.0 == pin) (pin_found_beside_opened_one pin xs y ne)
   where
     go : (b : Bool) → option_map (λ (e : ℕ × PinState). e.1) (find (λ e. e.0 == pin) (xs ++ y ∷ [])) ≡ option_map (λ (e : ℕ × PinState). e.1) (find (λ e. e.0 == pin) xs)
         → option_map (λ (e : ℕ × PinState). e.1) (cond b (Some x) (find (λ e. e.0 == pin) (xs ++ y ∷ []))) ≡ option_map (λ (e : ℕ × PinState). e.1) (cond b (Some x) (find (λ e. e.0 == pin) xs))
@@ -111,38 +111,38 @@ rewound_fate : (to pin : ℕ) (ps : Pins) → Fate (pin_at pin ps) (pin_at pin (
 unfolding after_rewind
 rewound_fate to pin ps =
     let f : ℕ → ℕ → Image → ℕ → PinState = λ number place image given. if nat_lt to place then Gone place Rewound else Kept place image given in
-    subst (Fate (pin_at pin ps)) (sym (at_each f pin ps)) (lost_fate (nat_lt to) Rewound (pin_at pin ps))
+    subst (Fate (pin_at pin ps)) (sym (changed_pin_by_number f pin ps)) (lost_fate (nat_lt to) Rewound (pin_at pin ps))
 
 lost_pins_fate : (pins : List ℕ) (pin : ℕ) (ps : Pins) → Fate (pin_at pin ps) (pin_at pin (with_lost pins ps))
 unfolding with_lost
 lost_pins_fate pins pin ps =
     let f : ℕ → ℕ → Image → ℕ → PinState = λ number place image given. if list_any (λ n. n == number) pins then Gone place Memory else Kept place image given in
-    subst (Fate (pin_at pin ps)) (sym (at_each f pin ps)) (lost_fate (λ place. list_any (λ n. n == pin) pins) Memory (pin_at pin ps))
+    subst (Fate (pin_at pin ps)) (sym (changed_pin_by_number f pin ps)) (lost_fate (λ place. list_any (λ n. n == pin) pins) Memory (pin_at pin ps))
 
-counts : ℕ → ℕ → ℕ → Image → ℕ → PinState
-counts of number place image given = Kept place image (if number == of then given + 1 else given)
+piece_count_of_pin_raised : ℕ → ℕ → ℕ → Image → ℕ → PinState
+piece_count_of_pin_raised of number place image given = Kept place image (if number == of then given + 1 else given)
 
-other_counts : (of pin : ℕ) → pin ≢ of → (x : Option PinState) → option_map (if_kept (counts of pin)) x ≡ x
-unfolding if_kept counts
-other_counts of pin ne None = refl
-other_counts of pin ne (Some (Gone at c)) = refl
-other_counts of pin ne (Some (Kept p i g)) = ap (λ (b : Bool). Some (Kept p i (if b then g + 1 else g))) (ne_eqb pin of ne)
+piece_counts_of_others_stay : (of pin : ℕ) → pin ≢ of → (x : Option PinState) → option_map (if_kept (piece_count_of_pin_raised of pin)) x ≡ x
+unfolding if_kept piece_count_of_pin_raised
+piece_counts_of_others_stay of pin ne None = refl
+piece_counts_of_others_stay of pin ne (Some (Gone at c)) = refl
+piece_counts_of_others_stay of pin ne (Some (Kept p i g)) = ap (λ (b : Bool). Some (Kept p i (if b then g + 1 else g))) (ne_eqb pin of ne)
 
-own_counts : (pin p : ℕ) (i : Image) (g : ℕ) → option_map (if_kept (counts pin pin)) (Some (Kept p i g)) ≡ Some (Kept p i (g + 1))
-unfolding if_kept counts
-own_counts pin p i g = ap (λ (b : Bool). Some (Kept p i (if b then g + 1 else g))) (eq-eqb pin pin refl)
+piece_count_of_own_rises : (pin p : ℕ) (i : Image) (g : ℕ) → option_map (if_kept (piece_count_of_pin_raised pin pin)) (Some (Kept p i g)) ≡ Some (Kept p i (g + 1))
+unfolding if_kept piece_count_of_pin_raised
+piece_count_of_own_rises pin p i g = ap (λ (b : Bool). Some (Kept p i (if b then g + 1 else g))) (eq-eqb pin pin refl)
 
-at_counted : (of pin : ℕ) (ps : Pins) → pin_at pin (with_piece_given of ps) ≡ option_map (if_kept (counts of pin)) (pin_at pin ps)
-unfolding with_piece_given counts
-at_counted of pin ps = at_each (counts of) pin ps
+pin_after_its_count : (of pin : ℕ) (ps : Pins) → pin_at pin (with_piece_given of ps) ≡ option_map (if_kept (piece_count_of_pin_raised of pin)) (pin_at pin ps)
+unfolding with_piece_given piece_count_of_pin_raised
+pin_after_its_count of pin ps = changed_pin_by_number (piece_count_of_pin_raised of) pin ps
 
 closed_fate : (of pin : ℕ) (ps : Pins) → Fate (pin_at pin ps) (pin_at pin (without_pin of ps))
 unfolding pin_at without_pin
 closed_fate of pin ps = go (same_or_not pin of)
   where
     go : (pin ≡ of) ⊎ (pin ≢ of) → Fate (option_map (λ (e : ℕ × PinState). e.1) (find (λ e. e.0 == pin) ps.open_pins)) (option_map (λ (e : ℕ × PinState). e.1) (Left of pin ps.open_pins))
-    go (inl e) = inr (subst (λ n. NotKept (option_map (λ (e : ℕ × PinState). e.1) (Left of n ps.open_pins))) (sym e) (subst (λ l. NotKept (option_map (λ (e : ℕ × PinState). e.1) l)) (sym (left_none of ps.open_pins)) none_not_kept))
-    go (inr ne) = inl (ap (option_map (λ (e : ℕ × PinState). e.1)) (left_other of pin ps.open_pins ne))
+    go (inl e) = inr (subst (λ n. NotKept (option_map (λ (e : ℕ × PinState). e.1) (Left of n ps.open_pins))) (sym e) (subst (λ l. NotKept (option_map (λ (e : ℕ × PinState). e.1) l)) (sym (closed_pin_not_left of ps.open_pins)) none_not_kept))
+    go (inr ne) = inl (ap (option_map (λ (e : ℕ × PinState). e.1)) (other_pin_left_by_closing of pin ps.open_pins ne))
 
 -- ---- what no action changes, and numbers rise
 
@@ -150,39 +150,39 @@ pub record Goes (m n : Machine) : Type 0 where
   pub ids : n.ids ≡ m.ids
   pub next : m.pins.next ≤ n.pins.next
 
-goes_alike : (m n : Machine) → n.ids ≡ m.ids → n.pins ≡ m.pins → Goes m n
-goes_alike m n i p = record { ids = i; next = subst (λ (q : Pins). m.pins.next ≤ q.next) (sym p) (omega arith) }
+equal_pins_and_ids_go : (m n : Machine) → n.ids ≡ m.ids → n.pins ≡ m.pins → Goes m n
+equal_pins_and_ids_go m n i p = record { ids = i; next = subst (λ (q : Pins). m.pins.next ≤ q.next) (sym p) (omega arith) }
 
-result_ids : (e : Event) (m : Machine) (r : Result (HeapState × Answer) Refusal) → (after_result e m r).0.ids ≡ m.ids
+ids_stay_after_result : (e : Event) (m : Machine) (r : Result (HeapState × Answer) Refusal) → (after_result e m r).0.ids ≡ m.ids
 unfolding after_result
-result_ids e m (Ok r) = refl
-result_ids e m (Err r) = refl
+ids_stay_after_result e m (Ok r) = refl
+ids_stay_after_result e m (Err r) = refl
 
-step_ids : (m : Machine) (e : Event) (b : Bool) → (after_step_at b e m).0.ids ≡ m.ids
+ids_stay_after_step : (m : Machine) (e : Event) (b : Bool) → (after_step_at b e m).0.ids ≡ m.ids
 unfolding after_step_at
-step_ids m e true = refl
-step_ids m e false = result_ids e m (applied e m.trail.current)
+ids_stay_after_step m e true = refl
+ids_stay_after_step m e false = ids_stay_after_result e m (applied e m.trail.current)
 
 rewind_goes : (m : Machine) (n : ℕ) (r : Option Refusal) → Goes m (unless r (after_rewind_by n) m).0
 unfolding unless after_rewind_by after_rewind each_kept
 rewind_goes m n None = record { ids = refl; next = omega arith }
 rewind_goes m n (Some r) = record { ids = refl; next = omega arith }
 
-open_goes : (m : Machine) (at : ℕ) (r : Option Refusal) → Goes m (unless r (after_open at) m).0
+opening_a_pin_goes : (m : Machine) (at : ℕ) (r : Option Refusal) → Goes m (unless r (after_open at) m).0
 unfolding unless after_open with_pin
-open_goes m at None = record { ids = refl; next = omega arith }
-open_goes m at (Some r) = record { ids = refl; next = omega arith }
+opening_a_pin_goes m at None = record { ids = refl; next = omega arith }
+opening_a_pin_goes m at (Some r) = record { ids = refl; next = omega arith }
 
-counted_goes : (m : Machine) (pin : ℕ) (b : Bool) → Goes m (counted b pin m)
+counting_a_piece_goes : (m : Machine) (pin : ℕ) (b : Bool) → Goes m (counted b pin m)
 unfolding counted with_piece_given each_kept
-counted_goes m pin true = record { ids = refl; next = omega arith }
-counted_goes m pin false = record { ids = refl; next = omega arith }
+counting_a_piece_goes m pin true = record { ids = refl; next = omega arith }
+counting_a_piece_goes m pin false = record { ids = refl; next = omega arith }
 
 piece_goes : (m : Machine) (pin time : ℕ) (s : Option PinState) → Goes m (after_piece pin time m s).0
 unfolding after_piece
 piece_goes m pin time None = record { ids = refl; next = omega arith }
 piece_goes m pin time (Some (Gone place cause)) = record { ids = refl; next = omega arith }
-piece_goes m pin time (Some (Kept p i g)) = counted_goes m pin (nat_lt g (length (pieces_of m.ids i time)))
+piece_goes m pin time (Some (Kept p i g)) = counting_a_piece_goes m pin (nat_lt g (length (pieces_of m.ids i time)))
 
 close_goes : (m : Machine) (pin : ℕ) (s : Option PinState) → Goes m (after_close pin m s).0
 unfolding after_close without_pin
@@ -191,9 +191,9 @@ close_goes m pin (Some s) = record { ids = refl; next = omega arith }
 
 acted_goes : (m : Machine) (a : Action) → Goes m (acted m a).0
 unfolding acted
-acted_goes m (Step e) = goes_alike m (after_step_at (nat_le last_place m.trail.place) e m).0 (step_ids m e (nat_le last_place m.trail.place)) (step_same m e (nat_le last_place m.trail.place))
+acted_goes m (Step e) = equal_pins_and_ids_go m (after_step_at (nat_le last_place m.trail.place) e m).0 (ids_stay_after_step m e (nat_le last_place m.trail.place)) (pins_same_after_step m e (nat_le last_place m.trail.place))
 acted_goes m (Rewind n) = rewind_goes m n (rewind_refusal n m.trail)
-acted_goes m (OpenPin at) = open_goes m (unwrap_or at m.trail.place) (open_refusal (unwrap_or at m.trail.place) m.trail m.pins)
+acted_goes m (OpenPin at) = opening_a_pin_goes m (unwrap_or at m.trail.place) (open_refusal (unwrap_or at m.trail.place) m.trail m.pins)
 acted_goes m (NextPiece pin time) = piece_goes m pin time (pin_at pin m.pins)
 acted_goes m (ClosePin pin) = close_goes m pin (pin_at pin m.pins)
 
@@ -219,12 +219,12 @@ rewind_fate m n pin (Some r) = inl refl
 
 open_fate : (m : Machine) (at pin : ℕ) → pin < m.pins.next → (r : Option Refusal) → Fate (pin_at pin m.pins) (pin_at pin (unless r (after_open at) m).0.pins)
 unfolding unless after_open with_pin pin_at
-open_fate m at pin lt None = inl (opened_list pin m.pins.open_pins _ (λ e. omega (arith, lt, e)))
+open_fate m at pin lt None = inl (pin_found_beside_opened_one pin m.pins.open_pins _ (λ e. omega (arith, lt, e)))
 open_fate m at pin lt (Some r) = inl refl
 
 counted_fate : (m : Machine) (of pin : ℕ) → of ≢ pin → (b : Bool) → Fate (pin_at pin m.pins) (pin_at pin (counted b of m).pins)
 unfolding counted
-counted_fate m of pin ne true = inl (at_counted of pin m.pins ∙ other_counts of pin (λ e. ne (sym e)) (pin_at pin m.pins))
+counted_fate m of pin ne true = inl (pin_after_its_count of pin m.pins ∙ piece_counts_of_others_stay of pin (λ e. ne (sym e)) (pin_at pin m.pins))
 counted_fate m of pin ne false = inl refl
 
 piece_fate : (m : Machine) (of time pin : ℕ) → of ≢ pin → (s : Option PinState) → Fate (pin_at pin m.pins) (pin_at pin (after_piece of time m s).0.pins)
@@ -240,7 +240,7 @@ close_fate m of pin (Some s) = closed_fate of pin m.pins
 
 acted_fate : (m : Machine) (a : Action) (pin : ℕ) → pin < m.pins.next → IsOther pin a → Fate (pin_at pin m.pins) (pin_at pin (acted m a).0.pins)
 unfolding acted
-acted_fate m (Step e) pin lt o = inl (ap (pin_at pin) (step_same m e (nat_le last_place m.trail.place)))
+acted_fate m (Step e) pin lt o = inl (ap (pin_at pin) (pins_same_after_step m e (nat_le last_place m.trail.place)))
 acted_fate m (Rewind n) pin lt o = rewind_fate m n pin (rewind_refusal n m.trail)
 acted_fate m (OpenPin at) pin lt o = open_fate m (unwrap_or at m.trail.place) pin lt (open_refusal (unwrap_or at m.trail.place) m.trail m.pins)
 acted_fate m (NextPiece of time) pin lt o = piece_fate m of time pin o (pin_at of m.pins)
@@ -258,22 +258,22 @@ marked_fate m a Granted pin lt o = acted_fate m a pin lt o
 marked_fate m a Denied pin lt o = inl refl
 marked_fate m a (LosesPins pins) pin lt o = then_fate _ _ _ (acted_fate m a pin lt o) (lost_pins_fate pins pin (acted m a).0.pins)
 
-other_piece : (pin n t : ℕ) (r : Reply) → n ≢ pin → (piece_given pin (NextPiece n t) r ≡ []) × (last_given pin (NextPiece n t) r ≡ false)
+piece_of_other_gives_nothing : (pin n t : ℕ) (r : Reply) → n ≢ pin → (piece_given pin (NextPiece n t) r ≡ []) × (last_given pin (NextPiece n t) r ≡ false)
 unfolding piece_given last_given
-other_piece pin n t (Part p) o = (ap (λ (b : Bool). if b then p.bytes else []) (ne_eqb n pin o), ap (λ (b : Bool). b && p.last) (ne_eqb n pin o))
-other_piece pin n t (Answered a) o = (refl, refl)
-other_piece pin n t (Place p) o = (refl, refl)
-other_piece pin n t (Pinned p a) o = (refl, refl)
-other_piece pin n t Closed o = (refl, refl)
-other_piece pin n t (Refused e) o = (refl, refl)
+piece_of_other_gives_nothing pin n t (Part p) o = (ap (λ (b : Bool). if b then p.bytes else []) (ne_eqb n pin o), ap (λ (b : Bool). b && p.last) (ne_eqb n pin o))
+piece_of_other_gives_nothing pin n t (Answered a) o = (refl, refl)
+piece_of_other_gives_nothing pin n t (Place p) o = (refl, refl)
+piece_of_other_gives_nothing pin n t (Pinned p a) o = (refl, refl)
+piece_of_other_gives_nothing pin n t Closed o = (refl, refl)
+piece_of_other_gives_nothing pin n t (Refused e) o = (refl, refl)
 
-gives_none : (pin : ℕ) (a : Action) (r : Reply) → IsOther pin a → (piece_given pin a r ≡ []) × (last_given pin a r ≡ false)
+other_action_gives_nothing : (pin : ℕ) (a : Action) (r : Reply) → IsOther pin a → (piece_given pin a r ≡ []) × (last_given pin a r ≡ false)
 unfolding piece_given last_given
-gives_none pin (NextPiece n t) r o = other_piece pin n t r o
-gives_none pin (Step e) r o = (refl, refl)
-gives_none pin (Rewind n) r o = (refl, refl)
-gives_none pin (OpenPin at) r o = (refl, refl)
-gives_none pin (ClosePin n) r o = (refl, refl)
+other_action_gives_nothing pin (NextPiece n t) r o = piece_of_other_gives_nothing pin n t r o
+other_action_gives_nothing pin (Step e) r o = (refl, refl)
+other_action_gives_nothing pin (Rewind n) r o = (refl, refl)
+other_action_gives_nothing pin (OpenPin at) r o = (refl, refl)
+other_action_gives_nothing pin (ClosePin n) r o = (refl, refl)
 
 -- ---- one action of a list
 
@@ -294,9 +294,9 @@ kept_or_not : (x y : Option PinState) (place : ℕ) (image : Image) (g : ℕ) �
 kept_or_not x y place image g (inl e) here = inl (e ∙ here)
 kept_or_not x y place image g (inr n) here = inr n
 
-other_moves : (pin time : ℕ) (m : Machine) (a : Action) (k : Allocation) (place : ℕ) (image : Image) (g : ℕ) → pin < m.pins.next → IsOther pin a → pin_at pin m.pins ≡ Some (Kept place image g) → Moves pin time m (a, k) place image g
-other_moves pin time m a k place image g lt o here =
-    let n = gives_none pin a (acted_under m (a, k)).1 o in
+other_action_moves_the_pin : (pin time : ℕ) (m : Machine) (a : Action) (k : Allocation) (place : ℕ) (image : Image) (g : ℕ) → pin < m.pins.next → IsOther pin a → pin_at pin m.pins ≡ Some (Kept place image g) → Moves pin time m (a, k) place image g
+other_action_moves_the_pin pin time m a k place image g lt o here =
+    let n = other_action_gives_nothing pin a (acted_under m (a, k)).1 o in
     record {
       given = g;
       after = kept_or_not _ _ place image g (marked_fate m a k pin lt o) here;
@@ -312,60 +312,60 @@ Piecewise pin time m r place image g =
     × (last_given pin (NextPiece pin time) r.1 ≡ true → concat (drop given (pieces_of m.ids image time)) ≡ [])
 
 -- of a piece that was replied
-own_given : (pin time : ℕ) (p : Piece) → (piece_given pin (NextPiece pin time) (Part p) ≡ p.bytes) × (last_given pin (NextPiece pin time) (Part p) ≡ p.last)
+bytes_given_by_own_piece : (pin time : ℕ) (p : Piece) → (piece_given pin (NextPiece pin time) (Part p) ≡ p.bytes) × (last_given pin (NextPiece pin time) (Part p) ≡ p.last)
 unfolding piece_given last_given
-own_given pin time p = (ap (λ (b : Bool). if b then p.bytes else []) (eq-eqb pin pin refl), ap (λ (b : Bool). b && p.last) (eq-eqb pin pin refl))
+bytes_given_by_own_piece pin time p = (ap (λ (b : Bool). if b then p.bytes else []) (eq-eqb pin pin refl), ap (λ (b : Bool). b && p.last) (eq-eqb pin pin refl))
 
 counted_piece : (pin time : ℕ) (m : Machine) (place : ℕ) (image : Image) (g : ℕ) → pin_at pin m.pins ≡ Some (Kept place image g)
     → (b : Bool) → nat_lt g (length (pieces_of m.ids image time)) ≡ b → Piecewise pin time m (counted b pin m, Part (piece_of m.ids image time g)) place image g
 unfolding counted piece_of nth_piece
 counted_piece pin time m place image g here true lt =
     let ps = pieces_of m.ids image time in
-    let o = own_given pin time (piece_of m.ids image time g) in
+    let o = bytes_given_by_own_piece pin time (piece_of m.ids image time g) in
     let s : suc g ≡ g + 1 = omega arith in (
       g + 1,
-      at_counted pin pin m.pins ∙ ap (option_map (if_kept (counts pin pin))) here ∙ own_counts pin place image g,
-      ap (λ l. l ++ concat (drop (g + 1) ps)) o.0 ∙ subst (λ n. unwrap_or (slice_get ps g) [] ++ concat (drop n ps) ≡ concat (drop g ps)) s (piece_first ps g (ltb-true g (length ps) lt)),
-      λ e. ap concat (none_left ps (g + 1) (leb-true (length ps) (g + 1) (sym o.1 ∙ e))),
+      pin_after_its_count pin pin m.pins ∙ ap (option_map (if_kept (piece_count_of_pin_raised pin pin))) here ∙ piece_count_of_own_rises pin place image g,
+      ap (λ l. l ++ concat (drop (g + 1) ps)) o.0 ∙ subst (λ n. unwrap_or (slice_get ps g) [] ++ concat (drop n ps) ≡ concat (drop g ps)) s (next_piece_and_rest_joined ps g (ltb-true g (length ps) lt)),
+      λ e. ap concat (no_pieces_left_to_drop ps (g + 1) (leb-true (length ps) (g + 1) (sym o.1 ∙ e))),
     )
 counted_piece pin time m place image g here false le =
     let ps = pieces_of m.ids image time in
-    let o = own_given pin time (piece_of m.ids image time g) in
+    let o = bytes_given_by_own_piece pin time (piece_of m.ids image time g) in
     let past : length ps ≤ g = ltb-false g (length ps) le in (
       g,
       here,
-      ap (λ l. l ++ concat (drop g ps)) (o.0 ∙ none_there ps g past),
-      λ e. ap concat (none_left ps g past),
+      ap (λ l. l ++ concat (drop g ps)) (o.0 ∙ no_piece_past_the_last ps g past),
+      λ e. ap concat (no_pieces_left_to_drop ps g past),
     )
 
-own_piece : (pin time : ℕ) (m : Machine) (place : ℕ) (image : Image) (g : ℕ) → pin_at pin m.pins ≡ Some (Kept place image g) → Piecewise pin time m (acted m (NextPiece pin time)) place image g
+own_piece_is_next_piece : (pin time : ℕ) (m : Machine) (place : ℕ) (image : Image) (g : ℕ) → pin_at pin m.pins ≡ Some (Kept place image g) → Piecewise pin time m (acted m (NextPiece pin time)) place image g
 unfolding acted after_piece
-own_piece pin time m place image g here =
+own_piece_is_next_piece pin time m place image g here =
     subst (λ s. Piecewise pin time m (after_piece pin time m s) place image g) (sym here)
     (counted_piece pin time m place image g here (nat_lt g (length (pieces_of m.ids image time))) refl)
 
-own_moves : (pin time : ℕ) (m : Machine) (k : Allocation) (place : ℕ) (image : Image) (g : ℕ) → pin_at pin m.pins ≡ Some (Kept place image g) → Moves pin time m (NextPiece pin time, k) place image g
+own_piece_moves_the_pin : (pin time : ℕ) (m : Machine) (k : Allocation) (place : ℕ) (image : Image) (g : ℕ) → pin_at pin m.pins ≡ Some (Kept place image g) → Moves pin time m (NextPiece pin time, k) place image g
 unfolding acted_under piece_given last_given
-own_moves pin time m Granted place image g here =
-    let o = own_piece pin time m place image g here in
+own_piece_moves_the_pin pin time m Granted place image g here =
+    let o = own_piece_is_next_piece pin time m place image g here in
     record { given = o.0; after = inl o.1; bytes = o.2; last = o.3 }
-own_moves pin time m Denied place image g here =
+own_piece_moves_the_pin pin time m Denied place image g here =
     record { given = g; after = inl here; bytes = refl; last = no_truth _ refl }
-own_moves pin time m (LosesPins pins) place image g here =
-    let o = own_piece pin time m place image g here in
+own_piece_moves_the_pin pin time m (LosesPins pins) place image g here =
+    let o = own_piece_is_next_piece pin time m place image g here in
     let f : Fate (pin_at pin (acted m (NextPiece pin time)).0.pins) (pin_at pin (with_lost pins (acted m (NextPiece pin time)).0.pins)) = lost_pins_fate pins pin (acted m (NextPiece pin time)).0.pins in
     record { given = o.0; after = kept_or_not _ _ place image o.0 f o.1; bytes = o.2; last = o.3 }
 
-pub moves : (pin time : ℕ) (m : Machine) (a : Action) (k : Allocation) (place : ℕ) (image : Image) (g : ℕ) → pin < m.pins.next → AsksAt pin time a → pin_at pin m.pins ≡ Some (Kept place image g) → Moves pin time m (a, k) place image g
-moves pin time m (NextPiece n t) k place image g lt asks here = go (same_or_not n pin)
+pub each_action_moves_the_pin : (pin time : ℕ) (m : Machine) (a : Action) (k : Allocation) (place : ℕ) (image : Image) (g : ℕ) → pin < m.pins.next → AsksAt pin time a → pin_at pin m.pins ≡ Some (Kept place image g) → Moves pin time m (a, k) place image g
+each_action_moves_the_pin pin time m (NextPiece n t) k place image g lt asks here = go (same_or_not n pin)
   where
     go : (n ≡ pin) ⊎ (n ≢ pin) → Moves pin time m (NextPiece n t, k) place image g
-    go (inl e) = subst (λ n. Moves pin time m (NextPiece n t, k) place image g) (sym e) (subst (λ t. Moves pin time m (NextPiece pin t, k) place image g) (sym (asks e)) (own_moves pin time m k place image g here))
-    go (inr ne) = other_moves pin time m (NextPiece n t) k place image g lt ne here
-moves pin time m (Step e) k place image g lt asks here = other_moves pin time m (Step e) k place image g lt tt here
-moves pin time m (Rewind n) k place image g lt asks here = other_moves pin time m (Rewind n) k place image g lt tt here
-moves pin time m (OpenPin at) k place image g lt asks here = other_moves pin time m (OpenPin at) k place image g lt tt here
-moves pin time m (ClosePin n) k place image g lt asks here = other_moves pin time m (ClosePin n) k place image g lt tt here
+    go (inl e) = subst (λ n. Moves pin time m (NextPiece n t, k) place image g) (sym e) (subst (λ t. Moves pin time m (NextPiece pin t, k) place image g) (sym (asks e)) (own_piece_moves_the_pin pin time m k place image g here))
+    go (inr ne) = other_action_moves_the_pin pin time m (NextPiece n t) k place image g lt ne here
+each_action_moves_the_pin pin time m (Step e) k place image g lt asks here = other_action_moves_the_pin pin time m (Step e) k place image g lt tt here
+each_action_moves_the_pin pin time m (Rewind n) k place image g lt asks here = other_action_moves_the_pin pin time m (Rewind n) k place image g lt tt here
+each_action_moves_the_pin pin time m (OpenPin at) k place image g lt asks here = other_action_moves_the_pin pin time m (OpenPin at) k place image g lt tt here
+each_action_moves_the_pin pin time m (ClosePin n) k place image g lt asks here = other_action_moves_the_pin pin time m (ClosePin n) k place image g lt tt here
 
 -- ---- a pin that isn't kept gives nothing any more
 
@@ -374,68 +374,68 @@ pub record Silent (pin : ℕ) (m : Machine) (a : Action × Allocation) : Type 0 
   pub last : last_given pin a.0 (acted_under m a).1 ≡ false
   pub after : NotKept (pin_at pin (acted_under m a).0.pins)
 
-still_not : (x y : Option PinState) → NotKept x → Fate x y → NotKept y
-still_not x y n (inl e) = subst NotKept (sym e) n
-still_not x y n (inr d) = d
+pin_not_kept_stays_so : (x y : Option PinState) → NotKept x → Fate x y → NotKept y
+pin_not_kept_stays_so x y n (inl e) = subst NotKept (sym e) n
+pin_not_kept_stays_so x y n (inr d) = d
 
-other_silent : (pin : ℕ) (m : Machine) (a : Action) (k : Allocation) → pin < m.pins.next → IsOther pin a → NotKept (pin_at pin m.pins) → Silent pin m (a, k)
-other_silent pin m a k lt o n =
-    let g = gives_none pin a (acted_under m (a, k)).1 o in
-    record { bytes = g.0; last = g.1; after = still_not _ _ n (marked_fate m a k pin lt o) }
+other_action_is_silent : (pin : ℕ) (m : Machine) (a : Action) (k : Allocation) → pin < m.pins.next → IsOther pin a → NotKept (pin_at pin m.pins) → Silent pin m (a, k)
+other_action_is_silent pin m a k lt o n =
+    let g = other_action_gives_nothing pin a (acted_under m (a, k)).1 o in
+    record { bytes = g.0; last = g.1; after = pin_not_kept_stays_so _ _ n (marked_fate m a k pin lt o) }
 
 abbrev Refuses : ℕ → ℕ → Machine → Machine × Reply → Type 0
 Refuses pin time m r = (r.0 ≡ m) × (e : Refusal) × (r.1 ≡ Refused e)
 
-own_refused : (pin time : ℕ) (m : Machine) (s : Option PinState) → NotKept s → Refuses pin time m (after_piece pin time m s)
+piece_of_unkept_is_refused : (pin time : ℕ) (m : Machine) (s : Option PinState) → NotKept s → Refuses pin time m (after_piece pin time m s)
 unfolding after_piece
-own_refused pin time m None n = (refl, _, refl)
-own_refused pin time m (Some (Gone place cause)) n = (refl, _, refl)
-own_refused pin time m (Some (Kept p i g)) n = absurd (n p i g refl)
+piece_of_unkept_is_refused pin time m None n = (refl, _, refl)
+piece_of_unkept_is_refused pin time m (Some (Gone place cause)) n = (refl, _, refl)
+piece_of_unkept_is_refused pin time m (Some (Kept p i g)) n = absurd (n p i g refl)
 
-refused_none : (pin time : ℕ) (r : Reply) (e : Refusal) → r ≡ Refused e → (piece_given pin (NextPiece pin time) r ≡ []) × (last_given pin (NextPiece pin time) r ≡ false)
+refused_piece_gives_nothing : (pin time : ℕ) (r : Reply) (e : Refusal) → r ≡ Refused e → (piece_given pin (NextPiece pin time) r ≡ []) × (last_given pin (NextPiece pin time) r ≡ false)
 unfolding piece_given last_given
-refused_none pin time r e is = (ap (piece_given pin (NextPiece pin time)) is, ap (last_given pin (NextPiece pin time)) is)
+refused_piece_gives_nothing pin time r e is = (ap (piece_given pin (NextPiece pin time)) is, ap (last_given pin (NextPiece pin time)) is)
 
 own_acted : (pin time : ℕ) (m : Machine) → NotKept (pin_at pin m.pins) → Refuses pin time m (acted m (NextPiece pin time))
 unfolding acted
-own_acted pin time m n = own_refused pin time m (pin_at pin m.pins) n
+own_acted pin time m n = piece_of_unkept_is_refused pin time m (pin_at pin m.pins) n
 
-own_silent : (pin time : ℕ) (m : Machine) (k : Allocation) → NotKept (pin_at pin m.pins) → Silent pin m (NextPiece pin time, k)
+own_piece_unkept_is_silent : (pin time : ℕ) (m : Machine) (k : Allocation) → NotKept (pin_at pin m.pins) → Silent pin m (NextPiece pin time, k)
 unfolding acted_under
-own_silent pin time m Granted n =
+own_piece_unkept_is_silent pin time m Granted n =
     let r = own_acted pin time m n in
-    let g = refused_none pin time (acted m (NextPiece pin time)).1 r.1 r.2 in
+    let g = refused_piece_gives_nothing pin time (acted m (NextPiece pin time)).1 r.1 r.2 in
     record { bytes = g.0; last = g.1; after = subst (λ (x : Machine). NotKept (pin_at pin x.pins)) (sym r.0) n }
-own_silent pin time m Denied n =
-    let g = refused_none pin time (Refused NoMemory) NoMemory refl in
+own_piece_unkept_is_silent pin time m Denied n =
+    let g = refused_piece_gives_nothing pin time (Refused NoMemory) NoMemory refl in
     record { bytes = g.0; last = g.1; after = n }
-own_silent pin time m (LosesPins pins) n =
+own_piece_unkept_is_silent pin time m (LosesPins pins) n =
     let r = own_acted pin time m n in
-    let g = refused_none pin time (acted m (NextPiece pin time)).1 r.1 r.2 in
-    record { bytes = g.0; last = g.1; after = still_not _ _ (subst (λ (x : Machine). NotKept (pin_at pin x.pins)) (sym r.0) n) (lost_pins_fate pins pin (acted m (NextPiece pin time)).0.pins) }
+    let g = refused_piece_gives_nothing pin time (acted m (NextPiece pin time)).1 r.1 r.2 in
+    record { bytes = g.0; last = g.1; after = pin_not_kept_stays_so _ _ (subst (λ (x : Machine). NotKept (pin_at pin x.pins)) (sym r.0) n) (lost_pins_fate pins pin (acted m (NextPiece pin time)).0.pins) }
 
-pub silent : (pin : ℕ) (m : Machine) (a : Action) (k : Allocation) → pin < m.pins.next → NotKept (pin_at pin m.pins) → Silent pin m (a, k)
-silent pin m (NextPiece n t) k lt not = go (same_or_not n pin)
+pub action_on_unkept_is_silent : (pin : ℕ) (m : Machine) (a : Action) (k : Allocation) → pin < m.pins.next → NotKept (pin_at pin m.pins) → Silent pin m (a, k)
+action_on_unkept_is_silent pin m (NextPiece n t) k lt not = go (same_or_not n pin)
   where
     go : (n ≡ pin) ⊎ (n ≢ pin) → Silent pin m (NextPiece n t, k)
-    go (inl e) = subst (λ n. Silent pin m (NextPiece n t, k)) (sym e) (own_silent pin t m k not)
-    go (inr ne) = other_silent pin m (NextPiece n t) k lt ne not
-silent pin m (Step e) k lt not = other_silent pin m (Step e) k lt tt not
-silent pin m (Rewind n) k lt not = other_silent pin m (Rewind n) k lt tt not
-silent pin m (OpenPin at) k lt not = other_silent pin m (OpenPin at) k lt tt not
-silent pin m (ClosePin n) k lt not = other_silent pin m (ClosePin n) k lt tt not
+    go (inl e) = subst (λ n. Silent pin m (NextPiece n t, k)) (sym e) (own_piece_unkept_is_silent pin t m k not)
+    go (inr ne) = other_action_is_silent pin m (NextPiece n t) k lt ne not
+action_on_unkept_is_silent pin m (Step e) k lt not = other_action_is_silent pin m (Step e) k lt tt not
+action_on_unkept_is_silent pin m (Rewind n) k lt not = other_action_is_silent pin m (Rewind n) k lt tt not
+action_on_unkept_is_silent pin m (OpenPin at) k lt not = other_action_is_silent pin m (OpenPin at) k lt tt not
+action_on_unkept_is_silent pin m (ClosePin n) k lt not = other_action_is_silent pin m (ClosePin n) k lt tt not
 
 -- ---- a list of actions
 
-pub rises : (pin : ℕ) (m : Machine) (a : Action) (k : Allocation) → pin < m.pins.next → pin < (acted_under m (a, k)).0.pins.next
-rises pin m a k lt = omega (arith, lt, (marked_goes m a k).next)
+pub next_number_stays_above_pin : (pin : ℕ) (m : Machine) (a : Action) (k : Allocation) → pin < m.pins.next → pin < (acted_under m (a, k)).0.pins.next
+next_number_stays_above_pin pin m a k lt = omega (arith, lt, (marked_goes m a k).next)
 
-all_silent : (pin : ℕ) (m : Machine) (actions : List (Action × Allocation)) → pin < m.pins.next → NotKept (pin_at pin m.pins) → (bytes_given pin m actions ≡ []) × (gave_last pin m actions ≡ false)
+actions_on_unkept_are_silent : (pin : ℕ) (m : Machine) (actions : List (Action × Allocation)) → pin < m.pins.next → NotKept (pin_at pin m.pins) → (bytes_given pin m actions ≡ []) × (gave_last pin m actions ≡ false)
 unfolding bytes_given gave_last
-all_silent pin m [] lt not = (refl, refl)
-all_silent pin m ((a, k) ∷ more) lt not =
-    let s = silent pin m a k lt not in
-    let rest = all_silent pin (acted_under m (a, k)).0 more (rises pin m a k lt) s.after in (
+actions_on_unkept_are_silent pin m [] lt not = (refl, refl)
+actions_on_unkept_are_silent pin m ((a, k) ∷ more) lt not =
+    let s = action_on_unkept_is_silent pin m a k lt not in
+    let rest = actions_on_unkept_are_silent pin (acted_under m (a, k)).0 more (next_number_stays_above_pin pin m a k lt) s.after in (
       ap (λ l. l ++ bytes_given pin (acted_under m (a, k)).0 more) s.bytes ∙ rest.0,
       ap (λ b. b || gave_last pin (acted_under m (a, k)).0 more) s.last ∙ rest.1,
     )
@@ -444,18 +444,18 @@ all_silent pin m ((a, k) ∷ more) lt not =
 abbrev GivesFrom : ℕ → ℕ → Machine → List (Action × Allocation) → List (List ℕ) → ℕ → Type 0
 GivesFrom pin time m actions pieces g = (rest : List ℕ) × (bytes_given pin m actions ++ rest ≡ concat (drop g pieces)) × (gave_last pin m actions ≡ true → rest ≡ [])
 
-either : (b c : Bool) → (b || c) ≡ true → (b ≡ true) ⊎ (c ≡ true)
-either true c e = inl refl
-either false c e = inr e
+one_of_true_or : (b c : Bool) → (b || c) ≡ true → (b ≡ true) ⊎ (c ≡ true)
+one_of_true_or true c e = inl refl
+one_of_true_or false c e = inr e
 
-gives_from : (pin time : ℕ) (m : Machine) (actions : List (Action × Allocation)) (place : ℕ) (image : Image) (g : ℕ) → pin < m.pins.next → AskAt pin time actions → pin_at pin m.pins ≡ Some (Kept place image g)
+actions_give_pieces_from : (pin time : ℕ) (m : Machine) (actions : List (Action × Allocation)) (place : ℕ) (image : Image) (g : ℕ) → pin < m.pins.next → AskAt pin time actions → pin_at pin m.pins ≡ Some (Kept place image g)
     → GivesFrom pin time m actions (pieces_of m.ids image time) g
 unfolding bytes_given gave_last
-gives_from pin time m [] place image g lt asks here = (concat (drop g (pieces_of m.ids image time)), refl, no_truth _ refl)
-gives_from pin time m ((a, k) ∷ more) place image g lt asks here = go (λ h kept. gives_from pin time (acted_under m (a, k)).0 more place image h (rises pin m a k lt) asks.1 kept) (moves pin time m a k place image g lt asks.0 here).after
+actions_give_pieces_from pin time m [] place image g lt asks here = (concat (drop g (pieces_of m.ids image time)), refl, no_truth _ refl)
+actions_give_pieces_from pin time m ((a, k) ∷ more) place image g lt asks here = go (λ h kept. actions_give_pieces_from pin time (acted_under m (a, k)).0 more place image h (next_number_stays_above_pin pin m a k lt) asks.1 kept) (each_action_moves_the_pin pin time m a k place image g lt asks.0 here).after
   where
     s : Moves pin time m (a, k) place image g
-    s = moves pin time m a k place image g lt asks.0 here
+    s = each_action_moves_the_pin pin time m a k place image g lt asks.0 here
 
     n : Machine
     n = (acted_under m (a, k)).0
@@ -467,21 +467,21 @@ gives_from pin time m ((a, k) ∷ more) place image g lt asks here = go (λ h ke
     joined r = (
       r.0,
       append_assoc (piece_given pin a (acted_under m (a, k)).1) (bytes_given pin n more) r.0 ∙ ap (λ l. piece_given pin a (acted_under m (a, k)).1 ++ l) r.1 ∙ s.bytes,
-      λ e. ends (either (last_given pin a (acted_under m (a, k)).1) (gave_last pin n more) e),
+      λ e. ends (one_of_true_or (last_given pin a (acted_under m (a, k)).1) (gave_last pin n more) e),
     )
       where
         ends : (last_given pin a (acted_under m (a, k)).1 ≡ true) ⊎ (gave_last pin n more ≡ true) → r.0 ≡ []
-        ends (inl e) = nothing_after (bytes_given pin n more) r.0 (r.1 ∙ s.last e)
+        ends (inl e) = nothing_follows_in_empty_join (bytes_given pin n more) r.0 (r.1 ∙ s.last e)
         ends (inr e) = r.2 e
 
     go : ((h : ℕ) → pin_at pin n.pins ≡ Some (Kept place image h) → GivesFrom pin time n more (pieces_of n.ids image time) h)
         → (pin_at pin n.pins ≡ Some (Kept place image s.given)) ⊎ NotKept (pin_at pin n.pins) → GivesFrom pin time m ((a, k) ∷ more) ps g
     go more_given (inl kept) = joined (subst (λ i. GivesFrom pin time n more (pieces_of i image time) s.given) (marked_goes m a k).ids (more_given s.given kept))
     go more_given (inr not) =
-        let q = all_silent pin n more (rises pin m a k lt) not in
+        let q = actions_on_unkept_are_silent pin n more (next_number_stays_above_pin pin m a k lt) not in
         joined (concat (drop s.given ps), ap (λ l. l ++ concat (drop s.given ps)) q.0, no_truth _ q.1)
 
 pub gives_text : (m : Machine) (actions : List (Action × Allocation)) (pin time : ℕ) → GivesText m actions pin time
 gives_text m actions pin time place image here lt asks =
-    let r = gives_from pin time m actions place image 0 lt asks here in
-    (r.0, r.1 ∙ pieces_join m.ids image time, r.2)
+    let r = actions_give_pieces_from pin time m actions place image 0 lt asks here in
+    (r.0, r.1 ∙ pieces_join_to_dump m.ids image time, r.2)

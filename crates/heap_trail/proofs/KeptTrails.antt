@@ -3,7 +3,7 @@ use Rattle.std.proofs.Common.{◌≡◌, ℕ, zero, suc, ◌≤◌, Bool, true, 
 use Rattle.std.specs.Prelude.{nat_le, nat_lt, slice_index_or, unwrap_or}
 use Rattle.heap_class.specs.declared.Refusal.{Refusal}
 use Rattle.heap_class.specs.declared.Refusal.TheVariants.{TooFar}
-use Rattle.heap_class.proofs.Refusals.{none_holds}
+use Rattle.heap_class.proofs.Refusals.{no_refusal_test_holds}
 use Rattle.heap_world.specs.State.{HeapState}
 use Rattle.heap_step.specs.declared.Event.{Event}
 use Rattle.heap_step.specs.declared.Undo.{Undo}
@@ -16,15 +16,15 @@ use Rattle.heap_trail.specs.Trail.{Trail, retained, stepped, state_ago, rewind_r
 use Rattle.heap_trail.specs.Pins.{PinState, Kept, Gone, pin_at, open_refusal}
 use Rattle.heap_trail.specs.Machine.{Machine, Allocation, Granted, Denied, LosesPins, acted, acted_under, machine_after, after_step_at, after_result, after_rewind_by, after_open, after_piece, after_close, counted, unless}
 use Rattle.heap_trail.specs.Laws.{AreSteps, IsTrail}
-use Rattle.heap_trail.proofs.RetainedStates.{steps_legal}
+use Rattle.heap_trail.proofs.RetainedStates.{recorded_state_is_legal}
 
-first_steps : (k : ℕ) (v : HeapState) (vs : List HeapState) (rs : List Undo) → AreSteps v vs rs → AreSteps v (take k vs) (take k rs)
-first_steps zero v [] [] s = s
-first_steps zero v (w ∷ ws) (r ∷ rs) s = steps_legal v (w ∷ ws) (r ∷ rs) s
-first_steps (suc k) v [] [] s = s
-first_steps (suc k) v (w ∷ ws) (r ∷ rs) s = (s.0, first_steps k w ws rs s.1)
-first_steps k v [] (r ∷ rs) s = absurd s
-first_steps k v (w ∷ ws) [] s = absurd s
+first_states_are_steps : (k : ℕ) (v : HeapState) (vs : List HeapState) (rs : List Undo) → AreSteps v vs rs → AreSteps v (take k vs) (take k rs)
+first_states_are_steps zero v [] [] s = s
+first_states_are_steps zero v (w ∷ ws) (r ∷ rs) s = recorded_state_is_legal v (w ∷ ws) (r ∷ rs) s
+first_states_are_steps (suc k) v [] [] s = s
+first_states_are_steps (suc k) v (w ∷ ws) (r ∷ rs) s = (s.0, first_states_are_steps k w ws rs s.1)
+first_states_are_steps k v [] (r ∷ rs) s = absurd s
+first_states_are_steps k v (w ∷ ws) [] s = absurd s
 
 older_steps : (n : ℕ) (v d : HeapState) (vs : List HeapState) (rs : List Undo) → n ≤ length vs → AreSteps v vs rs → AreSteps (slice_index_or (v ∷ vs) n d) (drop n vs) (drop n rs)
 older_steps zero v d [] [] few s = s
@@ -37,8 +37,8 @@ older_steps n v d (w ∷ ws) [] few s = absurd s
 stepped_trail : (keep : ℕ) (e : Event) (t : Trail) → refusal_of e t.current ≡ None → IsTrail keep t → IsTrail keep (stepped keep (undo_record e t.current) (state_after e t.current) t)
 unfolding stepped
 stepped_trail keep e t accepted s = record {
-  steps = first_steps keep (state_after e t.current) (t.current ∷ t.past) (undo_record e t.current ∷ t.records)
-      ((e, record { legal = steps_legal t.current t.past t.records s.steps; accepted = accepted; gave = refl; recorded = refl }), s.steps);
+  steps = first_states_are_steps keep (state_after e t.current) (t.current ∷ t.past) (undo_record e t.current ∷ t.records)
+      ((e, record { legal = recorded_state_is_legal t.current t.past t.records s.steps; accepted = accepted; gave = refl; recorded = refl }), s.steps);
   few = omega (arith, length-take keep (t.current ∷ t.past));
   placed = omega (arith, length-take keep (t.current ∷ t.past), s.placed);
 }
@@ -54,9 +54,9 @@ rewound_trail keep n t few s = record {
 abbrev HasTrail : Machine → Type 0
 HasTrail m = IsTrail m.keep m.trail
 
-step_trail : (m : Machine) (e : Event) → HasTrail m → HasTrail (acted m (Step e)).0
+step_keeps_a_trail : (m : Machine) (e : Event) → HasTrail m → HasTrail (acted m (Step e)).0
 unfolding acted after_step_at after_result applied applied_unless
-step_trail m e s = go (nat_le last_place m.trail.place)
+step_keeps_a_trail m e s = go (nat_le last_place m.trail.place)
   where
     one : (r : Option Refusal) → refusal_of e m.trail.current ≡ r → HasTrail (after_result e m (applied_unless r e m.trail.current)).0
     one (Some r) is = s
@@ -66,9 +66,9 @@ step_trail m e s = go (nat_le last_place m.trail.place)
     go true = s
     go false = one (refusal_of e m.trail.current) refl
 
-not_far : (n : ℕ) (t : Trail) → rewind_refusal n t ≡ None → n ≤ retained t
+accepted_rewind_is_retained : (n : ℕ) (t : Trail) → rewind_refusal n t ≡ None → n ≤ retained t
 unfolding rewind_refusal
-not_far n t h = let none = (none_holds ((nat_lt (retained t) n, TooFar n (retained t)) ∷ []) h).0 in grind (arith, none)
+accepted_rewind_is_retained n t h = let none = (no_refusal_test_holds ((nat_lt (retained t) n, TooFar n (retained t)) ∷ []) h).0 in grind (arith, none)
 
 rewind_trail : (m : Machine) (n : ℕ) → HasTrail m → HasTrail (acted m (Rewind n)).0
 unfolding acted unless after_rewind_by
@@ -76,7 +76,7 @@ rewind_trail m n s = go (rewind_refusal n m.trail) refl
   where
     go : (r : Option Refusal) → rewind_refusal n m.trail ≡ r → HasTrail (unless r (after_rewind_by n) m).0
     go (Some r) is = s
-    go None is = rewound_trail m.keep n m.trail (not_far n m.trail is) s
+    go None is = rewound_trail m.keep n m.trail (accepted_rewind_is_retained n m.trail is) s
 
 open_trail : (m : Machine) (at : ℕ) (r : Option Refusal) → HasTrail m → HasTrail (unless r (after_open at) m).0
 unfolding unless after_open
@@ -101,7 +101,7 @@ close_trail m pin (Some p) s = s
 
 acted_trail : (m : Machine) (a : Action) → HasTrail m → HasTrail (acted m a).0
 unfolding acted
-acted_trail m (Step e) s = step_trail m e s
+acted_trail m (Step e) s = step_keeps_a_trail m e s
 acted_trail m (Rewind n) s = rewind_trail m n s
 acted_trail m (OpenPin at) s = open_trail m (unwrap_or at m.trail.place) (open_refusal (unwrap_or at m.trail.place) m.trail m.pins) s
 acted_trail m (NextPiece pin time) s = piece_trail m pin time (pin_at pin m.pins) s

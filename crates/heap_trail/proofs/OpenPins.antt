@@ -21,22 +21,22 @@ use Rattle.heap_trail.specs.OpenPins.{state_of, pins_of, held_kept, is_kept, hel
 
 -- ---- a step: each pin
 
-held_stepped : (ids : IdSize) (left : Undo) (v : HeapState) (k : ℕ) (past : List HeapState) (place : ℕ) (h : Held) → HoldsAt ids (undone left v ∷ past) place h → HoldsAt ids (v ∷ take k (undone left v ∷ past)) (place + 1) (held_kept left v h)
+pin_held_after_step : (ids : IdSize) (left : Undo) (v : HeapState) (k : ℕ) (past : List HeapState) (place : ℕ) (h : Held) → HoldsAt ids (undone left v ∷ past) place h → HoldsAt ids (v ∷ take k (undone left v ∷ past)) (place + 1) (held_kept left v h)
 unfolding held_kept
-held_stepped ids left v k past place (Kept at pin cursor given) h =
+pin_held_after_step ids left v k past place (Kept at pin cursor given) h =
     let n : suc (place - at) ≡ place + 1 - at = omega (arith, h.1) in
     (h.0, omega (arith, h.1), subst (λ m. Holds (kept left v pin) h.0 m (v ∷ take k (undone left v ∷ past))) n (pin_stepped left v pin h.0 (place - at) k past h.2), h.3)
-held_stepped ids left v k past place (Lost at cause) h = tt
+pin_held_after_step ids left v k past place (Lost at cause) h = tt
 
 slot_stepped : (ids : IdSize) (left : Undo) (v : HeapState) (k : ℕ) (past : List HeapState) (place : ℕ) (s t : NumberedPin) → HoldsAt ids (undone left v ∷ past) place s.held → MayKeep left v s t → HoldsAt ids (v ∷ take k (undone left v ∷ past)) (place + 1) t.held × (t.number ≡ s.number)
-slot_stepped ids left v k past place s t h (inl e) = (subst (λ (x : NumberedPin). HoldsAt ids (v ∷ take k (undone left v ∷ past)) (place + 1) x.held) (sym e) (held_stepped ids left v k past place s.held h), ap (λ (x : NumberedPin). x.number) e)
+slot_stepped ids left v k past place s t h (inl e) = (subst (λ (x : NumberedPin). HoldsAt ids (v ∷ take k (undone left v ∷ past)) (place + 1) x.held) (sym e) (pin_held_after_step ids left v k past place s.held h), ap (λ (x : NumberedPin). x.number) e)
 slot_stepped ids left v k past place s t h (inr e) = (subst (λ (x : NumberedPin). HoldsAt ids (v ∷ take k (undone left v ∷ past)) (place + 1) x.held) (sym e.0) tt, ap (λ (x : NumberedPin). x.number) e.0)
 
-above_still : (left : Undo) (v : HeapState) (n : ℕ) (ss ts : List NumberedPin) → EachMayKeep left v ss ts → AreAbove n ss → AreAbove n ts
-above_still left v n [] [] e a = tt
-above_still left v n [] (t ∷ ts) e a = absurd e
-above_still left v n (s ∷ ss) [] e a = absurd e
-above_still left v n (s ∷ ss) (t ∷ ts) e a = (subst (λ m. n < m) (sym (same e.0)) a.0, above_still left v n ss ts e.1 a.1)
+kept_pins_stay_above : (left : Undo) (v : HeapState) (n : ℕ) (ss ts : List NumberedPin) → EachMayKeep left v ss ts → AreAbove n ss → AreAbove n ts
+kept_pins_stay_above left v n [] [] e a = tt
+kept_pins_stay_above left v n [] (t ∷ ts) e a = absurd e
+kept_pins_stay_above left v n (s ∷ ss) [] e a = absurd e
+kept_pins_stay_above left v n (s ∷ ss) (t ∷ ts) e a = (subst (λ m. n < m) (sym (same e.0)) a.0, kept_pins_stay_above left v n ss ts e.1 a.1)
   where
     same : MayKeep left v s t → t.number ≡ s.number
     same (inl e) = ap (λ (x : NumberedPin). x.number) e
@@ -48,7 +48,7 @@ held_after_step ids left v k past place next [] (t ∷ ts) e h = absurd e
 held_after_step ids left v k past place next (s ∷ ss) [] e h = absurd e
 held_after_step ids left v k past place next (s ∷ ss) (t ∷ ts) e h =
     let one = slot_stepped ids left v k past place s t h.0 e.0 in
-    (one.0, subst (λ m. m < next) (sym one.1) h.1, subst (λ m. AreAbove m ts) (sym one.1) (above_still left v s.number ss ts e.1 h.2), held_after_step ids left v k past place next ss ts e.1 h.3)
+    (one.0, subst (λ m. m < next) (sym one.1) h.1, subst (λ m. AreAbove m ts) (sym one.1) (kept_pins_stay_above left v s.number ss ts e.1 h.2), held_after_step ids left v k past place next ss ts e.1 h.3)
 
 -- ---- a step: what the model sees
 
@@ -67,15 +67,15 @@ abbrev pub is_in : List ℕ → ℕ → Bool
 is_in xs m = list_any (λ n. n == m) xs
 
 -- a pin is lost where b says so of its number
-abbrev lose_by : (ℕ → Bool) → ℕ → ℕ → Image → ℕ → PinState
-lose_by b number place image given = if b number then Gone place Memory else KeptState place image given
+abbrev pin_lost_where_told : (ℕ → Bool) → ℕ → ℕ → Image → ℕ → PinState
+pin_lost_where_told b number place image given = if b number then Gone place Memory else KeptState place image given
 
 -- the pins after the step are those before it, lost where b says so
 abbrev Agrees : (ℕ → Bool) → HeapState → HeapState → List NumberedPin → List NumberedPin → Type 0
 Agrees b w v [] [] = Unit {0}
 Agrees b w v [] (t ∷ ts) = ⊥
 Agrees b w v (s ∷ ss) [] = ⊥
-Agrees b w v (s ∷ ss) (t ∷ ts) = (t.number ≡ s.number) × (state_of v t.held ≡ if_kept (lose_by b s.number) (state_of w s.held)) × Agrees b w v ss ts
+Agrees b w v (s ∷ ss) (t ∷ ts) = (t.number ≡ s.number) × (state_of v t.held ≡ if_kept (pin_lost_where_told b s.number) (state_of w s.held)) × Agrees b w v ss ts
 
 -- the same of each number above n
 agrees_above : (b c : ℕ → Bool) (n : ℕ) (w v : HeapState) (ss ts : List NumberedPin) → ((m : ℕ) → n < m → c m ≡ b m) → AreAbove n ss → Agrees b w v ss ts → Agrees c w v ss ts
@@ -86,28 +86,28 @@ agrees_above b c n w v (s ∷ ss) (t ∷ ts) same a h =
     (h.0, h.1 ∙ ap (λ x. if_kept (λ place image given. if x then Gone place Memory else KeptState place image given) (state_of w s.held)) (sym (same s.number a.0)), agrees_above b c n w v ss ts same a.1 h.2)
 
 -- a number below all of those isn't among the lost ones
-not_lost : (left : Undo) (v : HeapState) (n : ℕ) (ss ts : List NumberedPin) (e : EachMayKeep left v ss ts) → AreAbove n ss → is_in (lost_in left v ss ts e) n ≡ false
+number_below_is_not_lost : (left : Undo) (v : HeapState) (n : ℕ) (ss ts : List NumberedPin) (e : EachMayKeep left v ss ts) → AreAbove n ss → is_in (lost_in left v ss ts e) n ≡ false
 unfolding lost_in
-not_lost left v n [] [] e a = refl
-not_lost left v n [] (t ∷ ts) e a = refl
-not_lost left v n (s ∷ ss) [] e a = refl
-not_lost left v n (s ∷ ss) (t ∷ ts) (inl e, es) a = not_lost left v n ss ts es a.1
-not_lost left v n (s ∷ ss) (t ∷ ts) (inr e, es) a = ap (λ b. b || is_in (lost_in left v ss ts es) n) (ne_eqb s.number n (λ q. let z : s.number ≡ n = q in omega (arith, z, a.0))) ∙ not_lost left v n ss ts es a.1
+number_below_is_not_lost left v n [] [] e a = refl
+number_below_is_not_lost left v n [] (t ∷ ts) e a = refl
+number_below_is_not_lost left v n (s ∷ ss) [] e a = refl
+number_below_is_not_lost left v n (s ∷ ss) (t ∷ ts) (inl e, es) a = number_below_is_not_lost left v n ss ts es a.1
+number_below_is_not_lost left v n (s ∷ ss) (t ∷ ts) (inr e, es) a = ap (λ b. b || is_in (lost_in left v ss ts es) n) (ne_eqb s.number n (λ q. let z : s.number ≡ n = q in omega (arith, z, a.0))) ∙ number_below_is_not_lost left v n ss ts es a.1
 
 kept_agrees : (ids : IdSize) (left : Undo) (v : HeapState) (past : List HeapState) (place : ℕ) (h : Held) → HoldsAt ids (undone left v ∷ past) place h → state_of v (held_kept left v h) ≡ state_of (undone left v) h
 unfolding state_of held_kept
 kept_agrees ids left v past place (Kept at pin cursor given) h = ap (λ i. KeptState at i given) (stepped_image left v pin h.0 (place - at) 0 past h.2)
 kept_agrees ids left v past place (Lost at cause) h = refl
 
-unlost : (s : PinState) (b : Bool) → b ≡ false → s ≡ if_kept (λ place image given. if b then Gone place Memory else KeptState place image given) s
+untold_pin_stays_kept : (s : PinState) (b : Bool) → b ≡ false → s ≡ if_kept (λ place image given. if b then Gone place Memory else KeptState place image given) s
 unfolding if_kept
-unlost (KeptState place image given) b e = rw e refl
-unlost (Gone place cause) b e = refl
+untold_pin_stays_kept (KeptState place image given) b e = rw e refl
+untold_pin_stays_kept (Gone place cause) b e = refl
 
-lost_there : (w : HeapState) (h : Held) (b : Bool) → b ≡ true → is_kept h ≡ true → Gone (held_place h) Memory ≡ if_kept (λ place image given. if b then Gone place Memory else KeptState place image given) (state_of w h)
+told_pin_is_lost : (w : HeapState) (h : Held) (b : Bool) → b ≡ true → is_kept h ≡ true → Gone (held_place h) Memory ≡ if_kept (λ place image given. if b then Gone place Memory else KeptState place image given) (state_of w h)
 unfolding if_kept state_of is_kept held_place
-lost_there w (Kept at pin cursor given) b e k = rw e refl
-lost_there w (Lost place cause) b e k = absurd (clash k)
+told_pin_is_lost w (Kept at pin cursor given) b e k = rw e refl
+told_pin_is_lost w (Lost place cause) b e k = absurd (clash k)
   where
     clash : false ≡ true → ⊥
     clash e = cc
@@ -119,12 +119,12 @@ step_agrees ids left v past place next [] (t ∷ ts) e h = absurd e
 step_agrees ids left v past place next (s ∷ ss) [] e h = absurd e
 step_agrees ids left v past place next (s ∷ ss) (t ∷ ts) (inl e, es) h = (
   ap (λ (x : NumberedPin). x.number) e,
-  ap (λ (x : NumberedPin). state_of v x.held) e ∙ kept_agrees ids left v past place s.held h.0 ∙ unlost (state_of (undone left v) s.held) (is_in (lost_in left v ss ts es) s.number) (not_lost left v s.number ss ts es h.2),
+  ap (λ (x : NumberedPin). state_of v x.held) e ∙ kept_agrees ids left v past place s.held h.0 ∙ untold_pin_stays_kept (state_of (undone left v) s.held) (is_in (lost_in left v ss ts es) s.number) (number_below_is_not_lost left v s.number ss ts es h.2),
   step_agrees ids left v past place next ss ts es h.3,
 )
 step_agrees ids left v past place next (s ∷ ss) (t ∷ ts) (inr e, es) h = (
   ap (λ (x : NumberedPin). x.number) e.0,
-  ap (λ (x : NumberedPin). state_of v x.held) e.0 ∙ lost_there (undone left v) s.held (is_in (s.number ∷ lost_in left v ss ts es) s.number) (ap (λ b. b || is_in (lost_in left v ss ts es) s.number) (eq-eqb s.number s.number refl)) e.1,
+  ap (λ (x : NumberedPin). state_of v x.held) e.0 ∙ told_pin_is_lost (undone left v) s.held (is_in (s.number ∷ lost_in left v ss ts es) s.number) (ap (λ b. b || is_in (lost_in left v ss ts es) s.number) (eq-eqb s.number s.number refl)) e.1,
   agrees_above (is_in (lost_in left v ss ts es)) (is_in (s.number ∷ lost_in left v ss ts es)) s.number (undone left v) v ss ts (λ m above. ap (λ b. b || is_in (lost_in left v ss ts es) m) (ne_eqb s.number m (λ q. let z : s.number ≡ m = q in omega (arith, z, above)))) h.2
       (step_agrees ids left v past place next ss ts es h.3),
 )
@@ -132,7 +132,7 @@ step_agrees ids left v past place next (s ∷ ss) (t ∷ ts) (inr e, es) h = (
 -- ---- what the model sees, together
 
 agreed_list : (b : ℕ → Bool) (w v : HeapState) (ss ts : List NumberedPin) → Agrees b w v ss ts
-    → map {B = ℕ × PinState} (λ (s : NumberedPin). (s.number, state_of v s.held)) ts ≡ map {B = ℕ × PinState} (λ e. (e.0, if_kept (lose_by b e.0) e.1)) (map {B = ℕ × PinState} (λ (s : NumberedPin). (s.number, state_of w s.held)) ss)
+    → map {B = ℕ × PinState} (λ (s : NumberedPin). (s.number, state_of v s.held)) ts ≡ map {B = ℕ × PinState} (λ e. (e.0, if_kept (pin_lost_where_told b e.0) e.1)) (map {B = ℕ × PinState} (λ (s : NumberedPin). (s.number, state_of w s.held)) ss)
 agreed_list b w v [] [] h = refl
 agreed_list b w v [] (t ∷ ts) h = absurd h
 agreed_list b w v (s ∷ ss) [] h = absurd h

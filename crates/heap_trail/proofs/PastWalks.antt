@@ -9,8 +9,8 @@ use Rattle.heap_step.specs.Records.{undone}
 use Rattle.heap_pins.specs.Pin.{PinContents}
 use Rattle.heap_pins.specs.Shows.{ShowsState, Holds}
 use Rattle.heap_pins.specs.WalkedPins.{CanWalk, IsWalked, IsWalkedBack}
-use Rattle.heap_pins.proofs.HeldPins.{first_of}
-use Rattle.heap_pins.proofs.RecordWalks.{walked_on, walk_holds, some_same}
+use Rattle.heap_pins.proofs.HeldPins.{property_of_first_state}
+use Rattle.heap_pins.proofs.RecordWalks.{pin_walk_goes_one_back, walked_pin_holds_its_state, equal_somes_are_equal}
 use Rattle.heap_trail.specs.Records.{past_of, AreRecorded}
 use Rattle.heap_trail.specs.Past.{HoldsPast}
 
@@ -28,31 +28,31 @@ record_of : (w : HeapState) (records : List Undo) (i : ℕ) (left : Undo) (x : H
 record_of w [] i left x told there at = cc
 record_of w (r ∷ rs) zero left x told there at = record {
   event = told.0.0;
-  step = subst (λ v. IsStep told.0.0 (undone left v) v left) (some_same at) (subst (λ l. IsStep told.0.0 (undone l w) w l) (some_same there) told.0.1);
-  next = (λ j. Some (undone (some_same there j) (some_same at j)));
+  step = subst (λ v. IsStep told.0.0 (undone left v) v left) (equal_somes_are_equal at) (subst (λ l. IsStep told.0.0 (undone l w) w l) (equal_somes_are_equal there) told.0.1);
+  next = (λ j. Some (undone (equal_somes_are_equal there j) (equal_somes_are_equal at j)));
 }
 record_of w (r ∷ rs) (suc i) left x told there at =
     let later = record_of (undone r w) rs i left x told.1 there at in
     let n : suc (i + 1) ≡ suc i + 1 = omega arith in
     record { event = later.event; step = later.step; next = subst (λ m. slice_get (w ∷ past_of w (r ∷ rs)) m ≡ Some (undone left x)) n later.next }
 
-pub can_walk : (w : HeapState) (records : List Undo) (i : ℕ) (left : Undo) (pin : PinContents) → AreRecorded w records → slice_get records i ≡ Some left → IsWalkedTo pin w records i → CanWalk left w pin
-can_walk w records i left pin told there h =
+pub recorded_pin_can_walk : (w : HeapState) (records : List Undo) (i : ℕ) (left : Undo) (pin : PinContents) → AreRecorded w records → slice_get records i ≡ Some left → IsWalkedTo pin w records i → CanWalk left w pin
+recorded_pin_can_walk w records i left pin told there h =
     let r = record_of w records i left h.0 told there h.1.last in
-    (h.0, r.event, r.step, h.1.pin, first_of (ShowsState pin h.0) i w (past_of w records) h.1.shows)
+    (h.0, r.event, r.step, h.1.pin, property_of_first_state (ShowsState pin h.0) i w (past_of w records) h.1.shows)
 
-pub one_back : (w : HeapState) (records : List Undo) (i : ℕ) (left : Undo) (p q : PinContents) → AreRecorded w records → slice_get records i ≡ Some left → IsWalkedTo p w records i → IsWalkedBack left w p q → IsWalkedTo q w records (i + 1)
-one_back w records i left p q told there h back =
+pub walk_to_past_goes_further : (w : HeapState) (records : List Undo) (i : ℕ) (left : Undo) (p q : PinContents) → AreRecorded w records → slice_get records i ≡ Some left → IsWalkedTo p w records i → IsWalkedBack left w p q → IsWalkedTo q w records (i + 1)
+walk_to_past_goes_further w records i left p q told there h back =
     let r = record_of w records i left h.0 told there h.1.last in
-    (undone left h.0, walked_on left r.event h.0 w p q i (past_of w records) r.step back r.next h.1)
+    (undone left h.0, pin_walk_goes_one_back left r.event h.0 w p q i (past_of w records) r.step back r.next h.1)
 
-state_is : (xs : List HeapState) (n : ℕ) (x d : HeapState) → slice_get xs n ≡ Some x → x ≡ slice_index_or xs n d
-state_is [] n x d e = cc
-state_is (y ∷ xs) zero x d e = sym (some_same e)
-state_is (y ∷ xs) (suc n) x d e = state_is xs n x d e
+state_of_past_by_index : (xs : List HeapState) (n : ℕ) (x d : HeapState) → slice_get xs n ≡ Some x → x ≡ slice_index_or xs n d
+state_of_past_by_index [] n x d e = cc
+state_of_past_by_index (y ∷ xs) zero x d e = sym (equal_somes_are_equal e)
+state_of_past_by_index (y ∷ xs) (suc n) x d e = state_of_past_by_index xs n x d e
 
-pub walk_done : (w : HeapState) (records : List Undo) (n : ℕ) (pin : PinContents) → IsWalkedTo pin w records n → HoldsPast pin w records n
-walk_done w records n pin h = subst (λ u. Holds pin u n (w ∷ past_of w records)) (state_is (w ∷ past_of w records) n h.0 w h.1.last) (walk_holds pin h.0 n (w ∷ past_of w records) h.1)
+pub walked_pin_holds_past : (w : HeapState) (records : List Undo) (n : ℕ) (pin : PinContents) → IsWalkedTo pin w records n → HoldsPast pin w records n
+walked_pin_holds_past w records n pin h = subst (λ u. Holds pin u n (w ∷ past_of w records)) (state_of_past_by_index (w ∷ past_of w records) n h.0 w h.1.last) (walked_pin_holds_its_state pin h.0 n (w ∷ past_of w records) h.1)
 
 -- there is a record
 pub record_there : (records : List Undo) (i : ℕ) → i < length records → slice_get records i ≡ None → ⊥

@@ -14,65 +14,65 @@ use Rattle.heap_trail.specs.declared.held.Held.TheVariants.{Kept, Lost}
 use Rattle.heap_trail.specs.declared.held.NumberedPin.{NumberedPin}
 use Rattle.heap_trail.specs.OpenPins.{IsSizedHeld, IsRegionWithin, held_kept, is_kept, is_settled, held_place, MayKeep, NeedsCopy, held_after_rewind, slot_after_rewind}
 
-pub at_ok : {A E P : Type 0} (r : Result A E) → is_err r ≡ false → OnOk r P → P
-at_ok (Ok a) e p = p
-at_ok (Err e') e p = cc
+pub property_at_an_ok : {A E P : Type 0} (r : Result A E) → is_err r ≡ false → OnOk r P → P
+property_at_an_ok (Ok a) e p = p
+property_at_an_ok (Err e') e p = cc
 
-pub is_clash : {P : Type 0} (b : Bool) → b ≡ false → b ≡ true → P
-is_clash b f t = absurd (clash (sym f ∙ t))
+pub boolean_not_true_and_false : {P : Type 0} (b : Bool) → b ≡ false → b ≡ true → P
+boolean_not_true_and_false b f t = absurd (clash (sym f ∙ t))
   where
     clash : false ≡ true → ⊥
     clash e = cc
 
 -- a kept pin without a copy of the region is lost if memory for one can't be allocated
-pub loses : (left : Undo) (v : HeapState) (s : NumberedPin) (n place : ℕ) (pin : PinContents) (cursor : Cursor) (given : ℕ) → n ≡ s.number → s.held ≡ Kept place pin cursor given → NeedsCopy left s.held → (at : ℕ) → at ≡ held_place s.held → MayKeep left v s (record { number = n; held = Lost at Memory })
+pub pin_without_memory_is_lost : (left : Undo) (v : HeapState) (s : NumberedPin) (n place : ℕ) (pin : PinContents) (cursor : Cursor) (given : ℕ) → n ≡ s.number → s.held ≡ Kept place pin cursor given → NeedsCopy left s.held → (at : ℕ) → at ≡ held_place s.held → MayKeep left v s (record { number = n; held = Lost at Memory })
 unfolding is_kept
-loses left v s n place pin cursor given same is needed at there = inr (λ i. record { number = same i; held = Lost (there i) Memory }, ap is_kept is, needed)
+pin_without_memory_is_lost left v s n place pin cursor given same is needed at there = inr (λ i. record { number = same i; held = Lost (there i) Memory }, ap is_kept is, needed)
 
 -- a kept pin keeps what it has to
-pub keeps : (left : Undo) (v : HeapState) (s t : NumberedPin) (place : ℕ) (pin q : PinContents) (cursor : Cursor) (given : ℕ) → t ≡ record { number = s.number; held = Kept place q cursor given } → s.held ≡ Kept place pin cursor given → q ≡ kept left v pin → MayKeep left v s t
+pub kept_pin_keeps_its_need : (left : Undo) (v : HeapState) (s t : NumberedPin) (place : ℕ) (pin q : PinContents) (cursor : Cursor) (given : ℕ) → t ≡ record { number = s.number; held = Kept place q cursor given } → s.held ≡ Kept place pin cursor given → q ≡ kept left v pin → MayKeep left v s t
 unfolding held_kept
-keeps left v s t place pin q cursor given e is k = inl (e ∙ (λ i. record { number = s.number; held = Kept place (k i) cursor given }) ∙ ap (λ h. record s { held = held_kept left v h }) (sym is))
+kept_pin_keeps_its_need left v s t place pin q cursor given e is k = inl (e ∙ (λ i. record { number = s.number; held = Kept place (k i) cursor given }) ∙ ap (λ h. record s { held = held_kept left v h }) (sym is))
 
 -- a lost one stays so
-pub stays_lost : (left : Undo) (v : HeapState) (s t : NumberedPin) (place : ℕ) (cause : LostCause) → t ≡ record { number = s.number; held = s.held } → s.held ≡ Lost place cause → MayKeep left v s t
+pub lost_pin_stays_after_step : (left : Undo) (v : HeapState) (s t : NumberedPin) (place : ℕ) (cause : LostCause) → t ≡ record { number = s.number; held = s.held } → s.held ≡ Lost place cause → MayKeep left v s t
 unfolding held_kept
-stays_lost left v s t place cause e is = inl (e ∙ ap (λ h. record s { held = h }) is ∙ ap (λ h. record s { held = held_kept left v h }) (sym is))
+lost_pin_stays_after_step left v s t place cause e is = inl (e ∙ ap (λ h. record s { held = h }) is ∙ ap (λ h. record s { held = held_kept left v h }) (sym is))
 
 -- a settled one stays as it is
 settled_pin : (left : Undo) (v : HeapState) (r : ℕ) (p : PinContents) → touched left ≡ Some r → is_some (slice_index_or p.copies r None) ≡ true → kept left v p ≡ p
 unfolding kept kept_if kept_at
 settled_pin left v r p at some = ap (λ t. kept_if t left v p) at ∙ ap (λ b. kept_at r (copy_for left v r) b p) some
 
-settled_held : (left : Undo) (v : HeapState) (r : ℕ) (h : Held) → touched left ≡ Some r → is_settled r h ≡ true → h ≡ held_kept left v h
+settled_held_is_unchanged : (left : Undo) (v : HeapState) (r : ℕ) (h : Held) → touched left ≡ Some r → is_settled r h ≡ true → h ≡ held_kept left v h
 unfolding held_kept is_settled
-settled_held left v r (Kept place pin cursor given) at settled = ap (λ p. Kept place p cursor given) (sym (settled_pin left v r pin at settled))
-settled_held left v r (Lost place cause) at settled = refl
+settled_held_is_unchanged left v r (Kept place pin cursor given) at settled = ap (λ p. Kept place p cursor given) (sym (settled_pin left v r pin at settled))
+settled_held_is_unchanged left v r (Lost place cause) at settled = refl
 
-pub settled_stays : (left : Undo) (v : HeapState) (r : ℕ) (s : NumberedPin) → touched left ≡ Some r → is_settled r s.held ≡ true → MayKeep left v s s
-settled_stays left v r s at settled = inl (ap (λ (h : Held). (let t : NumberedPin = record s { held = h } in t)) (settled_held left v r s.held at settled))
+pub settled_pin_is_unchanged : (left : Undo) (v : HeapState) (r : ℕ) (s : NumberedPin) → touched left ≡ Some r → is_settled r s.held ≡ true → MayKeep left v s s
+settled_pin_is_unchanged left v r s at settled = inl (ap (λ (h : Held). (let t : NumberedPin = record s { held = h } in t)) (settled_held_is_unchanged left v r s.held at settled))
 
 -- a pin with a place for the copy of each region has one for this
-pub held_within : (n r : ℕ) (h : Held) → IsSizedHeld n h → r < n → IsRegionWithin r h
-held_within n r (Kept place pin cursor given) sized lt = subst (λ m. r < m) (sym sized) lt
-held_within n r (Lost place cause) sized lt = tt
+pub held_pin_has_region_place : (n r : ℕ) (h : Held) → IsSizedHeld n h → r < n → IsRegionWithin r h
+held_pin_has_region_place n r (Kept place pin cursor given) sized lt = subst (λ m. r < m) (sym sized) lt
+held_pin_has_region_place n r (Lost place cause) sized lt = tt
 
 -- ---- a rewind
 
-pub above_lost : (s : NumberedPin) (n to place : ℕ) (pin : PinContents) (cursor : Cursor) (given : ℕ) → n ≡ s.number → s.held ≡ Kept place pin cursor given → (at : ℕ) → at ≡ held_place s.held → to < at → record { number = n; held = Lost at Rewound } ≡ slot_after_rewind to s
+pub pin_above_place_is_lost : (s : NumberedPin) (n to place : ℕ) (pin : PinContents) (cursor : Cursor) (given : ℕ) → n ≡ s.number → s.held ≡ Kept place pin cursor given → (at : ℕ) → at ≡ held_place s.held → to < at → record { number = n; held = Lost at Rewound } ≡ slot_after_rewind to s
 unfolding held_after_rewind held_place
-above_lost s n to place pin cursor given same is at there above =
+pin_above_place_is_lost s n to place pin cursor given same is at there above =
     let e : at ≡ place = there ∙ ap held_place is in
     let t : nat_lt to place ≡ true = grind (arith, above, e) in
     (λ i. record { number = same i; held = Lost (e i) Rewound }) ∙ ap (λ b. record s { held = (if b then Lost place Rewound else Kept place pin cursor given) }) (sym t) ∙ ap (λ h. record s { held = held_after_rewind to h }) (sym is)
 
-pub below_stays : (s t : NumberedPin) (to place : ℕ) (pin : PinContents) (cursor : Cursor) (given : ℕ) → t ≡ record { number = s.number; held = s.held } → s.held ≡ Kept place pin cursor given → (at : ℕ) → at ≡ held_place s.held → at ≤ to → t ≡ slot_after_rewind to s
+pub pin_below_place_stays : (s t : NumberedPin) (to place : ℕ) (pin : PinContents) (cursor : Cursor) (given : ℕ) → t ≡ record { number = s.number; held = s.held } → s.held ≡ Kept place pin cursor given → (at : ℕ) → at ≡ held_place s.held → at ≤ to → t ≡ slot_after_rewind to s
 unfolding held_after_rewind held_place
-below_stays s t to place pin cursor given e is at there below =
+pin_below_place_stays s t to place pin cursor given e is at there below =
     let p : at ≡ place = there ∙ ap held_place is in
     let f : nat_lt to place ≡ false = grind (arith, below, p) in
     e ∙ ap (λ h. record s { held = h }) is ∙ ap (λ b. record s { held = (if b then Lost place Rewound else Kept place pin cursor given) }) (sym f) ∙ ap (λ h. record s { held = held_after_rewind to h }) (sym is)
 
-pub lost_stays : (s t : NumberedPin) (to place : ℕ) (cause : LostCause) → t ≡ record { number = s.number; held = s.held } → s.held ≡ Lost place cause → t ≡ slot_after_rewind to s
+pub lost_pin_stays_after_rewind : (s t : NumberedPin) (to place : ℕ) (cause : LostCause) → t ≡ record { number = s.number; held = s.held } → s.held ≡ Lost place cause → t ≡ slot_after_rewind to s
 unfolding held_after_rewind
-lost_stays s t to place cause e is = e ∙ ap (λ h. record s { held = h }) is ∙ ap (λ h. record s { held = held_after_rewind to h }) (sym is)
+lost_pin_stays_after_rewind s t to place cause e is = e ∙ ap (λ h. record s { held = h }) is ∙ ap (λ h. record s { held = held_after_rewind to h }) (sym is)

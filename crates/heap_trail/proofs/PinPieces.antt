@@ -12,7 +12,7 @@ use Rattle.hprof_text.specs.Cursors.{IsBefore, IsAt}
 use Rattle.hprof_text.specs.Laws.{piece_limit}
 use Rattle.hprof_text.specs.Segments.{segment_records, end_record, records_from, pieces_of}
 use Rattle.hprof_text.specs.Text.{sub_records}
-use Rattle.hprof_text.proofs.PieceCounts.{pieces_few}
+use Rattle.hprof_text.proofs.PieceCounts.{pieces_within_part_limit}
 use Rattle.heap_pins.specs.Pin.{PinContents, places_from, pin_image}
 use Rattle.heap_pins.proofs.PinViews.{view_dumpable}
 use Rattle.heap_trail.specs.declared.held.Held.{Held}
@@ -21,66 +21,66 @@ use Rattle.heap_trail.specs.OpenPins.{IsGivenOf, CanGive, given_after, IsNextPie
 
 -- ---- the cursor is moved on
 
-pub not_past : (cursor : Cursor) → (cursor ≡ Past → ⊥) → is_past cursor ≡ false
-not_past Start n = refl
-not_past (Item s k) n = refl
-not_past (Object at) n = refl
-not_past End n = refl
-not_past Past n = absurd (n refl)
+pub cursor_short_of_past : (cursor : Cursor) → (cursor ≡ Past → ⊥) → is_past cursor ≡ false
+cursor_short_of_past Start n = refl
+cursor_short_of_past (Item s k) n = refl
+cursor_short_of_past (Object at) n = refl
+cursor_short_of_past End n = refl
+cursor_short_of_past Past n = absurd (n refl)
 
-pub moved_on : (to : Cursor) (h : Held) (place : ℕ) (pin : PinContents) (cursor : Cursor) (given : ℕ) → h ≡ Kept place pin cursor given → is_past cursor ≡ false → Kept place pin to (given + 1) ≡ held_advanced to h
+pub piece_moves_cursor_on : (to : Cursor) (h : Held) (place : ℕ) (pin : PinContents) (cursor : Cursor) (given : ℕ) → h ≡ Kept place pin cursor given → is_past cursor ≡ false → Kept place pin to (given + 1) ≡ held_advanced to h
 unfolding held_advanced
-moved_on to h place pin cursor given is e = ap (λ b. if b then Kept place pin cursor given else Kept place pin to (given + 1)) (sym e) ∙ ap (held_advanced to) (sym is)
+piece_moves_cursor_on to h place pin cursor given is e = ap (λ b. if b then Kept place pin cursor given else Kept place pin to (given + 1)) (sym e) ∙ ap (held_advanced to) (sym is)
 
-pub stays_past : (to : Cursor) (h : Held) (place : ℕ) (pin : PinContents) (cursor : Cursor) (given : ℕ) → h ≡ Kept place pin cursor given → is_past cursor ≡ true → Kept place pin cursor given ≡ held_advanced to h
+pub cursor_past_stays_past : (to : Cursor) (h : Held) (place : ℕ) (pin : PinContents) (cursor : Cursor) (given : ℕ) → h ≡ Kept place pin cursor given → is_past cursor ≡ true → Kept place pin cursor given ≡ held_advanced to h
 unfolding held_advanced
-stays_past to h place pin cursor given is e = ap (λ b. if b then Kept place pin cursor given else Kept place pin to (given + 1)) (sym e) ∙ ap (held_advanced to) (sym is)
+cursor_past_stays_past to h place pin cursor given is e = ap (λ b. if b then Kept place pin cursor given else Kept place pin to (given + 1)) (sym e) ∙ ap (held_advanced to) (sym is)
 
 -- ---- how many pieces there are
 
-how_many : (ids : IdSize) (image : Image) (time : ℕ) → length (pieces_of ids image time) ≡ length (records_from (sub_records ids image)) + 1
+piece_count_of_a_dump : (ids : IdSize) (image : Image) (time : ℕ) → length (pieces_of ids image time) ≡ length (records_from (sub_records ids image)) + 1
 unfolding pieces_of
-how_many ids image time = omega arith
+piece_count_of_a_dump ids image time = omega arith
 
-before_end : (ids : IdSize) (image : Image) (rest : List (List ℕ)) (i : ℕ) → IsBefore ids image rest i → i < length (records_from (sub_records ids image)) + 1
-before_end ids image rest i b =
+cursor_before_end_of_dump : (ids : IdSize) (image : Image) (rest : List (List ℕ)) (i : ℕ) → IsBefore ids image rest i → i < length (records_from (sub_records ids image)) + 1
+cursor_before_end_of_dump ids image rest i b =
     let all = records_from (sub_records ids image) in
     let n : length (drop b.0 all) ≡ length (records_from rest) = ap length b.2 in
     omega (arith, b.1, n, length-drop b.0 all, length-append (segment_records rest) (end_record ∷ []))
 
-within : (ids : IdSize) (image : Image) (places : List ObjRef) (cursor : Cursor) (i : ℕ) → IsAt ids image places cursor i → is_past cursor ≡ false → i < length (records_from (sub_records ids image)) + 1
-within ids image places Start i at e = omega (arith, at)
-within ids image places (Item s n) i at e = before_end ids image at.0 i at.2
-within ids image places (Object o) i at e = before_end ids image at.0 i at.2
-within ids image places End i at e = before_end ids image at.0 i at.2
-within ids image places Past i at e = cc
+cursor_within_the_pieces : (ids : IdSize) (image : Image) (places : List ObjRef) (cursor : Cursor) (i : ℕ) → IsAt ids image places cursor i → is_past cursor ≡ false → i < length (records_from (sub_records ids image)) + 1
+cursor_within_the_pieces ids image places Start i at e = omega (arith, at)
+cursor_within_the_pieces ids image places (Item s n) i at e = cursor_before_end_of_dump ids image at.0 i at.2
+cursor_within_the_pieces ids image places (Object o) i at e = cursor_before_end_of_dump ids image at.0 i at.2
+cursor_within_the_pieces ids image places End i at e = cursor_before_end_of_dump ids image at.0 i at.2
+cursor_within_the_pieces ids image places Past i at e = cc
 
-past_end : (ids : IdSize) (image : Image) (places : List ObjRef) (cursor : Cursor) (i : ℕ) → IsAt ids image places cursor i → is_past cursor ≡ true → length (records_from (sub_records ids image)) + 1 ≤ i
-past_end ids image places Start i at e = cc
-past_end ids image places (Item s n) i at e = cc
-past_end ids image places (Object o) i at e = cc
-past_end ids image places End i at e = cc
-past_end ids image places Past i at e = at
+cursor_past_the_pieces : (ids : IdSize) (image : Image) (places : List ObjRef) (cursor : Cursor) (i : ℕ) → IsAt ids image places cursor i → is_past cursor ≡ true → length (records_from (sub_records ids image)) + 1 ≤ i
+cursor_past_the_pieces ids image places Start i at e = cc
+cursor_past_the_pieces ids image places (Item s n) i at e = cc
+cursor_past_the_pieces ids image places (Object o) i at e = cc
+cursor_past_the_pieces ids image places End i at e = cc
+cursor_past_the_pieces ids image places Past i at e = at
 
-pub may_count : (ids : IdSize) (w : HeapState) (h : Held) → CanGive ids w h → MayCount h
-may_count ids w (Kept place pin cursor given) can =
-    let few : length (pieces_of ids (pin_image pin w) 0) ≤ piece_limit = pieces_few ids (pin_image pin w) 0 (view_dumpable pin w can.0) in
-    omega (arith, few, how_many ids (pin_image pin w) 0, can.1.1)
-may_count ids w (Lost place cause) can = tt
+pub pin_that_gives_may_count : (ids : IdSize) (w : HeapState) (h : Held) → CanGive ids w h → MayCount h
+pin_that_gives_may_count ids w (Kept place pin cursor given) can =
+    let few : length (pieces_of ids (pin_image pin w) 0) ≤ piece_limit = pieces_within_part_limit ids (pin_image pin w) 0 (view_dumpable pin w can.0) in
+    omega (arith, few, piece_count_of_a_dump ids (pin_image pin w) 0, can.1.1)
+pin_that_gives_may_count ids w (Lost place cause) can = tt
 
 -- ---- the next piece
 
-one_given : (given n : ℕ) → given < n → given + 1 ≡ given_after given n
+given_count_goes_up : (given n : ℕ) → given < n → given + 1 ≡ given_after given n
 unfolding given_after
-one_given given n lt = let e : nat_lt given n ≡ true = grind (arith, lt) in rw e refl
+given_count_goes_up given n lt = let e : nat_lt given n ≡ true = grind (arith, lt) in rw e refl
 
-none_given : (given n : ℕ) → n ≤ given → given ≡ given_after given n
+given_count_at_end_stays : (given n : ℕ) → n ≤ given → given ≡ given_after given n
 unfolding given_after
-none_given given n le = let e : nat_lt given n ≡ false = grind (arith, le) in rw e refl
+given_count_at_end_stays given n le = let e : nat_lt given n ≡ false = grind (arith, le) in rw e refl
 
-pub has_given : (ids : IdSize) (w : HeapState) (time : ℕ) (piece : Piece) (next : Cursor) (h new : Held) → CanGive ids w h → IsNextPiece ids w time h piece next → new ≡ held_advanced next h → HasGiven ids w time piece h new
+pub next_piece_was_given : (ids : IdSize) (w : HeapState) (time : ℕ) (piece : Piece) (next : Cursor) (h new : Held) → CanGive ids w h → IsNextPiece ids w time h piece next → new ≡ held_advanced next h → HasGiven ids w time piece h new
 unfolding held_advanced
-has_given ids w time piece next (Kept place pin cursor given) new can is advanced = let g = go (is_past cursor) refl advanced in (is.0, g.0, g.1, g.2)
+next_piece_was_given ids w time piece next (Kept place pin cursor given) new can is advanced = let g = go (is_past cursor) refl advanced in (is.0, g.0, g.1, g.2)
   where
     image : Image
     image = pin_image pin w
@@ -93,9 +93,9 @@ has_given ids w time piece next (Kept place pin cursor given) new can is advance
 
     go : (b : Bool) → is_past cursor ≡ b → new ≡ (if b then Kept place pin cursor given else Kept place pin next (given + 1)) → Given (given_after given (length (pieces_of ids image time)))
     go true e a =
-        let end = past_end ids image places cursor given can.1.0 e in
-        subst Given (none_given given (length (pieces_of ids image time)) (omega (arith, end, how_many ids image time))) (cursor, a, can.1)
+        let end = cursor_past_the_pieces ids image places cursor given can.1.0 e in
+        subst Given (given_count_at_end_stays given (length (pieces_of ids image time)) (omega (arith, end, piece_count_of_a_dump ids image time))) (cursor, a, can.1)
     go false e a =
-        let lt = within ids image places cursor given can.1.0 e in
-        subst Given (one_given given (length (pieces_of ids image time)) (omega (arith, lt, how_many ids image time))) (next, a, (is.1, omega (arith, lt)))
-has_given ids w time piece next (Lost place cause) new can is advanced = absurd is
+        let lt = cursor_within_the_pieces ids image places cursor given can.1.0 e in
+        subst Given (given_count_goes_up given (length (pieces_of ids image time)) (omega (arith, lt, piece_count_of_a_dump ids image time))) (next, a, (is.1, omega (arith, lt)))
+next_piece_was_given ids w time piece next (Lost place cause) new can is advanced = absurd is

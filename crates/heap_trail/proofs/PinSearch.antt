@@ -26,30 +26,30 @@ slot_found number ss slice r i s same is found here =
     (record { within = p.0; here = here }, eqb-true s.number number (subst (λ (x : NumberedPin). (x.number == number) ≡ true) (sym here) p.1))
 
 -- those after it have greater numbers
-pub above_there : (n : ℕ) (ss : List NumberedPin) (i : ℕ) (s : NumberedPin) → AreAbove n ss → i < length ss → s ≡ get_or ss i s → n < s.number
-above_there n [] i s a lt here = absurd (omega (arith, lt))
-above_there n (t ∷ ss) zero s a lt here = subst (λ (x : NumberedPin). n < x.number) (sym here) a.0
-above_there n (t ∷ ss) (suc i) s a lt here = above_there n ss i s a.1 (omega (arith, lt)) here
+pub number_of_slot_is_above : (n : ℕ) (ss : List NumberedPin) (i : ℕ) (s : NumberedPin) → AreAbove n ss → i < length ss → s ≡ get_or ss i s → n < s.number
+number_of_slot_is_above n [] i s a lt here = absurd (omega (arith, lt))
+number_of_slot_is_above n (t ∷ ss) zero s a lt here = subst (λ (x : NumberedPin). n < x.number) (sym here) a.0
+number_of_slot_is_above n (t ∷ ss) (suc i) s a lt here = number_of_slot_is_above n ss i s a.1 (omega (arith, lt)) here
 
 -- the model finds it by its number
-finds : (ids : IdSize) (states : List HeapState) (place next : ℕ) (w : HeapState) (ss : List NumberedPin) (i : ℕ) (s : NumberedPin) → AreHeld ids states place next ss → i < length ss → s ≡ get_or ss i s → find {X = ℕ × PinState} (λ e. e.0 == s.number) (map {B = ℕ × PinState} (seen w) ss) ≡ Some (seen w s)
-finds ids states place next w [] i s h lt here = absurd (omega (arith, lt))
-finds ids states place next w (t ∷ ss) zero s h lt here =
+pin_found_by_slot_number : (ids : IdSize) (states : List HeapState) (place next : ℕ) (w : HeapState) (ss : List NumberedPin) (i : ℕ) (s : NumberedPin) → AreHeld ids states place next ss → i < length ss → s ≡ get_or ss i s → find {X = ℕ × PinState} (λ e. e.0 == s.number) (map {B = ℕ × PinState} (seen w) ss) ≡ Some (seen w s)
+pin_found_by_slot_number ids states place next w [] i s h lt here = absurd (omega (arith, lt))
+pin_found_by_slot_number ids states place next w (t ∷ ss) zero s h lt here =
     let e : (t.number == s.number) ≡ true = eq-eqb t.number s.number (ap (λ (x : NumberedPin). x.number) (sym here)) in
     ap (λ b. cond b (Some (seen w t)) (find {X = ℕ × PinState} (λ e. e.0 == s.number) (map {B = ℕ × PinState} (seen w) ss))) e ∙ ap (λ (x : NumberedPin). Some (seen w x)) (sym here)
-finds ids states place next w (t ∷ ss) (suc i) s h lt here =
-    let above : t.number < s.number = above_there t.number ss i s h.2 (omega (arith, lt)) here in
+pin_found_by_slot_number ids states place next w (t ∷ ss) (suc i) s h lt here =
+    let above : t.number < s.number = number_of_slot_is_above t.number ss i s h.2 (omega (arith, lt)) here in
     let e : (t.number == s.number) ≡ false = ne_eqb t.number s.number (λ q. let z : t.number ≡ s.number = q in omega (arith, z, above)) in
-    ap (λ b. cond b (Some (seen w t)) (find {X = ℕ × PinState} (λ e. e.0 == s.number) (map {B = ℕ × PinState} (seen w) ss))) e ∙ finds ids states place next w ss i s h.3 (omega (arith, lt)) here
+    ap (λ b. cond b (Some (seen w t)) (find {X = ℕ × PinState} (λ e. e.0 == s.number) (map {B = ℕ × PinState} (seen w) ss))) e ∙ pin_found_by_slot_number ids states place next w ss i s h.3 (omega (arith, lt)) here
 
 pub pin_found : (ids : IdSize) (states : List HeapState) (place next : ℕ) (w : HeapState) (ss : List NumberedPin) (i : ℕ) (s : NumberedPin) → AreHeld ids states place next ss → IsThere ss i s → pin_at s.number (pins_of w next ss) ≡ Some (state_of w s.held)
 unfolding pin_at pins_of
-pin_found ids states place next w ss i s h t = ap (option_map (λ (e : ℕ × PinState). e.1)) (finds ids states place next w ss i s h t.within t.here)
+pin_found ids states place next w ss i s h t = ap (option_map (λ (e : ℕ × PinState). e.1)) (pin_found_by_slot_number ids states place next w ss i s h t.within t.here)
 
 -- no slot has the number
-finds_none : (w : HeapState) (number : ℕ) (ss : List NumberedPin) → nat_lt (position_or_len (λ s. s.number == number) ss) (length ss) ≡ false → find {X = ℕ × PinState} (λ e. e.0 == number) (map {B = ℕ × PinState} (seen w) ss) ≡ None
-finds_none w number [] h = refl
-finds_none w number (s ∷ ss) h = go (s.number == number) h (finds_none w number ss)
+pin_without_slot_not_found : (w : HeapState) (number : ℕ) (ss : List NumberedPin) → nat_lt (position_or_len (λ s. s.number == number) ss) (length ss) ≡ false → find {X = ℕ × PinState} (λ e. e.0 == number) (map {B = ℕ × PinState} (seen w) ss) ≡ None
+pin_without_slot_not_found w number [] h = refl
+pin_without_slot_not_found w number (s ∷ ss) h = go (s.number == number) h (pin_without_slot_not_found w number ss)
   where
     go : (b : Bool) → nat_lt (cond (not b) (1 + position_or_len (λ s. s.number == number) ss) 0) (suc (length ss)) ≡ false
         → (nat_lt (position_or_len (λ s. s.number == number) ss) (length ss) ≡ false → find {X = ℕ × PinState} (λ e. e.0 == number) (map {B = ℕ × PinState} (seen w) ss) ≡ None)
@@ -60,17 +60,17 @@ finds_none w number (s ∷ ss) h = go (s.number == number) h (finds_none w numbe
 pub pin_missing : (w : HeapState) (next number : ℕ) (ss slice : List NumberedPin) (r : Option ℕ) → slice ≡ ss → r ≡ position (λ s. s.number == number) slice → r ≡ None → pin_at number (pins_of w next ss) ≡ None
 unfolding pin_at pins_of
 pin_missing w next number ss slice r same is none =
-    ap (option_map (λ (e : ℕ × PinState). e.1)) (finds_none w number ss (go (nat_lt (position_or_len (λ s. s.number == number) ss) (length ss)) (sym (ap (position (λ (s : NumberedPin). s.number == number)) same) ∙ sym is ∙ none)))
+    ap (option_map (λ (e : ℕ × PinState). e.1)) (pin_without_slot_not_found w number ss (go (nat_lt (position_or_len (λ s. s.number == number) ss) (length ss)) (sym (ap (position (λ (s : NumberedPin). s.number == number)) same) ∙ sym is ∙ none)))
   where
     go : (b : Bool) → cond b (Some (position_or_len (λ (s : NumberedPin). s.number == number) ss)) None ≡ None → b ≡ false
     go true e = cc
     go false e = refl
 
 -- what holds of its pin
-held_at : (ids : IdSize) (states : List HeapState) (place next : ℕ) (ss : List NumberedPin) (i : ℕ) (s : NumberedPin) → AreHeld ids states place next ss → i < length ss → s ≡ get_or ss i s → HoldsAt ids states place s.held
-held_at ids states place next [] i s h lt here = absurd (omega (arith, lt))
-held_at ids states place next (t ∷ ss) zero s h lt here = subst (λ (x : NumberedPin). HoldsAt ids states place x.held) (sym here) h.0
-held_at ids states place next (t ∷ ss) (suc i) s h lt here = held_at ids states place next ss i s h.3 (omega (arith, lt)) here
+pin_of_slot_is_held : (ids : IdSize) (states : List HeapState) (place next : ℕ) (ss : List NumberedPin) (i : ℕ) (s : NumberedPin) → AreHeld ids states place next ss → i < length ss → s ≡ get_or ss i s → HoldsAt ids states place s.held
+pin_of_slot_is_held ids states place next [] i s h lt here = absurd (omega (arith, lt))
+pin_of_slot_is_held ids states place next (t ∷ ss) zero s h lt here = subst (λ (x : NumberedPin). HoldsAt ids states place x.held) (sym here) h.0
+pin_of_slot_is_held ids states place next (t ∷ ss) (suc i) s h lt here = pin_of_slot_is_held ids states place next ss i s h.3 (omega (arith, lt)) here
 
-pub held_there : (ids : IdSize) (states : List HeapState) (place next : ℕ) (ss : List NumberedPin) (i : ℕ) (s : NumberedPin) → AreHeld ids states place next ss → IsThere ss i s → HoldsAt ids states place s.held
-held_there ids states place next ss i s h there = held_at ids states place next ss i s h there.within there.here
+pub pin_of_searched_slot_held : (ids : IdSize) (states : List HeapState) (place next : ℕ) (ss : List NumberedPin) (i : ℕ) (s : NumberedPin) → AreHeld ids states place next ss → IsThere ss i s → HoldsAt ids states place s.held
+pin_of_searched_slot_held ids states place next ss i s h there = pin_of_slot_is_held ids states place next ss i s h there.within there.here

@@ -14,7 +14,7 @@ use Rattle.heap_pins.specs.Shows.{Holds}
 use Rattle.heap_pins.proofs.HeldPins.{pin_rewound, rewound_image}
 use Rattle.heap_trail.specs.Trail.{rewound, state_ago}
 use Rattle.heap_trail.specs.Records.{past_of, AreRecorded, IsRetaining, IsPinning, machine_of, machine_with}
-use Rattle.heap_trail.proofs.RewoundMachines.{popped, LeadsTo, is_undone}
+use Rattle.heap_trail.proofs.RewoundMachines.{popped, LeadsTo, last_record_is_undone}
 use Rattle.heap_trail.specs.declared.held.Held.{Held}
 use Rattle.heap_trail.specs.declared.held.Held.TheVariants.{Kept, Lost}
 use Rattle.heap_trail.specs.declared.held.NumberedPin.{NumberedPin}
@@ -24,47 +24,47 @@ use Rattle.heap_trail.specs.OpenPins.{state_of, pins_of, HoldsAt, AreAbove, AreH
 
 -- ---- pins above a place are lost
 
-lost_state : (w : HeapState) (to : ℕ) (h : Held) → state_of w (held_after_rewind to h) ≡ if_kept (λ place image given. if nat_lt to place then Gone place Rewound else KeptState place image given) (state_of w h)
+pin_state_after_rewind : (w : HeapState) (to : ℕ) (h : Held) → state_of w (held_after_rewind to h) ≡ if_kept (λ place image given. if nat_lt to place then Gone place Rewound else KeptState place image given) (state_of w h)
 unfolding state_of held_after_rewind if_kept
-lost_state w to (Kept place pin cursor given) = go (nat_lt to place)
+pin_state_after_rewind w to (Kept place pin cursor given) = go (nat_lt to place)
   where
     go : (b : Bool) → state_of w (if b then Lost place Rewound else Kept place pin cursor given) ≡ (if b then Gone place Rewound else KeptState place (pin_image pin w) given)
     go true = refl
     go false = refl
-lost_state w to (Lost place cause) = refl
+pin_state_after_rewind w to (Lost place cause) = refl
 
-lost_list : (w : HeapState) (to : ℕ) (ss : List NumberedPin) → map {B = ℕ × PinState} (λ (s : NumberedPin). (s.number, state_of w s.held)) (map (slot_after_rewind to) ss)
+pin_states_after_rewind : (w : HeapState) (to : ℕ) (ss : List NumberedPin) → map {B = ℕ × PinState} (λ (s : NumberedPin). (s.number, state_of w s.held)) (map (slot_after_rewind to) ss)
     ≡ map {B = ℕ × PinState} (λ e. (e.0, if_kept (λ place image given. if nat_lt to place then Gone place Rewound else KeptState place image given) e.1)) (map {B = ℕ × PinState} (λ (s : NumberedPin). (s.number, state_of w s.held)) ss)
-lost_list w to [] = refl
-lost_list w to (s ∷ ss) = λ i. (s.number, lost_state w to s.held i) ∷ lost_list w to ss i
+pin_states_after_rewind w to [] = refl
+pin_states_after_rewind w to (s ∷ ss) = λ i. (s.number, pin_state_after_rewind w to s.held i) ∷ pin_states_after_rewind w to ss i
 
 pub pins_lost : (w : HeapState) (to next : ℕ) (ss : List NumberedPin) → pins_of w next (map (slot_after_rewind to) ss) ≡ after_rewind to (pins_of w next ss)
 unfolding pins_of after_rewind each_kept
-pins_lost w to next ss = ap (λ l. record { next = next; open_pins = l }) (lost_list w to ss)
+pins_lost w to next ss = ap (λ l. record { next = next; open_pins = l }) (pin_states_after_rewind w to ss)
 
-held_lost : (ids : IdSize) (states : List HeapState) (place to : ℕ) (h : Held) → HoldsAt ids states place h → HoldsAt ids states place (held_after_rewind to h)
+lost_pin_is_held : (ids : IdSize) (states : List HeapState) (place to : ℕ) (h : Held) → HoldsAt ids states place h → HoldsAt ids states place (held_after_rewind to h)
 unfolding held_after_rewind
-held_lost ids states place to (Kept at pin cursor given) h = go (nat_lt to at)
+lost_pin_is_held ids states place to (Kept at pin cursor given) h = go (nat_lt to at)
   where
     go : (b : Bool) → HoldsAt ids states place (if b then Lost at Rewound else Kept at pin cursor given)
     go true = tt
     go false = h
-held_lost ids states place to (Lost at cause) h = tt
+lost_pin_is_held ids states place to (Lost at cause) h = tt
 
-above_lost : (to n : ℕ) (ss : List NumberedPin) → AreAbove n ss → AreAbove n (map (slot_after_rewind to) ss)
-above_lost to n [] a = tt
-above_lost to n (s ∷ ss) a = (a.0, above_lost to n ss a.1)
+rewound_pins_stay_above : (to n : ℕ) (ss : List NumberedPin) → AreAbove n ss → AreAbove n (map (slot_after_rewind to) ss)
+rewound_pins_stay_above to n [] a = tt
+rewound_pins_stay_above to n (s ∷ ss) a = (a.0, rewound_pins_stay_above to n ss a.1)
 
-pub still_held : (ids : IdSize) (states : List HeapState) (place next to : ℕ) (ss : List NumberedPin) → AreHeld ids states place next ss → AreHeld ids states place next (map (slot_after_rewind to) ss)
-still_held ids states place next to [] h = tt
-still_held ids states place next to (s ∷ ss) h = (held_lost ids states place to s.held h.0, h.1, above_lost to s.number ss h.2, still_held ids states place next to ss h.3)
+pub rewound_pins_are_held : (ids : IdSize) (states : List HeapState) (place next to : ℕ) (ss : List NumberedPin) → AreHeld ids states place next ss → AreHeld ids states place next (map (slot_after_rewind to) ss)
+rewound_pins_are_held ids states place next to [] h = tt
+rewound_pins_are_held ids states place next to (s ∷ ss) h = (lost_pin_is_held ids states place to s.held h.0, h.1, rewound_pins_stay_above to s.number ss h.2, rewound_pins_are_held ids states place next to ss h.3)
 
 -- ---- one step back, where no pin is above
 
-held_back : (ids : IdSize) (w v : HeapState) (past : List HeapState) (place : ℕ) (h : Held) → 0 < place → HoldsAt ids (w ∷ v ∷ past) place h → (at : ℕ) (pin : PinContents) (cursor : Cursor) (given : ℕ) → h ≡ Kept at pin cursor given → at < place
+kept_pin_held_one_back : (ids : IdSize) (w v : HeapState) (past : List HeapState) (place : ℕ) (h : Held) → 0 < place → HoldsAt ids (w ∷ v ∷ past) place h → (at : ℕ) (pin : PinContents) (cursor : Cursor) (given : ℕ) → h ≡ Kept at pin cursor given → at < place
     → HoldsAt ids (v ∷ past) (place - 1) (Kept at pin cursor given) × (state_of v (Kept at pin cursor given) ≡ state_of w (Kept at pin cursor given))
 unfolding state_of
-held_back ids w v past place h some holds at pin cursor given is below =
+kept_pin_held_one_back ids w v past place h some holds at pin cursor given is below =
     let k : HoldsAt ids (w ∷ v ∷ past) place (Kept at pin cursor given) = subst (HoldsAt ids (w ∷ v ∷ past) place) is holds in
     let n : place - at ≡ suc (place - 1 - at) = omega (arith, below) in
     let p : Holds pin k.0 (suc (place - 1 - at)) (w ∷ v ∷ past) = subst (λ m. Holds pin k.0 m (w ∷ v ∷ past)) n k.2 in (
@@ -72,23 +72,23 @@ held_back ids w v past place h some holds at pin cursor given is below =
       ap (λ i. KeptState at i given) (rewound_image pin k.0 (place - 1 - at) w v past p),
     )
 
-one_back : (ids : IdSize) (w v : HeapState) (past : List HeapState) (place : ℕ) (s : NumberedPin) → 0 < place → HoldsAt ids (w ∷ v ∷ past) place s.held → AreBelow place (state_of w s.held) → HoldsAt ids (v ∷ past) (place - 1) s.held × (state_of v s.held ≡ state_of w s.held)
+pin_held_one_back : (ids : IdSize) (w v : HeapState) (past : List HeapState) (place : ℕ) (s : NumberedPin) → 0 < place → HoldsAt ids (w ∷ v ∷ past) place s.held → AreBelow place (state_of w s.held) → HoldsAt ids (v ∷ past) (place - 1) s.held × (state_of v s.held ≡ state_of w s.held)
 unfolding state_of
-one_back ids w v past place s some holds below = go s.held refl below
+pin_held_one_back ids w v past place s some holds below = go s.held refl below
   where
     go : (h : Held) → s.held ≡ h → AreBelow place (state_of w h) → HoldsAt ids (v ∷ past) (place - 1) h × (state_of v h ≡ state_of w h)
-    go (Kept at pin cursor given) is b = held_back ids w v past place s.held some holds at pin cursor given is b
+    go (Kept at pin cursor given) is b = kept_pin_held_one_back ids w v past place s.held some holds at pin cursor given is b
     go (Lost place cause) is b = (tt, refl)
 
-pub all_back : (ids : IdSize) (w v : HeapState) (past : List HeapState) (place next : ℕ) (ss : List NumberedPin) → 0 < place → AreHeld ids (w ∷ v ∷ past) place next ss → AreAllBelow place (pins_of w next ss) → AreHeld ids (v ∷ past) (place - 1) next ss × (pins_of v next ss ≡ pins_of w next ss)
+pub pins_held_one_back : (ids : IdSize) (w v : HeapState) (past : List HeapState) (place next : ℕ) (ss : List NumberedPin) → 0 < place → AreHeld ids (w ∷ v ∷ past) place next ss → AreAllBelow place (pins_of w next ss) → AreHeld ids (v ∷ past) (place - 1) next ss × (pins_of v next ss ≡ pins_of w next ss)
 unfolding pins_of
-all_back ids w v past place next ss some h below = let r = go ss h below in (r.0, ap (λ l. record { next = next; open_pins = l }) r.1)
+pins_held_one_back ids w v past place next ss some h below = let r = go ss h below in (r.0, ap (λ l. record { next = next; open_pins = l }) r.1)
   where
     go : (ss : List NumberedPin) → AreHeld ids (w ∷ v ∷ past) place next ss → EachBelow place (map {B = ℕ × PinState} (λ (s : NumberedPin). (s.number, state_of w s.held)) ss)
         → AreHeld ids (v ∷ past) (place - 1) next ss × (map {B = ℕ × PinState} (λ (s : NumberedPin). (s.number, state_of v s.held)) ss ≡ map {B = ℕ × PinState} (λ (s : NumberedPin). (s.number, state_of w s.held)) ss)
     go [] h b = (tt, refl)
     go (s ∷ ss) h b =
-        let one = one_back ids w v past place s some h.0 b.0 in
+        let one = pin_held_one_back ids w v past place s some h.0 b.0 in
         let rest = go ss h.3 b.1 in
         ((one.0, h.1, h.2, rest.0), λ i. (s.number, one.1 i) ∷ rest.1 i)
 
@@ -105,8 +105,8 @@ undone_pinned ids w v left ring place keep next ss k p first leads below = go ri
     go [] h told placed held = cc
     go (r ∷ rs) h told placed held =
         let e : r ≡ left = cc in
-        let back : v ≡ undone r w = is_undone v w left r rs e told leads in
-        let b = all_back ids w (undone r w) (past_of (undone r w) rs) place next ss (omega (arith, placed)) held below in (
+        let back : v ≡ undone r w = last_record_is_undone v w left r rs e told leads in
+        let b = pins_held_one_back ids w (undone r w) (past_of (undone r w) rs) place next ss (omega (arith, placed)) held below in (
           record {
             held = subst (λ u. AreHeld ids (u ∷ past_of u rs) (place - 1) next ss) (sym back) b.0;
             few = p.few;
@@ -117,7 +117,7 @@ undone_pinned ids w v left ring place keep next ss k p first leads below = go ri
 
 pub pinning_lost : (ids : IdSize) (w : HeapState) (ring : Buffer Undo) (place next to : ℕ) (ss : List NumberedPin) → IsPinning ids w ring place next ss → IsPinning ids w ring place next (map (slot_after_rewind to) ss)
 pinning_lost ids w ring place next to ss p = record {
-  held = still_held ids (w ∷ past_of w ring.items) place next to ss p.held;
+  held = rewound_pins_are_held ids (w ∷ past_of w ring.items) place next to ss p.held;
   few = omega (arith, p.few, length-map ss (slot_after_rewind to));
   numbered = p.numbered;
 }

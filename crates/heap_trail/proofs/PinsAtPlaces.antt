@@ -54,42 +54,42 @@ retained_above t at above =
 
 -- ---- the pins with it
 
-above_more : (n next : ℕ) (ss : List NumberedPin) (t : NumberedPin) → n < t.number → AreAbove n ss → AreAbove n (ss ++ t ∷ [])
-above_more n next [] t lt a = (lt, tt)
-above_more n next (s ∷ ss) t lt a = (a.0, above_more n next ss t lt a.1)
+numbers_above_with_one_more : (n next : ℕ) (ss : List NumberedPin) (t : NumberedPin) → n < t.number → AreAbove n ss → AreAbove n (ss ++ t ∷ [])
+numbers_above_with_one_more n next [] t lt a = (lt, tt)
+numbers_above_with_one_more n next (s ∷ ss) t lt a = (a.0, numbers_above_with_one_more n next ss t lt a.1)
 
-held_more : (ids : IdSize) (states : List HeapState) (place next : ℕ) (ss : List NumberedPin) (t : NumberedPin) → HoldsAt ids states place t.held → t.number ≡ next → AreHeld ids states place next ss → AreHeld ids states place (next + 1) (ss ++ t ∷ [])
-held_more ids states place next [] t here is h = (here, omega (arith, is), tt, tt)
-held_more ids states place next (s ∷ ss) t here is h = (h.0, omega (arith, h.1), above_more s.number next ss t (omega (arith, is, h.1)) h.2, held_more ids states place next ss t here is h.3)
+pins_held_with_one_more : (ids : IdSize) (states : List HeapState) (place next : ℕ) (ss : List NumberedPin) (t : NumberedPin) → HoldsAt ids states place t.held → t.number ≡ next → AreHeld ids states place next ss → AreHeld ids states place (next + 1) (ss ++ t ∷ [])
+pins_held_with_one_more ids states place next [] t here is h = (here, omega (arith, is), tt, tt)
+pins_held_with_one_more ids states place next (s ∷ ss) t here is h = (h.0, omega (arith, h.1), numbers_above_with_one_more s.number next ss t (omega (arith, is, h.1)) h.2, pins_held_with_one_more ids states place next ss t here is h.3)
 
 pub pinning_more : (ids : IdSize) (w : HeapState) (ring : Buffer Undo) (place next at : ℕ) (ss : List NumberedPin) (pin : PinContents) → IsPinning ids w ring place next ss → at ≤ place → HoldsPast pin w ring.items (place - at) → length ss < pin_limit → next ≤ last_pin → IsPinning ids w ring place (next + 1) (ss ++ new_slot next at pin ∷ [])
 pinning_more ids w ring place next at ss pin p below h few low = record {
-  held = held_more ids (w ∷ past_of w ring.items) place next ss (new_slot next at pin) (past_state w ring.items (place - at), below, h, (refl, omega arith)) refl p.held;
+  held = pins_held_with_one_more ids (w ∷ past_of w ring.items) place next ss (new_slot next at pin) (past_state w ring.items (place - at), below, h, (refl, omega arith)) refl p.held;
   few = omega (arith, few, length-append ss (new_slot next at pin ∷ []));
   numbered = (omega (arith, p.numbered.0), omega (arith, low));
 }
 
 -- ---- the reply
 
-abbrev opens : Machine → ℕ → Machine × Reply
-opens m at = unless (open_refusal at m.trail m.pins) (after_open at) m
+abbrev machine_opens_at_place : Machine → ℕ → Machine × Reply
+machine_opens_at_place m at = unless (open_refusal at m.trail m.pins) (after_open at) m
 
-acted_opens : (m : Machine) (asked : Option ℕ) (at : ℕ) → at ≡ unwrap_or asked m.trail.place → acted m (OpenPin asked) ≡ opens m at
+acted_opens : (m : Machine) (asked : Option ℕ) (at : ℕ) → at ≡ unwrap_or asked m.trail.place → acted m (OpenPin asked) ≡ machine_opens_at_place m at
 unfolding acted
-acted_opens m asked at e = ap (opens m) (sym e)
+acted_opens m asked at e = ap (machine_opens_at_place m) (sym e)
 
-abbrev is_full : ℕ → ℕ → ℕ → Bool
-is_full most count next = nat_le most count || nat_lt last_pin next
+abbrev pin_table_is_full : ℕ → ℕ → ℕ → Bool
+pin_table_is_full most count next = nat_le most count || nat_lt last_pin next
 
 module _ (ids : IdSize) (w : HeapState) (ring : Buffer Undo) (place keep next : ℕ) (ss : List NumberedPin) where
   abbrev before : Machine
   before = machine_of ids w ring place keep next ss
 
-  refusal_is : (at : ℕ) (r f : Bool) → is_retained at before.trail ≡ r → is_full w.limits.pins (length ss) next ≡ f → open_refusal at before.trail before.pins ≡ first_refusal ((not r, NotRetained) ∷ (f, PinLimit) ∷ [])
+  refusal_is : (at : ℕ) (r f : Bool) → is_retained at before.trail ≡ r → pin_table_is_full w.limits.pins (length ss) next ≡ f → open_refusal at before.trail before.pins ≡ first_refusal ((not r, NotRetained) ∷ (f, PinLimit) ∷ [])
   unfolding open_refusal pins_of
   refusal_is at r f er ef = rw (er, length-map {B = ℕ × PinState} ss (λ (s : NumberedPin). (s.number, state_of w s.held)), ef) refl
 
-  not_full : length ss < w.limits.pins → next ≤ last_pin → is_full w.limits.pins (length ss) next ≡ false
+  not_full : length ss < w.limits.pins → next ≤ last_pin → pin_table_is_full w.limits.pins (length ss) next ≡ false
   not_full few low =
       let a : nat_le w.limits.pins (length ss) ≡ false = grind (arith, few) in
       let b : nat_lt last_pin next ≡ false = grind (arith, low) in
@@ -114,9 +114,9 @@ module _ (ids : IdSize) (w : HeapState) (ring : Buffer Undo) (place keep next : 
 
   pub open_unretained : (asked : Option ℕ) (at : ℕ) → at ≡ unwrap_or asked place → is_retained at before.trail ≡ false → acted before (OpenPin asked) ≡ (before, Refused NotRetained)
   unfolding unless first_refusal
-  open_unretained asked at e r = acted_opens before asked at e ∙ ap (λ x. unless x (after_open at) before) (refusal_is at false (is_full w.limits.pins (length ss) next) r refl)
+  open_unretained asked at e r = acted_opens before asked at e ∙ ap (λ x. unless x (after_open at) before) (refusal_is at false (pin_table_is_full w.limits.pins (length ss) next) r refl)
 
-  pub open_full : (asked : Option ℕ) (at : ℕ) → at ≡ unwrap_or asked place → is_retained at before.trail ≡ true → is_full w.limits.pins (length ss) next ≡ true → acted before (OpenPin asked) ≡ (before, Refused PinLimit)
+  pub open_full : (asked : Option ℕ) (at : ℕ) → at ≡ unwrap_or asked place → is_retained at before.trail ≡ true → pin_table_is_full w.limits.pins (length ss) next ≡ true → acted before (OpenPin asked) ≡ (before, Refused PinLimit)
   unfolding unless first_refusal
   open_full asked at e r full = acted_opens before asked at e ∙ ap (λ x. unless x (after_open at) before) (refusal_is at true true r full)
 
@@ -124,10 +124,10 @@ module _ (ids : IdSize) (w : HeapState) (ring : Buffer Undo) (place keep next : 
   unfolding unless after_open may_grow is_accepted
   open_starved asked at e r few low = (refl, ap (λ (p : Machine × Reply). is_accepted p.1) (acted_opens before asked at e ∙ ap (λ x. unless x (after_open at) before) (no_refusal at r few low)))
 
-pub full_by_many : (most n next : ℕ) → most ≤ n → is_full most n next ≡ true
+pub full_by_many : (most n next : ℕ) → most ≤ n → pin_table_is_full most n next ≡ true
 full_by_many most n next h = let a : nat_le most n ≡ true = grind (arith, h) in rw a refl
 
-pub full_by_number : (most n next : ℕ) → last_pin < next → is_full most n next ≡ true
+pub full_by_number : (most n next : ℕ) → last_pin < next → pin_table_is_full most n next ≡ true
 full_by_number most n next h = let b : nat_lt last_pin next ≡ true = grind (arith, h) in rw b (go (nat_le most n))
   where
     go : (x : Bool) → (x || true) ≡ true

@@ -17,8 +17,8 @@ use Rattle.heap_trail.proofs.SnapshotFindings.{finds_snapshot}
 abbrev pub LeadsTo : Event → HeapState → HeapState → Type 0
 LeadsTo e w v = (refusal_of e w ≡ None) × (v ≡ state_after e w)
 
-pub sweep_leaves : (w v : HeapState) (e : Event) → IsLegal w → LeadsTo e w v → (region : ℕ) → e ≡ Sweep region → SparesReached w v
-sweep_leaves w v e legal h region is x r =
+pub sweep_spares_reached_objects : (w v : HeapState) (e : Event) → IsLegal w → LeadsTo e w v → (region : ℕ) → e ≡ Sweep region → SparesReached w v
+sweep_spares_reached_objects w v e legal h region is x r =
     let s = subst (λ f. LeadsTo f w v) is h in
     ap (λ (u : HeapState). object_of u.regions x) s.1 ∙ sweep_spares region w legal s.0 x r
 

@@ -14,8 +14,8 @@ use Rattle.heap_trail.specs.Limits.{last_place}
 use Rattle.heap_trail.specs.Trail.{Trail, stepped}
 use Rattle.heap_trail.specs.Machine.{Machine, Allocation, Granted, Denied, LosesPins, acted, acted_under, after_step_at, after_result, MayReply}
 use Rattle.heap_trail.specs.Laws.{IsTrail, AreSteps, FindsSnapshot, KeepsReached}
-use Rattle.heap_trail.proofs.RetainedStates.{steps_legal}
-use Rattle.heap_trail.proofs.ReachedObjects.{LeadsTo, sweep_leaves, finish_lives}
+use Rattle.heap_trail.proofs.RetainedStates.{recorded_state_is_legal}
+use Rattle.heap_trail.proofs.ReachedObjects.{LeadsTo, sweep_spares_reached_objects, finish_lives}
 use Rattle.heap_trail.proofs.SnapshotFindings.{finds_snapshot}
 
 -- a step that is answered was accepted, and led to the state after the event
@@ -41,8 +41,8 @@ marked_leads m e a (LosesPins pins) h = answered_leads m e a h
 
 leads_keeps : (t : Trail) (e : Event) (v : HeapState) → AreSteps t.current t.past t.records → LeadsTo e t.current v → KeepsReached e t v
 leads_keeps t e v steps led = record {
-  spares = sweep_leaves t.current v e (steps_legal t.current t.past t.records steps) led;
-  live = finish_lives t.current v e (steps_legal t.current t.past t.records steps) led;
+  spares = sweep_spares_reached_objects t.current v e (recorded_state_is_legal t.current t.past t.records steps) led;
+  live = finish_lives t.current v e (recorded_state_is_legal t.current t.past t.records steps) led;
   finds = finds;
 }
   where

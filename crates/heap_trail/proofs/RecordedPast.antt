@@ -9,7 +9,7 @@ use Rattle.circular_buffer.specs.Buffer.{Buffer}
 use Rattle.heap_trail.specs.Laws.{IsTrail}
 use Rattle.heap_trail.specs.Records.{past_of, AreRecorded, IsRetaining, machine_with}
 use Rattle.heap_trail.specs.Pins.{Pins}
-use Rattle.heap_trail.proofs.RetainedStates.{steps_legal}
+use Rattle.heap_trail.proofs.RetainedStates.{recorded_state_is_legal}
 
 -- a step that is undone changes nothing of what the heap allows
 limits_undone : (left : Undo) (w : HeapState) → (undone left w).limits ≡ w.limits
@@ -44,7 +44,7 @@ past_of-take (suc n) w (r ∷ rs) = ap (λ vs. undone r w ∷ vs) (past_of-take 
 
 pub recorded-take : (n : ℕ) (w : HeapState) (rs : List Undo) → AreRecorded w rs → AreRecorded w (take n rs)
 recorded-take zero w [] h = h
-recorded-take zero w (r ∷ rs) h = steps_legal w (past_of w (r ∷ rs)) (r ∷ rs) h
+recorded-take zero w (r ∷ rs) h = recorded_state_is_legal w (past_of w (r ∷ rs)) (r ∷ rs) h
 recorded-take (suc n) w [] h = h
 recorded-take (suc n) w (r ∷ rs) h = (h.0, recorded-take n (undone r w) rs h.1)
 

@@ -14,38 +14,38 @@ use Rattle.heap_trail.specs.Trail.{Trail, retained, rewound, state_ago, rewind_r
 use Rattle.heap_trail.specs.Pins.{Pins, PinState, Kept, Gone, if_kept, each_kept, after_rewind, with_lost}
 use Rattle.heap_trail.specs.Machine.{Machine, Granted, Denied, LosesPins, acted, acted_under, unless, after_rewind_by}
 use Rattle.heap_trail.specs.Headline.{IsRewound, IsBackAt, UndoesStep, RewindsRetained, RewindsInParts}
-use Rattle.heap_trail.proofs.Alone.{alike}
-use Rattle.heap_trail.proofs.Back.{leads_back}
+use Rattle.heap_trail.proofs.Alone.{action_alike_when_bared}
+use Rattle.heap_trail.proofs.Back.{answered_step_leads_back}
 use Rattle.heap_trail.proofs.RewoundMachines.{rewound_none, rewound_more, rewind_done}
 
 -- ---- one step
 
 -- the place that a rewind replies is that of the machine after it
-unless_told : (o : Option Refusal) (n : ℕ) (m : Machine) (place : ℕ) → (unless o (after_rewind_by n) m).1 ≡ Place place → (unless o (after_rewind_by n) m).0.trail.place ≡ place
+place_replied_unless_refused : (o : Option Refusal) (n : ℕ) (m : Machine) (place : ℕ) → (unless o (after_rewind_by n) m).1 ≡ Place place → (unless o (after_rewind_by n) m).0.trail.place ≡ place
 unfolding unless after_rewind_by
-unless_told None n m place h =
+place_replied_unless_refused None n m place h =
     let e : (rewound n m.trail).place ≡ place = cc h in
     e
-unless_told (Some r) n m place h = absurd (clash h)
+place_replied_unless_refused (Some r) n m place h = absurd (clash h)
   where
     clash : Refused r ≡ Place place → ⊥
     clash e = cc
 
-place_told : (n : ℕ) (m : Machine) (place : ℕ) → (acted m (Rewind n)).1 ≡ Place place → (acted m (Rewind n)).0.trail.place ≡ place
+place_replied_by_rewind : (n : ℕ) (m : Machine) (place : ℕ) → (acted m (Rewind n)).1 ≡ Place place → (acted m (Rewind n)).0.trail.place ≡ place
 unfolding acted
-place_told n m place h = unless_told (rewind_refusal n m.trail) n m place h
+place_replied_by_rewind n m place h = place_replied_unless_refused (rewind_refusal n m.trail) n m place h
 
 restored : (m : Machine) (e : Event) (n : Machine) (a : Answer) → 1 ≤ m.keep → acted m (Step e) ≡ (n, Answered a) → IsBackAt m (acted n (Rewind 1))
 restored m e n a some done =
-    let b = leads_back m e n a some done in
-    (b.0, place_told 1 n m.trail.place b.1, b.1)
+    let b = answered_step_leads_back m e n a some done in
+    (b.0, place_replied_by_rewind 1 n m.trail.place b.1, b.1)
 
 -- pins that are lost change nothing of it
 restored_losing : (m n : Machine) (pins : Pins) → IsBackAt m (acted n (Rewind 1)) → IsBackAt m (acted (record n { pins = pins }) (Rewind 1))
 restored_losing m n pins r =
     let with_pins : Machine = record n { pins = pins } in
-    let x = alike n.ids with_pins (Rewind 1) refl in
-    let y = alike n.ids n (Rewind 1) refl in
+    let x = action_alike_when_bared n.ids with_pins (Rewind 1) refl in
+    let y = action_alike_when_bared n.ids n (Rewind 1) refl in
     let t : (acted with_pins (Rewind 1)).0.trail ≡ (acted n (Rewind 1)).0.trail = x.0 ∙ sym y.0 in
     (ap (λ (u : Trail). u.current) t ∙ r.0, ap (λ (u : Trail). u.place) t ∙ r.1, x.1 ∙ sym y.1 ∙ r.2)
 
@@ -95,29 +95,29 @@ rewound_parts a (suc b) t few =
     ∙ ap (λ n. rewound n t) (let e : a + b + 1 ≡ a + suc b = omega arith in e)
 
 -- a pin above a place is lost
-abbrev lost_above : ℕ → ℕ → Image → ℕ → PinState
-lost_above to place image given = if nat_lt to place then Gone place Rewound else Kept place image given
+abbrev pin_lost_above_place : ℕ → ℕ → Image → ℕ → PinState
+pin_lost_above_place to place image given = if nat_lt to place then Gone place Rewound else Kept place image given
 
-lower_lost : (low high place : ℕ) → low ≤ high → nat_lt high place ≡ true → nat_lt low place ≡ true
-lower_lost low high place le h = grind arith
+pin_lost_above_lower_place : (low high place : ℕ) → low ≤ high → nat_lt high place ≡ true → nat_lt low place ≡ true
+pin_lost_above_lower_place low high place le h = grind arith
 
-lost_parts : (low high : ℕ) → low ≤ high → (s : PinState) → if_kept (lost_above low) (if_kept (lost_above high) s) ≡ if_kept (lost_above low) s
+pin_lost_in_two_rewinds : (low high : ℕ) → low ≤ high → (s : PinState) → if_kept (pin_lost_above_place low) (if_kept (pin_lost_above_place high) s) ≡ if_kept (pin_lost_above_place low) s
 unfolding if_kept
-lost_parts low high le (Kept place image given) = go (nat_lt high place) refl
+pin_lost_in_two_rewinds low high le (Kept place image given) = go (nat_lt high place) refl
   where
-    go : (b : Bool) → nat_lt high place ≡ b → if_kept (lost_above low) (if b then Gone place Rewound else Kept place image given) ≡ lost_above low place image given
-    go true h = sym (ap (λ (b : Bool). if b then Gone place Rewound else Kept place image given) (lower_lost low high place le h))
+    go : (b : Bool) → nat_lt high place ≡ b → if_kept (pin_lost_above_place low) (if b then Gone place Rewound else Kept place image given) ≡ pin_lost_above_place low place image given
+    go true h = sym (ap (λ (b : Bool). if b then Gone place Rewound else Kept place image given) (pin_lost_above_lower_place low high place le h))
     go false h = refl
-lost_parts low high le (Gone place cause) = refl
+pin_lost_in_two_rewinds low high le (Gone place cause) = refl
 
-list_parts : (low high : ℕ) → low ≤ high → (xs : List (ℕ × PinState))
-    → map {B = ℕ × PinState} (λ e. (e.0, if_kept (lost_above low) e.1)) (map {B = ℕ × PinState} (λ e. (e.0, if_kept (lost_above high) e.1)) xs) ≡ map {B = ℕ × PinState} (λ e. (e.0, if_kept (lost_above low) e.1)) xs
-list_parts low high le [] = refl
-list_parts low high le (x ∷ xs) = λ i. (x.0, lost_parts low high le x.1 i) ∷ list_parts low high le xs i
+pins_lost_in_two_rewinds : (low high : ℕ) → low ≤ high → (xs : List (ℕ × PinState))
+    → map {B = ℕ × PinState} (λ e. (e.0, if_kept (pin_lost_above_place low) e.1)) (map {B = ℕ × PinState} (λ e. (e.0, if_kept (pin_lost_above_place high) e.1)) xs) ≡ map {B = ℕ × PinState} (λ e. (e.0, if_kept (pin_lost_above_place low) e.1)) xs
+pins_lost_in_two_rewinds low high le [] = refl
+pins_lost_in_two_rewinds low high le (x ∷ xs) = λ i. (x.0, pin_lost_in_two_rewinds low high le x.1 i) ∷ pins_lost_in_two_rewinds low high le xs i
 
 pins_parts : (low high : ℕ) → low ≤ high → (p : Pins) → after_rewind low (after_rewind high p) ≡ after_rewind low p
 unfolding after_rewind each_kept
-pins_parts low high le p = ap (λ l. record { next = p.next; open_pins = l }) (list_parts low high le p.open_pins)
+pins_parts low high le p = ap (λ l. record { next = p.next; open_pins = l }) (pins_lost_in_two_rewinds low high le p.open_pins)
 
 -- what a rewind of n steps leaves and replies, if n are retained
 abbrev rewound_by : ℕ → Machine → Machine × Reply
@@ -127,8 +127,8 @@ places_fall : (a b : ℕ) (t : Trail) → (rewound b (rewound a t)).place ≤ (r
 unfolding rewound
 places_fall a b t = omega arith
 
-by_parts : (a b : ℕ) (m : Machine) → a + b ≤ retained m.trail → rewound_by b (rewound_by a m).0 ≡ rewound_by (a + b) m
-by_parts a b m few =
+two_rewinds_are_one : (a b : ℕ) (m : Machine) → a + b ≤ retained m.trail → rewound_by b (rewound_by a m).0 ≡ rewound_by (a + b) m
+two_rewinds_are_one a b m few =
     ap (λ p. (record m { trail = rewound b (rewound a m.trail); pins = p }, Place (rewound b (rewound a m.trail)).place)) (pins_parts (rewound b (rewound a m.trail)).place (rewound a m.trail).place (places_fall a b m.trail) m.pins)
     ∙ ap (λ (t : Trail). (record m { trail = t; pins = after_rewind t.place m.pins }, Place t.place)) (rewound_parts a b m.trail few)
 
@@ -136,5 +136,5 @@ pub rewinds_in_parts : (m : Machine) → RewindsInParts m
 rewinds_in_parts m a b few =
     ap (λ (r : Machine × Reply). acted r.0 (Rewind b)) (rewind_done m a (omega (arith, few)))
     ∙ rewind_done (rewound_by a m).0 b (omega (arith, few, retained_after a m.trail))
-    ∙ by_parts a b m few
+    ∙ two_rewinds_are_one a b m few
     ∙ sym (rewind_done m (a + b) few)

@@ -17,7 +17,7 @@ use Rattle.heap_trail.specs.Limits.{last_place}
 use Rattle.heap_trail.specs.Trail.{Trail, stepped}
 use Rattle.heap_trail.specs.Machine.{Machine, Allocation, Granted, Denied, LosesPins, after_result, after_step_at, acted, acted_under, machine_after}
 use Rattle.heap_trail.specs.Headline.{is_rewind, HasNoRewind, RewindsOver}
-use Rattle.heap_trail.proofs.Alone.{Core, alike, acted_core, under_core}
+use Rattle.heap_trail.proofs.Alone.{Core, action_alike_when_bared, acted_core, under_core}
 use Rattle.heap_trail.proofs.Rewinds.{rewinds_retained}
 
 -- ---- one action that is no rewind
@@ -35,51 +35,51 @@ unfolding after_step_at
 at_trail m e true = inl refl
 at_trail m e false = result_trail e m (applied e m.trail.current)
 
-step_trail : (m : Machine) (e : Event) → StaysOrSteps m.keep m.trail (acted m (Step e)).0.trail
+step_stays_or_steps : (m : Machine) (e : Event) → StaysOrSteps m.keep m.trail (acted m (Step e)).0.trail
 unfolding acted
-step_trail m e = at_trail m e (nat_le last_place m.trail.place)
+step_stays_or_steps m e = at_trail m e (nat_le last_place m.trail.place)
 
 marked_trail : (m : Machine) (e : Event) (k : Allocation) → StaysOrSteps m.keep m.trail (acted_under m (Step e, k)).0.trail
 unfolding acted_under
-marked_trail m e Granted = step_trail m e
+marked_trail m e Granted = step_stays_or_steps m e
 marked_trail m e Denied = inl refl
-marked_trail m e (LosesPins pins) = step_trail m e
+marked_trail m e (LosesPins pins) = step_stays_or_steps m e
 
-moves_on : (m : Machine) (a : Action) (k : Allocation) → is_rewind a ≡ false → StaysOrSteps m.keep m.trail (acted_under m (a, k)).0.trail
-moves_on m (Step e) k deed = marked_trail m e k
-moves_on m (Rewind n) k deed = absurd (cc deed)
-moves_on m (OpenPin at) k deed = inl (ap (λ (c : Core). c.2) (under_core m (OpenPin at) k))
-moves_on m (NextPiece pin time) k deed = inl (ap (λ (c : Core). c.2) (under_core m (NextPiece pin time) k))
-moves_on m (ClosePin pin) k deed = inl (ap (λ (c : Core). c.2) (under_core m (ClosePin pin) k))
+action_stays_or_steps : (m : Machine) (a : Action) (k : Allocation) → is_rewind a ≡ false → StaysOrSteps m.keep m.trail (acted_under m (a, k)).0.trail
+action_stays_or_steps m (Step e) k deed = marked_trail m e k
+action_stays_or_steps m (Rewind n) k deed = absurd (cc deed)
+action_stays_or_steps m (OpenPin at) k deed = inl (ap (λ (c : Core). c.2) (under_core m (OpenPin at) k))
+action_stays_or_steps m (NextPiece pin time) k deed = inl (ap (λ (c : Core). c.2) (under_core m (NextPiece pin time) k))
+action_stays_or_steps m (ClosePin pin) k deed = inl (ap (λ (c : Core). c.2) (under_core m (ClosePin pin) k))
 
 acted_keep : (m : Machine) (a : Action) → (acted m a).0.keep ≡ m.keep
-acted_keep m (Step e) = (alike m.ids m (Step e) refl).2
-acted_keep m (Rewind n) = (alike m.ids m (Rewind n) refl).2
+acted_keep m (Step e) = (action_alike_when_bared m.ids m (Step e) refl).2
+acted_keep m (Rewind n) = (action_alike_when_bared m.ids m (Rewind n) refl).2
 acted_keep m (OpenPin at) = ap (λ (c : Core). c.0) (acted_core m (OpenPin at))
 acted_keep m (NextPiece pin time) = ap (λ (c : Core). c.0) (acted_core m (NextPiece pin time))
 acted_keep m (ClosePin pin) = ap (λ (c : Core). c.0) (acted_core m (ClosePin pin))
 
-keep_stays : (m : Machine) (a : Action) (k : Allocation) → (acted_under m (a, k)).0.keep ≡ m.keep
+action_leaves_keep : (m : Machine) (a : Action) (k : Allocation) → (acted_under m (a, k)).0.keep ≡ m.keep
 unfolding acted_under
-keep_stays m a Granted = acted_keep m a
-keep_stays m a Denied = refl
-keep_stays m a (LosesPins pins) = acted_keep m a
+action_leaves_keep m a Granted = acted_keep m a
+action_leaves_keep m a Denied = refl
+action_leaves_keep m a (LosesPins pins) = acted_keep m a
 
 -- ---- places rise
 
-step_place : (keep : ℕ) (left : Undo) (v : HeapState) (t : Trail) → (stepped keep left v t).place ≡ t.place + 1
+step_raises_place_by_one : (keep : ℕ) (left : Undo) (v : HeapState) (t : Trail) → (stepped keep left v t).place ≡ t.place + 1
 unfolding stepped
-step_place keep left v t = refl
+step_raises_place_by_one keep left v t = refl
 
-place_rises : (keep : ℕ) (t u : Trail) → StaysOrSteps keep t u → t.place ≤ u.place
-place_rises keep t u (inl e) = omega (arith, ap (λ (t : Trail). t.place) e)
-place_rises keep t u (inr s) = omega (arith, ap (λ (t : Trail). t.place) s.2, step_place keep s.0 s.1 t)
+place_never_falls : (keep : ℕ) (t u : Trail) → StaysOrSteps keep t u → t.place ≤ u.place
+place_never_falls keep t u (inl e) = omega (arith, ap (λ (t : Trail). t.place) e)
+place_never_falls keep t u (inr s) = omega (arith, ap (λ (t : Trail). t.place) s.2, step_raises_place_by_one keep s.0 s.1 t)
 
 places_rise : (m : Machine) (later : List (Action × Allocation)) → HasNoRewind later → m.trail.place ≤ (machine_after m later).trail.place
 unfolding machine_after
 places_rise m [] none = omega arith
 places_rise m ((a, k) ∷ more) none =
-    let one = place_rises m.keep m.trail (acted_under m (a, k)).0.trail (moves_on m a k (All-head (λ (b : Action × Allocation). is_rewind b.0 ≡ false) (a, k) more none)) in
+    let one = place_never_falls m.keep m.trail (acted_under m (a, k)).0.trail (action_stays_or_steps m a k (All-head (λ (b : Action × Allocation). is_rewind b.0 ≡ false) (a, k) more none)) in
     let rest = places_rise (acted_under m (a, k)).0 more (All-tail (λ (b : Action × Allocation). is_rewind b.0 ≡ false) (a, k) more none) in
     omega (arith, one, rest)
 
@@ -89,16 +89,16 @@ places_rise m ((a, k) ∷ more) none =
 abbrev WasAgo : HeapState → ℕ → Trail → Type 0
 WasAgo w i t = slice_get (t.current ∷ t.past) i ≡ Some w
 
-taken : (i keep : ℕ) (xs : List HeapState) → i < keep → slice_get (take keep xs) i ≡ slice_get xs i
-taken i zero xs h = absurd (omega (arith, h))
-taken i (suc keep) [] h = refl
-taken zero (suc keep) (x ∷ xs) h = refl
-taken (suc i) (suc keep) (x ∷ xs) h = taken i keep xs (omega (arith, h))
+taken_states_are_the_states : (i keep : ℕ) (xs : List HeapState) → i < keep → slice_get (take keep xs) i ≡ slice_get xs i
+taken_states_are_the_states i zero xs h = absurd (omega (arith, h))
+taken_states_are_the_states i (suc keep) [] h = refl
+taken_states_are_the_states zero (suc keep) (x ∷ xs) h = refl
+taken_states_are_the_states (suc i) (suc keep) (x ∷ xs) h = taken_states_are_the_states i keep xs (omega (arith, h))
 
 one_more_ago : (w : HeapState) (i keep : ℕ) (left : Undo) (v : HeapState) (t : Trail) → i < keep → WasAgo w i t → WasAgo w (i + 1) (stepped keep left v t)
 unfolding stepped
 one_more_ago w i keep left v t h was =
-    subst (λ n. WasAgo w n (stepped keep left v t)) (let e : suc i ≡ i + 1 = omega arith in e) (taken i keep (t.current ∷ t.past) h ∙ was)
+    subst (λ n. WasAgo w n (stepped keep left v t)) (let e : suc i ≡ i + 1 = omega arith in e) (taken_states_are_the_states i keep (t.current ∷ t.past) h ∙ was)
 
 -- from i steps after the place `start` on
 still_ago : (w : HeapState) (start : ℕ) (m : Machine) (later : List (Action × Allocation)) (i n : ℕ) → HasNoRewind later → n ≤ m.keep → m.trail.place ≡ start + i → (machine_after m later).trail.place ≡ start + n
@@ -106,7 +106,7 @@ still_ago : (w : HeapState) (start : ℕ) (m : Machine) (later : List (Action ×
 unfolding machine_after
 still_ago w start m [] i n none few here there was = subst (λ k. WasAgo w k m.trail) (let e : i ≡ n = omega (arith, here, there) in e) was
 still_ago w start m ((a, k) ∷ more) i n none few here there was =
-    go (moves_on m a k (All-head (λ (b : Action × Allocation). is_rewind b.0 ≡ false) (a, k) more none)) (λ j at ago. still_ago w start (acted_under m (a, k)).0 more j n (All-tail (λ (b : Action × Allocation). is_rewind b.0 ≡ false) (a, k) more none) (omega (arith, few, keep_stays m a k)) at there ago)
+    go (action_stays_or_steps m a k (All-head (λ (b : Action × Allocation). is_rewind b.0 ≡ false) (a, k) more none)) (λ j at ago. still_ago w start (acted_under m (a, k)).0 more j n (All-tail (λ (b : Action × Allocation). is_rewind b.0 ≡ false) (a, k) more none) (omega (arith, few, action_leaves_keep m a k)) at there ago)
   where
     after : Machine
     after = (acted_under m (a, k)).0
@@ -114,23 +114,23 @@ still_ago w start m ((a, k) ∷ more) i n none few here there was =
     go : StaysOrSteps m.keep m.trail after.trail → ((j : ℕ) → after.trail.place ≡ start + j → WasAgo w j after.trail → WasAgo w n (machine_after after more).trail) → WasAgo w n (machine_after after more).trail
     go (inl e) rest = rest i (ap (λ (t : Trail). t.place) e ∙ here) (subst (WasAgo w i) (sym e) was)
     go (inr s) rest =
-        let at : after.trail.place ≡ m.trail.place + 1 = ap (λ (t : Trail). t.place) s.2 ∙ step_place m.keep s.0 s.1 m.trail in
+        let at : after.trail.place ≡ m.trail.place + 1 = ap (λ (t : Trail). t.place) s.2 ∙ step_raises_place_by_one m.keep s.0 s.1 m.trail in
         let up = places_rise after more (All-tail (λ (b : Action × Allocation). is_rewind b.0 ≡ false) (a, k) more none) in
         rest (i + 1) (omega (arith, at, here)) (subst (WasAgo w (i + 1)) (sym s.2) (one_more_ago w i m.keep s.0 s.1 m.trail (omega (arith, few, here, there, at, up)) was))
 
-within : (n : ℕ) (xs : List HeapState) (w : HeapState) → slice_get xs n ≡ Some w → n < length xs
-within n [] w h = absurd (clash h)
+state_found_is_within : (n : ℕ) (xs : List HeapState) (w : HeapState) → slice_get xs n ≡ Some w → n < length xs
+state_found_is_within n [] w h = absurd (clash h)
   where
     clash : None ≡ Some w → ⊥
     clash e = cc
-within zero (x ∷ xs) w h = omega arith
-within (suc n) (x ∷ xs) w h = omega (arith, within n xs w h)
+state_found_is_within zero (x ∷ xs) w h = omega arith
+state_found_is_within (suc n) (x ∷ xs) w h = omega (arith, state_found_is_within n xs w h)
 
 pub rewinds_over : (m : Machine) (later : List (Action × Allocation)) → RewindsOver m later
 rewinds_over m later none n few there =
     let after : Machine = machine_after m later in
     let was : WasAgo m.trail.current n after.trail = still_ago m.trail.current m.trail.place m later 0 n none few (omega arith) there refl in
-    let r = rewinds_retained after n (omega (arith, within n (after.trail.current ∷ after.trail.past) m.trail.current was)) in
+    let r = rewinds_retained after n (omega (arith, state_found_is_within n (after.trail.current ∷ after.trail.past) m.trail.current was)) in
     let same : Some (acted after (Rewind n)).0.trail.current ≡ Some m.trail.current = sym r.state ∙ was in
     let back : (acted after (Rewind n)).0.trail.current ≡ m.trail.current = cc in
     let place : after.trail.place - n ≡ m.trail.place = omega (arith, there) in

@@ -29,33 +29,33 @@ popped ring = buffer (drop 1 ring.items) ring.capacity
 abbrev pub WasStep : HeapState → Undo → Type 0
 WasStep w left = (e : Event) × (before : HeapState) × IsStep e before w left
 
-no_first : (left : Undo) → ◌≡◌ {A = Option Undo} None (Some left) → ⊥
-no_first left h = cc
+no_first_record : (left : Undo) → ◌≡◌ {A = Option Undo} None (Some left) → ⊥
+no_first_record left h = cc
 
-first_is : (r left : Undo) → ◌≡◌ {A = Option Undo} (Some r) (Some left) → r ≡ left
-first_is r left h = cc
+first_record_is_left : (r left : Undo) → ◌≡◌ {A = Option Undo} (Some r) (Some left) → r ≡ left
+first_record_is_left r left h = cc
 
-pub was_step : (w : HeapState) (items : List Undo) (left : Undo) → AreRecorded w items → slice_get items 0 ≡ Some left → WasStep w left
-was_step w [] left told first = absurd (no_first left first)
-was_step w (r ∷ rs) left told first =
-    let e : r ≡ left = first_is r left first in
+pub recorded_step_was_made : (w : HeapState) (items : List Undo) (left : Undo) → AreRecorded w items → slice_get items 0 ≡ Some left → WasStep w left
+recorded_step_was_made w [] left told first = absurd (no_first_record left first)
+recorded_step_was_made w (r ∷ rs) left told first =
+    let e : r ≡ left = first_record_is_left r left first in
     subst (WasStep w) e (told.0.0, undone r w, told.0.1)
 
 -- every state from which such a step led here
 abbrev pub LeadsTo : HeapState → HeapState → Undo → Type 0
 LeadsTo v w left = (e : Event) (before : HeapState) → IsStep e before w left → v ≡ before
 
-pub is_undone : (v w : HeapState) (left r : Undo) (rs : List Undo) → r ≡ left → AreRecorded w (r ∷ rs) → LeadsTo v w left → v ≡ undone r w
-is_undone v w left r rs e told leads = leads told.0.0 (undone r w) (subst (IsStep told.0.0 (undone r w) w) e told.0.1)
+pub last_record_is_undone : (v w : HeapState) (left r : Undo) (rs : List Undo) → r ≡ left → AreRecorded w (r ∷ rs) → LeadsTo v w left → v ≡ undone r w
+last_record_is_undone v w left r rs e told leads = leads told.0.0 (undone r w) (subst (IsStep told.0.0 (undone r w) w) e told.0.1)
 
 pub kept_after_undo : (w v : HeapState) (left : Undo) (ring : Buffer Undo) (place keep : ℕ) → IsRetaining w ring place keep → slice_get ring.items 0 ≡ Some left → LeadsTo v w left → IsRetaining v (popped ring) (place - 1) keep
 kept_after_undo w v left ring place keep k first leads = go ring.items first k.recorded k.few k.placed
   where
     go : (items : List Undo) → slice_get items 0 ≡ Some left → AreRecorded w items → length items ≤ keep → length items ≤ place → IsRetaining v (buffer (drop 1 items) ring.capacity) (place - 1) keep
-    go [] h told few placed = absurd (no_first left h)
+    go [] h told few placed = absurd (no_first_record left h)
     go (r ∷ rs) h told few placed =
-        let e : r ≡ left = first_is r left h in
-        let back : v ≡ undone r w = is_undone v w left r rs e told leads in
+        let e : r ≡ left = first_record_is_left r left h in
+        let back : v ≡ undone r w = last_record_is_undone v w left r rs e told leads in
         record {
           legal = subst IsLegal (sym back) told.0.1.legal;
           recorded = subst (λ u. AreRecorded u rs) (sym back) told.1;
@@ -68,8 +68,8 @@ kept_after_undo w v left ring place keep k first leads = go ring.items first k.r
 
 -- the heap allows as much as before
 pub limits_before : (w v : HeapState) (left : Undo) (items : List Undo) → AreRecorded w items → slice_get items 0 ≡ Some left → LeadsTo v w left → v.limits ≡ w.limits
-limits_before w v left [] told first leads = absurd (no_first left first)
-limits_before w v left (r ∷ rs) told first leads = limits_stay r v w (sym (is_undone v w left r rs (first_is r left first) told leads))
+limits_before w v left [] told first leads = absurd (no_first_record left first)
+limits_before w v left (r ∷ rs) told first leads = limits_stay r v w (sym (last_record_is_undone v w left r rs (first_record_is_left r left first) told leads))
 
 -- ---- several
 
@@ -88,8 +88,8 @@ drop_next zero (x ∷ xs) = refl
 drop_next (suc i) [] = refl
 drop_next (suc i) (x ∷ xs) = drop_next i xs
 
-drop_more : {A : Type 0} (i : ℕ) (xs : List A) → drop 1 (drop i xs) ≡ drop (i + 1) xs
-drop_more i xs = drop_next i xs ∙ ap (λ n. drop n xs) (let e : suc i ≡ i + 1 = omega arith in e)
+drop_of_one_more_record : {A : Type 0} (i : ℕ) (xs : List A) → drop 1 (drop i xs) ≡ drop (i + 1) xs
+drop_of_one_more_record i xs = drop_next i xs ∙ ap (λ n. drop n xs) (let e : suc i ≡ i + 1 = omega arith in e)
 
 pub rewound_place : (i : ℕ) (t : Trail) → (rewound i t).place ≡ t.place - i
 unfolding rewound
@@ -101,34 +101,34 @@ unfolding rewound state_ago
 rewound_more i t h = λ k. record {
   place = (let e : t.place - i - 1 ≡ t.place - (i + 1) = omega arith in e) k;
   current = (past_ago i t.past (state_ago i t) t.current h ∙ ap (λ n. get_or (t.current ∷ t.past) n t.current) (let e : suc i ≡ i + 1 = omega arith in e)) k;
-  past = drop_more i t.past k;
-  records = drop_more i t.records k;
+  past = drop_of_one_more_record i t.past k;
+  records = drop_of_one_more_record i t.records k;
 }
 
-pub some_left : (i : ℕ) (t : Trail) → i < retained t → 0 < retained (rewound i t)
+pub rewound_trail_retains_more : (i : ℕ) (t : Trail) → i < retained t → 0 < retained (rewound i t)
 unfolding rewound
-some_left i t h = omega (arith, h, length-drop i t.past)
+rewound_trail_retains_more i t h = omega (arith, h, length-drop i t.past)
 
 -- ---- replies
 
-near : (n k : ℕ) → n ≤ k → nat_lt k n ≡ false
-near n k h = grind arith
+rewind_is_near_enough : (n k : ℕ) → n ≤ k → nat_lt k n ≡ false
+rewind_is_near_enough n k h = grind arith
 
-far : (n k : ℕ) → k < n → nat_lt k n ≡ true
-far n k h = grind arith
+rewind_is_too_far : (n k : ℕ) → k < n → nat_lt k n ≡ true
+rewind_is_too_far n k h = grind arith
 
-not_refused : (n : ℕ) (t : Trail) → n ≤ retained t → rewind_refusal n t ≡ None
+rewind_within_retained_accepted : (n : ℕ) (t : Trail) → n ≤ retained t → rewind_refusal n t ≡ None
 unfolding rewind_refusal first_refusal
-not_refused n t h = ap (λ b. cond b (Some (TooFar n (retained t))) None) (near n (retained t) h)
+rewind_within_retained_accepted n t h = ap (λ b. cond b (Some (TooFar n (retained t))) None) (rewind_is_near_enough n (retained t) h)
 
-refused_far : (n : ℕ) (t : Trail) → retained t < n → rewind_refusal n t ≡ Some (TooFar n (retained t))
+rewind_past_retained_refused : (n : ℕ) (t : Trail) → retained t < n → rewind_refusal n t ≡ Some (TooFar n (retained t))
 unfolding rewind_refusal first_refusal
-refused_far n t h = ap (λ b. cond b (Some (TooFar n (retained t))) None) (far n (retained t) h)
+rewind_past_retained_refused n t h = ap (λ b. cond b (Some (TooFar n (retained t))) None) (rewind_is_too_far n (retained t) h)
 
 pub rewind_done : (m : Machine) (n : ℕ) → n ≤ retained m.trail → acted m (Rewind n) ≡ (record m { trail = rewound n m.trail; pins = after_rewind (rewound n m.trail).place m.pins }, Place (rewound n m.trail).place)
 unfolding acted unless after_rewind_by
-rewind_done m n h = ap (λ (r : Option Refusal). unless r (after_rewind_by n) m) (not_refused n m.trail h)
+rewind_done m n h = ap (λ (r : Option Refusal). unless r (after_rewind_by n) m) (rewind_within_retained_accepted n m.trail h)
 
-pub rewind_too_far : (m : Machine) (n : ℕ) → retained m.trail < n → acted m (Rewind n) ≡ (m, Refused (TooFar n (retained m.trail)))
+pub machine_refuses_far_rewind : (m : Machine) (n : ℕ) → retained m.trail < n → acted m (Rewind n) ≡ (m, Refused (TooFar n (retained m.trail)))
 unfolding acted unless
-rewind_too_far m n h = ap (λ (r : Option Refusal). unless r (after_rewind_by n) m) (refused_far n m.trail h)
+machine_refuses_far_rewind m n h = ap (λ (r : Option Refusal). unless r (after_rewind_by n) m) (rewind_past_retained_refused n m.trail h)

@@ -8,7 +8,7 @@ use Rattle.heap_step.specs.declared.Undo.{Undo}
 use Rattle.heap_pins.specs.Pin.{PinContents, pin_image}
 use Rattle.heap_pins.specs.Shows.{ShowsState}
 use Rattle.heap_pins.specs.View.{PinShown}
-use Rattle.heap_pins.proofs.HeldPins.{first_of, held_image}
+use Rattle.heap_pins.proofs.HeldPins.{property_of_first_state, held_image}
 use Rattle.heap_trail.specs.declared.held.Held.{Held}
 use Rattle.heap_trail.specs.declared.held.Held.TheVariants.{Kept, Lost}
 use Rattle.heap_trail.specs.declared.held.NumberedPin.{NumberedPin}
@@ -22,19 +22,19 @@ use Rattle.heap_trail.specs.Past.{HoldsPast, past_state}
 use Rattle.heap_trail.specs.Views.{CanShow, IsViewBeside, IsViewOf, RefusesView, ShowsAgo, view_refusal}
 
 -- a pin that holds a state of the past shows its image
-pub shows_ago : (ids : IdSize) (w : HeapState) (ring : Buffer Undo) (place keep next : ℕ) (slots : List NumberedPin) (n : ℕ) (p : PinContents) → HoldsPast p w ring.items n → ShowsAgo (machine_of ids w ring place keep next slots).trail n p
+pub pin_of_past_shows_ago : (ids : IdSize) (w : HeapState) (ring : Buffer Undo) (place keep next : ℕ) (slots : List NumberedPin) (n : ℕ) (p : PinContents) → HoldsPast p w ring.items n → ShowsAgo (machine_of ids w ring place keep next slots).trail n p
 unfolding state_ago
-shows_ago ids w ring place keep next slots n p h =
+pin_of_past_shows_ago ids w ring place keep next slots n p h =
     let u = past_state w ring.items n in
     let past = past_of w ring.items in
     record {
-      shows = (u, h.pin, first_of (ShowsState p u) n w past h.shows);
+      shows = (u, h.pin, property_of_first_state (ShowsState p u) n w past h.shows);
       image = held_image p u n w past h;
     }
 
-pub can_show : (ids : IdSize) (w : HeapState) (h : Held) → CanGive ids w h → CanShow w h
-can_show ids w (Kept place pin cursor given) c = c.0
-can_show ids w (Lost place cause) c = tt
+pub pin_that_gives_can_show : (ids : IdSize) (w : HeapState) (h : Held) → CanGive ids w h → CanShow w h
+pin_that_gives_can_show ids w (Kept place pin cursor given) c = c.0
+pin_that_gives_can_show ids w (Lost place cause) c = tt
 
 -- the view of a pin that is found shows its image
 view_of : (m : Machine) (pin : ℕ) (h : Held) (v : PinShown) → pin_at pin m.pins ≡ Some (state_of m.trail.current h) → IsViewBeside m.ids m.trail.current h v → IsViewOf m pin v
@@ -51,10 +51,10 @@ lost_view m pin (Kept place p cursor given) e found is = absurd is
 lost_view m pin (Lost place cause) e found is = ap view_refusal found ∙ ap Some (sym is)
 
 -- what the view of a slot says, or its refusal, of the pin with the slot's number
-pub viewed : (m : Machine) (s : NumberedPin) (pin : ℕ) (r : Result PinShown Refusal) → pin_at s.number m.pins ≡ Some (state_of m.trail.current s.held) → s.number ≡ pin → IfOk r (λ v. IsViewBeside m.ids m.trail.current s.held v) → IfErr r (λ e. RefusesView s.held e)
+pub slot_view_is_pin_view : (m : Machine) (s : NumberedPin) (pin : ℕ) (r : Result PinShown Refusal) → pin_at s.number m.pins ≡ Some (state_of m.trail.current s.held) → s.number ≡ pin → IfOk r (λ v. IsViewBeside m.ids m.trail.current s.held v) → IfErr r (λ e. RefusesView s.held e)
     → IfOk r (λ v. IsViewOf m pin v) × IfErr r (λ e. view_refusal (pin_at pin m.pins) ≡ Some e)
-viewed m s pin (Ok v) found named view refused = (subst (λ n. IsViewOf m n v) named (view_of m s.number s.held v found view), tt)
-viewed m s pin (Err e) found named view refused = (tt, subst (λ n. view_refusal (pin_at n m.pins) ≡ Some e) named (lost_view m s.number s.held e found refused))
+slot_view_is_pin_view m s pin (Ok v) found named view refused = (subst (λ n. IsViewOf m n v) named (view_of m s.number s.held v found view), tt)
+slot_view_is_pin_view m s pin (Err e) found named view refused = (tt, subst (λ n. view_refusal (pin_at n m.pins) ≡ Some e) named (lost_view m s.number s.held e found refused))
 
 pub no_view : (m : Machine) (pin : ℕ) → pin_at pin m.pins ≡ None → view_refusal (pin_at pin m.pins) ≡ view_refusal None
 no_view m pin none = ap view_refusal none

@@ -9,16 +9,16 @@ use Rattle.heap_world.specs.MarkSteps.{is_marking}
 use Rattle.heap_world.specs.State.{HeapState}
 use Rattle.heap_world.specs.Reach.{Reaches}
 use Rattle.heap_world.specs.Legal.{IsLegal, IsMarked, Sheltered}
-use Rattle.heap_world.proofs.Clauses.{clauses_of}
+use Rattle.heap_world.proofs.Clauses.{legal_heap_has_clauses}
 use Rattle.heap_world.proofs.CycleFindings.{reached_found, found_marked, found_live}
 use Rattle.heap_world.proofs.Finish.{settled, finish_settles, finish_due}
-use Rattle.heap_world.proofs.Shapes.{NamesLike, like_still}
+use Rattle.heap_world.proofs.Shapes.{NamesLike, names_like_after_kept_shape}
 use Rattle.heap_world.proofs.MarkerEvents.{snap_shape, snap_reaches}
 use Rattle.heap_step.specs.declared.Event.{Event}
 use Rattle.heap_step.specs.declared.Event.TheVariants.{Snap, Finish}
 use Rattle.heap_step.specs.declared.Undo.{Undo}
 use Rattle.heap_step.specs.Apply.{refusal_of, state_after}
-use Rattle.heap_step.proofs.EventLaws.{keeps_legal, stays_found, keeps_shape, has_run}
+use Rattle.heap_step.proofs.EventLaws.{keeps_legal, stays_found, each_event_keeps_shapes, has_run}
 use Rattle.heap_trail.specs.Laws.{AreSteps, FindsSnapshot}
 
 -- the id names a marked or sheltered object, of the kind and the number of words of this one
@@ -26,10 +26,10 @@ abbrev IsFoundLike : HeapState → Object → ℕ → Type 0
 IsFoundLike w o x = (IsMarked w x ⊎ Sheltered w x) × NamesLike w o x
 
 -- while a cycle runs, that stays so
-found_still : (e : Event) (w : HeapState) → IsLegal w → refusal_of e w ≡ None → w.phase ≡ Marking → (state_after e w).phase ≡ Marking → (o : Object) (x : ℕ) → IsFoundLike w o x → IsFoundLike (state_after e w) o x
-found_still e w l accepted before after o x f = (
+found_object_stays_found : (e : Event) (w : HeapState) → IsLegal w → refusal_of e w ≡ None → w.phase ≡ Marking → (state_after e w).phase ≡ Marking → (o : Object) (x : ℕ) → IsFoundLike w o x → IsFoundLike (state_after e w) o x
+found_object_stays_found e w l accepted before after o x f = (
   stays_found e w l accepted before after x f.0,
-  like_still w (state_after e w) x o (keeps_shape e w (clauses_of w l) accepted x (found_live w (clauses_of w l) x f.0)) f.1,
+  names_like_after_kept_shape w (state_after e w) x o (each_event_keeps_shapes e w (legal_heap_has_clauses w l) accepted x (found_live w (legal_heap_has_clauses w l) x f.0)) f.1,
 )
 
 snap_shapes : (w : HeapState) (o : Object) (x : ℕ) → object_of w.regions x ≡ Some o → NamesLike (state_after Snap w) o x
@@ -41,8 +41,8 @@ unfolding state_after
 snap_reached = snap_reaches
 
 -- a cycle begins with all found that the registers reached before it
-begun_found : (e : Event) (w : HeapState) → IsLegal w → refusal_of e w ≡ None → e ≡ Snap → (state_after e w).phase ≡ Marking → (o : Object) (x : ℕ) → Reaches w x → object_of w.regions x ≡ Some o → IsFoundLike (state_after e w) o x
-begun_found e w l accepted is_snap after o x r h = (
+reached_objects_begin_found : (e : Event) (w : HeapState) → IsLegal w → refusal_of e w ≡ None → e ≡ Snap → (state_after e w).phase ≡ Marking → (o : Object) (x : ℕ) → Reaches w x → object_of w.regions x ≡ Some o → IsFoundLike (state_after e w) o x
+reached_objects_begin_found e w l accepted is_snap after o x r h = (
   reached_found (state_after e w) ((keeps_legal e w l accepted).tricolour after) x (subst (λ a. Reaches (state_after a w) x) (sym is_snap) (snap_reached w x r)),
   subst (λ a. NamesLike (state_after a w) o x) (sym is_snap) (snap_shapes w o x h),
 )
@@ -75,8 +75,8 @@ since_snapshot c (v ∷ vs) (r ∷ rs) s running w f x o reached h = subst (λ u
     first idle (inr q) = let c : Idle ≡ Marking = sym idle ∙ q in cc
 
     go : ((v.phase ≡ Idle) × (v ≡ w)) ⊎ ((v.phase ≡ Marking) × (find (λ v. not (is_marking v.phase)) vs ≡ Some w)) → (v.phase ≡ Marking → find (λ v. not (is_marking v.phase)) vs ≡ Some w → IsFoundLike v o x) → IsFoundLike (state_after e v) o x
-    go (inl q) rest = begun_found e v legal s.0.1.accepted (first q.0 (has_run e v after)) after o x (subst (λ u. Reaches u x) (sym q.1) reached) (ap (λ (u : HeapState). object_of u.regions x) q.1 ∙ h)
-    go (inr q) rest = found_still e v legal s.0.1.accepted q.0 after o x (rest q.0 q.1)
+    go (inl q) rest = reached_objects_begin_found e v legal s.0.1.accepted (first q.0 (has_run e v after)) after o x (subst (λ u. Reaches u x) (sym q.1) reached) (ap (λ (u : HeapState). object_of u.regions x) q.1 ∙ h)
+    go (inr q) rest = found_object_stays_found e v legal s.0.1.accepted q.0 after o x (rest q.0 q.1)
 
 -- an accepted finish leaves it, and live
 pub finds_snapshot : (c : HeapState) (past : List HeapState) (records : List Undo) → AreSteps c past records → refusal_of Finish c ≡ None → FindsSnapshot past (state_after Finish c)

@@ -18,17 +18,17 @@ use Rattle.heap_world.proofs.Registers.{names_of}
 use Rattle.heap_step.proofs.Ids.{ids_fit}
 use Rattle.hprof_text.specs.Image.{DumpedObject}
 use Rattle.hprof_text.specs.Fits.{FitsBytes, FitsId, WordsFit, ShowsWhole}
-use Rattle.hprof_text.proofs.Fits.{fits_id, numbers_fit}
+use Rattle.hprof_text.proofs.Fits.{small_number_fits_id, numbers_fit}
 use Rattle.heap_trail.specs.Laws.{DumpIsWhole}
 use Rattle.heap_pins.specs.Images.{dumped_objects, image_of}
 use Rattle.heap_pins.proofs.LiveCounts.{Stands, live_stand}
-use Rattle.heap_pins.proofs.DumpLimits.{dumpable}
+use Rattle.heap_pins.proofs.DumpLimits.{legal_heap_is_dumpable}
 
 -- ---- words
 
 -- a value within its kind's limit, and a reference below 2^32
 word_fits : (ids : IdSize) (k : Kind) (w : ℕ) → (k ≢ Kind.Object → w < value_limit k) → (k ≡ Kind.Object → w < 2 ^ 32) → FitsBytes (width_of ids k) w
-word_fits ids Kind.Object w v r = fits_id ids w (r refl)
+word_fits ids Kind.Object w v r = small_number_fits_id ids w (r refl)
 word_fits ids Boolean w v r = let h : w < 2 = v (λ e. cc) in omega (arith, h)
 word_fits ids Char w v r = v (λ e. cc)
 word_fits ids Float w v r = v (λ e. cc)
@@ -58,8 +58,8 @@ words_fit ids (k ∷ ks) (w ∷ ws) v r =
 abbrev StandsLive : HeapState → ObjRef × Object → Type 0
 StandsLive w p = Stands w.regions p × (p.1.live ≡ true)
 
-all_both : {X : Type 0} (P Q : X → Type 0) (xs : List X) → All P xs → All Q xs → All (λ x. P x × Q x) xs
-all_both P Q xs p q k d l = (p k d l, q k d l)
+all_have_both_properties : {X : Type 0} (P Q : X → Type 0) (xs : List X) → All P xs → All Q xs → All (λ x. P x × Q x) xs
+all_have_both_properties P Q xs p q k d l = (p k d l, q k d l)
 
 live_passes : (w : HeapState) → All (λ (p : ObjRef × Object). p.1.live ≡ true) (live_objects w.regions)
 unfolding live_objects
@@ -67,10 +67,10 @@ live_passes w = filter_passes (λ (p : ObjRef × Object). p.1.live) (objects_in 
 
 module _ (ids : IdSize) (w : HeapState) (legal : IsLegal w) where
   all_live : All (StandsLive w) (live_objects w.regions)
-  all_live = all_both (Stands w.regions) (λ (p : ObjRef × Object). p.1.live ≡ true) (live_objects w.regions) (live_stand w.regions) (live_passes w)
+  all_live = all_have_both_properties (Stands w.regions) (λ (p : ObjRef × Object). p.1.live ≡ true) (live_objects w.regions) (live_stand w.regions) (live_passes w)
 
   id_fits : (at : ObjRef) (o : Object) → Stands w.regions (at, o) → FitsId ids (id_of w.regions at)
-  id_fits at o there = fits_id ids _ ((ids_fit w legal).objects (id_of w.regions at) (ap is_some (object_named w legal at o there)))
+  id_fits at o there = small_number_fits_id ids _ ((ids_fit w legal).objects (id_of w.regions at) (ap is_some (object_named w legal at o there)))
 
   reference_small : (at : ObjRef) (o : Object) → StandsLive w (at, o) → (i y : ℕ) → slice_get (slot_kinds w.classes o) i ≡ Some Kind.Object → slice_get o.words i ≡ Some y → y < 2 ^ 32
   reference_small at o s i y kind word = go (cases_eq y 0)
@@ -98,8 +98,8 @@ module _ (ids : IdSize) (w : HeapState) (legal : IsLegal w) where
     objects = All-map (λ (o : DumpedObject). FitsId ids o.id) shown (live_objects w.regions) (All-weaker (StandsLive w) (λ p. FitsId ids (id_of w.regions p.0)) (λ p s. id_fits p.0 p.1 s.0) (live_objects w.regions) all_live);
     words = All-map (λ (o : DumpedObject). WordsFit ids (slot_kinds_of w.classes o.kind (length o.words)) o.words) shown (live_objects w.regions)
         (All-weaker (StandsLive w) (λ p. WordsFit ids (slot_kinds_of w.classes p.1.kind (length p.1.words)) p.1.words) (λ p s. object_fits p.0 p.1 s) (live_objects w.regions) all_live);
-    registers = All-weaker (Contains w.registers) (FitsId ids) (λ x there. fits_id ids x ((ids_fit w legal).registers x there)) w.registers (All-contains_itself w.registers);
+    registers = All-weaker (Contains w.registers) (FitsId ids) (λ x there. small_number_fits_id ids x ((ids_fit w legal).registers x there)) w.registers (All-contains_itself w.registers);
   }
 
 pub dump_is_whole : (ids : IdSize) (w : HeapState) (time : ℕ) → DumpIsWhole ids w time
-dump_is_whole ids w time legal h = (numbers_fit ids (image_of w) (dumpable w legal) time h, shows_whole ids w legal)
+dump_is_whole ids w time legal h = (numbers_fit ids (image_of w) (legal_heap_is_dumpable w legal) time h, shows_whole ids w legal)

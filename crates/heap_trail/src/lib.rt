@@ -117,20 +117,17 @@ impl Model for Machine {
         m.pins.items (vec_capacity m.pins) };
 }
 
-// Has each pin keep what the step that left this record and led to this state overwrote. A pin is lost if memory for it can't
-// be allocated.
-fn keep_each(pins: &mut [NumberedPin], world: &World, left: &Undo)
-    requires step { (e : Event) × (before : HeapState) × IsStep e before world.now left.now }
+// Does what `keep_and_add` does. If each pin is settled the record goes to the ring at once.
+#[inline(always)]
+fn remember(pins: &mut [NumberedPin], world: &World, records: &mut RecordRing, left: Undo)
+    requires step { (e : Event) × (before : HeapState) × IsStep e before world.now left }
     requires sized { EachSized (length world.now.regions) pins.old }
-    ensures { EachMayKeep left.now world.now pins.old pins.new }
+    ensures { IsRemembered left world.now pins.old pins.new records.old records.new }
 {
-    match touched_region(left) {
-        Some(region) => {
-            for i in 0..pins.len() {
-                pins[i].keep(world, left, region);
-            }
-        }
-        None => {}
+    if are_settled(pins, world, &left) {
+        records.push_front(left);
+    } else {
+        keep_and_add(pins, world, records, left);
     }
 }
 
@@ -165,17 +162,20 @@ fn keep_and_add(pins: &mut [NumberedPin], world: &World, records: &mut RecordRin
     records.push_front(left);
 }
 
-// Does what `keep_and_add` does. If each pin is settled the record goes to the ring at once.
-#[inline(always)]
-fn remember(pins: &mut [NumberedPin], world: &World, records: &mut RecordRing, left: Undo)
-    requires step { (e : Event) × (before : HeapState) × IsStep e before world.now left }
+// Has each pin keep what the step that left this record and led to this state overwrote. A pin is lost if memory for it can't
+// be allocated.
+fn keep_each(pins: &mut [NumberedPin], world: &World, left: &Undo)
+    requires step { (e : Event) × (before : HeapState) × IsStep e before world.now left.now }
     requires sized { EachSized (length world.now.regions) pins.old }
-    ensures { IsRemembered left world.now pins.old pins.new records.old records.new }
+    ensures { EachMayKeep left.now world.now pins.old pins.new }
 {
-    if are_settled(pins, world, &left) {
-        records.push_front(left);
-    } else {
-        keep_and_add(pins, world, records, left);
+    match touched_region(left) {
+        Some(region) => {
+            for i in 0..pins.len() {
+                pins[i].keep(world, left, region);
+            }
+        }
+        None => {}
     }
 }
 

@@ -84,39 +84,20 @@ pub enum Stage {
     Finish,
 }
 
-// Returns the event of a stage.
-fn event_of_stage(stage: Stage) -> Event
-    ensures { result ≡ event_of stage }
+/// Begins a cycle, and marks until it is finished, in at most `turns` acts: Snap, then Mark; Drain if nothing is left to mark,
+/// Finish if nothing is left to drain, and Mark again after any other answer. Passes the gate before each act, without the lock,
+/// and ends if it lets none begin. May wait.
+pub fn mark_worker<L: Heap, R: Wait, G: Gate>(
+    shared: &Shared<L>,
+    rt: &R,
+    seat: &mut Seat<L>,
+    gate: &mut G,
+    turns: u64,
+) -> MarkEnd
+    requires { seat.old.role ≡ Marker }
+    ensures { IsMarkRun Snap L.config G.says gate.old gate.new seat.old seat.new turns result }
 {
-    match stage {
-        Stage::Snap => Event::Snap,
-        Stage::Mark => Event::Mark,
-        Stage::Drain => Event::Drain,
-        Stage::Finish => Event::Finish,
-    }
-}
-
-// Returns the stage that follows an answer.
-fn next(answer: Outcome) -> Stage
-    ensures { result ≡ stage_after answer }
-{
-    match answer {
-        Outcome::Refused(Refusal::NothingToMark) => Stage::Drain,
-        Outcome::Refused(Refusal::NothingToDrain) => Stage::Finish,
-        _ => Stage::Mark,
-    }
-}
-
-// Returns how the worker ends after this receipt, or None if it goes on.
-fn end_of_receipt(receipt: Receipt) -> Option<MarkEnd>
-    ensures { result ≡ mark_end_of receipt }
-{
-    match receipt.answer {
-        Outcome::Answered(Answer::Condemned(_)) => Some(MarkEnd::Finished(receipt)),
-        Outcome::Refused(Refusal::NotMarking) => Some(MarkEnd::NotMarking(receipt)),
-        Outcome::Refused(Refusal::SweepPending { .. }) => Some(MarkEnd::Pending(receipt)),
-        _ => None,
-    }
+    mark_from(shared, rt, seat, gate, turns, Stage::Snap)
 }
 
 // Does acts from this stage on until the cycle is finished, as `mark_worker` says.
@@ -151,20 +132,39 @@ fn mark_from<L: Heap, R: Wait, G: Gate>(
     MarkEnd::TurnsOver
 }
 
-/// Begins a cycle, and marks until it is finished, in at most `turns` acts: Snap, then Mark; Drain if nothing is left to mark,
-/// Finish if nothing is left to drain, and Mark again after any other answer. Passes the gate before each act, without the lock,
-/// and ends if it lets none begin. May wait.
-pub fn mark_worker<L: Heap, R: Wait, G: Gate>(
-    shared: &Shared<L>,
-    rt: &R,
-    seat: &mut Seat<L>,
-    gate: &mut G,
-    turns: u64,
-) -> MarkEnd
-    requires { seat.old.role ≡ Marker }
-    ensures { IsMarkRun Snap L.config G.says gate.old gate.new seat.old seat.new turns result }
+// Returns the event of a stage.
+fn event_of_stage(stage: Stage) -> Event
+    ensures { result ≡ event_of stage }
 {
-    mark_from(shared, rt, seat, gate, turns, Stage::Snap)
+    match stage {
+        Stage::Snap => Event::Snap,
+        Stage::Mark => Event::Mark,
+        Stage::Drain => Event::Drain,
+        Stage::Finish => Event::Finish,
+    }
+}
+
+// Returns how the worker ends after this receipt, or None if it goes on.
+fn end_of_receipt(receipt: Receipt) -> Option<MarkEnd>
+    ensures { result ≡ mark_end_of receipt }
+{
+    match receipt.answer {
+        Outcome::Answered(Answer::Condemned(_)) => Some(MarkEnd::Finished(receipt)),
+        Outcome::Refused(Refusal::NotMarking) => Some(MarkEnd::NotMarking(receipt)),
+        Outcome::Refused(Refusal::SweepPending { .. }) => Some(MarkEnd::Pending(receipt)),
+        _ => None,
+    }
+}
+
+// Returns the stage that follows an answer.
+fn next(answer: Outcome) -> Stage
+    ensures { result ≡ stage_after answer }
+{
+    match answer {
+        Outcome::Refused(Refusal::NothingToMark) => Stage::Drain,
+        Outcome::Refused(Refusal::NothingToDrain) => Stage::Finish,
+        _ => Stage::Mark,
+    }
 }
 
 /// Goes on with the cycle that runs until it is finished, as `mark_worker` does from its Mark on, and begins none: if no cycle runs,

@@ -5,14 +5,14 @@ use Rattle.heap_class.specs.declared.Refusal.{Refusal}
 use Rattle.heap_class.specs.Refusals.{first_refusal}
 
 -- a test that holds, and one that doesn't
-pub here : (b : Bool) (e : Refusal) (ts : List (Bool × Refusal)) → b ≡ true → first_refusal ((b, e) ∷ ts) ≡ Some e
+pub refusal_of_test_that_holds : (b : Bool) (e : Refusal) (ts : List (Bool × Refusal)) → b ≡ true → first_refusal ((b, e) ∷ ts) ≡ Some e
 unfolding first_refusal
-here b e ts h = ap (λ t. cond t (Some e) (first_refusal ts)) h
+refusal_of_test_that_holds b e ts h = ap (λ t. cond t (Some e) (first_refusal ts)) h
 
-pub later : (b : Bool) (e : Refusal) (ts : List (Bool × Refusal)) (x : Option Refusal) → b ≡ false → first_refusal ts ≡ x → first_refusal ((b, e) ∷ ts) ≡ x
+pub refusal_of_later_tests : (b : Bool) (e : Refusal) (ts : List (Bool × Refusal)) (x : Option Refusal) → b ≡ false → first_refusal ts ≡ x → first_refusal ((b, e) ∷ ts) ≡ x
 unfolding first_refusal
-later b e ts x h r = ap (λ t. cond t (Some e) (first_refusal ts)) h ∙ r
+refusal_of_later_tests b e ts x h r = ap (λ t. cond t (Some e) (first_refusal ts)) h ∙ r
 
-pub none_left : first_refusal [] ≡ None
+pub no_refusal_without_tests : first_refusal [] ≡ None
 unfolding first_refusal
-none_left = refl
+no_refusal_without_tests = refl

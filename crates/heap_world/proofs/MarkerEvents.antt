@@ -5,10 +5,10 @@ use Rattle.std.specs.Prelude.{slice_index, nat_eq, nat_lt, ◌==◌, OnOk, OnErr
 use Rattle.std.specs.List.{IsDistinct}
 use Rattle.std.proofs.Math.Seq.{drop-cons}
 use Rattle.std.proofs.lemmas.List.Elements.{Contains-get_or}
-use Rattle.heap_class.proofs.Refusals.{none_holds}
+use Rattle.heap_class.proofs.Refusals.{no_refusal_test_holds}
 use Rattle.heap_region.specs.Regions.{Object, object_of, Region}
-use Rattle.heap_region.proofs.ChangedLookups.{place_found}
-use Rattle.heap_region.proofs.References.{member_head, member_tail, member_cases, member_none}
+use Rattle.heap_region.proofs.ChangedLookups.{place_of_object_of_id}
+use Rattle.heap_region.proofs.References.{list_has_its_head, list_has_items_of_tail, member_is_head_or_later, empty_list_has_no_member}
 use Rattle.heap_mark.specs.declared.Phase.{Phase}
 use Rattle.heap_mark.specs.declared.Phase.TheVariants.{Idle, Marking}
 use Rattle.heap_mark.specs.MarkSteps.{MarkState, shaded, children_of, snapped, marked, drained_once, snap_refusal, mark_refusal, drain_refusal, with_mark_of, unsnapped, unshaded, unmarked, undrained}
@@ -16,7 +16,7 @@ use Rattle.heap_mark.proofs.Shades.{Shades, IsShadedAt, as_marked, shades_all, c
 use Rattle.heap_world.specs.State.{HeapState, marking_of, with_marking, pool_of, with_pool}
 use Rattle.heap_world.specs.Reach.{Names, IsPath, IsObject, Reaches}
 use Rattle.heap_world.specs.Legal.{IsQuiet, IsMarked, IsLive, IsLegal}
-use Rattle.heap_world.proofs.Clauses.{HasClauses, clauses_of}
+use Rattle.heap_world.proofs.Clauses.{HasClauses, legal_heap_has_clauses}
 use Rattle.heap_world.specs.Events.{after_snap, after_mark, after_drain}
 use Rattle.heap_world.proofs.Tricolour.{Greys, greys_tricolour}
 use Rattle.heap_world.proofs.Registers.{object_not_null}
@@ -26,7 +26,7 @@ use Rattle.heap_class.specs.declared.Refusal.{Refusal}
 use Rattle.heap_class.specs.Refusals.{IsAnswered}
 use Rattle.heap_mark.specs.Marker.{MarkerState, at_work, after_work, IsGraySound, IsIdle}
 use Rattle.heap_world.specs.HeapParts.{IsSoundHeap}
-use Rattle.heap_world.proofs.MarkerParts.{marker_of, with_marker, worked, work_held, step_held, step_made}
+use Rattle.heap_world.proofs.MarkerParts.{marker_of, with_marker, parts_after_marker_work, work_held, marker_step_keeps_heap_sound, marker_step_makes_state}
 use Rattle.heap_world.proofs.Shapes.{NamesLike, KeepsShape}
 
 -- ---- what shading leaves
@@ -66,10 +66,10 @@ snap_legal w l accepted = shaded_legal w w.registers w.gray w.drained l (λ x c.
     h = shades_all w.registers (begun w w.gray w.drained Marking)
 
     quiet : IsQuiet w
-    quiet = l.idle (idle_is w.phase (none_holds _ accepted).0)
+    quiet = l.idle (idle_is w.phase (no_refusal_test_holds _ accepted).0)
 
     unmarked : (x : ℕ) → IsMarked w x → ⊥
-    unmarked x m = let p = place_found w.regions x m.0 m.1 in let a : m.0.mark ≡ false = quiet.unmarked p.0 m.0 p.2 in let b = m.2 in cc
+    unmarked x m = let p = place_of_object_of_id w.regions x m.0 m.1 in let a : m.0.mark ≡ false = quiet.unmarked p.0 m.0 p.2 in let b = m.2 in cc
 
     live : (x : ℕ) (o : Object) → Contains w.registers x → object_of w.regions x ≡ Some o → o.live ≡ true
     live x o c e = let a = l.registers_live x c (object_not_null w x o e) in let q : o ≡ a.0 = (let r = a.1 in cc) in ap (λ (z : Object). z.live) q ∙ a.2
@@ -86,12 +86,12 @@ pub snap_held : (w : HeapState) (room : ℕ) (k : MarkerState) (s : RegionPool) 
     → OnOk result (k ≡ after_work (snapped w.registers (marking_of w)) (marker_of w room)) → OnOk result (s ≡ record (pool_of w) { regions = (snapped w.registers (marking_of w)).regions })
     → OnErr result ((k ≡ marker_of w room) × (s ≡ pool_of w)) → IsSoundHeap (with_marker k (with_pool s w)) k.room
 unfolding after_snap
-snap_held w room k s result h = step_held w room (snap_refusal (marking_of w)) (snapped w.registers (marking_of w)) k s result h (snap_legal w (clauses_of w h.legal)) (length_snapped w.registers (marking_of w))
+snap_held w room k s result h = marker_step_keeps_heap_sound w room (snap_refusal (marking_of w)) (snapped w.registers (marking_of w)) k s result h (snap_legal w (legal_heap_has_clauses w h.legal)) (length_snapped w.registers (marking_of w))
 
 pub snap_made : (w v : HeapState) (room : ℕ) (k : MarkerState) (s : RegionPool) (result : Result ℕ Refusal) → w ≡ v → OnOk result (k ≡ after_work (snapped w.registers (marking_of w)) (marker_of w room))
     → OnOk result (s ≡ record (pool_of w) { regions = (snapped w.registers (marking_of w)).regions }) → OnOk result (with_marker k (with_pool s w) ≡ after_snap v)
 unfolding after_snap
-snap_made w v room k s result = step_made w v room (λ u. snapped u.registers (marking_of u)) k s result
+snap_made w v room k s result = marker_step_makes_state w v room (λ u. snapped u.registers (marking_of u)) k s result
 
 -- ---- what a snap leaves reached
 
@@ -125,22 +125,22 @@ unfolding snap_refusal
 before_snap v p = record { phase = idle; gray = quiet.gray; unmarked = quiet.unmarked }
   where
     idle : p.0.phase ≡ Idle
-    idle = idle_is p.0.phase (none_holds _ p.2).0
+    idle = idle_is p.0.phase (no_refusal_test_holds _ p.2).0
 
     quiet : IsQuiet p.0
     quiet = p.1.idle idle
 
-after_that : (w v : HeapState) → w ≡ v → (p : IsSnapped v) → marking_of w ≡ snapped p.0.registers (marking_of p.0)
+marking_after_snap : (w v : HeapState) → w ≡ v → (p : IsSnapped v) → marking_of w ≡ snapped p.0.registers (marking_of p.0)
 unfolding after_snap
-after_that w v same p = ap (λ (u : HeapState). marking_of u) (same ∙ p.3)
+marking_after_snap w v same p = ap (λ (u : HeapState). marking_of u) (same ∙ p.3)
 
 pub snapped_by : (w v : HeapState) → w ≡ v → IsSnapped v → (before : MarkState) × (roots : List ℕ) × IsIdle before × (marking_of w ≡ snapped roots before)
-snapped_by w v same p = (marking_of p.0, p.0.registers, before_snap v p, after_that w v same p)
+snapped_by w v same p = (marking_of p.0, p.0.registers, before_snap v p, marking_after_snap w v same p)
 
 -- the heap before a snap, by the marker's state before it
-before_is : (w v : HeapState) → w ≡ v → (p : IsSnapped v) → with_marking (marking_of p.0) w ≡ p.0
+heap_before_snap_by_marking : (w v : HeapState) → w ≡ v → (p : IsSnapped v) → with_marking (marking_of p.0) w ≡ p.0
 unfolding after_snap
-before_is w v same p = ap (with_marking (marking_of p.0)) (same ∙ p.3)
+heap_before_snap_by_marking w v same p = ap (with_marking (marking_of p.0)) (same ∙ p.3)
 
 -- wherever a snap led from s to w, s is what it came from
 abbrev pub IsUnsnapped : HeapState → MarkerState → RegionPool → Type 0
@@ -148,13 +148,13 @@ IsUnsnapped w k s = (before : MarkState) (roots : List ℕ) → IsIdle before �
 
 unsnapped_is : (w v : HeapState) (room : ℕ) (k : MarkerState) (s : RegionPool) → w ≡ v → (p : IsSnapped v) → k ≡ after_work (unsnapped (marking_of w)) (marker_of w room)
     → s ≡ record (pool_of w) { regions = (unsnapped (marking_of w)).regions } → IsUnsnapped w k s → unsnapped (marking_of w) ≡ marking_of p.0
-unsnapped_is w v room k s same p e f back = sym (λ i. at_work (f i).regions (e i)) ∙ back (marking_of p.0) p.0.registers (before_snap v p) (after_that w v same p)
+unsnapped_is w v room k s same p e f back = sym (λ i. at_work (f i).regions (e i)) ∙ back (marking_of p.0) p.0.registers (before_snap v p) (marking_after_snap w v same p)
 
 pub unsnap_held : (w v : HeapState) (room : ℕ) (k : MarkerState) (s : RegionPool) → IsSoundHeap w room → w ≡ v → IsSnapped v → k ≡ after_work (unsnapped (marking_of w)) (marker_of w room)
     → s ≡ record (pool_of w) { regions = (unsnapped (marking_of w)).regions } → IsUnsnapped w k s → IsSoundHeap (with_marker k (with_pool s w)) k.room
 unsnap_held w v room k s h same p e f back = work_held w room (unsnapped (marking_of w)) k s h
-    (subst IsLegal (sym (ap (λ (t : MarkState). with_marking t w) undone ∙ before_is w v same p)) p.1)
-    (ap (λ (t : MarkState). length t.regions) undone ∙ sym (length_snapped p.0.registers (marking_of p.0)) ∙ sym (ap (λ (t : MarkState). length t.regions) (after_that w v same p)))
+    (subst IsLegal (sym (ap (λ (t : MarkState). with_marking t w) undone ∙ heap_before_snap_by_marking w v same p)) p.1)
+    (ap (λ (t : MarkState). length t.regions) undone ∙ sym (length_snapped p.0.registers (marking_of p.0)) ∙ sym (ap (λ (t : MarkState). length t.regions) (marking_after_snap w v same p)))
     e f
   where
     undone : unsnapped (marking_of w) ≡ marking_of p.0
@@ -164,26 +164,26 @@ unsnap_held w v room k s h same p e f back = work_held w room (unsnapped (markin
 pub unsnap_back : (w v : HeapState) (room : ℕ) (k : MarkerState) (s : RegionPool) → w ≡ v → k ≡ after_work (unsnapped (marking_of w)) (marker_of w room)
     → s ≡ record (pool_of w) { regions = (unsnapped (marking_of w)).regions } → IsUnsnapped w k s → (p : IsSnapped v) → with_marker k (with_pool s w) ≡ p.0
 unsnap_back w v room k s same e f back p =
-    worked w room (unsnapped (marking_of w)) k s e f ∙ ap (λ (t : MarkState). with_marking t w) (unsnapped_is w v room k s same p e f back) ∙ before_is w v same p
+    parts_after_marker_work w room (unsnapped (marking_of w)) k s e f ∙ ap (λ (t : MarkState). with_marking t w) (unsnapped_is w v room k s same p e f back) ∙ heap_before_snap_by_marking w v same p
 
 -- ---- mark
 
 top_or_rest : (gray : List ℕ) (x : ℕ) → (length gray == 0) ≡ false → Contains gray x → (x ≡ slice_index gray 0) ⊎ Contains (drop 1 gray) x
 top_or_rest [] x h c = cc
-top_or_rest (y ∷ ys) x h c = member_cases y ys x c
+top_or_rest (y ∷ ys) x h c = member_is_head_or_later y ys x c
 
-rest_within : (gray : List ℕ) (x : ℕ) → Contains (drop 1 gray) x → Contains gray x
-rest_within [] x c = c
-rest_within (y ∷ ys) x c = member_tail y ys x c
+rest_of_gray_is_gray : (gray : List ℕ) (x : ℕ) → Contains (drop 1 gray) x → Contains gray x
+rest_of_gray_is_gray [] x c = c
+rest_of_gray_is_gray (y ∷ ys) x c = list_has_items_of_tail y ys x c
 
 top_within : (gray : List ℕ) → (length gray == 0) ≡ false → Contains gray (slice_index gray 0)
 top_within [] h = cc
-top_within (y ∷ ys) h = member_head y ys
+top_within (y ∷ ys) h = list_has_its_head y ys
 
-rest_distinct : (gray : List ℕ) → IsDistinct nat_eq gray → IsDistinct nat_eq (drop 1 gray)
+rest_of_gray_is_distinct : (gray : List ℕ) → IsDistinct nat_eq gray → IsDistinct nat_eq (drop 1 gray)
 unfolding IsDistinct
-rest_distinct [] d = d
-rest_distinct (y ∷ ys) d = d.1
+rest_of_gray_is_distinct [] d = d
+rest_of_gray_is_distinct (y ∷ ys) d = d.1
 
 pub mark_greys : (w : HeapState) → (length w.gray == 0) ≡ false → Greys w (shaded_heap w (drop 1 w.gray) w.drained Marking (children_of w.classes w.regions (slice_index w.gray 0)))
 mark_greys w some = greys_of_shades w (fold shaded (begun w (drop 1 w.gray) w.drained Marking) xs) xs (drop 1 w.gray) w.drained Marking (shades_all xs (begun w (drop 1 w.gray) w.drained Marking))
@@ -197,22 +197,22 @@ is_object_live : (w : HeapState) (x : ℕ) (o : Object) → IsLive w x → objec
 is_object_live w x o a e = let q : o ≡ a.0 = (let r = a.1 in cc) in ap (λ (z : Object). z.live) q ∙ a.2
 
 -- where the phase is Marking, the states with it written and as it is are one
-pub mark_state : (w : HeapState) → w.phase ≡ Marking → shaded_heap w (drop 1 w.gray) w.drained Marking (children_of w.classes w.regions (slice_index w.gray 0)) ≡ after_mark w
+pub shaded_heap_is_after_mark : (w : HeapState) → w.phase ≡ Marking → shaded_heap w (drop 1 w.gray) w.drained Marking (children_of w.classes w.regions (slice_index w.gray 0)) ≡ after_mark w
 unfolding after_mark marked
-mark_state w e = λ i. shaded_heap w (drop 1 w.gray) w.drained (sym e i) (children_of w.classes w.regions (slice_index w.gray 0))
+shaded_heap_is_after_mark w e = λ i. shaded_heap w (drop 1 w.gray) w.drained (sym e i) (children_of w.classes w.regions (slice_index w.gray 0))
 
-pub mark_legal : (w : HeapState) → HasClauses w → mark_refusal (marking_of w) ≡ None → HasClauses (after_mark w)
+pub clauses_after_mark : (w : HeapState) → HasClauses w → mark_refusal (marking_of w) ≡ None → HasClauses (after_mark w)
 unfolding mark_refusal
-mark_legal w l accepted = subst HasClauses (mark_state w phase)
-    (shaded_legal w (children_of w.classes w.regions (slice_index w.gray 0)) (drop 1 w.gray) w.drained l (rest_within w.gray) (rest_distinct w.gray l.gray_distinct) l.drained_within
+clauses_after_mark w l accepted = subst HasClauses (shaded_heap_is_after_mark w phase)
+    (shaded_legal w (children_of w.classes w.regions (slice_index w.gray 0)) (drop 1 w.gray) w.drained l (rest_of_gray_is_gray w.gray) (rest_of_gray_is_distinct w.gray l.gray_distinct) l.drained_within
     (λ x o c e. is_object_live w x o (l.slots_live (slice_index w.gray 0) x (l.gray_live (slice_index w.gray 0) (top_within w.gray some)) c) e)
     (greys_tricolour w _ (mark_greys w some) (l.tricolour phase)))
   where
     some : (length w.gray == 0) ≡ false
-    some = (none_holds _ accepted).1.0
+    some = (no_refusal_test_holds _ accepted).1.0
 
     phase : w.phase ≡ Marking
-    phase = marking_is w.phase (none_holds _ accepted).0
+    phase = marking_is w.phase (no_refusal_test_holds _ accepted).0
 
 pub mark_phase : (w : HeapState) → (after_mark w).phase ≡ w.phase
 unfolding after_mark marked
@@ -226,13 +226,13 @@ pub mark_held : {A : Type 0} (w : HeapState) (room : ℕ) (k : MarkerState) (s :
     → OnOk result (k ≡ after_work (marked w.classes (marking_of w)) (marker_of w room)) → OnOk result (s ≡ record (pool_of w) { regions = (marked w.classes (marking_of w)).regions })
     → OnErr result ((k ≡ marker_of w room) × (s ≡ pool_of w)) → IsSoundHeap (with_marker k (with_pool s w)) k.room
 unfolding after_mark marked
-mark_held w room k s result h = step_held w room (mark_refusal (marking_of w)) (marked w.classes (marking_of w)) k s result h (mark_legal w (clauses_of w h.legal))
+mark_held w room k s result h = marker_step_keeps_heap_sound w room (mark_refusal (marking_of w)) (marked w.classes (marking_of w)) k s result h (clauses_after_mark w (legal_heap_has_clauses w h.legal))
     (shades_all (children_of w.classes w.regions (slice_index w.gray 0)) (record (marking_of w) { gray = drop 1 w.gray })).count
 
 pub mark_made : {A : Type 0} (w v : HeapState) (room : ℕ) (k : MarkerState) (s : RegionPool) (result : Result A Refusal) → w ≡ v → OnOk result (k ≡ after_work (marked w.classes (marking_of w)) (marker_of w room))
     → OnOk result (s ≡ record (pool_of w) { regions = (marked w.classes (marking_of w)).regions }) → OnOk result (with_marker k (with_pool s w) ≡ after_mark v)
 unfolding after_mark
-mark_made w v room k s result = step_made w v room (λ u. marked u.classes (marking_of u)) k s result
+mark_made w v room k s result = marker_step_makes_state w v room (λ u. marked u.classes (marking_of u)) k s result
 
 length_unmarked : (parent pushed : ℕ) (s : MarkState) → length (unmarked parent pushed s).regions ≡ length s.regions
 unfolding unmarked unshaded
@@ -254,8 +254,8 @@ unmark_held w v room parent pushed k s h same l = work_held w room (unmarked par
 -- ---- drain
 
 next_or_rest : (log : List ℕ) (d x : ℕ) → d < length log → Contains (drop d log) x → Contains (slice_index log d ∷ []) x ⊎ Contains (drop (d + 1) log) x
-next_or_rest log d x h c = elim (member_cases (get_or log d 0) (drop (suc d) log) x (subst (λ k. Contains k x) (drop-cons log d 0 h) c)) [
-  | inl e ↦ inl (subst (Contains (get_or log d 0 ∷ [])) (sym e) (member_head (get_or log d 0) []))
+next_or_rest log d x h c = elim (member_is_head_or_later (get_or log d 0) (drop (suc d) log) x (subst (λ k. Contains k x) (drop-cons log d 0 h) c)) [
+  | inl e ↦ inl (subst (Contains (get_or log d 0 ∷ [])) (sym e) (list_has_its_head (get_or log d 0) []))
   | inr r ↦ inr (subst (λ n. Contains (drop n log) x) next r)
 ]
   where
@@ -274,21 +274,21 @@ pub drain_state : (w : HeapState) → w.phase ≡ Marking → shaded_heap w w.gr
 unfolding after_drain drained_once
 drain_state w e = λ i. shaded_heap w w.gray (w.drained + 1) (sym e i) (slice_index w.log w.drained ∷ [])
 
-pub is_below : (a b : ℕ) → not (nat_lt a b) ≡ false → a < b
-is_below a b h = grind arith
+pub not_refused_means_below : (a b : ℕ) → not (nat_lt a b) ≡ false → a < b
+not_refused_means_below a b h = grind arith
 
-pub drain_legal : (w : HeapState) → HasClauses w → drain_refusal (marking_of w) ≡ None → HasClauses (after_drain w)
+pub clauses_after_drain : (w : HeapState) → HasClauses w → drain_refusal (marking_of w) ≡ None → HasClauses (after_drain w)
 unfolding drain_refusal
-drain_legal w l accepted = subst HasClauses (drain_state w phase)
+clauses_after_drain w l accepted = subst HasClauses (drain_state w phase)
     (shaded_legal w (slice_index w.log w.drained ∷ []) w.gray (w.drained + 1) l (λ x c. c) l.gray_distinct (omega (arith, some))
-    (λ x o c e. is_object_live w x o (l.log_live x (elim (member_cases (slice_index w.log w.drained) [] x c) [ inl p ↦ subst (Contains w.log) (sym p) (Contains-get_or w.log w.drained 0 some) | inr q ↦ absurd (member_none x q) ])) e)
+    (λ x o c e. is_object_live w x o (l.log_live x (elim (member_is_head_or_later (slice_index w.log w.drained) [] x c) [ inl p ↦ subst (Contains w.log) (sym p) (Contains-get_or w.log w.drained 0 some) | inr q ↦ absurd (empty_list_has_no_member x q) ])) e)
     (greys_tricolour w _ (drain_greys w some) (l.tricolour phase)))
   where
     some : w.drained < length w.log
-    some = is_below w.drained (length w.log) (none_holds _ accepted).1.0
+    some = not_refused_means_below w.drained (length w.log) (no_refusal_test_holds _ accepted).1.0
 
     phase : w.phase ≡ Marking
-    phase = marking_is w.phase (none_holds _ accepted).0
+    phase = marking_is w.phase (no_refusal_test_holds _ accepted).0
 
 pub drain_phase : (w : HeapState) → (after_drain w).phase ≡ w.phase
 unfolding after_drain drained_once
@@ -302,13 +302,13 @@ pub drain_held : (w : HeapState) (room : ℕ) (k : MarkerState) (s : RegionPool)
     → OnOk result (k ≡ after_work (drained_once (marking_of w)) (marker_of w room)) → OnOk result (s ≡ record (pool_of w) { regions = (drained_once (marking_of w)).regions })
     → OnErr result ((k ≡ marker_of w room) × (s ≡ pool_of w)) → IsSoundHeap (with_marker k (with_pool s w)) k.room
 unfolding after_drain drained_once
-drain_held w room k s result h = step_held w room (drain_refusal (marking_of w)) (drained_once (marking_of w)) k s result h (drain_legal w (clauses_of w h.legal))
+drain_held w room k s result h = marker_step_keeps_heap_sound w room (drain_refusal (marking_of w)) (drained_once (marking_of w)) k s result h (clauses_after_drain w (legal_heap_has_clauses w h.legal))
     (shades_one (record (marking_of w) { drained = w.drained + 1 }) (slice_index w.log w.drained)).count
 
 pub drain_made : (w v : HeapState) (room : ℕ) (k : MarkerState) (s : RegionPool) (result : Result ℕ Refusal) → w ≡ v → OnOk result (k ≡ after_work (drained_once (marking_of w)) (marker_of w room))
     → OnOk result (s ≡ record (pool_of w) { regions = (drained_once (marking_of w)).regions }) → OnOk result (with_marker k (with_pool s w) ≡ after_drain v)
 unfolding after_drain
-drain_made w v room k s result = step_made w v room (λ u. drained_once (marking_of u)) k s result
+drain_made w v room k s result = marker_step_makes_state w v room (λ u. drained_once (marking_of u)) k s result
 
 length_undrained : (pushed : ℕ) (s : MarkState) → length (undrained pushed s).regions ≡ length s.regions
 unfolding undrained unshaded

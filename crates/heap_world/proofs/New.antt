@@ -8,7 +8,7 @@ use Rattle.std.proofs.lemmas.Bool.{eqb-true}
 use Rattle.std.proofs.lemmas.List.{length-replicate}
 use Rattle.std.proofs.lemmas.List.FromFn.{length-range_with_len}
 use Rattle.std.proofs.lemmas.List.Elements.{All-cons}
-use Rattle.heap_region.proofs.Lookups.{is_used}
+use Rattle.heap_region.proofs.Lookups.{listed_region_is_in_use}
 use Rattle.heap_class.specs.declared.Kind.{Kind}
 use Rattle.heap_class.specs.declared.Kind.TheVariants.{Boolean, Char, Float, Double, Byte, Short, Int, Long}
 use Rattle.heap_class.specs.declared.ObjKind.{ObjKind}
@@ -19,12 +19,12 @@ use Rattle.heap_region.specs.Limits.{region_limit}
 use Rattle.heap_region.specs.Regions.{Object, UsedRegion, Region, Empty, InUse, used_part, used_at, object_of, object_at, id_of, ref_of, with_region, references_of, slot_kinds, cell_size_for}
 use Rattle.heap_region.specs.Pool.{RegionPool, fresh_region, free_place, place_or_fresh, new_place, taken, restored, allocated}
 use Rattle.heap_region.proofs.ChangedLookups.{same_or_not, ref_same, number_of, region_of_ref}
-use Rattle.heap_region.proofs.PriorObjects.{same_place}
+use Rattle.heap_region.proofs.PriorObjects.{places_equal_or_different}
 use Rattle.heap_region.proofs.RoundTrip.{size_for, some_cell}
-use Rattle.heap_region.proofs.References.{member_head, member_tail, member_cases, get_set, get_set_other, length_set, get_within, found_in, references_by_slots}
+use Rattle.heap_region.proofs.References.{list_has_its_head, list_has_items_of_tail, member_is_head_or_later, set_item_is_got, get_set_other, length_set, get_within, member_stands_at_reference_slot, references_by_slots}
 use Rattle.heap_mark.specs.declared.Phase.TheVariants.{Marking}
 use Rattle.heap_mark.specs.MarkSteps.{is_marking}
-use Rattle.heap_region.proofs.Distinct.{distinct_tail, distinct_head}
+use Rattle.heap_region.proofs.Distinct.{rest_of_distinct_is_distinct, first_of_distinct_differs}
 use Rattle.heap_world.specs.State.{HeapState, pool_of, with_pool, with_register}
 use Rattle.heap_world.specs.Reach.{Names}
 use Rattle.heap_world.specs.Legal.{IsObjectOf, HasKind, IsMarked, IsUnmarked, IsLive, Sheltered}
@@ -35,10 +35,10 @@ use Rattle.heap_world.specs.Events.{new_object, after_new, is_full}
 use Rattle.heap_world.proofs.OpeningState.{range_distinct, range_index}
 use Rattle.heap_world.proofs.Shelter.{sheltered_unmarked}
 use Rattle.heap_world.proofs.Tricolour.{Spares, spares_tricolour, spares_sheltered}
-use Rattle.heap_world.proofs.Registers.{IsSafe, namer, names_of, write_legal}
-use Rattle.heap_world.proofs.TakenCells.{HasRoom, IsTaken, is_taken, filled, first_of, object_at_same, object_at_used, size_same}
+use Rattle.heap_world.proofs.Registers.{IsSafe, naming_id_names_an_object, names_of, write_legal}
+use Rattle.heap_world.proofs.TakenCells.{HasRoom, IsTaken, object_put_into_free_cell, filled, list_from_its_first, object_at_same, object_at_used, same_region_has_same_size}
 use Rattle.heap_region.proofs.FoundObjects.{bare_cells}
-use Rattle.heap_region.proofs.ShownRegions.{none_unused}
+use Rattle.heap_region.proofs.ShownRegions.{unused_region_has_no_object}
 
 -- ---- a region with room
 
@@ -53,12 +53,12 @@ record IsOpened (rs rs1 : List Region) (ps ps1 : List ℕ) (at : ObjRef) (s : �
   room : HasRoom rs1 at s
 
 -- the first region with a free cell of a size
-first_place : (size k : ℕ) (rs : List Region) (at : ObjRef) → slice_get (filter_map (free_place size) (enumerate_from k rs)) 0 ≡ Some at
+first_region_with_free_cell : (size k : ℕ) (rs : List Region) (at : ObjRef) → slice_get (filter_map (free_place size) (enumerate_from k rs)) 0 ≡ Some at
     → (i : ℕ) × (at.region ≡ k + i) × ((u : UsedRegion) × (slice_get rs i ≡ Some (InUse u)) × (u.cell_size ≡ size) × (slice_get u.free 0 ≡ Some at.cell))
 unfolding free_place
-first_place size k [] at h = cc
-first_place size k (Empty ∷ rs) at h = let r = first_place size (k + 1) rs at h in (suc r.0, omega (arith, r.1), r.2)
-first_place size k (InUse u ∷ rs) at h = go (u.cell_size == size) refl (slice_get u.free 0) refl h (λ e. first_place size (k + 1) rs at e)
+first_region_with_free_cell size k [] at h = cc
+first_region_with_free_cell size k (Empty ∷ rs) at h = let r = first_region_with_free_cell size (k + 1) rs at h in (suc r.0, omega (arith, r.1), r.2)
+first_region_with_free_cell size k (InUse u ∷ rs) at h = go (u.cell_size == size) refl (slice_get u.free 0) refl h (λ e. first_region_with_free_cell size (k + 1) rs at e)
   where
     go : (b : Bool) → (u.cell_size == size) ≡ b → (f : Option ℕ) → slice_get u.free 0 ≡ f
         → slice_get (cons_option (if b then option_map (λ c. record { region = k; cell = c }) f else None) (filter_map (free_place size) (enumerate_from (k + 1) rs))) 0 ≡ Some at
@@ -73,17 +73,17 @@ first_place size k (InUse u ∷ rs) at h = go (u.cell_size == size) refl (slice_
         some_same : (a b : ObjRef) → Some a ≡ Some b → a ≡ b
         some_same a b e = cc
 
-place_cases : (p : Option ObjRef) (r : Option ℕ) (q : ObjRef × Bool) → place_or_fresh p r ≡ Some q → ((p ≡ Some q.0) × (q.1 ≡ false)) ⊎ ((r ≡ Some q.0.region) × (q.0.cell ≡ 0) × (q.1 ≡ true))
+place_found_free_or_fresh : (p : Option ObjRef) (r : Option ℕ) (q : ObjRef × Bool) → place_or_fresh p r ≡ Some q → ((p ≡ Some q.0) × (q.1 ≡ false)) ⊎ ((r ≡ Some q.0.region) × (q.0.cell ≡ 0) × (q.1 ≡ true))
 unfolding place_or_fresh
-place_cases (Some at) r q h = let e : (at, false) ≡ q = pair_same _ _ h in inl (ap (λ (z : ObjRef × Bool). Some z.0) e, ap (λ (z : ObjRef × Bool). z.1) (sym e))
+place_found_free_or_fresh (Some at) r q h = let e : (at, false) ≡ q = pair_same _ _ h in inl (ap (λ (z : ObjRef × Bool). Some z.0) e, ap (λ (z : ObjRef × Bool). z.1) (sym e))
   where
     pair_same : (a b : ObjRef × Bool) → Some a ≡ Some b → a ≡ b
     pair_same a b e = cc
-place_cases None (Some r) q h = let e : (record { region = r; cell = 0 }, true) ≡ q = pair_same _ _ h in inr (ap (λ (z : ObjRef × Bool). Some z.0.region) e, ap (λ (z : ObjRef × Bool). z.0.cell) (sym e), ap (λ (z : ObjRef × Bool). z.1) (sym e))
+place_found_free_or_fresh None (Some r) q h = let e : (record { region = r; cell = 0 }, true) ≡ q = pair_same _ _ h in inr (ap (λ (z : ObjRef × Bool). Some z.0.region) e, ap (λ (z : ObjRef × Bool). z.0.cell) (sym e), ap (λ (z : ObjRef × Bool). z.1) (sym e))
   where
     pair_same : (a b : ObjRef × Bool) → Some a ≡ Some b → a ≡ b
     pair_same a b e = cc
-place_cases None None q h = cc
+place_found_free_or_fresh None None q h = cc
 
 -- a region in use has room where its free list isn't empty
 opened_in_use : (rs : List Region) (ps : List ℕ) (n : ℕ) (at : ObjRef) → ((k : ℕ) (u : UsedRegion) → used_at rs k ≡ Some u → IsPartition u) → NamesEach ps (λ k. slice_get rs k ≡ Some Empty)
@@ -99,10 +99,10 @@ opened_in_use rs ps n at tables pools h = record {
 }
   where
     f : (i : ℕ) × (at.region ≡ 0 + i) × ((u : UsedRegion) × (slice_get rs i ≡ Some (InUse u)) × (u.cell_size ≡ cell_size_for n) × (slice_get u.free 0 ≡ Some at.cell))
-    f = first_place (cell_size_for n) 0 rs at h
+    f = first_region_with_free_cell (cell_size_for n) 0 rs at h
 
     used : used_at rs at.region ≡ Some f.2.0
-    used = is_used rs at.region f.2.0 (ap (slice_get rs) (omega (arith, f.1)) ∙ f.2.1)
+    used = listed_region_is_in_use rs at.region f.2.0 (ap (slice_get rs) (omega (arith, f.1)) ∙ f.2.1)
 
 -- ---- a region from the pool
 
@@ -111,10 +111,10 @@ replicate_there x zero r h = absurd (omega (arith, h))
 replicate_there x (suc n) zero h = refl
 replicate_there x (suc n) (suc r) h = replicate_there x n r (omega (arith, h))
 
-there_within : {A : Type 0} (x y : A) (n r : ℕ) → slice_get (replicate n x) r ≡ Some y → r < n
-there_within x y zero r h = cc
-there_within x y (suc n) zero h = omega arith
-there_within x y (suc n) (suc r) h = let e : r < n = there_within x y n r h in omega (arith, e)
+item_of_replicate_is_within : {A : Type 0} (x y : A) (n r : ℕ) → slice_get (replicate n x) r ≡ Some y → r < n
+item_of_replicate_is_within x y zero r h = cc
+item_of_replicate_is_within x y (suc n) zero h = omega arith
+item_of_replicate_is_within x y (suc n) (suc r) h = let e : r < n = item_of_replicate_is_within x y n r h in omega (arith, e)
 
 -- a range names the items of a list of one thing
 range_names : {A : Type 0} (x : A) (n : ℕ) → NamesEach (range_with_len 0 n) (λ r. slice_get (replicate n x) r ≡ Some x)
@@ -122,7 +122,7 @@ range_names x n = record {
   distinct = range_distinct 0 n;
   each = λ r. (
     λ c. replicate_there x n r (omega (arith, c.1, length-range_with_len 0 n, range_index 0 n c.0 r (omega (arith, c.1, length-range_with_len 0 n)), c.2)),
-    λ e. let h : r < n = there_within x x n r e in (r, omega (arith, h, length-range_with_len 0 n), range_index 0 n r r h ∙ omega arith),
+    λ e. let h : r < n = item_of_replicate_is_within x x n r e in (r, omega (arith, h, length-range_with_len 0 n), range_index 0 n r r h ∙ omega arith),
   );
 }
 
@@ -130,22 +130,22 @@ range_first : (n : ℕ) → 0 < n → slice_get (range_with_len 0 n) 0 ≡ Some 
 range_first zero h = absurd (omega (arith, h))
 range_first (suc n) h = refl
 
-used_set : (rs : List Region) (r : ℕ) (u : UsedRegion) → r < length rs → used_at (set rs r (InUse u)) r ≡ Some u
+set_region_is_in_use : (rs : List Region) (r : ℕ) (u : UsedRegion) → r < length rs → used_at (set rs r (InUse u)) r ≡ Some u
 unfolding used_at
-used_set rs r u h = ap (option_and_then used_part) (get_set rs r (InUse u) h)
+set_region_is_in_use rs r u h = ap (option_and_then used_part) (set_item_is_got rs r (InUse u) h)
 
 used_set_other : (rs : List Region) (r k : ℕ) (u : UsedRegion) → k ≢ r → used_at (set rs r (InUse u)) k ≡ used_at rs k
 unfolding used_at
 used_set_other rs r k u n = ap (option_and_then used_part) (get_set_other rs r k (InUse u) n)
 
-unused : (rs : List Region) (r : ℕ) → slice_get rs r ≡ Some Empty → used_at rs r ≡ None
+empty_region_is_not_used : (rs : List Region) (r : ℕ) → slice_get rs r ≡ Some Empty → used_at rs r ≡ None
 unfolding used_at
-unused rs r e = ap (option_and_then used_part) e
+empty_region_is_not_used rs r e = ap (option_and_then used_part) e
 
 -- an id in a region without objects names none
-none_named : (rs : List Region) (r x : ℕ) → ((b : ObjRef) → b.region ≡ r → object_at rs b ≡ None) → number_of x ≡ r → object_of rs x ≡ None
+id_of_empty_region_names_none : (rs : List Region) (r x : ℕ) → ((b : ObjRef) → b.region ≡ r → object_at rs b ≡ None) → number_of x ≡ r → object_of rs x ≡ None
 unfolding object_of
-none_named rs r x h n = go (ref_of rs x) refl
+id_of_empty_region_names_none rs r x h n = go (ref_of rs x) refl
   where
     go : (p : Option ObjRef) → ref_of rs x ≡ p → option_and_then (object_at rs) p ≡ None
     go None f = refl
@@ -159,16 +159,16 @@ names_by rs ts x e h = ap (option_and_then (object_at ts)) e ∙ go (ref_of rs x
     go None = refl
     go (Some b) = h b
 
-opened_fresh : (rs : List Region) (ps : List ℕ) (n r : ℕ) → NamesEach ps (λ k. slice_get rs k ≡ Some Empty) → slice_get ps 0 ≡ Some r
+fresh_region_opens_room : (rs : List Region) (ps : List ℕ) (n r : ℕ) → NamesEach ps (λ k. slice_get rs k ≡ Some Empty) → slice_get ps 0 ≡ Some r
     → IsOpened rs (set rs r (InUse (fresh_region (cell_size_for n)))) ps (drop 1 ps) (record { region = r; cell = 0 }) (cell_size_for n)
 unfolding fresh_region
-opened_fresh rs ps n r pools h = record {
+fresh_region_opens_room rs ps n r pools h = record {
   count = length_set rs r (InUse fresh);
   places = places;
   names = λ x. names x (same_or_not (number_of x) r);
   used_still = λ k u e. still k u e (same_or_not k r);
   used_before = λ k u m e. sym (used_set_other rs r k fresh m) ∙ e;
-  pools = record { distinct = distinct_tail r (drop 1 ps) distinct; each = λ k. (λ m. to k m, λ e. from k e (same_or_not k r)) };
+  pools = record { distinct = rest_of_distinct_is_distinct r (drop 1 ps) distinct; each = λ k. (λ m. to k m, λ e. from k e (same_or_not k r)) };
   room = record { region = fresh; used = used; size = refl; is_size = size_for n; cells = length-replicate (1024 / cell_size_for n) None; free = range_names None (1024 / cell_size_for n); first = range_first (1024 / cell_size_for n) (some_cell (cell_size_for n) (size_for n)) };
 }
   where
@@ -176,29 +176,29 @@ opened_fresh rs ps n r pools h = record {
     fresh = record { cell_size = cell_size_for n; pending = false; cells = replicate (1024 / cell_size_for n) None; free = range_with_len 0 (1024 / cell_size_for n) }
 
     list : ps ≡ r ∷ drop 1 ps
-    list = first_of ps r h
+    list = list_from_its_first ps r h
 
     distinct : IsDistinct nat_eq (r ∷ drop 1 ps)
     distinct = subst (IsDistinct nat_eq) list pools.distinct
 
     empty : slice_get rs r ≡ Some Empty
-    empty = (pools.each r).0 (subst (λ l. Contains l r) (sym list) (member_head r (drop 1 ps)))
+    empty = (pools.each r).0 (subst (λ l. Contains l r) (sym list) (list_has_its_head r (drop 1 ps)))
 
     within : r < length rs
     within = get_within rs r Empty empty
 
     used : used_at (set rs r (InUse fresh)) r ≡ Some fresh
-    used = used_set rs r fresh within
+    used = set_region_is_in_use rs r fresh within
 
     still : (k : ℕ) (u : UsedRegion) → used_at rs k ≡ Some u → (k ≡ r) ⊎ (k ≢ r) → used_at (set rs r (InUse fresh)) k ≡ Some u
-    still k u e (inl s) = let a : None ≡ Some u = sym (ap (used_at rs) s ∙ unused rs r empty) ∙ e in cc
+    still k u e (inl s) = let a : None ≡ Some u = sym (ap (used_at rs) s ∙ empty_region_is_not_used rs r empty) ∙ e in cc
     still k u e (inr m) = used_set_other rs r k fresh m ∙ e
 
     none_there : (b : ObjRef) → b.region ≡ r → object_at (set rs r (InUse fresh)) b ≡ None
     none_there b e = object_at_used (set rs r (InUse fresh)) b fresh (ap (used_at (set rs r (InUse fresh))) e ∙ used) ∙ bare_cells (1024 / cell_size_for n) b.cell
 
     none_before : (b : ObjRef) → b.region ≡ r → object_at rs b ≡ None
-    none_before b e = none_unused rs b (ap (used_at rs) e ∙ unused rs r empty)
+    none_before b e = unused_region_has_no_object rs b (ap (used_at rs) e ∙ empty_region_is_not_used rs r empty)
 
     places : (b : ObjRef) → object_at (set rs r (InUse fresh)) b ≡ object_at rs b
     places b = elim (same_or_not b.region r) [
@@ -207,15 +207,15 @@ opened_fresh rs ps n r pools h = record {
     ]
 
     names : (x : ℕ) → (number_of x ≡ r) ⊎ (number_of x ≢ r) → object_of (set rs r (InUse fresh)) x ≡ object_of rs x
-    names x (inl e) = none_named (set rs r (InUse fresh)) r x none_there e ∙ sym (none_named rs r x none_before e)
-    names x (inr m) = names_by rs (set rs r (InUse fresh)) x (ref_same (set rs r (InUse fresh)) rs x (λ d. size_same rs (set rs r (InUse fresh)) (number_of x) d (used_set_other rs r (number_of x) fresh m))) places
+    names x (inl e) = id_of_empty_region_names_none (set rs r (InUse fresh)) r x none_there e ∙ sym (id_of_empty_region_names_none rs r x none_before e)
+    names x (inr m) = names_by rs (set rs r (InUse fresh)) x (ref_same (set rs r (InUse fresh)) rs x (λ d. same_region_has_same_size rs (set rs r (InUse fresh)) (number_of x) d (used_set_other rs r (number_of x) fresh m))) places
 
     to : (k : ℕ) → Contains (drop 1 ps) k → slice_get (set rs r (InUse fresh)) k ≡ Some Empty
-    to k m = get_set_other rs r k (InUse fresh) (λ e. distinct_head r (drop 1 ps) distinct k m (sym e)) ∙ (pools.each k).0 (subst (λ l. Contains l k) (sym list) (member_tail r (drop 1 ps) k m))
+    to k m = get_set_other rs r k (InUse fresh) (λ e. first_of_distinct_differs r (drop 1 ps) distinct k m (sym e)) ∙ (pools.each k).0 (subst (λ l. Contains l k) (sym list) (list_has_items_of_tail r (drop 1 ps) k m))
 
     from : (k : ℕ) → slice_get (set rs r (InUse fresh)) k ≡ Some Empty → (k ≡ r) ⊎ (k ≢ r) → Contains (drop 1 ps) k
-    from k e (inl s) = let a : Some (InUse fresh) ≡ Some Empty = sym (ap (slice_get (set rs r (InUse fresh))) s ∙ get_set rs r (InUse fresh) within) ∙ e in cc
-    from k e (inr m) = elim (member_cases r (drop 1 ps) k (subst (λ l. Contains l k) list ((pools.each k).1 (sym (get_set_other rs r k (InUse fresh) m) ∙ e)))) [ inl s ↦ absurd (m s) | inr c ↦ c ]
+    from k e (inl s) = let a : Some (InUse fresh) ≡ Some Empty = sym (ap (slice_get (set rs r (InUse fresh))) s ∙ set_item_is_got rs r (InUse fresh) within) ∙ e in cc
+    from k e (inr m) = elim (member_is_head_or_later r (drop 1 ps) k (subst (λ l. Contains l k) list ((pools.each k).1 (sym (get_set_other rs r k (InUse fresh) m) ∙ e)))) [ inl s ↦ absurd (m s) | inr c ↦ c ]
 
 -- ---- the new object
 
@@ -225,34 +225,34 @@ zero_in (suc n) zero y h = cc
 zero_in (suc n) (suc i) y h = zero_in n i y h
 
 -- an object whose words are all 0 names nothing
-no_references : (classes : List Class) (o : Object) (n : ℕ) → o.words ≡ replicate n 0 → (y : ℕ) → Contains (references_of classes o) y → ⊥
-no_references classes o n e y c =
-    let r = found_in (slot_kinds classes o) o.words y (subst (λ l. Contains l y) (references_by_slots classes o) c) in
+zero_words_name_nothing : (classes : List Class) (o : Object) (n : ℕ) → o.words ≡ replicate n 0 → (y : ℕ) → Contains (references_of classes o) y → ⊥
+zero_words_name_nothing classes o n e y c =
+    let r = member_stands_at_reference_slot (slot_kinds classes o) o.words y (subst (λ l. Contains l y) (references_by_slots classes o) c) in
     r.5 (zero_in n r.0 y (ap (λ ws. slice_get ws r.0) (sym e) ∙ r.4))
 
-some_value : (k : Kind) → 0 < value_limit k
-some_value Kind.Object = omega arith
-some_value Boolean = omega arith
-some_value Char = omega arith
-some_value Float = omega arith
-some_value Double = omega arith
-some_value Byte = omega arith
-some_value Short = omega arith
-some_value Int = omega arith
-some_value Long = omega arith
+each_kind_allows_a_value : (k : Kind) → 0 < value_limit k
+each_kind_allows_a_value Kind.Object = omega arith
+each_kind_allows_a_value Boolean = omega arith
+each_kind_allows_a_value Char = omega arith
+each_kind_allows_a_value Float = omega arith
+each_kind_allows_a_value Double = omega arith
+each_kind_allows_a_value Byte = omega arith
+each_kind_allows_a_value Short = omega arith
+each_kind_allows_a_value Int = omega arith
+each_kind_allows_a_value Long = omega arith
 
 zeros_fit : (ks : List Kind) (n : ℕ) → All (λ p. p.0 ≢ Kind.Object → p.1 < value_limit p.0) (zip ks (replicate n 0))
 zeros_fit [] n = λ i d h. absurd (omega (arith, h))
 zeros_fit (k ∷ ks) zero = λ i d h. absurd (omega (arith, h))
-zeros_fit (k ∷ ks) (suc n) = All-cons (λ p. p.0 ≢ Kind.Object → p.1 < value_limit p.0) (k, 0) (zip ks (replicate n 0)) (λ ne. some_value k) (zeros_fit ks n)
+zeros_fit (k ∷ ks) (suc n) = All-cons (λ p. p.0 ≢ Kind.Object → p.1 < value_limit p.0) (k, 0) (zip ks (replicate n 0)) (λ ne. each_kind_allows_a_value k) (zeros_fit ks n)
 
-new_fits : (w : HeapState) (kind : ObjKind) (n : ℕ) → HasKind w.classes kind n → IsObjectOf w.classes (new_object kind n w)
+new_object_fits_classes : (w : HeapState) (kind : ObjKind) (n : ℕ) → HasKind w.classes kind n → IsObjectOf w.classes (new_object kind n w)
 unfolding new_object
-new_fits w kind n h = record { kind = subst (HasKind w.classes kind) (sym (length-replicate n 0)) h; values = zeros_fit _ n }
+new_object_fits_classes w kind n h = record { kind = subst (HasKind w.classes kind) (sym (length-replicate n 0)) h; values = zeros_fit _ n }
 
-used_of_object : (rs : List Region) (b : ObjRef) (o : Object) → object_at rs b ≡ Some o → (u : UsedRegion) × (used_at rs b.region ≡ Some u)
+region_of_object_is_used : (rs : List Region) (b : ObjRef) (o : Object) → object_at rs b ≡ Some o → (u : UsedRegion) × (used_at rs b.region ≡ Some u)
 unfolding object_at
-used_of_object rs b o = go (used_at rs b.region) refl
+region_of_object_is_used rs b o = go (used_at rs b.region) refl
   where
     go : (p : Option UsedRegion) → used_at rs b.region ≡ p → option_and_then (λ (u : UsedRegion). option_and_then (λ (o : Option Object). o) (slice_get u.cells b.cell)) p ≡ Some o → (u : UsedRegion) × (used_at rs b.region ≡ Some u)
     go None e h = cc
@@ -265,46 +265,46 @@ record IsFresh (w : HeapState) (o : Object) (n : ℕ) : Type 0 where
   live : o.live ≡ true
   mark : o.mark ≡ is_marking w.phase
 
-abbrev grown : HeapState → List Region → List ℕ → HeapState
-grown w ts qs = record w { regions = ts; pool = qs }
+abbrev heap_with_regions_and_pool : HeapState → List Region → List ℕ → HeapState
+heap_with_regions_and_pool w ts qs = record w { regions = ts; pool = qs }
 
 -- each id but the new object's names what it did
-named_still : (w : HeapState) (rs1 ts : List Region) (qs : List ℕ) (at : ObjRef) (o : Object) (s : ℕ) → IsOpened w.regions rs1 w.pool qs at s → IsTaken rs1 ts at o s → (x : ℕ) → x ≢ id_of ts at → object_of ts x ≡ object_of w.regions x
-named_still w rs1 ts qs at o s a t x n = t.still_named x n ∙ a.names x
+other_ids_name_as_before : (w : HeapState) (rs1 ts : List Region) (qs : List ℕ) (at : ObjRef) (o : Object) (s : ℕ) → IsOpened w.regions rs1 w.pool qs at s → IsTaken rs1 ts at o s → (x : ℕ) → x ≢ id_of ts at → object_of ts x ≡ object_of w.regions x
+other_ids_name_as_before w rs1 ts qs at o s a t x n = t.still_named x n ∙ a.names x
 
 -- what an id named before it is not the new object's
-not_new : (w : HeapState) (rs1 ts : List Region) (qs : List ℕ) (at : ObjRef) (o : Object) (s : ℕ) → IsOpened w.regions rs1 w.pool qs at s → IsTaken rs1 ts at o s → (x : ℕ) (p : Object) → object_of w.regions x ≡ Some p → x ≢ id_of ts at
-not_new w rs1 ts qs at o s a t x p e q = let z : None ≡ Some p = sym t.was_none ∙ a.names (id_of ts at) ∙ ap (object_of w.regions) (sym q) ∙ e in clash p z
+older_id_is_not_new : (w : HeapState) (rs1 ts : List Region) (qs : List ℕ) (at : ObjRef) (o : Object) (s : ℕ) → IsOpened w.regions rs1 w.pool qs at s → IsTaken rs1 ts at o s → (x : ℕ) (p : Object) → object_of w.regions x ≡ Some p → x ≢ id_of ts at
+older_id_is_not_new w rs1 ts qs at o s a t x p e q = let z : None ≡ Some p = sym t.was_none ∙ a.names (id_of ts at) ∙ ap (object_of w.regions) (sym q) ∙ e in clash p z
   where
     clash : (p : Object) → None ≡ Some p → ⊥
     clash p z = cc
 
-grown_spares : (w : HeapState) (rs1 ts : List Region) (qs : List ℕ) (at : ObjRef) (o : Object) (s n : ℕ) → w.phase ≡ Marking → IsOpened w.regions rs1 w.pool qs at s → IsTaken rs1 ts at o s → IsFresh w o n → Spares w (grown w ts qs)
+grown_spares : (w : HeapState) (rs1 ts : List Region) (qs : List ℕ) (at : ObjRef) (o : Object) (s n : ℕ) → w.phase ≡ Marking → IsOpened w.regions rs1 w.pool qs at s → IsTaken rs1 ts at o s → IsFresh w o n → Spares w (heap_with_regions_and_pool w ts qs)
 grown_spares w rs1 ts qs at o s n phase a t f = record {
   unmarked = λ x u. unmarked x u (same_or_not x (id_of ts at));
   marked = λ x y m k. marked x y m k (same_or_not x (id_of ts at));
   gray = refl;
   undrained = refl;
   registers = λ x c u. c;
-  sheltered = λ x h. (let u = sheltered_unmarked w x h in (u.0, still x (not_new w rs1 ts qs at o s a t x u.0 u.1) ∙ u.1, u.2));
-  names_still = λ x y h k. (let b = namer w x y k in names_of (grown w ts qs) x y b.0 (still x (not_new w rs1 ts qs at o s a t x b.0 b.1) ∙ b.1) b.2);
+  sheltered = λ x h. (let u = sheltered_unmarked w x h in (u.0, still x (older_id_is_not_new w rs1 ts qs at o s a t x u.0 u.1) ∙ u.1, u.2));
+  names_still = λ x y h k. (let b = naming_id_names_an_object w x y k in names_of (heap_with_regions_and_pool w ts qs) x y b.0 (still x (older_id_is_not_new w rs1 ts qs at o s a t x b.0 b.1) ∙ b.1) b.2);
 }
   where
     still : (x : ℕ) → x ≢ id_of ts at → object_of ts x ≡ object_of w.regions x
-    still = named_still w rs1 ts qs at o s a t
+    still = other_ids_name_as_before w rs1 ts qs at o s a t
 
     new_is : (x : ℕ) (p : Object) → x ≡ id_of ts at → object_of ts x ≡ Some p → p ≡ o
     new_is x p e h = let z : object_of ts x ≡ Some o = ap (object_of ts) e ∙ t.named in cc
 
-    unmarked : (x : ℕ) → IsUnmarked (grown w ts qs) x → (x ≡ id_of ts at) ⊎ (x ≢ id_of ts at) → IsUnmarked w x
+    unmarked : (x : ℕ) → IsUnmarked (heap_with_regions_and_pool w ts qs) x → (x ≡ id_of ts at) ⊎ (x ≢ id_of ts at) → IsUnmarked w x
     unmarked x u (inl e) = let z : true ≡ false = sym (ap is_marking phase) ∙ sym f.mark ∙ ap (λ (b : Object). b.mark) (sym (new_is x u.0 e u.1)) ∙ u.2 in cc
     unmarked x u (inr m) = (u.0, sym (still x m) ∙ u.1, u.2)
 
-    marked : (x y : ℕ) → IsMarked (grown w ts qs) x → Names (grown w ts qs) x y → (x ≡ id_of ts at) ⊎ (x ≢ id_of ts at) → IsMarked w x × Names w x y
-    marked x y m k (inl e) = let b = namer (grown w ts qs) x y k in absurd (no_references w.classes o n f.words y (subst (λ (z : Object). Contains (references_of w.classes z) y) (new_is x b.0 e b.1) b.2))
-    marked x y m k (inr d) = let b = namer (grown w ts qs) x y k in ((m.0, sym (still x d) ∙ m.1, m.2), names_of w x y b.0 (sym (still x d) ∙ b.1) b.2)
+    marked : (x y : ℕ) → IsMarked (heap_with_regions_and_pool w ts qs) x → Names (heap_with_regions_and_pool w ts qs) x y → (x ≡ id_of ts at) ⊎ (x ≢ id_of ts at) → IsMarked w x × Names w x y
+    marked x y m k (inl e) = let b = naming_id_names_an_object (heap_with_regions_and_pool w ts qs) x y k in absurd (zero_words_name_nothing w.classes o n f.words y (subst (λ (z : Object). Contains (references_of w.classes z) y) (new_is x b.0 e b.1) b.2))
+    marked x y m k (inr d) = let b = naming_id_names_an_object (heap_with_regions_and_pool w ts qs) x y k in ((m.0, sym (still x d) ∙ m.1, m.2), names_of w x y b.0 (sym (still x d) ∙ b.1) b.2)
 
-grown_legal : (w : HeapState) (rs1 ts : List Region) (qs : List ℕ) (at : ObjRef) (o : Object) (n : ℕ) → HasClauses w → IsOpened w.regions rs1 w.pool qs at (cell_size_for n) → IsTaken rs1 ts at o (cell_size_for n) → IsFresh w o n → HasClauses (grown w ts qs)
+grown_legal : (w : HeapState) (rs1 ts : List Region) (qs : List ℕ) (at : ObjRef) (o : Object) (n : ℕ) → HasClauses w → IsOpened w.regions rs1 w.pool qs at (cell_size_for n) → IsTaken rs1 ts at o (cell_size_for n) → IsFresh w o n → HasClauses (heap_with_regions_and_pool w ts qs)
 grown_legal w rs1 ts qs at o n l a t f = record {
   sized = record { limits = l.sized.limits; regions = subst (λ k. (1 ≤ k) × (k ≤ region_limit)) (sym (t.count ∙ a.count)) l.sized.regions; mutators = l.sized.mutators };
   classes = l.classes;
@@ -312,7 +312,7 @@ grown_legal w rs1 ts qs at o n l a t f = record {
   least_cells = λ b p e. elim (which b p e) [
     | inl q ↦ subst (λ (c : ObjRef). IfSome (used_at ts c.region) (λ u. u.cell_size ≡ cell_size_for (length p.words))) (sym q.0)
         (subst (λ (v : Option UsedRegion). IfSome v (λ u. u.cell_size ≡ cell_size_for (length p.words))) (sym t.size.1) (t.size.2 ∙ ap cell_size_for (sym (ap (λ (z : Object). length z.words) q.1 ∙ ap length f.words ∙ length-replicate n 0))))
-    | inr q ↦ (let u = used_of_object w.regions b p q in let v = t.sizes b.region u.0 (a.used_still b.region u.0 u.1) in
+    | inr q ↦ (let u = region_of_object_is_used w.regions b p q in let v = t.sizes b.region u.0 (a.used_still b.region u.0 u.1) in
         subst (λ (z : Option UsedRegion). IfSome z (λ u. u.cell_size ≡ cell_size_for (length p.words))) (sym v.1) (v.2 ∙ subst (λ (z : Option UsedRegion). IfSome z (λ u. u.cell_size ≡ cell_size_for (length p.words))) u.1 (l.least_cells b p q)))
   ];
   cells = t.tables (λ k u e m. l.cells k u (a.used_before k u m e));
@@ -327,7 +327,7 @@ grown_legal w rs1 ts qs at o n l a t f = record {
   drained_within = l.drained_within;
   swept_live = λ b p e. elim (which b p e) [
     | inl q ↦ all_some (used_at ts b.region) p.live (ap (λ (z : Object). z.live) q.1 ∙ f.live)
-    | inr q ↦ (let u = used_of_object w.regions b p q in let v = t.sizes b.region u.0 (a.used_still b.region u.0 u.1) in
+    | inr q ↦ (let u = region_of_object_is_used w.regions b p q in let v = t.sizes b.region u.0 (a.used_still b.region u.0 u.1) in
         subst (λ (z : Option UsedRegion). IfSome z (λ u. u.pending ≡ false → p.live ≡ true)) (sym v.1) (λ g. (subst (λ (z : Option UsedRegion). IfSome z (λ u. u.pending ≡ false → p.live ≡ true)) u.1 (l.swept_live b p q)) (sym v.3 ∙ g)))
   ];
   idle = λ i. record {
@@ -336,18 +336,18 @@ grown_legal w rs1 ts qs at o n l a t f = record {
     drained = (l.idle i).drained;
     unmarked = λ b p e. elim (which b p e) [ inl q ↦ ap (λ (z : Object). z.mark) q.1 ∙ f.mark ∙ ap is_marking i | inr q ↦ (l.idle i).unmarked b p q ];
   };
-  tricolour = λ i. spares_tricolour w (grown w ts qs) (grown_spares w rs1 ts qs at o (cell_size_for n) n i a t f) (l.tricolour i);
+  tricolour = λ i. spares_tricolour w (heap_with_regions_and_pool w ts qs) (grown_spares w rs1 ts qs at o (cell_size_for n) n i a t f) (l.tricolour i);
 }
   where
     still : (x : ℕ) → x ≢ id_of ts at → object_of ts x ≡ object_of w.regions x
-    still = named_still w rs1 ts qs at o (cell_size_for n) a t
+    still = other_ids_name_as_before w rs1 ts qs at o (cell_size_for n) a t
 
     fresh : (x : ℕ) (p : Object) → object_of w.regions x ≡ Some p → x ≢ id_of ts at
-    fresh = not_new w rs1 ts qs at o (cell_size_for n) a t
+    fresh = older_id_is_not_new w rs1 ts qs at o (cell_size_for n) a t
 
     -- the object of a place is the new one, or was there
     which : (b : ObjRef) (p : Object) → object_at ts b ≡ Some p → ((b ≡ at) × (p ≡ o)) ⊎ (object_at w.regions b ≡ Some p)
-    which b p e = elim (same_place b at) [
+    which b p e = elim (places_equal_or_different b at) [
       | inl q ↦ (let z : object_at ts b ≡ Some o = ap (object_at ts) q ∙ t.here in inl (q, same p (sym e ∙ z)))
       | inr m ↦ inr (sym (t.others b m ∙ a.places b) ∙ e)
     ]
@@ -359,48 +359,48 @@ grown_legal w rs1 ts qs at o n l a t f = record {
     all_some None b e = tt
     all_some (Some u) b e = λ g. e
 
-    live_still : (x : ℕ) → IsLive w x → IsLive (grown w ts qs) x
+    live_still : (x : ℕ) → IsLive w x → IsLive (heap_with_regions_and_pool w ts qs) x
     live_still x d = (d.0, still x (fresh x d.0 d.1) ∙ d.1, d.2)
 
-    slots : (x y : ℕ) → IsLive (grown w ts qs) x → Names (grown w ts qs) x y → (x ≡ id_of ts at) ⊎ (x ≢ id_of ts at) → IsLive (grown w ts qs) y
+    slots : (x y : ℕ) → IsLive (heap_with_regions_and_pool w ts qs) x → Names (heap_with_regions_and_pool w ts qs) x y → (x ≡ id_of ts at) ⊎ (x ≢ id_of ts at) → IsLive (heap_with_regions_and_pool w ts qs) y
     slots x y d k (inl e) =
-        let b = namer (grown w ts qs) x y k in
+        let b = naming_id_names_an_object (heap_with_regions_and_pool w ts qs) x y k in
         let z : object_of ts x ≡ Some o = ap (object_of ts) e ∙ t.named in
         let q : b.0 ≡ o = (let g = b.1 in cc) in
-        absurd (no_references w.classes o n f.words y (subst (λ (z : Object). Contains (references_of w.classes z) y) q b.2))
-    slots x y d k (inr m) = let b = namer (grown w ts qs) x y k in
+        absurd (zero_words_name_nothing w.classes o n f.words y (subst (λ (z : Object). Contains (references_of w.classes z) y) q b.2))
+    slots x y d k (inr m) = let b = naming_id_names_an_object (heap_with_regions_and_pool w ts qs) x y k in
         live_still y (l.slots_live x y (d.0, sym (still x m) ∙ d.1, d.2) (names_of w x y b.0 (sym (still x m) ∙ b.1) b.2))
 
 -- ---- the whole
 
 new_is_fresh : (w : HeapState) (kind : ObjKind) (n : ℕ) → HasKind w.classes kind n → IsFresh w (new_object kind n w) n
 unfolding new_object
-new_is_fresh w kind n h = record { fits = new_fits w kind n h; words = refl; live = refl; mark = refl }
+new_is_fresh w kind n h = record { fits = new_object_fits_classes w kind n h; words = refl; live = refl; mark = refl }
 
-new_done : (w : HeapState) (m r n : ℕ) (kind : ObjKind) (rs1 : List Region) (qs : List ℕ) (at : ObjRef) → HasClauses w → HasKind w.classes kind n → IsOpened w.regions rs1 w.pool qs at (cell_size_for n)
-    → let ts : List Region = with_region at.region (filled at.cell (new_object kind n w)) rs1 in HasClauses (with_register m r (id_of ts at) (grown w ts qs))
-new_done w m r n kind rs1 qs at l h a = write_legal (grown w ts qs) m r (id_of ts at) (inr (inr (inr safe))) (grown_legal w rs1 ts qs at (new_object kind n w) n l a t f)
+object_in_room_keeps_clauses : (w : HeapState) (m r n : ℕ) (kind : ObjKind) (rs1 : List Region) (qs : List ℕ) (at : ObjRef) → HasClauses w → HasKind w.classes kind n → IsOpened w.regions rs1 w.pool qs at (cell_size_for n)
+    → let ts : List Region = with_region at.region (filled at.cell (new_object kind n w)) rs1 in HasClauses (with_register m r (id_of ts at) (heap_with_regions_and_pool w ts qs))
+object_in_room_keeps_clauses w m r n kind rs1 qs at l h a = write_legal (heap_with_regions_and_pool w ts qs) m r (id_of ts at) (inr (inr (inr safe))) (grown_legal w rs1 ts qs at (new_object kind n w) n l a t f)
   where
     ts : List Region
     ts = with_region at.region (filled at.cell (new_object kind n w)) rs1
 
     t : IsTaken rs1 (with_region at.region (filled at.cell (new_object kind n w)) rs1) at (new_object kind n w) (cell_size_for n)
-    t = is_taken rs1 at (new_object kind n w) (cell_size_for n) a.room
+    t = object_put_into_free_cell rs1 at (new_object kind n w) (cell_size_for n) a.room
 
     f : IsFresh w (new_object kind n w) n
     f = new_is_fresh w kind n h
 
-    safe : IsSafe (grown w (with_region at.region (filled at.cell (new_object kind n w)) rs1) qs) (id_of (with_region at.region (filled at.cell (new_object kind n w)) rs1) at)
+    safe : IsSafe (heap_with_regions_and_pool w (with_region at.region (filled at.cell (new_object kind n w)) rs1) qs) (id_of (with_region at.region (filled at.cell (new_object kind n w)) rs1) at)
     safe = ((new_object kind n w, t.named, f.live), λ i. (new_object kind n w, t.named, f.mark ∙ ap is_marking i))
 
 -- the form of a heap after a new object: the regions with room, the pool, and the object's place
 abbrev NewForm : HeapState → ℕ → ℕ → ObjKind → ℕ → HeapState → Type 0
 NewForm w m r kind n v = (rs1 : List Region) × (qs : List ℕ) × (at : ObjRef) × IsOpened w.regions rs1 w.pool qs at (cell_size_for n)
-    × (v ≡ with_register m r (id_of (with_region at.region (filled at.cell (new_object kind n w)) rs1) at) (grown w (with_region at.region (filled at.cell (new_object kind n w)) rs1) qs))
+    × (v ≡ with_register m r (id_of (with_region at.region (filled at.cell (new_object kind n w)) rs1) at) (heap_with_regions_and_pool w (with_region at.region (filled at.cell (new_object kind n w)) rs1) qs))
 
-new_form : (w : HeapState) (m r : ℕ) (kind : ObjKind) (n : ℕ) → HasClauses w → is_full n w ≡ false → NewForm w m r kind n (after_new m r kind n w)
+form_after_new_object : (w : HeapState) (m r : ℕ) (kind : ObjKind) (n : ℕ) → HasClauses w → is_full n w ≡ false → NewForm w m r kind n (after_new m r kind n w)
 unfolding after_new is_full new_place allocated taken restored new_object
-new_form w m r kind n l room = go (place_or_fresh (slice_get (filter_map (free_place (cell_size_for n)) (enumerate_from 0 w.regions)) 0) (slice_get w.pool 0)) refl room
+form_after_new_object w m r kind n l room = go (place_or_fresh (slice_get (filter_map (free_place (cell_size_for n)) (enumerate_from 0 w.regions)) 0) (slice_get w.pool 0)) refl room
   where
     o : Object
     o = new_object kind n w
@@ -408,35 +408,35 @@ new_form w m r kind n l room = go (place_or_fresh (slice_get (filter_map (free_p
     fresh_at : (at : ObjRef) → slice_get w.pool 0 ≡ Some at.region → at.cell ≡ 0 → IsOpened w.regions (set w.regions at.region (InUse (fresh_region (cell_size_for (length {A = ℕ} (replicate n 0)))))) w.pool (drop 1 w.pool) at (cell_size_for n)
     fresh_at at e c = subst (λ k. IsOpened w.regions (set w.regions at.region (InUse (fresh_region (cell_size_for k)))) w.pool (drop 1 w.pool) at (cell_size_for n)) (sym (length-replicate n 0))
         (subst (λ k. IsOpened w.regions (set w.regions at.region (InUse (fresh_region (cell_size_for n)))) w.pool (drop 1 w.pool) (record { region = at.region; cell = k }) (cell_size_for n)) (sym c)
-        (opened_fresh w.regions w.pool n at.region l.pool e))
+        (fresh_region_opens_room w.regions w.pool n at.region l.pool e))
 
     go : (q : Option (ObjRef × Bool)) → place_or_fresh (slice_get (filter_map (free_place (cell_size_for n)) (enumerate_from 0 w.regions)) 0) (slice_get w.pool 0) ≡ q → is_none q ≡ false
         → NewForm w m r kind n (option_map_or (λ p. let s : RegionPool = allocated p.0 p.1 (new_object kind n w) (pool_of w) in with_register m r (id_of s.regions p.0) (with_pool s w)) q w)
     go None e f = cc
-    go (Some (at, true)) e f = elim (place_cases _ _ (at, true) e) [
+    go (Some (at, true)) e f = elim (place_found_free_or_fresh _ _ (at, true) e) [
       | inl p ↦ (let z : true ≡ false = p.1 in cc)
       | inr p ↦ (set w.regions at.region (InUse (fresh_region (cell_size_for (length {A = ℕ} (replicate n 0))))), drop 1 w.pool, at, fresh_at at p.0 p.1, refl)
     ]
-    go (Some (at, false)) e f = elim (place_cases _ _ (at, false) e) [
+    go (Some (at, false)) e f = elim (place_found_free_or_fresh _ _ (at, false) e) [
       | inl p ↦ (w.regions, w.pool, at, opened_in_use w.regions w.pool n at l.cells l.pool p.0, refl)
       | inr p ↦ (let z : false ≡ true = p.2 in cc)
     ]
 
-pub new_legal : (w : HeapState) (m r : ℕ) (kind : ObjKind) (n : ℕ) → HasClauses w → HasKind w.classes kind n → is_full n w ≡ false → HasClauses (after_new m r kind n w)
-new_legal w m r kind n l h room = let f = new_form w m r kind n l room in subst HasClauses (sym f.4) (new_done w m r n kind f.0 f.1 f.2 l h f.3)
+pub clauses_after_new_object : (w : HeapState) (m r : ℕ) (kind : ObjKind) (n : ℕ) → HasClauses w → HasKind w.classes kind n → is_full n w ≡ false → HasClauses (after_new m r kind n w)
+clauses_after_new_object w m r kind n l h room = let f = form_after_new_object w m r kind n l room in subst HasClauses (sym f.4) (object_in_room_keeps_clauses w m r n kind f.0 f.1 f.2 l h f.3)
 
 -- what was marked or sheltered is so after a new object
-pub new_found : (w : HeapState) (m r : ℕ) (kind : ObjKind) (n : ℕ) → HasClauses w → HasKind w.classes kind n → is_full n w ≡ false → w.phase ≡ Marking → (x : ℕ) → IsMarked w x ⊎ Sheltered w x → IsMarked (after_new m r kind n w) x ⊎ Sheltered (after_new m r kind n w) x
-new_found w m r kind n l h room phase x q = let f = new_form w m r kind n l room in
+pub found_objects_after_new_object : (w : HeapState) (m r : ℕ) (kind : ObjKind) (n : ℕ) → HasClauses w → HasKind w.classes kind n → is_full n w ≡ false → w.phase ≡ Marking → (x : ℕ) → IsMarked w x ⊎ Sheltered w x → IsMarked (after_new m r kind n w) x ⊎ Sheltered (after_new m r kind n w) x
+found_objects_after_new_object w m r kind n l h room phase x q = let f = form_after_new_object w m r kind n l room in
     subst (λ v. IsMarked v x ⊎ Sheltered v x) (sym f.4) (found f.0 f.1 f.2 f.3 q)
   where
     found : (rs1 : List Region) (qs : List ℕ) (at : ObjRef) → IsOpened w.regions rs1 w.pool qs at (cell_size_for n) → IsMarked w x ⊎ Sheltered w x
-        → let v : HeapState = grown w (with_region at.region (filled at.cell (new_object kind n w)) rs1) qs in IsMarked v x ⊎ Sheltered v x
+        → let v : HeapState = heap_with_regions_and_pool w (with_region at.region (filled at.cell (new_object kind n w)) rs1) qs in IsMarked v x ⊎ Sheltered v x
     found rs1 qs at a (inl k) = inl (
       k.0,
-      named_still w rs1 (with_region at.region (filled at.cell (new_object kind n w)) rs1) qs at (new_object kind n w) (cell_size_for n) a (is_taken rs1 at (new_object kind n w) (cell_size_for n) a.room) x
-          (not_new w rs1 (with_region at.region (filled at.cell (new_object kind n w)) rs1) qs at (new_object kind n w) (cell_size_for n) a (is_taken rs1 at (new_object kind n w) (cell_size_for n) a.room) x k.0 k.1) ∙ k.1,
+      other_ids_name_as_before w rs1 (with_region at.region (filled at.cell (new_object kind n w)) rs1) qs at (new_object kind n w) (cell_size_for n) a (object_put_into_free_cell rs1 at (new_object kind n w) (cell_size_for n) a.room) x
+          (older_id_is_not_new w rs1 (with_region at.region (filled at.cell (new_object kind n w)) rs1) qs at (new_object kind n w) (cell_size_for n) a (object_put_into_free_cell rs1 at (new_object kind n w) (cell_size_for n) a.room) x k.0 k.1) ∙ k.1,
       k.2,
     )
-    found rs1 qs at a (inr s) = inr (spares_sheltered w (grown w (with_region at.region (filled at.cell (new_object kind n w)) rs1) qs)
-        (grown_spares w rs1 (with_region at.region (filled at.cell (new_object kind n w)) rs1) qs at (new_object kind n w) (cell_size_for n) n phase a (is_taken rs1 at (new_object kind n w) (cell_size_for n) a.room) (new_is_fresh w kind n h)) x s)
+    found rs1 qs at a (inr s) = inr (spares_sheltered w (heap_with_regions_and_pool w (with_region at.region (filled at.cell (new_object kind n w)) rs1) qs)
+        (grown_spares w rs1 (with_region at.region (filled at.cell (new_object kind n w)) rs1) qs at (new_object kind n w) (cell_size_for n) n phase a (object_put_into_free_cell rs1 at (new_object kind n w) (cell_size_for n) a.room) (new_is_fresh w kind n h)) x s)

@@ -8,59 +8,59 @@ use Rattle.heap_class.specs.declared.Refusal.TheVariants.{BadRegister, NullRegis
 use Rattle.heap_world.specs.State.{HeapState, is_register, register, with_register, slot_kind, word_of}
 use Rattle.heap_world.specs.Legal.{IsLegal}
 use Rattle.heap_world.specs.Events.{is_reference_slot, move_refusal, after_move, clear_refusal, load_refusal, after_load}
-use Rattle.heap_world.proofs.Clauses.{clauses_of, legal_by, HasClauses}
+use Rattle.heap_world.proofs.Clauses.{legal_heap_has_clauses, clauses_make_heap_legal, HasClauses}
 use Rattle.heap_world.proofs.Registers.{MayHold, register_member, write_legal, slot_names, second_register}
-use Rattle.heap_world.proofs.FirstRefusals.{here, later, none_left}
-use Rattle.heap_class.proofs.Refusals.{none_holds}
-use Rattle.heap_world.proofs.NamedSlots.{one_missing, both_there, no_slot, with_named}
+use Rattle.heap_world.proofs.FirstRefusals.{refusal_of_test_that_holds, refusal_of_later_tests, no_refusal_without_tests}
+use Rattle.heap_class.proofs.Refusals.{no_refusal_test_holds}
+use Rattle.heap_world.proofs.NamedSlots.{one_missing, not_of_two_truths_is_false, no_slot, refusals_past_named_slot}
 
 -- ---- a register is cleared
 
 pub clear_no_register : (m r : ℕ) (w : HeapState) → is_register w m r ≡ false → clear_refusal m r w ≡ Some BadRegister
 unfolding clear_refusal
-clear_no_register m r w e = here _ _ _ (ap not e)
+clear_no_register m r w e = refusal_of_test_that_holds _ _ _ (ap not e)
 
-pub clear_accepted : (m r : ℕ) (w : HeapState) → is_register w m r ≡ true → clear_refusal m r w ≡ None
+pub clear_of_register_accepted : (m r : ℕ) (w : HeapState) → is_register w m r ≡ true → clear_refusal m r w ≡ None
 unfolding clear_refusal
-clear_accepted m r w e = later _ _ _ _ (ap not e) none_left
+clear_of_register_accepted m r w e = refusal_of_later_tests _ _ _ _ (ap not e) no_refusal_without_tests
 
-pub clear_legal : (w : HeapState) (m r : ℕ) → HasClauses w → HasClauses (with_register m r 0 w)
-clear_legal w m r l = write_legal w m r 0 (inl refl) l
+pub clauses_after_clear : (w : HeapState) (m r : ℕ) → HasClauses w → HasClauses (with_register m r 0 w)
+clauses_after_clear w m r l = write_legal w m r 0 (inl refl) l
 
-pub cleared_legal : (w : HeapState) (m r : ℕ) → IsLegal w → IsLegal (with_register m r 0 w)
-cleared_legal w m r l = legal_by (with_register m r 0 w) (clear_legal w m r (clauses_of w l))
+pub legal_after_register_cleared : (w : HeapState) (m r : ℕ) → IsLegal w → IsLegal (with_register m r 0 w)
+legal_after_register_cleared w m r l = clauses_make_heap_legal (with_register m r 0 w) (clauses_after_clear w m r (legal_heap_has_clauses w l))
 
 -- ---- a register is copied
 
 pub move_no_register : (m to from_m from : ℕ) (w : HeapState) → (is_register w m to ≡ false) ⊎ (is_register w from_m from ≡ false) → move_refusal m to from_m from w ≡ Some BadRegister
 unfolding move_refusal
-move_no_register m to from_m from w h = here _ _ _ (one_missing _ _ h)
+move_no_register m to from_m from w h = refusal_of_test_that_holds _ _ _ (one_missing _ _ h)
 
-pub move_accepted : (m to from_m from : ℕ) (w : HeapState) → is_register w m to ≡ true → is_register w from_m from ≡ true → move_refusal m to from_m from w ≡ None
+pub move_between_registers_accepted : (m to from_m from : ℕ) (w : HeapState) → is_register w m to ≡ true → is_register w from_m from ≡ true → move_refusal m to from_m from w ≡ None
 unfolding move_refusal
-move_accepted m to from_m from w e f = later _ _ _ _ (both_there _ _ e f) none_left
+move_between_registers_accepted m to from_m from w e f = refusal_of_later_tests _ _ _ _ (not_of_two_truths_is_false _ _ e f) no_refusal_without_tests
 
-pub move_legal : (w : HeapState) (m to from_m from : ℕ) → HasClauses w → move_refusal m to from_m from w ≡ None → HasClauses (after_move m to from_m from w)
+pub clauses_after_move : (w : HeapState) (m to from_m from : ℕ) → HasClauses w → move_refusal m to from_m from w ≡ None → HasClauses (after_move m to from_m from w)
 unfolding move_refusal after_move
-move_legal w m to from_m from l accepted = write_legal w m to (register w from_m from) (inr (inl (register_member w from_m from (second_register _ _ (none_holds _ accepted).0)))) l
+clauses_after_move w m to from_m from l accepted = write_legal w m to (register w from_m from) (inr (inl (register_member w from_m from (second_register _ _ (no_refusal_test_holds _ accepted).0)))) l
 
-pub moved_legal : (w : HeapState) (m to from_m from x : ℕ) → is_register w from_m from ≡ true → x ≡ register w from_m from → IsLegal w → IsLegal (with_register m to x w)
-moved_legal w m to from_m from x h e l = legal_by (with_register m to x w) (write_legal w m to x (subst (MayHold w) (sym e) (inr (inl (register_member w from_m from h)))) (clauses_of w l))
+pub legal_after_register_moved : (w : HeapState) (m to from_m from x : ℕ) → is_register w from_m from ≡ true → x ≡ register w from_m from → IsLegal w → IsLegal (with_register m to x w)
+legal_after_register_moved w m to from_m from x h e l = clauses_make_heap_legal (with_register m to x w) (write_legal w m to x (subst (MayHold w) (sym e) (inr (inl (register_member w from_m from h)))) (legal_heap_has_clauses w l))
 
-pub moved : (w : HeapState) (m to from_m from x : ℕ) → x ≡ register w from_m from → with_register m to x w ≡ after_move m to from_m from w
+pub register_written_is_move : (w : HeapState) (m to from_m from x : ℕ) → x ≡ register w from_m from → with_register m to x w ≡ after_move m to from_m from w
 unfolding after_move
-moved w m to from_m from x e = ap (λ y. with_register m to y w) e
+register_written_is_move w m to from_m from x e = ap (λ y. with_register m to y w) e
 
 -- ---- a load
 
 pub load_no_slot : (m to from slot : ℕ) (w : HeapState) (e : Refusal) → is_register w m to ≡ true → is_register w m from ≡ true
     → ((e ≡ NullRegister) × (register w m from ≡ 0)) ⊎ ((e ≡ BadSlot) × (register w m from ≢ 0) × (slot_kind w (register w m from) slot ≡ None)) → load_refusal m to from slot w ≡ Some e
 unfolding load_refusal
-load_no_slot m to from slot w e a b h = no_slot w (register w m from) slot _ _ e (both_there _ _ a b) h
+load_no_slot m to from slot w e a b h = no_slot w (register w m from) slot _ _ e (not_of_two_truths_is_false _ _ a b) h
 
 pub load_accepted : (m to from slot : ℕ) (w : HeapState) (k : Kind) → is_register w m to ≡ true → is_register w m from ≡ true → register w m from ≢ 0 → slot_kind w (register w m from) slot ≡ Some k → load_refusal m to from slot w ≡ None
 unfolding load_refusal
-load_accepted m to from slot w k a b n s = with_named w (register w m from) slot k _ _ None (both_there _ _ a b) n s none_left
+load_accepted m to from slot w k a b n s = refusals_past_named_slot w (register w m from) slot k _ _ None (not_of_two_truths_is_false _ _ a b) n s no_refusal_without_tests
 
 pub load_legal : (w : HeapState) (m to from slot : ℕ) → HasClauses w → load_refusal m to from slot w ≡ None → HasClauses (after_load m to from slot w)
 unfolding load_refusal after_load
@@ -68,11 +68,11 @@ load_legal w m to from slot l accepted = go (is_reference_slot w (register w m f
   where
     go : (b : Bool) → is_reference_slot w (register w m from) slot ≡ b → HasClauses (if b then with_register m to (word_of w (register w m from) slot) w else w)
     go true e = write_legal w m to (word_of w (register w m from) slot)
-        (elim (slot_names w (register w m from) slot e) [ inl z ↦ inl z | inr n ↦ inr (inr (inl (register w m from, register_member w m from (second_register _ _ (none_holds _ accepted).0), n))) ]) l
+        (elim (slot_names w (register w m from) slot e) [ inl z ↦ inl z | inr n ↦ inr (inr (inl (register w m from, register_member w m from (second_register _ _ (no_refusal_test_holds _ accepted).0), n))) ]) l
     go false e = l
 
 pub loaded_legal : (w : HeapState) (m to from slot x : ℕ) → is_register w m from ≡ true → is_reference_slot w (register w m from) slot ≡ true → x ≡ word_of w (register w m from) slot → IsLegal w → IsLegal (with_register m to x w)
-loaded_legal w m to from slot x h r e l = legal_by (with_register m to x w) (write_legal w m to x (subst (MayHold w) (sym e) may) (clauses_of w l))
+loaded_legal w m to from slot x h r e l = clauses_make_heap_legal (with_register m to x w) (write_legal w m to x (subst (MayHold w) (sym e) may) (legal_heap_has_clauses w l))
   where
     may : MayHold w (word_of w (register w m from) slot)
     may = elim (slot_names w (register w m from) slot r) [ inl z ↦ inl z | inr n ↦ inr (inr (inl (register w m from, register_member w m from h, n))) ]

@@ -12,8 +12,8 @@ abbrev pub KeepsShape : HeapState → HeapState → ℕ → Type 0
 KeepsShape w v x = (o : Object) → object_of w.regions x ≡ Some o → NamesLike v o x
 
 -- and so does what was like it
-pub like_still : (w v : HeapState) (x : ℕ) (o : Object) → KeepsShape w v x → NamesLike w o x → NamesLike v o x
-like_still w v x o h n = let p = h n.0 n.1 in (p.0, p.1, p.2 ∙ n.2, p.3 ∙ n.3)
+pub names_like_after_kept_shape : (w v : HeapState) (x : ℕ) (o : Object) → KeepsShape w v x → NamesLike w o x → NamesLike v o x
+names_like_after_kept_shape w v x o h n = let p = h n.0 n.1 in (p.0, p.1, p.2 ∙ n.2, p.3 ∙ n.3)
 
-pub same_shape : (w v : HeapState) (x : ℕ) → object_of v.regions x ≡ object_of w.regions x → KeepsShape w v x
-same_shape w v x same o e = (o, same ∙ e, refl, refl)
+pub same_object_keeps_shape : (w v : HeapState) (x : ℕ) → object_of v.regions x ≡ object_of w.regions x → KeepsShape w v x
+same_object_keeps_shape w v x same o e = (o, same ∙ e, refl, refl)

@@ -11,7 +11,7 @@ use Rattle.std.specs.Prelude.{if◌then◌else◌}
 use Rattle.std.specs.Option.{option_map_or}
 use Rattle.heap_region.specs.Regions.{ref_of, with_mark, slot_kinds}
 use Rattle.heap_region.proofs.ChangedLookups.{object_at_ref}
-use Rattle.heap_region.proofs.References.{member_head, member_tail}
+use Rattle.heap_region.proofs.References.{list_has_its_head, list_has_items_of_tail}
 use Rattle.heap_mark.specs.MarkSteps.{MarkState, shaded, is_white, with_mark_of}
 use Rattle.heap_mark.proofs.Shades.{IsShadedAt, as_marked, shades_one}
 use Rattle.heap_world.specs.State.{HeapState}
@@ -29,8 +29,8 @@ pub record IsStored (classes : List Class) (regions : List Region) (ps : List �
   pub marked_live : (at : ObjRef) (o : Object) → object_at regions at ≡ Some o → o.mark ≡ true → o.live ≡ true
   pub swept_live : (at : ObjRef) (o : Object) → object_at regions at ≡ Some o → IfSome (used_at regions at.region) (λ u. u.pending ≡ false → o.live ≡ true)
 
-pub stored_of : (w : HeapState) → HasClauses w → IsStored w.classes w.regions w.pool
-stored_of w l = record { objects = l.objects; least_cells = l.least_cells; cells = l.cells; pool = l.pool; marked_live = l.marked_live; swept_live = l.swept_live }
+pub clauses_make_heap_stored : (w : HeapState) → HasClauses w → IsStored w.classes w.regions w.pool
+clauses_make_heap_stored w l = record { objects = l.objects; least_cells = l.least_cells; cells = l.cells; pool = l.pool; marked_live = l.marked_live; swept_live = l.swept_live }
 
 -- what a changed object keeps
 pub record Keeps (classes : List Class) (o p : Object) : Type 0 where
@@ -39,8 +39,8 @@ pub record Keeps (classes : List Class) (o p : Object) : Type 0 where
   pub live : p.live ≡ o.live
   pub marked_live : p.mark ≡ true → o.live ≡ true
 
-table_kept : (f : Object → Object) (c : ℕ) (u : UsedRegion) → IsPartition u → IsPartition (record u { cells = updated c (option_map f) u.cells })
-table_kept f c u t = record {
+object_change_keeps_partition : (f : Object → Object) (c : ℕ) (u : UsedRegion) → IsPartition u → IsPartition (record u { cells = updated c (option_map f) u.cells })
+object_change_keeps_partition f c u t = record {
   cells = length_updated c (option_map f) u.cells ∙ t.cells;
   free = record { distinct = t.free.distinct; each = λ k. (λ m. (free_with_object f u.cells c k).1 ((t.free.each k).0 m), λ e. (t.free.each k).1 ((free_with_object f u.cells c k).0 e)) };
   inhabited = let p = inhabited_with_object f u.cells c t.inhabited.0 t.inhabited.1 t.inhabited.2 in (t.inhabited.0, p.0, p.1);
@@ -76,7 +76,7 @@ stored_with_object classes rs pool at f s keeps = record {
         same = elim p.2 [ inl q ↦ sym (here b p.0 q.0 p.1).size ∙ ap (λ (x : Object). length x.words) (sym q.1) | inr q ↦ ap (λ (x : Object). length x.words) (sym q.1) ]
 
     cells : (r : ℕ) (v : UsedRegion) → ((u : UsedRegion) × (used_at rs r ≡ Some u) × (((r ≡ at.region) × (v ≡ change u)) ⊎ ((r ≢ at.region) × (v ≡ u)))) → IsPartition v
-    cells r v p = elim p.2 [ inl q ↦ subst IsPartition (sym q.1) (table_kept f at.cell p.0 (s.cells r p.0 p.1)) | inr q ↦ subst IsPartition (sym q.1) (s.cells r p.0 p.1) ]
+    cells r v p = elim p.2 [ inl q ↦ subst IsPartition (sym q.1) (object_change_keeps_partition f at.cell p.0 (s.cells r p.0 p.1)) | inr q ↦ subst IsPartition (sym q.1) (s.cells r p.0 p.1) ]
 
     marked : (b : ObjRef) (o' : Object) → ((o : Object) × (object_at rs b ≡ Some o) × (((b ≡ at) × (o' ≡ f o)) ⊎ ((b ≢ at) × (o' ≡ o)))) → o'.mark ≡ true → o'.live ≡ true
     marked b o' p m = elim p.2 [
@@ -92,9 +92,9 @@ stored_with_object classes rs pool at f s keeps = record {
         same = elim p.2 [ inl q ↦ sym (here b p.0 q.0 p.1).live ∙ ap (λ (x : Object). x.live) (sym q.1) | inr q ↦ ap (λ (x : Object). x.live) (sym q.1) ]
 
 -- a mark changes nothing that a place shows, but the mark
-marked_keeps : (classes : List Class) (o : Object) → IsObjectOf classes o → o.live ≡ true → Keeps classes o (as_marked o)
+mark_keeps_the_object : (classes : List Class) (o : Object) → IsObjectOf classes o → o.live ≡ true → Keeps classes o (as_marked o)
 unfolding slot_kinds
-marked_keeps classes o f l = record { fits = record { kind = f.kind; values = f.values }; size = refl; live = refl; marked_live = λ m. l }
+mark_keeps_the_object classes o f l = record { fits = record { kind = f.kind; values = f.values }; size = refl; live = refl; marked_live = λ m. l }
 
 -- a live object is shaded
 pub stored_shaded : (classes : List Class) (ps : List ℕ) (s : MarkState) (x : ℕ) → IsStored classes s.regions ps → ((o : Object) → object_of s.regions x ≡ Some o → o.live ≡ true) → IsStored classes (shaded s x).regions ps
@@ -104,12 +104,12 @@ stored_shaded classes ps s x st live = go (is_white s.regions x) (ref_of s.regio
     go : (b : Bool) (r : Option ObjRef) → ref_of s.regions x ≡ r → IsStored classes (if b then record s { regions = option_map_or (λ at. with_mark true at s.regions) r s.regions; gray = x ∷ s.gray } else s).regions ps
     go false r e = st
     go true None e = st
-    go true (Some at) e = stored_with_object classes s.regions ps at as_marked st (λ o h. marked_keeps classes o (st.objects at o h) (live o (object_at_ref s.regions x at e ∙ h)))
+    go true (Some at) e = stored_with_object classes s.regions ps at as_marked st (λ o h. mark_keeps_the_object classes o (st.objects at o h) (live o (object_at_ref s.regions x at e ∙ h)))
 
-pub stored_all : (classes : List Class) (ps : List ℕ) (xs : List ℕ) (s : MarkState) → IsStored classes s.regions ps → ((x : ℕ) (o : Object) → Contains xs x → object_of s.regions x ≡ Some o → o.live ≡ true) → IsStored classes (fold shaded s xs).regions ps
-stored_all classes ps [] s st live = st
-stored_all classes ps (x ∷ xs) s st live = stored_all classes ps xs (shaded s x) (stored_shaded classes ps s x st (λ o e. live x o (member_head x xs) e))
-    (λ y o c e. later y o (member_tail x xs y c) e ((shades_one s x).each y))
+pub shading_keeps_heap_stored : (classes : List Class) (ps : List ℕ) (xs : List ℕ) (s : MarkState) → IsStored classes s.regions ps → ((x : ℕ) (o : Object) → Contains xs x → object_of s.regions x ≡ Some o → o.live ≡ true) → IsStored classes (fold shaded s xs).regions ps
+shading_keeps_heap_stored classes ps [] s st live = st
+shading_keeps_heap_stored classes ps (x ∷ xs) s st live = shading_keeps_heap_stored classes ps xs (shaded s x) (stored_shaded classes ps s x st (λ o e. live x o (list_has_its_head x xs) e))
+    (λ y o c e. later y o (list_has_items_of_tail x xs y c) e ((shades_one s x).each y))
   where
     later : (y : ℕ) (o : Object) → Contains (x ∷ xs) y → object_of (shaded s x).regions y ≡ Some o → (object_of (shaded s x).regions y ≡ object_of s.regions y) ⊎ IsShadedAt s (shaded s x) y → o.live ≡ true
     later y o c e (inl p) = live y o c (sym p ∙ e)

@@ -9,7 +9,7 @@ use Rattle.heap_class.specs.Classes.{Class}
 use Rattle.heap_class.specs.Kinds.{is_reference, value_limit}
 use Rattle.heap_region.specs.Limits.{region_limit}
 use Rattle.heap_region.specs.Regions.{Object, Region, object_of, object_at, ref_of, with_object, with_word, with_region, references_of, slot_kinds}
-use Rattle.heap_region.proofs.Ids.{found_elsewhere, found_there}
+use Rattle.heap_region.proofs.Ids.{object_of_id_after_other_change, object_of_id_after_its_change}
 use Rattle.heap_region.proofs.UpdatedLists.{length_updated}
 use Rattle.heap_region.proofs.ChangedLookups.{same_or_not, object_at_ref}
 use Rattle.heap_region.proofs.PriorObjects.{object_was}
@@ -20,8 +20,8 @@ use Rattle.heap_world.specs.Reach.{Names}
 use Rattle.heap_world.specs.Legal.{IsObjectOf, HasKind, NamesOne, IsLive}
 use Rattle.heap_world.proofs.Clauses.{HasClauses}
 use Rattle.heap_world.proofs.Tricolour.{Rewires, rewires_tricolour}
-use Rattle.heap_world.proofs.StoredObjects.{IsStored, Keeps, stored_of, stored_with_object}
-use Rattle.heap_world.proofs.Registers.{namer, names_of}
+use Rattle.heap_world.proofs.StoredObjects.{IsStored, Keeps, clauses_make_heap_stored, stored_with_object}
+use Rattle.heap_world.proofs.Registers.{naming_id_names_an_object, names_of}
 
 -- the object with the word in a slot
 abbrev pub with_object_word : ℕ → ℕ → Object → Object
@@ -57,13 +57,13 @@ written w at slot word log = record w { regions = with_word at slot word w.regio
 abbrev pub IsWritten : HeapState → HeapState → ℕ → Object → ℕ → ℕ → Type 0
 IsWritten w v x o slot word = (y : ℕ) → (object_of v.regions y ≡ object_of w.regions y) ⊎ ((y ≡ x) × (object_of v.regions y ≡ Some (with_object_word slot word o)) × (object_of w.regions y ≡ Some o))
 
-is_written : (w : HeapState) (at : ObjRef) (x : ℕ) (o : Object) (slot word : ℕ) (log : List ℕ) → ref_of w.regions x ≡ Some at → object_of w.regions x ≡ Some o → IsWritten w (written w at slot word log) x o slot word
+word_write_is_written : (w : HeapState) (at : ObjRef) (x : ℕ) (o : Object) (slot word : ℕ) (log : List ℕ) → ref_of w.regions x ≡ Some at → object_of w.regions x ≡ Some o → IsWritten w (written w at slot word log) x o slot word
 unfolding with_word
-is_written w at x o slot word log p e y = go (same_or_not y x)
+word_write_is_written w at x o slot word log p e y = go (same_or_not y x)
   where
     go : (y ≡ x) ⊎ (y ≢ x) → (object_of (with_object at (with_object_word slot word) w.regions) y ≡ object_of w.regions y) ⊎ ((y ≡ x) × (object_of (with_object at (with_object_word slot word) w.regions) y ≡ Some (with_object_word slot word o)) × (object_of w.regions y ≡ Some o))
-    go (inl q) = inr (q, ap (object_of (with_object at (with_object_word slot word) w.regions)) q ∙ found_there w.regions x at (with_object_word slot word) p ∙ (λ i. option_map (with_object_word slot word) (e i)), ap (object_of w.regions) q ∙ e)
-    go (inr n) = inl (found_elsewhere w.regions x y at (with_object_word slot word) p (λ q. n (sym q)))
+    go (inl q) = inr (q, ap (object_of (with_object at (with_object_word slot word) w.regions)) q ∙ object_of_id_after_its_change w.regions x at (with_object_word slot word) p ∙ (λ i. option_map (with_object_word slot word) (e i)), ap (object_of w.regions) q ∙ e)
+    go (inr n) = inl (object_of_id_after_other_change w.regions x y at (with_object_word slot word) p (λ q. n (sym q)))
 
 -- what is true of an object, whatever its words, is so before and after
 bit_after : (w v : HeapState) (x : ℕ) (o : Object) (slot word : ℕ) (P : Object → Type 0) → ((b : Object) (ws : List ℕ) → P b → P (record b { words = ws })) → IsWritten w v x o slot word → (y : ℕ) → NamesOne w P y → NamesOne v P y
@@ -90,11 +90,11 @@ bit_before w v x o slot word P keep h y n = go (h y)
 abbrev pub IsReferenceSlot : List Class → Object → ℕ → Type 0
 IsReferenceSlot classes o slot = (k : Kind) × (slice_get (slot_kinds classes o) slot ≡ Some k) × (is_reference k ≡ true)
 
-names_before : (w v : HeapState) (x : ℕ) (o : Object) (slot word : ℕ) → v.classes ≡ w.classes → IsWritten w v x o slot word → (y z : ℕ) → Names v y z → Names w y z ⊎ ((z ≡ word) × (z ≢ 0) × IsReferenceSlot w.classes o slot)
-names_before w v x o slot word cs h y z n = go (h y)
+names_before_word_write : (w v : HeapState) (x : ℕ) (o : Object) (slot word : ℕ) → v.classes ≡ w.classes → IsWritten w v x o slot word → (y z : ℕ) → Names v y z → Names w y z ⊎ ((z ≡ word) × (z ≢ 0) × IsReferenceSlot w.classes o slot)
+names_before_word_write w v x o slot word cs h y z n = go (h y)
   where
     a : (b : Object) × (object_of v.regions y ≡ Some b) × Contains (references_of v.classes b) z
-    a = namer v y z n
+    a = naming_id_names_an_object v y z n
 
     c : Contains (references_of w.classes a.0) z
     c = subst (λ k. Contains (references_of k a.0) z) cs a.2
@@ -109,11 +109,11 @@ names_before w v x o slot word cs h y z n = go (h y)
         same : a.0 ≡ with_object_word slot word o
         same = let r = a.1 in let s = q.1 in cc
 
-names_after : (w v : HeapState) (x : ℕ) (o : Object) (slot word : ℕ) → v.classes ≡ w.classes → IsWritten w v x o slot word → (y z : ℕ) → Names w y z → Names v y z ⊎ ((slice_get o.words slot ≡ Some z) × (z ≢ 0) × IsReferenceSlot w.classes o slot)
-names_after w v x o slot word cs h y z n = go (h y)
+names_after_word_write : (w v : HeapState) (x : ℕ) (o : Object) (slot word : ℕ) → v.classes ≡ w.classes → IsWritten w v x o slot word → (y z : ℕ) → Names w y z → Names v y z ⊎ ((slice_get o.words slot ≡ Some z) × (z ≢ 0) × IsReferenceSlot w.classes o slot)
+names_after_word_write w v x o slot word cs h y z n = go (h y)
   where
     a : (b : Object) × (object_of w.regions y ≡ Some b) × Contains (references_of w.classes b) z
-    a = namer w y z n
+    a = naming_id_names_an_object w y z n
 
     go : (object_of v.regions y ≡ object_of w.regions y) ⊎ ((y ≡ x) × (object_of v.regions y ≡ Some (with_object_word slot word o)) × (object_of w.regions y ≡ Some o)) → Names v y z ⊎ ((slice_get o.words slot ≡ Some z) × (z ≢ 0) × IsReferenceSlot w.classes o slot)
     go (inl e) = inl (names_of v y z a.0 (e ∙ a.1) (subst (λ k. Contains (references_of k a.0) z) (sym cs) a.2))
@@ -146,39 +146,39 @@ written_rewires w at x o slot word after phase p e may = record {
   gray = refl;
   undrained = may.undrained;
   registers = λ y c. c;
-  names = λ y z n. elim (names_before w v x o slot word refl h y z n) [ inl b ↦ inl b | inr q ↦ inr (subst (Contains w.registers) (sym q.0) (may.reference q.2)) ];
-  names_still = λ y z n. elim (names_after w v x o slot word refl h y z n) [ inl b ↦ inl b | inr q ↦ inr (may.overwritten phase z q.2 q.0 q.1) ];
+  names = λ y z n. elim (names_before_word_write w v x o slot word refl h y z n) [ inl b ↦ inl b | inr q ↦ inr (subst (Contains w.registers) (sym q.0) (may.reference q.2)) ];
+  names_still = λ y z n. elim (names_after_word_write w v x o slot word refl h y z n) [ inl b ↦ inl b | inr q ↦ inr (may.overwritten phase z q.2 q.0 q.1) ];
 }
   where
     v : HeapState
     v = written w at slot word after
 
     h : IsWritten w v x o slot word
-    h = is_written w at x o slot word after p e
+    h = word_write_is_written w at x o slot word after p e
 
-pub length_written : (rs : List Region) (at : ObjRef) (slot word : ℕ) → length (with_word at slot word rs) ≡ length rs
+pub word_write_keeps_region_count : (rs : List Region) (at : ObjRef) (slot word : ℕ) → length (with_word at slot word rs) ≡ length rs
 unfolding with_word with_object with_region
-length_written rs at slot word = length_updated at.region _ rs
+word_write_keeps_region_count rs at slot word = length_updated at.region _ rs
 
-stored_written : (classes : List Class) (rs : List Region) (ps : List ℕ) (at : ObjRef) (slot word : ℕ) → IsStored classes rs ps → ((b : Object) → object_at rs at ≡ Some b → Keeps classes b (with_object_word slot word b)) → IsStored classes (with_word at slot word rs) ps
+word_write_keeps_stored : (classes : List Class) (rs : List Region) (ps : List ℕ) (at : ObjRef) (slot word : ℕ) → IsStored classes rs ps → ((b : Object) → object_at rs at ≡ Some b → Keeps classes b (with_object_word slot word b)) → IsStored classes (with_word at slot word rs) ps
 unfolding with_word
-stored_written classes rs ps at slot word st keeps = stored_with_object classes rs ps at (with_object_word slot word) st keeps
+word_write_keeps_stored classes rs ps at slot word st keeps = stored_with_object classes rs ps at (with_object_word slot word) st keeps
 
 quiet_written : (rs : List Region) (at : ObjRef) (slot word : ℕ) → ((b : ObjRef) (o : Object) → object_at rs b ≡ Some o → o.mark ≡ false) → (b : ObjRef) (o : Object) → object_at (with_word at slot word rs) b ≡ Some o → o.mark ≡ false
 unfolding with_word
 quiet_written rs at slot word h b o e = let q = object_was (with_object_word slot word) rs at b o e in
     elim q.2 [ inl c ↦ ap (λ (z : Object). z.mark) c.1 ∙ h b q.0 q.1 | inr c ↦ ap (λ (z : Object). z.mark) c.1 ∙ h b q.0 q.1 ]
 
-pub written_legal : (w : HeapState) (at : ObjRef) (x : ℕ) (o : Object) (slot word : ℕ) (after : List ℕ) → HasClauses w → ref_of w.regions x ≡ Some at → object_of w.regions x ≡ Some o → IsLive w x → (word ≢ 0 → IsReferenceSlot w.classes o slot → IsLive w word) → MayWrite w x o slot word after → HasClauses (written w at slot word after)
-written_legal w at x o slot word after l p e live word_live may = record {
-  sized = record { limits = l.sized.limits; regions = subst (λ n. (1 ≤ n) × (n ≤ region_limit)) (sym (length_written w.regions at slot word)) l.sized.regions; mutators = l.sized.mutators };
+pub clauses_after_word_write : (w : HeapState) (at : ObjRef) (x : ℕ) (o : Object) (slot word : ℕ) (after : List ℕ) → HasClauses w → ref_of w.regions x ≡ Some at → object_of w.regions x ≡ Some o → IsLive w x → (word ≢ 0 → IsReferenceSlot w.classes o slot → IsLive w word) → MayWrite w x o slot word after → HasClauses (written w at slot word after)
+clauses_after_word_write w at x o slot word after l p e live word_live may = record {
+  sized = record { limits = l.sized.limits; regions = subst (λ n. (1 ≤ n) × (n ≤ region_limit)) (sym (word_write_keeps_region_count w.regions at slot word)) l.sized.regions; mutators = l.sized.mutators };
   classes = l.classes;
   objects = st.objects;
   least_cells = st.least_cells;
   cells = st.cells;
   pool = st.pool;
   registers_live = λ y c n. live_after y (l.registers_live y c n);
-  slots_live = λ y z a n. live_after z (elim (names_before w v x o slot word refl h y z n) [
+  slots_live = λ y z a n. live_after z (elim (names_before_word_write w v x o slot word refl h y z n) [
     | inl b ↦ l.slots_live y z (live_before y a) b
     | inr q ↦ subst (IsLive w) (sym q.0) (word_live (λ s. q.1 (q.0 ∙ s)) q.2)
   ]);
@@ -197,13 +197,13 @@ written_legal w at x o slot word after l p e live word_live may = record {
     v = written w at slot word after
 
     h : IsWritten w v x o slot word
-    h = is_written w at x o slot word after p e
+    h = word_write_is_written w at x o slot word after p e
 
     here : (b : Object) → object_at w.regions at ≡ Some b → b ≡ o
     here b f = let g : object_of w.regions x ≡ object_at w.regions at = object_at_ref w.regions x at p in cc
 
     st : IsStored w.classes (with_word at slot word w.regions) w.pool
-    st = stored_written w.classes w.regions w.pool at slot word (stored_of w l)
+    st = word_write_keeps_stored w.classes w.regions w.pool at slot word (clauses_make_heap_stored w l)
         (λ b f. word_keeps w.classes b slot word (l.objects at b f) (l.marked_live at b f) (λ k g. may.value k (ap (λ (z : Object). slice_get (slot_kinds w.classes z) slot) (sym (here b f)) ∙ g)))
 
     live_after : (y : ℕ) → IsLive w y → IsLive v y
@@ -214,6 +214,6 @@ written_legal w at x o slot word after l p e live word_live may = record {
 
 -- ---- store
 
-pub not_false : (b : Bool) → not b ≡ false → b ≡ true
-not_false true h = refl
-not_false false h = cc
+pub not_false_is_true : (b : Bool) → not b ≡ false → b ≡ true
+not_false_is_true true h = refl
+not_false_is_true false h = cc

@@ -7,7 +7,7 @@ use Rattle.heap_class.specs.Classes.{Class, slots_of, IsClassTable}
 use Rattle.heap_class.proofs.FewSlots.{slots_few}
 use Rattle.heap_region.specs.Limits.{region_words}
 use Rattle.heap_region.specs.Legal.{IsRegionPool}
-use Rattle.heap_region.proofs.Clauses.{AreClauses, from_clauses}
+use Rattle.heap_region.proofs.Clauses.{AreClauses, clauses_make_region_pool}
 use Rattle.heap_world.specs.State.{HeapState, pool_of}
 use Rattle.heap_region.specs.Legal.{EachObject}
 use Rattle.heap_world.specs.Legal.{HasKind, IsObjectOf}
@@ -22,4 +22,4 @@ words_few w t h at o there = few_words w.classes t o.kind (length o.words) (h at
 
 -- the clauses on regions and pool, with those on classes and objects, say the invariant of regions and pool
 pub pool_from_clauses : (w : HeapState) → IsClassTable [] w.classes → EachObject w.regions (λ at o. IsObjectOf w.classes o) → AreClauses (pool_of w) → IsRegionPool (pool_of w)
-pool_from_clauses w t objects h = from_clauses (pool_of w) h (words_few w t objects)
+pool_from_clauses w t objects h = clauses_make_region_pool (pool_of w) h (words_few w t objects)

@@ -12,7 +12,7 @@ use Rattle.session_text.specs.Session.{IsSession}
 use Rattle.question_text.specs.declared.asking.Asking.{Asking}
 use Rattle.question_text.specs.Sessions.{ServesAsking}
 use Rattle.heap_save.specs.Saves.{EndsSave, IsSaved}
-use Rattle.heap_save.proofs.SavedSessions.{ends_anywhere}
+use Rattle.heap_save.proofs.SavedSessions.{save_ends_alike_anywhere}
 use Rattle.heapdbg_options.specs.CommandLine.{limits_of}
 use Rattle.heapdbg_options.specs.declared.settings.Settings.{Settings}
 use Rattle.heapdbg.specs.Explorations.{IsOpening}
@@ -27,7 +27,7 @@ first_is s = refl
 ends_here : (makes : Option Outgoing → Type 0) (own mine time : ℕ) (left m' : Machine) (between w' : Outgoing) (outlet : Option Outgoing) (talked ended : Ended) (pumped : Option Pumped)
     → own ≡ 1 → mine ≡ time → EndsSave makes own mine left m' between w' outlet talked ended pumped (is_whole_session talked) → EndsSave any_outlet 1 time left m' between w' outlet talked ended pumped (is_whole_session talked)
 ends_here makes own mine time left m' between w' outlet talked ended pumped one same goes =
-    ends_anywhere makes any_outlet 1 time left m' between w' outlet talked ended pumped (is_whole_session talked) (λ o h. tt)
+    save_ends_alike_anywhere makes any_outlet 1 time left m' between w' outlet talked ended pumped (is_whole_session talked) (λ o h. tt)
     (subst (λ n. EndsSave makes n time left m' between w' outlet talked ended pumped (is_whole_session talked)) one
     (subst (λ t. EndsSave makes own t left m' between w' outlet talked ended pumped (is_whole_session talked)) same goes))
 

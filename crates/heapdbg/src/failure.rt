@@ -148,34 +148,19 @@ pub fn outcome(ended: Ended) -> Result<(), Fault>
     }
 }
 
-// Returns the exit status: 0 if the work is done or a command asks for a text, 1 after a fault, 2 after a bad command line or
-// an option that asks for a text.
-fn status(done: &Result<(), Failure>) -> u8
-    ensures { result ≡ exit_status_of done.now }
+/// Writes the text of a failure, if there is one, to standard output if the command line asks for it, else to standard error, and
+/// returns the exit code. A write that fails changes nothing.
+pub fn report<W: Write, V: Write>(
+    stdout: &mut W,
+    stderr: &mut V,
+    done: &Result<(), Failure>,
+) -> ExitCode
+    ensures status { exit_status result ≡ exit_status_of done.now }
+    ensures out { IsOutKept done.now stdout.old stdout.new }
+    ensures error { IsErrorKept done.now stderr.old stderr.new }
 {
-    match done {
-        Ok(()) | Err(Failure::CommandText(_)) => 0,
-        Err(Failure::Work(_)) => 1,
-        Err(Failure::Line(_) | Failure::OptionText(_)) => 2,
-    }
-}
-
-// Writes the text of a failure.
-fn tell<W: Write>(writer: &mut W, failure: &Failure) -> io::Result<()>
-    ensures { OnOk result
-        (Appends (W.contents writer.old) (W.contents writer.new) (message_of failure.now)) }
-{
-    write!(writer, "{failure}")
-}
-
-// Tells whether the text of a failure is one that the command line asks for.
-fn is_asked(failure: &Failure) -> bool
-    ensures { result ≡ is_asked failure.now }
-{
-    match failure {
-        Failure::OptionText(_) | Failure::CommandText(_) => true,
-        Failure::Line(_) | Failure::Work(_) => false,
-    }
+    tell_failure(stdout, stderr, done);
+    ExitCode::from(status(done))
 }
 
 // Writes the text of a failure, if there is one, to standard output if the command line asks for it, else to standard error. A
@@ -194,17 +179,32 @@ fn tell_failure<W: Write, V: Write>(stdout: &mut W, stderr: &mut V, done: &Resul
     }
 }
 
-/// Writes the text of a failure, if there is one, to standard output if the command line asks for it, else to standard error, and
-/// returns the exit code. A write that fails changes nothing.
-pub fn report<W: Write, V: Write>(
-    stdout: &mut W,
-    stderr: &mut V,
-    done: &Result<(), Failure>,
-) -> ExitCode
-    ensures status { exit_status result ≡ exit_status_of done.now }
-    ensures out { IsOutKept done.now stdout.old stdout.new }
-    ensures error { IsErrorKept done.now stderr.old stderr.new }
+// Tells whether the text of a failure is one that the command line asks for.
+fn is_asked(failure: &Failure) -> bool
+    ensures { result ≡ is_asked failure.now }
 {
-    tell_failure(stdout, stderr, done);
-    ExitCode::from(status(done))
+    match failure {
+        Failure::OptionText(_) | Failure::CommandText(_) => true,
+        Failure::Line(_) | Failure::Work(_) => false,
+    }
+}
+
+// Writes the text of a failure.
+fn tell<W: Write>(writer: &mut W, failure: &Failure) -> io::Result<()>
+    ensures { OnOk result
+        (Appends (W.contents writer.old) (W.contents writer.new) (message_of failure.now)) }
+{
+    write!(writer, "{failure}")
+}
+
+// Returns the exit status: 0 if the work is done or a command asks for a text, 1 after a fault, 2 after a bad command line or
+// an option that asks for a text.
+fn status(done: &Result<(), Failure>) -> u8
+    ensures { result ≡ exit_status_of done.now }
+{
+    match done {
+        Ok(()) | Err(Failure::CommandText(_)) => 0,
+        Err(Failure::Work(_)) => 1,
+        Err(Failure::Line(_) | Failure::OptionText(_)) => 2,
+    }
 }

@@ -92,6 +92,23 @@ where
     FetchEnd { outcome, dump }
 }
 
+// Makes the file of a path. Fails with Out.
+fn create<R: AllocGlobal + Eprint + Files>(
+    rt: &R,
+    path: &str,
+    is_terminal: bool,
+) -> Result<R::File, Fault>
+    ensures { IfErr result (λ f. f ≡ Fault.Out) }
+{
+    match fs::create(rt, path) {
+        Ok(file) => Ok(file),
+        Err(error) => {
+            tell_path(rt, is_terminal, path, &error);
+            Err(Fault::Out)
+        }
+    }
+}
+
 // Fetches what an inlet gives into an outlet, and shows its progress, if standard error is a terminal.
 fn fetch_shown<R, I: Inlet, F: Outlet>(
     rt: &R,
@@ -111,23 +128,6 @@ where
     let fetched = fetch(rt, inlet, file, &mut line);
     line.end(fetched.bytes);
     fetched
-}
-
-// Makes the file of a path. Fails with Out.
-fn create<R: AllocGlobal + Eprint + Files>(
-    rt: &R,
-    path: &str,
-    is_terminal: bool,
-) -> Result<R::File, Fault>
-    ensures { IfErr result (λ f. f ≡ Fault.Out) }
-{
-    match fs::create(rt, path) {
-        Ok(file) => Ok(file),
-        Err(error) => {
-            tell_path(rt, is_terminal, path, &error);
-            Err(Fault::Out)
-        }
-    }
 }
 
 // Returns the outcome of a fetch, whose last line was put out or not.

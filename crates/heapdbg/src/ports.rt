@@ -54,21 +54,6 @@ where
     }
 }
 
-// Returns a key of 32 hexadecimal digits, 128 bits of the system's randomness. Fails with Memory.
-fn random_key<R: RandomSource>(rt: &R, alloc: Global) -> Result<String, Fault>
-    ensures { IfErr result (λ f. f ≡ Memory) }
-{
-    let mut bytes = [0u8; 16];
-    if rt.fill_bytes(&mut bytes).is_err() {
-        return Err(Fault::Memory);
-    }
-    let number = u128::from_le_bytes(bytes);
-    match format!(in alloc; "{number:032x}") {
-        Ok(key) => Ok(key),
-        Err(_) => Err(Fault::Memory),
-    }
-}
-
 /// Listens on the port of a page under a new key, and says its address, with that key, on standard error. Fails with Listen,
 /// and with Memory if an allocation fails or the system gives no random bytes.
 pub(crate) fn page_port<R>(
@@ -96,4 +81,19 @@ where
         keys,
         terms,
     })
+}
+
+// Returns a key of 32 hexadecimal digits, 128 bits of the system's randomness. Fails with Memory.
+fn random_key<R: RandomSource>(rt: &R, alloc: Global) -> Result<String, Fault>
+    ensures { IfErr result (λ f. f ≡ Memory) }
+{
+    let mut bytes = [0u8; 16];
+    if rt.fill_bytes(&mut bytes).is_err() {
+        return Err(Fault::Memory);
+    }
+    let number = u128::from_le_bytes(bytes);
+    match format!(in alloc; "{number:032x}") {
+        Ok(key) => Ok(key),
+        Err(_) => Err(Fault::Memory),
+    }
 }

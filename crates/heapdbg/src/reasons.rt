@@ -14,6 +14,13 @@ pub(crate) fn tell_path<R: AllocGlobal + Eprint>(
     }
 }
 
+// Returns the text of an error without its number. Fails if an allocation fails.
+fn reason_of(alloc: Global, error: &Error) -> Result<String, AllocError> {
+    let text = format!(in alloc; "{error}")?;
+    let reason = text.as_str().split(" (os error").next().unwrap_or("");
+    String::from_str(alloc, reason)
+}
+
 /// Says on standard error, if that is a terminal, why a file can't be used. A write that fails changes nothing.
 pub(crate) fn tell_reason<R: AllocGlobal + Eprint>(
     rt: &R,
@@ -37,11 +44,4 @@ pub(crate) fn tell_port<R: AllocGlobal + Eprint>(
     if is_terminal && let Ok(reason) = reason_of(rt.alloc(), error) {
         let _ = eprintln!(rt; "heapdbg: 127.0.0.1:{port}: {reason}");
     }
-}
-
-// Returns the text of an error without its number. Fails if an allocation fails.
-fn reason_of(alloc: Global, error: &Error) -> Result<String, AllocError> {
-    let text = format!(in alloc; "{error}")?;
-    let reason = text.as_str().split(" (os error").next().unwrap_or("");
-    String::from_str(alloc, reason)
 }

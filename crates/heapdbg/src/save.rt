@@ -112,35 +112,6 @@ pub fn peer<R: AllocGlobal + Eprint + Net>(
     }
 }
 
-// Runs a session over a heap as it begins, in which questions are answered if the settings say so, and does what a save does after
-// its session.
-fn save_session<I: Inlet, O: Outlet, P: Outlets, G: Gauge, R>(
-    rt: &R,
-    settings: &Settings,
-    dump: LastDump<'_, P, G>,
-    reader: &mut I,
-    writer: &mut O,
-    asking: &mut Asking<'_>,
-) -> Saved<P, P::Out>
-where
-    R: AllocGlobal + Threads + Wait + Sync,
-    requires opening { IsOpening settings.now asking.old }
-    requires first { asking.old.local.first_pin ≡ 1 }
-    requires time { dump.time ≡ settings.now.time }
-    ensures { IsSavedWith settings.now.questions settings.now asking.new.local.machine
-        (I.seen reader.old) (I.seen reader.new) (O.seen writer.old) (O.seen writer.new)
-        (option_map P.Out.seen result.outlet) result.ended result.pumped }
-{
-    let alloc = rt.alloc();
-    let limits = session_limits(settings.wide);
-    if settings.questions {
-        let ended = serve_asking(alloc, reader, writer, asking, settings.time, limits);
-        dump.save_after(rt, alloc, ended, &mut asking.local, writer)
-    } else {
-        dump.save_into(rt, alloc, &mut asking.local, reader, writer, limits)
-    }
-}
-
 /// Runs a session, in which questions are answered if the settings say so, and dumps the state that it leaves to a destination,
 /// which a gauge sees. Fails as a session does, with `unmade` if the place makes no outlet, with Out if a write to it fails, and
 /// with Lost if the dump is lost. May wait.
@@ -168,6 +139,35 @@ where
             save_outcome(unmade, saved.outlet.is_some(), saved.ended, saved.pumped)
         }
         Err(fault) => Err(fault),
+    }
+}
+
+// Runs a session over a heap as it begins, in which questions are answered if the settings say so, and does what a save does after
+// its session.
+fn save_session<I: Inlet, O: Outlet, P: Outlets, G: Gauge, R>(
+    rt: &R,
+    settings: &Settings,
+    dump: LastDump<'_, P, G>,
+    reader: &mut I,
+    writer: &mut O,
+    asking: &mut Asking<'_>,
+) -> Saved<P, P::Out>
+where
+    R: AllocGlobal + Threads + Wait + Sync,
+    requires opening { IsOpening settings.now asking.old }
+    requires first { asking.old.local.first_pin ≡ 1 }
+    requires time { dump.time ≡ settings.now.time }
+    ensures { IsSavedWith settings.now.questions settings.now asking.new.local.machine
+        (I.seen reader.old) (I.seen reader.new) (O.seen writer.old) (O.seen writer.new)
+        (option_map P.Out.seen result.outlet) result.ended result.pumped }
+{
+    let alloc = rt.alloc();
+    let limits = session_limits(settings.wide);
+    if settings.questions {
+        let ended = serve_asking(alloc, reader, writer, asking, settings.time, limits);
+        dump.save_after(rt, alloc, ended, &mut asking.local, writer)
+    } else {
+        dump.save_into(rt, alloc, &mut asking.local, reader, writer, limits)
     }
 }
 

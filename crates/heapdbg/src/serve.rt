@@ -96,6 +96,119 @@ where
     }
 }
 
+// Creates a heap of the settings with the seats of a service, and listens on its ports. Fails with Memory or Listen.
+fn open_service<R>(
+    rt: &R,
+    alloc: Global,
+    settings: &Settings,
+    service: Service,
+    secret: Option<Secret>,
+    is_terminal: bool,
+) -> Result<Opened, Fault>
+where
+    R: Net<Listener = TcpListener, Stream = TcpStream> + AllocGlobal + Eprint + RandomSource,
+    requires heap { IsHeapWithin settings.now }
+    requires sessions { (1 ≤ service.sessions) × (service.sessions ≤ session_limit) }
+    ensures opened { IfOk result (IsOpened service secret settings.now) }
+    ensures fault { IfErr result (λ f. (f ≡ Memory) ⊎ (f ≡ Listen)) }
+{
+    let Ok(mut blank) = blank_for(alloc, settings, service) else {
+        return Err(Fault::Memory);
+    };
+    blank.set_rolls(settings.rolls || service.stays || settings.wide);
+    match listen(rt, alloc, service, settings.time, is_terminal) {
+        Ok((ports, report)) => {
+            let plan = ServicePlan {
+                most: service.sessions as usize,
+                ports,
+                terms: terms(settings, service, secret),
+            };
+            Ok(Opened {
+                blank,
+                plan,
+                report,
+            })
+        }
+        Err(fault) => Err(fault),
+    }
+}
+
+// Creates a heap of the settings with the seats of a service. Fails with NoMemory.
+fn blank_for(alloc: Global, settings: &Settings, service: Service) -> Result<Blank, Refusal>
+    requires heap { IsHeapWithin settings.now }
+    requires sessions { (1 ≤ service.sessions) × (service.sessions ≤ session_limit) }
+    ensures settings { IfOk result (λ b. b.config ≡ config_of settings.now) }
+    ensures users { IfOk result (λ b. service.workers ≡ 0
+        → AreUsers b.seats × (length b.seats ≡ service.sessions)) }
+    ensures staff { IfOk result (λ b. 1 ≤ service.workers → AreStaff service.sessions b.seats) }
+{
+    if service.workers > 0 {
+        workers_and_users(alloc, config(settings), service.sessions)
+    } else {
+        users(alloc, config(settings), service.sessions)
+    }
+}
+
+// Listens on the ports, and returns an empty report with room for the lines of all sessions. Fails with Memory or Listen.
+fn listen<R>(
+    rt: &R,
+    alloc: Global,
+    service: Service,
+    time: u64,
+    is_terminal: bool,
+) -> Result<(Ports, Vec<u8>), Fault>
+where
+    R: Net<Listener = TcpListener, Stream = TcpStream> + AllocGlobal + Eprint + RandomSource,
+    requires { service.sessions ≤ session_limit }
+    ensures report { IfOk result (λ p. p.1.items ≡ []) }
+    ensures fault { IfErr result (λ f. (f ≡ Memory) ⊎ (f ≡ Listen)) }
+{
+    let Ok(report) = Vec::with_capacity(alloc, LINE * service.sessions as usize) else {
+        return Err(Fault::Memory);
+    };
+    let dumps = match service.dumps {
+        Some(port) => Some(dump_listener(rt, port, is_terminal)?),
+        None => None,
+    };
+    let page = match service.page {
+        Some(port) => Some(page_port(rt, alloc, port, time, is_terminal)?),
+        None => None,
+    };
+    let sessions = listener(rt, service.port, is_terminal)?;
+    if is_terminal {
+        let port = service.port;
+        let _ = eprintln!(rt; "heapdbg: listening on 127.0.0.1:{port}");
+    }
+    let ports = Ports {
+        sessions,
+        dumps,
+        page,
+    };
+    Ok((ports, report))
+}
+
+// Returns the terms of the sessions.
+fn terms(settings: &Settings, service: Service, secret: Option<Secret>) -> Terms
+    ensures { result ≡ terms_of settings.now service secret }
+{
+    Terms {
+        time: settings.time,
+        questions: settings.questions,
+        secret,
+        idle: service.idle,
+        stays: service.stays,
+        limits: session_limits(settings.wide),
+    }
+}
+
+// A service that listens: its heap, what the heap is opened for, and an empty report with room for the lines of all sessions.
+#[derive(Drop)]
+struct Opened {
+    blank: Blank,
+    plan: ServicePlan,
+    report: Vec<u8>,
+}
+
 // Serves the clients of a service without workers, and puts out how each session ended.
 fn serve_untended<R, O: Outlet>(rt: &R, alloc: Global, opened: Opened, writer: &mut O) -> ServiceEnd
 where
@@ -116,6 +229,29 @@ where
     let outcome = tell(&heap.served, report, writer);
     let heap = Some(HeapServed::Untended(heap));
     ServiceEnd { outcome, heap }
+}
+
+// Puts out how sessions ended, by way of a report that is still empty.
+fn tell<O: Outlet>(served: &Served, report: Vec<u8>, writer: &mut O) -> Result<(), Fault>
+    requires { report.items ≡ [] }
+    ensures { IsReportTold served.now (O.seen writer.old) (O.seen writer.new) result }
+{
+    let mut report = report;
+    if tell_sessions(&mut report, served.sessions.as_slice()).is_err() {
+        return Err(Fault::Memory);
+    }
+    let written = write_all(writer, report.as_slice());
+    outcome(served.refused, written)
+}
+
+// Returns the outcome of sessions that have ended. An accept that failed goes before a write that did.
+fn outcome(refused: bool, written: bool) -> Result<(), Fault>
+    ensures { result ≡ served_outcome refused written }
+{
+    if refused {
+        return Err(Fault::Accept);
+    }
+    if written { Ok(()) } else { Err(Fault::Write) }
 }
 
 // Serves the clients of a service with workers, and puts out how each session ended.
@@ -184,140 +320,4 @@ where
     let outcome = Err(Fault::Accept);
     let heap = Some(HeapServed::StayedTended(heap));
     ServiceEnd { outcome, heap }
-}
-
-// A service that listens: its heap, what the heap is opened for, and an empty report with room for the lines of all sessions.
-#[derive(Drop)]
-struct Opened {
-    blank: Blank,
-    plan: ServicePlan,
-    report: Vec<u8>,
-}
-
-// Creates a heap of the settings with the seats of a service, and listens on its ports. Fails with Memory or Listen.
-fn open_service<R>(
-    rt: &R,
-    alloc: Global,
-    settings: &Settings,
-    service: Service,
-    secret: Option<Secret>,
-    is_terminal: bool,
-) -> Result<Opened, Fault>
-where
-    R: Net<Listener = TcpListener, Stream = TcpStream> + AllocGlobal + Eprint + RandomSource,
-    requires heap { IsHeapWithin settings.now }
-    requires sessions { (1 ≤ service.sessions) × (service.sessions ≤ session_limit) }
-    ensures opened { IfOk result (IsOpened service secret settings.now) }
-    ensures fault { IfErr result (λ f. (f ≡ Memory) ⊎ (f ≡ Listen)) }
-{
-    let Ok(mut blank) = blank_for(alloc, settings, service) else {
-        return Err(Fault::Memory);
-    };
-    blank.set_rolls(settings.rolls || service.stays || settings.wide);
-    match listen(rt, alloc, service, settings.time, is_terminal) {
-        Ok((ports, report)) => {
-            let plan = ServicePlan {
-                most: service.sessions as usize,
-                ports,
-                terms: terms(settings, service, secret),
-            };
-            Ok(Opened {
-                blank,
-                plan,
-                report,
-            })
-        }
-        Err(fault) => Err(fault),
-    }
-}
-
-// Creates a heap of the settings with the seats of a service. Fails with NoMemory.
-fn blank_for(alloc: Global, settings: &Settings, service: Service) -> Result<Blank, Refusal>
-    requires heap { IsHeapWithin settings.now }
-    requires sessions { (1 ≤ service.sessions) × (service.sessions ≤ session_limit) }
-    ensures settings { IfOk result (λ b. b.config ≡ config_of settings.now) }
-    ensures users { IfOk result (λ b. service.workers ≡ 0
-        → AreUsers b.seats × (length b.seats ≡ service.sessions)) }
-    ensures staff { IfOk result (λ b. 1 ≤ service.workers → AreStaff service.sessions b.seats) }
-{
-    if service.workers > 0 {
-        workers_and_users(alloc, config(settings), service.sessions)
-    } else {
-        users(alloc, config(settings), service.sessions)
-    }
-}
-
-// Returns the terms of the sessions.
-fn terms(settings: &Settings, service: Service, secret: Option<Secret>) -> Terms
-    ensures { result ≡ terms_of settings.now service secret }
-{
-    Terms {
-        time: settings.time,
-        questions: settings.questions,
-        secret,
-        idle: service.idle,
-        stays: service.stays,
-        limits: session_limits(settings.wide),
-    }
-}
-
-// Listens on the ports, and returns an empty report with room for the lines of all sessions. Fails with Memory or Listen.
-fn listen<R>(
-    rt: &R,
-    alloc: Global,
-    service: Service,
-    time: u64,
-    is_terminal: bool,
-) -> Result<(Ports, Vec<u8>), Fault>
-where
-    R: Net<Listener = TcpListener, Stream = TcpStream> + AllocGlobal + Eprint + RandomSource,
-    requires { service.sessions ≤ session_limit }
-    ensures report { IfOk result (λ p. p.1.items ≡ []) }
-    ensures fault { IfErr result (λ f. (f ≡ Memory) ⊎ (f ≡ Listen)) }
-{
-    let Ok(report) = Vec::with_capacity(alloc, LINE * service.sessions as usize) else {
-        return Err(Fault::Memory);
-    };
-    let dumps = match service.dumps {
-        Some(port) => Some(dump_listener(rt, port, is_terminal)?),
-        None => None,
-    };
-    let page = match service.page {
-        Some(port) => Some(page_port(rt, alloc, port, time, is_terminal)?),
-        None => None,
-    };
-    let sessions = listener(rt, service.port, is_terminal)?;
-    if is_terminal {
-        let port = service.port;
-        let _ = eprintln!(rt; "heapdbg: listening on 127.0.0.1:{port}");
-    }
-    let ports = Ports {
-        sessions,
-        dumps,
-        page,
-    };
-    Ok((ports, report))
-}
-
-// Puts out how sessions ended, by way of a report that is still empty.
-fn tell<O: Outlet>(served: &Served, report: Vec<u8>, writer: &mut O) -> Result<(), Fault>
-    requires { report.items ≡ [] }
-    ensures { IsReportTold served.now (O.seen writer.old) (O.seen writer.new) result }
-{
-    let mut report = report;
-    if tell_sessions(&mut report, served.sessions.as_slice()).is_err() {
-        return Err(Fault::Memory);
-    }
-    let written = write_all(writer, report.as_slice());
-    outcome(served.refused, written)
-}
-
-// Returns the outcome of sessions that have ended. An accept that failed goes before a write that did.
-fn outcome(refused: bool, written: bool) -> Result<(), Fault>
-    ensures { result ≡ served_outcome refused written }
-{
-    if refused {
-        return Err(Fault::Accept);
-    }
-    if written { Ok(()) } else { Err(Fault::Write) }
 }

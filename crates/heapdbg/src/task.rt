@@ -74,6 +74,17 @@ where
     }
 }
 
+// Returns the fault of a command line that can't be read.
+fn unread(alloc: Global, error: &Error) -> LineFault
+    ensures memory { error_kind error.now ≡ ErrorKind.OutOfMemory → result ≡ LineFault.Memory }
+    ensures text { IsBadWith NOT_UTF8.now result }
+{
+    if error.kind() == ErrorKind::OutOfMemory {
+        return LineFault::Memory;
+    }
+    bad(alloc, NOT_UTF8)
+}
+
 // Tells whether the words ask for the command of this name.
 fn asks_for(words: &[String], name: &str) -> bool {
     match words.get(1) {
@@ -107,24 +118,6 @@ where
     }
 }
 
-// Does the task that the words ask for, and reports each line of standard input that is refused or no command.
-fn perform_reported<R>(rt: &R, words: &[String], screen: Screen<'_>) -> Result<(), Failure>
-where
-    R: AllocGlobal + Clock + Eprint + Files + Input + Print,
-    R: Net<Listener = TcpListener, Stream = TcpStream> + Threads + Wait + RandomSource,
-    R: Copy + Send + Sync + Drop + 'static,
-    R::Reader: Send + 'static,
-{
-    let answers = NewestLine::new(rt.alloc());
-    let lines = LineInlet::new(rt, rt.alloc(), &answers, "stdin", rt.reader());
-    let Ok(mut reader) = lines else {
-        return Err(Fault::Memory.into());
-    };
-    let input = ReadInlet::new(rt.reader());
-    let mut writer = NotingOutlet::new(WriteOutlet::new(io::writer(rt)), &answers);
-    perform_words(rt, words, &mut reader, input, &mut writer, screen)
-}
-
 // Does the task that the words ask for: a private session between a reader and a writer, or a client's between `input`, which
 // a thread takes that may outlive this call, and the writer. If they ask for none, or an allocation for reading them fails,
 // nothing is read or written.
@@ -154,6 +147,18 @@ where
     };
     work(rt, request, screen, reader, input, writer)?;
     Ok(())
+}
+
+// Returns the settings that the words ask for.
+fn settings_of_words(alloc: Global, words: &[String]) -> Result<Settings, LineFault>
+    ensures ok { IfOk result (λ s. settings_of (map string_bytes words.now) ≡ Some s) }
+    ensures refused { IfErr result (IsRefusalOf (map string_bytes words.now)) }
+    ensures limits { IfOk result AreSettingsWithin }
+{
+    match borrow_words(alloc, words) {
+        Ok(line) => settings(alloc, line.as_slice()),
+        Err(_) => Err(LineFault::Memory),
+    }
 }
 
 // Returns the words as text. Fails with Memory.
@@ -206,6 +211,120 @@ where
         Task::Fetch { port, secret } => fetch_at(rt, request, port, secret, writer, is_terminal),
     }
 }
+
+// Runs one session over a private heap, in which questions are answered if the settings say so.
+fn run<R: AllocGlobal + Clock + Eprint + Files, I: Inlet, O: Outlet>(
+    rt: &R,
+    request: Request<'_>,
+    screen: Screen<'_>,
+    reader: &mut I,
+    writer: &mut O,
+) -> Result<(), Fault>
+    requires { IsHeapWithin request.settings }
+    ensures { IsRunWith request.entry.settings.questions request.entry.settings (I.seen reader.old)
+        (I.seen reader.new) (O.seen writer.old) (O.seen writer.new) result }
+{
+    if request.settings.questions {
+        explore(rt, request, false, screen, reader, writer)
+    } else {
+        session(rt.alloc(), &request.settings, reader, writer)
+    }
+}
+
+// Runs one session over a private heap.
+fn session<I: Inlet, O: Outlet>(
+    alloc: Global,
+    settings: &Settings,
+    reader: &mut I,
+    writer: &mut O,
+) -> Result<(), Fault>
+    requires { IsHeapWithin settings.now }
+    ensures { IsRun settings.now (I.seen reader.old) (I.seen reader.new) (O.seen writer.old)
+        (O.seen writer.new) result }
+{
+    match open_local(alloc, settings) {
+        Ok(mut local) => {
+            let limits = session_limits(settings.wide);
+            let time = settings.time;
+            outcome(serve_local(alloc, reader, writer, &mut local, time, limits))
+        }
+        Err(fault) => Err(fault),
+    }
+}
+
+// Runs a session with questions over a heap of its own, which a page shows if there is a port for it.
+fn explore_at<R, I: Inlet, O: Outlet>(
+    rt: &R,
+    request: Request<'_>,
+    from: bool,
+    page: Option<u16>,
+    screen: Screen<'_>,
+    reader: &mut I,
+    writer: &mut O,
+) -> Result<(), Fault>
+where
+    R: Net<Listener = TcpListener, Stream = TcpStream> + Threads + Wait + RandomSource + Sync,
+    R: AllocGlobal + Clock + Eprint + Files,
+    requires { IsHeapWithin request.settings }
+    ensures { IsTaskDone (Explore from page) request.entry.settings (I.seen reader.old)
+        (I.seen reader.new) (O.seen writer.old) (O.seen writer.new) result }
+{
+    match page {
+        Some(port) => explore_with_page(rt, request, from, port, screen, reader, writer),
+        None => explore(rt, request, from, screen, reader, writer),
+    }
+}
+
+// Runs a session, and dumps the state that it leaves to a target.
+fn save_at<R, I: Inlet, O: Outlet>(
+    rt: &R,
+    request: Request<'_>,
+    target: Target,
+    is_terminal: bool,
+    reader: &mut I,
+    writer: &mut O,
+) -> Result<(), Fault>
+where
+    R: AllocGlobal + Clock + Eprint + Files + Net + Threads + Wait + Sync,
+    requires { IsHeapWithin request.settings }
+    ensures { IsTaskDone (Save target) request.entry.settings (I.seen reader.old)
+        (I.seen reader.new) (O.seen writer.old) (O.seen writer.new) result }
+{
+    let Request { settings, path, .. } = request;
+    let mut gauge = TerminalGauge::new(rt, rt.alloc(), settings.ids, is_terminal);
+    match target {
+        Target::Out => {
+            let to = out_file(rt, file_of(rt, path, is_terminal)?, is_terminal);
+            save(rt, &settings, to, reader, writer, &mut gauge)
+        }
+        Target::To(port) => {
+            let to = peer(rt, port, is_terminal);
+            save(rt, &settings, to, reader, writer, &mut gauge)
+        }
+    }
+}
+
+// Returns the path of the task's file. Fails with Out if its folder is not there, and says why on standard error, if that is a
+// terminal; and with Memory if there is no path.
+fn file_of<'a, R: AllocGlobal + Eprint + Files>(
+    rt: &R,
+    path: Option<&'a str>,
+    is_terminal: bool,
+) -> Result<&'a str, Fault>
+    ensures { IfErr result (λ f. (f ≡ Fault.Out) ⊎ (f ≡ Fault.Memory)) }
+{
+    let Some(path) = path else {
+        return Err(Fault::Memory);
+    };
+    if let Some(error) = missing_folder(rt, path) {
+        tell_path(rt, is_terminal, path, &error);
+        return Err(Fault::Out);
+    }
+    Ok(path)
+}
+
+// The text for a word that is no UTF-8.
+const NOT_UTF8: &str = "error: a word of the command line is not UTF-8\n";
 
 // Serves sessions over one shared heap, to clients who know the secret, if there is one.
 fn serve<R, O: Outlet>(
@@ -271,58 +390,6 @@ fn fetch_at<R: AllocGlobal + Clock + Eprint + Files + Net + Wait, O: Outlet>(
     fetch_to(rt, port, secret, request.path, writer, is_terminal).outcome
 }
 
-// Runs a session with questions over a heap of its own, which a page shows if there is a port for it.
-fn explore_at<R, I: Inlet, O: Outlet>(
-    rt: &R,
-    request: Request<'_>,
-    from: bool,
-    page: Option<u16>,
-    screen: Screen<'_>,
-    reader: &mut I,
-    writer: &mut O,
-) -> Result<(), Fault>
-where
-    R: Net<Listener = TcpListener, Stream = TcpStream> + Threads + Wait + RandomSource + Sync,
-    R: AllocGlobal + Clock + Eprint + Files,
-    requires { IsHeapWithin request.settings }
-    ensures { IsTaskDone (Explore from page) request.entry.settings (I.seen reader.old)
-        (I.seen reader.new) (O.seen writer.old) (O.seen writer.new) result }
-{
-    match page {
-        Some(port) => explore_with_page(rt, request, from, port, screen, reader, writer),
-        None => explore(rt, request, from, screen, reader, writer),
-    }
-}
-
-// Runs a session, and dumps the state that it leaves to a target.
-fn save_at<R, I: Inlet, O: Outlet>(
-    rt: &R,
-    request: Request<'_>,
-    target: Target,
-    is_terminal: bool,
-    reader: &mut I,
-    writer: &mut O,
-) -> Result<(), Fault>
-where
-    R: AllocGlobal + Clock + Eprint + Files + Net + Threads + Wait + Sync,
-    requires { IsHeapWithin request.settings }
-    ensures { IsTaskDone (Save target) request.entry.settings (I.seen reader.old)
-        (I.seen reader.new) (O.seen writer.old) (O.seen writer.new) result }
-{
-    let Request { settings, path, .. } = request;
-    let mut gauge = TerminalGauge::new(rt, rt.alloc(), settings.ids, is_terminal);
-    match target {
-        Target::Out => {
-            let to = out_file(rt, file_of(rt, path, is_terminal)?, is_terminal);
-            save(rt, &settings, to, reader, writer, &mut gauge)
-        }
-        Target::To(port) => {
-            let to = peer(rt, port, is_terminal);
-            save(rt, &settings, to, reader, writer, &mut gauge)
-        }
-    }
-}
-
 // Fetches the dump that a port gives into the file of the path.
 fn fetch_to<R: AllocGlobal + Clock + Eprint + Files + Net + Wait, O: Outlet>(
     rt: &R,
@@ -340,87 +407,20 @@ fn fetch_to<R: AllocGlobal + Clock + Eprint + Files + Net + Wait, O: Outlet>(
     }
 }
 
-// The text for a word that is no UTF-8.
-const NOT_UTF8: &str = "error: a word of the command line is not UTF-8\n";
-
-// Returns the fault of a command line that can't be read.
-fn unread(alloc: Global, error: &Error) -> LineFault
-    ensures memory { error_kind error.now ≡ ErrorKind.OutOfMemory → result ≡ LineFault.Memory }
-    ensures text { IsBadWith NOT_UTF8.now result }
+// Does the task that the words ask for, and reports each line of standard input that is refused or no command.
+fn perform_reported<R>(rt: &R, words: &[String], screen: Screen<'_>) -> Result<(), Failure>
+where
+    R: AllocGlobal + Clock + Eprint + Files + Input + Print,
+    R: Net<Listener = TcpListener, Stream = TcpStream> + Threads + Wait + RandomSource,
+    R: Copy + Send + Sync + Drop + 'static,
+    R::Reader: Send + 'static,
 {
-    if error.kind() == ErrorKind::OutOfMemory {
-        return LineFault::Memory;
-    }
-    bad(alloc, NOT_UTF8)
-}
-
-// Returns the settings that the words ask for.
-fn settings_of_words(alloc: Global, words: &[String]) -> Result<Settings, LineFault>
-    ensures ok { IfOk result (λ s. settings_of (map string_bytes words.now) ≡ Some s) }
-    ensures refused { IfErr result (IsRefusalOf (map string_bytes words.now)) }
-    ensures limits { IfOk result AreSettingsWithin }
-{
-    match borrow_words(alloc, words) {
-        Ok(line) => settings(alloc, line.as_slice()),
-        Err(_) => Err(LineFault::Memory),
-    }
-}
-
-// Runs one session over a private heap, in which questions are answered if the settings say so.
-fn run<R: AllocGlobal + Clock + Eprint + Files, I: Inlet, O: Outlet>(
-    rt: &R,
-    request: Request<'_>,
-    screen: Screen<'_>,
-    reader: &mut I,
-    writer: &mut O,
-) -> Result<(), Fault>
-    requires { IsHeapWithin request.settings }
-    ensures { IsRunWith request.entry.settings.questions request.entry.settings (I.seen reader.old)
-        (I.seen reader.new) (O.seen writer.old) (O.seen writer.new) result }
-{
-    if request.settings.questions {
-        explore(rt, request, false, screen, reader, writer)
-    } else {
-        session(rt.alloc(), &request.settings, reader, writer)
-    }
-}
-
-// Runs one session over a private heap.
-fn session<I: Inlet, O: Outlet>(
-    alloc: Global,
-    settings: &Settings,
-    reader: &mut I,
-    writer: &mut O,
-) -> Result<(), Fault>
-    requires { IsHeapWithin settings.now }
-    ensures { IsRun settings.now (I.seen reader.old) (I.seen reader.new) (O.seen writer.old)
-        (O.seen writer.new) result }
-{
-    match open_local(alloc, settings) {
-        Ok(mut local) => {
-            let limits = session_limits(settings.wide);
-            let time = settings.time;
-            outcome(serve_local(alloc, reader, writer, &mut local, time, limits))
-        }
-        Err(fault) => Err(fault),
-    }
-}
-
-// Returns the path of the task's file. Fails with Out if its folder is not there, and says why on standard error, if that is a
-// terminal; and with Memory if there is no path.
-fn file_of<'a, R: AllocGlobal + Eprint + Files>(
-    rt: &R,
-    path: Option<&'a str>,
-    is_terminal: bool,
-) -> Result<&'a str, Fault>
-    ensures { IfErr result (λ f. (f ≡ Fault.Out) ⊎ (f ≡ Fault.Memory)) }
-{
-    let Some(path) = path else {
-        return Err(Fault::Memory);
+    let answers = NewestLine::new(rt.alloc());
+    let lines = LineInlet::new(rt, rt.alloc(), &answers, "stdin", rt.reader());
+    let Ok(mut reader) = lines else {
+        return Err(Fault::Memory.into());
     };
-    if let Some(error) = missing_folder(rt, path) {
-        tell_path(rt, is_terminal, path, &error);
-        return Err(Fault::Out);
-    }
-    Ok(path)
+    let input = ReadInlet::new(rt.reader());
+    let mut writer = NotingOutlet::new(WriteOutlet::new(io::writer(rt)), &answers);
+    perform_words(rt, words, &mut reader, input, &mut writer, screen)
 }

@@ -21,73 +21,73 @@ use Rattle.heapdbg_options.specs.declared.settings.Task.{Task}
 use Rattle.heapdbg_options.specs.declared.settings.Task.TheVariants.{Run, Explore, Draw, Save, Serve, Ask, Fetch}
 use Rattle.heapdbg_options.specs.declared.settings.Target.{Target}
 use Rattle.heapdbg_options.specs.declared.settings.Target.TheVariants.{Out, To}
-use Rattle.heapdbg_options.proofs.Words.{IsPlainRules, IsTailFree, both_true, found_passes, is_plain_rule, no_value, right_false, tail_free}
+use Rattle.heapdbg_options.proofs.Words.{IsPlainRules, IsTailFree, and_true_gives_both, found_item_passes_both_tests, is_plain_rule, unnamed_option_has_no_value, or_false_right_is_false, subcommand_tail_lacks_name}
 
 -- ---- numbers
 
-own : IsNumeralModel (λ ds. list_all is_ascii_digit ds ≡ true) (digits_value 10)
-own = numerals_by_value _ (search rules)
+own_digits_are_numerals : IsNumeralModel (λ ds. list_all is_ascii_digit ds ≡ true) (digits_value 10)
+own_digits_are_numerals = numerals_by_value _ (search rules)
 
 -- digits that `parse` refuses are none, or more than the limit
-pub number_refused : (least most : ℕ) (text : List ℕ) → most < 2 ^ 64 → list_all is_ascii_digit text ≡ true
+pub refused_digits_none_or_large : (least most : ℕ) (text : List ℕ) → most < 2 ^ 64 → list_all is_ascii_digit text ≡ true
     → ((IsNumeral 10 (without_leading_plus text) × (digits_value 10 (without_leading_plus text) < 2 ^ 64)) → ⊥)
     → None ≡ number_in least most text
-number_refused least most text fits digits refused =
+refused_digits_none_or_large least most text fits digits refused =
     go (nat_lt 0 (length text) && (list_all is_ascii_digit text && (nat_le least (digits_value 10 text) && nat_le (digits_value 10 text) most))) refl
   where
     go : (b : Bool) → (nat_lt 0 (length text) && (list_all is_ascii_digit text && (nat_le least (digits_value 10 text) && nat_le (digits_value 10 text) most))) ≡ b
         → None ≡ cond b (Some (digits_value 10 text)) None
     go false h = refl
     go true h =
-        let all = both_true _ _ h in
-        let within = both_true _ _ (both_true _ _ all.1).1 in
+        let all = and_true_gives_both _ _ h in
+        let within = and_true_gives_both _ _ (and_true_gives_both _ _ all.1).1 in
         let some_digit : 0 < length text = ltb-true _ _ all.0 in
         let below : digits_value 10 text ≤ most = leb-true _ _ within.1 in
-        absurd (parse_digits own {E = ℕ} 64 text (Err 0) refused digits (some_digit, omega arith))
+        absurd (parse_digits own_digits_are_numerals {E = ℕ} 64 text (Err 0) refused digits (some_digit, omega arith))
 
-pub number_within : (least most : ℕ) (text : Text) (n : ℕ) → number_in least most text ≡ Some n → (least ≤ n) × (n ≤ most)
-number_within least most text n e =
+pub number_setting_within_bounds : (least most : ℕ) (text : Text) (n : ℕ) → number_in least most text ≡ Some n → (least ≤ n) × (n ≤ most)
+number_setting_within_bounds least most text n e =
     go (nat_lt 0 (length text) && (list_all is_ascii_digit text && (nat_le least (digits_value 10 text) && nat_le (digits_value 10 text) most))) refl e
   where
     go : (b : Bool) → (nat_lt 0 (length text) && (list_all is_ascii_digit text && (nat_le least (digits_value 10 text) && nat_le (digits_value 10 text) most))) ≡ b
         → cond b (Some (digits_value 10 text)) None ≡ Some n → (least ≤ n) × (n ≤ most)
     go false h found = cc
     go true h found =
-        let within = both_true _ _ (both_true _ _ (both_true _ _ h).1).1 in
+        let within = and_true_gives_both _ _ (and_true_gives_both _ _ (and_true_gives_both _ _ h).1).1 in
         let same : digits_value 10 text ≡ n = cc (found) in
         rw (← same) (leb-true _ _ within.0, leb-true _ _ within.1)
 
-times_within : (least most times k n : ℕ) → times_in least most times k ≡ Some n → (least ≤ n) × (n ≤ most)
-times_within least most times k n e = go (nat_le least (k * times) && nat_le (k * times) most) refl e
+times_setting_within_bounds : (least most times k n : ℕ) → times_in least most times k ≡ Some n → (least ≤ n) × (n ≤ most)
+times_setting_within_bounds least most times k n e = go (nat_le least (k * times) && nat_le (k * times) most) refl e
   where
     go : (b : Bool) → (nat_le least (k * times) && nat_le (k * times) most) ≡ b → cond b (Some (k * times)) None ≡ Some n → (least ≤ n) × (n ≤ most)
     go false h found = cc
     go true h found =
-        let within = both_true _ _ h in
+        let within = and_true_gives_both _ _ h in
         let same : k * times ≡ n = cc (found) in
         rw (← same) (leb-true _ _ within.0, leb-true _ _ within.1)
 
-counted_within : (least most times : ℕ) (text : Text) (n : ℕ) → counted_in least most times text ≡ Some n → (least ≤ n) × (n ≤ most)
-counted_within least most times text n e = go (number_in 0 most text) e
+counted_setting_within_bounds : (least most times : ℕ) (text : Text) (n : ℕ) → counted_in least most times text ≡ Some n → (least ≤ n) × (n ≤ most)
+counted_setting_within_bounds least most times text n e = go (number_in 0 most text) e
   where
     go : (o : Option ℕ) → option_and_then (times_in least most times) o ≡ Some n → (least ≤ n) × (n ≤ most)
     go None found = cc
-    go (Some k) found = times_within least most times k n found
+    go (Some k) found = times_setting_within_bounds least most times k n found
 
-size_within : (least most : ℕ) (text : Text) (before_k before_m : Option Text) (n : ℕ) → size_with least most text before_k before_m ≡ Some n → (least ≤ n) × (n ≤ most)
-size_within least most text (Some digits) before_m n e = counted_within least most 1024 digits n e
-size_within least most text None (Some digits) n e = counted_within least most 1048576 digits n e
-size_within least most text None None n e = number_within least most text n e
+size_setting_within_bounds : (least most : ℕ) (text : Text) (before_k before_m : Option Text) (n : ℕ) → size_with least most text before_k before_m ≡ Some n → (least ≤ n) × (n ≤ most)
+size_setting_within_bounds least most text (Some digits) before_m n e = counted_setting_within_bounds least most 1024 digits n e
+size_setting_within_bounds least most text None (Some digits) n e = counted_setting_within_bounds least most 1048576 digits n e
+size_setting_within_bounds least most text None None n e = number_setting_within_bounds least most text n e
 
-sized_within : (default least most : ℕ) (given : Option Text) (n : ℕ) → least ≤ default → default ≤ most
+size_or_default_within_bounds : (default least most : ℕ) (given : Option Text) (n : ℕ) → least ≤ default → default ≤ most
     → size_or default least most given ≡ Some n → (least ≤ n) × (n ≤ most)
-sized_within default least most None n low high e = let same : default ≡ n = cc in rw (← same) (low, high)
-sized_within default least most (Some text) n low high e = size_within least most text (text_before (codes "k") text) (text_before (codes "m") text) n e
+size_or_default_within_bounds default least most None n low high e = let same : default ≡ n = cc in rw (← same) (low, high)
+size_or_default_within_bounds default least most (Some text) n low high e = size_setting_within_bounds least most text (text_before (codes "k") text) (text_before (codes "m") text) n e
 
-value_within : (default least most : ℕ) (given : Option Text) (n : ℕ) → least ≤ default → default ≤ most
+number_or_default_within_bounds : (default least most : ℕ) (given : Option Text) (n : ℕ) → least ≤ default → default ≤ most
     → number_or default least most given ≡ Some n → (least ≤ n) × (n ≤ most)
-value_within default least most None n low high e = let same : default ≡ n = cc in rw (← same) (low, high)
-value_within default least most (Some text) n low high e = number_within least most text n e
+number_or_default_within_bounds default least most None n low high e = let same : default ≡ n = cc in rw (← same) (low, high)
+number_or_default_within_bounds default least most (Some text) n low high e = number_setting_within_bounds least most text n e
 
 -- ---- settings
 
@@ -102,21 +102,21 @@ pub record AreRead (rows : List Row) (s : Settings) : Type 0 where
   pub questions : questions_in rows ≡ Some s.questions
   pub rolls : rolls_in rows ≡ Some s.rolls
 
-all_there : (task : Task) (w : Bool) (r m k t : Option ℕ) (i : Option IdSize) (q o : Option Bool) (s : Settings) → settings_with task w r m k t i q o ≡ Some s
+settings_keep_all_given : (task : Task) (w : Bool) (r m k t : Option ℕ) (i : Option IdSize) (q o : Option Bool) (s : Settings) → settings_with task w r m k t i q o ≡ Some s
     → (s.task ≡ task) × (w ≡ s.wide) × (r ≡ Some s.regions) × (m ≡ Some s.mutators) × (k ≡ Some s.keep) × (t ≡ Some s.time) × (i ≡ Some s.ids) × (q ≡ Some s.questions) × (o ≡ Some s.rolls)
-all_there task w None m k t i q o s e = cc
-all_there task w (Some r) None k t i q o s e = cc
-all_there task w (Some r) (Some m) None t i q o s e = cc
-all_there task w (Some r) (Some m) (Some k) None i q o s e = cc
-all_there task w (Some r) (Some m) (Some k) (Some t) None q o s e = cc
-all_there task w (Some r) (Some m) (Some k) (Some t) (Some i) None o s e = cc
-all_there task w (Some r) (Some m) (Some k) (Some t) (Some i) (Some q) None s e = cc
-all_there task w (Some r) (Some m) (Some k) (Some t) (Some i) (Some q) (Some o) s e = (cc, cc, cc, cc, cc, cc, cc, cc, cc)
+settings_keep_all_given task w None m k t i q o s e = cc
+settings_keep_all_given task w (Some r) None k t i q o s e = cc
+settings_keep_all_given task w (Some r) (Some m) None t i q o s e = cc
+settings_keep_all_given task w (Some r) (Some m) (Some k) None i q o s e = cc
+settings_keep_all_given task w (Some r) (Some m) (Some k) (Some t) None q o s e = cc
+settings_keep_all_given task w (Some r) (Some m) (Some k) (Some t) (Some i) None o s e = cc
+settings_keep_all_given task w (Some r) (Some m) (Some k) (Some t) (Some i) (Some q) None s e = cc
+settings_keep_all_given task w (Some r) (Some m) (Some k) (Some t) (Some i) (Some q) (Some o) s e = (cc, cc, cc, cc, cc, cc, cc, cc, cc)
 
 -- the settings over a heap that is wide, or isn't, are those of the rows
-are_read : (task : Task) (rows : List Row) (w : Bool) (s : Settings) → wide_in rows ≡ Some w → settings_over task rows w ≡ Some s → (s.task ≡ task) × AreRead rows s
-are_read task rows w s wide found =
-    let there = all_there task w (regions_in w rows) (option_value (codes "mutators") 2 1 mutator_limit rows) (keep_in task w rows) (option_value (codes "time") 0 0 time_limit rows) (id_size_in rows) (questions_in rows) (rolls_in rows) s found in
+settings_are_read_from_rows : (task : Task) (rows : List Row) (w : Bool) (s : Settings) → wide_in rows ≡ Some w → settings_over task rows w ≡ Some s → (s.task ≡ task) × AreRead rows s
+settings_are_read_from_rows task rows w s wide found =
+    let there = settings_keep_all_given task w (regions_in w rows) (option_value (codes "mutators") 2 1 mutator_limit rows) (keep_in task w rows) (option_value (codes "time") 0 0 time_limit rows) (id_size_in rows) (questions_in rows) (rolls_in rows) s found in
     let same : w ≡ s.wide = there.1 in (
       there.0,
       record {
@@ -131,18 +131,18 @@ are_read task rows w s wide found =
       },
     )
 
-abbrev task_by : Bool → Bool → Bool → Bool → Bool → Bool → Bool → List Row → Option Task
-task_by runs explores draws saves serves asks fetches rows = cond runs (Some Run) (cond explores (explore_in rows) (cond draws (Some Draw) (cond saves (save_in rows) (cond serves (serve_in rows) (cond asks (ask_in rows) (cond fetches (fetch_in rows) None))))))
+abbrev task_by_flags_and_rows : Bool → Bool → Bool → Bool → Bool → Bool → Bool → List Row → Option Task
+task_by_flags_and_rows runs explores draws saves serves asks fetches rows = cond runs (Some Run) (cond explores (explore_in rows) (cond draws (Some Draw) (cond saves (save_in rows) (cond serves (serve_in rows) (cond asks (ask_in rows) (cond fetches (fetch_in rows) None))))))
 
-is_named : (runs explores draws saves serves asks fetches : Bool) (rows : List Row) (task : Task) → task_by runs explores draws saves serves asks fetches rows ≡ Some task → (runs || (explores || (draws || (saves || (serves || (asks || fetches)))))) ≡ true
-is_named true explores draws saves serves asks fetches rows task e = refl
-is_named false true draws saves serves asks fetches rows task e = refl
-is_named false false true saves serves asks fetches rows task e = refl
-is_named false false false true serves asks fetches rows task e = refl
-is_named false false false false true asks fetches rows task e = refl
-is_named false false false false false true fetches rows task e = refl
-is_named false false false false false false true rows task e = refl
-is_named false false false false false false false rows task e = cc
+task_is_named_by_one : (runs explores draws saves serves asks fetches : Bool) (rows : List Row) (task : Task) → task_by_flags_and_rows runs explores draws saves serves asks fetches rows ≡ Some task → (runs || (explores || (draws || (saves || (serves || (asks || fetches)))))) ≡ true
+task_is_named_by_one true explores draws saves serves asks fetches rows task e = refl
+task_is_named_by_one false true draws saves serves asks fetches rows task e = refl
+task_is_named_by_one false false true saves serves asks fetches rows task e = refl
+task_is_named_by_one false false false true serves asks fetches rows task e = refl
+task_is_named_by_one false false false false true asks fetches rows task e = refl
+task_is_named_by_one false false false false false true fetches rows task e = refl
+task_is_named_by_one false false false false false false true rows task e = refl
+task_is_named_by_one false false false false false false false rows task e = cc
 
 pub record AreAsked (o : Option (Text × List Row)) (s : Settings) : Type 0 where
   pub found : Text × List Row
@@ -151,13 +151,13 @@ pub record AreAsked (o : Option (Text × List Row)) (s : Settings) : Type 0 wher
   pub task : task_in found.0 found.1 ≡ Some s.task
   pub read : AreRead found.1 s
 
-are_asked : (o : Option (Text × List Row)) (s : Settings) → option_and_then settings_under o ≡ Some s → AreAsked o s
-are_asked None s e = cc
-are_asked (Some f) s e = go (task_in f.0 f.1) refl e
+found_settings_are_asked : (o : Option (Text × List Row)) (s : Settings) → option_and_then settings_under o ≡ Some s → AreAsked o s
+found_settings_are_asked None s e = cc
+found_settings_are_asked (Some f) s e = go (task_in f.0 f.1) refl e
   where
     sized : (task : Task) (b : Option Bool) → wide_in f.1 ≡ b → option_and_then (settings_over task f.1) b ≡ Some s → (s.task ≡ task) × AreRead f.1 s
     sized task None h found = cc
-    sized task (Some w) h found = are_read task f.1 w s h found
+    sized task (Some w) h found = settings_are_read_from_rows task f.1 w s h found
 
     go : (t : Option Task) → task_in f.0 f.1 ≡ t → option_and_then (λ task. settings_in task f.1) t ≡ Some s → AreAsked (Some f) s
     go None h found = cc
@@ -166,7 +166,7 @@ are_asked (Some f) s e = go (task_in f.0 f.1) refl e
         record {
           found = f;
           is = refl;
-          named = is_named (bytes_eq f.0 (codes "run")) (bytes_eq f.0 (codes "explore")) (bytes_eq f.0 (codes "draw")) (bytes_eq f.0 (codes "save")) (bytes_eq f.0 (codes "serve")) (bytes_eq f.0 (codes "ask")) (bytes_eq f.0 (codes "fetch")) f.1 task h;
+          named = task_is_named_by_one (bytes_eq f.0 (codes "run")) (bytes_eq f.0 (codes "explore")) (bytes_eq f.0 (codes "draw")) (bytes_eq f.0 (codes "save")) (bytes_eq f.0 (codes "serve")) (bytes_eq f.0 (codes "ask")) (bytes_eq f.0 (codes "fetch")) f.1 task h;
           task = h ∙ ap (λ t. Some t) (sym there.0);
           read = there.1;
         }
@@ -188,27 +188,27 @@ default_within (Ask port secret) true = (omega arith, omega arith)
 default_within (Fetch port secret) false = (omega arith, omega arith)
 default_within (Fetch port secret) true = (omega arith, omega arith)
 
-numbers_within : (task : Task) (w : Bool) (rows : List Row) (r m k : ℕ) → regions_in w rows ≡ Some r → option_value (codes "mutators") 2 1 mutator_limit rows ≡ Some m → keep_in task w rows ≡ Some k → AreNumbersOf w r m k
-numbers_within task false rows r m k regions mutators keep =
+numbers_of_heap_within_bounds : (task : Task) (w : Bool) (rows : List Row) (r m k : ℕ) → regions_in w rows ≡ Some r → option_value (codes "mutators") 2 1 mutator_limit rows ≡ Some m → keep_in task w rows ≡ Some k → AreNumbersOf w r m k
+numbers_of_heap_within_bounds task false rows r m k regions mutators keep =
     record {
-      regions_within = sized_within 16 1 (most_regions false) (first_of (codes "regions") rows) r (omega arith) (omega arith) regions;
-      mutators_within = value_within 2 1 mutator_limit (first_of (codes "mutators") rows) m (omega arith) (omega arith) mutators;
-      keep_within = sized_within (keep_default task false) 1 (most_kept false) (first_of (codes "keep") rows) k (default_within task false).0 (default_within task false).1 keep;
+      regions_within = size_or_default_within_bounds 16 1 (most_regions false) (first_of (codes "regions") rows) r (omega arith) (omega arith) regions;
+      mutators_within = number_or_default_within_bounds 2 1 mutator_limit (first_of (codes "mutators") rows) m (omega arith) (omega arith) mutators;
+      keep_within = size_or_default_within_bounds (keep_default task false) 1 (most_kept false) (first_of (codes "keep") rows) k (default_within task false).0 (default_within task false).1 keep;
     }
-numbers_within task true rows r m k regions mutators keep =
+numbers_of_heap_within_bounds task true rows r m k regions mutators keep =
     record {
-      regions_within = sized_within 16 1 (most_regions true) (first_of (codes "regions") rows) r (omega arith) (omega arith) regions;
-      mutators_within = value_within 2 1 mutator_limit (first_of (codes "mutators") rows) m (omega arith) (omega arith) mutators;
-      keep_within = sized_within (keep_default task true) 1 (most_kept true) (first_of (codes "keep") rows) k (default_within task true).0 (default_within task true).1 keep;
+      regions_within = size_or_default_within_bounds 16 1 (most_regions true) (first_of (codes "regions") rows) r (omega arith) (omega arith) regions;
+      mutators_within = number_or_default_within_bounds 2 1 mutator_limit (first_of (codes "mutators") rows) m (omega arith) (omega arith) mutators;
+      keep_within = size_or_default_within_bounds (keep_default task true) 1 (most_kept true) (first_of (codes "keep") rows) k (default_within task true).0 (default_within task true).1 keep;
     }
 
 port_within : (given : Option Text) (port : ℕ) → option_and_then (number_in 1 port_limit) given ≡ Some port → (1 ≤ port) × (port ≤ port_limit)
 port_within None port e = cc
-port_within (Some text) port e = number_within 1 port_limit text port e
+port_within (Some text) port e = number_setting_within_bounds 1 port_limit text port e
 
-other_within : (port : ℕ) (n : Option ℕ) (dumps : Option ℕ) → ((d : ℕ) → n ≡ Some d → (1 ≤ d) × (d ≤ port_limit)) → option_and_then (other_port port) n ≡ Some dumps → IsOther port dumps
-other_within port None dumps within e = cc
-other_within port (Some d) dumps within e = go (d == port) refl e
+other_port_is_legal : (port : ℕ) (n : Option ℕ) (dumps : Option ℕ) → ((d : ℕ) → n ≡ Some d → (1 ≤ d) × (d ≤ port_limit)) → option_and_then (other_port port) n ≡ Some dumps → IsOther port dumps
+other_port_is_legal port None dumps within e = cc
+other_port_is_legal port (Some d) dumps within e = go (d == port) refl e
   where
     go : (b : Bool) → (d == port) ≡ b → cond b None (Some (Some d)) ≡ Some dumps → IsOther port dumps
     go true h found = cc
@@ -219,11 +219,11 @@ other_within port (Some d) dumps within e = go (d == port) refl e
 
 dumps_within : (port : ℕ) (given : Option Text) (dumps : Option ℕ) → dumps_with port given ≡ Some dumps → IsOther port dumps
 dumps_within port None dumps e = let same : None ≡ dumps = cc in subst (IsOther port) same tt
-dumps_within port (Some text) dumps e = other_within port (number_in 1 port_limit text) dumps (λ d is. number_within 1 port_limit text d is) e
+dumps_within port (Some text) dumps e = other_port_is_legal port (number_in 1 port_limit text) dumps (λ d is. number_setting_within_bounds 1 port_limit text d is) e
 
-third_within : (port : ℕ) (dumps n page : Option ℕ) → ((g : ℕ) → n ≡ Some g → (1 ≤ g) × (g ≤ port_limit)) → option_and_then (third_port port dumps) n ≡ Some page → IsThird port dumps page
-third_within port dumps None page within e = cc
-third_within port dumps (Some g) page within e = go (g == port) (option_map_or (λ d. g == d) dumps false) refl refl e
+third_port_is_legal : (port : ℕ) (dumps n page : Option ℕ) → ((g : ℕ) → n ≡ Some g → (1 ≤ g) × (g ≤ port_limit)) → option_and_then (third_port port dumps) n ≡ Some page → IsThird port dumps page
+third_port_is_legal port dumps None page within e = cc
+third_port_is_legal port dumps (Some g) page within e = go (g == port) (option_map_or (λ d. g == d) dumps false) refl refl e
   where
     no_dumps : (o : Option ℕ) → option_map_or (λ d. g == d) o false ≡ false → o ≡ Some g → ⊥
     no_dumps None h is = cc
@@ -242,12 +242,12 @@ third_within port dumps (Some g) page within e = go (g == port) (option_map_or (
 
 page_within : (port : ℕ) (dumps : Option ℕ) (given : Option Text) (page : Option ℕ) → page_with port dumps given ≡ Some page → IsThird port dumps page
 page_within port dumps None page e = let same : None ≡ page = cc in subst (IsThird port dumps) same tt
-page_within port dumps (Some text) page e = third_within port dumps (number_in 1 port_limit text) page (λ g is. number_within 1 port_limit text g is) e
+page_within port dumps (Some text) page e = third_port_is_legal port dumps (number_in 1 port_limit text) page (λ g is. number_setting_within_bounds 1 port_limit text g is) e
 
 -- seconds of an option whose default is none
 idle_within : (given : Option Text) (n : ℕ) → number_or 0 1 idle_limit given ≡ Some n → n ≤ idle_limit
 idle_within None n e = let same : 0 ≡ n = cc in rw (← same) (omega arith)
-idle_within (Some text) n e = (number_within 1 idle_limit text n e).1
+idle_within (Some text) n e = (number_setting_within_bounds 1 idle_limit text n e).1
 
 -- a served heap has what its options say
 pub record IsServeOf (p n w : Option ℕ) (d g : Option (Option ℕ)) (i : Option ℕ) (y : Option Bool) (x : Bool) (task : Task) : Type 0 where
@@ -262,15 +262,15 @@ pub record IsServeOf (p n w : Option ℕ) (d g : Option (Option ℕ)) (i : Optio
   pub stays : y ≡ Some service.stays
   pub secret : x ≡ service.secret
 
-serve_of : (p n w : Option ℕ) (d g : Option (Option ℕ)) (i : Option ℕ) (y : Option Bool) (x : Bool) (task : Task) → serve_with p n w d g i y x ≡ Some task → IsServeOf p n w d g i y x task
-serve_of None n w d g i y x task e = cc
-serve_of (Some port) None w d g i y x task e = cc
-serve_of (Some port) (Some sessions) None d g i y x task e = cc
-serve_of (Some port) (Some sessions) (Some workers) None g i y x task e = cc
-serve_of (Some port) (Some sessions) (Some workers) (Some dumps) None i y x task e = cc
-serve_of (Some port) (Some sessions) (Some workers) (Some dumps) (Some page) None y x task e = cc
-serve_of (Some port) (Some sessions) (Some workers) (Some dumps) (Some page) (Some idle) None x task e = cc
-serve_of (Some port) (Some sessions) (Some workers) (Some dumps) (Some page) (Some idle) (Some stays) x task e =
+serve_settings_make_task : (p n w : Option ℕ) (d g : Option (Option ℕ)) (i : Option ℕ) (y : Option Bool) (x : Bool) (task : Task) → serve_with p n w d g i y x ≡ Some task → IsServeOf p n w d g i y x task
+serve_settings_make_task None n w d g i y x task e = cc
+serve_settings_make_task (Some port) None w d g i y x task e = cc
+serve_settings_make_task (Some port) (Some sessions) None d g i y x task e = cc
+serve_settings_make_task (Some port) (Some sessions) (Some workers) None g i y x task e = cc
+serve_settings_make_task (Some port) (Some sessions) (Some workers) (Some dumps) None i y x task e = cc
+serve_settings_make_task (Some port) (Some sessions) (Some workers) (Some dumps) (Some page) None y x task e = cc
+serve_settings_make_task (Some port) (Some sessions) (Some workers) (Some dumps) (Some page) (Some idle) None x task e = cc
+serve_settings_make_task (Some port) (Some sessions) (Some workers) (Some dumps) (Some page) (Some idle) (Some stays) x task e =
     let made : Service =
     record {
       port = port;
@@ -287,20 +287,20 @@ serve_of (Some port) (Some sessions) (Some workers) (Some dumps) (Some page) (So
     record { service = made; is = sym same; port = refl; sessions = refl; workers = refl; dumps = refl; page = refl; idle = refl; stays = refl; secret = refl }
 
 -- what the rows say of a served heap
-abbrev IsServedBy : List Row → Task → Type 0
-IsServedBy rows task = IsServeOf (port_in rows) (sessions_in rows) (workers_in rows) (dumps_in rows) (page_in rows) (idle_in rows) (stays_in rows) (has_secret rows) task
+abbrev IsServedByRows : List Row → Task → Type 0
+IsServedByRows rows task = IsServeOf (port_in rows) (sessions_in rows) (workers_in rows) (dumps_in rows) (page_in rows) (idle_in rows) (stays_in rows) (has_secret rows) task
 
-serve_by : (rows : List Row) (task : Task) → serve_in rows ≡ Some task → IsServedBy rows task
-serve_by rows task e = serve_of (port_in rows) (sessions_in rows) (workers_in rows) (dumps_in rows) (page_in rows) (idle_in rows) (stays_in rows) (has_secret rows) task e
+serve_rows_make_task : (rows : List Row) (task : Task) → serve_in rows ≡ Some task → IsServedByRows rows task
+serve_rows_make_task rows task e = serve_settings_make_task (port_in rows) (sessions_in rows) (workers_in rows) (dumps_in rows) (page_in rows) (idle_in rows) (stays_in rows) (has_secret rows) task e
 
 -- the port for dumps is read beside the port that was read
-dumps_by : (rows : List Row) (task : Task) (served : IsServedBy rows task) → dumps_with served.service.port (first_of (codes "dumps") rows) ≡ Some served.service.dumps
-dumps_by rows task served =
+dumps_port_beside_served_port : (rows : List Row) (task : Task) (served : IsServedByRows rows task) → dumps_with served.service.port (first_of (codes "dumps") rows) ≡ Some served.service.dumps
+dumps_port_beside_served_port rows task served =
     sym (ap (option_and_then (λ port. dumps_with port (first_of (codes "dumps") rows))) served.port) ∙ served.dumps
 
 -- the port of the page is read beside these two
-page_by : (rows : List Row) (task : Task) (served : IsServedBy rows task) → page_beside served.service.port served.service.dumps rows ≡ Some served.service.page
-page_by rows task served =
+page_port_beside_other_ports : (rows : List Row) (task : Task) (served : IsServedByRows rows task) → page_beside served.service.port served.service.dumps rows ≡ Some served.service.page
+page_port_beside_other_ports rows task served =
     sym
     (ap (λ p. option_and_then (λ port. option_and_then (λ dumps. page_beside port dumps rows) (dumps_in rows)) p) served.port
     ∙ ap (λ d. option_and_then (λ dumps. page_beside served.service.port dumps rows) d) served.dumps)
@@ -308,19 +308,19 @@ page_by rows task served =
 
 serve_within : (rows : List Row) (task : Task) → serve_in rows ≡ Some task → IsTask task
 serve_within rows task e =
-    let served = serve_by rows task e in
+    let served = serve_rows_make_task rows task e in
     let service = served.service in
     let ports = port_within (first_of (codes "port") rows) service.port served.port in
-    let counts = value_within 1 1 most_sessions (first_of (codes "sessions") rows) service.sessions (omega arith) (omega arith) served.sessions in
-    let tended = value_within 0 0 1 (first_of (codes "workers") rows) service.workers (omega arith) (omega arith) served.workers in
+    let counts = number_or_default_within_bounds 1 1 most_sessions (first_of (codes "sessions") rows) service.sessions (omega arith) (omega arith) served.sessions in
+    let tended = number_or_default_within_bounds 0 0 1 (first_of (codes "workers") rows) service.workers (omega arith) (omega arith) served.workers in
     subst IsTask (sym served.is) (
       ports.0,
       ports.1,
       counts.0,
       counts.1,
       tended.1,
-      dumps_within service.port (first_of (codes "dumps") rows) service.dumps (dumps_by rows task served),
-      page_within service.port service.dumps (first_of (codes "page") rows) service.page (page_by rows task served),
+      dumps_within service.port (first_of (codes "dumps") rows) service.dumps (dumps_port_beside_served_port rows task served),
+      page_within service.port service.dumps (first_of (codes "page") rows) service.page (page_port_beside_other_ports rows task served),
       idle_within (first_of (codes "idle") rows) service.idle served.idle,
     )
 
@@ -348,20 +348,20 @@ save_within None (Some text) task e = go (number_in 1 port_limit text) refl e
     go None at e = cc
     go (Some port) at e =
         let same : Save (To port) ≡ task = cc in
-        subst IsTask same (number_within 1 port_limit text port at)
+        subst IsTask same (number_setting_within_bounds 1 port_limit text port at)
 
-own_within : (from : Bool) (page : Option Text) (task : Task) → option_map (λ p. Explore from p) (own_page page) ≡ Some task → IsTask task
-own_within from None task e = let same : Explore from None ≡ task = cc in subst IsTask same tt
-own_within from (Some text) task e = go (number_in 1 port_limit text) refl e
+own_page_task_is_legal : (from : Bool) (page : Option Text) (task : Task) → option_map (λ p. Explore from p) (own_page page) ≡ Some task → IsTask task
+own_page_task_is_legal from None task e = let same : Explore from None ≡ task = cc in subst IsTask same tt
+own_page_task_is_legal from (Some text) task e = go (number_in 1 port_limit text) refl e
   where
     go : (n : Option ℕ) → number_in 1 port_limit text ≡ n → option_map (λ p. Explore from p) (option_map (λ page. Some page) n) ≡ Some task → IsTask task
     go None at h = cc
     go (Some page) at h =
         let same : Explore from (Some page) ≡ task = cc in
-        subst IsTask same (number_within 1 port_limit text page at)
+        subst IsTask same (number_setting_within_bounds 1 port_limit text page at)
 
 explore_within : (from page port : Option Text) (secret : Bool) (task : Task) → explore_with from page port secret ≡ Some task → IsTask task
-explore_within from page None false task e = own_within (is_some from) page task e
+explore_within from page None false task e = own_page_task_is_legal (is_some from) page task e
 explore_within from page None true task e = cc
 explore_within (Some path) page (Some text) secret task e = cc
 explore_within None (Some shown) (Some text) secret task e = cc
@@ -371,9 +371,9 @@ explore_within None None (Some text) secret task e = go (number_in 1 port_limit 
     go None at h = cc
     go (Some port) at h =
         let same : Ask port secret ≡ task = cc in
-        subst IsTask same (number_within 1 port_limit text port at)
+        subst IsTask same (number_setting_within_bounds 1 port_limit text port at)
 
-task_within : (runs explores draws saves serves asks fetches : Bool) (rows : List Row) (task : Task) → task_by runs explores draws saves serves asks fetches rows ≡ Some task → IsTask task
+task_within : (runs explores draws saves serves asks fetches : Bool) (rows : List Row) (task : Task) → task_by_flags_and_rows runs explores draws saves serves asks fetches rows ≡ Some task → IsTask task
 task_within true explores draws saves serves asks fetches rows task e = let same : Run ≡ task = cc in subst IsTask same tt
 task_within false true draws saves serves asks fetches rows task e = explore_within (first_of (codes "from") rows) (first_of (codes "page") rows) (first_of (codes "port") rows) (has_secret rows) task e
 task_within false false true saves serves asks fetches rows task e = let same : Draw ≡ task = cc in subst IsTask same tt
@@ -385,9 +385,9 @@ task_within false false false false false false false rows task e = cc
 
 pub settings_within : (o : Option (Text × List Row)) (s : Settings) → option_and_then settings_under o ≡ Some s → AreSettingsWithin s
 settings_within o s e =
-    let asked = are_asked o s e in
+    let asked = found_settings_are_asked o s e in
     let name = asked.found.0 in (
-      numbers_within s.task s.wide asked.found.1 s.regions s.mutators s.keep asked.read.regions asked.read.mutators asked.read.keep,
+      numbers_of_heap_within_bounds s.task s.wide asked.found.1 s.regions s.mutators s.keep asked.read.regions asked.read.mutators asked.read.keep,
       task_within (bytes_eq name (codes "run")) (bytes_eq name (codes "explore")) (bytes_eq name (codes "draw")) (bytes_eq name (codes "save")) (bytes_eq name (codes "serve")) (bytes_eq name (codes "ask")) (bytes_eq name (codes "fetch")) asked.found.1 s.task asked.task,
     )
 
@@ -397,51 +397,51 @@ settings_within o s e =
 abbrev is_free_command : Text → Shape → Bool
 is_free_command name s = not (is_task s.name) || list_all (is_plain_rule name) s.rules
 
-rules_free : (name : Text) (s : Shape) → is_free_command name s ≡ true → is_task s.name ≡ true → IsPlainRules name s.rules
-rules_free name s e named = go (is_task s.name) named e
+free_command_rules_are_plain : (name : Text) (s : Shape) → is_free_command name s ≡ true → is_task s.name ≡ true → IsPlainRules name s.rules
+free_command_rules_are_plain name s e named = go (is_task s.name) named e
   where
     go : (b : Bool) → b ≡ true → (not b || list_all (is_plain_rule name) s.rules) ≡ true → IsPlainRules name s.rules
     go true h all = all
     go false h all = cc
 
-given_later : (name : Text) (words : List Text) → is_given name words ≡ false → is_given name (drop 1 words) ≡ false
-given_later name [] e = refl
-given_later name (word ∷ rest) e = right_false _ _ e
+option_not_named_later : (name : Text) (words : List Text) → is_given name words ≡ false → is_given name (drop 1 words) ≡ false
+option_not_named_later name [] e = refl
+option_not_named_later name (word ∷ rest) e = or_false_right_is_false _ _ e
 
-entered_none : (name : Text) (stop : Option (Text × List Text)) (f : Text × List Row) → list_all (is_free_command name) (built heapdbg_line).subs ≡ true
+entered_command_lacks_option : (name : Text) (stop : Option (Text × List Text)) (f : Text × List Row) → list_all (is_free_command name) (built heapdbg_line).subs ≡ true
     → IsTailFree name stop → entered (built heapdbg_line) stop ≡ Some f → is_task f.0 ≡ true → first_of name f.1 ≡ None
-entered_none name None f all tail e named = cc
-entered_none name (Some p) f all tail e named = go (find (λ s. answers_to p.0 (label_of s)) (built heapdbg_line).subs) refl e
+entered_command_lacks_option name None f all tail e named = cc
+entered_command_lacks_option name (Some p) f all tail e named = go (find (λ s. answers_to p.0 (label_of s)) (built heapdbg_line).subs) refl e
   where
     go : (o : Option Shape) → find (λ s. answers_to p.0 (label_of s)) (built heapdbg_line).subs ≡ o → option_map (λ s. rows_at s p.1) o ≡ Some f
         → first_of name f.1 ≡ None
     go None h found = cc
     go (Some s) h found =
-        let free = (found_passes (λ s. answers_to p.0 (label_of s)) (is_free_command name) (built heapdbg_line).subs s all h).0 in
+        let free = (found_item_passes_both_tests (λ s. answers_to p.0 (label_of s)) (is_free_command name) (built heapdbg_line).subs s all h).0 in
         let same : rows_at s p.1 ≡ f = cc in
         let is_task : is_task s.name ≡ true = subst (λ (g : Text × List Row). is_task g.0 ≡ true) (sym same) named in
-        subst (λ (g : Text × List Row). first_of name g.1 ≡ None) same (no_value name s.rules p.1 (rules_free name s free is_task) tail)
+        subst (λ (g : Text × List Row). first_of name g.1 ≡ None) same (unnamed_option_has_no_value name s.rules p.1 (free_command_rules_are_plain name s free is_task) tail)
 
 -- an option that no word names has no row
-none_of : (name : Text) (words : List Text) (f : Text × List Row) → list_all (is_free_command name) (built heapdbg_line).subs ≡ true → subcommand_of heapdbg_line words ≡ Some f → is_task f.0 ≡ true
+unnamed_option_has_no_row : (name : Text) (words : List Text) (f : Text × List Row) → list_all (is_free_command name) (built heapdbg_line).subs ≡ true → subcommand_of heapdbg_line words ≡ Some f → is_task f.0 ≡ true
     → is_given name words ≡ false → first_of name f.1 ≡ None
-none_of name words f all is named other =
-    let after = tail_free name (built heapdbg_line).top.rules (names_of (built heapdbg_line)) (argument_words heapdbg_line words) (given_later name words other) in
-    entered_none name (stop_after (built heapdbg_line).top.rules (names_of (built heapdbg_line)) (argument_words heapdbg_line words)) f all after is named
+unnamed_option_has_no_row name words f all is named other =
+    let after = subcommand_tail_lacks_name name (built heapdbg_line).top.rules (names_of (built heapdbg_line)) (argument_words heapdbg_line words) (option_not_named_later name words other) in
+    entered_command_lacks_option name (stop_after (built heapdbg_line).top.rules (names_of (built heapdbg_line)) (argument_words heapdbg_line words)) f all after is named
 
-default_of : (name : Text) (default least most : ℕ) (words : List Text) (f : Text × List Row) (n : ℕ)
+ungiven_number_is_default : (name : Text) (default least most : ℕ) (words : List Text) (f : Text × List Row) (n : ℕ)
     → list_all (is_free_command name) (built heapdbg_line).subs ≡ true → subcommand_of heapdbg_line words ≡ Some f → is_task f.0 ≡ true
     → option_value name default least most f.1 ≡ Some n → is_given name words ≡ false → n ≡ default
-default_of name default least most words f n all is named read other =
-    let none = none_of name words f all is named other in
+ungiven_number_is_default name default least most words f n all is named read other =
+    let none = unnamed_option_has_no_row name words f all is named other in
     let same : Some default ≡ Some n = subst (λ o. number_or default least most o ≡ Some n) none read in
     cc
 
-default_sized : (name : Text) (default least most : ℕ) (words : List Text) (f : Text × List Row) (n : ℕ)
+ungiven_size_is_default : (name : Text) (default least most : ℕ) (words : List Text) (f : Text × List Row) (n : ℕ)
     → list_all (is_free_command name) (built heapdbg_line).subs ≡ true → subcommand_of heapdbg_line words ≡ Some f → is_task f.0 ≡ true
     → option_size name default least most f.1 ≡ Some n → is_given name words ≡ false → n ≡ default
-default_sized name default least most words f n all is named read other =
-    let none = none_of name words f all is named other in
+ungiven_size_is_default name default least most words f n all is named read other =
+    let none = unnamed_option_has_no_row name words f all is named other in
     let same : Some default ≡ Some n = subst (λ o. size_or default least most o ≡ Some n) none read in
     cc
 
@@ -462,46 +462,46 @@ explore_has P None None (Some text) secret task one other e = go (number_in 1 po
     go (Some n) h = let same : Ask n secret ≡ task = cc in subst P same (other n)
 
 -- what a task of no served heap has, and what a served heap has, is what each task has
-by_task : (P : Task → Type 0) (runs explores draws saves serves asks fetches : Bool) (rows : List Row) (task : Task) → P Run
+each_task_has_property : (P : Task → Type 0) (runs explores draws saves serves asks fetches : Bool) (rows : List Row) (task : Task) → P Run
     → ((p : Option ℕ) → own_page (first_of (codes "page") rows) ≡ Some p → P (Explore (is_some (first_of (codes "from") rows)) p)) → P Draw → ((target : Target) → P (Save target))
-    → ((port : ℕ) → P (Ask port (has_secret rows))) → ((port : ℕ) → P (Fetch port (has_secret rows))) → (serve_in rows ≡ Some task → P task) → task_by runs explores draws saves serves asks fetches rows ≡ Some task → P task
-by_task P true explores draws saves serves asks fetches rows task run explore draw save ask fetch serve e = let same : Run ≡ task = cc in subst P same run
-by_task P false true draws saves serves asks fetches rows task run explore draw save ask fetch serve e = explore_has P (first_of (codes "from") rows) (first_of (codes "page") rows) (first_of (codes "port") rows) (has_secret rows) task explore ask e
-by_task P false false true saves serves asks fetches rows task run explore draw save ask fetch serve e = let same : Draw ≡ task = cc in subst P same draw
-by_task P false false false true serves asks fetches rows task run explore draw save ask fetch serve e = go (target_in (first_of (codes "out") rows) (first_of (codes "to") rows)) e
+    → ((port : ℕ) → P (Ask port (has_secret rows))) → ((port : ℕ) → P (Fetch port (has_secret rows))) → (serve_in rows ≡ Some task → P task) → task_by_flags_and_rows runs explores draws saves serves asks fetches rows ≡ Some task → P task
+each_task_has_property P true explores draws saves serves asks fetches rows task run explore draw save ask fetch serve e = let same : Run ≡ task = cc in subst P same run
+each_task_has_property P false true draws saves serves asks fetches rows task run explore draw save ask fetch serve e = explore_has P (first_of (codes "from") rows) (first_of (codes "page") rows) (first_of (codes "port") rows) (has_secret rows) task explore ask e
+each_task_has_property P false false true saves serves asks fetches rows task run explore draw save ask fetch serve e = let same : Draw ≡ task = cc in subst P same draw
+each_task_has_property P false false false true serves asks fetches rows task run explore draw save ask fetch serve e = go (target_in (first_of (codes "out") rows) (first_of (codes "to") rows)) e
   where
     go : (t : Option Target) → option_map (λ target. Save target) t ≡ Some task → P task
     go None h = cc
     go (Some target) h = let same : Save target ≡ task = cc in subst P same (save target)
-by_task P false false false false true asks fetches rows task run explore draw save ask fetch serve e = serve e
-by_task P false false false false false true fetches rows task run explore draw save ask fetch serve e = go (port_in rows) e
+each_task_has_property P false false false false true asks fetches rows task run explore draw save ask fetch serve e = serve e
+each_task_has_property P false false false false false true fetches rows task run explore draw save ask fetch serve e = go (port_in rows) e
   where
     go : (p : Option ℕ) → option_map (λ port. Ask port (has_secret rows)) p ≡ Some task → P task
     go None h = cc
     go (Some port) h = let same : Ask port (has_secret rows) ≡ task = cc in subst P same (ask port)
-by_task P false false false false false false true rows task run explore draw save ask fetch serve e = go (port_in rows) e
+each_task_has_property P false false false false false false true rows task run explore draw save ask fetch serve e = go (port_in rows) e
   where
     go : (p : Option ℕ) → option_map (λ port. Fetch port (has_secret rows)) p ≡ Some task → P task
     go None h = cc
     go (Some port) h = let same : Fetch port (has_secret rows) ≡ task = cc in subst P same (fetch port)
-by_task P false false false false false false false rows task run explore draw save ask fetch serve e = cc
+each_task_has_property P false false false false false false false rows task run explore draw save ask fetch serve e = cc
 
 -- what a served heap has, by its options
-by_service : {A : Type 0} (of : Task → A) (rows : List Row) (task : Task) (served : IsServedBy rows task) (x : A) → of (Serve served.service) ≡ x → of task ≡ x
+by_service : {A : Type 0} (of : Task → A) (rows : List Row) (task : Task) (served : IsServedByRows rows task) (x : A) → of (Serve served.service) ≡ x → of task ≡ x
 by_service of rows task served x e = ap of served.is ∙ e
 
 -- a port for dumps that no word tells is none
 default_dumps : (rows : List Row) (task : Task) → first_of (codes "dumps") rows ≡ None → serve_in rows ≡ Some task → dumps_of task ≡ None
 default_dumps rows task missing e =
-    let served = serve_by rows task e in
-    let same : Some None ≡ Some served.service.dumps = sym (ap (dumps_with served.service.port) missing) ∙ dumps_by rows task served in
+    let served = serve_rows_make_task rows task e in
+    let same : Some None ≡ Some served.service.dumps = sym (ap (dumps_with served.service.port) missing) ∙ dumps_port_beside_served_port rows task served in
     by_service dumps_of rows task served None cc
 
 -- a port of the page that no word tells is none
 default_page : (rows : List Row) (task : Task) → first_of (codes "page") rows ≡ None → serve_in rows ≡ Some task → page_of task ≡ None
 default_page rows task missing e =
-    let served = serve_by rows task e in
-    let same : Some None ≡ Some served.service.page = sym (ap (page_with served.service.port served.service.dumps) missing) ∙ page_by rows task served in
+    let served = serve_rows_make_task rows task e in
+    let same : Some None ≡ Some served.service.page = sym (ap (page_with served.service.port served.service.dumps) missing) ∙ page_port_beside_other_ports rows task served in
     by_service page_of rows task served None cc
 
 -- a page of a session's own heap that no word tells is none
@@ -510,13 +510,13 @@ default_own None p none e = cc
 default_own (Some text) p none e = cc
 
 -- a file of lines that no word tells is none
-unread : (given : Option Text) → given ≡ None → is_some given ≡ false
-unread None none = refl
-unread (Some path) none = cc
+ungiven_file_is_unread : (given : Option Text) → given ≡ None → is_some given ≡ false
+ungiven_file_is_unread None none = refl
+ungiven_file_is_unread (Some path) none = cc
 
 -- no secret is given where no word tells one
-unguarded : (rows : List Row) → first_of (codes "secret") rows ≡ None → has_secret rows ≡ false
-unguarded rows none = unread (first_of (codes "secret") rows) none
+no_secret_given_unguarded : (rows : List Row) → first_of (codes "secret") rows ≡ None → has_secret rows ≡ false
+no_secret_given_unguarded rows none = ungiven_file_is_unread (first_of (codes "secret") rows) none
 
 -- identifiers of which no word tells the size have 8 bytes
 default_size : (words : List Text) (f : Text × List Row) (x : IdSize) → subcommand_of heapdbg_line words ≡ Some f → is_task f.0 ≡ true
@@ -526,7 +526,7 @@ default_size words f x is named read other = go (option_value (codes "ids") 8 4 
     go : (o : Option ℕ) → option_value (codes "ids") 8 4 8 f.1 ≡ o → option_and_then id_size_of o ≡ Some x → x ≡ Eight
     go None e sized = cc
     go (Some bytes) e sized =
-        let eight : bytes ≡ 8 = default_of (codes "ids") 8 4 8 words f bytes refl is named e other in
+        let eight : bytes ≡ 8 = ungiven_number_is_default (codes "ids") 8 4 8 words f bytes refl is named e other in
         let same : Some Eight ≡ Some x = subst (λ n. id_size_of n ≡ Some x) eight sized in
         cc
 
@@ -538,46 +538,46 @@ default_flag flag words f x free is named read other = go (option_value flag 0 0
     go : (o : Option ℕ) → option_value flag 0 0 1 f.1 ≡ o → option_map (λ number. number == 1) o ≡ Some x → x ≡ false
     go None e h = cc
     go (Some n) e h =
-        let zero_is : n ≡ 0 = default_of flag 0 0 1 words f n free is named e other in
+        let zero_is : n ≡ 0 = ungiven_number_is_default flag 0 0 1 words f n free is named e other in
         let same : Some false ≡ Some x = subst (λ k. option_map (λ number. number == 1) (Some k) ≡ Some x) zero_is h in
         cc
 
 pub defaults_of : (words : List Text) (s : Settings) → option_and_then settings_under (subcommand_of heapdbg_line words) ≡ Some s → HasDefaults words s
 defaults_of words s e =
-    let asked = are_asked (subcommand_of heapdbg_line words) s e in
+    let asked = found_settings_are_asked (subcommand_of heapdbg_line words) s e in
     let name = asked.found.0 in
     let rows = asked.found.1 in
     record {
-      regions = default_sized (codes "regions") 16 1 (most_regions s.wide) words asked.found s.regions refl asked.is asked.named asked.read.regions;
-      mutators = default_of (codes "mutators") 2 1 mutator_limit words asked.found s.mutators refl asked.is asked.named asked.read.mutators;
-      keep = default_sized (codes "keep") (keep_default s.task s.wide) 1 (most_kept s.wide) words asked.found s.keep refl asked.is asked.named asked.read.keep;
-      time = default_of (codes "time") 0 0 time_limit words asked.found s.time refl asked.is asked.named asked.read.time;
+      regions = ungiven_size_is_default (codes "regions") 16 1 (most_regions s.wide) words asked.found s.regions refl asked.is asked.named asked.read.regions;
+      mutators = ungiven_number_is_default (codes "mutators") 2 1 mutator_limit words asked.found s.mutators refl asked.is asked.named asked.read.mutators;
+      keep = ungiven_size_is_default (codes "keep") (keep_default s.task s.wide) 1 (most_kept s.wide) words asked.found s.keep refl asked.is asked.named asked.read.keep;
+      time = ungiven_number_is_default (codes "time") 0 0 time_limit words asked.found s.time refl asked.is asked.named asked.read.time;
       ids = default_size words asked.found s.ids asked.is asked.named asked.read.ids;
       questions = default_flag (codes "questions") words asked.found s.questions refl asked.is asked.named asked.read.questions;
       rolls = default_flag (codes "roll") words asked.found s.rolls refl asked.is asked.named asked.read.rolls;
       wide = default_flag (codes "wide") words asked.found s.wide refl asked.is asked.named asked.read.wide;
-      sessions = λ other. by_task (λ t. sessions_of t ≡ 1) (bytes_eq name (codes "run")) (bytes_eq name (codes "explore")) (bytes_eq name (codes "draw")) (bytes_eq name (codes "save")) (bytes_eq name (codes "serve")) (bytes_eq name (codes "ask")) (bytes_eq name (codes "fetch")) rows s.task
+      sessions = λ other. each_task_has_property (λ t. sessions_of t ≡ 1) (bytes_eq name (codes "run")) (bytes_eq name (codes "explore")) (bytes_eq name (codes "draw")) (bytes_eq name (codes "save")) (bytes_eq name (codes "serve")) (bytes_eq name (codes "ask")) (bytes_eq name (codes "fetch")) rows s.task
           refl (λ p at. refl) refl (λ target. refl) (λ port. refl) (λ port. refl)
-          (λ is. let served = serve_by rows s.task is in by_service sessions_of rows s.task served 1 (default_of (codes "sessions") 1 1 most_sessions words asked.found served.service.sessions refl asked.is asked.named served.sessions other)) asked.task;
-      workers = λ other. by_task (λ t. workers_of t ≡ 0) (bytes_eq name (codes "run")) (bytes_eq name (codes "explore")) (bytes_eq name (codes "draw")) (bytes_eq name (codes "save")) (bytes_eq name (codes "serve")) (bytes_eq name (codes "ask")) (bytes_eq name (codes "fetch")) rows s.task
+          (λ is. let served = serve_rows_make_task rows s.task is in by_service sessions_of rows s.task served 1 (ungiven_number_is_default (codes "sessions") 1 1 most_sessions words asked.found served.service.sessions refl asked.is asked.named served.sessions other)) asked.task;
+      workers = λ other. each_task_has_property (λ t. workers_of t ≡ 0) (bytes_eq name (codes "run")) (bytes_eq name (codes "explore")) (bytes_eq name (codes "draw")) (bytes_eq name (codes "save")) (bytes_eq name (codes "serve")) (bytes_eq name (codes "ask")) (bytes_eq name (codes "fetch")) rows s.task
           refl (λ p at. refl) refl (λ target. refl) (λ port. refl) (λ port. refl)
-          (λ is. let served = serve_by rows s.task is in by_service workers_of rows s.task served 0 (default_of (codes "workers") 0 0 1 words asked.found served.service.workers refl asked.is asked.named served.workers other)) asked.task;
-      dumps = λ other. by_task (λ t. dumps_of t ≡ None) (bytes_eq name (codes "run")) (bytes_eq name (codes "explore")) (bytes_eq name (codes "draw")) (bytes_eq name (codes "save")) (bytes_eq name (codes "serve")) (bytes_eq name (codes "ask")) (bytes_eq name (codes "fetch")) rows s.task
+          (λ is. let served = serve_rows_make_task rows s.task is in by_service workers_of rows s.task served 0 (ungiven_number_is_default (codes "workers") 0 0 1 words asked.found served.service.workers refl asked.is asked.named served.workers other)) asked.task;
+      dumps = λ other. each_task_has_property (λ t. dumps_of t ≡ None) (bytes_eq name (codes "run")) (bytes_eq name (codes "explore")) (bytes_eq name (codes "draw")) (bytes_eq name (codes "save")) (bytes_eq name (codes "serve")) (bytes_eq name (codes "ask")) (bytes_eq name (codes "fetch")) rows s.task
           refl (λ p at. refl) refl (λ target. refl) (λ port. refl) (λ port. refl)
-          (λ is. default_dumps rows s.task (none_of (codes "dumps") words asked.found refl asked.is asked.named other) is) asked.task;
-      page = λ other. by_task (λ t. page_of t ≡ None) (bytes_eq name (codes "run")) (bytes_eq name (codes "explore")) (bytes_eq name (codes "draw")) (bytes_eq name (codes "save")) (bytes_eq name (codes "serve")) (bytes_eq name (codes "ask")) (bytes_eq name (codes "fetch")) rows s.task
-          refl (λ p at. default_own (first_of (codes "page") rows) p (none_of (codes "page") words asked.found refl asked.is asked.named other) at) refl (λ target. refl) (λ port. refl) (λ port. refl)
-          (λ is. default_page rows s.task (none_of (codes "page") words asked.found refl asked.is asked.named other) is) asked.task;
-      from = λ other. by_task (λ t. reads_file t ≡ false) (bytes_eq name (codes "run")) (bytes_eq name (codes "explore")) (bytes_eq name (codes "draw")) (bytes_eq name (codes "save")) (bytes_eq name (codes "serve")) (bytes_eq name (codes "ask")) (bytes_eq name (codes "fetch")) rows s.task
-          refl (λ p at. unread (first_of (codes "from") rows) (none_of (codes "from") words asked.found refl asked.is asked.named other)) refl (λ target. refl) (λ port. refl) (λ port. refl)
-          (λ is. let served = serve_by rows s.task is in by_service reads_file rows s.task served false (refl)) asked.task;
-      idle = λ other. by_task (λ t. idle_of t ≡ 0) (bytes_eq name (codes "run")) (bytes_eq name (codes "explore")) (bytes_eq name (codes "draw")) (bytes_eq name (codes "save")) (bytes_eq name (codes "serve")) (bytes_eq name (codes "ask")) (bytes_eq name (codes "fetch")) rows s.task
+          (λ is. default_dumps rows s.task (unnamed_option_has_no_row (codes "dumps") words asked.found refl asked.is asked.named other) is) asked.task;
+      page = λ other. each_task_has_property (λ t. page_of t ≡ None) (bytes_eq name (codes "run")) (bytes_eq name (codes "explore")) (bytes_eq name (codes "draw")) (bytes_eq name (codes "save")) (bytes_eq name (codes "serve")) (bytes_eq name (codes "ask")) (bytes_eq name (codes "fetch")) rows s.task
+          refl (λ p at. default_own (first_of (codes "page") rows) p (unnamed_option_has_no_row (codes "page") words asked.found refl asked.is asked.named other) at) refl (λ target. refl) (λ port. refl) (λ port. refl)
+          (λ is. default_page rows s.task (unnamed_option_has_no_row (codes "page") words asked.found refl asked.is asked.named other) is) asked.task;
+      from = λ other. each_task_has_property (λ t. reads_file t ≡ false) (bytes_eq name (codes "run")) (bytes_eq name (codes "explore")) (bytes_eq name (codes "draw")) (bytes_eq name (codes "save")) (bytes_eq name (codes "serve")) (bytes_eq name (codes "ask")) (bytes_eq name (codes "fetch")) rows s.task
+          refl (λ p at. ungiven_file_is_unread (first_of (codes "from") rows) (unnamed_option_has_no_row (codes "from") words asked.found refl asked.is asked.named other)) refl (λ target. refl) (λ port. refl) (λ port. refl)
+          (λ is. let served = serve_rows_make_task rows s.task is in by_service reads_file rows s.task served false (refl)) asked.task;
+      idle = λ other. each_task_has_property (λ t. idle_of t ≡ 0) (bytes_eq name (codes "run")) (bytes_eq name (codes "explore")) (bytes_eq name (codes "draw")) (bytes_eq name (codes "save")) (bytes_eq name (codes "serve")) (bytes_eq name (codes "ask")) (bytes_eq name (codes "fetch")) rows s.task
           refl (λ p at. refl) refl (λ target. refl) (λ port. refl) (λ port. refl)
-          (λ is. let served = serve_by rows s.task is in by_service idle_of rows s.task served 0 (default_of (codes "idle") 0 1 idle_limit words asked.found served.service.idle refl asked.is asked.named served.idle other)) asked.task;
-      stays = λ other. by_task (λ t. stays_of t ≡ false) (bytes_eq name (codes "run")) (bytes_eq name (codes "explore")) (bytes_eq name (codes "draw")) (bytes_eq name (codes "save")) (bytes_eq name (codes "serve")) (bytes_eq name (codes "ask")) (bytes_eq name (codes "fetch")) rows s.task
+          (λ is. let served = serve_rows_make_task rows s.task is in by_service idle_of rows s.task served 0 (ungiven_number_is_default (codes "idle") 0 1 idle_limit words asked.found served.service.idle refl asked.is asked.named served.idle other)) asked.task;
+      stays = λ other. each_task_has_property (λ t. stays_of t ≡ false) (bytes_eq name (codes "run")) (bytes_eq name (codes "explore")) (bytes_eq name (codes "draw")) (bytes_eq name (codes "save")) (bytes_eq name (codes "serve")) (bytes_eq name (codes "ask")) (bytes_eq name (codes "fetch")) rows s.task
           refl (λ p at. refl) refl (λ target. refl) (λ port. refl) (λ port. refl)
-          (λ is. let served = serve_by rows s.task is in by_service stays_of rows s.task served false (default_flag (codes "stay") words asked.found served.service.stays refl asked.is asked.named served.stays other)) asked.task;
-      secret = λ other. by_task (λ t. is_guarded t ≡ false) (bytes_eq name (codes "run")) (bytes_eq name (codes "explore")) (bytes_eq name (codes "draw")) (bytes_eq name (codes "save")) (bytes_eq name (codes "serve")) (bytes_eq name (codes "ask")) (bytes_eq name (codes "fetch")) rows s.task
-          refl (λ p at. refl) refl (λ target. refl) (λ port. unguarded rows (none_of (codes "secret") words asked.found refl asked.is asked.named other)) (λ port. unguarded rows (none_of (codes "secret") words asked.found refl asked.is asked.named other))
-          (λ is. let served = serve_by rows s.task is in by_service is_guarded rows s.task served false (sym served.secret ∙ unguarded rows (none_of (codes "secret") words asked.found refl asked.is asked.named other))) asked.task;
+          (λ is. let served = serve_rows_make_task rows s.task is in by_service stays_of rows s.task served false (default_flag (codes "stay") words asked.found served.service.stays refl asked.is asked.named served.stays other)) asked.task;
+      secret = λ other. each_task_has_property (λ t. is_guarded t ≡ false) (bytes_eq name (codes "run")) (bytes_eq name (codes "explore")) (bytes_eq name (codes "draw")) (bytes_eq name (codes "save")) (bytes_eq name (codes "serve")) (bytes_eq name (codes "ask")) (bytes_eq name (codes "fetch")) rows s.task
+          refl (λ p at. refl) refl (λ target. refl) (λ port. no_secret_given_unguarded rows (unnamed_option_has_no_row (codes "secret") words asked.found refl asked.is asked.named other)) (λ port. no_secret_given_unguarded rows (unnamed_option_has_no_row (codes "secret") words asked.found refl asked.is asked.named other))
+          (λ is. let served = serve_rows_make_task rows s.task is in by_service is_guarded rows s.task served false (sym served.secret ∙ no_secret_given_unguarded rows (unnamed_option_has_no_row (codes "secret") words asked.found refl asked.is asked.named other))) asked.task;
     }

@@ -14,16 +14,16 @@ unfolding walk_fault
 no_settings program = refl
 
 -- so the words ask for no settings
-asks_nothing : (words : List Text) → is_version words ≡ true → settings_of words ≡ None
-asks_nothing [] e = cc
-asks_nothing (program ∷ []) e = cc
-asks_nothing (program ∷ word ∷ []) e =
+version_words_ask_no_settings : (words : List Text) → is_version words ≡ true → settings_of words ≡ None
+version_words_ask_no_settings [] e = cc
+version_words_ask_no_settings (program ∷ []) e = cc
+version_words_ask_no_settings (program ∷ word ∷ []) e =
     ap (λ w. settings_of (program ∷ w ∷ [])) ((bytes_eq-Decides word (codes "version")).0 e) ∙ no_settings program
-asks_nothing (program ∷ word ∷ next ∷ rest) e = cc
+version_words_ask_no_settings (program ∷ word ∷ next ∷ rest) e = cc
 
 -- the version that a command asks for
 pub version_refuses : (words : List Text) (line : LineFault) → is_version words ≡ true → IsCommandWith version_text line → IsRefusalOf words line
 version_refuses words (Bad text) e h = absurd h
 version_refuses words (OptionText text) e h = absurd h
-version_refuses words (CommandText text) e h = (asks_nothing words e, inl (e, h))
+version_refuses words (CommandText text) e h = (version_words_ask_no_settings words e, inl (e, h))
 version_refuses words Memory e h = tt

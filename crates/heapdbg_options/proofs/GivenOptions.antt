@@ -18,9 +18,9 @@ use Rattle.heapdbg_options.specs.declared.settings.Task.{Task}
 -- ---- what is told of options
 
 -- what the texts of two options give is what their rows give
-pub given_by : {A : Type 0} (F : Option Text → Option Text → A) (found : Found) (name second : Text) (one other : Option (Bor Text)) → option_map (λ s. s.now) one ≡ first_value found name → option_map (λ s. s.now) other ≡ first_value found second
+pub two_options_given_as_rows : {A : Type 0} (F : Option Text → Option Text → A) (found : Found) (name second : Text) (one other : Option (Bor Text)) → option_map (λ s. s.now) one ≡ first_value found name → option_map (λ s. s.now) other ≡ first_value found second
     → F (option_map (λ s. s.now) one) (option_map (λ s. s.now) other) ≡ F (first_of name (rows_of found)) (first_of second (rows_of found))
-given_by F found name second one other e f = λ i. F ((e ∙ first_value-rows found name) i) ((f ∙ first_value-rows found second) i)
+two_options_given_as_rows F found name second one other e f = λ i. F ((e ∙ first_value-rows found name) i) ((f ∙ first_value-rows found second) i)
 
 -- so is a mistake in them
 pub given_mistake : (IsMade : Mistake → Option Text → Option Text → Type 0) (m : Mistake) (found : Found) (name second : Text) (one other : Option (Bor Text)) → option_map (λ s. s.now) one ≡ first_value found name → option_map (λ s. s.now) other ≡ first_value found second
@@ -34,24 +34,24 @@ pub text_of_row : (found : Found) (name : Text) (given : Option Text) → given 
 text_of_row found name given e = sym (first_value-rows found name) ∙ sym e
 
 -- a mistake in the two places is one of the options
-pub of_places : (m : Mistake) (rows : List Row) → IsTargetMistake m (first_of (codes "out") rows) (first_of (codes "to") rows) → IsMistakeIn m rows
-of_places m rows (inl h) = subst (λ x. IsMistakeIn x rows) (sym h.0) (inl (refl, h.1))
-of_places m rows (inr h) = subst (λ x. IsMistakeIn x rows) (sym h.0) (inr (refl, h.1))
+pub target_mistake_is_in_rows : (m : Mistake) (rows : List Row) → IsTargetMistake m (first_of (codes "out") rows) (first_of (codes "to") rows) → IsMistakeIn m rows
+target_mistake_is_in_rows m rows (inl h) = subst (λ x. IsMistakeIn x rows) (sym h.0) (inl (refl, h.1))
+target_mistake_is_in_rows m rows (inr h) = subst (λ x. IsMistakeIn x rows) (sym h.0) (inr (refl, h.1))
 
-outside_none : (least most : ℕ) (given : Option Text) → IsOutside least most given → option_and_then (number_in least most) given ≡ None
-outside_none least most None h = absurd h
-outside_none least most (Some text) h = h
+outside_number_is_none : (least most : ℕ) (given : Option Text) → IsOutside least most given → option_and_then (number_in least most) given ≡ None
+outside_number_is_none least most None h = absurd h
+outside_number_is_none least most (Some text) h = h
 
 -- an option is given as its row is there
-pub given_is : (found : Found) (name : Text) (given : Option (Bor Text)) → option_map (λ s. s.now) given ≡ first_value found name → is_some given ≡ is_some (first_of name (rows_of found))
-given_is found name None e = ap is_some (e ∙ first_value-rows found name)
-given_is found name (Some text) e = ap is_some (e ∙ first_value-rows found name)
+pub option_given_as_its_row : (found : Found) (name : Text) (given : Option (Bor Text)) → option_map (λ s. s.now) given ≡ first_value found name → is_some given ≡ is_some (first_of name (rows_of found))
+option_given_as_its_row found name None e = ap is_some (e ∙ first_value-rows found name)
+option_given_as_its_row found name (Some text) e = ap is_some (e ∙ first_value-rows found name)
 
-of_sources : (m : Mistake) (rows : List Row) → IsExploreMistake m (first_of (codes "from") rows) (first_of (codes "page") rows) (first_of (codes "port") rows) (has_secret rows) → IsMistakeIn m rows
-of_sources m rows (inl h) = subst (λ x. IsMistakeIn x rows) (sym h.0) (inl (refl, h.1, h.2))
-of_sources m rows (inr (inl h)) = subst (λ x. IsMistakeIn x rows) (sym h.0) (outside_none 1 port_limit (first_of (codes "port") rows) h.1)
-of_sources m rows (inr (inr (inl h))) = subst (λ x. IsMistakeIn x rows) (sym h.0) h.1
-of_sources m rows (inr (inr (inr h))) = subst (λ x. IsMistakeIn x rows) (sym h.0) (inr (inr (inr (refl, h.1, h.2))))
+source_mistake_is_in_rows : (m : Mistake) (rows : List Row) → IsExploreMistake m (first_of (codes "from") rows) (first_of (codes "page") rows) (first_of (codes "port") rows) (has_secret rows) → IsMistakeIn m rows
+source_mistake_is_in_rows m rows (inl h) = subst (λ x. IsMistakeIn x rows) (sym h.0) (inl (refl, h.1, h.2))
+source_mistake_is_in_rows m rows (inr (inl h)) = subst (λ x. IsMistakeIn x rows) (sym h.0) (outside_number_is_none 1 port_limit (first_of (codes "port") rows) h.1)
+source_mistake_is_in_rows m rows (inr (inr (inl h))) = subst (λ x. IsMistakeIn x rows) (sym h.0) h.1
+source_mistake_is_in_rows m rows (inr (inr (inr h))) = subst (λ x. IsMistakeIn x rows) (sym h.0) (inr (inr (inr (refl, h.1, h.2))))
 
 -- the texts of the options of `explore` are those of their rows
 abbrev pub AreExploreTexts : Found → Option Text → Option Text → Option Text → Type 0
@@ -59,9 +59,9 @@ AreExploreTexts found from page port =
     (from ≡ first_value found (codes "from")) × (page ≡ first_value found (codes "page")) × (port ≡ first_value found (codes "port"))
 
 -- its task, or a mistake in them, is that of the rows
-pub of_explore : (found : Found) (from page port : Option Text) (secret : Bool) (result : Result Task Mistake) → AreExploreTexts found from page port → secret ≡ has_secret (rows_of found) → IsExploreOrMistake from page port secret result
+pub explore_task_from_rows : (found : Found) (from page port : Option Text) (secret : Bool) (result : Result Task Mistake) → AreExploreTexts found from page port → secret ≡ has_secret (rows_of found) → IsExploreOrMistake from page port secret result
     → IsTaskOrMistake explore_in (rows_of found) result
-of_explore found from page port secret result texts guarded h =
+explore_task_from_rows found from page port secret result texts guarded h =
     of_rows result
     (subst (λ b. IsExploreOrMistake (first_of (codes "from") (rows_of found)) (first_of (codes "page") (rows_of found)) (first_of (codes "port") (rows_of found)) b result) guarded
     (subst (λ o. IsExploreOrMistake o (first_of (codes "page") (rows_of found)) (first_of (codes "port") (rows_of found)) secret result) (texts.0 ∙ first_value-rows found (codes "from"))
@@ -71,52 +71,52 @@ of_explore found from page port secret result texts guarded h =
     of_rows : (r : Result Task Mistake) → IsExploreOrMistake (first_of (codes "from") (rows_of found)) (first_of (codes "page") (rows_of found)) (first_of (codes "port") (rows_of found)) (has_secret (rows_of found)) r
         → IsTaskOrMistake explore_in (rows_of found) r
     of_rows (Ok task) made = (made.0, tt)
-    of_rows (Err m) made = (tt, (made.1.0, of_sources m (rows_of found) made.1.1))
+    of_rows (Err m) made = (tt, (made.1.0, source_mistake_is_in_rows m (rows_of found) made.1.1))
 
 -- ---- what is told of the words
 
-simple : is_simple heapdbg_line ≡ true
-simple = refl
+heapdbg_line_is_simple : is_simple heapdbg_line ≡ true
+heapdbg_line_is_simple = refl
 
-free : is_simple_and_free heapdbg_line ≡ true
-free = refl
+heapdbg_line_is_simple_and_free : is_simple_and_free heapdbg_line ≡ true
+heapdbg_line_is_simple_and_free = refl
 
-pub simple_ok : {E : Type 0} (a : App) (r : Result ArgMatches E) (words : List Text) → a ≡ heapdbg_line → IfOk r (HasMatchesOf a words) → IfOk r (λ m. subcommand_rows_of m ≡ subcommand_of heapdbg_line words)
-simple_ok a (Ok m) words is h = (subst (λ x. HasMatchesOf x words m) is h simple).1
-simple_ok a (Err e) words is h = tt
+pub matches_tell_subcommand_rows : {E : Type 0} (a : App) (r : Result ArgMatches E) (words : List Text) → a ≡ heapdbg_line → IfOk r (HasMatchesOf a words) → IfOk r (λ m. subcommand_rows_of m ≡ subcommand_of heapdbg_line words)
+matches_tell_subcommand_rows a (Ok m) words is h = (subst (λ x. HasMatchesOf x words m) is h heapdbg_line_is_simple).1
+matches_tell_subcommand_rows a (Err e) words is h = tt
 
 pub simple_faults : {T : Type 0} (a : App) (r : Result T Error) (words : List Text) → a ≡ heapdbg_line → (is_simple_and_free a ≡ true → FailsBy (fault_of a words) r) → FailsBy (fault_of heapdbg_line words) r
-simple_faults a r words is h = subst (λ x. is_simple_and_free x ≡ true → FailsBy (fault_of x words) r) is h free
+simple_faults a r words is h = subst (λ x. is_simple_and_free x ≡ true → FailsBy (fault_of x words) r) is h heapdbg_line_is_simple_and_free
 
 rows_alone : (name : Text) (o : Option (Text × List Row)) → option_and_then (λ f. first_of name f.1) o ≡ option_and_then (first_of name) (option_map (λ p. p.1) o)
 rows_alone name None = refl
 rows_alone name (Some f) = refl
 
 -- the path is that of the words
-pub path_is : (name : Text) (o : Option (Text × List Row)) (found : Found) (r : Option (Bor Text)) (words : List Text) → Some (rows_of found) ≡ option_map (λ p. p.1) o → o ≡ subcommand_of heapdbg_line words
+pub path_option_of_words : (name : Text) (o : Option (Text × List Row)) (found : Found) (r : Option (Bor Text)) (words : List Text) → Some (rows_of found) ≡ option_map (λ p. p.1) o → o ≡ subcommand_of heapdbg_line words
     → option_map (λ s. s.now) r ≡ first_value found name → IfSome r (λ path. path_of name words ≡ Some path.now)
-path_is name o found None words rows is text = tt
-path_is name o found (Some path) words rows is text =
+path_option_of_words name o found None words rows is text = tt
+path_option_of_words name o found (Some path) words rows is text =
     ap (option_and_then (λ f. first_of name f.1)) (sym is) ∙ rows_alone name o ∙ ap (option_and_then (first_of name)) (sym rows) ∙ sym (first_value-rows found name) ∙ sym text
 
 -- ---- steps that can be undone
 
-no_size : (default least most : ℕ) (given : Option Text) → size_or default least most given ≡ None → IsNoSize least most given
-no_size default least most None e = cc
-no_size default least most (Some text) e = e
+no_size_within_bounds : (default least most : ℕ) (given : Option Text) → size_or default least most given ≡ None → IsNoSize least most given
+no_size_within_bounds default least most None e = cc
+no_size_within_bounds default least most (Some text) e = e
 
-without_keep : (task : Task) (w : Bool) (r m t : Option ℕ) (i : Option IdSize) (q o : Option Bool) → settings_with task w r m None t i q o ≡ None
-without_keep task w None m t i q o = refl
-without_keep task w (Some r) None t i q o = refl
-without_keep task w (Some r) (Some m) t i q o = refl
+no_settings_without_keep : (task : Task) (w : Bool) (r m t : Option ℕ) (i : Option IdSize) (q o : Option Bool) → settings_with task w r m None t i q o ≡ None
+no_settings_without_keep task w None m t i q o = refl
+no_settings_without_keep task w (Some r) None t i q o = refl
+no_settings_without_keep task w (Some r) (Some m) t i q o = refl
 
 mistake_of_keep : (w : Bool) (rows : List Row) → wide_in rows ≡ Some w → IsNoSize 1 (most_kept w) (first_of (codes "keep") rows) → IsMistakeIn (keep_mistake w) rows
 mistake_of_keep false rows wide h = (wide, h)
 mistake_of_keep true rows wide h = (wide, h)
 
 -- an option `--keep` that is out of its range is the mistake of its command
-pub of_unkept : (task : Task) (w : Bool) (rows : List Row) → wide_in rows ≡ Some w → keep_in task w rows ≡ None → (settings_over task rows w ≡ None) × IsMistakeIn (keep_mistake w) rows
-of_unkept task w rows wide e = (
-  rw e (without_keep task w (regions_in w rows) (option_value (codes "mutators") 2 1 mutator_limit rows) (option_value (codes "time") 0 0 time_limit rows) (id_size_in rows) (questions_in rows) (rolls_in rows)),
-  mistake_of_keep w rows wide (no_size (keep_default task w) 1 (most_kept w) (first_of (codes "keep") rows) e),
+pub keep_mistake_is_in_rows : (task : Task) (w : Bool) (rows : List Row) → wide_in rows ≡ Some w → keep_in task w rows ≡ None → (settings_over task rows w ≡ None) × IsMistakeIn (keep_mistake w) rows
+keep_mistake_is_in_rows task w rows wide e = (
+  rw e (no_settings_without_keep task w (regions_in w rows) (option_value (codes "mutators") 2 1 mutator_limit rows) (option_value (codes "time") 0 0 time_limit rows) (id_size_in rows) (questions_in rows) (rolls_in rows)),
+  mistake_of_keep w rows wide (no_size_within_bounds (keep_default task w) 1 (most_kept w) (first_of (codes "keep") rows) e),
 )

@@ -11,16 +11,16 @@ use Rattle.heapdbg_options.specs.declared.option_rows.CommandRow.{CommandRow}
 use Rattle.heapdbg_options.specs.declared.option_rows.OptionRow.{OptionRow}
 
 -- the last option of some
-last_rule : (line : App) (rows : List OptionRow) (row : OptionRow) → with_rules line (map rule_of_row (rows ++ row ∷ [])) ≡ with_rule (with_rules line (map rule_of_row rows)) (rule_of_row row)
-last_rule line [] row = refl
-last_rule line (first ∷ rows) row = last_rule (with_rule line (rule_of_row first)) rows row
+last_option_rule_added : (line : App) (rows : List OptionRow) (row : OptionRow) → with_rules line (map rule_of_row (rows ++ row ∷ [])) ≡ with_rule (with_rules line (map rule_of_row rows)) (rule_of_row row)
+last_option_rule_added line [] row = refl
+last_option_rule_added line (first ∷ rows) row = last_option_rule_added (with_rule line (rule_of_row first)) rows row
 
 -- one option more
-pub more_rules : (line : App) (rows : List OptionRow) (i : ℕ) (d : OptionRow) (old new : Command) (option : Arg) → i < length rows → AddsArg old option new
+pub one_option_rule_more_added : (line : App) (rows : List OptionRow) (i : ℕ) (d : OptionRow) (old new : Command) (option : Arg) → i < length rows → AddsArg old option new
     → rule_of option ≡ rule_of_row (get_or rows i d) → option.global ≡ false → app_of old ≡ with_rules line (map rule_of_row (take i rows)) → (out-Command old).has_globals ≡ false
     → (app_of new ≡ with_rules line (map rule_of_row (take (i + 1) rows))) × ((out-Command new).has_globals ≡ false)
-more_rules line rows i d old new option within adds rule local was free =
-    let taken = ap (λ l. with_rules line (map rule_of_row l)) (take_more rows i d within) ∙ last_rule line (take i rows) (get_or rows i d) in (
+one_option_rule_more_added line rows i d old new option within adds rule local was free =
+    let taken = ap (λ l. with_rules line (map rule_of_row l)) (take_more rows i d within) ∙ last_option_rule_added line (take i rows) (get_or rows i d) in (
       adds.shape local ∙ ap (λ l. with_rule l (rule_of option)) was ∙ ap (λ r. with_rule (with_rules line (map rule_of_row (take i rows))) r) rule ∙ sym taken,
       adds.globals ∙ ap (λ b. b || option.global) free ∙ local,
     )

@@ -47,19 +47,6 @@ pub fn settings(alloc: Global, words: &[&str]) -> Result<Settings, LineFault>
     }
 }
 
-/// Returns the path that the words give to an option, or None if they give none or an allocation fails.
-pub fn path_option<'a>(alloc: Global, words: &'a [&'a str], name: &str) -> Option<&'a str>
-    ensures { IfSome result (λ path. path_of name.now (texts words.now) ≡ Some path.now) }
-{
-    match parse(alloc, words) {
-        Ok(matches) => match matches.subcommand() {
-            Some((_, options)) => options.get_str(name),
-            None => None,
-        },
-        Err(_) => None,
-    }
-}
-
 // Parses the words.
 fn parse<'a>(alloc: Global, words: &'a [&'a str]) -> Result<ArgMatches<'a>, Error>
     ensures ok { IfOk result
@@ -70,15 +57,15 @@ fn parse<'a>(alloc: Global, words: &'a [&'a str]) -> Result<ArgMatches<'a>, Erro
     parser.try_get_matches_from(words)
 }
 
-// The commands, in the order of help.
-const COMMANDS: [CommandRow; 7] = [RUN, EXPLORE, SAVE, DRAW, SERVE, ASK, FETCH];
-
 // Creates the parser of the command line: the program's name, and a command that has to follow.
 fn parser<'a>(alloc: Global) -> Result<Command<'a>, AllocError>
     ensures { IsParserOf heapdbg_line result }
 {
     with_commands(alloc, named_parser(alloc), &COMMANDS)
 }
+
+// The commands, in the order of help.
+const COMMANDS: [CommandRow; 7] = [RUN, EXPLORE, SAVE, DRAW, SERVE, ASK, FETCH];
 
 // Creates the parser of the program's name.
 fn named_parser<'a>(alloc: Global) -> Command<'a>
@@ -88,6 +75,40 @@ fn named_parser<'a>(alloc: Global) -> Command<'a>
     Command::new(alloc, "heapdbg")
         .version(VERSION)
         .subcommand_required(true)
+}
+
+// Returns the refusal of words for an error of the parser: the version or a help that is asked for, and else the parser's text,
+// of which no contract speaks.
+fn refusal(alloc: Global, words: &[&str], error: &Error) -> LineFault
+    ensures { IsSaidOf (kind_of error.now) (is_help (texts words.now)) result }
+{
+    if error.kind() == ErrorKind::OutOfMemory {
+        return LineFault::Memory;
+    }
+    if error.kind() == ErrorKind::DisplayVersion {
+        return version_by_option(alloc);
+    }
+    let Ok(text) = error.to_string(alloc) else {
+        return LineFault::Memory;
+    };
+    if error.kind() == ErrorKind::DisplayHelp {
+        return help_text(words, text);
+    }
+    match with_tip(alloc, words, text) {
+        Ok(text) => LineFault::Bad(text),
+        Err(_) => LineFault::Memory,
+    }
+}
+
+// Returns the refusal of words that ask for a help, by the command `help` or by an option.
+fn help_text(words: &[&str], text: String) -> LineFault
+    ensures { IsSaidOf ErrorKind.DisplayHelp (is_help (texts words.now)) result }
+{
+    if is_help(words) {
+        LineFault::CommandText(text)
+    } else {
+        LineFault::OptionText(text)
+    }
 }
 
 // Returns the settings that the matches ask for, or the mistake in them.
@@ -186,109 +207,6 @@ fn settings_over(task: Task, options: &ArgMatches<'_>, wide: bool) -> Result<Set
     })
 }
 
-// Returns the largest number of regions of a heap that is wide, or isn't.
-fn most_regions(wide: bool) -> u64
-    ensures { result ≡ most_regions wide }
-{
-    if wide { REGION_LIMIT } else { NARROW_REGIONS }
-}
-
-// Returns the largest number of steps that can be undone in a heap that is wide, or isn't.
-fn most_kept(wide: bool) -> u64
-    ensures { result ≡ most_kept wide }
-{
-    if wide { KEEP_LIMIT } else { NARROW_KEEP }
-}
-
-// Returns how many steps can be undone if the option isn't given: for `explore` the most that there may be.
-fn keep_default(task: Task, wide: bool) -> u64
-    ensures { result ≡ keep_default task wide }
-{
-    match task {
-        Task::Explore { .. } => most_kept(wide),
-        _ => 1024,
-    }
-}
-
-// Returns the mistake of regions that are out of the range of a heap that is wide, or isn't.
-fn regions_mistake(wide: bool) -> Mistake
-    ensures { result ≡ regions_mistake wide }
-{
-    if wide {
-        Mistake::WideRegions
-    } else {
-        Mistake::Regions
-    }
-}
-
-// Returns the mistake of steps to keep that are out of the range of a heap that is wide, or isn't.
-fn keep_mistake(wide: bool) -> Mistake
-    ensures { result ≡ keep_mistake wide }
-{
-    if wide {
-        Mistake::WideKeep
-    } else {
-        Mistake::Keep
-    }
-}
-
-// Returns the size of identifiers that the options give, or None if it is out of its range.
-fn id_size_from(options: &ArgMatches<'_>) -> Option<IdSize>
-    ensures { result ≡ id_size_in (rows_of (found_of options.now)) }
-{
-    let bytes = option_value(options, "ids", 8, 4, 8)?;
-    id_size(bytes)
-}
-
-// Returns whether an option is given as 1, or None if it is out of its range.
-pub(crate) fn flag_from(options: &ArgMatches<'_>, name: &str) -> Option<bool>
-    ensures { result ≡ flag_in name.now (rows_of (found_of options.now)) }
-{
-    let number = option_value(options, name, 0, 0, 1)?;
-    Some(number == 1)
-}
-
-// Returns the size of an identifier of `bytes` bytes, or None if they are neither 4 nor 8.
-fn id_size(bytes: u64) -> Option<IdSize>
-    ensures { result ≡ id_size_of bytes }
-{
-    match bytes {
-        4 => Some(IdSize::Four),
-        8 => Some(IdSize::Eight),
-        _ => None,
-    }
-}
-
-// Returns the value of an option, `default` if it isn't given, or None if it isn't from `least` to `most`.
-pub(crate) fn option_value(
-    options: &ArgMatches<'_>,
-    name: &str,
-    default: u64,
-    least: u64,
-    most: u64,
-) -> Option<u64>
-    ensures { result ≡ option_value name.now default least most (rows_of (found_of options.now)) }
-{
-    match options.get_str(name) {
-        Some(text) => number(text, least, most),
-        None => Some(default),
-    }
-}
-
-// Returns the number that a text of digits alone writes, or None if it isn't from `least` to `most` or the text is another.
-pub(crate) fn number(text: &str, least: u64, most: u64) -> Option<u64>
-    ensures { result ≡ number_in least most text.now }
-{
-    if !is_digits(text) {
-        return None;
-    }
-    match text.parse::<u64>() {
-        Ok(number) if least <= number && number <= most => Some(number),
-        Ok(_) => None,
-        Err(_) => None,
-    }
-}
-
 // Returns the size that an option is given, `default` if it isn't given, or None if it isn't from `least` to `most`.
 fn option_size(
     options: &ArgMatches<'_>,
@@ -340,43 +258,125 @@ fn counted(text: &str, times: u64, least: u64, most: u64) -> Option<u64>
     }
 }
 
+// Returns the largest number of regions of a heap that is wide, or isn't.
+fn most_regions(wide: bool) -> u64
+    ensures { result ≡ most_regions wide }
+{
+    if wide { REGION_LIMIT } else { NARROW_REGIONS }
+}
+
+// Returns the mistake of regions that are out of the range of a heap that is wide, or isn't.
+fn regions_mistake(wide: bool) -> Mistake
+    ensures { result ≡ regions_mistake wide }
+{
+    if wide {
+        Mistake::WideRegions
+    } else {
+        Mistake::Regions
+    }
+}
+
+// Returns how many steps can be undone if the option isn't given: for `explore` the most that there may be.
+fn keep_default(task: Task, wide: bool) -> u64
+    ensures { result ≡ keep_default task wide }
+{
+    match task {
+        Task::Explore { .. } => most_kept(wide),
+        _ => 1024,
+    }
+}
+
+// Returns the largest number of steps that can be undone in a heap that is wide, or isn't.
+fn most_kept(wide: bool) -> u64
+    ensures { result ≡ most_kept wide }
+{
+    if wide { KEEP_LIMIT } else { NARROW_KEEP }
+}
+
+// Returns the mistake of steps to keep that are out of the range of a heap that is wide, or isn't.
+fn keep_mistake(wide: bool) -> Mistake
+    ensures { result ≡ keep_mistake wide }
+{
+    if wide {
+        Mistake::WideKeep
+    } else {
+        Mistake::Keep
+    }
+}
+
+// Returns the size of identifiers that the options give, or None if it is out of its range.
+fn id_size_from(options: &ArgMatches<'_>) -> Option<IdSize>
+    ensures { result ≡ id_size_in (rows_of (found_of options.now)) }
+{
+    let bytes = option_value(options, "ids", 8, 4, 8)?;
+    id_size(bytes)
+}
+
+// Returns the size of an identifier of `bytes` bytes, or None if they are neither 4 nor 8.
+fn id_size(bytes: u64) -> Option<IdSize>
+    ensures { result ≡ id_size_of bytes }
+{
+    match bytes {
+        4 => Some(IdSize::Four),
+        8 => Some(IdSize::Eight),
+        _ => None,
+    }
+}
+
+/// Returns the path that the words give to an option, or None if they give none or an allocation fails.
+pub fn path_option<'a>(alloc: Global, words: &'a [&'a str], name: &str) -> Option<&'a str>
+    ensures { IfSome result (λ path. path_of name.now (texts words.now) ≡ Some path.now) }
+{
+    match parse(alloc, words) {
+        Ok(matches) => match matches.subcommand() {
+            Some((_, options)) => options.get_str(name),
+            None => None,
+        },
+        Err(_) => None,
+    }
+}
+
+// Returns whether an option is given as 1, or None if it is out of its range.
+pub(crate) fn flag_from(options: &ArgMatches<'_>, name: &str) -> Option<bool>
+    ensures { result ≡ flag_in name.now (rows_of (found_of options.now)) }
+{
+    let number = option_value(options, name, 0, 0, 1)?;
+    Some(number == 1)
+}
+
+// Returns the value of an option, `default` if it isn't given, or None if it isn't from `least` to `most`.
+pub(crate) fn option_value(
+    options: &ArgMatches<'_>,
+    name: &str,
+    default: u64,
+    least: u64,
+    most: u64,
+) -> Option<u64>
+    ensures { result ≡ option_value name.now default least most (rows_of (found_of options.now)) }
+{
+    match options.get_str(name) {
+        Some(text) => number(text, least, most),
+        None => Some(default),
+    }
+}
+
+// Returns the number that a text of digits alone writes, or None if it isn't from `least` to `most` or the text is another.
+pub(crate) fn number(text: &str, least: u64, most: u64) -> Option<u64>
+    ensures { result ≡ number_in least most text.now }
+{
+    if !is_digits(text) {
+        return None;
+    }
+    match text.parse::<u64>() {
+        Ok(number) if least <= number && number <= most => Some(number),
+        Ok(_) => None,
+        Err(_) => None,
+    }
+}
+
 // Tells whether each byte is a decimal digit.
 fn is_digits(text: &str) -> bool
     ensures { result ≡ list_all is_ascii_digit text.now }
 {
     text.bytes().all(|byte| byte.is_ascii_digit())
-}
-
-// Returns the refusal of words for an error of the parser: the version or a help that is asked for, and else the parser's text,
-// of which no contract speaks.
-fn refusal(alloc: Global, words: &[&str], error: &Error) -> LineFault
-    ensures { IsSaidOf (kind_of error.now) (is_help (texts words.now)) result }
-{
-    if error.kind() == ErrorKind::OutOfMemory {
-        return LineFault::Memory;
-    }
-    if error.kind() == ErrorKind::DisplayVersion {
-        return version_by_option(alloc);
-    }
-    let Ok(text) = error.to_string(alloc) else {
-        return LineFault::Memory;
-    };
-    if error.kind() == ErrorKind::DisplayHelp {
-        return help_text(words, text);
-    }
-    match with_tip(alloc, words, text) {
-        Ok(text) => LineFault::Bad(text),
-        Err(_) => LineFault::Memory,
-    }
-}
-
-// Returns the refusal of words that ask for a help, by the command `help` or by an option.
-fn help_text(words: &[&str], text: String) -> LineFault
-    ensures { IsSaidOf ErrorKind.DisplayHelp (is_help (texts words.now)) result }
-{
-    if is_help(words) {
-        LineFault::CommandText(text)
-    } else {
-        LineFault::OptionText(text)
-    }
 }

@@ -147,18 +147,6 @@ fn with_command<'a>(
     }
 }
 
-// Creates the parser of a row's command without its options.
-fn named_command<'a>(alloc: Global, row: &CommandRow) -> Command<'a>
-    ensures app { app_of result ≡ new_app row.now.name.now }
-    ensures local { (out-Command result).has_globals ≡ false }
-{
-    let named = Command::new(alloc, row.name).about(row.about);
-    match row.usage {
-        Some(usage) => named.override_usage(usage),
-        None => named,
-    }
-}
-
 // Returns the parser with the options of these rows added in turn.
 fn with_options<'a>(
     alloc: Global,
@@ -199,4 +187,16 @@ fn valued_option<'a>(alloc: Global, row: &OptionRow) -> Arg<'a>
         .value_name(row.value)
         .help(row.help)
         .required(row.is_required)
+}
+
+// Creates the parser of a row's command without its options.
+fn named_command<'a>(alloc: Global, row: &CommandRow) -> Command<'a>
+    ensures app { app_of result ≡ new_app row.now.name.now }
+    ensures local { (out-Command result).has_globals ≡ false }
+{
+    let named = Command::new(alloc, row.name).about(row.about);
+    match row.usage {
+        Some(usage) => named.override_usage(usage),
+        None => named,
+    }
 }

@@ -117,15 +117,6 @@ fn refusal_text(alloc: Global, mistake: &str) -> Result<String, AllocError>
     format!(in alloc; "error: {mistake}\n\nFor more information, try 'heapdbg --help'.\n")
 }
 
-// Returns the text of the version: the program's and the logic's hash. Fails if an allocation fails.
-fn version_text(alloc: Global) -> Result<String, AllocError>
-    ensures { IfOk result (λ s. string_bytes s ≡ version_text) }
-{
-    let version = VERSION;
-    let logic = LOGIC;
-    format!(in alloc; "heapdbg {version} (logic {logic})\n")
-}
-
 // Returns the answer to `--version`, or Memory if it can't be allocated.
 pub(crate) fn version_by_option(alloc: Global) -> LineFault
     ensures { IsOptionWith version_text result }
@@ -134,6 +125,15 @@ pub(crate) fn version_by_option(alloc: Global) -> LineFault
         Ok(text) => LineFault::OptionText(text),
         Err(_) => LineFault::Memory,
     }
+}
+
+// Returns the text of the version: the program's and the logic's hash. Fails if an allocation fails.
+fn version_text(alloc: Global) -> Result<String, AllocError>
+    ensures { IfOk result (λ s. string_bytes s ≡ version_text) }
+{
+    let version = VERSION;
+    let logic = LOGIC;
+    format!(in alloc; "heapdbg {version} (logic {logic})\n")
 }
 
 // Returns the answer to `version`, or Memory if it can't be allocated.

@@ -157,11 +157,14 @@ pub(crate) fn serve_task(options: &ArgMatches<'_>) -> Result<Task, Mistake>
     }))
 }
 
-// Tells whether the options give a secret.
-pub(crate) fn has_secret(options: &ArgMatches<'_>) -> bool
-    ensures { result ≡ has_secret (rows_of (found_of options.now)) }
+// Returns the port that the options give.
+fn port(options: &ArgMatches<'_>) -> Option<u16>
+    ensures { result ≡ port_in (rows_of (found_of options.now)) }
 {
-    options.get_str("secret").is_some()
+    match options.get_str("port") {
+        Some(text) => port_of(text),
+        None => None,
+    }
 }
 
 // Returns the port for dumps that the options give beside that of the sessions.
@@ -229,6 +232,13 @@ fn third_port(port: u16, dumps: Option<u16>, page: u16) -> Option<Option<u16>>
     }
 }
 
+// Tells whether the options give a secret.
+pub(crate) fn has_secret(options: &ArgMatches<'_>) -> bool
+    ensures { result ≡ has_secret (rows_of (found_of options.now)) }
+{
+    options.get_str("secret").is_some()
+}
+
 // Returns the task of the options of `fetch`, or the mistake in them.
 pub(crate) fn fetch_task(options: &ArgMatches<'_>) -> Result<Task, Mistake>
     ensures { IsTaskOrMistake fetch_in (rows_of (found_of options.now)) result }
@@ -252,16 +262,6 @@ pub(crate) fn ask_task(options: &ArgMatches<'_>) -> Result<Task, Mistake>
             Ok(Task::Ask { port, secret })
         }
         None => Err(Mistake::Port),
-    }
-}
-
-// Returns the port that the options give.
-fn port(options: &ArgMatches<'_>) -> Option<u16>
-    ensures { result ≡ port_in (rows_of (found_of options.now)) }
-{
-    match options.get_str("port") {
-        Some(text) => port_of(text),
-        None => None,
     }
 }
 

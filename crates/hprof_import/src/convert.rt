@@ -52,18 +52,23 @@ impl From<AllocError> for Failure {
     }
 }
 
-// Returns what is left out: of objects this, and of classes those that have no number.
-fn left_out_of(found: &Found<'_>, plan: &Plan<'_>, left: LeftOut, size: u64) -> Converted {
-    Converted {
-        arrays: left.arrays,
-        classes: (found.classes.len() as u64).saturating_sub(plan.kinds.len() as u64),
-        again: found.again,
-        objects: left.objects,
-        references: left.references,
-        fault: match found.fault {
-            Some(fault) => Some((fault, size.saturating_sub(found.left))),
-            None => None,
-        },
+/// Puts out the session of a dump, and counts what is left out. Fails with Header if the bytes don't begin as a dump does, with
+/// Memory if an allocation fails, or with Write if a put fails.
+pub fn convert<O: Outlet>(alloc: Global, outlet: &mut O, bytes: &[u8]) -> Result<Converted, Failure>
+    ensures { OnOk result ((h : Header) × (rest : List ℕ) × (bytes.now ≡ header_text h ++ rest)
+        × IsConverted (record { ids = h.ids; segment = []; rest = rest }) (O.seen outlet.old)
+        (O.seen outlet.new)) }
+{
+    match header_at(bytes) {
+        Ok(read) => {
+            let walk = Walk {
+                ids: read.0.ids,
+                segment: &[],
+                rest: read.1,
+            };
+            convert_walk(alloc, outlet, walk, bytes.len() as u64)
+        }
+        Err(_) => Err(Failure::Header),
     }
 }
 
@@ -87,22 +92,17 @@ fn convert_walk<O: Outlet>(
     Ok(left_out_of(&found, &plan, left, size))
 }
 
-/// Puts out the session of a dump, and counts what is left out. Fails with Header if the bytes don't begin as a dump does, with
-/// Memory if an allocation fails, or with Write if a put fails.
-pub fn convert<O: Outlet>(alloc: Global, outlet: &mut O, bytes: &[u8]) -> Result<Converted, Failure>
-    ensures { OnOk result ((h : Header) × (rest : List ℕ) × (bytes.now ≡ header_text h ++ rest)
-        × IsConverted (record { ids = h.ids; segment = []; rest = rest }) (O.seen outlet.old)
-        (O.seen outlet.new)) }
-{
-    match header_at(bytes) {
-        Ok(read) => {
-            let walk = Walk {
-                ids: read.0.ids,
-                segment: &[],
-                rest: read.1,
-            };
-            convert_walk(alloc, outlet, walk, bytes.len() as u64)
-        }
-        Err(_) => Err(Failure::Header),
+// Returns what is left out: of objects this, and of classes those that have no number.
+fn left_out_of(found: &Found<'_>, plan: &Plan<'_>, left: LeftOut, size: u64) -> Converted {
+    Converted {
+        arrays: left.arrays,
+        classes: (found.classes.len() as u64).saturating_sub(plan.kinds.len() as u64),
+        again: found.again,
+        objects: left.objects,
+        references: left.references,
+        fault: match found.fault {
+            Some(fault) => Some((fault, size.saturating_sub(found.left))),
+            None => None,
+        },
     }
 }

@@ -13,6 +13,17 @@ use std::fs::Files;
 use std::process::ExitCode;
 use std::{env, fs};
 
+// Runs the program.
+fn main(rt: HostRuntime) -> ExitCode {
+    match paths(&rt) {
+        Some((dump, out)) => ExitCode::from(import(&rt, dump.as_str(), out.as_str())),
+        None => {
+            usage(&rt);
+            ExitCode::from(2)
+        }
+    }
+}
+
 // Returns the words of the command line after the program's name, if there are two.
 fn paths<R: AllocGlobal + Env>(rt: &R) -> Option<(String, String)> {
     let words = env::args(rt).ok()?;
@@ -23,6 +34,21 @@ fn paths<R: AllocGlobal + Env>(rt: &R) -> Option<(String, String)> {
     let out = words.pop()?;
     let dump = words.pop()?;
     Some((dump, out))
+}
+
+// Reads the dump and writes the session. Returns the exit status.
+fn import<R: AllocGlobal + Eprint + Files>(rt: &R, dump: &str, out: &str) -> u8 {
+    let Ok(bytes) = fs::read(rt, dump) else {
+        tell_path(rt, dump, "can't be read");
+        return 1;
+    };
+    let Ok(file) = fs::create(rt, out) else {
+        tell_path(rt, out, "can't be made");
+        return 1;
+    };
+    let mut outlet = WriteOutlet::new(file);
+    let done = convert(rt.alloc(), &mut outlet, &bytes);
+    told(rt, dump, out, done)
 }
 
 // Returns the status of a conversion, and tells of what is left out, or why there is none.
@@ -43,32 +69,6 @@ fn told<R: Eprint>(rt: &R, dump: &str, out: &str, done: Result<Converted, Failur
         Err(Failure::Write) => {
             tell_path(rt, out, "a write failed");
             1
-        }
-    }
-}
-
-// Reads the dump and writes the session. Returns the exit status.
-fn import<R: AllocGlobal + Eprint + Files>(rt: &R, dump: &str, out: &str) -> u8 {
-    let Ok(bytes) = fs::read(rt, dump) else {
-        tell_path(rt, dump, "can't be read");
-        return 1;
-    };
-    let Ok(file) = fs::create(rt, out) else {
-        tell_path(rt, out, "can't be made");
-        return 1;
-    };
-    let mut outlet = WriteOutlet::new(file);
-    let done = convert(rt.alloc(), &mut outlet, &bytes);
-    told(rt, dump, out, done)
-}
-
-// Runs the program.
-fn main(rt: HostRuntime) -> ExitCode {
-    match paths(&rt) {
-        Some((dump, out)) => ExitCode::from(import(&rt, dump.as_str(), out.as_str())),
-        None => {
-            usage(&rt);
-            ExitCode::from(2)
         }
     }
 }

@@ -12,28 +12,6 @@ pub(crate) fn tell_path<R: Eprint>(rt: &R, path: &str, reason: &str) {
     let _ = eprintln!(rt; "heapdbg-import: {path}: {reason}");
 }
 
-// Returns the words for a fault.
-fn fault_words(fault: Fault) -> &'static str {
-    match fault {
-        Fault::Short => "a record is cut",
-        Fault::Header => "no header of a dump",
-        Fault::Tag => "no sub-record has this tag",
-        Fault::Type => "no kind has this code",
-    }
-}
-
-// Tells one count, unless it is 0.
-fn tell_count<R: Eprint>(rt: &R, is_first: bool, count: u64, words: &str) -> bool {
-    if count == 0 {
-        return is_first;
-    }
-    if !is_first {
-        let _ = eprint!(rt; ", ");
-    }
-    let _ = eprint!(rt; "{count} {words}");
-    false
-}
-
 /// Tells what of a dump is left out, in one line, if anything is.
 pub(crate) fn tell_left_out<R: Eprint>(rt: &R, path: &str, left: &Converted) {
     let counts = [
@@ -59,4 +37,26 @@ pub(crate) fn tell_left_out<R: Eprint>(rt: &R, path: &str, left: &Converted) {
         let _ = eprint!(rt; "{words} at byte {place}");
     }
     let _ = eprintln!(rt; "");
+}
+
+// Tells one count, unless it is 0.
+fn tell_count<R: Eprint>(rt: &R, is_first: bool, count: u64, words: &str) -> bool {
+    if count == 0 {
+        return is_first;
+    }
+    if !is_first {
+        let _ = eprint!(rt; ", ");
+    }
+    let _ = eprint!(rt; "{count} {words}");
+    false
+}
+
+// Returns the words for a fault.
+fn fault_words(fault: Fault) -> &'static str {
+    match fault {
+        Fault::Short => "a record is cut",
+        Fault::Header => "no header of a dump",
+        Fault::Tag => "no sub-record has this tag",
+        Fault::Type => "no kind has this code",
+    }
 }

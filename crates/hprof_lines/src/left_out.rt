@@ -37,106 +37,32 @@ const NONE: LeftOut = LeftOut {
     references: 0,
 };
 
-// Returns what is left out in one place and in another.
-fn both_left_out(a: LeftOut, b: LeftOut) -> LeftOut
-    ensures { result ≡ both_left_out a b }
-{
-    LeftOut {
-        arrays: a.arrays.saturating_add(b.arrays),
-        objects: a.objects.saturating_add(b.objects),
-        references: a.references.saturating_add(b.references),
-    }
-}
-
-// Returns how many elements an array has.
-fn count_of(sub: &SubRecord<'_>) -> u64
-    ensures { result ≡ count_of (sub_record sub.now) }
-{
-    match sub {
-        SubRecord::ObjectArray(array) => array.count as u64,
-        SubRecord::PrimArray(array) => array.count as u64,
-        SubRecord::Root(_) => 0,
-        SubRecord::Class(_) => 0,
-        SubRecord::Instance(_) => 0,
-    }
-}
-
-// Returns 1 for an array that is cut.
-fn cuts_of(sub: &SubRecord<'_>) -> u64
-    ensures { result ≡ cuts_of (sub_record sub.now) }
-{
-    if ELEMENT_LIMIT < count_of(sub) { 1 } else { 0 }
-}
-
-// Tells whether a slot names an object that isn't made.
-fn is_lost(all: &Objects<'_, '_>, value: SlotValue) -> bool
-    ensures { result ≡ is_lost (objects_told all.now) value }
-{
-    if !names_object(value) {
-        return false;
-    }
-    number_of(all, value.value).is_none()
-}
-
-// Counts the slots that name objects that aren't made.
-fn lost_in(all: &Objects<'_, '_>, values: &[SlotValue]) -> u64
-    ensures { result ≡ count_by (is_lost (objects_told all.now)) values.now }
-{
-    let mut count = 0;
-    for value in values {
-        if is_lost(all, *value) {
-            count += 1;
-        }
-    }
-    count
-}
-
-// Returns what is left out of the object at place i.
-fn left_out_of(
-    values: &mut Vec<SlotValue>,
-    all: &Objects<'_, '_>,
-    i: usize,
-    sub: &SubRecord<'_>,
+/// Counts what of the objects of a dump the session that `write_session` puts out leaves out. Counts stay at 2^64 - 1 if they
+/// come so far. Fails if an allocation fails. Walks over the dump twice.
+pub fn count_left_out(
+    alloc: Global,
+    walk: Walk<'_>,
+    plan: &Plan<'_>,
+    objects: &IndexSet<u64>,
 ) -> Result<LeftOut, AllocError>
-    requires { index_map_len all.now.plan.now.kinds ≤ length all.now.plan.now.classes }
-    ensures { IfOk result (λ r. r
-        ≡ left_out_if (slice_index_or all.now.made.now i false) (objects_told all.now) (sub_record sub.now)) }
+    requires { index_map_len plan.now.kinds ≤ length plan.now.classes }
+    ensures { (items : List ItemTold) → IsWhole (left walk.entry) items
+        → IfOk result (λ r. r
+        ≡ left_out_from (told_objects plan.now walk.entry.ids objects.now.keys items) none_left_out 0 items) }
 {
-    if !made_at(all.made, i) {
-        return Ok(LeftOut {
-            arrays: 0,
-            objects: 1,
-            references: 0,
-        });
-    }
-    read_object(values, all.ids, all.plan, sub)?;
-    Ok(LeftOut {
-        arrays: cuts_of(sub),
-        objects: 0,
-        references: lost_in(all, values.as_slice()),
-    })
-}
-
-// Returns what is left out of an item, if it is the object at place i, and the place of the next object.
-fn left_out_in(
-    values: &mut Vec<SlotValue>,
-    all: &Objects<'_, '_>,
-    i: usize,
-    item: &Item<'_>,
-) -> Result<(LeftOut, usize), AllocError>
-    requires { index_map_len all.now.plan.now.kinds ≤ length all.now.plan.now.classes }
-    ensures left { IfOk result (λ r. r.0 ≡ left_out_in (objects_told all.now) i (item_told item.now)) }
-    ensures place { IfOk result (λ r. r.1 ≡ next_place all.now.objects.now.keys i (item_told item.now)) }
-{
-    match item {
-        Item::Record(_) => Ok((NONE, i)),
-        Item::Sub(sub) => if is_turn(all.objects, i, sub) {
-            let left = left_out_of(values, all, i, sub)?;
-            Ok((left, i + 1))
-        } else {
-            Ok((NONE, i))
-        },
-    }
+    let planned = plan.statics.as_slice();
+    let statics = static_ids(alloc, planned)?;
+    let before = statics.len() as u64;
+    let made = made_objects(alloc, walk, plan, objects, before)?;
+    let kept = made.as_slice();
+    let all = Objects {
+        plan,
+        ids: walk.ids,
+        objects,
+        made: kept,
+        statics: &statics,
+    };
+    left_out_of_all(alloc, walk, &all)
 }
 
 // Returns how much of the objects of a dump is left out.
@@ -167,30 +93,104 @@ fn left_out_of_all(
     }
 }
 
-/// Counts what of the objects of a dump the session that `write_session` puts out leaves out. Counts stay at 2^64 - 1 if they
-/// come so far. Fails if an allocation fails. Walks over the dump twice.
-pub fn count_left_out(
-    alloc: Global,
-    walk: Walk<'_>,
-    plan: &Plan<'_>,
-    objects: &IndexSet<u64>,
-) -> Result<LeftOut, AllocError>
-    requires { index_map_len plan.now.kinds ≤ length plan.now.classes }
-    ensures { (items : List ItemTold) → IsWhole (left walk.entry) items
-        → IfOk result (λ r. r
-        ≡ left_out_from (told_objects plan.now walk.entry.ids objects.now.keys items) none_left_out 0 items) }
+// Returns what is left out of an item, if it is the object at place i, and the place of the next object.
+fn left_out_in(
+    values: &mut Vec<SlotValue>,
+    all: &Objects<'_, '_>,
+    i: usize,
+    item: &Item<'_>,
+) -> Result<(LeftOut, usize), AllocError>
+    requires { index_map_len all.now.plan.now.kinds ≤ length all.now.plan.now.classes }
+    ensures left { IfOk result (λ r. r.0 ≡ left_out_in (objects_told all.now) i (item_told item.now)) }
+    ensures place { IfOk result (λ r. r.1 ≡ next_place all.now.objects.now.keys i (item_told item.now)) }
 {
-    let planned = plan.statics.as_slice();
-    let statics = static_ids(alloc, planned)?;
-    let before = statics.len() as u64;
-    let made = made_objects(alloc, walk, plan, objects, before)?;
-    let kept = made.as_slice();
-    let all = Objects {
-        plan,
-        ids: walk.ids,
-        objects,
-        made: kept,
-        statics: &statics,
-    };
-    left_out_of_all(alloc, walk, &all)
+    match item {
+        Item::Record(_) => Ok((NONE, i)),
+        Item::Sub(sub) => if is_turn(all.objects, i, sub) {
+            let left = left_out_of(values, all, i, sub)?;
+            Ok((left, i + 1))
+        } else {
+            Ok((NONE, i))
+        },
+    }
+}
+
+// Returns what is left out of the object at place i.
+fn left_out_of(
+    values: &mut Vec<SlotValue>,
+    all: &Objects<'_, '_>,
+    i: usize,
+    sub: &SubRecord<'_>,
+) -> Result<LeftOut, AllocError>
+    requires { index_map_len all.now.plan.now.kinds ≤ length all.now.plan.now.classes }
+    ensures { IfOk result (λ r. r
+        ≡ left_out_if (slice_index_or all.now.made.now i false) (objects_told all.now) (sub_record sub.now)) }
+{
+    if !made_at(all.made, i) {
+        return Ok(LeftOut {
+            arrays: 0,
+            objects: 1,
+            references: 0,
+        });
+    }
+    read_object(values, all.ids, all.plan, sub)?;
+    Ok(LeftOut {
+        arrays: cuts_of(sub),
+        objects: 0,
+        references: lost_in(all, values.as_slice()),
+    })
+}
+
+// Returns 1 for an array that is cut.
+fn cuts_of(sub: &SubRecord<'_>) -> u64
+    ensures { result ≡ cuts_of (sub_record sub.now) }
+{
+    if ELEMENT_LIMIT < count_of(sub) { 1 } else { 0 }
+}
+
+// Returns how many elements an array has.
+fn count_of(sub: &SubRecord<'_>) -> u64
+    ensures { result ≡ count_of (sub_record sub.now) }
+{
+    match sub {
+        SubRecord::ObjectArray(array) => array.count as u64,
+        SubRecord::PrimArray(array) => array.count as u64,
+        SubRecord::Root(_) => 0,
+        SubRecord::Class(_) => 0,
+        SubRecord::Instance(_) => 0,
+    }
+}
+
+// Counts the slots that name objects that aren't made.
+fn lost_in(all: &Objects<'_, '_>, values: &[SlotValue]) -> u64
+    ensures { result ≡ count_by (is_lost (objects_told all.now)) values.now }
+{
+    let mut count = 0;
+    for value in values {
+        if is_lost(all, *value) {
+            count += 1;
+        }
+    }
+    count
+}
+
+// Tells whether a slot names an object that isn't made.
+fn is_lost(all: &Objects<'_, '_>, value: SlotValue) -> bool
+    ensures { result ≡ is_lost (objects_told all.now) value }
+{
+    if !names_object(value) {
+        return false;
+    }
+    number_of(all, value.value).is_none()
+}
+
+// Returns what is left out in one place and in another.
+fn both_left_out(a: LeftOut, b: LeftOut) -> LeftOut
+    ensures { result ≡ both_left_out a b }
+{
+    LeftOut {
+        arrays: a.arrays.saturating_add(b.arrays),
+        objects: a.objects.saturating_add(b.objects),
+        references: a.references.saturating_add(b.references),
+    }
 }

@@ -62,42 +62,58 @@ pub(crate) fn number_of(all: &Objects<'_, '_>, id: u64) -> Option<u64>
     }
 }
 
-// Appends the line that writes a value, unless it is 0 or names an object.
-#[tactic(auto, unfolding(crate::specs::Objects::value_events))]
-fn push_value(lines: &mut Lines, value: SlotValue) -> Result<(), AllocError>
-    ensures { OnOk result (lines.new ≡ lines.old ++ lines_of (value_events value)) }
-{
-    if value.kind.is_reference() || value.value == 0 {
-        return Ok(());
-    }
-    let shown = match value.kind {
-        Kind::Boolean => 1,
-        _ => value.value,
-    };
-    lines.push(&Event::Put {
-        m: 0,
-        target: MADE,
-        slot: value.slot,
-        value: shown,
-    })
-}
-
-// Appends the lines that write values.
-fn push_values(lines: &mut Lines, values: &[SlotValue]) -> Result<(), AllocError>
-    ensures { OnOk result (lines.new ≡ lines.old ++ lines_of (flat_map value_events values.now)) }
-{
-    for value in values {
-        push_value(lines, *value)?;
-    }
-    Ok(())
-}
-
 /// Tells whether a slot names an object.
 #[tactic(auto, unfolding(crate::specs::Objects::names_object))]
 pub(crate) fn names_object(value: SlotValue) -> bool
     ensures { result ≡ names_object value }
 {
     value.kind.is_reference() && value.value != 0
+}
+
+/// Appends the lines that make the slots of object n name the objects that they name in the dump, if any is named. Fails if an
+/// allocation fails.
+#[tactic(auto, unfolding(crate::specs::Objects::links_of))]
+pub(crate) fn push_links(
+    lines: &mut Lines,
+    all: &Objects<'_, '_>,
+    n: u64,
+    values: &[SlotValue],
+) -> Result<(), AllocError>
+    ensures { OnOk result (lines.new
+        ≡ lines.old ++ lines_of (links_of (objects_told all.now) n values.now)) }
+{
+    if !any_names_object(values) {
+        return Ok(());
+    }
+    push_fetch(lines, n, MADE)?;
+    push_references(lines, all, values)
+}
+
+// Tells whether a slot names an object.
+fn any_names_object(values: &[SlotValue]) -> bool
+    ensures { result ≡ list_any names_object values.now }
+{
+    for value in values {
+        if names_object(*value) {
+            return true;
+        }
+    }
+    false
+}
+
+// Appends the lines that make slots name the objects that they name in the dump.
+fn push_references(
+    lines: &mut Lines,
+    all: &Objects<'_, '_>,
+    values: &[SlotValue],
+) -> Result<(), AllocError>
+    ensures { OnOk result (lines.new
+        ≡ lines.old ++ lines_of (flat_map (reference_events (objects_told all.now)) values.now)) }
+{
+    for value in values {
+        push_reference(lines, all, *value)?;
+    }
+    Ok(())
 }
 
 // Appends the lines that make a slot name the object that it names in the dump, if that is made.
@@ -127,91 +143,6 @@ fn push_reference(
     }
 }
 
-// Appends the lines that make slots name the objects that they name in the dump.
-fn push_references(
-    lines: &mut Lines,
-    all: &Objects<'_, '_>,
-    values: &[SlotValue],
-) -> Result<(), AllocError>
-    ensures { OnOk result (lines.new
-        ≡ lines.old ++ lines_of (flat_map (reference_events (objects_told all.now)) values.now)) }
-{
-    for value in values {
-        push_reference(lines, all, *value)?;
-    }
-    Ok(())
-}
-
-// Tells whether a slot names an object.
-fn any_names_object(values: &[SlotValue]) -> bool
-    ensures { result ≡ list_any names_object values.now }
-{
-    for value in values {
-        if names_object(*value) {
-            return true;
-        }
-    }
-    false
-}
-
-/// Appends the lines that make the slots of object n name the objects that they name in the dump, if any is named. Fails if an
-/// allocation fails.
-#[tactic(auto, unfolding(crate::specs::Objects::links_of))]
-pub(crate) fn push_links(
-    lines: &mut Lines,
-    all: &Objects<'_, '_>,
-    n: u64,
-    values: &[SlotValue],
-) -> Result<(), AllocError>
-    ensures { OnOk result (lines.new
-        ≡ lines.old ++ lines_of (links_of (objects_told all.now) n values.now)) }
-{
-    if !any_names_object(values) {
-        return Ok(());
-    }
-    push_fetch(lines, n, MADE)?;
-    push_references(lines, all, values)
-}
-
-// Returns the event that makes an array of references, if its class has a number.
-fn array_event(plan: &Plan<'_>, id: u64, count: u32) -> Option<Event>
-    ensures event { result ≡ option_and_then (array_made plan.now count) (index_of nat_eq plan.now.kinds id) }
-    ensures line { IfSome result HasLine }
-{
-    match plan.number(id) {
-        Some(class) => if plan.classes.is_array(class) {
-            Some(Event::NewArray {
-                m: 0,
-                r: MADE,
-                class,
-                len: (count as u64).min(ELEMENT_LIMIT),
-            })
-        } else {
-            None
-        },
-        None => None,
-    }
-}
-
-// Returns the event that makes an instance, if its class has a number.
-fn instance_event(plan: &Plan<'_>, id: u64) -> Option<Event>
-    ensures event { result ≡ option_and_then (instance_made plan.now) (index_of nat_eq plan.now.kinds id) }
-    ensures line { IfSome result HasLine }
-{
-    match plan.number(id) {
-        Some(class) => if plan.classes.is_instance(class) {
-            Some(Event::New {
-                m: 0,
-                r: MADE,
-                class,
-            })
-        } else {
-            None
-        },
-        None => None,
-    }
-}
-
 /// Returns the event that makes an object, if it is made.
 #[tactic(auto, unfolding(crate::specs::Objects::making_event))]
 pub(crate) fn making_event(plan: &Plan<'_>, sub: &SubRecord<'_>) -> Option<Event>
@@ -236,6 +167,45 @@ pub(crate) fn making_event(plan: &Plan<'_>, sub: &SubRecord<'_>) -> Option<Event
     }
 }
 
+// Returns the event that makes an instance, if its class has a number.
+fn instance_event(plan: &Plan<'_>, id: u64) -> Option<Event>
+    ensures event { result ≡ option_and_then (instance_made plan.now) (index_of nat_eq plan.now.kinds id) }
+    ensures line { IfSome result HasLine }
+{
+    match plan.number(id) {
+        Some(class) => if plan.classes.is_instance(class) {
+            Some(Event::New {
+                m: 0,
+                r: MADE,
+                class,
+            })
+        } else {
+            None
+        },
+        None => None,
+    }
+}
+
+// Returns the event that makes an array of references, if its class has a number.
+fn array_event(plan: &Plan<'_>, id: u64, count: u32) -> Option<Event>
+    ensures event { result ≡ option_and_then (array_made plan.now count) (index_of nat_eq plan.now.kinds id) }
+    ensures line { IfSome result HasLine }
+{
+    match plan.number(id) {
+        Some(class) => if plan.classes.is_array(class) {
+            Some(Event::NewArray {
+                m: 0,
+                r: MADE,
+                class,
+                len: (count as u64).min(ELEMENT_LIMIT),
+            })
+        } else {
+            None
+        },
+        None => None,
+    }
+}
+
 // Appends the lines that make object n by an event, write its values and keep it.
 pub(crate) fn push_made(
     lines: &mut Lines,
@@ -250,6 +220,36 @@ pub(crate) fn push_made(
     lines.push(event)?;
     push_values(lines, values)?;
     push_keep(lines, n)
+}
+
+// Appends the lines that write values.
+fn push_values(lines: &mut Lines, values: &[SlotValue]) -> Result<(), AllocError>
+    ensures { OnOk result (lines.new ≡ lines.old ++ lines_of (flat_map value_events values.now)) }
+{
+    for value in values {
+        push_value(lines, *value)?;
+    }
+    Ok(())
+}
+
+// Appends the line that writes a value, unless it is 0 or names an object.
+#[tactic(auto, unfolding(crate::specs::Objects::value_events))]
+fn push_value(lines: &mut Lines, value: SlotValue) -> Result<(), AllocError>
+    ensures { OnOk result (lines.new ≡ lines.old ++ lines_of (value_events value)) }
+{
+    if value.kind.is_reference() || value.value == 0 {
+        return Ok(());
+    }
+    let shown = match value.kind {
+        Kind::Boolean => 1,
+        _ => value.value,
+    };
+    lines.push(&Event::Put {
+        m: 0,
+        target: MADE,
+        slot: value.slot,
+        value: shown,
+    })
 }
 
 /// Appends the lines that make object n, and before it the arrays that keep it, if they aren't there. Fails if an allocation

@@ -29,19 +29,6 @@ pub enum Pass {
     Linking,
 }
 
-// Returns the id of an object.
-fn id_of(sub: &SubRecord<'_>) -> Option<u64>
-    ensures { result ≡ id_of (sub_record sub.now) }
-{
-    match sub {
-        SubRecord::Instance(it) => Some(it.id),
-        SubRecord::ObjectArray(it) => Some(it.id),
-        SubRecord::PrimArray(it) => Some(it.id),
-        SubRecord::Root(_) => None,
-        SubRecord::Class(_) => None,
-    }
-}
-
 /// Tells whether a sub-record is the object at this place among the objects of the dump.
 #[tactic(auto, unfolding(crate::specs::Passes::is_turn))]
 pub(crate) fn is_turn(objects: &IndexSet<u64>, i: usize, sub: &SubRecord<'_>) -> bool
@@ -58,35 +45,17 @@ pub(crate) fn is_turn(objects: &IndexSet<u64>, i: usize, sub: &SubRecord<'_>) ->
     }
 }
 
-// Tells whether the object at place i is made, if so many objects come before the first.
-#[tactic(auto, unfolding(crate::specs::Passes::is_made))]
-fn is_made(plan: &Plan<'_>, before: u64, i: usize, sub: &SubRecord<'_>) -> bool
-    requires before { before < 2 ^ 63 }
-    requires place { i < 2 ^ 63 }
-    ensures { result ≡ is_made plan.now before i (sub_record sub.now) }
+// Returns the id of an object.
+fn id_of(sub: &SubRecord<'_>) -> Option<u64>
+    ensures { result ≡ id_of (sub_record sub.now) }
 {
-    making_event(plan, sub).is_some() && before + (i as u64) < PLACES
-}
-
-// Notes whether an item is made, if it is the next object.
-fn note_made(
-    made: &mut Vec<bool>,
-    plan: &Plan<'_>,
-    objects: &IndexSet<u64>,
-    before: u64,
-    item: &Item<'_>,
-) -> Result<(), AllocError>
-    requires { before < 2 ^ 63 }
-    ensures { OnOk result (made.new.items ≡ made.old.items
-        ++ made_in plan.now objects.now.keys before (length made.old.items) (item_told item.now)) }
-{
-    if let Item::Sub(sub) = item {
-        let i = made.len();
-        if is_turn(objects, i, sub) {
-            made.push(is_made(plan, before, i, sub))?;
-        }
+    match sub {
+        SubRecord::Instance(it) => Some(it.id),
+        SubRecord::ObjectArray(it) => Some(it.id),
+        SubRecord::PrimArray(it) => Some(it.id),
+        SubRecord::Root(_) => None,
+        SubRecord::Class(_) => None,
     }
-    Ok(())
 }
 
 /// Returns whether each object of a dump is made, if so many objects come before the first. Fails if an allocation fails.
@@ -115,60 +84,35 @@ pub(crate) fn made_objects(
     }
 }
 
-// Appends the lines of the object at place i in a pass.
-#[tactic(auto, unfolding(crate::specs::Passes::events_at))]
-fn push_at(
-    pass: Pass,
-    lines: &mut Lines,
-    values: &mut Vec<SlotValue>,
-    all: &Objects<'_, '_>,
-    i: usize,
-    sub: &SubRecord<'_>,
+// Notes whether an item is made, if it is the next object.
+fn note_made(
+    made: &mut Vec<bool>,
+    plan: &Plan<'_>,
+    objects: &IndexSet<u64>,
+    before: u64,
+    item: &Item<'_>,
 ) -> Result<(), AllocError>
-    requires classes { index_map_len all.now.plan.now.kinds ≤ length all.now.plan.now.classes }
-    requires place { i < 2 ^ 63 }
-    ensures { OnOk result (lines.new ≡ lines.old
-        ++ lines_of (events_at pass (objects_told all.now) i (sub_record sub.now))) }
+    requires { before < 2 ^ 63 }
+    ensures { OnOk result (made.new.items ≡ made.old.items
+        ++ made_in plan.now objects.now.keys before (length made.old.items) (item_told item.now)) }
 {
-    let n = all.statics.len() as u64 + i as u64;
-    match pass {
-        Pass::Making => if n < PLACES {
-            push_object(lines, values, all, n, sub)
-        } else {
-            Ok(())
-        },
-        Pass::Linking => if made_at(all.made, i) {
-            read_object(values, all.ids, all.plan, sub)?;
-            push_links(lines, all, n, values.as_slice())
-        } else {
-            Ok(())
-        },
+    if let Item::Sub(sub) = item {
+        let i = made.len();
+        if is_turn(objects, i, sub) {
+            made.push(is_made(plan, before, i, sub))?;
+        }
     }
+    Ok(())
 }
 
-// Appends the lines of an item in a pass, if it is the object at place i. Returns the place of the next object.
-fn push_item(
-    pass: Pass,
-    lines: &mut Lines,
-    values: &mut Vec<SlotValue>,
-    all: &Objects<'_, '_>,
-    i: usize,
-    item: &Item<'_>,
-) -> Result<usize, AllocError>
-    requires { index_map_len all.now.plan.now.kinds ≤ length all.now.plan.now.classes }
-    ensures lines { OnOk result (lines.new ≡ lines.old
-        ++ lines_of (item_events pass (objects_told all.now) i (item_told item.now))) }
-    ensures place { IfOk result (λ k. k ≡ next_place all.now.objects.now.keys i (item_told item.now)) }
+// Tells whether the object at place i is made, if so many objects come before the first.
+#[tactic(auto, unfolding(crate::specs::Passes::is_made))]
+fn is_made(plan: &Plan<'_>, before: u64, i: usize, sub: &SubRecord<'_>) -> bool
+    requires before { before < 2 ^ 63 }
+    requires place { i < 2 ^ 63 }
+    ensures { result ≡ is_made plan.now before i (sub_record sub.now) }
 {
-    match item {
-        Item::Record(_) => Ok(i),
-        Item::Sub(sub) => if is_turn(all.objects, i, sub) {
-            push_at(pass, lines, values, all, i, sub)?;
-            Ok(i + 1)
-        } else {
-            Ok(i)
-        },
-    }
+    making_event(plan, sub).is_some() && before + (i as u64) < PLACES
 }
 
 /// Puts out the lines of a pass over a dump. Tells whether they are all out. Fails if an allocation fails.
@@ -200,5 +144,61 @@ pub(crate) fn write_pass<O: Outlet>(
             Ok(None) => return Ok(put_lines(outlet, &mut lines)),
             Err(_) => return Ok(put_lines(outlet, &mut lines)),
         }
+    }
+}
+
+// Appends the lines of an item in a pass, if it is the object at place i. Returns the place of the next object.
+fn push_item(
+    pass: Pass,
+    lines: &mut Lines,
+    values: &mut Vec<SlotValue>,
+    all: &Objects<'_, '_>,
+    i: usize,
+    item: &Item<'_>,
+) -> Result<usize, AllocError>
+    requires { index_map_len all.now.plan.now.kinds ≤ length all.now.plan.now.classes }
+    ensures lines { OnOk result (lines.new ≡ lines.old
+        ++ lines_of (item_events pass (objects_told all.now) i (item_told item.now))) }
+    ensures place { IfOk result (λ k. k ≡ next_place all.now.objects.now.keys i (item_told item.now)) }
+{
+    match item {
+        Item::Record(_) => Ok(i),
+        Item::Sub(sub) => if is_turn(all.objects, i, sub) {
+            push_at(pass, lines, values, all, i, sub)?;
+            Ok(i + 1)
+        } else {
+            Ok(i)
+        },
+    }
+}
+
+// Appends the lines of the object at place i in a pass.
+#[tactic(auto, unfolding(crate::specs::Passes::events_at))]
+fn push_at(
+    pass: Pass,
+    lines: &mut Lines,
+    values: &mut Vec<SlotValue>,
+    all: &Objects<'_, '_>,
+    i: usize,
+    sub: &SubRecord<'_>,
+) -> Result<(), AllocError>
+    requires classes { index_map_len all.now.plan.now.kinds ≤ length all.now.plan.now.classes }
+    requires place { i < 2 ^ 63 }
+    ensures { OnOk result (lines.new ≡ lines.old
+        ++ lines_of (events_at pass (objects_told all.now) i (sub_record sub.now))) }
+{
+    let n = all.statics.len() as u64 + i as u64;
+    match pass {
+        Pass::Making => if n < PLACES {
+            push_object(lines, values, all, n, sub)
+        } else {
+            Ok(())
+        },
+        Pass::Linking => if made_at(all.made, i) {
+            read_object(values, all.ids, all.plan, sub)?;
+            push_links(lines, all, n, values.as_slice())
+        } else {
+            Ok(())
+        },
     }
 }

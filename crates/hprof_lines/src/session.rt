@@ -19,52 +19,6 @@ use hprof_session::Walk;
 use indexmap::IndexSet;
 use std::alloc::{AllocError, Global};
 
-// Puts out the lines of a pass, over the objects of static fields and over the dump.
-fn write_both<O: Outlet>(
-    alloc: Global,
-    outlet: &mut O,
-    pass: Pass,
-    walk: Walk<'_>,
-    all: &Objects<'_, '_>,
-) -> Result<bool, AllocError>
-    requires { index_map_len all.now.plan.now.kinds ≤ length all.now.plan.now.classes }
-    ensures { (items : List ItemTold) → IsWhole (left walk.entry) items
-        → Writes (O.seen outlet.old) (O.seen outlet.new)
-        (lines_of (both_events pass (objects_told all.now) items)) result }
-{
-    let statics = all.plan.statics.as_slice();
-    if !write_statics(alloc, outlet, pass, all, statics)? {
-        return Ok(false);
-    }
-    write_pass(alloc, outlet, pass, walk, all)
-}
-
-// The tags of roots.
-const ROOT_TAGS: [u8; 9] = [0x01, 0x02, 0x03, 0x04, 0x05, 0x06, 0x07, 0x08, 0xff];
-
-// Puts out the lines of the objects of a dump, of their references and of the roots.
-fn write_all<O: Outlet>(
-    alloc: Global,
-    outlet: &mut O,
-    walk: Walk<'_>,
-    all: &Objects<'_, '_>,
-    roots: &[RootFound],
-) -> Result<bool, AllocError>
-    requires kinds { index_map_len all.now.plan.now.kinds ≤ length all.now.plan.now.classes }
-    requires roots { all.now.plan.now.roots < 2 ^ 62 }
-    ensures { (items : List ItemTold) → IsWhole (left walk.entry) items
-        → Writes (O.seen outlet.old) (O.seen outlet.new)
-        (lines_of (all_events (objects_told all.now) items roots.now)) result }
-{
-    if !write_both(alloc, outlet, Pass::Making, walk, all)? {
-        return Ok(false);
-    }
-    if !write_both(alloc, outlet, Pass::Linking, walk, all)? {
-        return Ok(false);
-    }
-    write_roots(alloc, outlet, all, roots, &ROOT_TAGS)
-}
-
 /// Returns the ids of the classes that have an object for their static fields. Fails if an allocation fails.
 pub(crate) fn static_ids(
     alloc: Global,
@@ -78,6 +32,9 @@ pub(crate) fn static_ids(
     }
     Ok(ids)
 }
+
+// The tags of roots.
+const ROOT_TAGS: [u8; 9] = [0x01, 0x02, 0x03, 0x04, 0x05, 0x06, 0x07, 0x08, 0xff];
 
 /// Puts out the lines of the session that makes the heap of a dump: its classes, as they are planned, the objects with their
 /// values and references, and the roots. Tells whether all of them are out: if not, a put failed. Fails if an allocation fails.
@@ -113,4 +70,47 @@ pub fn write_session<O: Outlet>(
         statics: &statics,
     };
     write_all(alloc, outlet, walk, &all, roots)
+}
+
+// Puts out the lines of the objects of a dump, of their references and of the roots.
+fn write_all<O: Outlet>(
+    alloc: Global,
+    outlet: &mut O,
+    walk: Walk<'_>,
+    all: &Objects<'_, '_>,
+    roots: &[RootFound],
+) -> Result<bool, AllocError>
+    requires kinds { index_map_len all.now.plan.now.kinds ≤ length all.now.plan.now.classes }
+    requires roots { all.now.plan.now.roots < 2 ^ 62 }
+    ensures { (items : List ItemTold) → IsWhole (left walk.entry) items
+        → Writes (O.seen outlet.old) (O.seen outlet.new)
+        (lines_of (all_events (objects_told all.now) items roots.now)) result }
+{
+    if !write_both(alloc, outlet, Pass::Making, walk, all)? {
+        return Ok(false);
+    }
+    if !write_both(alloc, outlet, Pass::Linking, walk, all)? {
+        return Ok(false);
+    }
+    write_roots(alloc, outlet, all, roots, &ROOT_TAGS)
+}
+
+// Puts out the lines of a pass, over the objects of static fields and over the dump.
+fn write_both<O: Outlet>(
+    alloc: Global,
+    outlet: &mut O,
+    pass: Pass,
+    walk: Walk<'_>,
+    all: &Objects<'_, '_>,
+) -> Result<bool, AllocError>
+    requires { index_map_len all.now.plan.now.kinds ≤ length all.now.plan.now.classes }
+    ensures { (items : List ItemTold) → IsWhole (left walk.entry) items
+        → Writes (O.seen outlet.old) (O.seen outlet.new)
+        (lines_of (both_events pass (objects_told all.now) items)) result }
+{
+    let statics = all.plan.statics.as_slice();
+    if !write_statics(alloc, outlet, pass, all, statics)? {
+        return Ok(false);
+    }
+    write_pass(alloc, outlet, pass, walk, all)
 }

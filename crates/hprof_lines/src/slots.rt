@@ -13,25 +13,34 @@ use std::alloc::AllocError;
 /// The most elements of an array.
 pub const ELEMENT_LIMIT: u64 = 1024;
 
-// Returns the kinds of the own fields of a class in its record.
-fn kinds_of<'p>(plan: &'p Plan<'_>, class: u64) -> &'p [Kind]
-    ensures { result.now ≡ kinds_of plan.now class }
+/// Puts the values of the slots of an object that are kept in place of those given. Fails if an allocation fails.
+#[tactic(auto, unfolding(crate::specs::Slots::object_values))]
+pub(crate) fn read_object(
+    slots: &mut Vec<SlotValue>,
+    ids: IdSize,
+    plan: &Plan<'_>,
+    sub: &SubRecord<'_>,
+) -> Result<(), AllocError>
+    requires { index_map_len plan.now.kinds ≤ length plan.now.classes }
+    ensures { OnOk result (slots.new.items ≡ object_values plan.now ids (sub_record sub.now)) }
 {
-    match plan.kinds.get_index(class as usize) {
-        Some((_, kinds)) => kinds.as_slice(),
-        None => &[],
+    slots.clear();
+    match sub {
+        SubRecord::Instance(instance) => match plan.number(instance.class) {
+            Some(class) => add_instance(slots, ids, plan, class, instance.values),
+            None => Ok(()),
+        },
+        SubRecord::ObjectArray(array) => {
+            let count = (array.count as u64).min(ELEMENT_LIMIT);
+            add_elements(slots, ids, Kind::Object, count, array.elements)
+        }
+        SubRecord::PrimArray(array) => {
+            let count = (array.count as u64).min(ELEMENT_LIMIT);
+            add_elements(slots, ids, array.kind, count, array.elements)
+        }
+        SubRecord::Root(_) => Ok(()),
+        SubRecord::Class(_) => Ok(()),
     }
-}
-
-// Returns the first slot of the own fields of a class in an instance.
-fn base_of(plan: &Plan<'_>, instance: u64, class: u64) -> u64
-    requires instance { instance < length plan.now.classes }
-    requires class { class < length plan.now.classes }
-    ensures value { result ≡ base_of plan.now instance class }
-    ensures limit { result ≤ 64 }
-{
-    let all = plan.classes.slots(instance).len() as u64;
-    all.saturating_sub(plan.classes.slots(class).len() as u64)
 }
 
 // Adds the values of an instance.
@@ -62,32 +71,23 @@ fn add_instance(
     Ok(())
 }
 
-/// Puts the values of the slots of an object that are kept in place of those given. Fails if an allocation fails.
-#[tactic(auto, unfolding(crate::specs::Slots::object_values))]
-pub(crate) fn read_object(
-    slots: &mut Vec<SlotValue>,
-    ids: IdSize,
-    plan: &Plan<'_>,
-    sub: &SubRecord<'_>,
-) -> Result<(), AllocError>
-    requires { index_map_len plan.now.kinds ≤ length plan.now.classes }
-    ensures { OnOk result (slots.new.items ≡ object_values plan.now ids (sub_record sub.now)) }
+// Returns the first slot of the own fields of a class in an instance.
+fn base_of(plan: &Plan<'_>, instance: u64, class: u64) -> u64
+    requires instance { instance < length plan.now.classes }
+    requires class { class < length plan.now.classes }
+    ensures value { result ≡ base_of plan.now instance class }
+    ensures limit { result ≤ 64 }
 {
-    slots.clear();
-    match sub {
-        SubRecord::Instance(instance) => match plan.number(instance.class) {
-            Some(class) => add_instance(slots, ids, plan, class, instance.values),
-            None => Ok(()),
-        },
-        SubRecord::ObjectArray(array) => {
-            let count = (array.count as u64).min(ELEMENT_LIMIT);
-            add_elements(slots, ids, Kind::Object, count, array.elements)
-        }
-        SubRecord::PrimArray(array) => {
-            let count = (array.count as u64).min(ELEMENT_LIMIT);
-            add_elements(slots, ids, array.kind, count, array.elements)
-        }
-        SubRecord::Root(_) => Ok(()),
-        SubRecord::Class(_) => Ok(()),
+    let all = plan.classes.slots(instance).len() as u64;
+    all.saturating_sub(plan.classes.slots(class).len() as u64)
+}
+
+// Returns the kinds of the own fields of a class in its record.
+fn kinds_of<'p>(plan: &'p Plan<'_>, class: u64) -> &'p [Kind]
+    ensures { result.now ≡ kinds_of plan.now class }
+{
+    match plan.kinds.get_index(class as usize) {
+        Some((_, kinds)) => kinds.as_slice(),
+        None => &[],
     }
 }

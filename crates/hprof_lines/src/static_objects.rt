@@ -16,6 +16,29 @@ use hprof_session::{MADE, push_place};
 use session_lines::Lines;
 use std::alloc::{AllocError, Global};
 
+/// Puts out the lines of a pass over the objects of static fields. Tells whether they are all out. Fails if an allocation
+/// fails.
+pub(crate) fn write_statics<O: Outlet>(
+    alloc: Global,
+    outlet: &mut O,
+    pass: Pass,
+    all: &Objects<'_, '_>,
+    statics: &[Statics<'_>],
+) -> Result<bool, AllocError>
+    ensures { Writes (O.seen outlet.old) (O.seen outlet.new)
+        (lines_of (statics_events pass (objects_told all.now) 0 statics.now)) result }
+{
+    let mut lines = Lines::new(alloc);
+    let mut values = Vec::new(alloc);
+    for (n, it) in statics.iter().enumerate() {
+        push_static(pass, &mut lines, &mut values, all, n as u64, it)?;
+        if !put_some(outlet, &mut lines) {
+            return Ok(false);
+        }
+    }
+    Ok(put_lines(outlet, &mut lines))
+}
+
 // Appends the lines of an object of static fields in a pass.
 #[tactic(auto, unfolding(crate::specs::StaticObjects::static_events))]
 fn push_static(
@@ -44,27 +67,4 @@ fn push_static(
         }
         Pass::Linking => push_links(lines, all, n, values.as_slice()),
     }
-}
-
-/// Puts out the lines of a pass over the objects of static fields. Tells whether they are all out. Fails if an allocation
-/// fails.
-pub(crate) fn write_statics<O: Outlet>(
-    alloc: Global,
-    outlet: &mut O,
-    pass: Pass,
-    all: &Objects<'_, '_>,
-    statics: &[Statics<'_>],
-) -> Result<bool, AllocError>
-    ensures { Writes (O.seen outlet.old) (O.seen outlet.new)
-        (lines_of (statics_events pass (objects_told all.now) 0 statics.now)) result }
-{
-    let mut lines = Lines::new(alloc);
-    let mut values = Vec::new(alloc);
-    for (n, it) in statics.iter().enumerate() {
-        push_static(pass, &mut lines, &mut values, all, n as u64, it)?;
-        if !put_some(outlet, &mut lines) {
-            return Ok(false);
-        }
-    }
-    Ok(put_lines(outlet, &mut lines))
 }

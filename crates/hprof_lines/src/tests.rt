@@ -74,74 +74,6 @@ clear 0 5
 clear 0 6
 ";
 
-// Defines an instance class with fields of these kinds.
-fn define(alloc: Global, classes: &mut Classes, name: &[u8], kinds: &[Kind]) -> Result<(), Fail> {
-    let mut fields = Vec::new(alloc);
-    for (i, kind) in kinds.iter().enumerate() {
-        let letter = [b'a' + (i % 8) as u8];
-        let name = Name::new(alloc, &letter).ok().ok_or("memory")?;
-        fields
-            .push(Field { name, kind: *kind })
-            .ok()
-            .ok_or("memory")?;
-    }
-    let name = Name::new(alloc, name).ok().ok_or("memory")?;
-    let fields = Fields::from_vec(fields);
-    let class = NewClass {
-        name: &name,
-        sup: None,
-        fields: &fields,
-    };
-    classes.define(WIDEST_CLASSES, class).ok().ok_or("a class")?;
-    Ok(())
-}
-
-// Returns the classes of the session.
-fn classes(alloc: Global) -> Result<Classes, Fail> {
-    let mut classes = Classes::new(alloc);
-    define(
-        alloc,
-        &mut classes,
-        b"Node",
-        &[Kind::Object, Kind::Int, Kind::Boolean],
-    )?;
-    let array = Name::new(alloc, b"[Node").ok().ok_or("memory")?;
-    classes
-        .define_array(WIDEST_CLASSES, &array)
-        .ok()
-        .ok_or("a class")?;
-    define(alloc, &mut classes, b"Node.static", &[Kind::Object])?;
-    Ok(classes)
-}
-
-// Returns the plan of the session.
-fn plan(alloc: Global) -> Result<Plan<'static>, Fail> {
-    let node = vec![in alloc; Kind::Object, Kind::Int, Kind::Boolean]
-        .ok()
-        .ok_or("memory")?;
-    let mut kinds = IndexMap::new(alloc);
-    kinds.insert(0x10, node).ok().ok_or("memory")?;
-    kinds.insert(0x20, Vec::new(alloc)).ok().ok_or("memory")?;
-    let mut fields = Vec::new(alloc);
-    let (name, kind, value) = (0, Kind::Object, b"\0\0\0\x32".as_slice());
-    fields
-        .push(StaticField { name, kind, value })
-        .ok()
-        .ok_or("memory")?;
-    let mut statics = Vec::new(alloc);
-    statics
-        .push(Statics { id: 0x10, fields })
-        .ok()
-        .ok_or("memory")?;
-    Ok(Plan {
-        classes: classes(alloc)?,
-        lines: Lines::new(alloc),
-        kinds,
-        statics,
-        roots: 3,
-    })
-}
-
 #[test]
 fn session_of_a_small_dump(rt: HostRuntime) -> Result<(), Fail> {
     let alloc = rt.alloc();
@@ -184,5 +116,73 @@ fn session_of_a_small_dump(rt: HostRuntime) -> Result<(), Fail> {
             references
         }
     );
+    Ok(())
+}
+
+// Returns the plan of the session.
+fn plan(alloc: Global) -> Result<Plan<'static>, Fail> {
+    let node = vec![in alloc; Kind::Object, Kind::Int, Kind::Boolean]
+        .ok()
+        .ok_or("memory")?;
+    let mut kinds = IndexMap::new(alloc);
+    kinds.insert(0x10, node).ok().ok_or("memory")?;
+    kinds.insert(0x20, Vec::new(alloc)).ok().ok_or("memory")?;
+    let mut fields = Vec::new(alloc);
+    let (name, kind, value) = (0, Kind::Object, b"\0\0\0\x32".as_slice());
+    fields
+        .push(StaticField { name, kind, value })
+        .ok()
+        .ok_or("memory")?;
+    let mut statics = Vec::new(alloc);
+    statics
+        .push(Statics { id: 0x10, fields })
+        .ok()
+        .ok_or("memory")?;
+    Ok(Plan {
+        classes: classes(alloc)?,
+        lines: Lines::new(alloc),
+        kinds,
+        statics,
+        roots: 3,
+    })
+}
+
+// Returns the classes of the session.
+fn classes(alloc: Global) -> Result<Classes, Fail> {
+    let mut classes = Classes::new(alloc);
+    define(
+        alloc,
+        &mut classes,
+        b"Node",
+        &[Kind::Object, Kind::Int, Kind::Boolean],
+    )?;
+    let array = Name::new(alloc, b"[Node").ok().ok_or("memory")?;
+    classes
+        .define_array(WIDEST_CLASSES, &array)
+        .ok()
+        .ok_or("a class")?;
+    define(alloc, &mut classes, b"Node.static", &[Kind::Object])?;
+    Ok(classes)
+}
+
+// Defines an instance class with fields of these kinds.
+fn define(alloc: Global, classes: &mut Classes, name: &[u8], kinds: &[Kind]) -> Result<(), Fail> {
+    let mut fields = Vec::new(alloc);
+    for (i, kind) in kinds.iter().enumerate() {
+        let letter = [b'a' + (i % 8) as u8];
+        let name = Name::new(alloc, &letter).ok().ok_or("memory")?;
+        fields
+            .push(Field { name, kind: *kind })
+            .ok()
+            .ok_or("memory")?;
+    }
+    let name = Name::new(alloc, name).ok().ok_or("memory")?;
+    let fields = Fields::from_vec(fields);
+    let class = NewClass {
+        name: &name,
+        sup: None,
+        fields: &fields,
+    };
+    classes.define(WIDEST_CLASSES, class).ok().ok_or("a class")?;
     Ok(())
 }

@@ -18,49 +18,6 @@ pub struct SlotValue {
     pub value: u64,
 }
 
-// Returns the number that bytes are, the highest first: its last 64 bits.
-#[tactic(auto, unfolding(crate::specs::Values::number_in))]
-fn number_in(bytes: &[u8]) -> u64
-    ensures { result ≡ number_in bytes.now }
-{
-    let mut number = 0u64;
-    for byte in bytes {
-        number = number.wrapping_mul(256).wrapping_add(*byte as u64);
-    }
-    number
-}
-
-// Reads the number that a value of this kind is, at the front of bytes, as far as they go. Returns it with the bytes after it.
-fn number_at(ids: IdSize, kind: Kind, bytes: &[u8]) -> (u64, &[u8])
-    ensures number { result.0 ≡ number_in (take (width_of ids kind) bytes.now) }
-    ensures rest { result.1.now ≡ drop (width_of ids kind) bytes.now }
-{
-    let size = bytes.len().min(kind.width(ids) as usize);
-    let (front, rest) = bytes.split_at(size);
-    (number_in(front), rest)
-}
-
-// Adds the value of field i of a class, if the class keeps it: it keeps so many, in slots from `base` on.
-fn add_if_kept(
-    slots: &mut Vec<SlotValue>,
-    kept: u64,
-    base: u64,
-    i: u64,
-    kind: Kind,
-    value: u64,
-) -> Result<(), AllocError>
-    requires kept { kept ≤ 64 }
-    requires base { base ≤ 64 }
-    ensures { OnOk result (slots.new.items ≡ slots.old.items
-        ++ value_if (nat_lt i kept) (record { slot = base + i; kind = kind; value = value })) }
-{
-    if i < kept {
-        let slot = base + i;
-        slots.push(SlotValue { slot, kind, value })?;
-    }
-    Ok(())
-}
-
 /// Adds the values of so many elements of an array. Fails if an allocation fails.
 pub(crate) fn add_elements(
     slots: &mut Vec<SlotValue>,
@@ -79,6 +36,28 @@ pub(crate) fn add_elements(
         rest = after;
     }
     Ok(())
+}
+
+// Reads the number that a value of this kind is, at the front of bytes, as far as they go. Returns it with the bytes after it.
+fn number_at(ids: IdSize, kind: Kind, bytes: &[u8]) -> (u64, &[u8])
+    ensures number { result.0 ≡ number_in (take (width_of ids kind) bytes.now) }
+    ensures rest { result.1.now ≡ drop (width_of ids kind) bytes.now }
+{
+    let size = bytes.len().min(kind.width(ids) as usize);
+    let (front, rest) = bytes.split_at(size);
+    (number_in(front), rest)
+}
+
+// Returns the number that bytes are, the highest first: its last 64 bits.
+#[tactic(auto, unfolding(crate::specs::Values::number_in))]
+fn number_in(bytes: &[u8]) -> u64
+    ensures { result ≡ number_in bytes.now }
+{
+    let mut number = 0u64;
+    for byte in bytes {
+        number = number.wrapping_mul(256).wrapping_add(*byte as u64);
+    }
+    number
 }
 
 /// Adds the values of fields of these kinds that a class has, of which it keeps so many in slots from `base` on. Returns the
@@ -104,6 +83,27 @@ pub(crate) fn add_fields<'a>(
         rest = after;
     }
     Ok(rest)
+}
+
+// Adds the value of field i of a class, if the class keeps it: it keeps so many, in slots from `base` on.
+fn add_if_kept(
+    slots: &mut Vec<SlotValue>,
+    kept: u64,
+    base: u64,
+    i: u64,
+    kind: Kind,
+    value: u64,
+) -> Result<(), AllocError>
+    requires kept { kept ≤ 64 }
+    requires base { base ≤ 64 }
+    ensures { OnOk result (slots.new.items ≡ slots.old.items
+        ++ value_if (nat_lt i kept) (record { slot = base + i; kind = kind; value = value })) }
+{
+    if i < kept {
+        let slot = base + i;
+        slots.push(SlotValue { slot, kind, value })?;
+    }
+    Ok(())
 }
 
 /// Adds the values of static fields. Fails if an allocation fails.

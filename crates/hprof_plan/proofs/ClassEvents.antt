@@ -10,8 +10,8 @@ use Rattle.std.proofs.lemmas.List.Concat.{flat_map-cons}
 use Rattle.heap_class.specs.declared.ClassLimits.{ClassLimits}
 use Rattle.heap_class.specs.declared.Field.{Field}
 use Rattle.heap_class.specs.Classes.{Class, is_name, is_name_byte, names_in, class_refusal, is_instance_class, array_class, instance_class}
-use Rattle.heap_class.proofs.Refusals.{none_holds}
-use Rattle.heap_class.proofs.Slots.{instance_within}
+use Rattle.heap_class.proofs.Refusals.{no_refusal_test_holds}
+use Rattle.heap_class.proofs.Slots.{instance_class_is_in_table}
 use Rattle.session_lines.specs.EventLines.{line_of}
 use Rattle.session_lines.specs.Laws.{is_sign, IsWord, IsFieldWord, IsLongOrNone, HasLine}
 use Rattle.hprof_plan.specs.Accepted.{class_event, class_lines, AreAccepted}
@@ -93,15 +93,15 @@ fields_words limits (f ∷ fs) h =
 
 super_long : (classes : List Class) (sup : Option ℕ) → length classes < 2 ^ 64 → option_map_or (is_instance_class classes) sup true ≡ true → IsLongOrNone sup
 super_long classes None few h = tt
-super_long classes (Some k) few h = let w = instance_within classes k h in omega (arith, few, w)
+super_long classes (Some k) few h = let w = instance_class_is_in_table classes k h in omega (arith, few, w)
 
 names_valid : (limits : ClassLimits) (classes : List Class) (c : Class) → class_refusal limits classes c ≡ None → list_all (is_name limits) (c.name ∷ map (λ (f : Field). f.name) c.fields) ≡ true
 unfolding class_refusal names_in
-names_valid limits classes c h = not-false _ (none_holds _ h).1.1.0
+names_valid limits classes c h = not-false _ (no_refusal_test_holds _ h).1.1.0
 
 super_valid : (limits : ClassLimits) (classes : List Class) (c : Class) → class_refusal limits classes c ≡ None → option_map_or (is_instance_class classes) c.sup true ≡ true
 unfolding class_refusal
-super_valid limits classes c h = not-false _ (none_holds _ h).0
+super_valid limits classes c h = not-false _ (no_refusal_test_holds _ h).0
 
 pub class_has_line : (limits : ClassLimits) (classes : List Class) (name : List ℕ) (sup : Option ℕ) (fields : List Field) → length classes < 2 ^ 64
     → class_refusal limits classes (instance_class name sup fields) ≡ None → HasLine (class_event (instance_class name sup fields))

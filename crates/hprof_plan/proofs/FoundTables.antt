@@ -16,7 +16,7 @@ use Rattle.hprof_reader.specs.Records.{Told, record_text}
 use Rattle.hprof_reader.specs.SubRecords.{Sub, ClassTold, class_told, root, class, instance, array, prim, sub_text}
 use Rattle.hprof_session.specs.Surveys.{bytes_left, EndsAt}
 use Rattle.hprof_session.specs.Walks.{Left, ItemTold, record_told, sub_told, IsNext, IsAtEnd, AreNext}
-use Rattle.hprof_session.proofs.Walked.{nothing_left, is_at_end}
+use Rattle.hprof_session.proofs.Walked.{walk_end_leaves_no_bytes, is_at_end}
 use Rattle.hprof_plan.specs.Items.{array_class_of, class_of, class_entry, load_of, name_of, object_of, root_of}
 use Rattle.hprof_plan.specs.Tables.{classes_told, names_told}
 use Rattle.hprof_plan.specs.Finds.{HasTables, Finds, IsEmptyFound, Notes}
@@ -167,7 +167,7 @@ comes_to_end w turns v f so_far end = record {
   end = v;
   walked = so_far.walked;
   ended = subst (λ (o : Option Fault). EndsAt v o) (sym so_far.fault) end;
-  left = so_far.left ∙ sym (nothing_left v end);
+  left = so_far.left ∙ sym (walk_end_leaves_no_bytes v end);
   tables = so_far.tables;
 }
 

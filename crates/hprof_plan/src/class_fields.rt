@@ -12,16 +12,6 @@ use heap_class::{ClassLimits, Field, Kind};
 use hprof_reader::{OwnField, StaticField};
 use std::alloc::{AllocError, Global};
 
-// Returns the name with this id, or no bytes if there is none.
-fn name_at<'a>(found: &Found<'a>, id: u64) -> &'a [u8]
-    ensures { result.now ≡ name_at (names_told found.now.names.entries) id }
-{
-    match found.names.get(&id) {
-        Some(name) => *name,
-        None => b"",
-    }
-}
-
 /// Returns the name of a class, or no bytes if there is none.
 pub(crate) fn class_name_at<'a>(found: &Found<'a>, id: u64) -> &'a [u8]
     ensures { result.now
@@ -33,11 +23,31 @@ pub(crate) fn class_name_at<'a>(found: &Found<'a>, id: u64) -> &'a [u8]
     }
 }
 
-// Tells whether one of the fields has this name.
-fn has_name(fields: &[Field], name: &[u8]) -> bool
-    ensures { result ≡ list_any (λ f. bytes_eq name.now f.name) fields.now }
+// Returns the name with this id, or no bytes if there is none.
+fn name_at<'a>(found: &Found<'a>, id: u64) -> &'a [u8]
+    ensures { result.now ≡ name_at (names_told found.now.names.entries) id }
 {
-    fields.iter().any(|f| name == f.name.as_bytes())
+    match found.names.get(&id) {
+        Some(name) => *name,
+        None => b"",
+    }
+}
+
+/// Returns own fields with their names. Fails if an allocation fails.
+pub(crate) fn own_named(
+    alloc: Global,
+    limits: ClassLimits,
+    found: &Found<'_>,
+    own: &[OwnField],
+) -> Result<Vec<Field>, AllocError>
+    ensures { IfOk result
+        (λ v. v.items ≡ own_named limits (names_told found.now.names.entries) own.now) }
+{
+    let mut fields = Vec::new(alloc);
+    for f in own {
+        push_field(alloc, limits, &mut fields, name_at(found, f.name), f.kind)?;
+    }
+    Ok(fields)
 }
 
 // Adds a field with this name, or with another in its place. Fails if an allocation fails.
@@ -56,21 +66,11 @@ fn push_field(
     Ok(())
 }
 
-/// Returns own fields with their names. Fails if an allocation fails.
-pub(crate) fn own_named(
-    alloc: Global,
-    limits: ClassLimits,
-    found: &Found<'_>,
-    own: &[OwnField],
-) -> Result<Vec<Field>, AllocError>
-    ensures { IfOk result
-        (λ v. v.items ≡ own_named limits (names_told found.now.names.entries) own.now) }
+// Tells whether one of the fields has this name.
+fn has_name(fields: &[Field], name: &[u8]) -> bool
+    ensures { result ≡ list_any (λ f. bytes_eq name.now f.name) fields.now }
 {
-    let mut fields = Vec::new(alloc);
-    for f in own {
-        push_field(alloc, limits, &mut fields, name_at(found, f.name), f.kind)?;
-    }
-    Ok(fields)
+    fields.iter().any(|f| name == f.name.as_bytes())
 }
 
 /// Returns static fields with their names. Fails if an allocation fails.

@@ -36,34 +36,6 @@ pub(crate) fn none_defined(alloc: Global, limits: ClassLimits) -> Defined
     }
 }
 
-// Gives the class with this number its name, or another in its place, and returns it. Fails if an allocation fails.
-fn give_name(
-    alloc: Global,
-    limits: ClassLimits,
-    names: &mut IndexSet<Name>,
-    number: u64,
-    name: &[u8],
-) -> Result<Name, AllocError>
-    requires { AreGiven limits number names.old.keys }
-    ensures name { IfOk result (λ n. n ≡ given_name limits names.old.keys number name.now) }
-    ensures names { IfOk result (λ n. names.new.keys ≡ names.old.keys ++ n ∷ []) }
-{
-    let wanted = Name::new(alloc, name)?;
-    let is_given = names.contains(&wanted);
-    let given = given_name(alloc, limits, is_given, number, name)?;
-    let copy = given.duplicate(alloc)?;
-    names.insert(copy)?;
-    Ok(given)
-}
-
-// Returns the error of an allocation that failed, which is why no class was defined.
-fn memory_error(refusal: Refusal) -> AllocError
-    requires { refusal ≡ Refusal.NoMemory }
-{
-    let _refusal = refusal;
-    AllocError
-}
-
 /// Defines an instance class and appends its line. Fails if an allocation fails.
 pub(crate) fn define_class(
     alloc: Global,
@@ -102,6 +74,34 @@ pub(crate) fn define_class(
         }
         Err(refusal) => Err(memory_error(refusal)),
     }
+}
+
+// Gives the class with this number its name, or another in its place, and returns it. Fails if an allocation fails.
+fn give_name(
+    alloc: Global,
+    limits: ClassLimits,
+    names: &mut IndexSet<Name>,
+    number: u64,
+    name: &[u8],
+) -> Result<Name, AllocError>
+    requires { AreGiven limits number names.old.keys }
+    ensures name { IfOk result (λ n. n ≡ given_name limits names.old.keys number name.now) }
+    ensures names { IfOk result (λ n. names.new.keys ≡ names.old.keys ++ n ∷ []) }
+{
+    let wanted = Name::new(alloc, name)?;
+    let is_given = names.contains(&wanted);
+    let given = given_name(alloc, limits, is_given, number, name)?;
+    let copy = given.duplicate(alloc)?;
+    names.insert(copy)?;
+    Ok(given)
+}
+
+// Returns the error of an allocation that failed, which is why no class was defined.
+fn memory_error(refusal: Refusal) -> AllocError
+    requires { refusal ≡ Refusal.NoMemory }
+{
+    let _refusal = refusal;
+    AllocError
 }
 
 /// Defines an array class and appends its line. Fails if an allocation fails.

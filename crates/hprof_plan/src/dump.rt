@@ -41,6 +41,38 @@ pub struct Found<'a> {
     pub left: u64,
 }
 
+/// Walks over what is left of a dump, to its end or the first fault. Fails if an allocation fails.
+pub fn find<'a>(alloc: Global, walk: Walk<'a>) -> Result<Found<'a>, AllocError>
+    requires { bytes_left (left walk) < 2 ^ 64 }
+    ensures { IfOk result (Finds (left walk.entry)) }
+{
+    let size = size_of(walk);
+    let mut found = none_found(alloc, walk.ids);
+    let mut at = walk;
+    for _ in 0..size {
+        match item_at(at) {
+            Ok(Some(next)) => {
+                note(&mut found, next.0)?;
+                at = next.1;
+            }
+            Ok(None) => return Ok(found),
+            Err(fault) => {
+                found.fault = Some(fault);
+                found.left = size_of(at);
+                return Ok(found);
+            }
+        }
+    }
+    Ok(found)
+}
+
+// Returns how many bytes are left.
+fn size_of(walk: Walk<'_>) -> u64
+    ensures { result ≡ bytes_left (left walk.entry) }
+{
+    walk.segment.len() as u64 + walk.rest.len() as u64
+}
+
 // Returns what is found in no items.
 fn none_found<'a>(alloc: Global, ids: IdSize) -> Found<'a>
     ensures { IsEmptyFound ids result }
@@ -57,6 +89,19 @@ fn none_found<'a>(alloc: Global, ids: IdSize) -> Found<'a>
         fault: None,
         left: 0,
     }
+}
+
+// Notes what an item tells.
+fn note<'a>(found: &mut Found<'a>, item: Item<'a>) -> Result<(), AllocError>
+    requires { found.old.again + 1 < 2 ^ 64 }
+    ensures { OnOk result (Notes (item_told item.entry) found.old found.new) }
+{
+    note_name(found.ids, &mut found.names, item)?;
+    note_load(found.ids, &mut found.loads, item)?;
+    note_class(&mut found.classes, item)?;
+    note_array_class(&mut found.array_classes, item)?;
+    note_object(&mut found.objects, &mut found.again, item)?;
+    note_root(&mut found.roots, item)
 }
 
 // Notes the name in an item.
@@ -167,49 +212,4 @@ fn note_root(roots: &mut Vec<RootFound>, item: Item<'_>) -> Result<(), AllocErro
         }
         None => Ok(()),
     }
-}
-
-// Notes what an item tells.
-fn note<'a>(found: &mut Found<'a>, item: Item<'a>) -> Result<(), AllocError>
-    requires { found.old.again + 1 < 2 ^ 64 }
-    ensures { OnOk result (Notes (item_told item.entry) found.old found.new) }
-{
-    note_name(found.ids, &mut found.names, item)?;
-    note_load(found.ids, &mut found.loads, item)?;
-    note_class(&mut found.classes, item)?;
-    note_array_class(&mut found.array_classes, item)?;
-    note_object(&mut found.objects, &mut found.again, item)?;
-    note_root(&mut found.roots, item)
-}
-
-// Returns how many bytes are left.
-fn size_of(walk: Walk<'_>) -> u64
-    ensures { result ≡ bytes_left (left walk.entry) }
-{
-    walk.segment.len() as u64 + walk.rest.len() as u64
-}
-
-/// Walks over what is left of a dump, to its end or the first fault. Fails if an allocation fails.
-pub fn find<'a>(alloc: Global, walk: Walk<'a>) -> Result<Found<'a>, AllocError>
-    requires { bytes_left (left walk) < 2 ^ 64 }
-    ensures { IfOk result (Finds (left walk.entry)) }
-{
-    let size = size_of(walk);
-    let mut found = none_found(alloc, walk.ids);
-    let mut at = walk;
-    for _ in 0..size {
-        match item_at(at) {
-            Ok(Some(next)) => {
-                note(&mut found, next.0)?;
-                at = next.1;
-            }
-            Ok(None) => return Ok(found),
-            Err(fault) => {
-                found.fault = Some(fault);
-                found.left = size_of(at);
-                return Ok(found);
-            }
-        }
-    }
-    Ok(found)
 }

@@ -7,26 +7,6 @@ use heap_class::IdSize;
 use hprof_reader::{OwnField, StaticField, Table, own_field_at, static_field_at};
 use std::alloc::{AllocError, Global};
 
-// Returns the own field in front of bytes, and the bytes after it, if there is one.
-fn next_own(ids: IdSize, bytes: &[u8]) -> Option<(OwnField, &[u8])>
-    ensures { option_map (λ x. (x.0, x.1.now)) result ≡ own_parts ids bytes.now }
-{
-    match own_field_at(ids, bytes) {
-        Ok((field, rest)) => Some((field, rest)),
-        Err(_) => None,
-    }
-}
-
-// Returns the static field in front of bytes, and the bytes after it, if there is one.
-fn next_static(ids: IdSize, bytes: &[u8]) -> Option<(StaticField<'_>, &[u8])>
-    ensures { option_map (λ x. (static_told x.0, x.1.now)) result ≡ static_parts ids bytes.now }
-{
-    match static_field_at(ids, bytes) {
-        Ok((field, rest)) => Some((field, rest)),
-        Err(_) => None,
-    }
-}
-
 /// Returns the own fields of a class, up to the first whose kind doesn't exist. Fails if an allocation fails.
 pub fn own_fields(alloc: Global, ids: IdSize, table: Table<'_>) -> Result<Vec<OwnField>, AllocError>
     ensures { IfOk result (λ v. v.items ≡ own_fields ids table.entry.count table.entry.bytes.now) }
@@ -42,6 +22,30 @@ pub fn own_fields(alloc: Global, ids: IdSize, table: Table<'_>) -> Result<Vec<Ow
             None => return Ok(fields),
         }
     }
+    Ok(fields)
+}
+
+// Returns the own field in front of bytes, and the bytes after it, if there is one.
+fn next_own(ids: IdSize, bytes: &[u8]) -> Option<(OwnField, &[u8])>
+    ensures { option_map (λ x. (x.0, x.1.now)) result ≡ own_parts ids bytes.now }
+{
+    match own_field_at(ids, bytes) {
+        Ok((field, rest)) => Some((field, rest)),
+        Err(_) => None,
+    }
+}
+
+/// Returns the first static fields of a class, at most 64. Fails if an allocation fails.
+pub fn static_fields<'a>(
+    alloc: Global,
+    ids: IdSize,
+    table: Table<'a>,
+) -> Result<Vec<StaticField<'a>>, AllocError>
+    ensures value { IfOk result
+        (λ v. map static_told v.items ≡ static_fields ids (min table.entry.count 64) table.entry.bytes.now) }
+    ensures few { IfOk result (λ v. length v.items ≤ 64) }
+{
+    let fields = read_statics(alloc, ids, table)?;
     Ok(fields)
 }
 
@@ -68,16 +72,12 @@ fn read_statics<'a>(
     Ok(fields)
 }
 
-/// Returns the first static fields of a class, at most 64. Fails if an allocation fails.
-pub fn static_fields<'a>(
-    alloc: Global,
-    ids: IdSize,
-    table: Table<'a>,
-) -> Result<Vec<StaticField<'a>>, AllocError>
-    ensures value { IfOk result
-        (λ v. map static_told v.items ≡ static_fields ids (min table.entry.count 64) table.entry.bytes.now) }
-    ensures few { IfOk result (λ v. length v.items ≤ 64) }
+// Returns the static field in front of bytes, and the bytes after it, if there is one.
+fn next_static(ids: IdSize, bytes: &[u8]) -> Option<(StaticField<'_>, &[u8])>
+    ensures { option_map (λ x. (static_told x.0, x.1.now)) result ≡ static_parts ids bytes.now }
 {
-    let fields = read_statics(alloc, ids, table)?;
-    Ok(fields)
+    match static_field_at(ids, bytes) {
+        Ok((field, rest)) => Some((field, rest)),
+        Err(_) => None,
+    }
 }

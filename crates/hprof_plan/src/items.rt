@@ -17,6 +17,16 @@ pub struct RootFound {
     pub id: u64,
 }
 
+/// Returns the identifier in front of bytes, and the bytes after it, if there are so many.
+pub(crate) fn id_at(ids: IdSize, bytes: &[u8]) -> Option<(u64, &[u8])>
+    ensures { option_map (λ x. (x.0, x.1.now)) result ≡ id_parts ids bytes.now }
+{
+    match ids {
+        IdSize::Four => four_at(bytes),
+        IdSize::Eight => eight_at(bytes),
+    }
+}
+
 // Returns the number of 4 bytes in front of bytes, and the bytes after it, if there are so many.
 fn four_at(bytes: &[u8]) -> Option<(u64, &[u8])>
     ensures { option_map (λ x. (x.0, x.1.now)) result ≡ four_parts bytes.now }
@@ -41,37 +51,6 @@ fn eight_at(bytes: &[u8]) -> Option<(u64, &[u8])>
         front[0], front[1], front[2], front[3], front[4], front[5], front[6], front[7],
     ]);
     Some((number, rest))
-}
-
-/// Returns the identifier in front of bytes, and the bytes after it, if there are so many.
-pub(crate) fn id_at(ids: IdSize, bytes: &[u8]) -> Option<(u64, &[u8])>
-    ensures { option_map (λ x. (x.0, x.1.now)) result ≡ id_parts ids bytes.now }
-{
-    match ids {
-        IdSize::Four => four_at(bytes),
-        IdSize::Eight => eight_at(bytes),
-    }
-}
-
-// Returns the bytes after the first 4.
-fn after_four(bytes: &[u8]) -> &[u8]
-    ensures { result.now ≡ drop 4 bytes.now }
-{
-    let size = bytes.len().min(4);
-    &bytes[size..]
-}
-
-// Returns the id of a class and the id of its name, which follow these bytes' first 4 with 4 bytes between them.
-fn load_at(ids: IdSize, bytes: &[u8]) -> Option<(u64, u64)>
-    ensures { result ≡ load_parts ids bytes.now }
-{
-    match id_at(ids, after_four(bytes)) {
-        Some((class, rest)) => match id_at(ids, after_four(rest)) {
-            Some((name, _)) => Some((class, name)),
-            None => None,
-        },
-        None => None,
-    }
 }
 
 /// Returns the name in an item, with its id.
@@ -100,6 +79,27 @@ pub(crate) fn load_of(ids: IdSize, item: Item<'_>) -> Option<(u64, u64)>
         },
         Item::Sub(_) => None,
     }
+}
+
+// Returns the id of a class and the id of its name, which follow these bytes' first 4 with 4 bytes between them.
+fn load_at(ids: IdSize, bytes: &[u8]) -> Option<(u64, u64)>
+    ensures { result ≡ load_parts ids bytes.now }
+{
+    match id_at(ids, after_four(bytes)) {
+        Some((class, rest)) => match id_at(ids, after_four(rest)) {
+            Some((name, _)) => Some((class, name)),
+            None => None,
+        },
+        None => None,
+    }
+}
+
+// Returns the bytes after the first 4.
+fn after_four(bytes: &[u8]) -> &[u8]
+    ensures { result.now ≡ drop 4 bytes.now }
+{
+    let size = bytes.len().min(4);
+    &bytes[size..]
 }
 
 /// Returns the class in an item.

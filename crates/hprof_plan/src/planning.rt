@@ -52,6 +52,57 @@ pub(crate) struct Planned {
     pub(crate) kinds: IndexMap<u64, Vec<Kind>>,
 }
 
+/// Plans the classes of the session of a dump, for a heap with these limits. Fails if an allocation fails.
+pub fn plan_classes<'a>(
+    alloc: Global,
+    limits: ClassLimits,
+    found: &Found<'a>,
+) -> Result<Plan<'a>, AllocError>
+    requires limits { AreClassLimits limits }
+    requires long { 22 ≤ limits.name_bytes }
+    requires room { 10 ≤ limits.classes }
+    ensures { IfOk result (IsPlan limits) }
+{
+    let room = limits.classes - 10;
+    let planned = plan_dump(alloc, limits, room, found)?;
+    let Planned { defined, kinds } = planned;
+    let mut defined = defined;
+    let statics = plan_statics(alloc, limits, room, found, &mut defined)?;
+    let roots = defined.classes.len();
+    plan_roots(alloc, limits, &mut defined)?;
+    let Defined {
+        classes,
+        names: _names,
+        lines,
+    } = defined;
+    Ok(Plan {
+        classes,
+        lines,
+        kinds,
+        statics,
+        roots,
+    })
+}
+
+// Defines the classes of the dump. Fails if an allocation fails.
+fn plan_dump(
+    alloc: Global,
+    limits: ClassLimits,
+    room: u64,
+    found: &Found<'_>,
+) -> Result<Planned, AllocError>
+    requires { AreTakenLimits limits room }
+    ensures { IfOk result (IsPlanned limits room) }
+{
+    let mut planned = none_planned(alloc, limits, room);
+    for i in 0..found.classes.len() {
+        if let Some((id, _)) = found.classes.get_index(i) {
+            plan_after_supers(alloc, limits, room, found, &mut planned, *id)?;
+        }
+    }
+    Ok(planned)
+}
+
 // Returns no classes.
 fn none_planned(alloc: Global, limits: ClassLimits, room: u64) -> Planned
     ensures { IsPlanned limits room result }
@@ -63,40 +114,79 @@ fn none_planned(alloc: Global, limits: ClassLimits, room: u64) -> Planned
     }
 }
 
-// Returns the number of the class with this id, if it has one and is an instance class.
-fn super_of(kinds: &IndexMap<u64, Vec<Kind>>, classes: &Classes, id: u64) -> Option<ClassNo>
-    ensures { option_map_or (is_instance_class classes.now) result true ≡ true }
+// Defines a class of the dump after its supers. Fails if an allocation fails.
+fn plan_after_supers(
+    alloc: Global,
+    limits: ClassLimits,
+    room: u64,
+    found: &Found<'_>,
+    planned: &mut Planned,
+    id: u64,
+) -> Result<(), AllocError>
+    requires limits { AreTakenLimits limits room }
+    requires state { IsPlanned limits room planned.old }
+    ensures { OnOk result (IsPlanned limits room planned.new) }
 {
-    match kinds.get_index_of(&id) {
-        Some(k) => if classes.is_instance(k as u64) {
-            Some(k as u64)
+    let chain = chain_of(alloc, found, planned, id)?;
+    for j in 0..chain.len() {
+        let above = chain[chain.len() - 1 - j];
+        plan_class(alloc, limits, room, found, planned, above)?;
+    }
+    Ok(())
+}
+
+// Returns the ids of a class and of its supers, up to the first that has a number or isn't in the dump. Fails if an allocation
+// fails.
+fn chain_of(
+    alloc: Global,
+    found: &Found<'_>,
+    planned: &Planned,
+    id: u64,
+) -> Result<Vec<u64>, AllocError> {
+    let mut chain = Vec::new(alloc);
+    let mut at = id;
+    for _ in 0..found.classes.len() {
+        if planned.kinds.contains_key(&at) {
+            return Ok(chain);
+        }
+        match found.classes.get(&at) {
+            Some(dump) => {
+                chain.push(at)?;
+                at = dump.head.super_id;
+            }
+            None => return Ok(chain),
+        }
+    }
+    Ok(chain)
+}
+
+// Defines a class of the dump, unless it has a number or the room is full. Fails if an allocation fails.
+fn plan_class(
+    alloc: Global,
+    limits: ClassLimits,
+    room: u64,
+    found: &Found<'_>,
+    planned: &mut Planned,
+    id: u64,
+) -> Result<(), AllocError>
+    requires limits { AreTakenLimits limits room }
+    requires state { IsPlanned limits room planned.old }
+    ensures { OnOk result (IsPlanned limits room planned.new) }
+{
+    if planned.kinds.contains_key(&id) {
+        return Ok(());
+    }
+    if planned.defined.classes.len() >= room {
+        return Ok(());
+    }
+    match found.classes.get(&id) {
+        Some(dump) => if found.array_classes.contains(&id) {
+            plan_array_class(alloc, limits, room, found, planned, id)
         } else {
-            None
+            plan_instance_class(alloc, limits, room, found, planned, id, dump)
         },
-        None => None,
+        None => Ok(()),
     }
-}
-
-// Returns how many own fields a class with this super may have.
-fn room_under(classes: &Classes, sup: Option<ClassNo>) -> usize
-    requires { option_map_or (is_instance_class classes.now) sup true ≡ true }
-    ensures { result + length (option_map_or (slots_of classes.now) sup []) ≡ slot_limit }
-{
-    match sup {
-        Some(class) => SLOT_LIMIT - classes.slots(class).len(),
-        None => SLOT_LIMIT,
-    }
-}
-
-// Returns the kinds of fields. Fails if an allocation fails.
-fn kinds_of(alloc: Global, fields: &[OwnField]) -> Result<Vec<Kind>, AllocError>
-    ensures { IfOk result (λ v. v.items ≡ map (λ f. f.kind) fields.now) }
-{
-    let mut kinds = Vec::new(alloc);
-    for f in fields {
-        kinds.push(f.kind)?;
-    }
-    Ok(kinds)
 }
 
 // Defines an array class of the dump. Fails if an allocation fails.
@@ -158,98 +248,79 @@ fn plan_instance_class(
     Ok(())
 }
 
-// Defines a class of the dump, unless it has a number or the room is full. Fails if an allocation fails.
-fn plan_class(
-    alloc: Global,
-    limits: ClassLimits,
-    room: u64,
-    found: &Found<'_>,
-    planned: &mut Planned,
-    id: u64,
-) -> Result<(), AllocError>
-    requires limits { AreTakenLimits limits room }
-    requires state { IsPlanned limits room planned.old }
-    ensures { OnOk result (IsPlanned limits room planned.new) }
+// Returns the number of the class with this id, if it has one and is an instance class.
+fn super_of(kinds: &IndexMap<u64, Vec<Kind>>, classes: &Classes, id: u64) -> Option<ClassNo>
+    ensures { option_map_or (is_instance_class classes.now) result true ≡ true }
 {
-    if planned.kinds.contains_key(&id) {
-        return Ok(());
-    }
-    if planned.defined.classes.len() >= room {
-        return Ok(());
-    }
-    match found.classes.get(&id) {
-        Some(dump) => if found.array_classes.contains(&id) {
-            plan_array_class(alloc, limits, room, found, planned, id)
+    match kinds.get_index_of(&id) {
+        Some(k) => if classes.is_instance(k as u64) {
+            Some(k as u64)
         } else {
-            plan_instance_class(alloc, limits, room, found, planned, id, dump)
+            None
         },
-        None => Ok(()),
+        None => None,
     }
 }
 
-// Returns the ids of a class and of its supers, up to the first that has a number or isn't in the dump. Fails if an allocation
-// fails.
-fn chain_of(
-    alloc: Global,
-    found: &Found<'_>,
-    planned: &Planned,
-    id: u64,
-) -> Result<Vec<u64>, AllocError> {
-    let mut chain = Vec::new(alloc);
-    let mut at = id;
-    for _ in 0..found.classes.len() {
-        if planned.kinds.contains_key(&at) {
-            return Ok(chain);
-        }
-        match found.classes.get(&at) {
-            Some(dump) => {
-                chain.push(at)?;
-                at = dump.head.super_id;
-            }
-            None => return Ok(chain),
-        }
+// Returns the kinds of fields. Fails if an allocation fails.
+fn kinds_of(alloc: Global, fields: &[OwnField]) -> Result<Vec<Kind>, AllocError>
+    ensures { IfOk result (λ v. v.items ≡ map (λ f. f.kind) fields.now) }
+{
+    let mut kinds = Vec::new(alloc);
+    for f in fields {
+        kinds.push(f.kind)?;
     }
-    Ok(chain)
+    Ok(kinds)
 }
 
-// Defines a class of the dump after its supers. Fails if an allocation fails.
-fn plan_after_supers(
+// Returns how many own fields a class with this super may have.
+fn room_under(classes: &Classes, sup: Option<ClassNo>) -> usize
+    requires { option_map_or (is_instance_class classes.now) sup true ≡ true }
+    ensures { result + length (option_map_or (slots_of classes.now) sup []) ≡ slot_limit }
+{
+    match sup {
+        Some(class) => SLOT_LIMIT - classes.slots(class).len(),
+        None => SLOT_LIMIT,
+    }
+}
+
+// Defines the classes of static fields, as far as there is room. Fails if an allocation fails.
+fn plan_statics<'a>(
     alloc: Global,
     limits: ClassLimits,
     room: u64,
-    found: &Found<'_>,
-    planned: &mut Planned,
-    id: u64,
-) -> Result<(), AllocError>
+    found: &Found<'a>,
+    defined: &mut Defined,
+) -> Result<Vec<Statics<'a>>, AllocError>
     requires limits { AreTakenLimits limits room }
-    requires state { IsPlanned limits room planned.old }
-    ensures { OnOk result (IsPlanned limits room planned.new) }
+    requires state { AreDefined limits defined.old }
+    requires few { length defined.old.classes ≤ room }
+    ensures defined { OnOk result (AreDefined limits defined.new) }
+    ensures few { OnOk result (length defined.new.classes ≤ room) }
+    ensures counted { IfOk result
+        (λ v. length defined.new.classes ≡ length defined.old.classes + length v.items) }
 {
-    let chain = chain_of(alloc, found, planned, id)?;
-    for j in 0..chain.len() {
-        let above = chain[chain.len() - 1 - j];
-        plan_class(alloc, limits, room, found, planned, above)?;
-    }
-    Ok(())
-}
-
-// Defines the classes of the dump. Fails if an allocation fails.
-fn plan_dump(
-    alloc: Global,
-    limits: ClassLimits,
-    room: u64,
-    found: &Found<'_>,
-) -> Result<Planned, AllocError>
-    requires { AreTakenLimits limits room }
-    ensures { IfOk result (IsPlanned limits room) }
-{
-    let mut planned = none_planned(alloc, limits, room);
+    let mut statics = Vec::new(alloc);
     for i in 0..found.classes.len() {
-        if let Some((id, _)) = found.classes.get_index(i) {
-            plan_after_supers(alloc, limits, room, found, &mut planned, *id)?;
+        if let Some((id, dump)) = found.classes.get_index(i) {
+            let fields = static_fields(alloc, found.ids, dump.statics)?;
+            if name_object(found, &fields) && defined.classes.len() < room {
+                plan_static_class(alloc, limits, found, defined, *id, &fields)?;
+                statics.push(Statics { id: *id, fields })?;
+            }
         }
     }
-    Ok(planned)
+    Ok(statics)
+}
+
+// Tells whether one of the static fields names an object of the dump.
+fn name_object(found: &Found<'_>, fields: &[StaticField<'_>]) -> bool {
+    for field in fields {
+        if names_object(found, field) {
+            return true;
+        }
+    }
+    false
 }
 
 // Tells whether a static field names an object of the dump.
@@ -261,16 +332,6 @@ fn names_object(found: &Found<'_>, field: &StaticField<'_>) -> bool {
         },
         _ => false,
     }
-}
-
-// Tells whether one of the static fields names an object of the dump.
-fn name_object(found: &Found<'_>, fields: &[StaticField<'_>]) -> bool {
-    for field in fields {
-        if names_object(found, field) {
-            return true;
-        }
-    }
-    false
 }
 
 // Defines the class of static fields. Fails if an allocation fails.
@@ -304,33 +365,19 @@ fn plan_static_class(
     )
 }
 
-// Defines the classes of static fields, as far as there is room. Fails if an allocation fails.
-fn plan_statics<'a>(
-    alloc: Global,
-    limits: ClassLimits,
-    room: u64,
-    found: &Found<'a>,
-    defined: &mut Defined,
-) -> Result<Vec<Statics<'a>>, AllocError>
-    requires limits { AreTakenLimits limits room }
+// Defines the class `roots`, and those of the arrays of each kind of roots. Fails if an allocation fails.
+fn plan_roots(alloc: Global, limits: ClassLimits, defined: &mut Defined) -> Result<(), AllocError>
+    requires limits { AreClassLimits limits }
+    requires long { 22 ≤ limits.name_bytes }
     requires state { AreDefined limits defined.old }
-    requires few { length defined.old.classes ≤ room }
+    requires room { length defined.old.classes + 10 ≤ limits.classes }
     ensures defined { OnOk result (AreDefined limits defined.new) }
-    ensures few { OnOk result (length defined.new.classes ≤ room) }
-    ensures counted { IfOk result
-        (λ v. length defined.new.classes ≡ length defined.old.classes + length v.items) }
+    ensures counted { OnOk result (length defined.new.classes ≡ length defined.old.classes + 10) }
 {
-    let mut statics = Vec::new(alloc);
-    for i in 0..found.classes.len() {
-        if let Some((id, dump)) = found.classes.get_index(i) {
-            let fields = static_fields(alloc, found.ids, dump.statics)?;
-            if name_object(found, &fields) && defined.classes.len() < room {
-                plan_static_class(alloc, limits, found, defined, *id, &fields)?;
-                statics.push(Statics { id: *id, fields })?;
-            }
-        }
+    for k in 0..10 {
+        define_array_class(alloc, limits, defined, root_name(k))?;
     }
-    Ok(statics)
+    Ok(())
 }
 
 // Returns the name of class `roots`, or of the arrays of a kind of roots.
@@ -347,53 +394,6 @@ fn root_name(k: usize) -> &'static [u8] {
         8 => b"thread_object",
         _ => b"unknown_root",
     }
-}
-
-// Defines the class `roots`, and those of the arrays of each kind of roots. Fails if an allocation fails.
-fn plan_roots(alloc: Global, limits: ClassLimits, defined: &mut Defined) -> Result<(), AllocError>
-    requires limits { AreClassLimits limits }
-    requires long { 22 ≤ limits.name_bytes }
-    requires state { AreDefined limits defined.old }
-    requires room { length defined.old.classes + 10 ≤ limits.classes }
-    ensures defined { OnOk result (AreDefined limits defined.new) }
-    ensures counted { OnOk result (length defined.new.classes ≡ length defined.old.classes + 10) }
-{
-    for k in 0..10 {
-        define_array_class(alloc, limits, defined, root_name(k))?;
-    }
-    Ok(())
-}
-
-/// Plans the classes of the session of a dump, for a heap with these limits. Fails if an allocation fails.
-pub fn plan_classes<'a>(
-    alloc: Global,
-    limits: ClassLimits,
-    found: &Found<'a>,
-) -> Result<Plan<'a>, AllocError>
-    requires limits { AreClassLimits limits }
-    requires long { 22 ≤ limits.name_bytes }
-    requires room { 10 ≤ limits.classes }
-    ensures { IfOk result (IsPlan limits) }
-{
-    let room = limits.classes - 10;
-    let planned = plan_dump(alloc, limits, room, found)?;
-    let Planned { defined, kinds } = planned;
-    let mut defined = defined;
-    let statics = plan_statics(alloc, limits, room, found, &mut defined)?;
-    let roots = defined.classes.len();
-    plan_roots(alloc, limits, &mut defined)?;
-    let Defined {
-        classes,
-        names: _names,
-        lines,
-    } = defined;
-    Ok(Plan {
-        classes,
-        lines,
-        kinds,
-        statics,
-        roots,
-    })
 }
 
 impl<'a> Plan<'a> {

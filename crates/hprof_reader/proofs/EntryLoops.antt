@@ -6,23 +6,23 @@ use Rattle.hprof_reader.specs.Entries.{entry_parts, after_entries}
 use Rattle.hprof_reader.specs.Reading.{◌>>=◌}
 use Rattle.hprof_reader.specs.SubRecords.{EntryTold}
 
-opened : (ids : IdSize) (key count i : ℕ) (bytes : List ℕ) (r : Result (EntryTold × List ℕ) Fault) → i < count → entry_parts ids key bytes ≡ r
+entry_loop_turn_opened : (ids : IdSize) (key count i : ℕ) (bytes : List ℕ) (r : Result (EntryTold × List ℕ) Fault) → i < count → entry_parts ids key bytes ≡ r
     → after_entries ids key (count - i) bytes ≡ (r >>= λ x. after_entries ids key (count - (i + 1)) x.1)
 unfolding after_entries
-opened ids key count i bytes r less h =
+entry_loop_turn_opened ids key count i bytes r less h =
     let k : count - i ≡ suc (count - (i + 1)) = omega (arith, less) in
     ap (λ (n : ℕ). after_entries ids key n bytes) k ∙ ap (λ (r : Result (EntryTold × List ℕ) Fault). r >>= λ x. after_entries ids key (count - (i + 1)) x.1) h
 
-pub goes_on : (ids : IdSize) (key count i : ℕ) (bytes : List ℕ) (x : EntryTold × List ℕ) (total : Result (List ℕ) Fault) → i < count → entry_parts ids key bytes ≡ Ok x
+pub entry_loop_goes_on_after_entry : (ids : IdSize) (key count i : ℕ) (bytes : List ℕ) (x : EntryTold × List ℕ) (total : Result (List ℕ) Fault) → i < count → entry_parts ids key bytes ≡ Ok x
     → after_entries ids key (count - i) bytes ≡ total → after_entries ids key (count - (i + 1)) x.1 ≡ total
-goes_on ids key count i bytes x total less h so_far = sym (opened ids key count i bytes (Ok x) less h) ∙ so_far
+entry_loop_goes_on_after_entry ids key count i bytes x total less h so_far = sym (entry_loop_turn_opened ids key count i bytes (Ok x) less h) ∙ so_far
 
-pub ends : (ids : IdSize) (key count i : ℕ) (bytes : List ℕ) (e : Fault) (total : Result (List ℕ) Fault) → i < count → entry_parts ids key bytes ≡ Err e
+pub entry_loop_ends_at_fault : (ids : IdSize) (key count i : ℕ) (bytes : List ℕ) (e : Fault) (total : Result (List ℕ) Fault) → i < count → entry_parts ids key bytes ≡ Err e
     → after_entries ids key (count - i) bytes ≡ total → total ≡ Err e
-ends ids key count i bytes e total less h so_far = sym so_far ∙ opened ids key count i bytes (Err e) less h
+entry_loop_ends_at_fault ids key count i bytes e total less h so_far = sym so_far ∙ entry_loop_turn_opened ids key count i bytes (Err e) less h
 
-pub is_done : (ids : IdSize) (key count i : ℕ) (bytes : List ℕ) (total : Result (List ℕ) Fault) → count ≤ i → after_entries ids key (count - i) bytes ≡ total → total ≡ Ok bytes
+pub entry_loop_done_at_count : (ids : IdSize) (key count i : ℕ) (bytes : List ℕ) (total : Result (List ℕ) Fault) → count ≤ i → after_entries ids key (count - i) bytes ≡ total → total ≡ Ok bytes
 unfolding after_entries
-is_done ids key count i bytes total past so_far =
+entry_loop_done_at_count ids key count i bytes total past so_far =
     let k : count - i ≡ 0 = omega (arith, past) in
     sym so_far ∙ ap (λ (n : ℕ). after_entries ids key n bytes) k

@@ -40,23 +40,23 @@ value_size ids Short w = refl
 value_size ids Int w = refl
 value_size ids Long w = refl
 
-one_more : (n m : ℕ) → n + n * m ≡ n * suc m
-one_more n m = grind arith
+multiple_by_one_more : (n m : ℕ) → n + n * m ≡ n * suc m
+multiple_by_one_more n m = grind arith
 
 -- texts of one size, one after the other
 all_of_size : {A : Type 0} (f : A → List ℕ) (n : ℕ) (xs : List A) → ((x : A) → length (f x) ≡ n) → length (flat_map f xs) ≡ n * length xs
 all_of_size f n [] sized = omega arith
 all_of_size f n (x ∷ xs) sized =
-    ap length (flat_map-cons f x xs) ∙ length-append (f x) (flat_map f xs) ∙ ap₂ (λ (a b : ℕ). a + b) (sized x) (all_of_size f n xs sized) ∙ one_more n (length xs)
+    ap length (flat_map-cons f x xs) ∙ length-append (f x) (flat_map f xs) ∙ ap₂ (λ (a b : ℕ). a + b) (sized x) (all_of_size f n xs sized) ∙ multiple_by_one_more n (length xs)
 
-zero_fits : (ids : IdSize) → FitsId ids 0
-zero_fits Four = omega arith
-zero_fits Eight = omega arith
+zero_id_fits : (ids : IdSize) → FitsId ids 0
+zero_id_fits Four = omega arith
+zero_id_fits Eight = omega arith
 
 -- ---- one sub-record
 
-none_fit : (ids : IdSize) (key : ℕ) → AreEntries ids key no_entries
-none_fit ids key = record { count = omega arith; list = []; counted = refl; spelled = refl; each = tt }
+no_entries_are_entries : (ids : IdSize) (key : ℕ) → AreEntries ids key no_entries
+no_entries_are_entries ids key = record { count = omega arith; list = []; counted = refl; spelled = refl; each = tt }
 
 field_size : (ids : IdSize) (classes : List Class) (f : Field) → length (field_entry ids classes f) ≡ id_bytes ids + 1
 unfolding field_entry
@@ -64,11 +64,11 @@ field_size ids classes f = length-append (id ids (name_id classes f.name)) (u1 (
 
 class_fits : (ids : IdSize) (classes : List Class) (c : ℕ × Class) → ClassDumpFits ids classes c → FitsSub ids (class_sub ids classes c)
 class_fits ids classes c fits =
-    let null = zero_fits ids in
+    let null = zero_id_fits ids in
     record {
       head = record { id = fits.0; trace = omega arith; super_id = fits.1; loader = null; signers = null; domain = null; reserved = null; also_reserved = null; size = fits.2 };
-      constants = none_fit ids 2;
-      statics = none_fit ids (id_bytes ids);
+      constants = no_entries_are_entries ids 2;
+      statics = no_entries_are_entries ids (id_bytes ids);
       fields = (fits.3, all_of_size (field_entry ids classes) (id_bytes ids + 1) c.1.fields (field_size ids classes));
     }
 
@@ -102,15 +102,15 @@ root_same ids tag x = append-nil (u1 tag ++ id ids x)
 
 -- ---- all of them
 
-map_append : {A B : Type 0} (f : A → B) (xs ys : List A) → map f (xs ++ ys) ≡ map f xs ++ map f ys
-map_append f [] ys = refl
-map_append f (x ∷ xs) ys = ap (λ (l : List _). f x ∷ l) (map_append f xs ys)
+map_of_appended_lists : {A B : Type 0} (f : A → B) (xs ys : List A) → map f (xs ++ ys) ≡ map f xs ++ map f ys
+map_of_appended_lists f [] ys = refl
+map_of_appended_lists f (x ∷ xs) ys = ap (λ (l : List _). f x ∷ l) (map_of_appended_lists f xs ys)
 
 -- single records, as items
-singles : {A : Type 0} (ids : IdSize) (told : A → Sub) (text : A → List ℕ) (xs : List A) → ((x : A) → sub_text ids (told x) ≡ text x)
+single_records_as_items : {A : Type 0} (ids : IdSize) (told : A → Sub) (text : A → List ℕ) (xs : List A) → ((x : A) → sub_text ids (told x) ≡ text x)
     → map (sub_text ids) (map told xs) ≡ records_of_items (map (λ x. text x ∷ []) xs)
-singles ids told text [] same = refl
-singles ids told text (x ∷ xs) same = ap₂ (λ (t : List ℕ) (l : List (List ℕ)). t ∷ l) (same x) (singles ids told text xs same) ∙ sym (flat_map-cons (λ item. item) (text x ∷ []) (map (λ x. text x ∷ []) xs))
+single_records_as_items ids told text [] same = refl
+single_records_as_items ids told text (x ∷ xs) same = ap₂ (λ (t : List ℕ) (l : List (List ℕ)). t ∷ l) (same x) (single_records_as_items ids told text xs same) ∙ sym (flat_map-cons (λ item. item) (text x ∷ []) (map (λ x. text x ∷ []) xs))
 
 -- the root of a register, if it has one
 register_same : (ids : IdSize) (is_null : Bool) (x : ℕ) → map (sub_text ids) (cond is_null [] (root 0xff x [] ∷ [])) ≡ cond is_null [] (root_bytes ids 0xff x ∷ [])
@@ -120,21 +120,21 @@ register_same ids false x = ap (λ (t : List ℕ). t ∷ []) (root_same ids 0xff
 registers_same : (ids : IdSize) (xs : List ℕ) → map (sub_text ids) (flat_map register_roots xs) ≡ records_of_items (map (λ x. cond (eqb x 0) [] (root_bytes ids 0xff x ∷ [])) xs)
 registers_same ids [] = refl
 registers_same ids (x ∷ xs) =
-    ap (map (sub_text ids)) (flat_map-cons register_roots x xs) ∙ map_append (sub_text ids) (register_roots x) (flat_map register_roots xs)
+    ap (map (sub_text ids)) (flat_map-cons register_roots x xs) ∙ map_of_appended_lists (sub_text ids) (register_roots x) (flat_map register_roots xs)
     ∙ ap₂ (λ (a b : List (List ℕ)). a ++ b) (register_same ids (eqb x 0) x) (registers_same ids xs)
     ∙ sym (flat_map-cons (λ (item : List (List ℕ)). item) (cond (eqb x 0) [] (root_bytes ids 0xff x ∷ [])) (map (λ x. cond (eqb x 0) [] (root_bytes ids 0xff x ∷ [])) xs))
 
-joined_fit : {A : Type 0} (P : A → Type 0) (xs ys : List A) → AllByRecursion P xs → AllByRecursion P ys → AllByRecursion P (xs ++ ys)
-joined_fit P [] ys a b = b
-joined_fit P (x ∷ xs) ys a b = (a.0, joined_fit P xs ys a.1 b)
+joined_lists_keep_property : {A : Type 0} (P : A → Type 0) (xs ys : List A) → AllByRecursion P xs → AllByRecursion P ys → AllByRecursion P (xs ++ ys)
+joined_lists_keep_property P [] ys a b = b
+joined_lists_keep_property P (x ∷ xs) ys a b = (a.0, joined_lists_keep_property P xs ys a.1 b)
 
-map_fit : {A B : Type 0} (Q : A → Type 0) (P : B → Type 0) (f : A → B) (xs : List A) → ((x : A) → Q x → P (f x)) → AllByRecursion Q xs → AllByRecursion P (map f xs)
-map_fit Q P f [] each a = tt
-map_fit Q P f (x ∷ xs) each a = (each x a.0, map_fit Q P f xs each a.1)
+mapped_list_has_property : {A B : Type 0} (Q : A → Type 0) (P : B → Type 0) (f : A → B) (xs : List A) → ((x : A) → Q x → P (f x)) → AllByRecursion Q xs → AllByRecursion P (map f xs)
+mapped_list_has_property Q P f [] each a = tt
+mapped_list_has_property Q P f (x ∷ xs) each a = (each x a.0, mapped_list_has_property Q P f xs each a.1)
 
-both_fit : {A : Type 0} (P Q : A → Type 0) (xs : List A) → AllByRecursion P xs → AllByRecursion Q xs → AllByRecursion (λ x. P x × Q x) xs
-both_fit P Q [] a b = tt
-both_fit P Q (x ∷ xs) a b = ((a.0, b.0), both_fit P Q xs a.1 b.1)
+items_with_both_properties : {A : Type 0} (P Q : A → Type 0) (xs : List A) → AllByRecursion P xs → AllByRecursion Q xs → AllByRecursion (λ x. P x × Q x) xs
+items_with_both_properties P Q [] a b = tt
+items_with_both_properties P Q (x ∷ xs) a b = ((a.0, b.0), items_with_both_properties P Q xs a.1 b.1)
 
 register_fits : (ids : IdSize) (is_null : Bool) (x : ℕ) → FitsId ids x → AllByRecursion (FitsSub ids) (cond is_null [] (root 0xff x [] ∷ []))
 register_fits ids true x small = tt
@@ -144,18 +144,18 @@ registers_fit : (ids : IdSize) (xs : List ℕ) → AllByRecursion (FitsId ids) x
 registers_fit ids [] a = tt
 registers_fit ids (x ∷ xs) a =
     subst (AllByRecursion (FitsSub ids)) (sym (flat_map-cons register_roots x xs))
-    (joined_fit (FitsSub ids) (register_roots x) (flat_map register_roots xs) (register_fits ids (eqb x 0) x a.0) (registers_fit ids xs a.1))
+    (joined_lists_keep_property (FitsSub ids) (register_roots x) (flat_map register_roots xs) (register_fits ids (eqb x 0) x a.0) (registers_fit ids xs a.1))
 
-four_parts : {A : Type 0} (f : Sub → A) (a b c d : List Sub) (p q r s : List A) → map f a ≡ p → map f b ≡ q → map f c ≡ r → map f d ≡ s → map f (a ++ b ++ c ++ d) ≡ p ++ q ++ r ++ s
-four_parts f a b c d p q r s ea eb ec ed =
-    map_append f (a ++ b ++ c) d ∙ ap₂ (λ (x y : List _). x ++ y) (map_append f (a ++ b) c ∙ ap₂ (λ (x y : List _). x ++ y) (map_append f a b ∙ ap₂ (λ (x y : List _). x ++ y) ea eb) ec) ed
+map_of_four_parts : {A : Type 0} (f : Sub → A) (a b c d : List Sub) (p q r s : List A) → map f a ≡ p → map f b ≡ q → map f c ≡ r → map f d ≡ s → map f (a ++ b ++ c ++ d) ≡ p ++ q ++ r ++ s
+map_of_four_parts f a b c d p q r s ea eb ec ed =
+    map_of_appended_lists f (a ++ b ++ c) d ∙ ap₂ (λ (x y : List _). x ++ y) (map_of_appended_lists f (a ++ b) c ∙ ap₂ (λ (x y : List _). x ++ y) (map_of_appended_lists f a b ∙ ap₂ (λ (x y : List _). x ++ y) ea eb) ec) ed
 
 sections_joined : (a b c d : List (List ℕ)) → a ++ b ++ c ++ d ≡ a ++ (b ++ (c ++ (d ++ [])))
 sections_joined a b c d = simp (append_assoc, append-nil)
 
-pub are_read : (ids : IdSize) (image : Image) → HoldsWhole ids image 0 → ShowsWhole ids image → AreRead ids image
+pub whole_image_is_read_back : (ids : IdSize) (image : Image) → HoldsWhole ids image 0 → ShowsWhole ids image → AreRead ids image
 unfolding sub_records items_of
-are_read ids image holds shows =
+whole_image_is_read_back ids image holds shows =
     let classes = enumerate_from 0 image.classes in
     let dumps = records_of_items (map (λ c. class_dump ids image.classes c ∷ []) classes) in
     let roots = records_of_items (map (λ c. root_bytes ids 0x05 (class_id c.0) ∷ []) classes) in
@@ -163,20 +163,20 @@ are_read ids image holds shows =
     let registers = records_of_items (map (λ x. cond (eqb x 0) [] (root_bytes ids 0xff x ∷ [])) image.registers) in
     record {
       spelled =
-          four_parts (sub_text ids) (map (class_sub ids image.classes) classes) (map class_root classes) (map (object_sub ids image.classes) image.objects) (flat_map register_roots image.registers)
+          map_of_four_parts (sub_text ids) (map (class_sub ids image.classes) classes) (map class_root classes) (map (object_sub ids image.classes) image.objects) (flat_map register_roots image.registers)
           dumps roots objects registers
-          (singles ids (class_sub ids image.classes) (class_dump ids image.classes) classes (class_same ids image.classes))
-          (singles ids class_root (λ c. root_bytes ids 0x05 (class_id c.0)) classes (λ c. root_same ids 0x05 (class_id c.0)))
-          (singles ids (object_sub ids image.classes) (object_dump ids image.classes) image.objects (object_same ids image.classes))
+          (single_records_as_items ids (class_sub ids image.classes) (class_dump ids image.classes) classes (class_same ids image.classes))
+          (single_records_as_items ids class_root (λ c. root_bytes ids 0x05 (class_id c.0)) classes (λ c. root_same ids 0x05 (class_id c.0)))
+          (single_records_as_items ids (object_sub ids image.classes) (object_dump ids image.classes) image.objects (object_same ids image.classes))
           (registers_same ids image.registers)
           ∙ sections_joined dumps roots objects registers;
       fit =
           let loaded = recursion_from_All (ClassDumpFits ids image.classes) classes holds.classes in
-          joined_fit (FitsSub ids) _ _
-          (joined_fit (FitsSub ids) _ _
-          (joined_fit (FitsSub ids) _ _ (map_fit _ (FitsSub ids) (class_sub ids image.classes) classes (class_fits ids image.classes) loaded)
-          (map_fit (ClassDumpFits ids image.classes) (FitsSub ids) class_root classes (λ c fits. (omega arith, fits.0, refl)) loaded))
-          (map_fit (λ o. FitsId ids o.id × DumpFits ids image.classes o.kind o.words) (FitsSub ids) (object_sub ids image.classes) image.objects (λ o fits. kind_fits ids image.classes o.id o.kind o.words fits.0 fits.1)
-          (both_fit (λ o. FitsId ids o.id) (λ o. DumpFits ids image.classes o.kind o.words) image.objects (recursion_from_All _ image.objects shows.objects) (recursion_from_All _ image.objects holds.objects))))
+          joined_lists_keep_property (FitsSub ids) _ _
+          (joined_lists_keep_property (FitsSub ids) _ _
+          (joined_lists_keep_property (FitsSub ids) _ _ (mapped_list_has_property _ (FitsSub ids) (class_sub ids image.classes) classes (class_fits ids image.classes) loaded)
+          (mapped_list_has_property (ClassDumpFits ids image.classes) (FitsSub ids) class_root classes (λ c fits. (omega arith, fits.0, refl)) loaded))
+          (mapped_list_has_property (λ o. FitsId ids o.id × DumpFits ids image.classes o.kind o.words) (FitsSub ids) (object_sub ids image.classes) image.objects (λ o fits. kind_fits ids image.classes o.id o.kind o.words fits.0 fits.1)
+          (items_with_both_properties (λ o. FitsId ids o.id) (λ o. DumpFits ids image.classes o.kind o.words) image.objects (recursion_from_All _ image.objects shows.objects) (recursion_from_All _ image.objects holds.objects))))
           (registers_fit ids image.registers (recursion_from_All _ image.registers shows.registers));
     }

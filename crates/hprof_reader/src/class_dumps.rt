@@ -67,56 +67,22 @@ pub struct ClassDump<'a> {
     pub fields: Table<'a>,
 }
 
-// Reads a constant or a static field with a key of this many bytes.
-#[tactic(auto, unfolding(crate::specs::Entries::entry_parts))]
-fn entry_at(ids: IdSize, key: u64, bytes: &[u8]) -> Result<(Entry<'_>, &[u8]), Fault>
-    ensures { Gives (λ x. (entry x.0, x.1.now)) result (entry_parts ids key bytes.now) }
+// Reads what follows the tag of a class.
+#[tactic(auto, unfolding(crate::specs::SubParts::class_parts))]
+pub(crate) fn class_dump_at(ids: IdSize, bytes: &[u8]) -> Result<(ClassDump<'_>, &[u8]), Fault>
+    ensures { Gives (λ x. (class_told x.0, x.1.now)) result (class_parts ids bytes.now) }
 {
-    let (key, rest) = bytes_at(key, bytes)?;
-    let (kind, rest) = kind_at(rest)?;
-    let (value, rest) = bytes_at(kind.width(ids), rest)?;
-    Ok((Entry { key, kind, value }, rest))
-}
-
-// Returns the bytes after so many constants or static fields.
-fn after_entries(ids: IdSize, key: u64, count: u16, bytes: &[u8]) -> Result<&[u8], Fault>
-    ensures { Gives (λ x. x.now) result (after_entries ids key count bytes.now) }
-{
-    let mut rest = bytes;
-    for _ in 0..count {
-        let (_entry, after) = entry_at(ids, key, rest)?;
-        rest = after;
-    }
-    Ok(rest)
-}
-
-// Returns the bytes before these last ones.
-fn before<'a>(bytes: &'a [u8], rest: &[u8]) -> &'a [u8]
-    ensures { result.now ≡ take (length bytes.now - length rest.now) bytes.now }
-{
-    let size = bytes.len().saturating_sub(rest.len());
-    &bytes[..size]
-}
-
-// Reads the number of constants or static fields, and these.
-#[tactic(auto, unfolding(crate::specs::Entries::table_parts))]
-fn table_at(ids: IdSize, key: u64, bytes: &[u8]) -> Result<(Table<'_>, &[u8]), Fault>
-    ensures { Gives (λ x. (entries x.0, x.1.now)) result (table_parts ids key bytes.now) }
-{
-    let (count, rest) = u2_at(bytes)?;
-    let after = after_entries(ids, key, count, rest)?;
-    let bytes = before(rest, after);
-    Ok((Table { count, bytes }, after))
-}
-
-// Reads the number of own fields, and these.
-#[tactic(auto, unfolding(crate::specs::Entries::fields_table_parts))]
-fn fields_at(ids: IdSize, bytes: &[u8]) -> Result<(Table<'_>, &[u8]), Fault>
-    ensures { Gives (λ x. (entries x.0, x.1.now)) result (fields_table_parts ids bytes.now) }
-{
-    let (count, rest) = u2_at(bytes)?;
-    let (bytes, rest) = bytes_at((ids.bytes() + 1) * count as u64, rest)?;
-    Ok((Table { count, bytes }, rest))
+    let (head, rest) = class_head_at(ids, bytes)?;
+    let (constants, rest) = table_at(ids, 2, rest)?;
+    let (statics, rest) = table_at(ids, ids.bytes(), rest)?;
+    let (fields, rest) = fields_at(ids, rest)?;
+    let class = ClassDump {
+        head,
+        constants,
+        statics,
+        fields,
+    };
+    Ok((class, rest))
 }
 
 // Reads the numbers of a class.
@@ -147,20 +113,54 @@ fn class_head_at(ids: IdSize, bytes: &[u8]) -> Result<(ClassHead, &[u8]), Fault>
     Ok((head, rest))
 }
 
-// Reads what follows the tag of a class.
-#[tactic(auto, unfolding(crate::specs::SubParts::class_parts))]
-pub(crate) fn class_dump_at(ids: IdSize, bytes: &[u8]) -> Result<(ClassDump<'_>, &[u8]), Fault>
-    ensures { Gives (λ x. (class_told x.0, x.1.now)) result (class_parts ids bytes.now) }
+// Reads the number of constants or static fields, and these.
+#[tactic(auto, unfolding(crate::specs::Entries::table_parts))]
+fn table_at(ids: IdSize, key: u64, bytes: &[u8]) -> Result<(Table<'_>, &[u8]), Fault>
+    ensures { Gives (λ x. (entries x.0, x.1.now)) result (table_parts ids key bytes.now) }
 {
-    let (head, rest) = class_head_at(ids, bytes)?;
-    let (constants, rest) = table_at(ids, 2, rest)?;
-    let (statics, rest) = table_at(ids, ids.bytes(), rest)?;
-    let (fields, rest) = fields_at(ids, rest)?;
-    let class = ClassDump {
-        head,
-        constants,
-        statics,
-        fields,
-    };
-    Ok((class, rest))
+    let (count, rest) = u2_at(bytes)?;
+    let after = after_entries(ids, key, count, rest)?;
+    let bytes = before(rest, after);
+    Ok((Table { count, bytes }, after))
+}
+
+// Returns the bytes after so many constants or static fields.
+fn after_entries(ids: IdSize, key: u64, count: u16, bytes: &[u8]) -> Result<&[u8], Fault>
+    ensures { Gives (λ x. x.now) result (after_entries ids key count bytes.now) }
+{
+    let mut rest = bytes;
+    for _ in 0..count {
+        let (_entry, after) = entry_at(ids, key, rest)?;
+        rest = after;
+    }
+    Ok(rest)
+}
+
+// Reads a constant or a static field with a key of this many bytes.
+#[tactic(auto, unfolding(crate::specs::Entries::entry_parts))]
+fn entry_at(ids: IdSize, key: u64, bytes: &[u8]) -> Result<(Entry<'_>, &[u8]), Fault>
+    ensures { Gives (λ x. (entry x.0, x.1.now)) result (entry_parts ids key bytes.now) }
+{
+    let (key, rest) = bytes_at(key, bytes)?;
+    let (kind, rest) = kind_at(rest)?;
+    let (value, rest) = bytes_at(kind.width(ids), rest)?;
+    Ok((Entry { key, kind, value }, rest))
+}
+
+// Returns the bytes before these last ones.
+fn before<'a>(bytes: &'a [u8], rest: &[u8]) -> &'a [u8]
+    ensures { result.now ≡ take (length bytes.now - length rest.now) bytes.now }
+{
+    let size = bytes.len().saturating_sub(rest.len());
+    &bytes[..size]
+}
+
+// Reads the number of own fields, and these.
+#[tactic(auto, unfolding(crate::specs::Entries::fields_table_parts))]
+fn fields_at(ids: IdSize, bytes: &[u8]) -> Result<(Table<'_>, &[u8]), Fault>
+    ensures { Gives (λ x. (entries x.0, x.1.now)) result (fields_table_parts ids bytes.now) }
+{
+    let (count, rest) = u2_at(bytes)?;
+    let (bytes, rest) = bytes_at((ids.bytes() + 1) * count as u64, rest)?;
+    Ok((Table { count, bytes }, rest))
 }

@@ -29,15 +29,6 @@ pub struct StaticField<'a> {
     pub value: &'a [u8],
 }
 
-#[tactic(auto, unfolding(crate::specs::Fields::own_field_parts))]
-fn read_own_field(ids: IdSize, bytes: &[u8]) -> Result<(OwnField, &[u8]), Fault>
-    ensures { Gives (λ x. (x.0, x.1.now)) result (own_field_parts ids bytes.now) }
-{
-    let (name, rest) = id_at(ids, bytes)?;
-    let (kind, rest) = kind_at(rest)?;
-    Ok((OwnField { name, kind }, rest))
-}
-
 /// Reads the own field at the front of these bytes of a table of own fields. Returns it with the bytes after it. Fails with Short
 /// or Type if no whole field begins there.
 pub fn own_field_at(ids: IdSize, bytes: &[u8]) -> Result<(OwnField, &[u8]), Fault>
@@ -49,14 +40,13 @@ pub fn own_field_at(ids: IdSize, bytes: &[u8]) -> Result<(OwnField, &[u8]), Faul
     read_own_field(ids, bytes)
 }
 
-#[tactic(auto, unfolding(crate::specs::Fields::static_field_parts))]
-fn read_static_field(ids: IdSize, bytes: &[u8]) -> Result<(StaticField<'_>, &[u8]), Fault>
-    ensures { Gives (λ x. (static_told x.0, x.1.now)) result (static_field_parts ids bytes.now) }
+#[tactic(auto, unfolding(crate::specs::Fields::own_field_parts))]
+fn read_own_field(ids: IdSize, bytes: &[u8]) -> Result<(OwnField, &[u8]), Fault>
+    ensures { Gives (λ x. (x.0, x.1.now)) result (own_field_parts ids bytes.now) }
 {
     let (name, rest) = id_at(ids, bytes)?;
     let (kind, rest) = kind_at(rest)?;
-    let (value, rest) = bytes_at(kind.width(ids), rest)?;
-    Ok((StaticField { name, kind, value }, rest))
+    Ok((OwnField { name, kind }, rest))
 }
 
 /// Reads the static field at the front of these bytes of a table of static fields. Returns it with the bytes after it. Fails with
@@ -68,4 +58,14 @@ pub fn static_field_at(ids: IdSize, bytes: &[u8]) -> Result<(StaticField<'_>, &[
         → IsRead (λ x. (static_told x.0, x.1.now)) result f rest }
 {
     read_static_field(ids, bytes)
+}
+
+#[tactic(auto, unfolding(crate::specs::Fields::static_field_parts))]
+fn read_static_field(ids: IdSize, bytes: &[u8]) -> Result<(StaticField<'_>, &[u8]), Fault>
+    ensures { Gives (λ x. (static_told x.0, x.1.now)) result (static_field_parts ids bytes.now) }
+{
+    let (name, rest) = id_at(ids, bytes)?;
+    let (kind, rest) = kind_at(rest)?;
+    let (value, rest) = bytes_at(kind.width(ids), rest)?;
+    Ok((StaticField { name, kind, value }, rest))
 }

@@ -19,15 +19,33 @@ pub struct Header {
     pub time: u64,
 }
 
-// Returns identifiers of so many bytes, if there are such.
-fn ids_of(size: u32) -> Option<IdSize>
-    ensures { result ≡ ids_of size }
+/// Reads the header at the front of a dump. Returns it with the bytes after it. Fails with Header if no such file begins so, or
+/// with Short if the bytes end within the header.
+pub fn header_at(bytes: &[u8]) -> Result<(Header, &[u8]), Fault>
+    ensures found { IfOk result (λ x. (x.0.time < 2 ^ 64) × (bytes.now ≡ header_text x.0 ++ x.1.now)) }
+    ensures only { (h : Header) (rest : List ℕ) → h.time < 2 ^ 64 → bytes.now ≡ header_text h ++ rest
+        → IsRead (λ x. (x.0, x.1.now)) result h rest }
 {
-    match size {
-        4 => Some(IdSize::Four),
-        8 => Some(IdSize::Eight),
-        _ => None,
+    read_header(bytes)
+}
+
+#[tactic(auto, unfolding(crate::specs::Headers::header_parts))]
+fn read_header(bytes: &[u8]) -> Result<(Header, &[u8]), Fault>
+    ensures { Gives (λ x. (x.0, x.1.now)) result (header_parts bytes.now) }
+{
+    let (name, rest) = bytes_at(19, bytes)?;
+    if name != FORMAT_NAME {
+        return Err(Fault::Header);
     }
+    after_name(rest)
+}
+
+// Reads what follows the name of the format.
+fn after_name(bytes: &[u8]) -> Result<(Header, &[u8]), Fault>
+    ensures { Gives (λ x. (x.0, x.1.now)) result (after_name bytes.now) }
+{
+    let (size, rest) = u4_at(bytes)?;
+    times_at(ids_of(size), rest)
 }
 
 // Reads the two halves of the time.
@@ -43,31 +61,13 @@ fn times_at(ids: Option<IdSize>, bytes: &[u8]) -> Result<(Header, &[u8]), Fault>
     Ok((Header { ids, time }, rest))
 }
 
-// Reads what follows the name of the format.
-fn after_name(bytes: &[u8]) -> Result<(Header, &[u8]), Fault>
-    ensures { Gives (λ x. (x.0, x.1.now)) result (after_name bytes.now) }
+// Returns identifiers of so many bytes, if there are such.
+fn ids_of(size: u32) -> Option<IdSize>
+    ensures { result ≡ ids_of size }
 {
-    let (size, rest) = u4_at(bytes)?;
-    times_at(ids_of(size), rest)
-}
-
-#[tactic(auto, unfolding(crate::specs::Headers::header_parts))]
-fn read_header(bytes: &[u8]) -> Result<(Header, &[u8]), Fault>
-    ensures { Gives (λ x. (x.0, x.1.now)) result (header_parts bytes.now) }
-{
-    let (name, rest) = bytes_at(19, bytes)?;
-    if name != FORMAT_NAME {
-        return Err(Fault::Header);
+    match size {
+        4 => Some(IdSize::Four),
+        8 => Some(IdSize::Eight),
+        _ => None,
     }
-    after_name(rest)
-}
-
-/// Reads the header at the front of a dump. Returns it with the bytes after it. Fails with Header if no such file begins so, or
-/// with Short if the bytes end within the header.
-pub fn header_at(bytes: &[u8]) -> Result<(Header, &[u8]), Fault>
-    ensures found { IfOk result (λ x. (x.0.time < 2 ^ 64) × (bytes.now ≡ header_text x.0 ++ x.1.now)) }
-    ensures only { (h : Header) (rest : List ℕ) → h.time < 2 ^ 64 → bytes.now ≡ header_text h ++ rest
-        → IsRead (λ x. (x.0, x.1.now)) result h rest }
-{
-    read_header(bytes)
 }

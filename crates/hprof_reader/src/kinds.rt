@@ -7,6 +7,18 @@ use crate::fault::Fault;
 use crate::numbers::u1_at;
 use heap_class::Kind;
 
+// Reads the code of a kind.
+#[tactic(auto, unfolding(crate::specs::Kinds::kind_parts))]
+pub(crate) fn kind_at(bytes: &[u8]) -> Result<(Kind, &[u8]), Fault>
+    ensures { Gives (λ x. (x.0, x.1.now)) result (kind_parts bytes.now) }
+{
+    let (code, rest) = u1_at(bytes)?;
+    match kind_of(code) {
+        Some(kind) => Ok((kind, rest)),
+        None => Err(Fault::Type),
+    }
+}
+
 // Returns the kind with this code, if there is one.
 fn kind_of(code: u8) -> Option<Kind>
     ensures { result ≡ kind_coded code }
@@ -22,17 +34,5 @@ fn kind_of(code: u8) -> Option<Kind>
         10 => Some(Kind::Int),
         11 => Some(Kind::Long),
         _ => None,
-    }
-}
-
-// Reads the code of a kind.
-#[tactic(auto, unfolding(crate::specs::Kinds::kind_parts))]
-pub(crate) fn kind_at(bytes: &[u8]) -> Result<(Kind, &[u8]), Fault>
-    ensures { Gives (λ x. (x.0, x.1.now)) result (kind_parts bytes.now) }
-{
-    let (code, rest) = u1_at(bytes)?;
-    match kind_of(code) {
-        Some(kind) => Ok((kind, rest)),
-        None => Err(Fault::Type),
     }
 }

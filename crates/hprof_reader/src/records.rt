@@ -17,6 +17,16 @@ pub struct Record<'a> {
     pub body: &'a [u8],
 }
 
+/// Reads the record at the front of these bytes, of any tag. Returns it with the bytes after it. Fails with Short if no whole
+/// record begins there. Takes the same time for each record.
+pub fn record_at(bytes: &[u8]) -> Result<(Record<'_>, &[u8]), Fault>
+    ensures found { IfOk result (λ x. FitsRecord (told x.0) × (bytes.now ≡ record_text (told x.0) ++ x.1.now)) }
+    ensures only { (r : Told) (rest : List ℕ) → FitsRecord r → bytes.now ≡ record_text r ++ rest
+        → IsRead (λ x. (told x.0, x.1.now)) result r rest }
+{
+    read_record(bytes)
+}
+
 #[tactic(auto, unfolding(crate::specs::Reading::record_parts))]
 fn read_record(bytes: &[u8]) -> Result<(Record<'_>, &[u8]), Fault>
     ensures { Gives (λ x. (told x.0, x.1.now)) result (record_parts bytes.now) }
@@ -26,14 +36,4 @@ fn read_record(bytes: &[u8]) -> Result<(Record<'_>, &[u8]), Fault>
     let (size, rest) = u4_at(rest)?;
     let (body, rest) = bytes_at(size as u64, rest)?;
     Ok((Record { tag, time, body }, rest))
-}
-
-/// Reads the record at the front of these bytes, of any tag. Returns it with the bytes after it. Fails with Short if no whole
-/// record begins there. Takes the same time for each record.
-pub fn record_at(bytes: &[u8]) -> Result<(Record<'_>, &[u8]), Fault>
-    ensures found { IfOk result (λ x. FitsRecord (told x.0) × (bytes.now ≡ record_text (told x.0) ++ x.1.now)) }
-    ensures only { (r : Told) (rest : List ℕ) → FitsRecord r → bytes.now ≡ record_text r ++ rest
-        → IsRead (λ x. (told x.0, x.1.now)) result r rest }
-{
-    read_record(bytes)
 }

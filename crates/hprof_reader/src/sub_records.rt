@@ -80,16 +80,43 @@ pub enum SubRecord<'a> {
     PrimArray(PrimArray<'a>),
 }
 
-// Returns how many bytes follow the id in a root of this tag, or None if no root has the tag.
-fn root_size(ids: IdSize, tag: u8) -> Option<u64>
-    ensures { result ≡ root_size ids tag }
+/// Reads the sub-record at the front of these bytes of a heap dump. Returns it with the bytes after it. Fails with Short, Tag
+/// or Type if no whole sub-record begins there. Takes time for each constant and static field of a class.
+pub fn sub_record_at(ids: IdSize, bytes: &[u8]) -> Result<(SubRecord<'_>, &[u8]), Fault>
+    ensures found { IfOk result (λ x. FitsSub ids (sub_record x.0)
+        × (bytes.now ≡ sub_text ids (sub_record x.0) ++ x.1.now)) }
+    ensures only { (s : Sub) (rest : List ℕ) → FitsSub ids s → bytes.now ≡ sub_text ids s ++ rest
+        → IsRead (λ x. (sub_record x.0, x.1.now)) result s rest }
 {
+    read_sub_record(ids, bytes)
+}
+
+#[tactic(auto, unfolding(crate::specs::SubParts::sub_parts))]
+fn read_sub_record(ids: IdSize, bytes: &[u8]) -> Result<(SubRecord<'_>, &[u8]), Fault>
+    ensures { Gives (λ x. (sub_record x.0, x.1.now)) result (sub_parts ids bytes.now) }
+{
+    let (tag, rest) = u1_at(bytes)?;
+    tagged_at(ids, tag, root_size(ids, tag), rest)
+}
+
+// Reads what follows this tag, which has so many bytes after its id if it is that of a root.
+fn tagged_at(
+    ids: IdSize,
+    tag: u8,
+    size: Option<u64>,
+    bytes: &[u8],
+) -> Result<(SubRecord<'_>, &[u8]), Fault>
+    ensures { Gives (λ x. (sub_record x.0, x.1.now)) result (tagged_parts ids tag size bytes.now) }
+{
+    if let Some(size) = size {
+        return root_at(ids, tag, size, bytes);
+    }
     match tag {
-        0x01 => Some(ids.bytes()),
-        0x02 | 0x03 | 0x08 => Some(8),
-        0x04 | 0x06 => Some(4),
-        0x05 | 0x07 | 0xff => Some(0),
-        _ => None,
+        0x20 => class_at(ids, bytes),
+        0x21 => instance_at(ids, bytes),
+        0x22 => array_at(ids, bytes),
+        0x23 => prim_at(ids, bytes),
+        _ => Err(Fault::Tag),
     }
 }
 
@@ -101,6 +128,15 @@ fn root_at(ids: IdSize, tag: u8, size: u64, bytes: &[u8]) -> Result<(SubRecord<'
     let (id, rest) = id_at(ids, bytes)?;
     let (more, rest) = bytes_at(size, rest)?;
     Ok((SubRecord::Root(Root { tag, id, more }), rest))
+}
+
+// Reads what follows the tag of a class.
+#[tactic(auto, unfolding(crate::specs::SubParts::class_sub_parts))]
+fn class_at(ids: IdSize, bytes: &[u8]) -> Result<(SubRecord<'_>, &[u8]), Fault>
+    ensures { Gives (λ x. (sub_record x.0, x.1.now)) result (class_sub_parts ids bytes.now) }
+{
+    let (class, rest) = class_dump_at(ids, bytes)?;
+    Ok((SubRecord::Class(class), rest))
 }
 
 // Reads what follows the tag of an instance.
@@ -162,51 +198,15 @@ fn prim_at(ids: IdSize, bytes: &[u8]) -> Result<(SubRecord<'_>, &[u8]), Fault>
     Ok((SubRecord::PrimArray(array), rest))
 }
 
-// Reads what follows the tag of a class.
-#[tactic(auto, unfolding(crate::specs::SubParts::class_sub_parts))]
-fn class_at(ids: IdSize, bytes: &[u8]) -> Result<(SubRecord<'_>, &[u8]), Fault>
-    ensures { Gives (λ x. (sub_record x.0, x.1.now)) result (class_sub_parts ids bytes.now) }
+// Returns how many bytes follow the id in a root of this tag, or None if no root has the tag.
+fn root_size(ids: IdSize, tag: u8) -> Option<u64>
+    ensures { result ≡ root_size ids tag }
 {
-    let (class, rest) = class_dump_at(ids, bytes)?;
-    Ok((SubRecord::Class(class), rest))
-}
-
-// Reads what follows this tag, which has so many bytes after its id if it is that of a root.
-fn tagged_at(
-    ids: IdSize,
-    tag: u8,
-    size: Option<u64>,
-    bytes: &[u8],
-) -> Result<(SubRecord<'_>, &[u8]), Fault>
-    ensures { Gives (λ x. (sub_record x.0, x.1.now)) result (tagged_parts ids tag size bytes.now) }
-{
-    if let Some(size) = size {
-        return root_at(ids, tag, size, bytes);
-    }
     match tag {
-        0x20 => class_at(ids, bytes),
-        0x21 => instance_at(ids, bytes),
-        0x22 => array_at(ids, bytes),
-        0x23 => prim_at(ids, bytes),
-        _ => Err(Fault::Tag),
+        0x01 => Some(ids.bytes()),
+        0x02 | 0x03 | 0x08 => Some(8),
+        0x04 | 0x06 => Some(4),
+        0x05 | 0x07 | 0xff => Some(0),
+        _ => None,
     }
-}
-
-#[tactic(auto, unfolding(crate::specs::SubParts::sub_parts))]
-fn read_sub_record(ids: IdSize, bytes: &[u8]) -> Result<(SubRecord<'_>, &[u8]), Fault>
-    ensures { Gives (λ x. (sub_record x.0, x.1.now)) result (sub_parts ids bytes.now) }
-{
-    let (tag, rest) = u1_at(bytes)?;
-    tagged_at(ids, tag, root_size(ids, tag), rest)
-}
-
-/// Reads the sub-record at the front of these bytes of a heap dump. Returns it with the bytes after it. Fails with Short, Tag
-/// or Type if no whole sub-record begins there. Takes time for each constant and static field of a class.
-pub fn sub_record_at(ids: IdSize, bytes: &[u8]) -> Result<(SubRecord<'_>, &[u8]), Fault>
-    ensures found { IfOk result (λ x. FitsSub ids (sub_record x.0)
-        × (bytes.now ≡ sub_text ids (sub_record x.0) ++ x.1.now)) }
-    ensures only { (s : Sub) (rest : List ℕ) → FitsSub ids s → bytes.now ≡ sub_text ids s ++ rest
-        → IsRead (λ x. (sub_record x.0, x.1.now)) result s rest }
-{
-    read_sub_record(ids, bytes)
 }

@@ -120,6 +120,18 @@ const CLASS: [u8; 71] =
 \0\x02\0\0\0\x0b\x04\x01\0\0\0\x0c\x02\0\0\0\x30\
 \0\x01\0\0\0\x0d\x0b!";
 
+// Returns how many sub-records there are before the end or the first fault.
+fn count(bytes: &[u8]) -> usize {
+    let mut rest = bytes;
+    for found in 0..bytes.len() {
+        match sub_record_at(IdSize::Four, rest) {
+            Ok((_, after)) => rest = after,
+            Err(_) => return found,
+        }
+    }
+    bytes.len()
+}
+
 #[test]
 fn a_class(rt: HostRuntime) -> Result<(), Fail> {
     let (class, rest) = sub_record_at(IdSize::Four, &CLASS).ok().ok_or("a class")?;
@@ -138,6 +150,12 @@ fn a_class(rt: HostRuntime) -> Result<(), Fail> {
     );
     assert_eq!(rt; class.fields.bytes, b"\0\0\0\x0d\x0b".as_slice());
     Ok(())
+}
+
+#[test]
+fn cut_records_are_short(rt: HostRuntime) {
+    assert!(rt; are_beginnings_short());
+    assert!(rt; are_headers_short());
 }
 
 // Tells whether each beginning of the class is short.
@@ -161,21 +179,13 @@ fn are_headers_short() -> bool {
 }
 
 #[test]
-fn cut_records_are_short(rt: HostRuntime) {
-    assert!(rt; are_beginnings_short());
-    assert!(rt; are_headers_short());
-}
-
-// Returns how many sub-records there are before the end or the first fault.
-fn count(bytes: &[u8]) -> usize {
-    let mut rest = bytes;
-    for found in 0..bytes.len() {
-        match sub_record_at(IdSize::Four, rest) {
-            Ok((_, after)) => rest = after,
-            Err(_) => return found,
-        }
-    }
-    bytes.len()
+fn each_byte_changed(rt: HostRuntime) {
+    assert_eq!(rt; count_changed(0x20), 1);
+    assert!(rt; count_changed(0) <= 2);
+    assert!(rt; count_changed(1) <= 2);
+    assert!(rt; count_changed(0x0b) <= 2);
+    assert!(rt; count_changed(0x7f) <= 2);
+    assert!(rt; count_changed(0xff) <= 2);
 }
 
 // Returns how many sub-records there are, at most, if one byte of the class has this value.
@@ -187,14 +197,4 @@ fn count_changed(value: u8) -> usize {
         most = most.max(count(&bytes));
     }
     most
-}
-
-#[test]
-fn each_byte_changed(rt: HostRuntime) {
-    assert_eq!(rt; count_changed(0x20), 1);
-    assert!(rt; count_changed(0) <= 2);
-    assert!(rt; count_changed(1) <= 2);
-    assert!(rt; count_changed(0x0b) <= 2);
-    assert!(rt; count_changed(0x7f) <= 2);
-    assert!(rt; count_changed(0xff) <= 2);
 }

@@ -25,6 +25,16 @@ pub fn are_places()
     ensures { ArePlaces }
 {}
 
+/// Appends the lines that make the arrays for object n, of this class, if they aren't there. Fails if an allocation fails; then
+/// all lines are dropped.
+pub fn push_place(lines: &mut Lines, class: ClassNo, n: u64) -> Result<(), AllocError>
+    ensures done { OnOk result (lines.new ≡ lines.old ++ lines_of (place_events class n)) }
+    ensures failed { OnErr result (lines.new ≡ []) }
+{
+    push_top(lines, class, n)?;
+    push_array(lines, class, n)
+}
+
 // Appends the line that makes the array of arrays for object n, if this is the first object that it is for.
 fn push_top(lines: &mut Lines, class: ClassNo, n: u64) -> Result<(), AllocError>
     ensures done { OnOk result (lines.new ≡ lines.old ++ lines_of (top_events class n)) }
@@ -61,16 +71,6 @@ fn push_array(lines: &mut Lines, class: ClassNo, n: u64) -> Result<(), AllocErro
         slot: n / WIDTH % WIDTH,
         source: ARRAY,
     })
-}
-
-/// Appends the lines that make the arrays for object n, of this class, if they aren't there. Fails if an allocation fails; then
-/// all lines are dropped.
-pub fn push_place(lines: &mut Lines, class: ClassNo, n: u64) -> Result<(), AllocError>
-    ensures done { OnOk result (lines.new ≡ lines.old ++ lines_of (place_events class n)) }
-    ensures failed { OnErr result (lines.new ≡ []) }
-{
-    push_top(lines, class, n)?;
-    push_array(lines, class, n)
 }
 
 /// Appends the line that keeps object n, which is the newest. Fails if an allocation fails; then all lines are dropped.

@@ -14,27 +14,6 @@ const RECORDS: &[u8] = b"\
 \x0c\0\0\0\x02\0\0\0\x05\xff\0\0\0\x40\
 \x2c\0\0\0\0\0\0\0\0";
 
-// Returns a walk over records.
-fn walk_of(rest: &[u8]) -> Walk<'_> {
-    Walk {
-        ids: IdSize::Four,
-        segment: &[],
-        rest,
-    }
-}
-
-// Returns what a walk over records behind a header of 31 bytes comes to.
-fn survey(rest: &[u8]) -> Survey {
-    let (ids, segment) = (IdSize::Four, b"".as_slice());
-    walk_over(Walk { ids, segment, rest }, 31)
-}
-
-// Returns a root of this kind, of which nothing more is said.
-fn root(tag: u8, id: u64) -> Item<'static> {
-    let more = b"".as_slice();
-    Item::Sub(SubRecord::Root(Root { tag, id, more }))
-}
-
 #[test]
 fn items_of_a_dump(rt: HostRuntime) -> Result<(), Fail> {
     let next = item_at(walk_of(RECORDS)).ok().flatten().ok_or("a name")?;
@@ -55,6 +34,21 @@ fn items_of_a_dump(rt: HostRuntime) -> Result<(), Fail> {
     Ok(())
 }
 
+// Returns a walk over records.
+fn walk_of(rest: &[u8]) -> Walk<'_> {
+    Walk {
+        ids: IdSize::Four,
+        segment: &[],
+        rest,
+    }
+}
+
+// Returns a root of this kind, of which nothing more is said.
+fn root(tag: u8, id: u64) -> Item<'static> {
+    let more = b"".as_slice();
+    Item::Sub(SubRecord::Root(Root { tag, id, more }))
+}
+
 #[test]
 fn surveys_of_whole_dumps(rt: HostRuntime) {
     let (items, place, fault) = (7, 31 + 57, None);
@@ -71,6 +65,12 @@ fn surveys_of_whole_dumps(rt: HostRuntime) {
         fault,
     };
     assert_eq!(rt; survey(b""), empty);
+}
+
+// Returns what a walk over records behind a header of 31 bytes comes to.
+fn survey(rest: &[u8]) -> Survey {
+    let (ids, segment) = (IdSize::Four, b"".as_slice());
+    walk_over(Walk { ids, segment, rest }, 31)
 }
 
 #[test]
@@ -103,24 +103,6 @@ fn surveys_end_at_a_fault(rt: HostRuntime) {
     assert_eq!(rt; survey(short), within);
 }
 
-// Tells whether these lines make the place of object n, if the arrays have class 7.
-fn has_place(alloc: Global, n: u64, wanted: &[u8]) -> bool {
-    let mut lines = Lines::new(alloc);
-    push_place(&mut lines, 7, n).is_ok() && lines.as_slice() == wanted
-}
-
-// Tells whether this line keeps object n.
-fn has_keep(alloc: Global, n: u64, wanted: &[u8]) -> bool {
-    let mut lines = Lines::new(alloc);
-    push_keep(&mut lines, n).is_ok() && lines.as_slice() == wanted
-}
-
-// Tells whether these lines have register 6 name object n.
-fn has_fetch(alloc: Global, n: u64, wanted: &[u8]) -> bool {
-    let mut lines = Lines::new(alloc);
-    push_fetch(&mut lines, n, 6).is_ok() && lines.as_slice() == wanted
-}
-
 #[test]
 fn places_of_objects(rt: HostRuntime) {
     let alloc = rt.alloc();
@@ -133,6 +115,12 @@ fn places_of_objects(rt: HostRuntime) {
     assert!(rt; has_place(alloc, PLACES - 1, b""));
 }
 
+// Tells whether these lines make the place of object n, if the arrays have class 7.
+fn has_place(alloc: Global, n: u64, wanted: &[u8]) -> bool {
+    let mut lines = Lines::new(alloc);
+    push_place(&mut lines, 7, n).is_ok() && lines.as_slice() == wanted
+}
+
 #[test]
 fn objects_are_kept_and_fetched(rt: HostRuntime) {
     let alloc = rt.alloc();
@@ -141,4 +129,16 @@ fn objects_are_kept_and_fetched(rt: HostRuntime) {
     // The object in slot 3 of the array in slot 2 of the array that register 1 names.
     assert!(rt; has_fetch(alloc, 1_050_627, b"load 0 4 1 2\nload 0 6 4 3\n"));
     assert!(rt; has_fetch(alloc, PLACES - 1, b"load 0 4 3 1023\nload 0 6 4 1023\n"));
+}
+
+// Tells whether this line keeps object n.
+fn has_keep(alloc: Global, n: u64, wanted: &[u8]) -> bool {
+    let mut lines = Lines::new(alloc);
+    push_keep(&mut lines, n).is_ok() && lines.as_slice() == wanted
+}
+
+// Tells whether these lines have register 6 name object n.
+fn has_fetch(alloc: Global, n: u64, wanted: &[u8]) -> bool {
+    let mut lines = Lines::new(alloc);
+    push_fetch(&mut lines, n, 6).is_ok() && lines.as_slice() == wanted
 }

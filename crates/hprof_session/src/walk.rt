@@ -28,14 +28,22 @@ pub enum Item<'a> {
     Sub(SubRecord<'a>),
 }
 
-// Returns the sub-records in the body of a record with this tag: all of it, if that is a heap dump or a segment, or nothing.
-fn segment_of(tag: u8, body: &[u8]) -> &[u8]
-    ensures { result.now ≡ segment_of tag body.now }
+/// Reads the record or sub-record that is next. Returns it with what is left after it, or None at the end of the dump. Fails with
+/// Short, Tag or Type if no whole record or sub-record is next.
+pub fn item_at(walk: Walk<'_>) -> Result<Option<(Item<'_>, Walk<'_>)>, Fault>
+    ensures found { IfOk result (λ o. MatchOption o (IsAtEnd (left walk.entry))
+        (λ x. IsNext (left walk.entry) (step_told x).0 (step_told x).1)) }
+    ensures only { (i : ItemTold) (v : Left) → IsNext (left walk.entry) i v
+        → Gives next_told result (Ok (Some (i, v))) }
+    ensures end { IsAtEnd (left walk.entry) → result ≡ Ok None }
 {
-    match tag {
-        0x0c | 0x1c => body,
-        _ => &[],
+    if !walk.segment.is_empty() {
+        return Ok(Some(next_sub(walk)?));
     }
+    if walk.rest.is_empty() {
+        return Ok(None);
+    }
+    Ok(Some(next_record(walk)?))
 }
 
 // Reads the sub-record that is next in the segment.
@@ -62,20 +70,12 @@ fn next_record(walk: Walk<'_>) -> Result<(Item<'_>, Walk<'_>), Fault>
     Ok((Item::Record(record), Walk { ids, segment, rest }))
 }
 
-/// Reads the record or sub-record that is next. Returns it with what is left after it, or None at the end of the dump. Fails with
-/// Short, Tag or Type if no whole record or sub-record is next.
-pub fn item_at(walk: Walk<'_>) -> Result<Option<(Item<'_>, Walk<'_>)>, Fault>
-    ensures found { IfOk result (λ o. MatchOption o (IsAtEnd (left walk.entry))
-        (λ x. IsNext (left walk.entry) (step_told x).0 (step_told x).1)) }
-    ensures only { (i : ItemTold) (v : Left) → IsNext (left walk.entry) i v
-        → Gives next_told result (Ok (Some (i, v))) }
-    ensures end { IsAtEnd (left walk.entry) → result ≡ Ok None }
+// Returns the sub-records in the body of a record with this tag: all of it, if that is a heap dump or a segment, or nothing.
+fn segment_of(tag: u8, body: &[u8]) -> &[u8]
+    ensures { result.now ≡ segment_of tag body.now }
 {
-    if !walk.segment.is_empty() {
-        return Ok(Some(next_sub(walk)?));
+    match tag {
+        0x0c | 0x1c => body,
+        _ => &[],
     }
-    if walk.rest.is_empty() {
-        return Ok(None);
-    }
-    Ok(Some(next_record(walk)?))
 }

@@ -17,25 +17,6 @@ pub struct Survey {
     pub fault: Option<Fault>,
 }
 
-// Returns how many bytes are left.
-fn bytes_left(walk: Walk<'_>) -> u64
-    ensures { result ≡ bytes_left (left walk.entry) }
-{
-    walk.segment.len() as u64 + walk.rest.len() as u64
-}
-
-// Returns a survey that came to the end.
-fn at_end(items: u64, place: u64) -> Survey
-    ensures { result ≡ record { items = items; place = place; fault = None } }
-{
-    let fault = None;
-    Survey {
-        items,
-        place,
-        fault,
-    }
-}
-
 /// Walks over all that is left of a dump, whose first byte that is left has this place. Takes time for each record and
 /// sub-record, and for each constant and static field of a class.
 pub fn walk_over(walk: Walk<'_>, place: u64) -> Survey
@@ -64,4 +45,23 @@ pub fn walk_over(walk: Walk<'_>, place: u64) -> Survey
         }
     }
     at_end(items, place + size)
+}
+
+// Returns how many bytes are left.
+fn bytes_left(walk: Walk<'_>) -> u64
+    ensures { result ≡ bytes_left (left walk.entry) }
+{
+    walk.segment.len() as u64 + walk.rest.len() as u64
+}
+
+// Returns a survey that came to the end.
+fn at_end(items: u64, place: u64) -> Survey
+    ensures { result ≡ record { items = items; place = place; fault = None } }
+{
+    let fault = None;
+    Survey {
+        items,
+        place,
+        fault,
+    }
 }

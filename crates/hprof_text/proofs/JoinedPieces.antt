@@ -10,12 +10,12 @@ use Rattle.hprof_text.specs.Segments.{segment_records, end_record, dump_text, pi
 use Rattle.hprof_text.specs.Laws.{PiecesJoin}
 
 -- lists, and one more, joined
-concat_last : (xs : List (List ℕ)) (last : List ℕ) → concat (xs ++ last ∷ []) ≡ concat xs ++ last
-concat_last xs last = concat-append xs (last ∷ []) ∙ ap (λ l. concat xs ++ l) (append-nil last)
+concat_with_last_list : (xs : List (List ℕ)) (last : List ℕ) → concat (xs ++ last ∷ []) ≡ concat xs ++ last
+concat_with_last_list xs last = concat-append xs (last ∷ []) ∙ ap (λ l. concat xs ++ l) (append-nil last)
 
-pub pieces_join : (ids : IdSize) (image : Image) (time : ℕ) → PiecesJoin ids image time
+pub pieces_join_to_dump : (ids : IdSize) (image : Image) (time : ℕ) → PiecesJoin ids image time
 unfolding dump_text pieces_of
-pieces_join ids image time =
+pieces_join_to_dump ids image time =
     let records = segment_records (sub_records ids image) in
-    ap (λ l. opening_records ids image time ++ l) (concat_last records end_record)
+    ap (λ l. opening_records ids image time ++ l) (concat_with_last_list records end_record)
     ∙ sym (append_assoc (opening_records ids image time) (concat records) end_record)

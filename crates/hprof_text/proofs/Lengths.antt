@@ -18,7 +18,7 @@ use Rattle.hprof_text.specs.Sizes.{names_size, opening_size, root_size, dump_siz
 use Rattle.hprof_text.specs.Records.{opening_of}
 use Rattle.hprof_text.specs.Segments.{segment_limit, size_of, segments_of, segment_sizes, segment_records, end_record, dump_text}
 use Rattle.hprof_text.specs.Text.{id, u1, u4, record_of, header, utf8, load_class, trace, field_entry, class_dump, root, value_bytes, dump_of, class_id, opening_records, sub_records}
-use Rattle.hprof_text.proofs.SegmentSizes.{are_sizes}
+use Rattle.hprof_text.proofs.SegmentSizes.{sizes_of_all_segments}
 
 -- a record is 9 bytes longer than its body
 pub length-record_of : (tag : ℕ) (body : List ℕ) → length (record_of tag body) ≡ 9 + length body
@@ -144,6 +144,6 @@ text_length ids image time =
     let o : length (opening_of ids image.classes time) ≡ opening_size ids image.classes = opening_length ids image.classes time in
     let e : length (record_of 0x2c []) ≡ 9 = length-record_of 0x2c [] in
     let b : length (concat (map (λ s. record_of 0x1c (concat s)) (segments_of segment_limit subs))) ≡ sum_by (λ n. 9 + n) (segment_sizes segment_limit (map length subs))
-    = records_length (segments_of segment_limit subs) ∙ ap (sum_by (λ n. 9 + n)) (are_sizes segment_limit subs) in
+    = records_length (segments_of segment_limit subs) ∙ ap (sum_by (λ n. 9 + n)) (sizes_of_all_segments segment_limit subs) in
     length-append (opening_of ids image.classes time ++ concat (map (λ s. record_of 0x1c (concat s)) (segments_of segment_limit subs))) (record_of 0x2c [])
     ∙ ap₂ (λ x y. x + y) (length-append (opening_of ids image.classes time) (concat (map (λ s. record_of 0x1c (concat s)) (segments_of segment_limit subs))) ∙ ap₂ (λ x y. x + y) o b) e

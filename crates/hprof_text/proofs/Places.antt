@@ -15,50 +15,50 @@ pub length_places : (k n : ℕ) → length (listed_places k n) ≡ n
 length_places k zero = refl
 length_places k (suc n) = omega (arith, length_places (k + 1) n)
 
-pub got_place : (k n i m : ℕ) → i < n → m ≡ k + i → slice_get (listed_places k n) i ≡ Some (listed_place m)
-got_place k zero i m h e = absurd (omega (arith, h))
-got_place k (suc n) zero m h e = let d : k ≡ m = omega (arith, e) in ap (λ j. Some (listed_place j)) d
-got_place k (suc n) (suc i) m h e = got_place (k + 1) n i m (omega (arith, h)) (omega (arith, e))
+pub listed_place_at_number : (k n i m : ℕ) → i < n → m ≡ k + i → slice_get (listed_places k n) i ≡ Some (listed_place m)
+listed_place_at_number k zero i m h e = absurd (omega (arith, h))
+listed_place_at_number k (suc n) zero m h e = let d : k ≡ m = omega (arith, e) in ap (λ j. Some (listed_place j)) d
+listed_place_at_number k (suc n) (suc i) m h e = listed_place_at_number (k + 1) n i m (omega (arith, h)) (omega (arith, e))
 
-pub no_place : (n i : ℕ) → n ≤ i → slice_get (listed_places 0 n) i ≡ None
-no_place n i h = slice_get_past (listed_places 0 n) i (omega (arith, length_places 0 n, h))
+pub listed_places_end_at_length : (n i : ℕ) → n ≤ i → slice_get (listed_places 0 n) i ≡ None
+listed_places_end_at_length n i h = slice_get_past (listed_places 0 n) i (omega (arith, length_places 0 n, h))
 
-pub place_within : (n i : ℕ) (at : ObjRef) → slice_get (listed_places 0 n) i ≡ Some at → i < n
-place_within n i at e = omega (arith, slice_get_within (listed_places 0 n) i at e, length_places 0 n)
+pub listed_place_number_within : (n i : ℕ) (at : ObjRef) → slice_get (listed_places 0 n) i ≡ Some at → i < n
+listed_place_number_within n i at e = omega (arith, slice_get_within (listed_places 0 n) i at e, length_places 0 n)
 
-some_same : (x y : ObjRef) → ◌≡◌ {A = Option ObjRef} (Some x) (Some y) → x ≡ y
-some_same x y e = cc
+some_places_equal : (x y : ObjRef) → ◌≡◌ {A = Option ObjRef} (Some x) (Some y) → x ≡ y
+some_places_equal x y e = cc
 
-pub place_is : (n i : ℕ) (at : ObjRef) → slice_get (listed_places 0 n) i ≡ Some at → at.cell ≡ i
-place_is n i at e = ap (λ p. p.cell) (some_same at (listed_place i) (sym e ∙ got_place 0 n i i (place_within n i at e) (omega arith)))
+pub listed_place_has_its_number : (n i : ℕ) (at : ObjRef) → slice_get (listed_places 0 n) i ≡ Some at → at.cell ≡ i
+listed_place_has_its_number n i at e = ap (λ p. p.cell) (some_places_equal at (listed_place i) (sym e ∙ listed_place_at_number 0 n i i (listed_place_number_within n i at e) (omega arith)))
 
-pub place_contained : (n : ℕ) (at : ObjRef) → Contains (listed_places 0 n) at → at.cell < n
-place_contained n at c =
+pub contained_place_within_count : (n : ℕ) (at : ObjRef) → Contains (listed_places 0 n) at → at.cell < n
+contained_place_within_count n at c =
     let e : slice_get (listed_places 0 n) c.0 ≡ Some at = slice_get-get_or (listed_places 0 n) c.0 at c.1 ∙ ap Some c.2 in
-    omega (arith, place_is n c.0 at e, place_within n c.0 at e)
+    omega (arith, listed_place_has_its_number n c.0 at e, listed_place_number_within n c.0 at e)
 
 -- the object at a place, as a dump shows it
-pub shown_at : (os : List ListedObject) (i : ℕ) (o : ListedObject) → i < length os → o ≡ get_or os i o → slice_get (map dumped_object os) i ≡ Some (dumped_object o)
-shown_at os i o h e = slice_get-map dumped_object os i ∙ ap (λ x. elim x as (λ _. Option DumpedObject) [ Some y ↦ Some (dumped_object y) | None ↦ None ]) (slice_get-get_or os i o h ∙ ap Some (sym e))
+pub dumped_object_at_number : (os : List ListedObject) (i : ℕ) (o : ListedObject) → i < length os → o ≡ get_or os i o → slice_get (map dumped_object os) i ≡ Some (dumped_object o)
+dumped_object_at_number os i o h e = slice_get-map dumped_object os i ∙ ap (λ x. elim x as (λ _. Option DumpedObject) [ Some y ↦ Some (dumped_object y) | None ↦ None ]) (slice_get-get_or os i o h ∙ ap Some (sym e))
 
-pub shown_here : (shown : List DumpedObject) (os : List ListedObject) (i : ℕ) (at : ObjRef) (o : ListedObject) → map dumped_object os ≡ shown → slice_get (listed_places 0 (length shown)) i ≡ Some at → o ≡ get_or os at.cell o → Some (dumped_object o) ≡ slice_get shown i
-shown_here shown os i at o v e d =
-    let n : i < length os = omega (arith, place_within (length shown) i at e, ap length v, length-map os dumped_object) in
-    let g : o ≡ get_or os i o = d ∙ ap (λ k. get_or os k o) (place_is (length shown) i at e) in
-    sym (shown_at os i o n g) ∙ ap (λ l. slice_get l i) v
+pub listed_object_is_shown : (shown : List DumpedObject) (os : List ListedObject) (i : ℕ) (at : ObjRef) (o : ListedObject) → map dumped_object os ≡ shown → slice_get (listed_places 0 (length shown)) i ≡ Some at → o ≡ get_or os at.cell o → Some (dumped_object o) ≡ slice_get shown i
+listed_object_is_shown shown os i at o v e d =
+    let n : i < length os = omega (arith, listed_place_number_within (length shown) i at e, ap length v, length-map os dumped_object) in
+    let g : o ≡ get_or os i o = d ∙ ap (λ k. get_or os k o) (listed_place_has_its_number (length shown) i at e) in
+    sym (dumped_object_at_number os i o n g) ∙ ap (λ l. slice_get l i) v
 
 -- each place that is listed has an object
-pub place_listed : (shown : List DumpedObject) (os : List ListedObject) (at : ObjRef) → map dumped_object os ≡ shown → Contains (listed_places 0 (length shown)) at → at.cell < length os
-place_listed shown os at v c = omega (arith, ap length v, length-map os dumped_object, place_contained (length shown) at c)
+pub listed_place_has_object : (shown : List DumpedObject) (os : List ListedObject) (at : ObjRef) → map dumped_object os ≡ shown → Contains (listed_places 0 (length shown)) at → at.cell < length os
+listed_place_has_object shown os at v c = omega (arith, ap length v, length-map os dumped_object, contained_place_within_count (length shown) at c)
 
 -- what holds of it as a dump shows it holds of what is shown
-pub holds_here : (shown : List DumpedObject) (os : List ListedObject) (i : ℕ) (at : ObjRef) (o : ListedObject) (R : DumpedObject → Type 0) → map dumped_object os ≡ shown → slice_get (listed_places 0 (length shown)) i ≡ Some at → o ≡ get_or os at.cell o → R (dumped_object o) → IfSome (slice_get shown i) R
-holds_here shown os i at o R v e d r = subst (λ (x : Option DumpedObject). IfSome x R) (shown_here shown os i at o v e d) r
+pub shown_object_property_holds : (shown : List DumpedObject) (os : List ListedObject) (i : ℕ) (at : ObjRef) (o : ListedObject) (R : DumpedObject → Type 0) → map dumped_object os ≡ shown → slice_get (listed_places 0 (length shown)) i ≡ Some at → o ≡ get_or os at.cell o → R (dumped_object o) → IfSome (slice_get shown i) R
+shown_object_property_holds shown os i at o R v e d r = subst (λ (x : Option DumpedObject). IfSome x R) (listed_object_is_shown shown os i at o v e d) r
 
 -- ---- what the checks find is what a dump may show
 
-pub dumpable_from : (classes : List Class) (registers : List ℕ) (os : List ListedObject) → IsClassTable [] classes → length classes ≤ class_limit → length registers ≤ 128 → length os ≤ 65536 → All (IsListable classes) os → IsDumpable (image_of_list classes registers os)
-dumpable_from classes registers os t c r n h = record {
+pub listable_objects_are_dumpable : (classes : List Class) (registers : List ℕ) (os : List ListedObject) → IsClassTable [] classes → length classes ≤ class_limit → length registers ≤ 128 → length os ≤ 65536 → All (IsListable classes) os → IsDumpable (image_of_list classes registers os)
+listable_objects_are_dumpable classes registers os t c r n h = record {
   classes = t;
   few_classes = c;
   few_registers = r;
@@ -67,8 +67,8 @@ dumpable_from classes registers os t c r n h = record {
   small = All-map (λ (o : DumpedObject). length o.words ≤ array_limit) dumped_object os (λ k d l. (h k d l).1);
 }
 
-pub shown_from : (classes : List Class) (registers : List ℕ) (os : List ListedObject) → IsDumpable (image_of_list classes registers os) → (length registers ≤ 128) × (length os ≤ 16777216) × All (IsListable classes) os
-shown_from classes registers os h = (
+pub dumpable_list_is_listable : (classes : List Class) (registers : List ℕ) (os : List ListedObject) → IsDumpable (image_of_list classes registers os) → (length registers ≤ 128) × (length os ≤ 16777216) × All (IsListable classes) os
+dumpable_list_is_listable classes registers os h = (
   h.few_registers,
   omega (arith, h.few_objects, length-map os dumped_object),
   λ k d l.

@@ -10,31 +10,31 @@ use Rattle.hprof_text.specs.Segments.{segment_limit}
 abbrev pub IsOfSegment : Buffered → Type 0
 IsOfSegment b = (9 ≤ length b.written) × (length b.written ≤ 8226) × (b.limit ≡ 8226)
 
-taken_small : (body : List ℕ) (n : ℕ) → takes body n ≡ true → n ≤ 8217 → length body + n ≤ 8217
-taken_small [] n t h = omega (arith, h)
-taken_small (b ∷ bs) n t h = elim (leb_tells (length (b ∷ bs) + n) segment_limit) [ inl p ↦ omega (arith, p.1) | inr p ↦ absurd (differ (sym t ∙ p.0)) ]
+taken_record_keeps_body_short : (body : List ℕ) (n : ℕ) → takes body n ≡ true → n ≤ 8217 → length body + n ≤ 8217
+taken_record_keeps_body_short [] n t h = omega (arith, h)
+taken_record_keeps_body_short (b ∷ bs) n t h = elim (leb_tells (length (b ∷ bs) + n) segment_limit) [ inl p ↦ omega (arith, p.1) | inr p ↦ absurd (differ (sym t ∙ p.0)) ]
   where
     differ : ◌≡◌ {A = Bool} true false → ⊥
     differ e = cc
 
-pub room_taken : (b : Buffered) (body x : List ℕ) (n : ℕ) → drop 9 b.written ≡ body → IsOfSegment b → n ≡ length x → n ≤ 8217 → takes body n ≡ true → HasRoom b x
-room_taken b body x n v i e h t = omega (arith, taken_small body n t h, ap length v, length-drop 9 b.written, i.0, i.2, e)
+pub taken_record_has_room : (b : Buffered) (body x : List ℕ) (n : ℕ) → drop 9 b.written ≡ body → IsOfSegment b → n ≡ length x → n ≤ 8217 → takes body n ≡ true → HasRoom b x
+taken_record_has_room b body x n v i e h t = omega (arith, taken_record_keeps_body_short body n t h, ap length v, length-drop 9 b.written, i.0, i.2, e)
 
-pub still_segment : (b c : Buffered) (x : List ℕ) → IsOfSegment b → HasRoom b x → c.written ≡ b.written ++ x → c.limit ≡ b.limit → IsOfSegment c
-still_segment b c x i r w l = (omega (arith, i.0, ap length w, length-append b.written x), omega (arith, i.2, r, ap length w, length-append b.written x), l ∙ i.2)
+pub written_segment_is_segment : (b c : Buffered) (x : List ℕ) → IsOfSegment b → HasRoom b x → c.written ≡ b.written ++ x → c.limit ≡ b.limit → IsOfSegment c
+written_segment_is_segment b c x i r w l = (omega (arith, i.0, ap length w, length-append b.written x), omega (arith, i.2, r, ap length w, length-append b.written x), l ∙ i.2)
 
-pub offer_taken : (b c : Buffered) (body x : List ℕ) (n : ℕ) (taken : Bool) → drop 9 b.written ≡ body → IsOfSegment b → n ≡ length x → taken ≡ takes body n → taken ≡ true → c.written ≡ b.written ++ x → IsOffered x body (drop 9 c.written) taken
-offer_taken b c body x n taken v i e t y w =
+pub taken_record_is_offered : (b c : Buffered) (body x : List ℕ) (n : ℕ) (taken : Bool) → drop 9 b.written ≡ body → IsOfSegment b → n ≡ length x → taken ≡ takes body n → taken ≡ true → c.written ≡ b.written ++ x → IsOffered x body (drop 9 c.written) taken
+taken_record_is_offered b c body x n taken v i e t y w =
     let d : drop 9 c.written ≡ body ++ x = ap (drop 9) w ∙ drop-append-le 9 b.written x i.0 ∙ ap (λ l. l ++ x) v in
     subst (IsOffered x body (drop 9 c.written)) (sym y) (record { by_room = sym y ∙ t ∙ ap (takes body) e; body = d })
 
-pub offer_left : (body x : List ℕ) (n : ℕ) (taken : Bool) → n ≡ length x → taken ≡ takes body n → taken ≡ false → IsOffered x body body taken
-offer_left body x n taken e t y = subst (IsOffered x body body) (sym y) (record { by_room = sym y ∙ t ∙ ap (takes body) e; body = refl })
+pub record_left_is_offered : (body x : List ℕ) (n : ℕ) (taken : Bool) → n ≡ length x → taken ≡ takes body n → taken ≡ false → IsOffered x body body taken
+record_left_is_offered body x n taken e t y = subst (IsOffered x body body) (sym y) (record { by_room = sym y ∙ t ∙ ap (takes body) e; body = refl })
 
 -- nine bytes written over the first of a vector
-pub over_nine : (size : ℕ) (head items written given : List ℕ) → given ≡ head ++ drop 9 items → size ≡ length items → items ≡ written → 9 ≤ length written → length head ≡ 9
+pub nine_bytes_over_first_nine : (size : ℕ) (head items written given : List ℕ) → given ≡ head ++ drop 9 items → size ≡ length items → items ≡ written → 9 ≤ length written → length head ≡ 9
     → take size (given ++ drop (length given) items) ≡ head ++ drop 9 written
-over_nine size head items written given g s w h n =
+nine_bytes_over_first_nine size head items written given g s w h n =
     let l : length given ≡ length items = omega (arith, ap length g, length-append head (drop 9 items), length-drop 9 items, n, h, ap length w) in
     ap (λ d. take size (given ++ d)) (drop_all (length given) items (omega (arith, l)))
     ∙ ap (take size) (append-nil given)

@@ -13,8 +13,8 @@ use Rattle.hprof_text.specs.declared.section.Section.TheVariants.{Objects}
 use Rattle.hprof_text.specs.Sizes.{dump_size}
 use Rattle.hprof_text.specs.Text.{dump_of, object_dump, items_of}
 use Rattle.hprof_text.proofs.Lengths.{dump_length}
-use Rattle.hprof_text.proofs.Loops.{some_item}
-use Rattle.hprof_text.proofs.Sections.{object_there, items_counted}
+use Rattle.hprof_text.proofs.Loops.{item_of_list_within}
+use Rattle.hprof_text.proofs.Sections.{object_item_is_its_dump, items_counted}
 
 -- the object at a place, by what a view tells of it
 pub record IsHere (image : Image) (i : ℕ) (kind : ObjKind) (words : List ℕ) : Type 0 where
@@ -29,7 +29,7 @@ pub here : (image : Image) (places : List ObjRef) (i : ℕ) (at : ObjRef) (kind 
     → IfSome (slice_get image.objects i) (λ o. kind ≡ o.kind) → IfSome (slice_get image.objects i) (λ o. words ≡ o.words) → IsHere image i kind words
 here image places i at kind words d n e k w =
     let h : i < length image.objects = omega (arith, slice_get_within places i at e, n) in
-    let p = some_item image.objects i h in
+    let p = item_of_list_within image.objects i h in
     let o = p.0 in
     let K : Option DumpedObject → Type 0 = λ x. IfSome x (λ o. kind ≡ o.kind) in
     let W : Option DumpedObject → Type 0 = λ x. IfSome x (λ o. words ≡ o.words) in
@@ -59,31 +59,31 @@ pub record IsVisited (image : Image) (places : List ObjRef) (i : ℕ) (at : ObjR
   pub object : DumpedObject
   pub there : slice_get image.objects i ≡ Some object
 
-pub visited : (image : Image) (places : List ObjRef) (i : ℕ) (next : Option ObjRef) (at : ObjRef) → next ≡ slice_get places i → next ≡ Some at → length places ≡ length image.objects → IsVisited image places i at
-visited image places i next at e is placed =
+pub next_place_is_visited : (image : Image) (places : List ObjRef) (i : ℕ) (next : Option ObjRef) (at : ObjRef) → next ≡ slice_get places i → next ≡ Some at → length places ≡ length image.objects → IsVisited image places i at
+next_place_is_visited image places i next at e is placed =
     let led : slice_get places i ≡ Some at = sym e ∙ is in
-    let within = slice_get_within places i at led in
-    let o = some_item image.objects i (omega (arith, within, placed)) in
-    record { led = led; passed = omega (arith, within); object = o.0; there = o.1 }
+    let number_after_place_within = slice_get_within places i at led in
+    let o = item_of_list_within image.objects i (omega (arith, number_after_place_within, placed)) in
+    record { led = led; passed = omega (arith, number_after_place_within); object = o.0; there = o.1 }
 
 -- fewer are left after it
-pub fewer_left : (places : List ObjRef) (i : ℕ) (next : Option ObjRef) (at : ObjRef) → next ≡ slice_get places i → next ≡ Some at → length places - (i + 1) < length places - i
-fewer_left places i next at e is = let led : slice_get places i ≡ Some at = sym e ∙ is in omega (arith, slice_get_within places i at led)
+pub fewer_places_left_after_next : (places : List ObjRef) (i : ℕ) (next : Option ObjRef) (at : ObjRef) → next ≡ slice_get places i → next ≡ Some at → length places - (i + 1) < length places - i
+fewer_places_left_after_next places i next at e is = let led : slice_get places i ≡ Some at = sym e ∙ is in omega (arith, slice_get_within places i at led)
 
 -- the next place is within the places or just past them
-pub within : (places : List ObjRef) (j : ℕ) (at : ObjRef) → slice_get places j ≡ Some at → j + 1 ≤ length places
-within places j at e = omega (arith, slice_get_within places j at e)
+pub number_after_place_within : (places : List ObjRef) (j : ℕ) (at : ObjRef) → slice_get places j ≡ Some at → j + 1 ≤ length places
+number_after_place_within places j at e = omega (arith, slice_get_within places j at e)
 
 -- with no object here there are no more
-pub none_left : (places : List ObjRef) (j : ℕ) → None ≡ slice_get places j → length places ≤ j
-none_left places j e = elim (slice_get_cases places j).1 [ inl p ↦ absurd (none_some p.0 (e ∙ p.2)) | inr p ↦ p.0 ]
+pub no_next_place_is_past_all : (places : List ObjRef) (j : ℕ) → None ≡ slice_get places j → length places ≤ j
+no_next_place_is_past_all places j e = elim (slice_get_cases places j).1 [ inl p ↦ absurd (none_some p.0 (e ∙ p.2)) | inr p ↦ p.0 ]
   where
     none_some : (x : ObjRef) → ◌≡◌ {A = Option ObjRef} None (Some x) → ⊥
     none_some x e = cc
 
 -- and all have been passed
-pub all_visited : (image : Image) (places : List ObjRef) (i : ℕ) (next : Option ObjRef) → next ≡ slice_get places i → next ≡ None → i ≤ length places → length places ≡ length image.objects → i ≡ length image.objects
-all_visited image places i next e none passed placed = omega (arith, none_left places i (sym none ∙ e), passed, placed)
+pub all_objects_were_visited : (image : Image) (places : List ObjRef) (i : ℕ) (next : Option ObjRef) → next ≡ slice_get places i → next ≡ None → i ≤ length places → length places ≡ length image.objects → i ≡ length image.objects
+all_objects_were_visited image places i next e none passed placed = omega (arith, no_next_place_is_past_all places i (sym none ∙ e), passed, placed)
 
 -- the record of the object at place i, by what a view tells of it
 pub object_record : (ids : IdSize) (image : Image) (places : List ObjRef) (i : ℕ) (at : ObjRef) (s : IdSize) (cs : List Class) (x : ℕ) (kind : ObjKind) (words : List ℕ) → IsDumpable image → length places ≡ length image.objects → slice_get places i ≡ Some at
@@ -91,7 +91,7 @@ pub object_record : (ids : IdSize) (image : Image) (places : List ObjRef) (i : �
     → slice_get (items_of ids image Objects) i ≡ Some (dump_of s cs x kind words ∷ [])
 object_record ids image places i at s cs x kind words d n e a b f g h =
     let o = here image places i at kind words d n e g h in
-    object_there ids image i o.object o.there
+    object_item_is_its_dump ids image i o.object o.there
     ∙ ap (λ l. Some (l ∷ [])) (sym (object_bytes_are ids image i o.object s cs x kind words o.there a b f o.same_kind o.same_words))
 
 -- its size, by what a view tells of it
@@ -102,5 +102,5 @@ object_sized ids image i kind words h =
     ∙ dump_length ids image.classes h.object.id kind words h.known
 
 -- all have been passed, where there are no more
-pub objects_past : (ids : IdSize) (image : Image) (places : List ObjRef) (i : ℕ) → None ≡ slice_get places i → length places ≡ length image.objects → length (items_of ids image Objects) ≤ i
-objects_past ids image places i e n = omega (arith, none_left places i e, n, items_counted ids image Objects)
+pub no_objects_past_places : (ids : IdSize) (image : Image) (places : List ObjRef) (i : ℕ) → None ≡ slice_get places i → length places ≡ length image.objects → length (items_of ids image Objects) ≤ i
+no_objects_past_places ids image places i e n = omega (arith, no_next_place_is_past_all places i e, n, items_counted ids image Objects)

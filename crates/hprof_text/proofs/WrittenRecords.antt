@@ -60,9 +60,9 @@ class_dump_parts ids classes k sup size fields a b d =
     grouped : (h a b c d e : List ℕ) → h ++ a ++ b ++ c ++ d ++ e ≡ h ++ (a ++ b ++ c ++ d) ++ e
     grouped h a b c d e = simp append_assoc refl
 
-pub instance_parts : (ids : IdSize) (classes : List Class) (x k size : ℕ) (kinds : List Kind) (words : List ℕ) → length words ≡ length (slots_of classes k) → size ≡ instance_size ids classes k → kinds ≡ slots_of classes k
+pub instance_dump_by_its_parts : (ids : IdSize) (classes : List Class) (x k size : ℕ) (kinds : List Kind) (words : List ℕ) → length words ≡ length (slots_of classes k) → size ≡ instance_size ids classes k → kinds ≡ slots_of classes k
     → u1 0x21 ++ id ids x ++ u4 1 ++ id ids (class_id k) ++ u4 size ++ flat_map (value_bytes ids) (zip kinds words) ≡ dump_of ids classes x (Instance k) words
 unfolding dump_of instance_size
-instance_parts ids classes x k size kinds words h a b =
+instance_dump_by_its_parts ids classes x k size kinds words h a b =
     ap₂ (λ m ks. u1 0x21 ++ id ids x ++ u4 1 ++ id ids (class_id k) ++ u4 m ++ flat_map (value_bytes ids) (zip ks words)) a b
     ∙ ap (λ n. u1 0x21 ++ id ids x ++ u4 1 ++ id ids (class_id k) ++ u4 n ++ flat_map (value_bytes ids) (zip (slots_of classes k) words)) (sym (values_length ids (slots_of classes k) words h))

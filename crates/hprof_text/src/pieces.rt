@@ -111,6 +111,21 @@ impl Segment {
     }
 }
 
+/// Returns the first piece, and the cursor after it. Fails with NoMemory if an allocation fails.
+pub fn start_from<V: View>(alloc: Global, view: &V, time: u64) -> Result<(Piece, Cursor), Refusal>
+    ensures piece { IfOk result (λ p. p.0 ≡ piece_of (V.ids view.now) (V.image view.now) time 0) }
+    ensures next { IfOk result
+        (λ p. IsAt (V.ids view.now) (V.image view.now) (V.places view.now) p.1 1) }
+    ensures small { IfOk result (λ p. length p.0.bytes ≤ piece_size_limit) }
+    ensures refused { IfErr result (λ e. e ≡ NoMemory) }
+{
+    let bytes = opening_bytes(alloc, view.id_size(), &view.classes(), time)?;
+    Ok((
+        Piece { bytes, last: false },
+        Cursor::Item(NumberedSection::ClassDumps, 0),
+    ))
+}
+
 // Returns the first piece.
 #[tactic(auto, using(crate::proofs::Lengths::opening_length))]
 fn opening_bytes(
@@ -130,21 +145,6 @@ fn opening_bytes(
         }
         Err(_) => Err(Refusal::NoMemory),
     }
-}
-
-/// Returns the first piece, and the cursor after it. Fails with NoMemory if an allocation fails.
-pub fn start_from<V: View>(alloc: Global, view: &V, time: u64) -> Result<(Piece, Cursor), Refusal>
-    ensures piece { IfOk result (λ p. p.0 ≡ piece_of (V.ids view.now) (V.image view.now) time 0) }
-    ensures next { IfOk result
-        (λ p. IsAt (V.ids view.now) (V.image view.now) (V.places view.now) p.1 1) }
-    ensures small { IfOk result (λ p. length p.0.bytes ≤ piece_size_limit) }
-    ensures refused { IfErr result (λ e. e ≡ NoMemory) }
-{
-    let bytes = opening_bytes(alloc, view.id_size(), &view.classes(), time)?;
-    Ok((
-        Piece { bytes, last: false },
-        Cursor::Item(NumberedSection::ClassDumps, 0),
-    ))
 }
 
 /// Returns the piece of the segment at the cursor, or of the end if no sub-record is left, and the cursor after it. Fails with

@@ -28,29 +28,29 @@ use Rattle.dump_pump.specs.Pumps.{joined, ends}
 use Rattle.machine_dump.specs.HandedPieces.{handed, ungiven}
 use Rattle.machine_dump.specs.Endings.{cause_of, may_lose}
 use Rattle.machine_dump.specs.PinDumps.{FitsPin, FitsText, DumpsUnless, IsPlaceDumped, PutsPin, PutsText, with_number_used}
-use Rattle.machine_dump.proofs.UngivenMachines.{state_in, zero_state, zero_alike, zero_some, others_ungiven}
-use Rattle.machine_dump.proofs.Texts.{are_text}
-use Rattle.dump_pump.proofs.LongerLists.{begins_then}
+use Rattle.machine_dump.proofs.UngivenMachines.{state_in, zero_state, zeroed_states_are_alike, zeroed_open_pin_was_open, other_pins_of_ungiven_machine}
+use Rattle.machine_dump.proofs.Texts.{pin_pieces_are_text}
+use Rattle.dump_pump.proofs.LongerLists.{prefix_of_prefix_is_prefix}
 
 -- ---- a pin behind those with smaller numbers
 
-abbrev after_all : List (ℕ × PinState) → ℕ → PinState → List (ℕ × PinState)
-after_all xs next s = xs ++ (next, s) ∷ []
+abbrev pins_with_newest_last : List (ℕ × PinState) → ℕ → PinState → List (ℕ × PinState)
+pins_with_newest_last xs next s = xs ++ (next, s) ∷ []
 
-found_last : (next : ℕ) (s : PinState) (xs : List (ℕ × PinState)) → All (λ e. e.0 < next) xs → state_in next (after_all xs next s) ≡ Some s
-found_last next s [] all = ap (λ b. option_map (λ (e : ℕ × PinState). e.1) (cond b (Some (next, s)) None)) (eq-eqb next next refl)
-found_last next s (x ∷ xs) all =
+newest_pin_is_found_last : (next : ℕ) (s : PinState) (xs : List (ℕ × PinState)) → All (λ e. e.0 < next) xs → state_in next (pins_with_newest_last xs next s) ≡ Some s
+newest_pin_is_found_last next s [] all = ap (λ b. option_map (λ (e : ℕ × PinState). e.1) (cond b (Some (next, s)) None)) (eq-eqb next next refl)
+newest_pin_is_found_last next s (x ∷ xs) all =
     let ne : x.0 ≢ next = λ e. omega (arith, e, All-head (λ (e : ℕ × PinState). e.0 < next) x xs all) in
-    ap (λ b. option_map (λ (e : ℕ × PinState). e.1) (cond b (Some x) (find (λ e. e.0 == next) (after_all xs next s)))) (ne_eqb x.0 next ne)
-    ∙ found_last next s xs (All-tail (λ (e : ℕ × PinState). e.0 < next) x xs all)
+    ap (λ b. option_map (λ (e : ℕ × PinState). e.1) (cond b (Some x) (find (λ e. e.0 == next) (pins_with_newest_last xs next s)))) (ne_eqb x.0 next ne)
+    ∙ newest_pin_is_found_last next s xs (All-tail (λ (e : ℕ × PinState). e.0 < next) x xs all)
 
-without_last : (next : ℕ) (s : PinState) (xs : List (ℕ × PinState)) → All (λ e. e.0 < next) xs → filter (λ (e : ℕ × PinState). not (e.0 == next)) (after_all xs next s) ≡ xs
-without_last next s [] all = ap (λ b. cond (not b) ((next, s) ∷ []) []) (eq-eqb next next refl)
-without_last next s (x ∷ xs) all =
+newest_pin_taken_out_again : (next : ℕ) (s : PinState) (xs : List (ℕ × PinState)) → All (λ e. e.0 < next) xs → filter (λ (e : ℕ × PinState). not (e.0 == next)) (pins_with_newest_last xs next s) ≡ xs
+newest_pin_taken_out_again next s [] all = ap (λ b. cond (not b) ((next, s) ∷ []) []) (eq-eqb next next refl)
+newest_pin_taken_out_again next s (x ∷ xs) all =
     let ne : x.0 ≢ next = λ e. omega (arith, e, All-head (λ (e : ℕ × PinState). e.0 < next) x xs all) in
-    let rest : List (ℕ × PinState) = filter (λ (e : ℕ × PinState). not (e.0 == next)) (after_all xs next s) in
+    let rest : List (ℕ × PinState) = filter (λ (e : ℕ × PinState). not (e.0 == next)) (pins_with_newest_last xs next s) in
     ap (λ b. cond (not b) (x ∷ rest) rest) (ne_eqb x.0 next ne)
-    ∙ ap (λ l. x ∷ l) (without_last next s xs (All-tail (λ (e : ℕ × PinState). e.0 < next) x xs all))
+    ∙ ap (λ l. x ∷ l) (newest_pin_taken_out_again next s xs (All-tail (λ (e : ℕ × PinState). e.0 < next) x xs all))
 
 -- ---- opening
 
@@ -59,9 +59,9 @@ pub record Opens (m n : Machine) (pin : ℕ) : Type 0 where
   pub number : pin ≡ m.pins.next
   pub now : n ≡ record m { pins = with_pin m.trail.place m.trail m.pins }
 
-pub opened : (m n : Machine) (pin at : ℕ) → acted m (OpenPin None) ≡ (n, Pinned pin at) → Opens m n pin
+pub pinned_reply_opens_pin : (m n : Machine) (pin at : ℕ) → acted m (OpenPin None) ≡ (n, Pinned pin at) → Opens m n pin
 unfolding acted unless after_open
-opened m n pin at is = go (open_refusal m.trail.place m.trail m.pins) refl is
+pinned_reply_opens_pin m n pin at is = go (open_refusal m.trail.place m.trail m.pins) refl is
   where
     go : (r : Option Refusal) → open_refusal m.trail.place m.trail m.pins ≡ r → unless r (after_open m.trail.place) m ≡ (n, Pinned pin at) → Opens m n pin
     go None free is = record { free = free; number = number (ap (λ r. r.1) is); now = sym (ap (λ r. r.0) is) }
@@ -94,9 +94,9 @@ unfolding open_refusal
 open_cause m e is = refusal_cause (not (is_retained m.trail.place m.trail)) (nat_le m.trail.current.limits.pins (length m.pins.open_pins) || nat_lt last_pin m.pins.next) e is
 
 -- nothing is put out if the pin is refused
-pub not_opened : (m n : Machine) (w : Outgoing) (time : ℕ) (e : Refusal) (cause : LostCause) → cause ≡ cause_of e → n ≡ m → MayFail m (OpenPin None) n e → IsPlaceDumped time m n w w (Lost cause 0)
+pub refused_pin_dumps_nothing : (m n : Machine) (w : Outgoing) (time : ℕ) (e : Refusal) (cause : LostCause) → cause ≡ cause_of e → n ≡ m → MayFail m (OpenPin None) n e → IsPlaceDumped time m n w w (Lost cause 0)
 unfolding acted unless after_open is_accepted
-not_opened m n w time e cause why_lost same may = go (open_refusal m.trail.place m.trail m.pins) refl may
+refused_pin_dumps_nothing m n w time e cause why_lost same may = go (open_refusal m.trail.place m.trail m.pins) refl may
   where
     go : (r : Option Refusal) → open_refusal m.trail.place m.trail m.pins ≡ r → MayFail m (OpenPin None) n e → DumpsUnless r time m n w w (Lost cause 0)
     go None free (inl is) = absurd (clash (ap (λ r. r.1) (ap (λ r. unless r (after_open m.trail.place) m) (sym free) ∙ is)))
@@ -115,47 +115,47 @@ not_opened m n w time e cause why_lost same may = go (open_refusal m.trail.place
 
 -- ---- closing
 
-pub closed : (m n : Machine) (pin : ℕ) (s : PinState) (r : Reply) → pin_at pin m.pins ≡ Some s → acted m (ClosePin pin) ≡ (n, r) → n ≡ record m { pins = without_pin pin m.pins }
+pub closing_takes_pin_out : (m n : Machine) (pin : ℕ) (s : PinState) (r : Reply) → pin_at pin m.pins ≡ Some s → acted m (ClosePin pin) ≡ (n, r) → n ≡ record m { pins = without_pin pin m.pins }
 unfolding acted after_close
-closed m n pin s r here is = sym (ap (λ q. q.0) is) ∙ ap (λ (k : Option PinState). (after_close pin m k).0) here
+closing_takes_pin_out m n pin s r here is = sym (ap (λ q. q.0) is) ∙ ap (λ (k : Option PinState). (after_close pin m k).0) here
 
 -- closing takes the pin out, however many pieces it gave
-abbrev unpinned : ℕ → Machine → Machine
-unpinned pin k = record k { pins = without_pin pin k.pins }
+abbrev machine_without_pin : ℕ → Machine → Machine
+machine_without_pin pin k = record k { pins = without_pin pin k.pins }
 
-closed_alike : (pin : ℕ) (k : Machine) → unpinned pin (ungiven pin k) ≡ unpinned pin k
+unpinned_alike_without_gives : (pin : ℕ) (k : Machine) → machine_without_pin pin (ungiven pin k) ≡ machine_without_pin pin k
 unfolding ungiven
-closed_alike pin k = ap (λ p. record k { pins = p }) (others_ungiven pin k)
+unpinned_alike_without_gives pin k = ap (λ p. record k { pins = p }) (other_pins_of_ungiven_machine pin k)
 
 -- ---- a pin on the current state
 
-now_ago : (t : Trail) → state_ago (t.place - t.place) t ≡ t.current
+state_no_steps_ago : (t : Trail) → state_ago (t.place - t.place) t ≡ t.current
 unfolding state_ago
-now_ago t =
+state_no_steps_ago t =
     let none : t.place - t.place ≡ 0 = omega arith in
     ap (λ n. slice_index_or (t.current ∷ t.past) n t.current) none
 
-pub opens_at : (m n : Machine) (pin : ℕ) → AreNumbered m.pins → Opens m n pin → pin_at pin n.pins ≡ Some (Kept m.trail.place (image_of m.trail.current) 0)
+pub opened_pin_keeps_image : (m n : Machine) (pin : ℕ) → AreNumbered m.pins → Opens m n pin → pin_at pin n.pins ≡ Some (Kept m.trail.place (image_of m.trail.current) 0)
 unfolding pin_at with_pin
-opens_at m n pin all o =
+opened_pin_keeps_image m n pin all o =
     (λ i. pin_at (o.number i) (o.now i).pins)
-    ∙ found_last m.pins.next (Kept m.trail.place (image_of (state_ago (m.trail.place - m.trail.place) m.trail)) 0) m.pins.open_pins all
-    ∙ ap (λ u. Some (Kept m.trail.place (image_of u) 0)) (now_ago m.trail)
+    ∙ newest_pin_is_found_last m.pins.next (Kept m.trail.place (image_of (state_ago (m.trail.place - m.trail.place) m.trail)) 0) m.pins.open_pins all
+    ∙ ap (λ u. Some (Kept m.trail.place (image_of u) 0)) (state_no_steps_ago m.trail)
 
-closes_at : (m n : Machine) (pin : ℕ) → AreNumbered m.pins → Opens m n pin → record n { pins = without_pin pin n.pins } ≡ with_number_used m
+opened_then_closed_pin : (m n : Machine) (pin : ℕ) → AreNumbered m.pins → Opens m n pin → record n { pins = without_pin pin n.pins } ≡ with_number_used m
 unfolding without_pin with_pin
-closes_at m n pin all o =
+opened_then_closed_pin m n pin all o =
     (λ i. record (o.now i) { pins = without_pin (o.number i) (o.now i).pins })
-    ∙ ap (λ l. record m { pins = record { next = m.pins.next + 1; open_pins = l } }) (without_last m.pins.next (Kept m.trail.place (image_of (state_ago (m.trail.place - m.trail.place) m.trail)) 0) m.pins.open_pins all)
+    ∙ ap (λ l. record m { pins = record { next = m.pins.next + 1; open_pins = l } }) (newest_pin_taken_out_again m.pins.next (Kept m.trail.place (image_of (state_ago (m.trail.place - m.trail.place) m.trail)) 0) m.pins.open_pins all)
 
-pub number_used : (m n k l : Machine) (pin : ℕ) (r : Reply) → AreNumbered m.pins → Opens m n pin → ungiven pin k ≡ ungiven pin n → acted k (ClosePin pin) ≡ (l, r) → l ≡ with_number_used m
-number_used m n k l pin r all o same is =
-    let there = zero_some pin (pin_at pin k.pins) _ (zero_alike pin n k same ∙ ap (zero_state pin) (opens_at m n pin all o)) in
-    closed k l pin there.0 r there.1 is
-    ∙ sym (closed_alike pin k)
-    ∙ ap (unpinned pin) same
-    ∙ closed_alike pin n
-    ∙ closes_at m n pin all o
+pub closed_pin_leaves_number_used : (m n k l : Machine) (pin : ℕ) (r : Reply) → AreNumbered m.pins → Opens m n pin → ungiven pin k ≡ ungiven pin n → acted k (ClosePin pin) ≡ (l, r) → l ≡ with_number_used m
+closed_pin_leaves_number_used m n k l pin r all o same is =
+    let there = zeroed_open_pin_was_open pin (pin_at pin k.pins) _ (zeroed_states_are_alike pin n k same ∙ ap (zero_state pin) (opened_pin_keeps_image m n pin all o)) in
+    closing_takes_pin_out k l pin there.0 r there.1 is
+    ∙ sym (unpinned_alike_without_gives pin k)
+    ∙ ap (machine_without_pin pin) same
+    ∙ unpinned_alike_without_gives pin n
+    ∙ opened_then_closed_pin m n pin all o
 
 -- ---- the text
 
@@ -170,33 +170,33 @@ lost_memory place given image Closed e = absurd (never e)
     never : false ≡ true → ⊥
     never e = cc
 
-fits_text : (place : ℕ) (image : Image) (text out : List ℕ) (parts : List Piece) (s : Option PinState) (f f' : ℕ) (r : Pumped) → s ≡ Some (Kept place image 0) → (ends parts ≡ true → joined parts ≡ text) → FitsPin parts out s f f' r → FitsText text out f f' r
-fits_text place image text out parts s f f' (Done n) here all fits = (fits.0 ∙ all fits.1, fits.2)
-fits_text place image text out parts s f f' (OutletFailed n) here all fits = fits
-fits_text place image text out parts s f f' (Lost cause n) here all fits = (lost_memory place 0 image cause (ap (λ k. may_lose k cause) (sym here) ∙ fits.1), fits.2)
-fits_text place image text out parts s f f' (Cancelled n) here all fits = absurd fits
+pin_fit_is_text_fit : (place : ℕ) (image : Image) (text out : List ℕ) (parts : List Piece) (s : Option PinState) (f f' : ℕ) (r : Pumped) → s ≡ Some (Kept place image 0) → (ends parts ≡ true → joined parts ≡ text) → FitsPin parts out s f f' r → FitsText text out f f' r
+pin_fit_is_text_fit place image text out parts s f f' (Done n) here all fits = (fits.0 ∙ all fits.1, fits.2)
+pin_fit_is_text_fit place image text out parts s f f' (OutletFailed n) here all fits = fits
+pin_fit_is_text_fit place image text out parts s f f' (Lost cause n) here all fits = (lost_memory place 0 image cause (ap (λ k. may_lose k cause) (sym here) ∙ fits.1), fits.2)
+pin_fit_is_text_fit place image text out parts s f f' (Cancelled n) here all fits = absurd fits
 
-puts_text : (pin time place : ℕ) (image : Image) (m : Machine) (w w' : Outgoing) (r : Pumped) → pin_at pin m.pins ≡ Some (Kept place image 0) → PutsPin pin time m w w' r → PutsText (dump_text m.ids image time) w w' r
-puts_text pin time place image m w w' r here p =
-    let t = are_text m pin time p.count place image here in
+pin_put_is_text_put : (pin time place : ℕ) (image : Image) (m : Machine) (w w' : Outgoing) (r : Pumped) → pin_at pin m.pins ≡ Some (Kept place image 0) → PutsPin pin time m w w' r → PutsText (dump_text m.ids image time) w w' r
+pin_put_is_text_put pin time place image m w w' r here p =
+    let t = pin_pieces_are_text m pin time p.count place image here in
     record {
       out = p.out;
       grows = p.grows;
-      begins = begins_then p.out (joined (handed m pin time p.count)) (dump_text m.ids image time) p.begins t.0;
+      begins = prefix_of_prefix_is_prefix p.out (joined (handed m pin time p.count)) (dump_text m.ids image time) p.begins t.0;
       counted = p.counted;
-      fits = fits_text place image (dump_text m.ids image time) p.out (handed m pin time p.count) (pin_at pin m.pins) w.failures w'.failures r here t.1 p.fits;
+      fits = pin_fit_is_text_fit place image (dump_text m.ids image time) p.out (handed m pin time p.count) (pin_at pin m.pins) w.failures w'.failures r here t.1 p.fits;
     }
 
 -- opened, put out and closed
-pub placed : (m n k l : Machine) (pin time : ℕ) (w w' : Outgoing) (r : Pumped) (reply : Reply) → AreNumbered m.pins → Opens m n pin → PutsPin pin time n w w' r → ungiven pin k ≡ ungiven pin n → acted k (ClosePin pin) ≡ (l, reply)
+pub opened_put_and_closed_dumps_place : (m n k l : Machine) (pin time : ℕ) (w w' : Outgoing) (r : Pumped) (reply : Reply) → AreNumbered m.pins → Opens m n pin → PutsPin pin time n w w' r → ungiven pin k ≡ ungiven pin n → acted k (ClosePin pin) ≡ (l, reply)
     → IsPlaceDumped time m l w w' r
-placed m n k l pin time w w' r reply all o p same is =
+opened_put_and_closed_dumps_place m n k l pin time w w' r reply all o p same is =
     let image : Image = image_of m.trail.current in
-    let text : PutsText (dump_text n.ids image time) w w' r = puts_text pin time m.trail.place image n w w' r (opens_at m n pin all o) p in
+    let text : PutsText (dump_text n.ids image time) w w' r = pin_put_is_text_put pin time m.trail.place image n w w' r (opened_pin_keeps_image m n pin all o) p in
     let own : PutsText (dump_text m.ids image time) w w' r = subst (λ q. PutsText (dump_text q image time) w w' r) (ap (λ q. q.ids) o.now) text in
-    subst (λ q. DumpsUnless q time m l w w' r) (sym o.free) (inr (number_used m n k l pin reply all o same is, own))
+    subst (λ q. DumpsUnless q time m l w w' r) (sym o.free) (inr (closed_pin_leaves_number_used m n k l pin reply all o same is, own))
 
 -- a pin is closed, whatever is answered
-pub some_reply : (r : Result (Unit {0}) Refusal) (k l : Machine) (a : Action) → IfOk r (λ u. acted k a ≡ (l, WasClosed)) → IfErr r (λ e. acted k a ≡ (l, Refused e)) → (reply : Reply) × (acted k a ≡ (l, reply))
-some_reply (Ok u) k l a done refused = (WasClosed, done)
-some_reply (Err e) k l a done refused = (Refused e, refused)
+pub close_gets_some_reply : (r : Result (Unit {0}) Refusal) (k l : Machine) (a : Action) → IfOk r (λ u. acted k a ≡ (l, WasClosed)) → IfErr r (λ e. acted k a ≡ (l, Refused e)) → (reply : Reply) × (acted k a ≡ (l, reply))
+close_gets_some_reply (Ok u) k l a done refused = (WasClosed, done)
+close_gets_some_reply (Err e) k l a done refused = (Refused e, refused)

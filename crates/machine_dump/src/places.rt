@@ -27,6 +27,83 @@ struct GaugeSeats<'m> {
     reader: ReadSeat,
 }
 
+/// Puts out the dump of the current state: opens a pin on it, streams its pieces by pages, and closes it. If the pin is
+/// refused, nothing is put out: the dump is lost by Memory if an allocation failed, and else by Closed. It is lost by Memory,
+/// with 0 bytes, also if a meter can't be allocated. A gauge sees the progress. Returns the outlet, too. May wait.
+pub fn stream_place<O: Outlet, G: Gauge, R: Threads + Wait + Sync>(
+    rt: &R,
+    alloc: Global,
+    machine: &mut Machine,
+    time: u64,
+    outlet: O,
+    gauge: &mut G,
+) -> (Pumped, O)
+    ensures { IsPlaceDumped time machine.old machine.new (O.seen outlet) (O.seen result.1)
+        result.0 }
+{
+    // Its contract says that no open pin has the next number.
+    machine.next_pin();
+    match machine.open_pin(None) {
+        Ok(opened) => {
+            let source = FreshSource::new(machine, opened.pin, time);
+            let (pumped, after, outlet) = stream_shown(rt, alloc, source, outlet, gauge);
+            let FreshSource {
+                machine,
+                pin: _,
+                time: _,
+                count: _,
+                ended: _,
+            } = after;
+            let _closed = machine.close_pin(opened.pin);
+            (pumped, outlet)
+        }
+        Err(refusal) => (
+            Pumped::Lost {
+                cause: cause_of(refusal),
+                bytes: 0,
+            },
+            outlet,
+        ),
+    }
+}
+
+// Streams a pin by a new meter, and shows a gauge its progress. The dump is lost by Memory, with 0 bytes, if a meter can't be allocated.
+fn stream_shown<'a, O: Outlet, G: Gauge, R: Threads + Wait + Sync>(
+    rt: &R,
+    alloc: Global,
+    source: FreshSource<'a>,
+    outlet: O,
+    gauge: &mut G,
+) -> (Pumped, FreshSource<'a>, O)
+    requires fresh { IsFresh source.pin source.machine.now source.count source.ended }
+    ensures put { StreamsPin source.entry.pin source.entry.time source.entry.machine.now
+        (O.seen outlet) (O.seen result.2) result.0 }
+    ensures same { ungiven source.entry.pin result.1.machine.now
+        ≡ ungiven source.entry.pin source.entry.machine.now }
+    ensures machine { result.1.machine.ghost_name ≡ source.entry.machine.ghost_name }
+{
+    let Ok(mut made) = Meter::new(alloc, 1) else {
+        let lost = Pumped::Lost {
+            cause: LostCause::Memory,
+            bytes: 0,
+        };
+        return (lost, source, outlet);
+    };
+    let Some(reader) = made.readers.pop() else {
+        unreachable!()
+    };
+    let NewMeter { meter, out, .. } = made;
+    let seats = GaugeSeats {
+        meter: &meter,
+        out,
+        reader,
+    };
+    gauge.begin(&*source.machine);
+    let (pumped, after, taken) = stream_seen(rt, alloc, source, outlet, gauge, seats);
+    gauge.end(bytes_of(pumped));
+    (pumped, after, taken)
+}
+
 // Streams a pin by a meter, whose progress a gauge sees after each put.
 fn stream_seen<'a, 'g, 'm, O: Outlet, G: Gauge, R: Threads + Wait + Sync>(
     rt: &R,
@@ -72,82 +149,5 @@ fn bytes_of(pumped: Pumped) -> u64
         | Pumped::OutletFailed { bytes }
         | Pumped::Lost { cause: _, bytes }
         | Pumped::Cancelled { bytes } => bytes,
-    }
-}
-
-// Streams a pin by a new meter, and shows a gauge its progress. The dump is lost by Memory, with 0 bytes, if a meter can't be allocated.
-fn stream_shown<'a, O: Outlet, G: Gauge, R: Threads + Wait + Sync>(
-    rt: &R,
-    alloc: Global,
-    source: FreshSource<'a>,
-    outlet: O,
-    gauge: &mut G,
-) -> (Pumped, FreshSource<'a>, O)
-    requires fresh { IsFresh source.pin source.machine.now source.count source.ended }
-    ensures put { StreamsPin source.entry.pin source.entry.time source.entry.machine.now
-        (O.seen outlet) (O.seen result.2) result.0 }
-    ensures same { ungiven source.entry.pin result.1.machine.now
-        ≡ ungiven source.entry.pin source.entry.machine.now }
-    ensures machine { result.1.machine.ghost_name ≡ source.entry.machine.ghost_name }
-{
-    let Ok(mut made) = Meter::new(alloc, 1) else {
-        let lost = Pumped::Lost {
-            cause: LostCause::Memory,
-            bytes: 0,
-        };
-        return (lost, source, outlet);
-    };
-    let Some(reader) = made.readers.pop() else {
-        unreachable!()
-    };
-    let NewMeter { meter, out, .. } = made;
-    let seats = GaugeSeats {
-        meter: &meter,
-        out,
-        reader,
-    };
-    gauge.begin(&*source.machine);
-    let (pumped, after, taken) = stream_seen(rt, alloc, source, outlet, gauge, seats);
-    gauge.end(bytes_of(pumped));
-    (pumped, after, taken)
-}
-
-/// Puts out the dump of the current state: opens a pin on it, streams its pieces by pages, and closes it. If the pin is
-/// refused, nothing is put out: the dump is lost by Memory if an allocation failed, and else by Closed. It is lost by Memory,
-/// with 0 bytes, also if a meter can't be allocated. A gauge sees the progress. Returns the outlet, too. May wait.
-pub fn stream_place<O: Outlet, G: Gauge, R: Threads + Wait + Sync>(
-    rt: &R,
-    alloc: Global,
-    machine: &mut Machine,
-    time: u64,
-    outlet: O,
-    gauge: &mut G,
-) -> (Pumped, O)
-    ensures { IsPlaceDumped time machine.old machine.new (O.seen outlet) (O.seen result.1)
-        result.0 }
-{
-    // Its contract says that no open pin has the next number.
-    machine.next_pin();
-    match machine.open_pin(None) {
-        Ok(opened) => {
-            let source = FreshSource::new(machine, opened.pin, time);
-            let (pumped, after, outlet) = stream_shown(rt, alloc, source, outlet, gauge);
-            let FreshSource {
-                machine,
-                pin: _,
-                time: _,
-                count: _,
-                ended: _,
-            } = after;
-            let _closed = machine.close_pin(opened.pin);
-            (pumped, outlet)
-        }
-        Err(refusal) => (
-            Pumped::Lost {
-                cause: cause_of(refusal),
-                bytes: 0,
-            },
-            outlet,
-        ),
     }
 }

@@ -21,7 +21,7 @@ use Rattle.heap_world.specs.Regions.{UsedRegion, used_at}
 use Rattle.heap_world.specs.Legal.{IsLegal}
 use Rattle.heap_world.specs.State.{HeapState, marking_of, pool_of}
 use Rattle.heap_world.specs.Sweep.{dead_at, sweep_refusal}
-use Rattle.heap_world.proofs.SweptCells.{dead_in, dead_one, dead_pairs, table_few}
+use Rattle.heap_world.proofs.SweptCells.{dead_in, dead_one, dead_pairs, cell_table_has_few_cells}
 use Rattle.heap_pins.proofs.LiveCounts.{length-filter_map}
 use Rattle.heap_questions.proofs.Sizes.{table_of}
 use Rattle.heap_step.specs.Apply.{answer_of, applied, applied_unless, refusal_of, state_after}
@@ -167,7 +167,7 @@ few_dead w r legal = omega (arith, ap length (dead_in r (pool_of w)), go (used_a
   where
     go : (x : Option UsedRegion) → used_at w.regions r ≡ x → length (dead_pairs 0 (cells_of x)) ≤ cell_limit
     go None h = omega arith
-    go (Some u) h = omega (arith, length-filter_map dead_one (enumerate_from 0 u.cells), length-enumerate_from 0 u.cells, (table_few u (table_of w r u legal h)).1)
+    go (Some u) h = omega (arith, length-filter_map dead_one (enumerate_from 0 u.cells), length-enumerate_from 0 u.cells, (cell_table_has_few_cells u (table_of w r u legal h)).1)
 
 next_sweep : (b : Bool) (w : HeapState) (r : ℕ) → waiting_region w ≡ Some r → next_step b w ≡ Some (Sweep r)
 unfolding next_step

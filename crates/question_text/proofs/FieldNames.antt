@@ -8,7 +8,7 @@ use Rattle.heap_class.specs.declared.Field.{Field}
 use Rattle.heap_class.specs.Classes.{Class, fields_of, first_uses, name_id, name_table, names_in}
 use Rattle.heap_class.proofs.FirstUses.{bytes_same}
 use Rattle.heap_class.proofs.Front.{field_name_there, uses_have}
-use Rattle.hprof_text.proofs.Loops.{some_item}
+use Rattle.hprof_text.proofs.Loops.{item_of_list_within}
 
 -- where something stands
 place_true : (p : List ℕ → Bool) (xs : List (List ℕ)) → list_any p xs ≡ true → (position_or_len p xs < length xs) × (p (get_or xs (position_or_len p xs) []) ≡ true)
@@ -40,14 +40,14 @@ id_is cs n o f e h = subst (λ (p : Option Field). IfSome p (λ f. n ≡ 1 + pos
 
 pub id_stands : (cs : List Class) (k i n : ℕ) → i < length (fields_of cs k) → IfSome (slice_get (fields_of cs k) i) (λ f. n ≡ name_id cs f.name) → (1 ≤ n) × (n - 1 < length (name_table cs))
 id_stands cs k i n lt h =
-    let f = some_item (fields_of cs k) i lt in
+    let f = item_of_list_within (fields_of cs k) i lt in
     let e = id_is cs n (slice_get (fields_of cs k) i) f.0 f.1 h in
     let s = name_stands cs k i f.0 f.1 in
     (omega (arith, e), omega (arith, e, s.0))
 
 pub named_by_id : (cs : List Class) (k i n : ℕ) (name : List ℕ) → i < length (fields_of cs k) → IfSome (slice_get (fields_of cs k) i) (λ f. n ≡ name_id cs f.name) → slice_get (name_table cs) (n - 1) ≡ Some name → IfSome (slice_get (fields_of cs k) i) (λ f. name ≡ f.name)
 named_by_id cs k i n name lt h g =
-    let f = some_item (fields_of cs k) i lt in
+    let f = item_of_list_within (fields_of cs k) i lt in
     let e = id_is cs n (slice_get (fields_of cs k) i) f.0 f.1 h in
     let s = name_stands cs k i f.0 f.1 in
     let at : n - 1 ≡ position_or_len (bytes_eq f.0.name) (name_table cs) = omega (arith, e) in

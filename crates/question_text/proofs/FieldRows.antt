@@ -7,7 +7,7 @@ use Rattle.std.proofs.lemmas.Option.{get_or_from_slice_get}
 use Rattle.heap_class.specs.declared.Field.{Field}
 use Rattle.heap_class.specs.declared.Kind.{Kind}
 use Rattle.heap_class.specs.Classes.{Class, fields_of, sup_of}
-use Rattle.hprof_text.proofs.Loops.{some_item}
+use Rattle.hprof_text.proofs.Loops.{item_of_list_within}
 use Rattle.question_text.specs.ClassLists.{and_fields, field_words}
 use Rattle.question_text.specs.Objects.{field_row, field_rows, fields_up}
 
@@ -22,7 +22,7 @@ said P o f e h = subst (λ (p : Option Field). IfSome p P) e h
 pub rows_more : (i j q : ℕ) (fs : List Field) (ws : List ℕ) (name : List ℕ) (kind : Kind) → q ≡ j + 1 → i < length fs → IfSome (slice_get fs i) (λ f. name ≡ f.name) → IfSome (slice_get fs i) (λ f. kind ≡ f.kind) → j < length ws
     → field_rows j (drop i fs) (drop j ws) ≡ field_row j name kind (get_or ws j 0) ++ field_rows q (drop (i + 1) fs) (drop q ws)
 rows_more i j q fs ws name kind e li a k lj =
-    let f = some_item fs i li in
+    let f = item_of_list_within fs i li in
     at_drop_more (λ gs. field_rows j gs (drop j ws)) fs i f.0 li
     ∙ ap (λ g. field_rows j (g ∷ drop (i + 1) fs) (drop j ws)) (get_or_from_slice_get fs i f.0 f.0 f.1)
     ∙ at_drop_more (λ vs. field_rows j (f.0 ∷ drop (i + 1) fs) vs) ws j 0 lj
@@ -33,7 +33,7 @@ rows_more i j q fs ws name kind e li a k lj =
 pub fields_further : (i : ℕ) (fs : List Field) (name : List ℕ) (kind : Kind) → i < length fs → IfSome (slice_get fs i) (λ f. name ≡ f.name) → IfSome (slice_get fs i) (λ f. kind ≡ f.kind)
     → and_fields (drop i fs) ≡ field_words name kind ++ and_fields (drop (i + 1) fs)
 fields_further i fs name kind li a k =
-    let f = some_item fs i li in
+    let f = item_of_list_within fs i li in
     at_drop_more and_fields fs i f.0 li
     ∙ ap (λ g. and_fields (g ∷ drop (i + 1) fs)) (get_or_from_slice_get fs i f.0 f.0 f.1)
     ∙ ap₂ (λ b m. field_words b m ++ and_fields (drop (i + 1) fs)) (sym (said (λ f. name ≡ f.name) (slice_get fs i) f.0 f.1 a)) (sym (said (λ f. kind ≡ f.kind) (slice_get fs i) f.0 f.1 k))

@@ -8,7 +8,7 @@ use Rattle.heap_class.specs.declared.IdSize.{IdSize}
 use Rattle.hprof_text.specs.Image.{Image}
 use Rattle.hprof_text.specs.declared.Piece.{Piece}
 use Rattle.hprof_text.specs.Segments.{pieces_of, dump_text, piece_of, nth_piece}
-use Rattle.hprof_text.proofs.JoinedPieces.{pieces_join}
+use Rattle.hprof_text.proofs.JoinedPieces.{pieces_join_to_dump}
 
 -- a piece and those after it
 one_more : (ps : List (List ℕ)) (g : ℕ)
@@ -26,7 +26,7 @@ IsFront ids image time i text =
 pub front_first : (ids : IdSize) (image : Image) (time : ℕ) (text : List ℕ) → text ≡ []
     → IsFront ids image time 0 text
 front_first ids image time text e =
-    ap (λ t. t ++ concat (pieces_of ids image time)) e ∙ pieces_join ids image time
+    ap (λ t. t ++ concat (pieces_of ids image time)) e ∙ pieces_join_to_dump ids image time
 
 pub front_more : (ids : IdSize) (image : Image) (time i : ℕ) (text bytes more : List ℕ)
     → IsFront ids image time i text → bytes ≡ (piece_of ids image time i).bytes

@@ -17,7 +17,7 @@ use Rattle.heap_questions.specs.declared.wanted.Wanted.{Wanted}
 use Rattle.heap_questions.specs.declared.object_list.ListedObject.{ListedObject}
 use Rattle.heap_dominators.specs.Rows.{AreFirstRows}
 use Rattle.heap_dominators.specs.declared.rows.TopObject.{TopObject}
-use Rattle.heap_dominators.proofs.KnownRows.{known_row}
+use Rattle.heap_dominators.proofs.KnownRows.{top_row_kind_is_known}
 use Rattle.question_text.specs.DominatorRows.{IsTopThere}
 use Rattle.question_text.specs.Names.{IsClassThere}
 use Rattle.question_text.specs.ObjectLists.{IsListedThere}
@@ -73,5 +73,5 @@ all_listed_there wanted image all d is =
 pub all_tops_there : (ids : IdSize) (image : Image) (most : Option ℕ) (rows : List TopObject) → IsDumpable image → AreFirstRows ids image most rows → All (IsTopThere image.classes) rows
 all_tops_there ids image most rows d is i t h =
     let r = get_or rows i t in
-    let k = known_row ids image most rows i r d is (slice_get-get_or rows i t h) in
+    let k = top_row_kind_is_known ids image most rows i r d is (slice_get-get_or rows i t h) in
     there image.classes r.kind k.0 k.1

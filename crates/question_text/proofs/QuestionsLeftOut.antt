@@ -18,7 +18,7 @@ use Rattle.session_text.specs.Session.{FitLines, session_of, talked}
 use Rattle.session_text.specs.Talks.{AnswersAll, IsLine, stream}
 use Rattle.session_text.proofs.OtherCommands.{IsKnown, answer_keeps, answer_stands}
 use Rattle.session_text.proofs.SessionCommands.{acts, parts, talk}
-use Rattle.session_text.proofs.SessionLines.{none_left, passes}
+use Rattle.session_text.proofs.SessionLines.{nothing_left_is_eof, answered_lines_pass}
 use Rattle.question_text.specs.declared.asking.Asking.{Asking}
 use Rattle.question_text.specs.declared.cycle.CycleCounts.{CycleCounts}
 use Rattle.question_text.specs.Collections.{AreNext, NoneDenies, RunsCycle, TakenStep, ends_cycle, is_collect}
@@ -83,11 +83,11 @@ session_alone : (limits : SessionLimits) (time : ℕ) (answered : List (List ℕ
 unfolding session_of
 session_alone limits time answered c d t =
     let ls = lines_of answered in
-    let g = passes limits time ls c (texts_of answered) d t in
+    let g = answered_lines_pass limits time ls c (texts_of answered) d t in
     let all = append-nil (stream ls) in (
       g.found ++ [],
       subst (λ (bytes : List ℕ). FitLines time (parts bytes) (talk c.machine (g.found ++ []) [])) all (g.fit [] [] [] tt),
-      ap (λ (bytes : List ℕ). talked limits time Over (parts bytes) (talk c.machine (g.found ++ []) [])) (sym all) ∙ g.so Over [] [] [] ∙ none_left limits time (talk d.machine [] (texts_of answered)),
+      ap (λ (bytes : List ℕ). talked limits time Over (parts bytes) (talk c.machine (g.found ++ []) [])) (sym all) ∙ g.so Over [] [] [] ∙ nothing_left_is_eof limits time (talk d.machine [] (texts_of answered)),
     )
 
 pub left_out : (limits : SessionLimits) (time : ℕ) (lines : List (List ℕ)) (text : List ℕ) (c d : Asking) → NoneCollects lines → AnswersAll limits (Says time) lines c text d → AnswersAlone limits time c.local.machine lines text d.local.machine

@@ -75,134 +75,6 @@ enum PairQuestion {
     Kept,
 }
 
-// Returns what is printed of the lines of an answer, or if there is none.
-fn line_answer(lines: Result<Vec<u8>, Unanswered>) -> LineAnswer
-    ensures { line_answer_text result ≡ told_text lines }
-{
-    match lines {
-        Ok(text) => LineAnswer::Text(text),
-        Err(reason) => reason_line(reason),
-    }
-}
-
-// Returns the lines, or the refusal as the reason why there are none.
-fn or_refused(lines: Result<Vec<u8>, Refusal>) -> Result<Vec<u8>, Unanswered>
-    ensures { told_text result ≡ lines_text lines }
-{
-    Ok(lines?)
-}
-
-// Returns the lines of a question about the state that a view shows.
-fn view_lines(
-    alloc: Global,
-    view: &PinView<'_>,
-    asked: StateQuestion,
-) -> Result<Vec<u8>, Unanswered>
-    ensures { IsToldOf (IsStateText asked view.now.ids) (pin_image view.now.pin view.now.state)
-        (told_text result) }
-{
-    match asked {
-        StateQuestion::Histogram => or_refused(histogram_text(alloc, view)),
-        StateQuestion::Garbage => or_refused(garbage_text(alloc, view)),
-        StateQuestion::Registers => or_refused(registers_answer(alloc, view)),
-        StateQuestion::Classes => or_refused(classes_answer(alloc, view)),
-        StateQuestion::Objects(wanted) => objects_answer(alloc, view, wanted),
-        StateQuestion::Values { class, slot } => values_answer(alloc, view, class, slot),
-        StateQuestion::Referrers(id) => referrers_answer(alloc, view, id),
-        StateQuestion::Path(id) => path_answer(alloc, view, id),
-        StateQuestion::Retained(id) => retained_answer(alloc, view, id),
-        StateQuestion::Dominators(most) => or_refused(dominators_answer(alloc, view, most)),
-        StateQuestion::Dominator(id) => dominator_answer(alloc, view, id),
-        StateQuestion::Show { id, marked } => show_answer(alloc, view, id, marked),
-    }
-}
-
-// Returns the lines of a question about one state.
-fn state_lines(
-    alloc: Global,
-    machine: &Machine,
-    at: At,
-    asked: StateQuestion,
-) -> Result<Vec<u8>, Unanswered>
-    ensures { IsAnswerAbout (IsStateText asked machine.now.ids) (image_at at machine.now)
-        (told_text result) }
-{
-    let moment = moment_at(machine, at)?;
-    view_lines(alloc, &view_of(machine, &moment)?, asked)
-}
-
-// Returns what is printed of a question about one state.
-fn state_answer(alloc: Global, machine: &Machine, at: At, asked: StateQuestion) -> LineAnswer
-    ensures { IsAnswerAbout (IsStateText asked machine.now.ids) (image_at at machine.now)
-        (line_answer_text result) }
-{
-    line_answer(state_lines(alloc, machine, at, asked))
-}
-
-// Returns the lines of a question about two states, which two views show.
-fn pair_lines(
-    alloc: Global,
-    older: &PinView<'_>,
-    newer: &PinView<'_>,
-    asked: PairQuestion,
-) -> Result<Vec<u8>, Unanswered>
-    requires { older.now.ids ≡ newer.now.ids }
-    ensures { IsToldOf
-        (IsPairText asked newer.now.ids (pin_image older.now.pin older.now.state))
-        (pin_image newer.now.pin newer.now.state) (told_text result) }
-{
-    match asked {
-        PairQuestion::Growth => or_refused(growth_answer(alloc, older, newer)),
-        PairQuestion::Kept => or_refused(kept_text(alloc, older, newer)),
-    }
-}
-
-// Returns the lines of a question about the state that a view of the machine shows and a newer state.
-fn lines_since(
-    alloc: Global,
-    machine: &Machine,
-    older: &PinView<'_>,
-    newer: At,
-    asked: PairQuestion,
-) -> Result<Vec<u8>, Unanswered>
-    requires { older.now.ids ≡ machine.now.ids }
-    ensures { IsAnswerBesides
-        (IsPairText asked machine.now.ids (pin_image older.now.pin older.now.state))
-        (image_at newer machine.now) (told_text result) }
-{
-    let moment = moment_at(machine, newer)?;
-    pair_lines(alloc, older, &view_of(machine, &moment)?, asked)
-}
-
-// Returns the lines of a question about two states. Both are held before either is looked at.
-fn lines_between(
-    alloc: Global,
-    machine: &Machine,
-    older: At,
-    newer: At,
-    asked: PairQuestion,
-) -> Result<Vec<u8>, Unanswered>
-    ensures { IsAnswerBetween (IsPairText asked machine.now.ids) (image_at older machine.now)
-        (image_at newer machine.now) (told_text result) }
-{
-    let moment = moment_at(machine, older)?;
-    lines_since(alloc, machine, &view_of(machine, &moment)?, newer, asked)
-}
-
-// Returns what is printed of a question about two states.
-fn pair_answer(
-    alloc: Global,
-    machine: &Machine,
-    older: At,
-    newer: At,
-    asked: PairQuestion,
-) -> LineAnswer
-    ensures { IsAnswerBetween (IsPairText asked machine.now.ids) (image_at older machine.now)
-        (image_at newer machine.now) (line_answer_text result) }
-{
-    line_answer(lines_between(alloc, machine, older, newer, asked))
-}
-
 /// Returns the answer of a question about a machine, which may have a chronicle of this length, or the refusal NoMemory if an
 /// allocation fails.
 pub fn answer(alloc: Global, machine: &Machine, acts: Option<u64>, question: Question) -> LineAnswer
@@ -254,6 +126,134 @@ pub fn answer(alloc: Global, machine: &Machine, acts: Option<u64>, question: Que
         Question::Cells => line_answer(cells_answer(alloc, machine)),
         Question::Regions => line_answer(regions_answer(alloc, machine)),
         Question::Status => line_answer(status_answer(alloc, machine, acts)),
+    }
+}
+
+// Returns what is printed of a question about one state.
+fn state_answer(alloc: Global, machine: &Machine, at: At, asked: StateQuestion) -> LineAnswer
+    ensures { IsAnswerAbout (IsStateText asked machine.now.ids) (image_at at machine.now)
+        (line_answer_text result) }
+{
+    line_answer(state_lines(alloc, machine, at, asked))
+}
+
+// Returns what is printed of the lines of an answer, or if there is none.
+fn line_answer(lines: Result<Vec<u8>, Unanswered>) -> LineAnswer
+    ensures { line_answer_text result ≡ told_text lines }
+{
+    match lines {
+        Ok(text) => LineAnswer::Text(text),
+        Err(reason) => reason_line(reason),
+    }
+}
+
+// Returns the lines of a question about one state.
+fn state_lines(
+    alloc: Global,
+    machine: &Machine,
+    at: At,
+    asked: StateQuestion,
+) -> Result<Vec<u8>, Unanswered>
+    ensures { IsAnswerAbout (IsStateText asked machine.now.ids) (image_at at machine.now)
+        (told_text result) }
+{
+    let moment = moment_at(machine, at)?;
+    view_lines(alloc, &view_of(machine, &moment)?, asked)
+}
+
+// Returns the lines of a question about the state that a view shows.
+fn view_lines(
+    alloc: Global,
+    view: &PinView<'_>,
+    asked: StateQuestion,
+) -> Result<Vec<u8>, Unanswered>
+    ensures { IsToldOf (IsStateText asked view.now.ids) (pin_image view.now.pin view.now.state)
+        (told_text result) }
+{
+    match asked {
+        StateQuestion::Histogram => or_refused(histogram_text(alloc, view)),
+        StateQuestion::Garbage => or_refused(garbage_text(alloc, view)),
+        StateQuestion::Registers => or_refused(registers_answer(alloc, view)),
+        StateQuestion::Classes => or_refused(classes_answer(alloc, view)),
+        StateQuestion::Objects(wanted) => objects_answer(alloc, view, wanted),
+        StateQuestion::Values { class, slot } => values_answer(alloc, view, class, slot),
+        StateQuestion::Referrers(id) => referrers_answer(alloc, view, id),
+        StateQuestion::Path(id) => path_answer(alloc, view, id),
+        StateQuestion::Retained(id) => retained_answer(alloc, view, id),
+        StateQuestion::Dominators(most) => or_refused(dominators_answer(alloc, view, most)),
+        StateQuestion::Dominator(id) => dominator_answer(alloc, view, id),
+        StateQuestion::Show { id, marked } => show_answer(alloc, view, id, marked),
+    }
+}
+
+// Returns the lines, or the refusal as the reason why there are none.
+fn or_refused(lines: Result<Vec<u8>, Refusal>) -> Result<Vec<u8>, Unanswered>
+    ensures { told_text result ≡ lines_text lines }
+{
+    Ok(lines?)
+}
+
+// Returns what is printed of a question about two states.
+fn pair_answer(
+    alloc: Global,
+    machine: &Machine,
+    older: At,
+    newer: At,
+    asked: PairQuestion,
+) -> LineAnswer
+    ensures { IsAnswerBetween (IsPairText asked machine.now.ids) (image_at older machine.now)
+        (image_at newer machine.now) (line_answer_text result) }
+{
+    line_answer(lines_between(alloc, machine, older, newer, asked))
+}
+
+// Returns the lines of a question about two states. Both are held before either is looked at.
+fn lines_between(
+    alloc: Global,
+    machine: &Machine,
+    older: At,
+    newer: At,
+    asked: PairQuestion,
+) -> Result<Vec<u8>, Unanswered>
+    ensures { IsAnswerBetween (IsPairText asked machine.now.ids) (image_at older machine.now)
+        (image_at newer machine.now) (told_text result) }
+{
+    let moment = moment_at(machine, older)?;
+    lines_since(alloc, machine, &view_of(machine, &moment)?, newer, asked)
+}
+
+// Returns the lines of a question about the state that a view of the machine shows and a newer state.
+fn lines_since(
+    alloc: Global,
+    machine: &Machine,
+    older: &PinView<'_>,
+    newer: At,
+    asked: PairQuestion,
+) -> Result<Vec<u8>, Unanswered>
+    requires { older.now.ids ≡ machine.now.ids }
+    ensures { IsAnswerBesides
+        (IsPairText asked machine.now.ids (pin_image older.now.pin older.now.state))
+        (image_at newer machine.now) (told_text result) }
+{
+    let moment = moment_at(machine, newer)?;
+    pair_lines(alloc, older, &view_of(machine, &moment)?, asked)
+}
+
+// Returns the lines of a question about two states, which two views show.
+fn pair_lines(
+    alloc: Global,
+    older: &PinView<'_>,
+    newer: &PinView<'_>,
+    asked: PairQuestion,
+) -> Result<Vec<u8>, Unanswered>
+    requires { older.now.ids ≡ newer.now.ids }
+    ensures { IsToldOf
+        (IsPairText asked newer.now.ids (pin_image older.now.pin older.now.state))
+        (pin_image newer.now.pin newer.now.state) (told_text result) }
+{
+    match asked {
+        PairQuestion::Growth => or_refused(growth_answer(alloc, older, newer)),
+        PairQuestion::Kept => or_refused(kept_text(alloc, older, newer)),
     }
 }
 

@@ -21,14 +21,6 @@ pub(crate) enum Moment {
     Open(u64),
 }
 
-// Tells whether the state at this place is retained.
-fn has_retained(machine: &Machine, place: u64) -> bool
-    ensures { result ≡ is_retained place machine.now.trail }
-{
-    let current = machine.place();
-    place <= current && current - place <= machine.retained_count()
-}
-
 // Returns how many steps ago the state at a place was, or 0 if no place is given. Fails with NotRetained if it isn't retained.
 #[tactic(auto, unfolding(crate::specs::Histories::steps_ago))]
 pub(crate) fn steps_ago(machine: &Machine, to: Option<u64>) -> Result<u64, Refusal>
@@ -47,30 +39,12 @@ pub(crate) fn steps_ago(machine: &Machine, to: Option<u64>) -> Result<u64, Refus
     }
 }
 
-// Returns the moment of a place. Fails with NotRetained if its state isn't retained, and with NoMemory.
-fn moment_of_place(machine: &Machine, place: u64) -> Result<Moment, Refusal>
-    ensures image { IfOk result
-        (λ h. IsMomentOf machine.now h
-        × (moment_image machine.now h ≡ image_at (Place place) machine.now)) }
-    ensures refused { IfErr result (IsRefusedAt (image_at (Place place) machine.now)) }
+// Tells whether the state at this place is retained.
+fn has_retained(machine: &Machine, place: u64) -> bool
+    ensures { result ≡ is_retained place machine.now.trail }
 {
-    if has_retained(machine, place) {
-        let pin = machine.pin_ago(machine.place() - place)?;
-        Ok(Moment::Own(pin))
-    } else {
-        Err(Refusal::NotRetained)
-    }
-}
-
-// Returns the moment of the current state. Fails with NoMemory.
-fn moment_now(machine: &Machine) -> Result<Moment, Refusal>
-    ensures image { IfOk result
-        (λ h. IsMomentOf machine.now h
-        × (moment_image machine.now h ≡ image_at Current machine.now)) }
-    ensures refused { IfErr result (IsRefusedAt (image_at Current machine.now)) }
-{
-    let pin = machine.pin_ago(0)?;
-    Ok(Moment::Own(pin))
+    let current = machine.place();
+    place <= current && current - place <= machine.retained_count()
 }
 
 // Returns the moment that a question is about. Fails with NotRetained if the state of its place isn't retained, and with
@@ -85,6 +59,32 @@ pub(crate) fn moment_at(machine: &Machine, at: At) -> Result<Moment, Refusal>
         At::Current => moment_now(machine),
         At::Pin(pin) => Ok(Moment::Open(pin)),
         At::Place(place) => moment_of_place(machine, place),
+    }
+}
+
+// Returns the moment of the current state. Fails with NoMemory.
+fn moment_now(machine: &Machine) -> Result<Moment, Refusal>
+    ensures image { IfOk result
+        (λ h. IsMomentOf machine.now h
+        × (moment_image machine.now h ≡ image_at Current machine.now)) }
+    ensures refused { IfErr result (IsRefusedAt (image_at Current machine.now)) }
+{
+    let pin = machine.pin_ago(0)?;
+    Ok(Moment::Own(pin))
+}
+
+// Returns the moment of a place. Fails with NotRetained if its state isn't retained, and with NoMemory.
+fn moment_of_place(machine: &Machine, place: u64) -> Result<Moment, Refusal>
+    ensures image { IfOk result
+        (λ h. IsMomentOf machine.now h
+        × (moment_image machine.now h ≡ image_at (Place place) machine.now)) }
+    ensures refused { IfErr result (IsRefusedAt (image_at (Place place) machine.now)) }
+{
+    if has_retained(machine, place) {
+        let pin = machine.pin_ago(machine.place() - place)?;
+        Ok(Moment::Own(pin))
+    } else {
+        Err(Refusal::NotRetained)
     }
 }
 

@@ -13,14 +13,14 @@ use heap_questions::{PastTrail, birth};
 use heap_trail::Machine;
 use session_text::LineAnswer;
 
-// Returns the line of the birth of the object at a place.
-fn birth_line(past: &PastTrail<'_>, at: ObjRef) -> LineAnswer
-    requires { IsSome (object_at past.now.current.regions at) }
-    ensures { IsBirthText past.now at (line_answer_text result) }
+// Returns the answer of `born`, about the steps up to a place. Refused with NotRetained if its state isn't retained. Reads each
+// record since the object was made, and each since that state, at most twice. Takes no memory.
+pub(crate) fn born_answer(machine: &Machine, to: Option<u64>, id: u64) -> LineAnswer
+    ensures { IsAnswerUpTo (IsBornText id) to machine.now.trail (line_answer_text result) }
 {
-    match birth(past, at) {
-        Some(place) => place_line(place),
-        None => older_line(past),
+    match steps_ago(machine, to) {
+        Ok(ago) => born_line(&PastTrail::new(machine, ago), id),
+        Err(refusal) => reason_line(Unanswered::Refused(refusal)),
     }
 }
 
@@ -34,13 +34,13 @@ fn born_line(past: &PastTrail<'_>, id: u64) -> LineAnswer
     }
 }
 
-// Returns the answer of `born`, about the steps up to a place. Refused with NotRetained if its state isn't retained. Reads each
-// record since the object was made, and each since that state, at most twice. Takes no memory.
-pub(crate) fn born_answer(machine: &Machine, to: Option<u64>, id: u64) -> LineAnswer
-    ensures { IsAnswerUpTo (IsBornText id) to machine.now.trail (line_answer_text result) }
+// Returns the line of the birth of the object at a place.
+fn birth_line(past: &PastTrail<'_>, at: ObjRef) -> LineAnswer
+    requires { IsSome (object_at past.now.current.regions at) }
+    ensures { IsBirthText past.now at (line_answer_text result) }
 {
-    match steps_ago(machine, to) {
-        Ok(ago) => born_line(&PastTrail::new(machine, ago), id),
-        Err(refusal) => reason_line(Unanswered::Refused(refusal)),
+    match birth(past, at) {
+        Some(place) => place_line(place),
+        None => older_line(past),
     }
 }

@@ -12,34 +12,44 @@ use heap_class::{ClassNo, FirstClasses, Kind, Refusal};
 use hprof_text::View;
 use std::alloc::{AllocError, Global};
 
-// Appends a space and a field. Fails if an allocation fails.
-#[tactic(auto, unfolding(crate::specs::ClassLists::field_words))]
-fn push_field(text: &mut Vec<u8>, name: &[u8], kind: Kind) -> Result<(), AllocError>
-    ensures { Appends (field_words name.now kind) text.old.items text.new.items result }
+// Returns the answer of `classes` about a view. Fails with NoMemory if an allocation fails.
+pub(crate) fn classes_answer<V: View>(alloc: Global, view: &V) -> Result<Vec<u8>, Refusal>
+    ensures { ReturnsText (IsClassesText (V.image view.now)) result }
 {
-    push_words(text, b" ")?;
-    push_words(text, name)?;
-    push_words(text, b":")?;
-    push_words(text, kind.word().as_bytes())
+    let classes = view.classes();
+    let mut text = Vec::new(alloc);
+    push_classes(&mut text, &classes)?;
+    push_count(&mut text, classes.len())?;
+    Ok(text)
 }
 
-// Appends the own fields of a class, which must be there. Fails if an allocation fails.
-fn push_own_fields(
+// Appends the lines of all classes. Fails if an allocation fails.
+fn push_classes(text: &mut Vec<u8>, classes: &FirstClasses<'_>) -> Result<(), AllocError>
+    ensures { Appends (flat_map (class_text classes.now) (range_with_len 0 (length classes.now)))
+        text.old.items text.new.items result }
+{
+    for class in 0..classes.len() {
+        push_class(text, classes, class)?;
+    }
+    Ok(())
+}
+
+// Appends the line of a class, which must be there. Fails if an allocation fails.
+#[tactic(auto, unfolding(crate::specs::ClassLists::class_text))]
+fn push_class(
     text: &mut Vec<u8>,
     classes: &FirstClasses<'_>,
     class: ClassNo,
 ) -> Result<(), AllocError>
     requires { class < length classes.now }
-    ensures { Appends (and_fields (fields_of classes.now class))
-        text.old.items text.new.items result }
+    ensures { Appends (class_text classes.now class) text.old.items text.new.items result }
 {
-    let count = classes.field_count(class);
-    for field in 0..count {
-        let name = field_name(classes, class, field);
-        let kind = classes.field_kind(class, field);
-        push_field(text, name, kind)?;
-    }
-    Ok(())
+    push_row(text, class)?;
+    push_words(text, b" ")?;
+    push_words(text, classes.name(class))?;
+    push_super(text, classes, class)?;
+    push_own_fields(text, classes, class)?;
+    push_words(text, b"\n")
 }
 
 // Appends what stands for the super of a class, which must be there. Fails if an allocation fails.
@@ -61,42 +71,32 @@ fn push_super(
     }
 }
 
-// Appends the line of a class, which must be there. Fails if an allocation fails.
-#[tactic(auto, unfolding(crate::specs::ClassLists::class_text))]
-fn push_class(
+// Appends the own fields of a class, which must be there. Fails if an allocation fails.
+fn push_own_fields(
     text: &mut Vec<u8>,
     classes: &FirstClasses<'_>,
     class: ClassNo,
 ) -> Result<(), AllocError>
     requires { class < length classes.now }
-    ensures { Appends (class_text classes.now class) text.old.items text.new.items result }
-{
-    push_row(text, class)?;
-    push_words(text, b" ")?;
-    push_words(text, classes.name(class))?;
-    push_super(text, classes, class)?;
-    push_own_fields(text, classes, class)?;
-    push_words(text, b"\n")
-}
-
-// Appends the lines of all classes. Fails if an allocation fails.
-fn push_classes(text: &mut Vec<u8>, classes: &FirstClasses<'_>) -> Result<(), AllocError>
-    ensures { Appends (flat_map (class_text classes.now) (range_with_len 0 (length classes.now)))
+    ensures { Appends (and_fields (fields_of classes.now class))
         text.old.items text.new.items result }
 {
-    for class in 0..classes.len() {
-        push_class(text, classes, class)?;
+    let count = classes.field_count(class);
+    for field in 0..count {
+        let name = field_name(classes, class, field);
+        let kind = classes.field_kind(class, field);
+        push_field(text, name, kind)?;
     }
     Ok(())
 }
 
-// Returns the answer of `classes` about a view. Fails with NoMemory if an allocation fails.
-pub(crate) fn classes_answer<V: View>(alloc: Global, view: &V) -> Result<Vec<u8>, Refusal>
-    ensures { ReturnsText (IsClassesText (V.image view.now)) result }
+// Appends a space and a field. Fails if an allocation fails.
+#[tactic(auto, unfolding(crate::specs::ClassLists::field_words))]
+fn push_field(text: &mut Vec<u8>, name: &[u8], kind: Kind) -> Result<(), AllocError>
+    ensures { Appends (field_words name.now kind) text.old.items text.new.items result }
 {
-    let classes = view.classes();
-    let mut text = Vec::new(alloc);
-    push_classes(&mut text, &classes)?;
-    push_count(&mut text, classes.len())?;
-    Ok(text)
+    push_words(text, b" ")?;
+    push_words(text, name)?;
+    push_words(text, b":")?;
+    push_words(text, kind.word().as_bytes())
 }

@@ -7,6 +7,16 @@ use crate::help::help_answer;
 use session_grammar::words::Words;
 use session_text::LineAnswer;
 
+// Returns the answer of a line that asks no question: a comment has none. Takes no memory.
+pub(crate) fn unasked_answer(line: &[u8]) -> LineAnswer
+    ensures { line_answer_text result ≡ unasked_text line.now }
+{
+    if is_comment(line) {
+        return LineAnswer::Line(b"");
+    }
+    help_answer(line)
+}
+
 // Tells whether the first word of a line begins with `#`.
 fn is_comment(line: &[u8]) -> bool
     ensures { result ≡ is_comment line.now }
@@ -16,14 +26,4 @@ fn is_comment(line: &[u8]) -> bool
         return false;
     };
     matches!(word, [b'#', ..])
-}
-
-// Returns the answer of a line that asks no question: a comment has none. Takes no memory.
-pub(crate) fn unasked_answer(line: &[u8]) -> LineAnswer
-    ensures { line_answer_text result ≡ unasked_text line.now }
-{
-    if is_comment(line) {
-        return LineAnswer::Line(b"");
-    }
-    help_answer(line)
 }

@@ -16,6 +16,39 @@ use heap_questions::{ObjectIndex, object_with};
 use hprof_text::View;
 use std::alloc::{AllocError, Global};
 
+// Returns the answer of `dominators` about a view: of the first rows, if there is a number, and else of all. Fails with NoMemory
+// if an allocation fails. Reads each object a few times.
+pub(crate) fn dominators_answer<V: View>(
+    alloc: Global,
+    view: &V,
+    most: Option<u64>,
+) -> Result<Vec<u8>, Refusal>
+    ensures { ReturnsText (IsDominatorsText most (V.ids view.now) (V.image view.now)) result }
+{
+    let tops = dominators(alloc, view, most)?;
+    let classes = view.classes();
+    let mut text = Vec::new(alloc);
+    push_tops(&mut text, &classes, tops.as_slice())?;
+    push_count(&mut text, tops.len() as u64)?;
+    Ok(text)
+}
+
+// Appends the lines of objects that no other dominates, whose classes must be there. Fails if an allocation fails.
+fn push_tops(
+    text: &mut Vec<u8>,
+    classes: &FirstClasses<'_>,
+    tops: &[TopObject],
+) -> Result<(), AllocError>
+    requires { All (IsTopThere classes.now) tops.now }
+    ensures { Appends (flat_map (top_text classes.now) tops.now)
+        text.old.items text.new.items result }
+{
+    for i in 0..tops.len() {
+        push_top(text, classes, tops[i])?;
+    }
+    Ok(())
+}
+
 // Appends the line of an object that no other dominates, whose class must be there. Fails if an allocation fails.
 #[tactic(auto, unfolding(crate::specs::DominatorRows::top_text))]
 fn push_top(
@@ -35,72 +68,34 @@ fn push_top(
     push_words(text, b"\n")
 }
 
-// Appends the lines of objects that no other dominates, whose classes must be there. Fails if an allocation fails.
-fn push_tops(
-    text: &mut Vec<u8>,
-    classes: &FirstClasses<'_>,
-    tops: &[TopObject],
-) -> Result<(), AllocError>
-    requires { All (IsTopThere classes.now) tops.now }
-    ensures { Appends (flat_map (top_text classes.now) tops.now)
-        text.old.items text.new.items result }
-{
-    for i in 0..tops.len() {
-        push_top(text, classes, tops[i])?;
-    }
-    Ok(())
-}
-
-// Returns the answer of `dominators` about a view: of the first rows, if there is a number, and else of all. Fails with NoMemory
-// if an allocation fails. Reads each object a few times.
-pub(crate) fn dominators_answer<V: View>(
+// Returns the answer of `dominator` about a view. Fails with NoObject if the id names no object, with Unreachable if no register
+// reaches it, and with NoMemory if an allocation fails. Reads each object a few times.
+pub(crate) fn dominator_answer<V: View>(
     alloc: Global,
     view: &V,
-    most: Option<u64>,
-) -> Result<Vec<u8>, Refusal>
-    ensures { ReturnsText (IsDominatorsText most (V.ids view.now) (V.image view.now)) result }
-{
-    let tops = dominators(alloc, view, most)?;
-    let classes = view.classes();
-    let mut text = Vec::new(alloc);
-    push_tops(&mut text, &classes, tops.as_slice())?;
-    push_count(&mut text, tops.len() as u64)?;
-    Ok(text)
-}
-
-// Appends the line of an object that dominates another, whose class must be there. Fails if an allocation fails.
-#[tactic(auto, unfolding(crate::specs::DominatorRows::holder_text))]
-fn push_holder(
-    text: &mut Vec<u8>,
-    classes: &FirstClasses<'_>,
     id: u64,
-    kind: ObjKind,
-) -> Result<(), AllocError>
-    requires { IsClassThere classes.now kind }
-    ensures { Appends (holder_text classes.now id kind) text.old.items text.new.items result }
+) -> Result<Vec<u8>, Unanswered>
+    ensures { IsToldOf (IsDominatorText id) (V.image view.now) (told_text result) }
 {
-    push_words(text, b"row")?;
-    push_id(text, id)?;
-    push_words(text, b" ")?;
-    push_class_name(text, classes, kind)?;
-    push_words(text, b"\n")
-}
-
-// Appends the line of the object with this id. Fails if an allocation fails.
-fn push_above<V: View>(
-    text: &mut Vec<u8>,
-    index: &ObjectIndex<'_, V>,
-    classes: &FirstClasses<'_>,
-    id: u64,
-) -> Result<(), AllocError>
-    requires limits { IsDumpable index.now }
-    requires classes { classes.now ≡ index.now.classes }
-    ensures { Appends (above_text index.now id) text.old.items text.new.items result }
-{
-    match index.object_with(id) {
-        Some(object) => push_holder(text, classes, id, object.kind()),
-        None => Ok(()),
+    if object_with(view, id).is_none() {
+        return Err(Unanswered::NoObject);
     }
+    match dominators_up(alloc, view, id)? {
+        Some(up) => Ok(up_lines(alloc, view, up.as_slice())?),
+        None => Err(Unanswered::Unreachable),
+    }
+}
+
+// Returns the lines of the objects with these ids, and how many they are. Fails with NoMemory.
+fn up_lines<V: View>(alloc: Global, view: &V, up: &[u64]) -> Result<Vec<u8>, Refusal>
+    ensures { ReturnsText (λ text. text ≡ up_text (V.image view.now) up.now) result }
+{
+    let classes = view.classes();
+    let index = ObjectIndex::new(alloc, view)?;
+    let mut text = Vec::new(alloc);
+    push_up(&mut text, &index, &classes, up)?;
+    push_count(&mut text, up.len() as u64)?;
+    Ok(text)
 }
 
 // Appends the lines of the objects with these ids. Fails if an allocation fails.
@@ -121,32 +116,37 @@ fn push_up<V: View>(
     Ok(())
 }
 
-// Returns the lines of the objects with these ids, and how many they are. Fails with NoMemory.
-fn up_lines<V: View>(alloc: Global, view: &V, up: &[u64]) -> Result<Vec<u8>, Refusal>
-    ensures { ReturnsText (λ text. text ≡ up_text (V.image view.now) up.now) result }
+// Appends the line of the object with this id. Fails if an allocation fails.
+fn push_above<V: View>(
+    text: &mut Vec<u8>,
+    index: &ObjectIndex<'_, V>,
+    classes: &FirstClasses<'_>,
+    id: u64,
+) -> Result<(), AllocError>
+    requires limits { IsDumpable index.now }
+    requires classes { classes.now ≡ index.now.classes }
+    ensures { Appends (above_text index.now id) text.old.items text.new.items result }
 {
-    let classes = view.classes();
-    let index = ObjectIndex::new(alloc, view)?;
-    let mut text = Vec::new(alloc);
-    push_up(&mut text, &index, &classes, up)?;
-    push_count(&mut text, up.len() as u64)?;
-    Ok(text)
+    match index.object_with(id) {
+        Some(object) => push_holder(text, classes, id, object.kind()),
+        None => Ok(()),
+    }
 }
 
-// Returns the answer of `dominator` about a view. Fails with NoObject if the id names no object, with Unreachable if no register
-// reaches it, and with NoMemory if an allocation fails. Reads each object a few times.
-pub(crate) fn dominator_answer<V: View>(
-    alloc: Global,
-    view: &V,
+// Appends the line of an object that dominates another, whose class must be there. Fails if an allocation fails.
+#[tactic(auto, unfolding(crate::specs::DominatorRows::holder_text))]
+fn push_holder(
+    text: &mut Vec<u8>,
+    classes: &FirstClasses<'_>,
     id: u64,
-) -> Result<Vec<u8>, Unanswered>
-    ensures { IsToldOf (IsDominatorText id) (V.image view.now) (told_text result) }
+    kind: ObjKind,
+) -> Result<(), AllocError>
+    requires { IsClassThere classes.now kind }
+    ensures { Appends (holder_text classes.now id kind) text.old.items text.new.items result }
 {
-    if object_with(view, id).is_none() {
-        return Err(Unanswered::NoObject);
-    }
-    match dominators_up(alloc, view, id)? {
-        Some(up) => Ok(up_lines(alloc, view, up.as_slice())?),
-        None => Err(Unanswered::Unreachable),
-    }
+    push_words(text, b"row")?;
+    push_id(text, id)?;
+    push_words(text, b" ")?;
+    push_class_name(text, classes, kind)?;
+    push_words(text, b"\n")
 }

@@ -45,6 +45,26 @@ pub fn question_help(word: &[u8]) -> Option<&'static [u8]>
     )
 }
 
+/// Returns what `help` answers about a keyword, or None if no line begins with it. Takes no memory.
+#[tactic(auto, unfolding(crate::specs::Help::form_text, crate::specs::Help::form_with, crate::specs::Help::write_forms))]
+pub fn keyword_help(word: &[u8]) -> Option<&'static [u8]>
+    ensures { option_map (λ t. t.now) result ≡ form_with all_forms word.now }
+{
+    by_word!(word;
+        b"class" => Some(b"row class NAME SUPER FIELD ..\nrow class Node - next:object value:int\nok\n"),
+        b"array" => Some(b"row array NAME\nrow array Nodes\nok\n"),
+        b"new" => Some(b"row new M R CLASS\nrow new 0 1 0\nok\n"),
+        b"newarray" => Some(b"row newarray M R CLASS LEN\nrow newarray 0 2 1 100\nok\n"),
+        b"newprim" => Some(b"row newprim M R KIND LEN\nrow newprim 0 3 byte 64\nok\n"),
+        b"load" => Some(b"row load M TO FROM SLOT\nrow load 0 4 1 0\nok\n"),
+        b"store" => Some(b"row store M TARGET SLOT SOURCE\nrow store 0 1 0 2\nok\n"),
+        b"put" => Some(b"row put M TARGET SLOT VALUE\nrow put 0 1 1 42\nok\n"),
+        b"move" => Some(b"row move M TO FROM_M FROM\nrow move 0 5 1 0\nok\n"),
+        b"clear" => Some(b"row clear M R\nrow clear 0 1\nok\n"),
+        _ => act_help(word)
+    )
+}
+
 // Returns what `help` answers about a keyword of a line of the collector, the trail, a pin or the session, or of those above.
 #[tactic(auto, unfolding(crate::specs::Help::form_text, crate::specs::Help::form_with, crate::specs::Help::act_forms))]
 fn act_help(word: &[u8]) -> Option<&'static [u8]>
@@ -66,26 +86,6 @@ fn act_help(word: &[u8]) -> Option<&'static [u8]>
     )
 }
 
-/// Returns what `help` answers about a keyword, or None if no line begins with it. Takes no memory.
-#[tactic(auto, unfolding(crate::specs::Help::form_text, crate::specs::Help::form_with, crate::specs::Help::write_forms))]
-pub fn keyword_help(word: &[u8]) -> Option<&'static [u8]>
-    ensures { option_map (λ t. t.now) result ≡ form_with all_forms word.now }
-{
-    by_word!(word;
-        b"class" => Some(b"row class NAME SUPER FIELD ..\nrow class Node - next:object value:int\nok\n"),
-        b"array" => Some(b"row array NAME\nrow array Nodes\nok\n"),
-        b"new" => Some(b"row new M R CLASS\nrow new 0 1 0\nok\n"),
-        b"newarray" => Some(b"row newarray M R CLASS LEN\nrow newarray 0 2 1 100\nok\n"),
-        b"newprim" => Some(b"row newprim M R KIND LEN\nrow newprim 0 3 byte 64\nok\n"),
-        b"load" => Some(b"row load M TO FROM SLOT\nrow load 0 4 1 0\nok\n"),
-        b"store" => Some(b"row store M TARGET SLOT SOURCE\nrow store 0 1 0 2\nok\n"),
-        b"put" => Some(b"row put M TARGET SLOT VALUE\nrow put 0 1 1 42\nok\n"),
-        b"move" => Some(b"row move M TO FROM_M FROM\nrow move 0 5 1 0\nok\n"),
-        b"clear" => Some(b"row clear M R\nrow clear 0 1\nok\n"),
-        _ => act_help(word)
-    )
-}
-
 /// Returns what `help` answers: a row with the form of each line. Takes no memory.
 #[tactic(auto, unfolding(crate::specs::Help::help_text, crate::specs::Help::write_forms, crate::specs::Help::act_forms, crate::specs::Help::question_forms))]
 pub fn all_help() -> &'static [u8]
@@ -101,17 +101,14 @@ pub fn all_help() -> &'static [u8]
         row help WORD\nok\n"
 }
 
-// Returns what the words after `help` are answered, or None if they name no line.
-fn help_about(mut words: Words) -> Option<&'static [u8]>
-    ensures { option_map (λ t. t.now) result ≡ help_about (words_of_line words.entry) }
+// Returns the answer of a line that asks no question: that of `help`, if it asks for it. Takes no memory.
+pub(crate) fn help_answer(line: &[u8]) -> LineAnswer
+    ensures { line_answer_text result ≡ help_or_bad line.now }
 {
-    let Some(word) = words.next_word() else {
-        return Some(all_help());
-    };
-    if words.front().is_some() {
-        return None;
+    match help_of(line) {
+        Some(text) => LineAnswer::Line(text),
+        None => LineAnswer::BadCommand,
     }
-    keyword_help(word)
 }
 
 // Returns what a line that asks for help is answered, or None if it doesn't.
@@ -126,12 +123,15 @@ fn help_of(line: &[u8]) -> Option<&'static [u8]>
     help_about(words)
 }
 
-// Returns the answer of a line that asks no question: that of `help`, if it asks for it. Takes no memory.
-pub(crate) fn help_answer(line: &[u8]) -> LineAnswer
-    ensures { line_answer_text result ≡ help_or_bad line.now }
+// Returns what the words after `help` are answered, or None if they name no line.
+fn help_about(mut words: Words) -> Option<&'static [u8]>
+    ensures { option_map (λ t. t.now) result ≡ help_about (words_of_line words.entry) }
 {
-    match help_of(line) {
-        Some(text) => LineAnswer::Line(text),
-        None => LineAnswer::BadCommand,
+    let Some(word) = words.next_word() else {
+        return Some(all_help());
+    };
+    if words.front().is_some() {
+        return None;
     }
+    keyword_help(word)
 }

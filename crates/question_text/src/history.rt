@@ -15,32 +15,6 @@ use heap_questions::{PastEvent, PastStep, history};
 use heap_trail::Machine;
 use std::alloc::{AllocError, Global};
 
-// Appends a word, an id and a number. Fails if an allocation fails.
-fn push_numbered(text: &mut Vec<u8>, word: &[u8], id: u64, number: u64) -> Result<(), AllocError>
-    ensures { Appends (and_slot word.now id number) text.old.items text.new.items result }
-{
-    push_words(text, word)?;
-    push_id(text, id)?;
-    push_number(text, number)
-}
-
-// Appends the numbers of a mutator and its register, and what it named before. Fails if an allocation fails.
-fn push_overwritten(text: &mut Vec<u8>, m: u64, r: u64, old: u64) -> Result<(), AllocError>
-    ensures { Appends (and_overwritten m r old) text.old.items text.new.items result }
-{
-    push_number(text, m)?;
-    push_number(text, r)?;
-    push_reference(text, old)
-}
-
-// Appends a word and a number. Fails if an allocation fails.
-fn push_counted(text: &mut Vec<u8>, word: &[u8], n: u64) -> Result<(), AllocError>
-    ensures { Appends (word.now ++ and_number n) text.old.items text.new.items result }
-{
-    push_words(text, word)?;
-    push_number(text, n)
-}
-
 // Appends what a step did and what it overwrote. Fails if an allocation fails.
 #[tactic(auto, unfolding(crate::specs::Histories::event_words))]
 fn push_event(text: &mut Vec<u8>, event: PastEvent) -> Result<(), AllocError>
@@ -77,6 +51,32 @@ fn push_event(text: &mut Vec<u8>, event: PastEvent) -> Result<(), AllocError>
     }
 }
 
+// Appends a word, an id and a number. Fails if an allocation fails.
+fn push_numbered(text: &mut Vec<u8>, word: &[u8], id: u64, number: u64) -> Result<(), AllocError>
+    ensures { Appends (and_slot word.now id number) text.old.items text.new.items result }
+{
+    push_words(text, word)?;
+    push_id(text, id)?;
+    push_number(text, number)
+}
+
+// Appends the numbers of a mutator and its register, and what it named before. Fails if an allocation fails.
+fn push_overwritten(text: &mut Vec<u8>, m: u64, r: u64, old: u64) -> Result<(), AllocError>
+    ensures { Appends (and_overwritten m r old) text.old.items text.new.items result }
+{
+    push_number(text, m)?;
+    push_number(text, r)?;
+    push_reference(text, old)
+}
+
+// Appends a word and a number. Fails if an allocation fails.
+fn push_counted(text: &mut Vec<u8>, word: &[u8], n: u64) -> Result<(), AllocError>
+    ensures { Appends (word.now ++ and_number n) text.old.items text.new.items result }
+{
+    push_words(text, word)?;
+    push_number(text, n)
+}
+
 impl Lined for PastStep {
     ghost use Rattle.question_text.specs.Histories.{past_step_line};
 
@@ -88,15 +88,6 @@ impl Lined for PastStep {
         push_event(text, self.event)?;
         push_words(text, b"\n")
     }
-}
-
-// Returns the lines of the newest steps that led to the state of `ago` steps ago, and their number. Fails with NoMemory.
-fn steps_text(alloc: Global, machine: &Machine, ago: u64, count: u64) -> Result<Vec<u8>, Refusal>
-    requires { ago ≤ retained machine.now.trail }
-    ensures { ReturnsText (AreStepsTold machine.now.trail count ago) result }
-{
-    let steps = history(alloc, machine, ago, count)?;
-    counted_lines(alloc, steps.as_slice())
 }
 
 // Returns the answer of `history`. Fails with NotRetained if the state at the place isn't retained, and with NoMemory if an allocation
@@ -111,4 +102,13 @@ pub(crate) fn history_answer(
 {
     let ago = steps_ago(machine, to)?;
     Ok(steps_text(alloc, machine, ago, count)?)
+}
+
+// Returns the lines of the newest steps that led to the state of `ago` steps ago, and their number. Fails with NoMemory.
+fn steps_text(alloc: Global, machine: &Machine, ago: u64, count: u64) -> Result<Vec<u8>, Refusal>
+    requires { ago ≤ retained machine.now.trail }
+    ensures { ReturnsText (AreStepsTold machine.now.trail count ago) result }
+{
+    let steps = history(alloc, machine, ago, count)?;
+    counted_lines(alloc, steps.as_slice())
 }

@@ -10,6 +10,36 @@ use std::alloc::AllocError;
 // The number of bytes of an id in a line.
 const ID_SIZE: usize = 10;
 
+// Returns the id that a word is.
+#[tactic(auto, unfolding(crate::specs::Ids::id_of_word))]
+pub(crate) fn id_of(word: &[u8]) -> Option<u64>
+    ensures { result ≡ id_of_word word.now }
+{
+    if word.len() != ID_SIZE || !is_word(&word[..2], b"0x") {
+        return None;
+    }
+    hex_value(&word[2..])
+}
+
+// Returns the value of lower-case hexadecimal digits, or None if it comes to 2^64 or a byte is no digit.
+fn hex_value(digits: &[u8]) -> Option<u64>
+    ensures { result ≡ hex_from 0 digits.now }
+{
+    let mut value = 0;
+    for b in digits {
+        value = with_digit(value, *b)?;
+    }
+    Some(value)
+}
+
+// Returns a number with one more digit, or None if `b` is none or the number comes to 2^64.
+fn with_digit(value: u64, b: u8) -> Option<u64>
+    ensures { result ≡ option_and_then (λ d. with_hex value d) (hex_digit b) }
+{
+    let digit = hex_digit(b)?;
+    with_hex(value, digit)
+}
+
 // Returns the value of a lower-case hexadecimal digit.
 fn hex_digit(b: u8) -> Option<u64>
     ensures { result ≡ hex_digit b }
@@ -28,36 +58,6 @@ fn with_hex(value: u64, digit: u64) -> Option<u64>
     ensures { result ≡ with_hex value digit }
 {
     value.checked_mul(16)?.checked_add(digit)
-}
-
-// Returns a number with one more digit, or None if `b` is none or the number comes to 2^64.
-fn with_digit(value: u64, b: u8) -> Option<u64>
-    ensures { result ≡ option_and_then (λ d. with_hex value d) (hex_digit b) }
-{
-    let digit = hex_digit(b)?;
-    with_hex(value, digit)
-}
-
-// Returns the value of lower-case hexadecimal digits, or None if it comes to 2^64 or a byte is no digit.
-fn hex_value(digits: &[u8]) -> Option<u64>
-    ensures { result ≡ hex_from 0 digits.now }
-{
-    let mut value = 0;
-    for b in digits {
-        value = with_digit(value, *b)?;
-    }
-    Some(value)
-}
-
-// Returns the id that a word is.
-#[tactic(auto, unfolding(crate::specs::Ids::id_of_word))]
-pub(crate) fn id_of(word: &[u8]) -> Option<u64>
-    ensures { result ≡ id_of_word word.now }
-{
-    if word.len() != ID_SIZE || !is_word(&word[..2], b"0x") {
-        return None;
-    }
-    hex_value(&word[2..])
 }
 
 // Appends a space and an id. Fails if an allocation fails.

@@ -10,6 +10,34 @@ use heap_class::{FirstClasses, KINDS, Kind, ObjKind};
 use heap_questions::{CLASS_ROWS, kind_row};
 use std::alloc::AllocError;
 
+/// Appends the name of what a row counts. Fails if an allocation fails.
+#[tactic(auto, unfolding(crate::specs::Names::row_name))]
+pub fn push_row_name(
+    text: &mut Vec<u8>,
+    classes: &FirstClasses<'_>,
+    index: usize,
+) -> Result<(), AllocError>
+    requires { index < class_rows + length classes.now }
+    ensures { OnOk result (text.new.items ≡ text.old.items ++ row_name classes.now index) }
+{
+    if index < CLASS_ROWS {
+        push_array_name(text, index)
+    } else {
+        push_words(text, classes.name((index - CLASS_ROWS) as u64))
+    }
+}
+
+// Appends the name of the arrays of values that a row counts. Fails if an allocation fails.
+#[tactic(auto, unfolding(crate::specs::Names::array_name))]
+fn push_array_name(text: &mut Vec<u8>, index: usize) -> Result<(), AllocError>
+    ensures { Appends (array_name index) text.old.items text.new.items result }
+{
+    match kind_of_row(index) {
+        Some(kind) => push_kind_name(text, kind),
+        None => Ok(()),
+    }
+}
+
 // Returns the kind of the arrays that a row counts.
 fn kind_of_row(index: usize) -> Option<Kind>
     ensures { result ≡ find (λ k. kind_row k == index) all_kinds }
@@ -28,34 +56,6 @@ fn push_kind_name(text: &mut Vec<u8>, kind: Kind) -> Result<(), AllocError>
 {
     push_words(text, kind.word().as_bytes())?;
     push_words(text, b"[]")
-}
-
-// Appends the name of the arrays of values that a row counts. Fails if an allocation fails.
-#[tactic(auto, unfolding(crate::specs::Names::array_name))]
-fn push_array_name(text: &mut Vec<u8>, index: usize) -> Result<(), AllocError>
-    ensures { Appends (array_name index) text.old.items text.new.items result }
-{
-    match kind_of_row(index) {
-        Some(kind) => push_kind_name(text, kind),
-        None => Ok(()),
-    }
-}
-
-/// Appends the name of what a row counts. Fails if an allocation fails.
-#[tactic(auto, unfolding(crate::specs::Names::row_name))]
-pub fn push_row_name(
-    text: &mut Vec<u8>,
-    classes: &FirstClasses<'_>,
-    index: usize,
-) -> Result<(), AllocError>
-    requires { index < class_rows + length classes.now }
-    ensures { OnOk result (text.new.items ≡ text.old.items ++ row_name classes.now index) }
-{
-    if index < CLASS_ROWS {
-        push_array_name(text, index)
-    } else {
-        push_words(text, classes.name((index - CLASS_ROWS) as u64))
-    }
 }
 
 // Appends the name of the class of an object of this kind, which must be there. Fails if an allocation fails.

@@ -14,15 +14,48 @@ use heap_questions::{ListedObject, Wanted, list_wanted};
 use hprof_text::View;
 use std::alloc::{AllocError, Global};
 
-// Appends what a row says of an object that no register reaches. Fails if an allocation fails.
-fn push_unreached(text: &mut Vec<u8>, unreached: bool) -> Result<(), AllocError>
-    ensures { Appends (unreached_words unreached) text.old.items text.new.items result }
+// Returns the answer of `objects` about a view. Fails with NoClass if the class isn't there, with BadSlot if its objects have no such
+// slot, and with NoMemory if an allocation fails. Reads each object at most twice.
+pub(crate) fn objects_answer<V: View>(
+    alloc: Global,
+    view: &V,
+    wanted: Wanted,
+) -> Result<Vec<u8>, Unanswered>
+    ensures { IsToldOf (IsObjectsText wanted) (V.image view.now) (told_text result) }
 {
-    if unreached {
-        push_words(text, b" unreached")
-    } else {
-        Ok(())
+    let classes = view.classes();
+    match wanted_refusal(&classes, wanted) {
+        Some(refusal) => Err(Unanswered::Refused(refusal)),
+        None => Ok(objects_text(alloc, view, wanted)?),
     }
+}
+
+// Returns the lines of the objects that are wanted, and their number. Fails with NoMemory.
+fn objects_text<V: View>(alloc: Global, view: &V, wanted: Wanted) -> Result<Vec<u8>, Refusal>
+    ensures { ReturnsText (AreObjectsTold wanted (V.image view.now)) result }
+{
+    let all = list_wanted(alloc, view, wanted)?;
+    let classes = view.classes();
+    let mut text = Vec::new(alloc);
+    push_all(&mut text, &classes, all.as_slice())?;
+    push_count(&mut text, all.len() as u64)?;
+    Ok(text)
+}
+
+// Appends the lines of all objects, whose classes must be there. Fails if an allocation fails.
+fn push_all(
+    text: &mut Vec<u8>,
+    classes: &FirstClasses<'_>,
+    all: &[ListedObject],
+) -> Result<(), AllocError>
+    requires { All (IsListedThere classes.now) all.now }
+    ensures { Appends (flat_map (listed_text classes.now) all.now)
+        text.old.items text.new.items result }
+{
+    for i in 0..all.len() {
+        push_listed(text, classes, &all[i])?;
+    }
+    Ok(())
 }
 
 // Appends the line of an object, whose class must be there. Fails if an allocation fails.
@@ -44,46 +77,13 @@ fn push_listed(
     push_words(text, b"\n")
 }
 
-// Appends the lines of all objects, whose classes must be there. Fails if an allocation fails.
-fn push_all(
-    text: &mut Vec<u8>,
-    classes: &FirstClasses<'_>,
-    all: &[ListedObject],
-) -> Result<(), AllocError>
-    requires { All (IsListedThere classes.now) all.now }
-    ensures { Appends (flat_map (listed_text classes.now) all.now)
-        text.old.items text.new.items result }
+// Appends what a row says of an object that no register reaches. Fails if an allocation fails.
+fn push_unreached(text: &mut Vec<u8>, unreached: bool) -> Result<(), AllocError>
+    ensures { Appends (unreached_words unreached) text.old.items text.new.items result }
 {
-    for i in 0..all.len() {
-        push_listed(text, classes, &all[i])?;
-    }
-    Ok(())
-}
-
-// Returns the lines of the objects that are wanted, and their number. Fails with NoMemory.
-fn objects_text<V: View>(alloc: Global, view: &V, wanted: Wanted) -> Result<Vec<u8>, Refusal>
-    ensures { ReturnsText (AreObjectsTold wanted (V.image view.now)) result }
-{
-    let all = list_wanted(alloc, view, wanted)?;
-    let classes = view.classes();
-    let mut text = Vec::new(alloc);
-    push_all(&mut text, &classes, all.as_slice())?;
-    push_count(&mut text, all.len() as u64)?;
-    Ok(text)
-}
-
-// Returns the answer of `objects` about a view. Fails with NoClass if the class isn't there, with BadSlot if its objects have no such
-// slot, and with NoMemory if an allocation fails. Reads each object at most twice.
-pub(crate) fn objects_answer<V: View>(
-    alloc: Global,
-    view: &V,
-    wanted: Wanted,
-) -> Result<Vec<u8>, Unanswered>
-    ensures { IsToldOf (IsObjectsText wanted) (V.image view.now) (told_text result) }
-{
-    let classes = view.classes();
-    match wanted_refusal(&classes, wanted) {
-        Some(refusal) => Err(Unanswered::Refused(refusal)),
-        None => Ok(objects_text(alloc, view, wanted)?),
+    if unreached {
+        push_words(text, b" unreached")
+    } else {
+        Ok(())
     }
 }

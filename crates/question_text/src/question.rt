@@ -96,6 +96,29 @@ pub fn at_of(word: &[u8]) -> Option<At>
     }
 }
 
+/// Returns the question that a line asks, or None if it asks none.
+#[tactic(auto, unfolding(crate::specs::Questions::question_of_words, crate::specs::Questions::question_rules))]
+pub fn question_of(line: &[u8]) -> Option<Question>
+    ensures { result ≡ question_of line.now }
+{
+    let mut words = Words::new(line);
+    let keyword = words.next_word()?;
+    if is_word(keyword, b"histogram") {
+        return Some(Question::Histogram(optional_at(words)?));
+    }
+    if is_word(keyword, b"garbage") {
+        return Some(Question::Garbage(optional_at(words)?));
+    }
+    if is_word(keyword, b"registers") {
+        return Some(Question::Registers(optional_at(words)?));
+    }
+    if is_word(keyword, b"growth") {
+        let (older, newer) = at_and_optional(words)?;
+        return Some(Question::Growth { older, newer });
+    }
+    later_question(keyword, words)
+}
+
 // Returns the one state that the words name. If there are no words, it is the current one.
 fn optional_at(mut words: Words) -> Option<At>
     ensures { result ≡ optional_at (words_of_line words.entry) }
@@ -104,40 +127,6 @@ fn optional_at(mut words: Words) -> Option<At>
         return Some(At::Current);
     };
     at_end(at_of(word)?, words)
-}
-
-// Returns the state and the id that the words name. If they are only an id, the state is the current one.
-fn optional_at_and_id(mut words: Words) -> Option<(At, u64)>
-    ensures { result ≡ optional_at_and_id (words_of_line words.entry) }
-{
-    let word = words.next_word()?;
-    let Some(second) = words.next_word() else {
-        return Some((At::Current, id_of(word)?));
-    };
-    at_end((at_of(word)?, id_of(second)?), words)
-}
-
-// Returns the number that a word is, about the current state, or the state that it names, without a number.
-fn at_or_number(word: &[u8]) -> Option<(At, Option<u64>)>
-    ensures { result ≡ at_or_number word.now }
-{
-    match number_of(word) {
-        Some(number) => Some((At::Current, Some(number))),
-        None => Some((at_of(word)?, None)),
-    }
-}
-
-// Returns the state and the number that the words name. A single word is the number, if it is one.
-fn optional_at_and_number(mut words: Words) -> Option<(At, Option<u64>)>
-    ensures { result ≡ optional_at_and_number (words_of_line words.entry) }
-{
-    let Some(word) = words.next_word() else {
-        return Some((At::Current, None));
-    };
-    let Some(second) = words.next_word() else {
-        return at_or_number(word);
-    };
-    at_end((at_of(word)?, Some(number_of(second)?)), words)
 }
 
 // Returns the two states that the words name. If they name only one, the second is the current one.
@@ -149,206 +138,6 @@ fn at_and_optional(mut words: Words) -> Option<(At, At)>
         return Some((at_of(word)?, At::Current));
     };
     at_end((at_of(word)?, at_of(second)?), words)
-}
-
-// Returns the place of a state, or None of a pin: it may keep a state that the retained steps don't lead to.
-fn place_of(at: At) -> Option<Option<u64>>
-    ensures { result ≡ place_of at }
-{
-    match at {
-        At::Current => Some(None),
-        At::Place(place) => Some(Some(place)),
-        At::Pin(_) => None,
-    }
-}
-
-// Returns the place of the state that a word names.
-fn place_of_word(word: &[u8]) -> Option<Option<u64>>
-    ensures { result ≡ place_of_word word.now }
-{
-    place_of(at_of(word)?)
-}
-
-// Returns the place and the id that the words name. If they are only an id, there is no place.
-fn place_and_id(mut words: Words) -> Option<(Option<u64>, u64)>
-    ensures { result ≡ place_and_id (words_of_line words.entry) }
-{
-    let word = words.next_word()?;
-    let Some(second) = words.next_word() else {
-        return Some((None, id_of(word)?));
-    };
-    at_end((place_of_word(word)?, id_of(second)?), words)
-}
-
-// Returns the id and the number that two words are.
-fn id_and_number(word: &[u8], second: &[u8]) -> Option<(u64, u64)>
-    ensures { result ≡ id_and_number word.now second.now }
-{
-    Some((id_of(word)?, number_of(second)?))
-}
-
-// Returns the place, and the id and the number, that the words name. If they are only an id and a number, there is no place.
-fn place_and_slot(mut words: Words) -> Option<(Option<u64>, (u64, u64))>
-    ensures { result ≡ place_and_slot (words_of_line words.entry) }
-{
-    let word = words.next_word()?;
-    let second = words.next_word()?;
-    let Some(third) = words.next_word() else {
-        return Some((None, id_and_number(word, second)?));
-    };
-    at_end((place_of_word(word)?, id_and_number(second, third)?), words)
-}
-
-// Returns the id and the number, and the place, that the words name. If they are only an id and a number, there is no place.
-fn slot_and_place(mut words: Words) -> Option<((u64, u64), Option<u64>)>
-    ensures { result ≡ slot_and_place (words_of_line words.entry) }
-{
-    let word = words.next_word()?;
-    let second = words.next_word()?;
-    let Some(third) = words.next_word() else {
-        return Some((id_and_number(word, second)?, None));
-    };
-    at_end((id_and_number(word, second)?, place_of_word(third)?), words)
-}
-
-// Returns the steps that the words name: all if there are no words.
-fn span_of(mut words: Words) -> Option<Span>
-    ensures { result ≡ span_of (words_of_line words.entry) }
-{
-    let Some(word) = words.next_word() else {
-        return Some(Span::AllSteps);
-    };
-    let after = place_of_word(word)?;
-    let Some(second) = words.next_word() else {
-        return Some(Span::Between { after, to: None });
-    };
-    let to = place_of_word(second)?;
-    at_end(Span::Between { after, to }, words)
-}
-
-// Returns the class and the slot, and the steps, that the words name.
-fn slot_and_span(mut words: Words) -> Option<((u64, u64), Span)>
-    ensures { result ≡ slot_and_span (words_of_line words.entry) }
-{
-    let class = next_number(&mut words)?;
-    let slot = next_number(&mut words)?;
-    Some(((class, slot), span_of(words)?))
-}
-
-// Returns the place and the number that the words name. If they are only a number, there is no place.
-fn place_and_number(mut words: Words) -> Option<(Option<u64>, u64)>
-    ensures { result ≡ place_and_number (words_of_line words.entry) }
-{
-    let word = words.next_word()?;
-    let Some(second) = words.next_word() else {
-        return Some((None, number_of(word)?));
-    };
-    at_end((place_of_word(word)?, number_of(second)?), words)
-}
-
-// Returns the word that a word tells: an id, `null` or a number. Returns None if it tells none.
-#[tactic(auto, unfolding(crate::specs::Questions::value_of_word))]
-fn value_of(word: &[u8]) -> Option<u64>
-    ensures { result ≡ value_of_word word.now }
-{
-    if is_word(word, b"null") {
-        return Some(0);
-    }
-    match id_of(word) {
-        Some(id) => Some(id),
-        None => number_of(word),
-    }
-}
-
-// Returns the objects that the words name: all, those of a class, or those of a class with a value in a slot.
-fn wanted_of(mut words: Words) -> Option<Wanted>
-    ensures { result ≡ wanted_of (words_of_line words.entry) }
-{
-    let Some(first) = words.next_word() else {
-        return Some(Wanted::All);
-    };
-    let class = number_of(first)?;
-    let Some(second) = words.next_word() else {
-        return Some(Wanted::OfClass(class));
-    };
-    let slot = number_of(second)?;
-    let third = words.next_word()?;
-    let word = value_of(third)?;
-    at_end(Wanted::Holding { class, slot, word }, words)
-}
-
-// Returns the state and the objects that the words name. If there are no words, it is the current state.
-fn at_and_wanted(mut words: Words) -> Option<(At, Wanted)>
-    ensures { result ≡ at_and_wanted (words_of_line words.entry) }
-{
-    let Some(word) = words.next_word() else {
-        return Some((At::Current, Wanted::All));
-    };
-    let at = at_of(word)?;
-    Some((at, wanted_of(words)?))
-}
-
-// Returns the class and the slot that two words name.
-fn class_and_slot(class: &[u8], slot: &[u8]) -> Option<(u64, u64)>
-    ensures { result ≡ class_and_slot class.now slot.now }
-{
-    Some((number_of(class)?, number_of(slot)?))
-}
-
-// Returns the state, and the class and the slot, that the words name. If they name no state, it is the current one.
-fn at_and_slot(mut words: Words) -> Option<(At, (u64, u64))>
-    ensures { result ≡ at_and_slot (words_of_line words.entry) }
-{
-    let first = words.next_word()?;
-    let second = words.next_word()?;
-    let Some(third) = words.next_word() else {
-        return Some((At::Current, class_and_slot(first, second)?));
-    };
-    at_end((at_of(first)?, class_and_slot(second, third)?), words)
-}
-
-// Reads the words behind a keyword of a question about what retained steps did, about pins, or about the current state.
-#[tactic(auto, unfolding(crate::specs::Questions::past_rules))]
-fn past_question(keyword: &[u8], words: Words) -> Option<Question>
-    ensures { result ≡ question_by past_rules keyword.now (words_of_line words.entry) }
-{
-    if is_word(keyword, b"born") {
-        let (to, id) = place_and_id(words)?;
-        return Some(Question::Born { to, id });
-    }
-    if is_word(keyword, b"dropped") {
-        let (to, id) = place_and_id(words)?;
-        return Some(Question::Dropped { to, id });
-    }
-    if is_word(keyword, b"pins") {
-        return at_end(Question::Pins, words);
-    }
-    if is_word(keyword, b"cells") {
-        return at_end(Question::Cells, words);
-    }
-    if is_word(keyword, b"regions") {
-        return at_end(Question::Regions, words);
-    }
-    if is_word(keyword, b"status") {
-        return at_end(Question::Status, words);
-    }
-    if is_word(keyword, b"history") {
-        let (to, count) = place_and_number(words)?;
-        return Some(Question::History { to, count });
-    }
-    if is_word(keyword, b"wrote") {
-        let (to, (id, slot)) = place_and_slot(words)?;
-        return Some(Question::Wrote { to, id, slot });
-    }
-    if is_word(keyword, b"watch") {
-        let ((id, slot), to) = slot_and_place(words)?;
-        return Some(Question::Watch { id, slot, to });
-    }
-    if is_word(keyword, b"writes") {
-        let ((class, slot), span) = slot_and_span(words)?;
-        return Some(Question::Writes { class, slot, span });
-    }
-    None
 }
 
 // Reads the words behind a keyword of a question about classes, objects, retained steps, pins or the current state.
@@ -399,25 +188,236 @@ fn later_question(keyword: &[u8], words: Words) -> Option<Question>
     past_question(keyword, words)
 }
 
-/// Returns the question that a line asks, or None if it asks none.
-#[tactic(auto, unfolding(crate::specs::Questions::question_of_words, crate::specs::Questions::question_rules))]
-pub fn question_of(line: &[u8]) -> Option<Question>
-    ensures { result ≡ question_of line.now }
+// Returns the state and the objects that the words name. If there are no words, it is the current state.
+fn at_and_wanted(mut words: Words) -> Option<(At, Wanted)>
+    ensures { result ≡ at_and_wanted (words_of_line words.entry) }
 {
-    let mut words = Words::new(line);
-    let keyword = words.next_word()?;
-    if is_word(keyword, b"histogram") {
-        return Some(Question::Histogram(optional_at(words)?));
+    let Some(word) = words.next_word() else {
+        return Some((At::Current, Wanted::All));
+    };
+    let at = at_of(word)?;
+    Some((at, wanted_of(words)?))
+}
+
+// Returns the objects that the words name: all, those of a class, or those of a class with a value in a slot.
+fn wanted_of(mut words: Words) -> Option<Wanted>
+    ensures { result ≡ wanted_of (words_of_line words.entry) }
+{
+    let Some(first) = words.next_word() else {
+        return Some(Wanted::All);
+    };
+    let class = number_of(first)?;
+    let Some(second) = words.next_word() else {
+        return Some(Wanted::OfClass(class));
+    };
+    let slot = number_of(second)?;
+    let third = words.next_word()?;
+    let word = value_of(third)?;
+    at_end(Wanted::Holding { class, slot, word }, words)
+}
+
+// Returns the word that a word tells: an id, `null` or a number. Returns None if it tells none.
+#[tactic(auto, unfolding(crate::specs::Questions::value_of_word))]
+fn value_of(word: &[u8]) -> Option<u64>
+    ensures { result ≡ value_of_word word.now }
+{
+    if is_word(word, b"null") {
+        return Some(0);
     }
-    if is_word(keyword, b"garbage") {
-        return Some(Question::Garbage(optional_at(words)?));
+    match id_of(word) {
+        Some(id) => Some(id),
+        None => number_of(word),
     }
-    if is_word(keyword, b"registers") {
-        return Some(Question::Registers(optional_at(words)?));
+}
+
+// Returns the state, and the class and the slot, that the words name. If they name no state, it is the current one.
+fn at_and_slot(mut words: Words) -> Option<(At, (u64, u64))>
+    ensures { result ≡ at_and_slot (words_of_line words.entry) }
+{
+    let first = words.next_word()?;
+    let second = words.next_word()?;
+    let Some(third) = words.next_word() else {
+        return Some((At::Current, class_and_slot(first, second)?));
+    };
+    at_end((at_of(first)?, class_and_slot(second, third)?), words)
+}
+
+// Returns the class and the slot that two words name.
+fn class_and_slot(class: &[u8], slot: &[u8]) -> Option<(u64, u64)>
+    ensures { result ≡ class_and_slot class.now slot.now }
+{
+    Some((number_of(class)?, number_of(slot)?))
+}
+
+// Returns the state and the id that the words name. If they are only an id, the state is the current one.
+fn optional_at_and_id(mut words: Words) -> Option<(At, u64)>
+    ensures { result ≡ optional_at_and_id (words_of_line words.entry) }
+{
+    let word = words.next_word()?;
+    let Some(second) = words.next_word() else {
+        return Some((At::Current, id_of(word)?));
+    };
+    at_end((at_of(word)?, id_of(second)?), words)
+}
+
+// Returns the state and the number that the words name. A single word is the number, if it is one.
+fn optional_at_and_number(mut words: Words) -> Option<(At, Option<u64>)>
+    ensures { result ≡ optional_at_and_number (words_of_line words.entry) }
+{
+    let Some(word) = words.next_word() else {
+        return Some((At::Current, None));
+    };
+    let Some(second) = words.next_word() else {
+        return at_or_number(word);
+    };
+    at_end((at_of(word)?, Some(number_of(second)?)), words)
+}
+
+// Returns the number that a word is, about the current state, or the state that it names, without a number.
+fn at_or_number(word: &[u8]) -> Option<(At, Option<u64>)>
+    ensures { result ≡ at_or_number word.now }
+{
+    match number_of(word) {
+        Some(number) => Some((At::Current, Some(number))),
+        None => Some((at_of(word)?, None)),
     }
-    if is_word(keyword, b"growth") {
-        let (older, newer) = at_and_optional(words)?;
-        return Some(Question::Growth { older, newer });
+}
+
+// Reads the words behind a keyword of a question about what retained steps did, about pins, or about the current state.
+#[tactic(auto, unfolding(crate::specs::Questions::past_rules))]
+fn past_question(keyword: &[u8], words: Words) -> Option<Question>
+    ensures { result ≡ question_by past_rules keyword.now (words_of_line words.entry) }
+{
+    if is_word(keyword, b"born") {
+        let (to, id) = place_and_id(words)?;
+        return Some(Question::Born { to, id });
     }
-    later_question(keyword, words)
+    if is_word(keyword, b"dropped") {
+        let (to, id) = place_and_id(words)?;
+        return Some(Question::Dropped { to, id });
+    }
+    if is_word(keyword, b"pins") {
+        return at_end(Question::Pins, words);
+    }
+    if is_word(keyword, b"cells") {
+        return at_end(Question::Cells, words);
+    }
+    if is_word(keyword, b"regions") {
+        return at_end(Question::Regions, words);
+    }
+    if is_word(keyword, b"status") {
+        return at_end(Question::Status, words);
+    }
+    if is_word(keyword, b"history") {
+        let (to, count) = place_and_number(words)?;
+        return Some(Question::History { to, count });
+    }
+    if is_word(keyword, b"wrote") {
+        let (to, (id, slot)) = place_and_slot(words)?;
+        return Some(Question::Wrote { to, id, slot });
+    }
+    if is_word(keyword, b"watch") {
+        let ((id, slot), to) = slot_and_place(words)?;
+        return Some(Question::Watch { id, slot, to });
+    }
+    if is_word(keyword, b"writes") {
+        let ((class, slot), span) = slot_and_span(words)?;
+        return Some(Question::Writes { class, slot, span });
+    }
+    None
+}
+
+// Returns the place and the id that the words name. If they are only an id, there is no place.
+fn place_and_id(mut words: Words) -> Option<(Option<u64>, u64)>
+    ensures { result ≡ place_and_id (words_of_line words.entry) }
+{
+    let word = words.next_word()?;
+    let Some(second) = words.next_word() else {
+        return Some((None, id_of(word)?));
+    };
+    at_end((place_of_word(word)?, id_of(second)?), words)
+}
+
+// Returns the place of the state that a word names.
+fn place_of_word(word: &[u8]) -> Option<Option<u64>>
+    ensures { result ≡ place_of_word word.now }
+{
+    place_of(at_of(word)?)
+}
+
+// Returns the place of a state, or None of a pin: it may keep a state that the retained steps don't lead to.
+fn place_of(at: At) -> Option<Option<u64>>
+    ensures { result ≡ place_of at }
+{
+    match at {
+        At::Current => Some(None),
+        At::Place(place) => Some(Some(place)),
+        At::Pin(_) => None,
+    }
+}
+
+// Returns the place and the number that the words name. If they are only a number, there is no place.
+fn place_and_number(mut words: Words) -> Option<(Option<u64>, u64)>
+    ensures { result ≡ place_and_number (words_of_line words.entry) }
+{
+    let word = words.next_word()?;
+    let Some(second) = words.next_word() else {
+        return Some((None, number_of(word)?));
+    };
+    at_end((place_of_word(word)?, number_of(second)?), words)
+}
+
+// Returns the place, and the id and the number, that the words name. If they are only an id and a number, there is no place.
+fn place_and_slot(mut words: Words) -> Option<(Option<u64>, (u64, u64))>
+    ensures { result ≡ place_and_slot (words_of_line words.entry) }
+{
+    let word = words.next_word()?;
+    let second = words.next_word()?;
+    let Some(third) = words.next_word() else {
+        return Some((None, id_and_number(word, second)?));
+    };
+    at_end((place_of_word(word)?, id_and_number(second, third)?), words)
+}
+
+// Returns the id and the number that two words are.
+fn id_and_number(word: &[u8], second: &[u8]) -> Option<(u64, u64)>
+    ensures { result ≡ id_and_number word.now second.now }
+{
+    Some((id_of(word)?, number_of(second)?))
+}
+
+// Returns the id and the number, and the place, that the words name. If they are only an id and a number, there is no place.
+fn slot_and_place(mut words: Words) -> Option<((u64, u64), Option<u64>)>
+    ensures { result ≡ slot_and_place (words_of_line words.entry) }
+{
+    let word = words.next_word()?;
+    let second = words.next_word()?;
+    let Some(third) = words.next_word() else {
+        return Some((id_and_number(word, second)?, None));
+    };
+    at_end((id_and_number(word, second)?, place_of_word(third)?), words)
+}
+
+// Returns the class and the slot, and the steps, that the words name.
+fn slot_and_span(mut words: Words) -> Option<((u64, u64), Span)>
+    ensures { result ≡ slot_and_span (words_of_line words.entry) }
+{
+    let class = next_number(&mut words)?;
+    let slot = next_number(&mut words)?;
+    Some(((class, slot), span_of(words)?))
+}
+
+// Returns the steps that the words name: all if there are no words.
+fn span_of(mut words: Words) -> Option<Span>
+    ensures { result ≡ span_of (words_of_line words.entry) }
+{
+    let Some(word) = words.next_word() else {
+        return Some(Span::AllSteps);
+    };
+    let after = place_of_word(word)?;
+    let Some(second) = words.next_word() else {
+        return Some(Span::Between { after, to: None });
+    };
+    let to = place_of_word(second)?;
+    at_end(Span::Between { after, to }, words)
 }

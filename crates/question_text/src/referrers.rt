@@ -48,15 +48,6 @@ impl Lined for Referrer {
     }
 }
 
-// Returns the lines of all that names an id, and their number. Fails with NoMemory.
-fn referrer_lines<V: View>(alloc: Global, view: &V, id: u64) -> Result<Vec<u8>, Refusal>
-    ensures { ReturnsText
-        (λ text. text ≡ referrers_text (referrers_of (V.image view.now) id)) result }
-{
-    let all = referrers(alloc, view, id)?;
-    counted_lines(alloc, all.as_slice())
-}
-
 // Returns the answer of `referrers` about a view. Fails with NoObject if the id names no object, and with NoMemory if an
 // allocation fails. Reads each object at most twice.
 pub(crate) fn referrers_answer<V: View>(
@@ -70,4 +61,13 @@ pub(crate) fn referrers_answer<V: View>(
         Some(_) => Ok(referrer_lines(alloc, view, id)?),
         None => Err(Unanswered::NoObject),
     }
+}
+
+// Returns the lines of all that names an id, and their number. Fails with NoMemory.
+fn referrer_lines<V: View>(alloc: Global, view: &V, id: u64) -> Result<Vec<u8>, Refusal>
+    ensures { ReturnsText
+        (λ text. text ≡ referrers_text (referrers_of (V.image view.now) id)) result }
+{
+    let all = referrers(alloc, view, id)?;
+    counted_lines(alloc, all.as_slice())
 }

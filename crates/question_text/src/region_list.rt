@@ -13,25 +13,38 @@ use heap_region::{Regions, Storage};
 use heap_trail::Machine;
 use std::alloc::{AllocError, Global};
 
-// Appends how many objects there are, how many of them are live, and how many aren't. Fails if an allocation fails.
-fn push_objects(text: &mut Vec<u8>, counts: RegionCounts) -> Result<(), AllocError>
-    requires { counts.live + counts.dead ≤ 256 }
-    ensures { Appends (and_objects counts) text.old.items text.new.items result }
+// Returns the answer of `regions`. Fails with NoMemory if an allocation fails. Looks at each cell once.
+pub(crate) fn regions_answer(alloc: Global, machine: &Machine) -> Result<Vec<u8>, Unanswered>
+    ensures { IsRegionsText machine.now.trail.current (told_text result) }
 {
-    push_number(text, counts.live + counts.dead)?;
-    push_number(text, counts.live)?;
-    push_number(text, counts.dead)
+    Ok(regions_text(alloc, machine.world().regions())?)
 }
 
-// Appends whether a region waits to be swept, and the end of its line. Fails if an allocation fails.
-fn push_waits(text: &mut Vec<u8>, waits: bool) -> Result<(), AllocError>
-    ensures { Appends (waits_words waits) text.old.items text.new.items result }
+// Returns the lines of the regions in use, and their number. Fails with NoMemory.
+fn regions_text(alloc: Global, regions: &Regions) -> Result<Vec<u8>, Refusal>
+    ensures { ReturnsText (λ text. text ≡ regions_text regions.now.regions) result }
 {
-    if waits {
-        push_words(text, b" waits\n")
-    } else {
-        push_words(text, b" -\n")
+    let mut text = Vec::new(alloc);
+    let count = push_regions(&mut text, regions)?;
+    push_count(&mut text, count)?;
+    Ok(text)
+}
+
+// Appends the lines of the regions in use, and returns their number. Fails if an allocation fails.
+fn push_regions(text: &mut Vec<u8>, regions: &Regions) -> Result<u64, AllocError>
+    ensures appended { Appends
+        (flat_map (region_row regions.now.regions) (used_regions regions.now.regions))
+        text.old.items text.new.items result }
+    ensures count { IfOk result (λ n. n ≡ length (used_regions regions.now.regions)) }
+{
+    let mut count = 0;
+    for region in 0..regions.count() {
+        if let Some(storage) = regions.region(region) {
+            push_region(text, regions, region, storage)?;
+            count += 1;
+        }
     }
+    Ok(count)
 }
 
 // Appends the line of a region in use. Fails if an allocation fails.
@@ -52,36 +65,23 @@ fn push_region(
     push_waits(text, waits)
 }
 
-// Appends the lines of the regions in use, and returns their number. Fails if an allocation fails.
-fn push_regions(text: &mut Vec<u8>, regions: &Regions) -> Result<u64, AllocError>
-    ensures appended { Appends
-        (flat_map (region_row regions.now.regions) (used_regions regions.now.regions))
-        text.old.items text.new.items result }
-    ensures count { IfOk result (λ n. n ≡ length (used_regions regions.now.regions)) }
+// Appends how many objects there are, how many of them are live, and how many aren't. Fails if an allocation fails.
+fn push_objects(text: &mut Vec<u8>, counts: RegionCounts) -> Result<(), AllocError>
+    requires { counts.live + counts.dead ≤ 256 }
+    ensures { Appends (and_objects counts) text.old.items text.new.items result }
 {
-    let mut count = 0;
-    for region in 0..regions.count() {
-        if let Some(storage) = regions.region(region) {
-            push_region(text, regions, region, storage)?;
-            count += 1;
-        }
+    push_number(text, counts.live + counts.dead)?;
+    push_number(text, counts.live)?;
+    push_number(text, counts.dead)
+}
+
+// Appends whether a region waits to be swept, and the end of its line. Fails if an allocation fails.
+fn push_waits(text: &mut Vec<u8>, waits: bool) -> Result<(), AllocError>
+    ensures { Appends (waits_words waits) text.old.items text.new.items result }
+{
+    if waits {
+        push_words(text, b" waits\n")
+    } else {
+        push_words(text, b" -\n")
     }
-    Ok(count)
-}
-
-// Returns the lines of the regions in use, and their number. Fails with NoMemory.
-fn regions_text(alloc: Global, regions: &Regions) -> Result<Vec<u8>, Refusal>
-    ensures { ReturnsText (λ text. text ≡ regions_text regions.now.regions) result }
-{
-    let mut text = Vec::new(alloc);
-    let count = push_regions(&mut text, regions)?;
-    push_count(&mut text, count)?;
-    Ok(text)
-}
-
-// Returns the answer of `regions`. Fails with NoMemory if an allocation fails. Looks at each cell once.
-pub(crate) fn regions_answer(alloc: Global, machine: &Machine) -> Result<Vec<u8>, Unanswered>
-    ensures { IsRegionsText machine.now.trail.current (told_text result) }
-{
-    Ok(regions_text(alloc, machine.world().regions())?)
 }

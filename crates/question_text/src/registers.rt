@@ -13,23 +13,31 @@ use heap_questions::{NamedObject, named_by_registers};
 use hprof_text::View;
 use std::alloc::{AllocError, Global};
 
-// Appends what a register names. Fails if an allocation fails.
-fn push_named(
+// Returns the answer of `registers` about a view. Fails with NoMemory if an allocation fails. Reads each id once.
+pub(crate) fn registers_answer<V: View>(alloc: Global, view: &V) -> Result<Vec<u8>, Refusal>
+    ensures { ReturnsText (IsRegistersText (V.image view.now)) result }
+{
+    let all = named_by_registers(alloc, view)?;
+    let classes = view.classes();
+    let mut text = Vec::new(alloc);
+    push_lines(&mut text, &classes, all.as_slice())?;
+    push_count(&mut text, all.len() as u64)?;
+    Ok(text)
+}
+
+// Appends the lines of all registers. Fails if an allocation fails.
+fn push_lines(
     text: &mut Vec<u8>,
     classes: &FirstClasses<'_>,
-    named: &NamedObject,
+    all: &[NamedObject],
 ) -> Result<(), AllocError>
-    requires { NamesKnown classes.now named.now }
-    ensures { Appends (named_words classes.now named.now) text.old.items text.new.items result }
+    requires { All (NamesKnown classes.now) all.now }
+    ensures { Appends (register_texts classes.now 0 all.now) text.old.items text.new.items result }
 {
-    match named.kind {
-        Some(kind) => {
-            push_id(text, named.id)?;
-            push_words(text, b" ")?;
-            push_class_name(text, classes, kind)
-        }
-        None => push_words(text, b" null"),
+    for register in 0..all.len() {
+        push_line(text, classes, register as u64, &all[register])?;
     }
+    Ok(())
 }
 
 // Appends the line of a register. Fails if an allocation fails.
@@ -50,29 +58,21 @@ fn push_line(
     push_words(text, b"\n")
 }
 
-// Appends the lines of all registers. Fails if an allocation fails.
-fn push_lines(
+// Appends what a register names. Fails if an allocation fails.
+fn push_named(
     text: &mut Vec<u8>,
     classes: &FirstClasses<'_>,
-    all: &[NamedObject],
+    named: &NamedObject,
 ) -> Result<(), AllocError>
-    requires { All (NamesKnown classes.now) all.now }
-    ensures { Appends (register_texts classes.now 0 all.now) text.old.items text.new.items result }
+    requires { NamesKnown classes.now named.now }
+    ensures { Appends (named_words classes.now named.now) text.old.items text.new.items result }
 {
-    for register in 0..all.len() {
-        push_line(text, classes, register as u64, &all[register])?;
+    match named.kind {
+        Some(kind) => {
+            push_id(text, named.id)?;
+            push_words(text, b" ")?;
+            push_class_name(text, classes, kind)
+        }
+        None => push_words(text, b" null"),
     }
-    Ok(())
-}
-
-// Returns the answer of `registers` about a view. Fails with NoMemory if an allocation fails. Reads each id once.
-pub(crate) fn registers_answer<V: View>(alloc: Global, view: &V) -> Result<Vec<u8>, Refusal>
-    ensures { ReturnsText (IsRegistersText (V.image view.now)) result }
-{
-    let all = named_by_registers(alloc, view)?;
-    let classes = view.classes();
-    let mut text = Vec::new(alloc);
-    push_lines(&mut text, &classes, all.as_slice())?;
-    push_count(&mut text, all.len() as u64)?;
-    Ok(text)
 }

@@ -80,16 +80,6 @@ pub(crate) trait Lined: Copy {
         ensures { Appends (line self) text.old.items text.new.items result };
 }
 
-// Appends the lines of all. Fails if an allocation fails.
-fn push_lines<T: Lined>(text: &mut Vec<u8>, all: &[T]) -> Result<(), AllocError>
-    ensures { Appends (flat_map T.line all.now) text.old.items text.new.items result }
-{
-    for one in all {
-        one.push_line(text)?;
-    }
-    Ok(())
-}
-
 // Appends the last line of an answer that counts its rows. Fails if an allocation fails.
 pub(crate) fn push_count(text: &mut Vec<u8>, count: u64) -> Result<(), AllocError>
     ensures { Appends (count_text count) text.old.items text.new.items result }
@@ -108,4 +98,14 @@ pub(crate) fn counted_lines<T: Lined>(alloc: Global, all: &[T]) -> Result<Vec<u8
     push_lines(&mut text, all)?;
     push_count(&mut text, all.len() as u64)?;
     Ok(text)
+}
+
+// Appends the lines of all. Fails if an allocation fails.
+fn push_lines<T: Lined>(text: &mut Vec<u8>, all: &[T]) -> Result<(), AllocError>
+    ensures { Appends (flat_map T.line all.now) text.old.items text.new.items result }
+{
+    for one in all {
+        one.push_line(text)?;
+    }
+    Ok(())
 }

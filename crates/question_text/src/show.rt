@@ -18,65 +18,6 @@ use heap_trail::Machine;
 use hprof_text::View;
 use std::alloc::{AllocError, Global};
 
-// Appends a word of a kind: an id or `null`, or a number. Fails if an allocation fails.
-fn push_value(text: &mut Vec<u8>, kind: Kind, word: u64) -> Result<(), AllocError>
-    ensures { Appends (and_value kind word) text.old.items text.new.items result }
-{
-    if kind.is_reference() {
-        push_reference(text, word)
-    } else {
-        push_number(text, word)
-    }
-}
-
-// Appends the end of a slot's row: its kind and its word. Fails if an allocation fails.
-#[tactic(auto, unfolding(crate::specs::Objects::value_text))]
-fn push_end(text: &mut Vec<u8>, kind: Kind, word: u64) -> Result<(), AllocError>
-    ensures { Appends (value_text kind word) text.old.items text.new.items result }
-{
-    push_words(text, b" ")?;
-    push_words(text, kind.word().as_bytes())?;
-    push_value(text, kind, word)?;
-    push_words(text, b"\n")
-}
-
-// Appends the row of a slot that is a field with this name. Fails if an allocation fails.
-#[tactic(auto, unfolding(crate::specs::Objects::field_row))]
-fn push_field(
-    text: &mut Vec<u8>,
-    slot: u64,
-    name: &[u8],
-    kind: Kind,
-    word: u64,
-) -> Result<(), AllocError>
-    ensures { Appends (field_row slot name.now kind word) text.old.items text.new.items result }
-{
-    push_row(text, slot)?;
-    push_words(text, b" ")?;
-    push_words(text, name)?;
-    push_end(text, kind, word)
-}
-
-// Appends the row of an element. Fails if an allocation fails.
-#[tactic(auto, unfolding(crate::specs::Objects::element_row))]
-fn push_element(text: &mut Vec<u8>, kind: Kind, index: u64, word: u64) -> Result<(), AllocError>
-    ensures { Appends (element_row kind index word) text.old.items text.new.items result }
-{
-    push_row(text, index)?;
-    push_number(text, index)?;
-    push_end(text, kind, word)
-}
-
-// Appends the rows of all elements. Fails if an allocation fails.
-fn push_elements(text: &mut Vec<u8>, kind: Kind, words: &[u64]) -> Result<(), AllocError>
-    ensures { Appends (element_rows kind 0 words.now) text.old.items text.new.items result }
-{
-    for index in 0..words.len() {
-        push_element(text, kind, index as u64, words[index])?;
-    }
-    Ok(())
-}
-
 // Returns the name of an own field of a class. The class must have the field.
 pub(crate) fn field_name<'a>(classes: &'a FirstClasses<'_>, class: ClassNo, field: u64) -> &'a [u8]
     requires { field < length (fields_of classes.now class) }
@@ -87,35 +28,43 @@ pub(crate) fn field_name<'a>(classes: &'a FirstClasses<'_>, class: ClassNo, fiel
     classes.name_at(id - 1)
 }
 
-// Returns how many of `slots` slots are own fields of a class.
-fn own_count(classes: &FirstClasses<'_>, class: ClassNo, slots: u64) -> u64
-    requires { class < length classes.now }
-    ensures { result ≡ min (length (fields_of classes.now class)) slots }
+// Returns the answer of `show` about a view. Fails with NoObject if the id names no object, and with NoMemory if an allocation
+// fails. Reads each object before it at most once.
+pub(crate) fn show_answer<V: View>(
+    alloc: Global,
+    view: &V,
+    id: u64,
+    marked: bool,
+) -> Result<Vec<u8>, Unanswered>
+    ensures { IsToldOf (IsShowText id marked) (V.image view.now) (told_text result) }
 {
-    classes.field_count(class).min(slots)
+    let classes = view.classes();
+    match object_with(view, id) {
+        Some(object) => Ok(object_lines(alloc, &classes, &object, marked)?),
+        None => Err(Unanswered::NoObject),
+    }
 }
 
-// Appends the rows of the slots from this one on that are own fields of a class. Fails if an allocation fails.
-fn push_own(
-    text: &mut Vec<u8>,
+// Returns the lines of an object. Its class must be there. Fails with NoMemory.
+#[tactic(auto, unfolding(crate::specs::Objects::slot_rows))]
+fn object_lines(
+    alloc: Global,
     classes: &FirstClasses<'_>,
-    class: ClassNo,
-    words: &[u64],
-    first: usize,
-) -> Result<(), AllocError>
-    requires there { class < length classes.now }
-    requires within { first ≤ length words.now }
-    ensures { Appends (field_rows first (fields_of classes.now class) (drop first words.now))
-        text.old.items text.new.items result }
+    object: &ShownObject<'_>,
+    marked: bool,
+) -> Result<Vec<u8>, Refusal>
+    requires { IsClassThere classes.now object.now.kind }
+    ensures { ReturnsText (λ text. text ≡ object_text classes.now object.now marked) result }
 {
-    let count = own_count(classes, class, (words.len() - first) as u64);
-    for field in 0..count {
-        let name = field_name(classes, class, field);
-        let kind = classes.field_kind(class, field);
-        let slot = first + field as usize;
-        push_field(text, slot as u64, name, kind, words[slot])?;
+    let words = object.words();
+    let mut text = Vec::new(alloc);
+    match object.kind() {
+        ObjKind::Instance(class) => push_fields(&mut text, classes, class, words)?,
+        ObjKind::Array(_) => push_elements(&mut text, Kind::Object, words)?,
+        ObjKind::Prim(kind) => push_elements(&mut text, kind, words)?,
     }
-    Ok(())
+    push_object(&mut text, classes, object, marked)?;
+    Ok(text)
 }
 
 // Appends the rows of an instance's slots: a class's own fields, then its super's, and so on. Fails if an allocation fails.
@@ -142,15 +91,94 @@ fn push_fields(
     Ok(())
 }
 
-// Appends what the last line says of an object that is marked. Fails if an allocation fails.
-fn push_mark(text: &mut Vec<u8>, marked: bool) -> Result<(), AllocError>
-    ensures { Appends (mark_text marked) text.old.items text.new.items result }
+// Appends the rows of the slots from this one on that are own fields of a class. Fails if an allocation fails.
+fn push_own(
+    text: &mut Vec<u8>,
+    classes: &FirstClasses<'_>,
+    class: ClassNo,
+    words: &[u64],
+    first: usize,
+) -> Result<(), AllocError>
+    requires there { class < length classes.now }
+    requires within { first ≤ length words.now }
+    ensures { Appends (field_rows first (fields_of classes.now class) (drop first words.now))
+        text.old.items text.new.items result }
 {
-    if marked {
-        push_words(text, b" marked")
-    } else {
-        Ok(())
+    let count = own_count(classes, class, (words.len() - first) as u64);
+    for field in 0..count {
+        let name = field_name(classes, class, field);
+        let kind = classes.field_kind(class, field);
+        let slot = first + field as usize;
+        push_field(text, slot as u64, name, kind, words[slot])?;
     }
+    Ok(())
+}
+
+// Returns how many of `slots` slots are own fields of a class.
+fn own_count(classes: &FirstClasses<'_>, class: ClassNo, slots: u64) -> u64
+    requires { class < length classes.now }
+    ensures { result ≡ min (length (fields_of classes.now class)) slots }
+{
+    classes.field_count(class).min(slots)
+}
+
+// Appends the row of a slot that is a field with this name. Fails if an allocation fails.
+#[tactic(auto, unfolding(crate::specs::Objects::field_row))]
+fn push_field(
+    text: &mut Vec<u8>,
+    slot: u64,
+    name: &[u8],
+    kind: Kind,
+    word: u64,
+) -> Result<(), AllocError>
+    ensures { Appends (field_row slot name.now kind word) text.old.items text.new.items result }
+{
+    push_row(text, slot)?;
+    push_words(text, b" ")?;
+    push_words(text, name)?;
+    push_end(text, kind, word)
+}
+
+// Appends the end of a slot's row: its kind and its word. Fails if an allocation fails.
+#[tactic(auto, unfolding(crate::specs::Objects::value_text))]
+fn push_end(text: &mut Vec<u8>, kind: Kind, word: u64) -> Result<(), AllocError>
+    ensures { Appends (value_text kind word) text.old.items text.new.items result }
+{
+    push_words(text, b" ")?;
+    push_words(text, kind.word().as_bytes())?;
+    push_value(text, kind, word)?;
+    push_words(text, b"\n")
+}
+
+// Appends a word of a kind: an id or `null`, or a number. Fails if an allocation fails.
+fn push_value(text: &mut Vec<u8>, kind: Kind, word: u64) -> Result<(), AllocError>
+    ensures { Appends (and_value kind word) text.old.items text.new.items result }
+{
+    if kind.is_reference() {
+        push_reference(text, word)
+    } else {
+        push_number(text, word)
+    }
+}
+
+// Appends the rows of all elements. Fails if an allocation fails.
+fn push_elements(text: &mut Vec<u8>, kind: Kind, words: &[u64]) -> Result<(), AllocError>
+    ensures { Appends (element_rows kind 0 words.now) text.old.items text.new.items result }
+{
+    for index in 0..words.len() {
+        push_element(text, kind, index as u64, words[index])?;
+    }
+    Ok(())
+}
+
+// Appends the row of an element. Fails if an allocation fails.
+#[tactic(auto, unfolding(crate::specs::Objects::element_row))]
+fn push_element(text: &mut Vec<u8>, kind: Kind, index: u64, word: u64) -> Result<(), AllocError>
+    ensures { Appends (element_row kind index word) text.old.items text.new.items result }
+{
+    push_row(text, index)?;
+    push_number(text, index)?;
+    push_end(text, kind, word)
 }
 
 // Appends the last line: the class, the number of the slots and a mark. The class must be there. Fails if an allocation fails.
@@ -173,52 +201,14 @@ fn push_object(
     push_words(text, b"\n")
 }
 
-// Returns the lines of an object. Its class must be there. Fails with NoMemory.
-#[tactic(auto, unfolding(crate::specs::Objects::slot_rows))]
-fn object_lines(
-    alloc: Global,
-    classes: &FirstClasses<'_>,
-    object: &ShownObject<'_>,
-    marked: bool,
-) -> Result<Vec<u8>, Refusal>
-    requires { IsClassThere classes.now object.now.kind }
-    ensures { ReturnsText (λ text. text ≡ object_text classes.now object.now marked) result }
+// Appends what the last line says of an object that is marked. Fails if an allocation fails.
+fn push_mark(text: &mut Vec<u8>, marked: bool) -> Result<(), AllocError>
+    ensures { Appends (mark_text marked) text.old.items text.new.items result }
 {
-    let words = object.words();
-    let mut text = Vec::new(alloc);
-    match object.kind() {
-        ObjKind::Instance(class) => push_fields(&mut text, classes, class, words)?,
-        ObjKind::Array(_) => push_elements(&mut text, Kind::Object, words)?,
-        ObjKind::Prim(kind) => push_elements(&mut text, kind, words)?,
-    }
-    push_object(&mut text, classes, object, marked)?;
-    Ok(text)
-}
-
-// Returns the answer of `show` about a view. Fails with NoObject if the id names no object, and with NoMemory if an allocation
-// fails. Reads each object before it at most once.
-pub(crate) fn show_answer<V: View>(
-    alloc: Global,
-    view: &V,
-    id: u64,
-    marked: bool,
-) -> Result<Vec<u8>, Unanswered>
-    ensures { IsToldOf (IsShowText id marked) (V.image view.now) (told_text result) }
-{
-    let classes = view.classes();
-    match object_with(view, id) {
-        Some(object) => Ok(object_lines(alloc, &classes, &object, marked)?),
-        None => Err(Unanswered::NoObject),
-    }
-}
-
-// Tells whether the object with this id is there in the current state and marked.
-fn is_marked(machine: &Machine, id: u64) -> bool
-    ensures { result ≡ is_marked machine.now.trail.current id }
-{
-    match place_of_object(machine, id) {
-        Some(at) => machine.world().regions().bits(at).1,
-        None => false,
+    if marked {
+        push_words(text, b" marked")
+    } else {
+        Ok(())
     }
 }
 
@@ -229,5 +219,15 @@ pub(crate) fn shows_mark(machine: &Machine, at: At, id: u64) -> bool
     match at {
         At::Current => is_marked(machine, id),
         _ => false,
+    }
+}
+
+// Tells whether the object with this id is there in the current state and marked.
+fn is_marked(machine: &Machine, id: u64) -> bool
+    ensures { result ≡ is_marked machine.now.trail.current id }
+{
+    match place_of_object(machine, id) {
+        Some(at) => machine.world().regions().bits(at).1,
+        None => false,
     }
 }

@@ -28,25 +28,50 @@ pub(crate) fn push_word(text: &mut Vec<u8>, refers: bool, word: u64) -> Result<(
     }
 }
 
-// Appends the line of a change. Fails if an allocation fails.
-#[tactic(auto, unfolding(crate::specs::SlotChanges::change_line))]
-fn push_change(text: &mut Vec<u8>, refers: bool, change: SlotChange) -> Result<(), AllocError>
-    ensures { Appends (change_line refers change) text.old.items text.new.items result }
+// Returns the answer of `watch`, about the steps up to a place. Fails with NotRetained if its state isn't retained, with NoObject if
+// the id names no object there, with BadSlot if it lacks the slot, and with NoMemory if an allocation fails. Reads each record since
+// the object was made at most three times.
+pub(crate) fn watch_answer(
+    alloc: Global,
+    machine: &Machine,
+    id: u64,
+    slot: u64,
+    to: Option<u64>,
+) -> Result<Vec<u8>, Unanswered>
+    ensures { IsAnswerSeen (IsWatchText id slot) to machine.now.trail (told_text result) }
 {
-    push_row(text, change.place)?;
-    push_word(text, refers, change.old)?;
-    push_word(text, refers, change.new)?;
-    push_words(text, b"\n")
+    match to {
+        None => watch_now(alloc, machine, id, slot),
+        Some(place) => watch_ago(alloc, machine, place, id, slot),
+    }
 }
 
-// Appends the lines of all changes. Fails if an allocation fails.
-fn push_changes(text: &mut Vec<u8>, refers: bool, changes: &[SlotChange]) -> Result<(), AllocError>
-    ensures { Appends (flat_map (change_line refers) changes.now) text.old.items text.new.items result }
+// Returns the answer of `watch` about the steps up to the current state. Fails with NoObject, BadSlot and NoMemory.
+fn watch_now(alloc: Global, machine: &Machine, id: u64, slot: u64) -> Result<Vec<u8>, Unanswered>
+    ensures { IsWatchText id slot machine.now.trail (told_text result) }
 {
-    for change in changes {
-        push_change(text, refers, *change)?;
+    let past = PastTrail::new(machine, 0);
+    match past.find(id) {
+        Some(at) => changes_of_slot(alloc, &past, at, slot, slot_now(machine, at, slot)),
+        None => Err(Unanswered::NoObject),
     }
-    Ok(())
+}
+
+// Returns the same. Fails with BadSlot if the object lacks the slot.
+fn changes_of_slot(
+    alloc: Global,
+    past: &PastTrail<'_>,
+    at: ObjRef,
+    slot: u64,
+    seen: Option<SeenSlot>,
+) -> Result<Vec<u8>, Unanswered>
+    requires { seen ≡ seen_slot past.now.current at slot }
+    ensures { IsSlotChangesText past.now slot at (told_text result) }
+{
+    match seen {
+        Some(seen) => Ok(changes_text(alloc, past, at, slot, seen)?),
+        None => Err(Unanswered::Refused(Refusal::BadSlot)),
+    }
 }
 
 // Returns the lines of the changes of a slot of the object at a place, which holds this, and their number. Fails with NoMemory.
@@ -67,64 +92,25 @@ fn changes_text(
     Ok(text)
 }
 
-// Returns the same. Fails with BadSlot if the object lacks the slot.
-fn changes_of_slot(
-    alloc: Global,
-    past: &PastTrail<'_>,
-    at: ObjRef,
-    slot: u64,
-    seen: Option<SeenSlot>,
-) -> Result<Vec<u8>, Unanswered>
-    requires { seen ≡ seen_slot past.now.current at slot }
-    ensures { IsSlotChangesText past.now slot at (told_text result) }
+// Appends the lines of all changes. Fails if an allocation fails.
+fn push_changes(text: &mut Vec<u8>, refers: bool, changes: &[SlotChange]) -> Result<(), AllocError>
+    ensures { Appends (flat_map (change_line refers) changes.now) text.old.items text.new.items result }
 {
-    match seen {
-        Some(seen) => Ok(changes_text(alloc, past, at, slot, seen)?),
-        None => Err(Unanswered::Refused(Refusal::BadSlot)),
+    for change in changes {
+        push_change(text, refers, *change)?;
     }
+    Ok(())
 }
 
-// Returns the answer of `watch` about the steps up to the current state. Fails with NoObject, BadSlot and NoMemory.
-fn watch_now(alloc: Global, machine: &Machine, id: u64, slot: u64) -> Result<Vec<u8>, Unanswered>
-    ensures { IsWatchText id slot machine.now.trail (told_text result) }
+// Appends the line of a change. Fails if an allocation fails.
+#[tactic(auto, unfolding(crate::specs::SlotChanges::change_line))]
+fn push_change(text: &mut Vec<u8>, refers: bool, change: SlotChange) -> Result<(), AllocError>
+    ensures { Appends (change_line refers change) text.old.items text.new.items result }
 {
-    let past = PastTrail::new(machine, 0);
-    match past.find(id) {
-        Some(at) => changes_of_slot(alloc, &past, at, slot, slot_now(machine, at, slot)),
-        None => Err(Unanswered::NoObject),
-    }
-}
-
-// Returns the lines of the changes of a slot of the object at a place. Fails with BadSlot if the object lacks the slot, and with
-// NoMemory if an allocation fails.
-fn past_changes(
-    alloc: Global,
-    past: &PastTrail<'_>,
-    at: ObjRef,
-    slot: u64,
-) -> Result<Vec<u8>, Unanswered>
-    requires { IsSome (object_at past.now.current.regions at) }
-    ensures { IsTextOrNoMemory (IsSlotChangesText past.now slot at) (told_text result) }
-{
-    match past.slot(alloc, at, slot) {
-        Ok(seen) => changes_of_slot(alloc, past, at, slot, seen),
-        Err(refusal) => Err(Unanswered::Refused(refusal)),
-    }
-}
-
-// Returns the answer of `watch` about the steps of a trail. Fails with NoObject, BadSlot and NoMemory.
-fn watch_past(
-    alloc: Global,
-    past: &PastTrail<'_>,
-    id: u64,
-    slot: u64,
-) -> Result<Vec<u8>, Unanswered>
-    ensures { IsTextOrNoMemory (IsWatchText id slot past.now) (told_text result) }
-{
-    match past.find(id) {
-        Some(at) => past_changes(alloc, past, at, slot),
-        None => Err(Unanswered::NoObject),
-    }
+    push_row(text, change.place)?;
+    push_word(text, refers, change.old)?;
+    push_word(text, refers, change.new)?;
+    push_words(text, b"\n")
 }
 
 // Returns the answer of `watch` about the steps up to a place. Fails with NotRetained, NoObject, BadSlot and NoMemory.
@@ -144,20 +130,34 @@ fn watch_ago(
     }
 }
 
-// Returns the answer of `watch`, about the steps up to a place. Fails with NotRetained if its state isn't retained, with NoObject if
-// the id names no object there, with BadSlot if it lacks the slot, and with NoMemory if an allocation fails. Reads each record since
-// the object was made at most three times.
-pub(crate) fn watch_answer(
+// Returns the answer of `watch` about the steps of a trail. Fails with NoObject, BadSlot and NoMemory.
+fn watch_past(
     alloc: Global,
-    machine: &Machine,
+    past: &PastTrail<'_>,
     id: u64,
     slot: u64,
-    to: Option<u64>,
 ) -> Result<Vec<u8>, Unanswered>
-    ensures { IsAnswerSeen (IsWatchText id slot) to machine.now.trail (told_text result) }
+    ensures { IsTextOrNoMemory (IsWatchText id slot past.now) (told_text result) }
 {
-    match to {
-        None => watch_now(alloc, machine, id, slot),
-        Some(place) => watch_ago(alloc, machine, place, id, slot),
+    match past.find(id) {
+        Some(at) => past_changes(alloc, past, at, slot),
+        None => Err(Unanswered::NoObject),
+    }
+}
+
+// Returns the lines of the changes of a slot of the object at a place. Fails with BadSlot if the object lacks the slot, and with
+// NoMemory if an allocation fails.
+fn past_changes(
+    alloc: Global,
+    past: &PastTrail<'_>,
+    at: ObjRef,
+    slot: u64,
+) -> Result<Vec<u8>, Unanswered>
+    requires { IsSome (object_at past.now.current.regions at) }
+    ensures { IsTextOrNoMemory (IsSlotChangesText past.now slot at) (told_text result) }
+{
+    match past.slot(alloc, at, slot) {
+        Ok(seen) => changes_of_slot(alloc, past, at, slot, seen),
+        Err(refusal) => Err(Unanswered::Refused(refusal)),
     }
 }

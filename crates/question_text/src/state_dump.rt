@@ -15,6 +15,16 @@ use std::alloc::Global;
 // The most pieces of a dump.
 const PIECE_LIMIT: u64 = 16_785_538;
 
+/// Returns the dump of the state that a question may be about, as HPROF, with this time in its header, in milliseconds since 1970.
+/// Fails with NotRetained, NoPin or Lost if there is no such state, and with NoMemory if an allocation fails.
+pub fn dump_at(alloc: Global, machine: &Machine, at: At, time: u64) -> Result<Vec<u8>, Refusal>
+    ensures text { IfOk result (λ t. IsDumpAt at time machine.now t.items) }
+    ensures refused { IfErr result (IsRefusedAt (image_at at machine.now)) }
+{
+    let moment = moment_at(machine, at)?;
+    text_of_view(alloc, &view_of(machine, &moment)?, time)
+}
+
 // Returns the dump of a view, which is allocated at once. Fails with NoMemory.
 fn text_of_view<V: View>(alloc: Global, view: &V, time: u64) -> Result<Vec<u8>, Refusal>
     ensures text { IfOk result
@@ -35,14 +45,4 @@ fn text_of_view<V: View>(alloc: Global, view: &V, time: u64) -> Result<Vec<u8>, 
         cursor = next;
     }
     unreachable!()
-}
-
-/// Returns the dump of the state that a question may be about, as HPROF, with this time in its header, in milliseconds since 1970.
-/// Fails with NotRetained, NoPin or Lost if there is no such state, and with NoMemory if an allocation fails.
-pub fn dump_at(alloc: Global, machine: &Machine, at: At, time: u64) -> Result<Vec<u8>, Refusal>
-    ensures text { IfOk result (λ t. IsDumpAt at time machine.now t.items) }
-    ensures refused { IfErr result (IsRefusedAt (image_at at machine.now)) }
-{
-    let moment = moment_at(machine, at)?;
-    text_of_view(alloc, &view_of(machine, &moment)?, time)
 }

@@ -15,6 +15,37 @@ use heap_trail::Machine;
 use heap_world::World;
 use std::alloc::{AllocError, Global};
 
+// Returns the answer of `status`. Fails with NoMemory if an allocation fails. Looks at each region once.
+pub(crate) fn status_answer(
+    alloc: Global,
+    machine: &Machine,
+    acts: Option<u64>,
+) -> Result<Vec<u8>, Unanswered>
+    ensures { IsStatusText machine.now acts (told_text result) }
+{
+    Ok(status_text(alloc, machine, acts)?)
+}
+
+// Returns the lines of the facts about a machine, which may have a chronicle of this length. Fails with NoMemory.
+fn status_text(alloc: Global, machine: &Machine, acts: Option<u64>) -> Result<Vec<u8>, Refusal>
+    ensures { ReturnsText (λ text. text ≡ status_text machine.now acts) result }
+{
+    let mut text = Vec::new(alloc);
+    push_trail(&mut text, machine)?;
+    push_collector(&mut text, machine.world())?;
+    push_acts(&mut text, acts)?;
+    Ok(text)
+}
+
+// Appends the rows of the place and of the number of the retained steps. Fails if an allocation fails.
+fn push_trail(text: &mut Vec<u8>, machine: &Machine) -> Result<(), AllocError>
+    ensures { Appends (flat_map fact_text (trail_facts machine.now.trail))
+        text.old.items text.new.items result }
+{
+    push_fact(text, b"place", machine.place())?;
+    push_fact(text, b"retained", machine.retained_count())
+}
+
 // Appends the row of a number with this name. Fails if an allocation fails.
 fn push_fact(text: &mut Vec<u8>, name: &[u8], n: u64) -> Result<(), AllocError>
     ensures { Appends (fact_text (name.now ++ and_number n)) text.old.items text.new.items result }
@@ -23,6 +54,18 @@ fn push_fact(text: &mut Vec<u8>, name: &[u8], n: u64) -> Result<(), AllocError>
     push_words(text, name)?;
     push_number(text, n)?;
     push_words(text, b"\n")
+}
+
+// Appends the rows of the collector. Fails if an allocation fails.
+fn push_collector(text: &mut Vec<u8>, world: &World) -> Result<(), AllocError>
+    ensures { Appends (flat_map fact_text (collector_facts world.now))
+        text.old.items text.new.items result }
+{
+    push_phase(text, world.phase())?;
+    push_fact(text, b"gray", gray_count(world))?;
+    push_fact(text, b"undrained", undrained_count(world))?;
+    push_fact(text, b"unswept", unswept_count(world))?;
+    push_fact(text, b"regions", world.regions().count())
 }
 
 // Appends the row of a phase. Fails if an allocation fails.
@@ -64,27 +107,6 @@ fn unswept_count(world: &World) -> u64
     count
 }
 
-// Appends the rows of the place and of the number of the retained steps. Fails if an allocation fails.
-fn push_trail(text: &mut Vec<u8>, machine: &Machine) -> Result<(), AllocError>
-    ensures { Appends (flat_map fact_text (trail_facts machine.now.trail))
-        text.old.items text.new.items result }
-{
-    push_fact(text, b"place", machine.place())?;
-    push_fact(text, b"retained", machine.retained_count())
-}
-
-// Appends the rows of the collector. Fails if an allocation fails.
-fn push_collector(text: &mut Vec<u8>, world: &World) -> Result<(), AllocError>
-    ensures { Appends (flat_map fact_text (collector_facts world.now))
-        text.old.items text.new.items result }
-{
-    push_phase(text, world.phase())?;
-    push_fact(text, b"gray", gray_count(world))?;
-    push_fact(text, b"undrained", undrained_count(world))?;
-    push_fact(text, b"unswept", unswept_count(world))?;
-    push_fact(text, b"regions", world.regions().count())
-}
-
 // Appends the row of a chronicle's length, if there is one, and the last line. Fails if an allocation fails.
 fn push_acts(text: &mut Vec<u8>, acts: Option<u64>) -> Result<(), AllocError>
     ensures { Appends (flat_map fact_text (chronicle_facts acts)
@@ -98,26 +120,4 @@ fn push_acts(text: &mut Vec<u8>, acts: Option<u64>) -> Result<(), AllocError>
         }
         None => push_count(text, 7),
     }
-}
-
-// Returns the lines of the facts about a machine, which may have a chronicle of this length. Fails with NoMemory.
-fn status_text(alloc: Global, machine: &Machine, acts: Option<u64>) -> Result<Vec<u8>, Refusal>
-    ensures { ReturnsText (λ text. text ≡ status_text machine.now acts) result }
-{
-    let mut text = Vec::new(alloc);
-    push_trail(&mut text, machine)?;
-    push_collector(&mut text, machine.world())?;
-    push_acts(&mut text, acts)?;
-    Ok(text)
-}
-
-// Returns the answer of `status`. Fails with NoMemory if an allocation fails. Looks at each region once.
-pub(crate) fn status_answer(
-    alloc: Global,
-    machine: &Machine,
-    acts: Option<u64>,
-) -> Result<Vec<u8>, Unanswered>
-    ensures { IsStatusText machine.now acts (told_text result) }
-{
-    Ok(status_text(alloc, machine, acts)?)
 }

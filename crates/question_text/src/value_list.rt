@@ -13,25 +13,21 @@ use heap_questions::{SlotValue, slot_values};
 use hprof_text::View;
 use std::alloc::{AllocError, Global};
 
-// Appends the line of a value. Fails if an allocation fails.
-#[tactic(auto, unfolding(crate::specs::ValueLists::value_line))]
-fn push_value(text: &mut Vec<u8>, refers: bool, value: SlotValue) -> Result<(), AllocError>
-    ensures { Appends (value_line refers value) text.old.items text.new.items result }
+// Returns the answer of `values` about a view. Fails with NoClass if the class isn't there, with BadSlot if its objects have no
+// such slot, and with NoMemory if an allocation fails. Reads each object once.
+pub(crate) fn values_answer<V: View>(
+    alloc: Global,
+    view: &V,
+    class: ClassNo,
+    slot: u64,
+) -> Result<Vec<u8>, Unanswered>
+    ensures { IsToldOf (IsValuesText class slot) (V.image view.now) (told_text result) }
 {
-    push_words(text, b"row")?;
-    push_word(text, refers, value.word)?;
-    push_number(text, value.objects)?;
-    push_words(text, b"\n")
-}
-
-// Appends the lines of all values. Fails if an allocation fails.
-fn push_values(text: &mut Vec<u8>, refers: bool, values: &[SlotValue]) -> Result<(), AllocError>
-    ensures { Appends (flat_map (value_line refers) values.now) text.old.items text.new.items result }
-{
-    for value in values {
-        push_value(text, refers, *value)?;
+    let classes = view.classes();
+    match class_slot(&classes, class, slot) {
+        Ok(refers) => Ok(values_text(alloc, view, class, slot, refers)?),
+        Err(refusal) => Err(Unanswered::Refused(refusal)),
     }
-    Ok(())
 }
 
 // Returns the lines of the values that a slot has in the objects of a class, and their number. Fails with NoMemory.
@@ -51,19 +47,23 @@ fn values_text<V: View>(
     Ok(text)
 }
 
-// Returns the answer of `values` about a view. Fails with NoClass if the class isn't there, with BadSlot if its objects have no
-// such slot, and with NoMemory if an allocation fails. Reads each object once.
-pub(crate) fn values_answer<V: View>(
-    alloc: Global,
-    view: &V,
-    class: ClassNo,
-    slot: u64,
-) -> Result<Vec<u8>, Unanswered>
-    ensures { IsToldOf (IsValuesText class slot) (V.image view.now) (told_text result) }
+// Appends the lines of all values. Fails if an allocation fails.
+fn push_values(text: &mut Vec<u8>, refers: bool, values: &[SlotValue]) -> Result<(), AllocError>
+    ensures { Appends (flat_map (value_line refers) values.now) text.old.items text.new.items result }
 {
-    let classes = view.classes();
-    match class_slot(&classes, class, slot) {
-        Ok(refers) => Ok(values_text(alloc, view, class, slot, refers)?),
-        Err(refusal) => Err(Unanswered::Refused(refusal)),
+    for value in values {
+        push_value(text, refers, *value)?;
     }
+    Ok(())
+}
+
+// Appends the line of a value. Fails if an allocation fails.
+#[tactic(auto, unfolding(crate::specs::ValueLists::value_line))]
+fn push_value(text: &mut Vec<u8>, refers: bool, value: SlotValue) -> Result<(), AllocError>
+    ensures { Appends (value_line refers value) text.old.items text.new.items result }
+{
+    push_words(text, b"row")?;
+    push_word(text, refers, value.word)?;
+    push_number(text, value.objects)?;
+    push_words(text, b"\n")
 }

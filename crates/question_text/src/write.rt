@@ -18,25 +18,20 @@ use heap_trail::Machine;
 use session_text::LineAnswer;
 use std::alloc::Global;
 
-// Returns the line of the last write to a slot of the object at a place, which holds this word.
-fn write_line(past: &PastTrail<'_>, at: ObjRef, slot: u64, word: u64) -> LineAnswer
-    requires { slot_word past.now.current at slot ≡ Some word }
-    ensures { IsWriteText past.now at slot (line_answer_text result) }
+// Returns the answer of `wrote`, about the steps up to a place. Refused with NotRetained if its state isn't retained, and with
+// NoMemory if an allocation fails; without a place it takes no memory. Reads each record since the write at most three times.
+pub(crate) fn wrote_answer(
+    alloc: Global,
+    machine: &Machine,
+    to: Option<u64>,
+    id: u64,
+    slot: u64,
+) -> LineAnswer
+    ensures { IsAnswerSeen (IsWroteText id slot) to machine.now.trail (line_answer_text result) }
 {
-    match last_write(past, at, slot, word) {
-        Some(place) => place_line(place),
-        None => older_line(past),
-    }
-}
-
-// Returns the same, or the refusal BadSlot if the object lacks the slot.
-fn slot_line(past: &PastTrail<'_>, at: ObjRef, slot: u64, seen: Option<SeenSlot>) -> LineAnswer
-    requires { seen ≡ seen_slot past.now.current at slot }
-    ensures { IsSlotText past.now slot at (line_answer_text result) }
-{
-    match seen {
-        Some(seen) => write_line(past, at, slot, seen.word),
-        None => reason_line(Unanswered::Refused(Refusal::BadSlot)),
+    match to {
+        None => wrote_now(machine, id, slot),
+        Some(place) => wrote_past(alloc, machine, place, id, slot),
     }
 }
 
@@ -51,25 +46,25 @@ fn wrote_now(machine: &Machine, id: u64, slot: u64) -> LineAnswer
     }
 }
 
-// Returns the line of the last write to a slot of the object at a place, or the refusal BadSlot if the object lacks the slot, or
-// NoMemory if an allocation fails.
-fn past_slot_line(alloc: Global, past: &PastTrail<'_>, at: ObjRef, slot: u64) -> LineAnswer
-    requires { IsSome (object_at past.now.current.regions at) }
-    ensures { IsTextOrNoMemory (IsSlotText past.now slot at) (line_answer_text result) }
+// Returns the same, or the refusal BadSlot if the object lacks the slot.
+fn slot_line(past: &PastTrail<'_>, at: ObjRef, slot: u64, seen: Option<SeenSlot>) -> LineAnswer
+    requires { seen ≡ seen_slot past.now.current at slot }
+    ensures { IsSlotText past.now slot at (line_answer_text result) }
 {
-    match past.slot(alloc, at, slot) {
-        Ok(seen) => slot_line(past, at, slot, seen),
-        Err(refusal) => reason_line(Unanswered::Refused(refusal)),
+    match seen {
+        Some(seen) => write_line(past, at, slot, seen.word),
+        None => reason_line(Unanswered::Refused(Refusal::BadSlot)),
     }
 }
 
-// Returns the answer of `wrote` about the steps of a trail, or the refusal NoMemory if an allocation fails.
-fn wrote_line(alloc: Global, past: &PastTrail<'_>, id: u64, slot: u64) -> LineAnswer
-    ensures { IsTextOrNoMemory (IsWroteText id slot past.now) (line_answer_text result) }
+// Returns the line of the last write to a slot of the object at a place, which holds this word.
+fn write_line(past: &PastTrail<'_>, at: ObjRef, slot: u64, word: u64) -> LineAnswer
+    requires { slot_word past.now.current at slot ≡ Some word }
+    ensures { IsWriteText past.now at slot (line_answer_text result) }
 {
-    match past.find(id) {
-        Some(at) => past_slot_line(alloc, past, at, slot),
-        None => reason_line(Unanswered::NoObject),
+    match last_write(past, at, slot, word) {
+        Some(place) => place_line(place),
+        None => older_line(past),
     }
 }
 
@@ -85,19 +80,24 @@ fn wrote_past(alloc: Global, machine: &Machine, place: u64, id: u64, slot: u64) 
     }
 }
 
-// Returns the answer of `wrote`, about the steps up to a place. Refused with NotRetained if its state isn't retained, and with
-// NoMemory if an allocation fails; without a place it takes no memory. Reads each record since the write at most three times.
-pub(crate) fn wrote_answer(
-    alloc: Global,
-    machine: &Machine,
-    to: Option<u64>,
-    id: u64,
-    slot: u64,
-) -> LineAnswer
-    ensures { IsAnswerSeen (IsWroteText id slot) to machine.now.trail (line_answer_text result) }
+// Returns the answer of `wrote` about the steps of a trail, or the refusal NoMemory if an allocation fails.
+fn wrote_line(alloc: Global, past: &PastTrail<'_>, id: u64, slot: u64) -> LineAnswer
+    ensures { IsTextOrNoMemory (IsWroteText id slot past.now) (line_answer_text result) }
 {
-    match to {
-        None => wrote_now(machine, id, slot),
-        Some(place) => wrote_past(alloc, machine, place, id, slot),
+    match past.find(id) {
+        Some(at) => past_slot_line(alloc, past, at, slot),
+        None => reason_line(Unanswered::NoObject),
+    }
+}
+
+// Returns the line of the last write to a slot of the object at a place, or the refusal BadSlot if the object lacks the slot, or
+// NoMemory if an allocation fails.
+fn past_slot_line(alloc: Global, past: &PastTrail<'_>, at: ObjRef, slot: u64) -> LineAnswer
+    requires { IsSome (object_at past.now.current.regions at) }
+    ensures { IsTextOrNoMemory (IsSlotText past.now slot at) (line_answer_text result) }
+{
+    match past.slot(alloc, at, slot) {
+        Ok(seen) => slot_line(past, at, slot, seen),
+        Err(refusal) => reason_line(Unanswered::Refused(refusal)),
     }
 }

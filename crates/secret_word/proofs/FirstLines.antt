@@ -6,15 +6,15 @@ use Rattle.std.proofs.lemmas.List.Elements.{All-get_or, All-push, All-tail, All-
 use Rattle.std.specs.Char.{IsAsciiAlphanumeric}
 use Rattle.secret_word.specs.Ends.{IsFirstEnd, IsWithout, NoLf}
 use Rattle.secret_word.specs.Words.{IsBehindWord, IsSecret}
-use Rattle.secret_word.proofs.WordEnds.{only_line}
+use Rattle.secret_word.proofs.WordEnds.{word_is_line_without_return}
 
-head_or : ℕ → List ℕ → ℕ
-head_or d [] = d
-head_or d (x ∷ xs) = x
+first_byte_or : ℕ → List ℕ → ℕ
+first_byte_or d [] = d
+first_byte_or d (x ∷ xs) = x
 
-tail_of : List ℕ → List ℕ
-tail_of [] = []
-tail_of (x ∷ xs) = xs
+bytes_without_first : List ℕ → List ℕ
+bytes_without_first [] = []
+bytes_without_first (x ∷ xs) = xs
 
 -- no LF is among bytes without one
 no_lf_there : (xs ys : List ℕ) → NoLf (xs ++ 10 ∷ ys) → ⊥
@@ -23,45 +23,45 @@ no_lf_there xs ys none =
     absurd (cc at)
 
 -- what stands before the first LF
-one_first : (xs ys ms ns : List ℕ) → NoLf xs → NoLf ys → xs ++ 10 ∷ ms ≡ ys ++ 10 ∷ ns → xs ≡ ys
-unfolding head_or tail_of
-one_first [] [] ms ns nx ny e = refl
-one_first [] (y ∷ ys) ms ns nx ny e = absurd (no_lf_there [] ys (subst (λ b. NoLf (b ∷ ys)) (sym (ap (head_or 0) e)) ny))
-one_first (x ∷ xs) [] ms ns nx ny e = absurd (no_lf_there [] xs (subst (λ b. NoLf (b ∷ xs)) (ap (head_or 0) e) nx))
-one_first (x ∷ xs) (y ∷ ys) ms ns nx ny e =
-    ap (λ b. b ∷ xs) (ap (head_or 0) e)
-    ∙ ap (λ l. y ∷ l) (one_first xs ys ms ns (All-tail (λ b. (b == 10) ≡ false) x xs nx) (All-tail (λ b. (b == 10) ≡ false) y ys ny) (ap tail_of e))
+bytes_before_line_feed_equal : (xs ys ms ns : List ℕ) → NoLf xs → NoLf ys → xs ++ 10 ∷ ms ≡ ys ++ 10 ∷ ns → xs ≡ ys
+unfolding first_byte_or bytes_without_first
+bytes_before_line_feed_equal [] [] ms ns nx ny e = refl
+bytes_before_line_feed_equal [] (y ∷ ys) ms ns nx ny e = absurd (no_lf_there [] ys (subst (λ b. NoLf (b ∷ ys)) (sym (ap (first_byte_or 0) e)) ny))
+bytes_before_line_feed_equal (x ∷ xs) [] ms ns nx ny e = absurd (no_lf_there [] xs (subst (λ b. NoLf (b ∷ xs)) (ap (first_byte_or 0) e) nx))
+bytes_before_line_feed_equal (x ∷ xs) (y ∷ ys) ms ns nx ny e =
+    ap (λ b. b ∷ xs) (ap (first_byte_or 0) e)
+    ∙ ap (λ l. y ∷ l) (bytes_before_line_feed_equal xs ys ms ns (All-tail (λ b. (b == 10) ≡ false) x xs nx) (All-tail (λ b. (b == 10) ≡ false) y ys ny) (ap bytes_without_first e))
 
-above : (b : ℕ) → 10 < b → (b == 10) ≡ false
-above b lt = ne_eqb b 10 (λ is. omega (arith, is, lt))
+byte_above_ten_no_line_feed : (b : ℕ) → 10 < b → (b == 10) ≡ false
+byte_above_ten_no_line_feed b lt = ne_eqb b 10 (λ is. omega (arith, is, lt))
 
-not_lf : (b : ℕ) → IsAsciiAlphanumeric b → (b == 10) ≡ false
-not_lf b (inl (inl r)) = above b (omega (arith, r.0))
-not_lf b (inl (inr r)) = above b (omega (arith, r.0))
-not_lf b (inr r) = above b (omega (arith, r.0))
+alphanumeric_is_no_line_feed : (b : ℕ) → IsAsciiAlphanumeric b → (b == 10) ≡ false
+alphanumeric_is_no_line_feed b (inl (inl r)) = byte_above_ten_no_line_feed b (omega (arith, r.0))
+alphanumeric_is_no_line_feed b (inl (inr r)) = byte_above_ten_no_line_feed b (omega (arith, r.0))
+alphanumeric_is_no_line_feed b (inr r) = byte_above_ten_no_line_feed b (omega (arith, r.0))
 
 -- a word is a part of a line, and so is a word with a CR
 word_in_line : (word : List ℕ) → IsSecret word → NoLf word
-word_in_line word secret = All-weaker IsAsciiAlphanumeric (λ b. (b == 10) ≡ false) not_lf word secret.2
+word_in_line word secret = All-weaker IsAsciiAlphanumeric (λ b. (b == 10) ≡ false) alphanumeric_is_no_line_feed word secret.2
 
 ended_in_line : (word : List ℕ) → IsSecret word → NoLf (word ++ 13 ∷ [])
 ended_in_line word secret = All-push (λ b. (b == 10) ≡ false) word 13 (word_in_line word secret) refl
 
 -- bytes without an LF have no line
-pub no_line : (word bytes : List ℕ) → NoLf bytes → (rest : List ℕ) → IsBehindWord word bytes rest → ⊥
-no_line word bytes none rest (inl is) = no_lf_there word rest (subst NoLf is none)
-no_line word bytes none rest (inr is) = no_lf_there (word ++ 13 ∷ []) rest (subst NoLf (is ∙ sym (append_assoc word (13 ∷ []) (10 ∷ rest))) none)
+pub bytes_without_line_feed_no_word : (word bytes : List ℕ) → NoLf bytes → (rest : List ℕ) → IsBehindWord word bytes rest → ⊥
+bytes_without_line_feed_no_word word bytes none rest (inl is) = no_lf_there word rest (subst NoLf is none)
+bytes_without_line_feed_no_word word bytes none rest (inr is) = no_lf_there (word ++ 13 ∷ []) rest (subst NoLf (is ∙ sym (append_assoc word (13 ∷ []) (10 ∷ rest))) none)
 
 -- the first line is the word, if there is something behind the word
 pub first_is_word : (n : ℕ) (word bytes line : List ℕ) → IsFirstEnd n bytes → IsWithout 13 (take n bytes) line → IsSecret word → (rest : List ℕ) → IsBehindWord word bytes rest → line ≡ word
 first_is_word n word bytes line at without secret rest (inl is) =
-    sym (only_line (take n bytes) line without word secret (inl (one_first (take n bytes) word (drop (n + 1) bytes) rest at.1 (word_in_line word secret) (sym at.2 ∙ is))))
+    sym (word_is_line_without_return (take n bytes) line without word secret (inl (bytes_before_line_feed_equal (take n bytes) word (drop (n + 1) bytes) rest at.1 (word_in_line word secret) (sym at.2 ∙ is))))
 first_is_word n word bytes line at without secret rest (inr is) =
-    sym (only_line (take n bytes) line without word secret (inr (one_first (take n bytes) (word ++ 13 ∷ []) (drop (n + 1) bytes) rest at.1 (ended_in_line word secret) (sym at.2 ∙ is ∙ sym (append_assoc word (13 ∷ []) (10 ∷ rest))))))
+    sym (word_is_line_without_return (take n bytes) line without word secret (inr (bytes_before_line_feed_equal (take n bytes) (word ++ 13 ∷ []) (drop (n + 1) bytes) rest at.1 (ended_in_line word secret) (sym at.2 ∙ is ∙ sym (append_assoc word (13 ∷ []) (10 ∷ rest))))))
 
 -- what is behind a first line that is the word
-pub behind_first : (n : ℕ) (word bytes line : List ℕ) → IsFirstEnd n bytes → IsWithout 13 (take n bytes) line → line ≡ word → IsBehindWord word bytes (drop (n + 1) bytes)
-behind_first n word bytes line at (inl e) same =
+pub bytes_behind_first_word_line : (n : ℕ) (word bytes line : List ℕ) → IsFirstEnd n bytes → IsWithout 13 (take n bytes) line → line ≡ word → IsBehindWord word bytes (drop (n + 1) bytes)
+bytes_behind_first_word_line n word bytes line at (inl e) same =
     inr (at.2 ∙ ap (λ l. l ++ 10 ∷ drop (n + 1) bytes) (e ∙ ap (λ l. l ++ 13 ∷ []) same) ∙ append_assoc word (13 ∷ []) (10 ∷ drop (n + 1) bytes))
-behind_first n word bytes line at (inr h) same =
+bytes_behind_first_word_line n word bytes line at (inr h) same =
     inl (at.2 ∙ ap (λ l. l ++ 10 ∷ drop (n + 1) bytes) (sym h.0 ∙ same))

@@ -6,41 +6,41 @@ use Rattle.std.specs.Char.{IsAsciiAlphanumeric}
 use Rattle.secret_word.specs.Ends.{IsWithout}
 use Rattle.secret_word.specs.Words.{IsSecret, IsTextOf}
 
-pub has_only : (xs ys : List ℕ) (c : ℕ) → All IsAsciiAlphanumeric (xs ++ c ∷ ys) → IsAsciiAlphanumeric c
-has_only xs ys c all =
+pub byte_of_word_is_alphanumeric : (xs ys : List ℕ) (c : ℕ) → All IsAsciiAlphanumeric (xs ++ c ∷ ys) → IsAsciiAlphanumeric c
+byte_of_word_is_alphanumeric xs ys c all =
     subst IsAsciiAlphanumeric (get_or_at xs c ys 0 (length xs) refl) (All-get_or IsAsciiAlphanumeric (xs ++ c ∷ ys) (length xs) 0 (omega (arith, length-append xs (c ∷ ys))) all)
 
 -- an LF or a CR is neither letter nor digit
 abbrev pub IsLow : ℕ → Type 0
 IsLow c = c < 48
 
-low : (c : ℕ) → IsLow c → IsAsciiAlphanumeric c → ⊥
-low c lt (inl (inl r)) = omega (arith, r.0, lt)
-low c lt (inl (inr r)) = omega (arith, r.0, lt)
-low c lt (inr r) = omega (arith, r.0, lt)
+low_byte_is_not_alphanumeric : (c : ℕ) → IsLow c → IsAsciiAlphanumeric c → ⊥
+low_byte_is_not_alphanumeric c lt (inl (inl r)) = omega (arith, r.0, lt)
+low_byte_is_not_alphanumeric c lt (inl (inr r)) = omega (arith, r.0, lt)
+low_byte_is_not_alphanumeric c lt (inr r) = omega (arith, r.0, lt)
 
 -- a word has none
-pub no_low : (word xs ys : List ℕ) (c : ℕ) → IsLow c → IsSecret word → word ≡ xs ++ c ∷ ys → ⊥
-no_low word xs ys c lt secret is = low c lt (has_only xs ys c (subst (All IsAsciiAlphanumeric) is secret.2))
+pub secret_word_has_no_low_byte : (word xs ys : List ℕ) (c : ℕ) → IsLow c → IsSecret word → word ≡ xs ++ c ∷ ys → ⊥
+secret_word_has_no_low_byte word xs ys c lt secret is = low_byte_is_not_alphanumeric c lt (byte_of_word_is_alphanumeric xs ys c (subst (All IsAsciiAlphanumeric) is secret.2))
 
 -- a text from which nothing was taken
-pub only_whole : (text line : List ℕ) → length line ≡ length text → IsWithout 10 text line → (word : List ℕ) → IsSecret word → IsTextOf word text → word ≡ text
-only_whole text line same (inl e) word secret of = absurd (omega (arith, same, ap length e, length-append line (10 ∷ [])))
-only_whole text line same (inr h) word secret (inl is) = sym is
-only_whole text line same (inr h) word secret (inr (inl is)) = absurd (h.1 (word, is))
-only_whole text line same (inr h) word secret (inr (inr is)) = absurd (h.1 (word ++ 13 ∷ [], is ∙ sym (append_assoc word (13 ∷ []) (10 ∷ []))))
+pub text_without_cut_is_word : (text line : List ℕ) → length line ≡ length text → IsWithout 10 text line → (word : List ℕ) → IsSecret word → IsTextOf word text → word ≡ text
+text_without_cut_is_word text line same (inl e) word secret of = absurd (omega (arith, same, ap length e, length-append line (10 ∷ [])))
+text_without_cut_is_word text line same (inr h) word secret (inl is) = sym is
+text_without_cut_is_word text line same (inr h) word secret (inr (inl is)) = absurd (h.1 (word, is))
+text_without_cut_is_word text line same (inr h) word secret (inr (inr is)) = absurd (h.1 (word ++ 13 ∷ [], is ∙ sym (append_assoc word (13 ∷ []) (10 ∷ []))))
 
 -- a line from which a CR was taken, or none
-pub only_line : (line rest : List ℕ) → IsWithout 13 line rest → (word : List ℕ) → IsSecret word → (line ≡ word) ⊎ (line ≡ word ++ 13 ∷ []) → word ≡ rest
-only_line line rest (inl e) word secret (inl is) = absurd (no_low word rest [] 13 (omega arith) secret (sym is ∙ e))
-only_line line rest (inl e) word secret (inr is) = append_cancel_right word rest (13 ∷ []) (sym is ∙ e)
-only_line line rest (inr h) word secret (inl is) = sym (h.0 ∙ is)
-only_line line rest (inr h) word secret (inr is) = absurd (h.1 (word, is))
+pub word_is_line_without_return : (line rest : List ℕ) → IsWithout 13 line rest → (word : List ℕ) → IsSecret word → (line ≡ word) ⊎ (line ≡ word ++ 13 ∷ []) → word ≡ rest
+word_is_line_without_return line rest (inl e) word secret (inl is) = absurd (secret_word_has_no_low_byte word rest [] 13 (omega arith) secret (sym is ∙ e))
+word_is_line_without_return line rest (inl e) word secret (inr is) = append_cancel_right word rest (13 ∷ []) (sym is ∙ e)
+word_is_line_without_return line rest (inr h) word secret (inl is) = sym (h.0 ∙ is)
+word_is_line_without_return line rest (inr h) word secret (inr is) = absurd (h.1 (word, is))
 
 -- a text without its LF
-pub only_ended : (text line rest : List ℕ) → (length line ≡ length text → ⊥) → IsWithout 10 text line → IsWithout 13 line rest → (word : List ℕ) → IsSecret word → IsTextOf word text → word ≡ rest
-only_ended text line rest apart (inr h) without word secret of = absurd (apart (ap length h.0))
-only_ended text line rest apart (inl e) without word secret (inl is) = absurd (no_low word line [] 10 (omega arith) secret (sym is ∙ e))
-only_ended text line rest apart (inl e) without word secret (inr (inl is)) = only_line line rest without word secret (inl (append_cancel_right line word (10 ∷ []) (sym e ∙ is)))
-only_ended text line rest apart (inl e) without word secret (inr (inr is)) =
-    only_line line rest without word secret (inr (append_cancel_right line (word ++ 13 ∷ []) (10 ∷ []) (sym e ∙ is ∙ sym (append_assoc word (13 ∷ []) (10 ∷ [])))))
+pub word_is_text_without_end : (text line rest : List ℕ) → (length line ≡ length text → ⊥) → IsWithout 10 text line → IsWithout 13 line rest → (word : List ℕ) → IsSecret word → IsTextOf word text → word ≡ rest
+word_is_text_without_end text line rest apart (inr h) without word secret of = absurd (apart (ap length h.0))
+word_is_text_without_end text line rest apart (inl e) without word secret (inl is) = absurd (secret_word_has_no_low_byte word line [] 10 (omega arith) secret (sym is ∙ e))
+word_is_text_without_end text line rest apart (inl e) without word secret (inr (inl is)) = word_is_line_without_return line rest without word secret (inl (append_cancel_right line word (10 ∷ []) (sym e ∙ is)))
+word_is_text_without_end text line rest apart (inl e) without word secret (inr (inr is)) =
+    word_is_line_without_return line rest without word secret (inr (append_cancel_right line (word ++ 13 ∷ []) (10 ∷ []) (sym e ∙ is ∙ sym (append_assoc word (13 ∷ []) (10 ∷ [])))))

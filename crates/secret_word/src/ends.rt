@@ -11,6 +11,13 @@ pub(crate) const LF: u8 = b'\n';
 // The byte that may stand before it.
 const CR: u8 = b'\r';
 
+/// Returns a line without a CR at its end.
+pub(crate) fn without_cr(line: &[u8]) -> &[u8]
+    ensures { IsWithout 13 line.now result.now }
+{
+    without(line, CR)
+}
+
 // Returns a text without this byte at its end.
 fn without(text: &[u8], end: u8) -> &[u8]
     ensures { IsWithout end text.now result.now }
@@ -19,13 +26,6 @@ fn without(text: &[u8], end: u8) -> &[u8]
         Some((last, rest)) => { if *last == end { rest } else { text } }
         None => text,
     }
-}
-
-/// Returns a line without a CR at its end.
-pub(crate) fn without_cr(line: &[u8]) -> &[u8]
-    ensures { IsWithout 13 line.now result.now }
-{
-    without(line, CR)
 }
 
 /// Returns a text without one LF or CR LF at its end.

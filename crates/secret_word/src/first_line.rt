@@ -23,35 +23,6 @@ enum Sight {
     Gone,
 }
 
-// Returns what a client has sent, and leaves it there. Waits at most for this long, and only if nothing has come.
-fn sight_of(stream: &TcpStream, left: Duration) -> Sight {
-    let mut room = [0u8; FIRST_LINE_LIMIT];
-    if stream.set_read_timeout(Some(left)).is_err() {
-        return Sight::Gone;
-    }
-    match stream.peek(&mut room) {
-        Ok(0) => Sight::Gone,
-        Ok(count) => {
-            if count >= FIRST_LINE_LIMIT || line_end(&room[..count]).is_some() {
-                Sight::Whole
-            } else {
-                Sight::Part
-            }
-        }
-        Err(_) => Sight::Gone,
-    }
-}
-
-// Returns what is left of a time that began then, or None if it is over or there is no clock.
-fn time_left<R: Clock>(rt: &R, begun: Instant, limit: Duration) -> Option<Duration> {
-    let now = Instant::now(rt).ok()?;
-    let spent = now.duration_since(begun);
-    if spent >= limit {
-        return None;
-    }
-    limit.checked_sub(spent)
-}
-
 /// Waits, at most for this long, until a client has sent a whole line, or as many bytes as the line of a secret word has at most.
 /// Returns whether it has. Reads nothing, and leaves the socket with another time limit of its reads. May wait.
 pub fn await_line<R: Clock + Wait>(rt: &R, stream: &TcpStream, limit: Duration) -> bool {
@@ -69,4 +40,33 @@ pub fn await_line<R: Clock + Wait>(rt: &R, stream: &TcpStream, limit: Duration) 
         }
     }
     unreachable!()
+}
+
+// Returns what is left of a time that began then, or None if it is over or there is no clock.
+fn time_left<R: Clock>(rt: &R, begun: Instant, limit: Duration) -> Option<Duration> {
+    let now = Instant::now(rt).ok()?;
+    let spent = now.duration_since(begun);
+    if spent >= limit {
+        return None;
+    }
+    limit.checked_sub(spent)
+}
+
+// Returns what a client has sent, and leaves it there. Waits at most for this long, and only if nothing has come.
+fn sight_of(stream: &TcpStream, left: Duration) -> Sight {
+    let mut room = [0u8; FIRST_LINE_LIMIT];
+    if stream.set_read_timeout(Some(left)).is_err() {
+        return Sight::Gone;
+    }
+    match stream.peek(&mut room) {
+        Ok(0) => Sight::Gone,
+        Ok(count) => {
+            if count >= FIRST_LINE_LIMIT || line_end(&room[..count]).is_some() {
+                Sight::Whole
+            } else {
+                Sight::Part
+            }
+        }
+        Err(_) => Sight::Gone,
+    }
 }

@@ -7,7 +7,7 @@ use Rattle.heap_class.specs.declared.Field.{Field}
 use Rattle.session_grammar.specs.declared.spans.FieldSpan.{FieldSpan}
 use Rattle.session_grammar.specs.Grammar.{words_of_line}
 use Rattle.session_grammar.specs.Reads.{word_size, first_word, with_size, plain_field, plain_fields, field_of_span, AreSpansWithin, IsRestOf}
-use Rattle.session_grammar.proofs.Firsts.{sized}
+use Rattle.session_grammar.proofs.Firsts.{some_with_size_is_read}
 
 pub rest_of_rest : (text rest less : List ℕ) → IsRestOf text rest → IsRestOf rest less → IsRestOf text less
 rest_of_rest text rest less h k =
@@ -18,33 +18,33 @@ rest_of_rest text rest less h k =
       k.1 ∙ ap (λ l. drop n l) h.1 ∙ drop-drop n m text ∙ ap (λ j. drop j text) all,
     )
 
-pub one_longer : (old new : List FieldSpan) (mark : FieldSpan) → new ≡ old ++ mark ∷ [] → length new ≡ length old + 1
-one_longer old new mark e = ap length e ∙ length-append old (mark ∷ [])
+pub spans_longer_by_one : (old new : List FieldSpan) (mark : FieldSpan) → new ≡ old ++ mark ∷ [] → length new ≡ length old + 1
+spans_longer_by_one old new mark e = ap length e ∙ length-append old (mark ∷ [])
 
-one_within : (text : List ℕ) (mark : FieldSpan) → mark.start + mark.size ≤ length text → AreSpansWithin text (mark ∷ [])
-one_within text mark h zero d lt = h
-one_within text mark h (suc k) d lt = absurd (omega (arith, lt))
+single_span_within_text : (text : List ℕ) (mark : FieldSpan) → mark.start + mark.size ≤ length text → AreSpansWithin text (mark ∷ [])
+single_span_within_text text mark h zero d lt = h
+single_span_within_text text mark h (suc k) d lt = absurd (omega (arith, lt))
 
-pub within_more : (text : List ℕ) (old new : List FieldSpan) (mark : FieldSpan) → new ≡ old ++ mark ∷ [] → mark.start + mark.size ≤ length text → AreSpansWithin text old → AreSpansWithin text new
-within_more text old new mark e h all = subst (AreSpansWithin text) (sym e) (All-append (λ m. m.start + m.size ≤ length text) old (mark ∷ []) all (one_within text mark h))
+pub spans_within_with_one_more : (text : List ℕ) (old new : List FieldSpan) (mark : FieldSpan) → new ≡ old ++ mark ∷ [] → mark.start + mark.size ≤ length text → AreSpansWithin text old → AreSpansWithin text new
+spans_within_with_one_more text old new mark e h all = subst (AreSpansWithin text) (sym e) (All-append (λ m. m.start + m.size ≤ length text) old (mark ∷ []) all (single_span_within_text text mark h))
 
-more_with : (text : List ℕ) (old : List FieldSpan) (mark : FieldSpan) (o : Option (List Field))
+fields_with_one_span_more : (text : List ℕ) (old : List FieldSpan) (mark : FieldSpan) (o : Option (List Field))
     → option_map (λ fs. map (field_of_span text) old ++ fs) (option_map (λ fs. field_of_span text mark ∷ fs) o) ≡ option_map (λ fs. map (field_of_span text) (old ++ mark ∷ []) ++ fs) o
-more_with text old mark None = refl
-more_with text old mark (Some fs) =
+fields_with_one_span_more text old mark None = refl
+fields_with_one_span_more text old mark (Some fs) =
     let f = field_of_span text in
     ap Some (sym (append_assoc (map f old) (f mark ∷ []) fs) ∙ ap (λ l. l ++ fs) (sym (map-append f old (mark ∷ []))))
 
 -- a field more was read
-pub fields_more : (text t left : List ℕ) (ws : List (List ℕ)) (old new : List FieldSpan) (mark : FieldSpan) (whole : ℕ) → Some (field_of_span text mark, whole) ≡ with_size t (plain_field (first_word t)) → left ≡ drop (whole + 1) t → new ≡ old ++ mark ∷ [] → ws ≡ first_word t ∷ words_of_line (drop (word_size t + 1) t)
+pub field_spans_one_further : (text t left : List ℕ) (ws : List (List ℕ)) (old new : List FieldSpan) (mark : FieldSpan) (whole : ℕ) → Some (field_of_span text mark, whole) ≡ with_size t (plain_field (first_word t)) → left ≡ drop (whole + 1) t → new ≡ old ++ mark ∷ [] → ws ≡ first_word t ∷ words_of_line (drop (word_size t + 1) t)
     → option_map (λ fs. map (field_of_span text) old ++ fs) (plain_fields ws) ≡ option_map (λ fs. map (field_of_span text) new ++ fs) (plain_fields (words_of_line left))
-fields_more text t left ws old new mark whole e rest more words =
-    let p = sized t (plain_field (first_word t)) (field_of_span text mark) whole e in
+field_spans_one_further text t left ws old new mark whole e rest more words =
+    let p = some_with_size_is_read t (plain_field (first_word t)) (field_of_span text mark) whole e in
     let behind : words_of_line (drop (word_size t + 1) t) ≡ words_of_line left = ap (λ n. words_of_line (drop (n + 1) t)) (sym p.1) ∙ ap words_of_line (sym rest) in
     let first : plain_fields ws ≡ option_map (λ fs. field_of_span text mark ∷ fs) (plain_fields (words_of_line left)) =
     ap plain_fields words
     ∙ ap (λ o. option_and_then (λ f. option_map (λ fs. f ∷ fs) (plain_fields (words_of_line (drop (word_size t + 1) t)))) o) p.0
     ∙ ap (λ l. option_map (λ fs. field_of_span text mark ∷ fs) (plain_fields l)) behind in
     ap (λ o. option_map (λ fs. map (field_of_span text) old ++ fs) o) first
-    ∙ more_with text old mark (plain_fields (words_of_line left))
+    ∙ fields_with_one_span_more text old mark (plain_fields (words_of_line left))
     ∙ ap (λ marks. option_map (λ fs. map (field_of_span text) marks ++ fs) (plain_fields (words_of_line left))) (sym more)

@@ -57,61 +57,6 @@ pub fn next_number(words: &mut Words) -> Option<u64>
     Some(value)
 }
 
-// Reads the number that the next word holds, or None from a `-`. Returns None if it holds neither.
-fn next_number_or_dash(words: &mut Words) -> Option<Option<u64>>
-    ensures next { IsNextWord (next_number_or_dash (words_of_line words.old))
-        (words_of_line words.new) result }
-    ensures shorter { length words.new ≤ length words.old }
-{
-    let (value, size) = number_or_dash_at(words.front()?)?;
-    words.pass(size);
-    Some(value)
-}
-
-// Returns the place that a word names, or None for a `-`.
-#[tactic(auto, unfolding(crate::specs::Grammar::place_or_dash))]
-fn place_or_dash(word: &[u8]) -> Option<Option<u64>>
-    ensures { result ≡ place_or_dash word.now }
-{
-    if is_word(word, b"-") {
-        return Some(None);
-    }
-    match word {
-        [b'@', place @ ..] => Some(Some(number_of(place)?)),
-        _ => Some(Some(number_of(word)?)),
-    }
-}
-
-// Reads the place that the next word names, or None from a `-`. Returns None if it names neither.
-fn next_place_or_dash(words: &mut Words) -> Option<Option<u64>>
-    ensures { IsNextWord (next_place_or_dash (words_of_line words.old)) (words_of_line words.new)
-        result }
-{
-    let word = words.next_word()?;
-    place_or_dash(word)
-}
-
-// Reads the kind that the next word names. Returns None if it names none.
-fn next_kind(words: &mut Words) -> Option<Kind>
-    ensures { IsNextWord (next_kind (words_of_line words.old)) (words_of_line words.new) result }
-{
-    let (kind, size) = kind_at(words.front()?)?;
-    words.pass(size);
-    Some(kind)
-}
-
-// Reads the next word as a name. Returns None if one of its bytes is bad.
-fn next_name<'a>(words: &mut Words<'a>) -> Option<&'a [u8]>
-    ensures next { IsNextWord (next_name (words_of_line words.old)) (words_of_line words.new)
-        (option_map (λ w. w.now) result) }
-    ensures shorter { length words.new ≤ length words.old }
-{
-    let text = words.front()?;
-    let size = name_at(text)?;
-    words.pass(size);
-    Some(&text[..size])
-}
-
 /// Returns a value if no word is left.
 pub fn at_end<T: Drop>(value: T, mut words: Words) -> Option<T>
     ensures { result ≡ at_end value (words_of_line words.entry) }
@@ -127,22 +72,6 @@ pub fn one_number(mut words: Words) -> Option<u64>
     ensures { result ≡ one_number (words_of_line words.entry) }
 {
     let a = next_number(&mut words)?;
-    at_end(a, words)
-}
-
-// Returns the one number that the words are, or None from a `-`.
-fn one_number_or_dash(mut words: Words) -> Option<Option<u64>>
-    ensures { result ≡ one_number_or_dash (words_of_line words.entry) }
-{
-    let a = next_number_or_dash(&mut words)?;
-    at_end(a, words)
-}
-
-// Returns the one place that the words name, or None from a `-`.
-fn one_place_or_dash(mut words: Words) -> Option<Option<u64>>
-    ensures { result ≡ one_place_or_dash (words_of_line words.entry) }
-{
-    let a = next_place_or_dash(&mut words)?;
     at_end(a, words)
 }
 
@@ -176,6 +105,55 @@ fn four_numbers(mut words: Words) -> Option<(u64, u64, u64, u64)>
     at_end((a, b, c, d), words)
 }
 
+/// Returns the line without a CR at its end.
+pub fn without_cr(line: &[u8]) -> &[u8]
+    ensures { result.now ≡ without_cr line.now }
+{
+    let size = line.len();
+    if size > 0 && line[size - 1] == 13 {
+        &line[..size - 1]
+    } else {
+        line
+    }
+}
+
+/// Returns the command of a line without its CR. Fails if an allocation for a class fails.
+pub fn command_of_text(
+    alloc: Global,
+    marks: &mut FieldSpans,
+    text: &[u8],
+) -> Result<Command, AllocError>
+    requires { length text.now ≤ LINE_LIMIT }
+    ensures { MatchResult result (λ c. c ≡ command_of_text text.now)
+        (λ _. TakesMemory (command_of_text text.now)) }
+{
+    let mut words = Words::new(text);
+    let Some(word) = words.next_word() else {
+        return Ok(Command::Blank);
+    };
+    Ok(line_after(alloc, marks, word, words)?.unwrap_or(Command::Bad))
+}
+
+// Reads a line from its first word and the words after it. Returns None if it is none of the grammar's. Fails if an
+// allocation fails.
+#[tactic(auto, unfolding(crate::specs::Grammar::by_rule, crate::specs::Reads::plain_class_rules))]
+fn line_after(
+    alloc: Global,
+    marks: &mut FieldSpans,
+    word: &[u8],
+    words: Words,
+) -> Result<Option<Command>, AllocError>
+    requires { length words ≤ LINE_LIMIT }
+    ensures { MatchResult result (λ c. c ≡ by_rule plain_rules word.now (words_of_line words.entry))
+        (λ _. MayTakeMemory (by_rule plain_rules word.now (words_of_line words.entry))) }
+{
+    by_word!(word;
+        b"class" => class_line(alloc, marks, words),
+        b"array" => array_line(alloc, words),
+        _ => Ok(making_line(word, words))
+    )
+}
+
 // Reads the words of `class NAME SUPER FIELD ..`. Returns None, and allocates nothing, if they don't fit. Fails if an
 // allocation fails.
 fn class_line(
@@ -202,6 +180,29 @@ fn class_line(
     Ok(Some(Command::Ask(Action::Step(Event::Class { name, sup, fields }))))
 }
 
+// Reads the next word as a name. Returns None if one of its bytes is bad.
+fn next_name<'a>(words: &mut Words<'a>) -> Option<&'a [u8]>
+    ensures next { IsNextWord (next_name (words_of_line words.old)) (words_of_line words.new)
+        (option_map (λ w. w.now) result) }
+    ensures shorter { length words.new ≤ length words.old }
+{
+    let text = words.front()?;
+    let size = name_at(text)?;
+    words.pass(size);
+    Some(&text[..size])
+}
+
+// Reads the number that the next word holds, or None from a `-`. Returns None if it holds neither.
+fn next_number_or_dash(words: &mut Words) -> Option<Option<u64>>
+    ensures next { IsNextWord (next_number_or_dash (words_of_line words.old))
+        (words_of_line words.new) result }
+    ensures shorter { length words.new ≤ length words.old }
+{
+    let (value, size) = number_or_dash_at(words.front()?)?;
+    words.pass(size);
+    Some(value)
+}
+
 // Reads the words of `array NAME`. Returns None, and allocates nothing, if they don't fit. Fails if an allocation fails.
 fn array_line(alloc: Global, mut words: Words) -> Result<Option<Command>, AllocError>
     ensures { MatchResult result (λ c. c ≡ plain_array (words_of_line words.entry))
@@ -215,44 +216,6 @@ fn array_line(alloc: Global, mut words: Words) -> Result<Option<Command>, AllocE
     }
     let name = Name::new(alloc, name)?;
     Ok(Some(Command::Ask(Action::Step(Event::ArrayClass { name }))))
-}
-
-// Reads the words of `newprim M R KIND LEN`.
-fn newprim_line(mut words: Words) -> Option<Command>
-    ensures { result ≡ newprim_line (words_of_line words.entry) }
-{
-    let m = next_number(&mut words)?;
-    let r = next_number(&mut words)?;
-    let kind = next_kind(&mut words)?;
-    let len = next_number(&mut words)?;
-    at_end(
-        Command::Ask(Action::Step(Event::NewPrim { m, r, kind, len })),
-        words,
-    )
-}
-
-// Returns a step that takes no words, if there are none.
-fn step_line(event: Event, words: Words) -> Option<Command>
-    ensures { result ≡ step_line event (words_of_line words.entry) }
-{
-    at_end(Command::Ask(Action::Step(event)), words)
-}
-
-// Reads the words of `dump PIN` or `dump -`.
-fn dump_line(words: Words) -> Option<Command>
-    ensures { result ≡ dump_line (words_of_line words.entry) }
-{
-    match one_number_or_dash(words)? {
-        Some(pin) => Some(Command::Dump(pin)),
-        None => Some(Command::DumpNow),
-    }
-}
-
-// Reads the words of `end`, of which there must be none.
-fn end_line(words: Words) -> Option<Command>
-    ensures { result ≡ end_line (words_of_line words.entry) }
-{
-    at_end(Command::End, words)
 }
 
 // Reads a line by its first word, if that makes an object or `access_line` knows it.
@@ -270,6 +233,29 @@ fn making_line(word: &[u8], words: Words) -> Option<Command>
             _ => access_line(word, words)
         )
     )
+}
+
+// Reads the words of `newprim M R KIND LEN`.
+fn newprim_line(mut words: Words) -> Option<Command>
+    ensures { result ≡ newprim_line (words_of_line words.entry) }
+{
+    let m = next_number(&mut words)?;
+    let r = next_number(&mut words)?;
+    let kind = next_kind(&mut words)?;
+    let len = next_number(&mut words)?;
+    at_end(
+        Command::Ask(Action::Step(Event::NewPrim { m, r, kind, len })),
+        words,
+    )
+}
+
+// Reads the kind that the next word names. Returns None if it names none.
+fn next_kind(words: &mut Words) -> Option<Kind>
+    ensures { IsNextWord (next_kind (words_of_line words.old)) (words_of_line words.new) result }
+{
+    let (kind, size) = kind_at(words.front()?)?;
+    words.pass(size);
+    Some(kind)
 }
 
 // Reads a line by its first word, if that reads or writes a slot or a register or `marking_line` knows it.
@@ -305,6 +291,13 @@ fn marking_line(word: &[u8], words: Words) -> Option<Command>
     )
 }
 
+// Returns a step that takes no words, if there are none.
+fn step_line(event: Event, words: Words) -> Option<Command>
+    ensures { result ≡ step_line event (words_of_line words.entry) }
+{
+    at_end(Command::Ask(Action::Step(event)), words)
+}
+
 // Reads a line by its first word, if that asks the machine or the session for something.
 #[tactic(auto, unfolding(crate::specs::Grammar::by_rule, crate::specs::Grammar::session_rules))]
 fn session_line(word: &[u8], words: Words) -> Option<Command>
@@ -321,51 +314,58 @@ fn session_line(word: &[u8], words: Words) -> Option<Command>
     )
 }
 
-// Reads a line from its first word and the words after it. Returns None if it is none of the grammar's. Fails if an
-// allocation fails.
-#[tactic(auto, unfolding(crate::specs::Grammar::by_rule, crate::specs::Reads::plain_class_rules))]
-fn line_after(
-    alloc: Global,
-    marks: &mut FieldSpans,
-    word: &[u8],
-    words: Words,
-) -> Result<Option<Command>, AllocError>
-    requires { length words ≤ LINE_LIMIT }
-    ensures { MatchResult result (λ c. c ≡ by_rule plain_rules word.now (words_of_line words.entry))
-        (λ _. MayTakeMemory (by_rule plain_rules word.now (words_of_line words.entry))) }
+// Returns the one place that the words name, or None from a `-`.
+fn one_place_or_dash(mut words: Words) -> Option<Option<u64>>
+    ensures { result ≡ one_place_or_dash (words_of_line words.entry) }
 {
-    by_word!(word;
-        b"class" => class_line(alloc, marks, words),
-        b"array" => array_line(alloc, words),
-        _ => Ok(making_line(word, words))
-    )
+    let a = next_place_or_dash(&mut words)?;
+    at_end(a, words)
 }
 
-/// Returns the line without a CR at its end.
-pub fn without_cr(line: &[u8]) -> &[u8]
-    ensures { result.now ≡ without_cr line.now }
+// Reads the place that the next word names, or None from a `-`. Returns None if it names neither.
+fn next_place_or_dash(words: &mut Words) -> Option<Option<u64>>
+    ensures { IsNextWord (next_place_or_dash (words_of_line words.old)) (words_of_line words.new)
+        result }
 {
-    let size = line.len();
-    if size > 0 && line[size - 1] == 13 {
-        &line[..size - 1]
-    } else {
-        line
+    let word = words.next_word()?;
+    place_or_dash(word)
+}
+
+// Returns the place that a word names, or None for a `-`.
+#[tactic(auto, unfolding(crate::specs::Grammar::place_or_dash))]
+fn place_or_dash(word: &[u8]) -> Option<Option<u64>>
+    ensures { result ≡ place_or_dash word.now }
+{
+    if is_word(word, b"-") {
+        return Some(None);
+    }
+    match word {
+        [b'@', place @ ..] => Some(Some(number_of(place)?)),
+        _ => Some(Some(number_of(word)?)),
     }
 }
 
-/// Returns the command of a line without its CR. Fails if an allocation for a class fails.
-pub fn command_of_text(
-    alloc: Global,
-    marks: &mut FieldSpans,
-    text: &[u8],
-) -> Result<Command, AllocError>
-    requires { length text.now ≤ LINE_LIMIT }
-    ensures { MatchResult result (λ c. c ≡ command_of_text text.now)
-        (λ _. TakesMemory (command_of_text text.now)) }
+// Reads the words of `dump PIN` or `dump -`.
+fn dump_line(words: Words) -> Option<Command>
+    ensures { result ≡ dump_line (words_of_line words.entry) }
 {
-    let mut words = Words::new(text);
-    let Some(word) = words.next_word() else {
-        return Ok(Command::Blank);
-    };
-    Ok(line_after(alloc, marks, word, words)?.unwrap_or(Command::Bad))
+    match one_number_or_dash(words)? {
+        Some(pin) => Some(Command::Dump(pin)),
+        None => Some(Command::DumpNow),
+    }
+}
+
+// Returns the one number that the words are, or None from a `-`.
+fn one_number_or_dash(mut words: Words) -> Option<Option<u64>>
+    ensures { result ≡ one_number_or_dash (words_of_line words.entry) }
+{
+    let a = next_number_or_dash(&mut words)?;
+    at_end(a, words)
+}
+
+// Reads the words of `end`, of which there must be none.
+fn end_line(words: Words) -> Option<Command>
+    ensures { result ≡ end_line (words_of_line words.entry) }
+{
+    at_end(Command::End, words)
 }

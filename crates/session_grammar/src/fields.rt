@@ -22,19 +22,6 @@ pub struct FieldSize {
     pub whole: usize,
 }
 
-// Returns the kind of this name.
-#[tactic(auto, unfolding(crate::specs::Grammar::kind_of_word))]
-fn kind_of(word: &[u8]) -> Option<Kind>
-    ensures { result ≡ kind_of_word word.now }
-{
-    for kind in KINDS {
-        if kind.word().as_bytes() == word {
-            return Some(kind);
-        }
-    }
-    None
-}
-
 /// Returns the kind that the text's first word names, and the size of that word. Returns None if it names none.
 pub fn kind_at(text: &[u8]) -> Option<(Kind, usize)>
     ensures value { result ≡ with_size text.now (kind_of_word (first_word text.now)) }
@@ -46,19 +33,17 @@ pub fn kind_at(text: &[u8]) -> Option<(Kind, usize)>
     Some((kind, size))
 }
 
-// Returns the place of the first byte that no word of a good line has.
-fn first_bad(text: &[u8]) -> Option<usize>
-    ensures { result ≡ position (λ b. not (is_ascii_graphic b)) text.now }
+// Returns the kind of this name.
+#[tactic(auto, unfolding(crate::specs::Grammar::kind_of_word))]
+fn kind_of(word: &[u8]) -> Option<Kind>
+    ensures { result ≡ kind_of_word word.now }
 {
-    text.iter().position(|b| !b.is_ascii_graphic())
-}
-
-// Returns the number of good bytes that the text begins with.
-fn name_end(text: &[u8]) -> usize
-    ensures value { result ≡ position_or_len (λ b. not (is_ascii_graphic b)) text.now }
-    ensures within { result ≤ length text.now }
-{
-    first_bad(text).unwrap_or(text.len())
+    for kind in KINDS {
+        if kind.word().as_bytes() == word {
+            return Some(kind);
+        }
+    }
+    None
 }
 
 /// Returns the size of the text's first word, or None if one of its bytes is bad.
@@ -73,13 +58,19 @@ pub fn name_at(text: &[u8]) -> Option<usize>
     Some(size)
 }
 
-// Returns the place of the first byte that no field's name has.
-fn colon_or_end(text: &[u8]) -> Option<usize>
-    ensures value { result ≡ position (λ b. b == 58 || not (is_ascii_graphic b)) text.now }
-    ensures within { IfSome result (λ n. n < length text.now) }
+// Returns the number of good bytes that the text begins with.
+fn name_end(text: &[u8]) -> usize
+    ensures value { result ≡ position_or_len (λ b. not (is_ascii_graphic b)) text.now }
+    ensures within { result ≤ length text.now }
 {
-    text.iter()
-        .position(|b| *b == COLON || !b.is_ascii_graphic())
+    first_bad(text).unwrap_or(text.len())
+}
+
+// Returns the place of the first byte that no word of a good line has.
+fn first_bad(text: &[u8]) -> Option<usize>
+    ensures { result ≡ position (λ b. not (is_ascii_graphic b)) text.now }
+{
+    text.iter().position(|b| !b.is_ascii_graphic())
 }
 
 /// Returns the sizes and the kind of the field NAME:KIND that the text begins with, or None if its first word is no field or
@@ -101,6 +92,15 @@ pub fn field_at(text: &[u8]) -> Option<FieldSize>
         kind,
         whole: colon + 1 + size,
     })
+}
+
+// Returns the place of the first byte that no field's name has.
+fn colon_or_end(text: &[u8]) -> Option<usize>
+    ensures value { result ≡ position (λ b. b == 58 || not (is_ascii_graphic b)) text.now }
+    ensures within { IfSome result (λ n. n < length text.now) }
+{
+    text.iter()
+        .position(|b| *b == COLON || !b.is_ascii_graphic())
 }
 
 /// Reads all words that are left as fields, and marks their places in the text that isn't read yet. Returns false if one of
@@ -128,6 +128,18 @@ pub fn read_fields(mut words: Words, marks: &mut FieldSpans) -> bool
     true
 }
 
+/// Returns copies of the fields of this text. Fails if an allocation fails.
+pub fn copied_all(alloc: Global, text: &[u8], marks: &[FieldSpan]) -> Result<Fields, AllocError>
+    requires { AreSpansWithin text.now marks.now }
+    ensures { IfOk result (λ fs. fs ≡ map (field_of_span text.now) marks.now) }
+{
+    let mut copies = Vec::with_capacity(alloc, marks.len())?;
+    for mark in marks {
+        copies.push(copy_field(alloc, text, mark)?)?;
+    }
+    Ok(Fields::from_vec(copies))
+}
+
 // Returns a copy of a field of this text. Fails if the allocation fails.
 fn copy_field(alloc: Global, text: &[u8], mark: &FieldSpan) -> Result<Field, AllocError>
     requires { mark.now.start + mark.now.size ≤ length text.now }
@@ -139,16 +151,4 @@ fn copy_field(alloc: Global, text: &[u8], mark: &FieldSpan) -> Result<Field, All
         name: Name::new(alloc, name)?,
         kind: mark.kind,
     })
-}
-
-/// Returns copies of the fields of this text. Fails if an allocation fails.
-pub fn copied_all(alloc: Global, text: &[u8], marks: &[FieldSpan]) -> Result<Fields, AllocError>
-    requires { AreSpansWithin text.now marks.now }
-    ensures { IfOk result (λ fs. fs ≡ map (field_of_span text.now) marks.now) }
-{
-    let mut copies = Vec::with_capacity(alloc, marks.len())?;
-    for mark in marks {
-        copies.push(copy_field(alloc, text, mark)?)?;
-    }
-    Ok(Fields::from_vec(copies))
 }

@@ -12,36 +12,6 @@ const DIGIT_LIMIT: usize = 20;
 // The largest number of digits that always make a number below 2^64.
 const SURE_DIGITS: usize = 19;
 
-// Returns a number with one more digit, or None if `b` is no digit or the number comes to 2^64.
-fn with_digit(value: u64, b: u8) -> Option<u64>
-    ensures { result ≡ with_digit value b }
-{
-    if !b.is_ascii_digit() {
-        return None;
-    }
-    value.checked_mul(10)?.checked_add(u64::from(b - b'0'))
-}
-
-// Returns the number that the text's first word holds, given the value of its first 19 digits, and its size, or size 0 if it
-// holds no number.
-#[inline(never)]
-fn last_digit(text: &[u8], value: u64) -> (u64, usize)
-    requires { (19 < length text.now) × IsReadTo text.now (drop 19 text.now) 19 value }
-    ensures value { IsNumberAt text.now result.0 result.1 }
-    ensures within { result.1 ≤ length text.now }
-{
-    if text[SURE_DIGITS] == SPACE {
-        return (value, SURE_DIGITS);
-    }
-    let Some(whole) = with_digit(value, text[SURE_DIGITS]) else {
-        return (0, 0);
-    };
-    if text.len() > DIGIT_LIMIT && text[DIGIT_LIMIT] != SPACE {
-        return (0, 0);
-    }
-    (whole, DIGIT_LIMIT)
-}
-
 /// Returns the number that the text's first word holds, 1 to 20 digits below 2^64, and its size, or size 0 if it holds no
 /// number.
 pub fn number_at(text: &[u8]) -> (u64, usize)
@@ -68,6 +38,36 @@ pub fn number_at(text: &[u8]) -> (u64, usize)
     last_digit(text, value)
 }
 
+// Returns the number that the text's first word holds, given the value of its first 19 digits, and its size, or size 0 if it
+// holds no number.
+#[inline(never)]
+fn last_digit(text: &[u8], value: u64) -> (u64, usize)
+    requires { (19 < length text.now) × IsReadTo text.now (drop 19 text.now) 19 value }
+    ensures value { IsNumberAt text.now result.0 result.1 }
+    ensures within { result.1 ≤ length text.now }
+{
+    if text[SURE_DIGITS] == SPACE {
+        return (value, SURE_DIGITS);
+    }
+    let Some(whole) = with_digit(value, text[SURE_DIGITS]) else {
+        return (0, 0);
+    };
+    if text.len() > DIGIT_LIMIT && text[DIGIT_LIMIT] != SPACE {
+        return (0, 0);
+    }
+    (whole, DIGIT_LIMIT)
+}
+
+// Returns a number with one more digit, or None if `b` is no digit or the number comes to 2^64.
+fn with_digit(value: u64, b: u8) -> Option<u64>
+    ensures { result ≡ with_digit value b }
+{
+    if !b.is_ascii_digit() {
+        return None;
+    }
+    value.checked_mul(10)?.checked_add(u64::from(b - b'0'))
+}
+
 /// Returns the number that a word is: 1 to 20 digits below 2^64, or None if it is no number.
 pub fn number_of(word: &[u8]) -> Option<u64>
     ensures { result ≡ number_of_word word.now }
@@ -77,85 +77,6 @@ pub fn number_of(word: &[u8]) -> Option<u64>
         return None;
     }
     Some(value)
-}
-
-// Tells whether four bytes are digits. It looks at each of them, so that the compiler compares them all at once.
-#[inline(always)]
-fn are_digits(a: u8, b: u8, c: u8, d: u8) -> bool
-    ensures { result ≡ true → AreDigits a b c d }
-{
-    a.is_ascii_digit() & b.is_ascii_digit() & c.is_ascii_digit() & d.is_ascii_digit()
-}
-
-// Returns the value of four digits.
-#[inline(always)]
-fn four_value(a: u8, b: u8, c: u8, d: u8) -> u64
-    requires { AreDigits a b c d }
-    ensures { result ≡ four_value a b c d }
-{
-    let front = u64::from(a - b'0') * 10 + u64::from(b - b'0');
-    (front * 10 + u64::from(c - b'0')) * 10 + u64::from(d - b'0')
-}
-
-// Returns the value of the eight digits that a text begins with, or None if it begins with fewer.
-#[inline(always)]
-fn first_eight(text: &[u8]) -> Option<u64>
-    ensures { IfSome result (λ v. BeginsWithEight text.now v) }
-{
-    match text {
-        [a, b, c, d, e, f, g, h, ..] => {
-            if !(are_digits(*a, *b, *c, *d) & are_digits(*e, *f, *g, *h)) {
-                return None;
-            }
-            let front = four_value(*a, *b, *c, *d);
-            Some(front * 10_000 + four_value(*e, *f, *g, *h))
-        }
-        _ => None,
-    }
-}
-
-// Returns the value of the digits at a place, read eight by eight while there are as many, and their number: 0, 8 or 16.
-#[inline(always)]
-fn eights_in(text: &[u8], at: usize) -> (u64, usize)
-    requires within { at ≤ length text.now }
-    ensures read { IsReadIn text.now at result.0 result.1 }
-    ensures most { result.1 ≤ 16 }
-    ensures small { result.0 < 10 ^ result.1 }
-{
-    let mut value: u64 = 0;
-    let mut size = 0;
-    while size <= 8 {
-        let Some(eight) = first_eight(&text[at + size..]) else {
-            return (value, size);
-        };
-        value = value * 100_000_000 + eight;
-        size += 8;
-    }
-    (value, size)
-}
-
-// Returns the value of the digits at a place, and their number: at most 20, with a value below 2^64.
-fn digits_in(text: &[u8], at: usize) -> (u64, usize)
-    requires { at ≤ length text.now }
-    ensures { IsReadIn text.now at result.0 result.1 }
-{
-    let sure = (text.len() - at).min(SURE_DIGITS);
-    let (mut value, mut size) = eights_in(text, at);
-    while size < sure {
-        let b = u64::from(text[at + size]);
-        if b < 48 || b > 57 {
-            return (value, size);
-        }
-        value = value * 10 + (b - 48);
-        size += 1;
-    }
-    if at + size == text.len() {
-        return (value, size);
-    }
-    match with_digit(value, text[at + size]) {
-        Some(whole) => (whole, size + 1),
-        None => (value, size),
-    }
 }
 
 /// Returns the digit that a byte is, if this byte is next. Both are compared at once, as one number.
@@ -193,15 +114,83 @@ pub fn number_then(text: &[u8], at: usize, ender: u8) -> (u64, usize)
     (value, end)
 }
 
-// Tells whether the text's first word is `-`.
-fn is_dash_at(text: &[u8]) -> bool
-    ensures { result ≡ bytes_eq (first_word text.now) (codes "-") }
+// Returns the value of the digits at a place, and their number: at most 20, with a value below 2^64.
+fn digits_in(text: &[u8], at: usize) -> (u64, usize)
+    requires { at ≤ length text.now }
+    ensures { IsReadIn text.now at result.0 result.1 }
+{
+    let sure = (text.len() - at).min(SURE_DIGITS);
+    let (mut value, mut size) = eights_in(text, at);
+    while size < sure {
+        let b = u64::from(text[at + size]);
+        if b < 48 || b > 57 {
+            return (value, size);
+        }
+        value = value * 10 + (b - 48);
+        size += 1;
+    }
+    if at + size == text.len() {
+        return (value, size);
+    }
+    match with_digit(value, text[at + size]) {
+        Some(whole) => (whole, size + 1),
+        None => (value, size),
+    }
+}
+
+// Returns the value of the digits at a place, read eight by eight while there are as many, and their number: 0, 8 or 16.
+#[inline(always)]
+fn eights_in(text: &[u8], at: usize) -> (u64, usize)
+    requires within { at ≤ length text.now }
+    ensures read { IsReadIn text.now at result.0 result.1 }
+    ensures most { result.1 ≤ 16 }
+    ensures small { result.0 < 10 ^ result.1 }
+{
+    let mut value: u64 = 0;
+    let mut size = 0;
+    while size <= 8 {
+        let Some(eight) = first_eight(&text[at + size..]) else {
+            return (value, size);
+        };
+        value = value * 100_000_000 + eight;
+        size += 8;
+    }
+    (value, size)
+}
+
+// Returns the value of the eight digits that a text begins with, or None if it begins with fewer.
+#[inline(always)]
+fn first_eight(text: &[u8]) -> Option<u64>
+    ensures { IfSome result (λ v. BeginsWithEight text.now v) }
 {
     match text {
-        [b'-'] => true,
-        [b'-', next, ..] => *next == SPACE,
-        _ => false,
+        [a, b, c, d, e, f, g, h, ..] => {
+            if !(are_digits(*a, *b, *c, *d) & are_digits(*e, *f, *g, *h)) {
+                return None;
+            }
+            let front = four_value(*a, *b, *c, *d);
+            Some(front * 10_000 + four_value(*e, *f, *g, *h))
+        }
+        _ => None,
     }
+}
+
+// Tells whether four bytes are digits. It looks at each of them, so that the compiler compares them all at once.
+#[inline(always)]
+fn are_digits(a: u8, b: u8, c: u8, d: u8) -> bool
+    ensures { result ≡ true → AreDigits a b c d }
+{
+    a.is_ascii_digit() & b.is_ascii_digit() & c.is_ascii_digit() & d.is_ascii_digit()
+}
+
+// Returns the value of four digits.
+#[inline(always)]
+fn four_value(a: u8, b: u8, c: u8, d: u8) -> u64
+    requires { AreDigits a b c d }
+    ensures { result ≡ four_value a b c d }
+{
+    let front = u64::from(a - b'0') * 10 + u64::from(b - b'0');
+    (front * 10 + u64::from(c - b'0')) * 10 + u64::from(d - b'0')
 }
 
 /// Returns the number that the text's first word holds, or None from a `-`, and its size. Returns None if it holds neither.
@@ -217,4 +206,15 @@ pub fn number_or_dash_at(text: &[u8]) -> Option<(Option<u64>, usize)>
         return None;
     }
     Some((Some(value), size))
+}
+
+// Tells whether the text's first word is `-`.
+fn is_dash_at(text: &[u8]) -> bool
+    ensures { result ≡ bytes_eq (first_word text.now) (codes "-") }
+{
+    match text {
+        [b'-'] => true,
+        [b'-', next, ..] => *next == SPACE,
+        _ => false,
+    }
 }

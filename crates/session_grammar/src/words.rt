@@ -43,19 +43,19 @@ fn word_start(text: &[u8]) -> Option<usize>
     text.iter().position(|b| *b != SPACE)
 }
 
-// Returns the place of the first space.
-fn first_space(text: &[u8]) -> Option<usize>
-    ensures { result ≡ position (λ b. b == 32) text.now }
-{
-    text.iter().position(|b| *b == SPACE)
-}
-
 /// Returns the size of the word that the text begins with.
 pub fn word_size(text: &[u8]) -> usize
     ensures value { result ≡ word_size text.now }
     ensures within { result ≤ length text.now }
 {
     first_space(text).unwrap_or(text.len())
+}
+
+// Returns the place of the first space.
+fn first_space(text: &[u8]) -> Option<usize>
+    ensures { result ≡ position (λ b. b == 32) text.now }
+{
+    text.iter().position(|b| *b == SPACE)
 }
 
 impl<'a> Model for Words<'a> {

@@ -35,22 +35,22 @@ digits_ascii (c ∷ cs) digits =
     let parts = tells_digits.parts c cs digits in
     and_from _ _ (and_from _ _ (le-leb 48 c (omega (arith, parts.0))) (le-leb c 57 (omega (arith, parts.0)))) (digits_ascii cs parts.1)
 
-chosen : {A : Type 0} (v : Bool) (x y : A) → v ≡ true → cond v x y ≡ x
-chosen true x y e = refl
-chosen false x y e = absurd cc
+true_condition_takes_first : {A : Type 0} (v : Bool) (x y : A) → v ≡ true → cond v x y ≡ x
+true_condition_takes_first true x y e = refl
+true_condition_takes_first false x y e = absurd cc
 
-passed : {A : Type 0} (v : Bool) (x y : A) → v ≡ false → cond v x y ≡ y
-passed true x y e = absurd cc
-passed false x y e = refl
+false_condition_takes_second : {A : Type 0} (v : Bool) (x y : A) → v ≡ false → cond v x y ≡ y
+false_condition_takes_second true x y e = absurd cc
+false_condition_takes_second false x y e = refl
 
-number_read : (n : ℕ) → IsLong n → number_of_word (decimal n) ≡ Some n
+decimal_word_is_read_back : (n : ℕ) → IsLong n → number_of_word (decimal n) ≡ Some n
 unfolding number_of_word
-number_read n long =
+decimal_word_is_read_back n long =
     let numeral = decimal_is_IsNumeral n long in
     let short = length-decimal-le 20 n (omega arith) (omega (arith, long)) long in
     let less : digits_value 10 (decimal n) < 2 ^ 64 = omega (arith, numeral.1, long) in
-    chosen (nat_lt 0 (length (decimal n)) && nat_le (length (decimal n)) 20) (value_of_digits (decimal n)) None (and_from _ _ (lt-ltb 0 (length (decimal n)) numeral.0.0) (le-leb (length (decimal n)) 20 short))
-    ∙ chosen (list_all is_ascii_digit (decimal n) && nat_lt (digits_value 10 (decimal n)) (2 ^ 64)) (Some (digits_value 10 (decimal n))) None
+    true_condition_takes_first (nat_lt 0 (length (decimal n)) && nat_le (length (decimal n)) 20) (value_of_digits (decimal n)) None (and_from _ _ (lt-ltb 0 (length (decimal n)) numeral.0.0) (le-leb (length (decimal n)) 20 short))
+    ∙ true_condition_takes_first (list_all is_ascii_digit (decimal n) && nat_lt (digits_value 10 (decimal n)) (2 ^ 64)) (Some (digits_value 10 (decimal n))) None
     (and_from _ _ (digits_ascii (decimal n) numeral.0.1) (lt-ltb (digits_value 10 (decimal n)) (2 ^ 64) less))
     ∙ ap (λ (v : ℕ). Some v) numeral.1
 
@@ -85,17 +85,17 @@ kind_is_word Short = (omega arith, refl)
 kind_is_word Int = (omega arith, refl)
 kind_is_word Long = (omega arith, refl)
 
-kind_read : (kind : Kind) → kind_of_word (kind_word kind) ≡ Some kind
+kind_word_is_read_back : (kind : Kind) → kind_of_word (kind_word kind) ≡ Some kind
 unfolding kind_of_word
-kind_read Kind.Object = refl
-kind_read Boolean = refl
-kind_read Char = refl
-kind_read Float = refl
-kind_read Double = refl
-kind_read Byte = refl
-kind_read Short = refl
-kind_read Int = refl
-kind_read Long = refl
+kind_word_is_read_back Kind.Object = refl
+kind_word_is_read_back Boolean = refl
+kind_word_is_read_back Char = refl
+kind_word_is_read_back Float = refl
+kind_word_is_read_back Double = refl
+kind_word_is_read_back Byte = refl
+kind_word_is_read_back Short = refl
+kind_word_is_read_back Int = refl
+kind_word_is_read_back Long = refl
 
 signs_append : (a b : List ℕ) → list_all is_sign a ≡ true → list_all is_sign b ≡ true → list_all is_sign (a ++ b) ≡ true
 signs_append [] b first second = second
@@ -134,46 +134,46 @@ event_words Drain fits = tt
 event_words Finish fits = tt
 event_words (Sweep region) fits = (number_word region fits, tt)
 
-no_dash : (n : ℕ) (v : Bool) → IsLong n → bytes_eq (decimal n) (codes "-") ≡ v → v ≡ false
-no_dash n true long e =
+decimal_word_is_no_dash : (n : ℕ) (v : Bool) → IsLong n → bytes_eq (decimal n) (codes "-") ≡ v → v ≡ false
+decimal_word_is_no_dash n true long e =
     let same : decimal n ≡ codes "-" = (bytes_eq-Decides (decimal n) (codes "-")).0 e in
     let digits : AllDigits 10 (codes "-") = subst (AllDigits 10) same (decimal_is_IsNumeral n long).0.1 in
     absurd (omega (arith, digits.0))
-no_dash n false long e = refl
+decimal_word_is_no_dash n false long e = refl
 
 super_read : (sup : Option ℕ) → IsLongOrNone sup → number_or_dash (super_word sup) ≡ Some sup
 super_read (Some k) long =
-    passed (bytes_eq (decimal k) (codes "-")) (Some None) (option_map (λ n. Some n) (number_of_word (decimal k))) (no_dash k _ long refl)
-    ∙ ap (λ (o : Option ℕ). option_map (λ n. Some n) o) (number_read k long)
+    false_condition_takes_second (bytes_eq (decimal k) (codes "-")) (Some None) (option_map (λ n. Some n) (number_of_word (decimal k))) (decimal_word_is_no_dash k _ long refl)
+    ∙ ap (λ (o : Option ℕ). option_map (λ n. Some n) o) (decimal_word_is_read_back k long)
 super_read None long = refl
 
-one_more : (n : ℕ) → 1 + n ≡ suc n
-one_more n = omega arith
+one_plus_is_successor : (n : ℕ) → 1 + n ≡ suc n
+one_plus_is_successor n = omega arith
 
-colon_at : (name rest : List ℕ) → list_all (λ b. not (b == 58)) name ≡ true → prefix_len (λ b. not (b == 58)) (name ++ 58 ∷ rest) ≡ length name
-colon_at [] rest others = refl
-colon_at (b ∷ name) rest others =
+colon_right_behind_name : (name rest : List ℕ) → list_all (λ b. not (b == 58)) name ≡ true → prefix_len (λ b. not (b == 58)) (name ++ 58 ∷ rest) ≡ length name
+colon_right_behind_name [] rest others = refl
+colon_right_behind_name (b ∷ name) rest others =
     let both = and_parts (not (b == 58)) (list_all (λ b. not (b == 58)) name) others in
-    ap (λ (v : Bool). cond v (1 + prefix_len (λ b. not (b == 58)) (name ++ 58 ∷ rest)) 0) both.0 ∙ ap (λ (n : ℕ). 1 + n) (colon_at name rest both.1) ∙ one_more (length name)
+    ap (λ (v : Bool). cond v (1 + prefix_len (λ b. not (b == 58)) (name ++ 58 ∷ rest)) 0) both.0 ∙ ap (λ (n : ℕ). 1 + n) (colon_right_behind_name name rest both.1) ∙ one_plus_is_successor (length name)
 
-after_colon : (name rest : List ℕ) → drop (length name + 1) (name ++ 58 ∷ rest) ≡ rest
-after_colon name rest =
+rest_behind_name_and_colon : (name rest : List ℕ) → drop (length name + 1) (name ++ 58 ∷ rest) ≡ rest
+rest_behind_name_and_colon name rest =
     ap (drop (length name + 1)) (sym (append_assoc name (58 ∷ []) rest)) ∙ drop_at (name ++ 58 ∷ []) rest (length name + 1) (length-append name (58 ∷ []))
 
-abbrev made_field : List ℕ → ℕ → Option Field
-made_field w n = option_map (λ k. record { name = take n w; kind = k }) (kind_of_word (drop (n + 1) w))
+abbrev field_made_of_word : List ℕ → ℕ → Option Field
+field_made_of_word w n = option_map (λ k. record { name = take n w; kind = k }) (kind_of_word (drop (n + 1) w))
 
 field_read : (f : Field) → IsFieldWord f → field_of_word (field_word f) ≡ Some f
 field_read f fits =
     let w = field_word f in
     let n = length f.name in
-    let is : position_or_len (λ b. b == 58) w ≡ n = colon_at f.name (kind_word f.kind) fits.1 in
+    let is : position_or_len (λ b. b == 58) w ≡ n = colon_right_behind_name f.name (kind_word f.kind) fits.1 in
     let within : position_or_len (λ b. b == 58) w < length w = omega (arith, is, length-append f.name (58 ∷ kind_word f.kind)) in
     let at : position (λ b. b == 58) w ≡ Some n =
-    chosen (nat_lt (position_or_len (λ b. b == 58) w) (length w)) (Some (position_or_len (λ b. b == 58) w)) None (lt-ltb (position_or_len (λ b. b == 58) w) (length w) within) ∙ ap (λ (k : ℕ). Some k) is in
-    ap (option_and_then (made_field w)) at
-    ∙ ap (λ (t : List ℕ). option_map (λ k. record { name = take n w; kind = k }) (kind_of_word t)) (after_colon f.name (kind_word f.kind))
-    ∙ ap (λ (o : Option Kind). option_map (λ k. record { name = take n w; kind = k }) o) (kind_read f.kind)
+    true_condition_takes_first (nat_lt (position_or_len (λ b. b == 58) w) (length w)) (Some (position_or_len (λ b. b == 58) w)) None (lt-ltb (position_or_len (λ b. b == 58) w) (length w) within) ∙ ap (λ (k : ℕ). Some k) is in
+    ap (option_and_then (field_made_of_word w)) at
+    ∙ ap (λ (t : List ℕ). option_map (λ k. record { name = take n w; kind = k }) (kind_of_word t)) (rest_behind_name_and_colon f.name (kind_word f.kind))
+    ∙ ap (λ (o : Option Kind). option_map (λ k. record { name = take n w; kind = k }) o) (kind_word_is_read_back f.kind)
     ∙ ap (λ (t : List ℕ). Some (record { name = t; kind = f.kind })) (take_at f.name (58 ∷ kind_word f.kind) n refl)
 
 fields_read : (fs : List Field) → AllByRecursion IsFieldWord fs → fields_of_words (map field_word fs) ≡ Some fs
@@ -184,22 +184,22 @@ words_read : (e : Event) → HasLine e → command_of_words (verb_of e ∷ words
 unfolding by_rule class_rules making_rules access_rules marking_rules session_rules
 words_read (Class name sup fields) fits = rw (super_read sup fits.1, fields_read fields fits.2) refl
 words_read (ArrayClass name) fits = refl
-words_read (NewPrim m r kind len) fits = rw (number_read m fits.0, number_read r fits.1, kind_read kind, number_read len fits.2) refl
-words_read (New m r class) fits = rw (number_read m fits.0, number_read r fits.1, number_read class fits.2) refl
-words_read (NewArray m r class len) fits = rw (number_read m fits.0, number_read r fits.1, number_read class fits.2, number_read len fits.3) refl
-words_read (Load m to from slot) fits = rw (number_read m fits.0, number_read to fits.1, number_read from fits.2, number_read slot fits.3) refl
-words_read (Store m target slot source) fits = rw (number_read m fits.0, number_read target fits.1, number_read slot fits.2, number_read source fits.3) refl
-words_read (Put m target slot value) fits = rw (number_read m fits.0, number_read target fits.1, number_read slot fits.2, number_read value fits.3) refl
-words_read (Move m to from_m from) fits = rw (number_read m fits.0, number_read to fits.1, number_read from_m fits.2, number_read from fits.3) refl
-words_read (Clear m r) fits = rw (number_read m fits.0, number_read r fits.1) refl
-words_read (Sweep region) fits = rw (number_read region fits) refl
+words_read (NewPrim m r kind len) fits = rw (decimal_word_is_read_back m fits.0, decimal_word_is_read_back r fits.1, kind_word_is_read_back kind, decimal_word_is_read_back len fits.2) refl
+words_read (New m r class) fits = rw (decimal_word_is_read_back m fits.0, decimal_word_is_read_back r fits.1, decimal_word_is_read_back class fits.2) refl
+words_read (NewArray m r class len) fits = rw (decimal_word_is_read_back m fits.0, decimal_word_is_read_back r fits.1, decimal_word_is_read_back class fits.2, decimal_word_is_read_back len fits.3) refl
+words_read (Load m to from slot) fits = rw (decimal_word_is_read_back m fits.0, decimal_word_is_read_back to fits.1, decimal_word_is_read_back from fits.2, decimal_word_is_read_back slot fits.3) refl
+words_read (Store m target slot source) fits = rw (decimal_word_is_read_back m fits.0, decimal_word_is_read_back target fits.1, decimal_word_is_read_back slot fits.2, decimal_word_is_read_back source fits.3) refl
+words_read (Put m target slot value) fits = rw (decimal_word_is_read_back m fits.0, decimal_word_is_read_back target fits.1, decimal_word_is_read_back slot fits.2, decimal_word_is_read_back value fits.3) refl
+words_read (Move m to from_m from) fits = rw (decimal_word_is_read_back m fits.0, decimal_word_is_read_back to fits.1, decimal_word_is_read_back from_m fits.2, decimal_word_is_read_back from fits.3) refl
+words_read (Clear m r) fits = rw (decimal_word_is_read_back m fits.0, decimal_word_is_read_back r fits.1) refl
+words_read (Sweep region) fits = rw (decimal_word_is_read_back region fits) refl
 words_read Snap fits = refl
 words_read Mark fits = refl
 words_read Drain fits = refl
 words_read Finish fits = refl
 
-pub each_read : (e : Event) → HasLine e → IsLineOf e
-each_read e fits = record {
+pub each_event_line_reads_back : (e : Event) → HasLine e → IsLineOf e
+each_event_line_reads_back e fits = record {
   plain = plain_spaced (verb_of e) (words_of e) (verb_word e) (event_words e fits);
   read = command_spaced (verb_of e) (words_of e) (verb_word e) (event_words e fits) ∙ words_read e fits;
 }

@@ -12,21 +12,21 @@ use Rattle.session_lines.specs.Lines.{AreLines}
 pub no_lines : AreLines []
 no_lines = record { events = []; spelled = refl; each = tt }
 
-lines_and : (events : List Event) (e : Event) → flat_map line_of (events ++ (e ∷ [])) ≡ flat_map line_of events ++ line_of e
-lines_and [] e = flat_map-cons line_of e [] ∙ append-nil (line_of e)
-lines_and (x ∷ events) e =
+lines_of_one_event_more : (events : List Event) (e : Event) → flat_map line_of (events ++ (e ∷ [])) ≡ flat_map line_of events ++ line_of e
+lines_of_one_event_more [] e = flat_map-cons line_of e [] ∙ append-nil (line_of e)
+lines_of_one_event_more (x ∷ events) e =
     flat_map-cons line_of x (events ++ (e ∷ []))
-    ∙ ap (λ (t : List ℕ). line_of x ++ t) (lines_and events e)
+    ∙ ap (λ (t : List ℕ). line_of x ++ t) (lines_of_one_event_more events e)
     ∙ sym (append_assoc (line_of x) (flat_map line_of events) (line_of e))
     ∙ ap (λ (t : List ℕ). t ++ line_of e) (sym (flat_map-cons line_of x events))
 
-each_and : (events : List Event) (e : Event) → AllByRecursion HasLine events → HasLine e → AllByRecursion HasLine (events ++ (e ∷ []))
-each_and [] e all last = (last, tt)
-each_and (x ∷ events) e all last = (all.0, each_and events e all.1 last)
+each_event_has_line_with_more : (events : List Event) (e : Event) → AllByRecursion HasLine events → HasLine e → AllByRecursion HasLine (events ++ (e ∷ []))
+each_event_has_line_with_more [] e all last = (last, tt)
+each_event_has_line_with_more (x ∷ events) e all last = (all.0, each_event_has_line_with_more events e all.1 last)
 
 pub one_more_line : (text : List ℕ) (e : Event) → AreLines text → HasLine e → AreLines (text ++ line_of e)
 one_more_line text e lines last = record {
   events = lines.events ++ (e ∷ []);
-  spelled = ap (λ (t : List ℕ). t ++ line_of e) lines.spelled ∙ sym (lines_and lines.events e);
-  each = each_and lines.events e lines.each last;
+  spelled = ap (λ (t : List ℕ). t ++ line_of e) lines.spelled ∙ sym (lines_of_one_event_more lines.events e);
+  each = each_event_has_line_with_more lines.events e lines.each last;
 }

@@ -7,111 +7,12 @@ use heap_class::{ClassNo, Field, Kind};
 use heap_step::Event;
 use std::alloc::AllocError;
 
-// Appends bytes. Fails if an allocation fails.
-fn push_words(text: &mut Vec<u8>, words: &[u8]) -> Result<(), AllocError>
-    ensures { Appends words.now text.old.items text.new.items result }
+/// Appends the line that asks for an event, and an LF. Fails if an allocation fails; then the text may have a part of the line.
+pub fn push_event(text: &mut Vec<u8>, event: &Event) -> Result<(), AllocError>
+    ensures { Appends (event_text event.now ++ 10 ∷ []) text.old.items text.new.items result }
 {
-    text.extend_from_slice(words)?;
-    Ok(())
-}
-
-// Appends a space and a number. Fails if an allocation fails.
-fn push_number(text: &mut Vec<u8>, n: u64) -> Result<(), AllocError>
-    ensures { Appends (32 ∷ decimal n) text.old.items text.new.items result }
-{
-    push_words(text, b" ")?;
-    push_words(text, itoa::Buffer::new().format(n).as_bytes())
-}
-
-// Appends numbers, with a space before each. Fails if an allocation fails.
-fn push_numbers(text: &mut Vec<u8>, numbers: &[u64]) -> Result<(), AllocError>
-    ensures { Appends (and_words (map decimal numbers.now)) text.old.items text.new.items result }
-{
-    for n in numbers {
-        push_number(text, *n)?;
-    }
-    Ok(())
-}
-
-// Appends a verb, and numbers with a space before each. Fails if an allocation fails.
-fn push_line(text: &mut Vec<u8>, verb: &[u8], numbers: &[u64]) -> Result<(), AllocError>
-    ensures { Appends (verb.now ++ and_words (map decimal numbers.now)) text.old.items text.new.items
-        result }
-{
-    push_words(text, verb)?;
-    push_numbers(text, numbers)
-}
-
-// Appends a space and a kind. Fails if an allocation fails.
-fn push_kind(text: &mut Vec<u8>, kind: Kind) -> Result<(), AllocError>
-    ensures { Appends (32 ∷ kind_word kind) text.old.items text.new.items result }
-{
-    push_words(text, b" ")?;
-    push_words(text, kind.word().as_bytes())
-}
-
-// Appends a space and a super. Fails if an allocation fails.
-fn push_super(text: &mut Vec<u8>, sup: Option<ClassNo>) -> Result<(), AllocError>
-    ensures { Appends (32 ∷ super_word sup) text.old.items text.new.items result }
-{
-    match sup {
-        Some(class) => push_number(text, class),
-        None => push_words(text, b" -"),
-    }
-}
-
-// Appends a space and a field. Fails if an allocation fails.
-fn push_field(text: &mut Vec<u8>, field: &Field) -> Result<(), AllocError>
-    ensures { Appends (32 ∷ field_word field.now) text.old.items text.new.items result }
-{
-    push_words(text, b" ")?;
-    push_words(text, field.name.as_bytes())?;
-    push_words(text, b":")?;
-    push_words(text, field.kind.word().as_bytes())
-}
-
-// Appends fields, with a space before each. Fails if an allocation fails.
-fn push_fields(text: &mut Vec<u8>, fields: &[Field]) -> Result<(), AllocError>
-    ensures { Appends (and_words (map field_word fields.now)) text.old.items text.new.items result }
-{
-    for field in fields {
-        push_field(text, field)?;
-    }
-    Ok(())
-}
-
-// Appends the line of an instance class. Fails if an allocation fails.
-fn push_class(
-    text: &mut Vec<u8>,
-    name: &[u8],
-    sup: Option<ClassNo>,
-    fields: &[Field],
-) -> Result<(), AllocError>
-    ensures { Appends (codes "class" ++ and_words (name.now ∷ super_word sup ∷ map field_word fields.now))
-        text.old.items text.new.items result }
-{
-    push_words(text, b"class ")?;
-    push_words(text, name)?;
-    push_super(text, sup)?;
-    push_fields(text, fields)
-}
-
-// Appends the line of an array class. Fails if an allocation fails.
-fn push_array_class(text: &mut Vec<u8>, name: &[u8]) -> Result<(), AllocError>
-    ensures { Appends (codes "array" ++ and_words (name.now ∷ [])) text.old.items text.new.items result }
-{
-    push_words(text, b"array ")?;
-    push_words(text, name)
-}
-
-// Appends the line of a new array of values. Fails if an allocation fails.
-fn push_new_prim(text: &mut Vec<u8>, m: u64, r: u64, kind: Kind, len: u64) -> Result<(), AllocError>
-    ensures { Appends (codes "newprim" ++ and_words (decimal m ∷ decimal r ∷ kind_word kind ∷ decimal len ∷ []))
-        text.old.items text.new.items result }
-{
-    push_line(text, b"newprim", &[m, r])?;
-    push_kind(text, kind)?;
-    push_number(text, len)
+    push_text(text, event)?;
+    push_words(text, b"\n")
 }
 
 // Appends the text of an event. Fails if an allocation fails.
@@ -156,10 +57,109 @@ fn push_text(text: &mut Vec<u8>, event: &Event) -> Result<(), AllocError>
     }
 }
 
-/// Appends the line that asks for an event, and an LF. Fails if an allocation fails; then the text may have a part of the line.
-pub fn push_event(text: &mut Vec<u8>, event: &Event) -> Result<(), AllocError>
-    ensures { Appends (event_text event.now ++ 10 ∷ []) text.old.items text.new.items result }
+// Appends the line of an instance class. Fails if an allocation fails.
+fn push_class(
+    text: &mut Vec<u8>,
+    name: &[u8],
+    sup: Option<ClassNo>,
+    fields: &[Field],
+) -> Result<(), AllocError>
+    ensures { Appends (codes "class" ++ and_words (name.now ∷ super_word sup ∷ map field_word fields.now))
+        text.old.items text.new.items result }
 {
-    push_text(text, event)?;
-    push_words(text, b"\n")
+    push_words(text, b"class ")?;
+    push_words(text, name)?;
+    push_super(text, sup)?;
+    push_fields(text, fields)
+}
+
+// Appends bytes. Fails if an allocation fails.
+fn push_words(text: &mut Vec<u8>, words: &[u8]) -> Result<(), AllocError>
+    ensures { Appends words.now text.old.items text.new.items result }
+{
+    text.extend_from_slice(words)?;
+    Ok(())
+}
+
+// Appends a space and a super. Fails if an allocation fails.
+fn push_super(text: &mut Vec<u8>, sup: Option<ClassNo>) -> Result<(), AllocError>
+    ensures { Appends (32 ∷ super_word sup) text.old.items text.new.items result }
+{
+    match sup {
+        Some(class) => push_number(text, class),
+        None => push_words(text, b" -"),
+    }
+}
+
+// Appends a space and a number. Fails if an allocation fails.
+fn push_number(text: &mut Vec<u8>, n: u64) -> Result<(), AllocError>
+    ensures { Appends (32 ∷ decimal n) text.old.items text.new.items result }
+{
+    push_words(text, b" ")?;
+    push_words(text, itoa::Buffer::new().format(n).as_bytes())
+}
+
+// Appends fields, with a space before each. Fails if an allocation fails.
+fn push_fields(text: &mut Vec<u8>, fields: &[Field]) -> Result<(), AllocError>
+    ensures { Appends (and_words (map field_word fields.now)) text.old.items text.new.items result }
+{
+    for field in fields {
+        push_field(text, field)?;
+    }
+    Ok(())
+}
+
+// Appends a space and a field. Fails if an allocation fails.
+fn push_field(text: &mut Vec<u8>, field: &Field) -> Result<(), AllocError>
+    ensures { Appends (32 ∷ field_word field.now) text.old.items text.new.items result }
+{
+    push_words(text, b" ")?;
+    push_words(text, field.name.as_bytes())?;
+    push_words(text, b":")?;
+    push_words(text, field.kind.word().as_bytes())
+}
+
+// Appends the line of an array class. Fails if an allocation fails.
+fn push_array_class(text: &mut Vec<u8>, name: &[u8]) -> Result<(), AllocError>
+    ensures { Appends (codes "array" ++ and_words (name.now ∷ [])) text.old.items text.new.items result }
+{
+    push_words(text, b"array ")?;
+    push_words(text, name)
+}
+
+// Appends a verb, and numbers with a space before each. Fails if an allocation fails.
+fn push_line(text: &mut Vec<u8>, verb: &[u8], numbers: &[u64]) -> Result<(), AllocError>
+    ensures { Appends (verb.now ++ and_words (map decimal numbers.now)) text.old.items text.new.items
+        result }
+{
+    push_words(text, verb)?;
+    push_numbers(text, numbers)
+}
+
+// Appends numbers, with a space before each. Fails if an allocation fails.
+fn push_numbers(text: &mut Vec<u8>, numbers: &[u64]) -> Result<(), AllocError>
+    ensures { Appends (and_words (map decimal numbers.now)) text.old.items text.new.items result }
+{
+    for n in numbers {
+        push_number(text, *n)?;
+    }
+    Ok(())
+}
+
+// Appends the line of a new array of values. Fails if an allocation fails.
+fn push_new_prim(text: &mut Vec<u8>, m: u64, r: u64, kind: Kind, len: u64) -> Result<(), AllocError>
+    ensures { Appends (codes "newprim" ++ and_words (decimal m ∷ decimal r ∷ kind_word kind ∷ decimal len ∷ []))
+        text.old.items text.new.items result }
+{
+    push_line(text, b"newprim", &[m, r])?;
+    push_kind(text, kind)?;
+    push_number(text, len)
+}
+
+// Appends a space and a kind. Fails if an allocation fails.
+fn push_kind(text: &mut Vec<u8>, kind: Kind) -> Result<(), AllocError>
+    ensures { Appends (32 ∷ kind_word kind) text.old.items text.new.items result }
+{
+    push_words(text, b" ")?;
+    push_words(text, kind.word().as_bytes())
 }

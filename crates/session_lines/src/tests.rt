@@ -5,11 +5,29 @@ use heap_step::Event;
 use std::alloc::{AllocError, Global};
 use std::test::*;
 
-// Returns the line of an event.
-fn line(alloc: Global, event: &Event) -> Result<Vec<u8>, AllocError> {
-    let mut text = Vec::new(alloc);
-    push_event(&mut text, event)?;
-    Ok(text)
+#[test]
+fn definitions(rt: HostRuntime) {
+    let alloc = rt.alloc();
+    assert!(rt; has_nodes_line(alloc, None, b"class Node - next:object val:int\n"));
+    assert!(rt; has_nodes_line(alloc, Some(12), b"class Node 12 next:object val:int\n"));
+    assert!(rt; has_array_line(alloc, b"[LNode;", b"array [LNode;\n"));
+}
+
+// Tells whether a definition of nodes has this line.
+fn has_nodes_line(alloc: Global, sup: Option<u64>, wanted: &[u8]) -> bool {
+    match nodes(alloc, sup) {
+        Ok(event) => has_line(alloc, &event, wanted),
+        Err(_) => false,
+    }
+}
+
+// Returns the definition of a class of nodes, each with a reference and an int.
+fn nodes(alloc: Global, sup: Option<u64>) -> Result<Event, AllocError> {
+    let mut fields = Vec::new(alloc);
+    push_field(alloc, &mut fields, b"next", Kind::Object)?;
+    push_field(alloc, &mut fields, b"val", Kind::Int)?;
+    let (name, fields) = (Name::new(alloc, b"Node")?, Fields::from_vec(fields));
+    Ok(Event::Class { name, sup, fields })
 }
 
 // Adds a field.
@@ -24,15 +42,6 @@ fn push_field(
     Ok(())
 }
 
-// Returns the definition of a class of nodes, each with a reference and an int.
-fn nodes(alloc: Global, sup: Option<u64>) -> Result<Event, AllocError> {
-    let mut fields = Vec::new(alloc);
-    push_field(alloc, &mut fields, b"next", Kind::Object)?;
-    push_field(alloc, &mut fields, b"val", Kind::Int)?;
-    let (name, fields) = (Name::new(alloc, b"Node")?, Fields::from_vec(fields));
-    Ok(Event::Class { name, sup, fields })
-}
-
 // Tells whether an event has this line.
 fn has_line(alloc: Global, event: &Event, wanted: &[u8]) -> bool {
     match line(alloc, event) {
@@ -41,12 +50,11 @@ fn has_line(alloc: Global, event: &Event, wanted: &[u8]) -> bool {
     }
 }
 
-// Tells whether a definition of nodes has this line.
-fn has_nodes_line(alloc: Global, sup: Option<u64>, wanted: &[u8]) -> bool {
-    match nodes(alloc, sup) {
-        Ok(event) => has_line(alloc, &event, wanted),
-        Err(_) => false,
-    }
+// Returns the line of an event.
+fn line(alloc: Global, event: &Event) -> Result<Vec<u8>, AllocError> {
+    let mut text = Vec::new(alloc);
+    push_event(&mut text, event)?;
+    Ok(text)
 }
 
 // Tells whether a class of arrays has this line.
@@ -55,14 +63,6 @@ fn has_array_line(alloc: Global, name: &[u8], wanted: &[u8]) -> bool {
         Ok(name) => has_line(alloc, &Event::ArrayClass { name }, wanted),
         Err(_) => false,
     }
-}
-
-#[test]
-fn definitions(rt: HostRuntime) {
-    let alloc = rt.alloc();
-    assert!(rt; has_nodes_line(alloc, None, b"class Node - next:object val:int\n"));
-    assert!(rt; has_nodes_line(alloc, Some(12), b"class Node 12 next:object val:int\n"));
-    assert!(rt; has_array_line(alloc, b"[LNode;", b"array [LNode;\n"));
 }
 
 #[test]

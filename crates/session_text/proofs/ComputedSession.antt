@@ -33,10 +33,10 @@ unfoldable open_session : Unit {0}
 unfolding words_of_line number_of_word kind_of_word class_rules making_rules access_rules marking_rules session_rules by_rule command_of digits encode_with chunks_of_64 data_lines pieces_dumped session_of
 open_session = tt
 
-pub ended : (session_of Narrow default_machine [] 0 point_lines Over).1 ≡ Eof
+pub computed_session_reaches_eof : (session_of Narrow default_machine [] 0 point_lines Over).1 ≡ Eof
 unfolding open_heap_class open_heap_region open_heap_world open_heap_step open_hprof_text open_heap_trail open_session
-ended = refl
+computed_session_reaches_eof = refl
 
-pub answers : (session_of Narrow default_machine [] 0 point_lines Over).0.written ≡ point_answers
+pub computed_session_answers : (session_of Narrow default_machine [] 0 point_lines Over).0.written ≡ point_answers
 unfolding open_heap_class open_heap_region open_heap_world open_heap_step open_hprof_text open_heap_trail open_session
-answers = refl
+computed_session_answers = refl

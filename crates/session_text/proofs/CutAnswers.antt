@@ -23,49 +23,49 @@ use Rattle.dump_pump.specs.Sources.{part_limit}
 use Rattle.session_grammar.specs.Grammar.{command_of}
 use Rattle.session_text.specs.Replies.{reply_text, data_lines, piece_in, pin_in}
 use Rattle.session_text.specs.Session.{Talk, wrote, allocation_of, allocations_after, done_quietly, done, after_reply, pieces_dumped, closed, after_open_reply, after_up_to, after_command, go_on, FitsAction, FitsRest, FitsDump, FitsOpen, FitsCommand, FitLines, at_read_end, at_long, talked}
-use Rattle.session_text.proofs.SessionCommands.{talk, acts, done_so, moved, dumps_so, close_so, closed_at, goes_on, follows}
-use Rattle.dump_pump.proofs.LongerLists.{begins_then}
+use Rattle.session_text.proofs.SessionCommands.{talk, acts, action_done_under_its_mark, equal_talk_at_moved_machine, dump_talks_so, close_has_plain_mark, pin_closed_under_any_marks, command_goes_on_to_more, answered_command_follows}
+use Rattle.dump_pump.proofs.LongerLists.{prefix_of_prefix_is_prefix}
 
 -- ---- with no marks all is fine
 
-either_fine : (b : Bool) (t u : Talk) → t.marks ≡ [] → u.marks ≡ [] → (if b then t else u).marks ≡ []
-either_fine true t u p q = p
-either_fine false t u p q = q
+either_talk_without_marks : (b : Bool) (t u : Talk) → t.marks ≡ [] → u.marks ≡ [] → (if b then t else u).marks ≡ []
+either_talk_without_marks true t u p q = p
+either_talk_without_marks false t u p q = q
 
-any_fits : (a : Action) (t : Talk) → t.marks ≡ [] → FitsAction a t
-any_fits a t e = subst (λ ks. MayStand t.machine (a, allocation_of ks)) (sym e) tt
+any_action_fits_without_marks : (a : Action) (t : Talk) → t.marks ≡ [] → FitsAction a t
+any_action_fits_without_marks a t e = subst (λ ks. MayStand t.machine (a, allocation_of ks)) (sym e) tt
 
-rest_fine : (more : Talk → ℕ → Talk) → ((t : Talk) (n : ℕ) → t.marks ≡ [] → (more t n).marks ≡ []) → (so_far : ℕ) (r : Reply) (o : Option GivenPiece) (t : Talk) → t.marks ≡ [] → (after_reply more so_far r o t).marks ≡ []
-rest_fine more ih so_far r None t e = e
-rest_fine more ih so_far r (Some p) t e =
+dump_rest_without_marks : (more : Talk → ℕ → Talk) → ((t : Talk) (n : ℕ) → t.marks ≡ [] → (more t n).marks ≡ []) → (so_far : ℕ) (r : Reply) (o : Option GivenPiece) (t : Talk) → t.marks ≡ [] → (after_reply more so_far r o t).marks ≡ []
+dump_rest_without_marks more ih so_far r None t e = e
+dump_rest_without_marks more ih so_far r (Some p) t e =
     let n = so_far + length p.bytes in
-    either_fine p.last (wrote (total_line n) (wrote (data_lines p.bytes) t)) (more (wrote (data_lines p.bytes) t) n) e (ih (wrote (data_lines p.bytes) t) n e)
+    either_talk_without_marks p.last (wrote (total_line n) (wrote (data_lines p.bytes) t)) (more (wrote (data_lines p.bytes) t) n) e (ih (wrote (data_lines p.bytes) t) n e)
 
 dump_fine : (n pin time : ℕ) (t : Talk) (so_far : ℕ) → t.marks ≡ [] → (pieces_dumped n pin time t so_far).marks ≡ []
 unfolding pieces_dumped
 dump_fine zero pin time t so_far e = e
 dump_fine (suc n) pin time t so_far e =
     let r = done_quietly (NextPiece pin time) t in
-    rest_fine (pieces_dumped n pin time) (λ u k h. dump_fine n pin time u k h) so_far r.1 (piece_in r.1) r.0 (ap allocations_after e)
+    dump_rest_without_marks (pieces_dumped n pin time) (λ u k h. dump_fine n pin time u k h) so_far r.1 (piece_in r.1) r.0 (ap allocations_after e)
 
-rest_fits : (more : Talk → ℕ → Type 0) → ((t : Talk) (n : ℕ) → t.marks ≡ [] → more t n) → (so_far : ℕ) (o : Option GivenPiece) (t : Talk) → t.marks ≡ [] → FitsRest more so_far o t
-rest_fits more ih so_far None t e = tt
-rest_fits more ih so_far (Some p) t e = λ no. ih (wrote (data_lines p.bytes) t) (so_far + length p.bytes) e
+dump_rest_fits_without_marks : (more : Talk → ℕ → Type 0) → ((t : Talk) (n : ℕ) → t.marks ≡ [] → more t n) → (so_far : ℕ) (o : Option GivenPiece) (t : Talk) → t.marks ≡ [] → FitsRest more so_far o t
+dump_rest_fits_without_marks more ih so_far None t e = tt
+dump_rest_fits_without_marks more ih so_far (Some p) t e = λ no. ih (wrote (data_lines p.bytes) t) (so_far + length p.bytes) e
 
 dump_fits : (n pin time : ℕ) (t : Talk) (so_far : ℕ) → t.marks ≡ [] → FitsDump n pin time t so_far
 unfolding FitsDump
 dump_fits zero pin time t so_far e = tt
 dump_fits (suc n) pin time t so_far e =
     let r = done_quietly (NextPiece pin time) t in
-    (any_fits (NextPiece pin time) t e, rest_fits (FitsDump n pin time) (λ u k h. dump_fits n pin time u k h) so_far (piece_in r.1) r.0 (ap allocations_after e))
+    (any_action_fits_without_marks (NextPiece pin time) t e, dump_rest_fits_without_marks (FitsDump n pin time) (λ u k h. dump_fits n pin time u k h) so_far (piece_in r.1) r.0 (ap allocations_after e))
 
-open_fine : (time : ℕ) (r : Reply) (o : Option ℕ) (t : Talk) → t.marks ≡ [] → (after_open_reply part_limit time r o t).marks ≡ []
-open_fine time r None t e = e
-open_fine time r (Some pin) t e = dump_fine part_limit pin time t 0 e
+open_reply_without_marks : (time : ℕ) (r : Reply) (o : Option ℕ) (t : Talk) → t.marks ≡ [] → (after_open_reply part_limit time r o t).marks ≡ []
+open_reply_without_marks time r None t e = e
+open_reply_without_marks time r (Some pin) t e = dump_fine part_limit pin time t 0 e
 
-open_fits : (time : ℕ) (o : Option ℕ) (t : Talk) → t.marks ≡ [] → FitsOpen time o t
-open_fits time None t e = tt
-open_fits time (Some pin) t e = dump_fits part_limit pin time t 0 e
+open_fits_without_marks : (time : ℕ) (o : Option ℕ) (t : Talk) → t.marks ≡ [] → FitsOpen time o t
+open_fits_without_marks time None t e = tt
+open_fits_without_marks time (Some pin) t e = dump_fits part_limit pin time t 0 e
 
 command_fine : (time : ℕ) (k : Command) (t : Talk) → t.marks ≡ [] → (after_command time k t).marks ≡ []
 command_fine time Blank t e = e
@@ -73,74 +73,74 @@ command_fine time Bad t e = e
 command_fine time (Ask a) t e = ap allocations_after e
 command_fine time (Piece pin) t e = ap allocations_after e
 command_fine time (Dump pin) t e = dump_fine part_limit pin time t 0 e
-command_fine time DumpNow t e = let r = done_quietly (OpenPin None) t in open_fine time r.1 (pin_in r.1) r.0 (ap allocations_after e)
+command_fine time DumpNow t e = let r = done_quietly (OpenPin None) t in open_reply_without_marks time r.1 (pin_in r.1) r.0 (ap allocations_after e)
 command_fine time End t e = e
 
-fits_fine : (time : ℕ) (k : Command) (t : Talk) → t.marks ≡ [] → FitsCommand time k t
-fits_fine time Blank t e = tt
-fits_fine time Bad t e = tt
-fits_fine time (Ask a) t e = inl (any_fits a t e)
-fits_fine time (Piece pin) t e = any_fits (NextPiece pin time) t e
-fits_fine time (Dump pin) t e = dump_fits part_limit pin time t 0 e
-fits_fine time DumpNow t e = let r = done_quietly (OpenPin None) t in (any_fits (OpenPin None) t e, open_fits time (pin_in r.1) r.0 (ap allocations_after e))
-fits_fine time End t e = tt
+command_fits_without_marks : (time : ℕ) (k : Command) (t : Talk) → t.marks ≡ [] → FitsCommand time k t
+command_fits_without_marks time Blank t e = tt
+command_fits_without_marks time Bad t e = tt
+command_fits_without_marks time (Ask a) t e = inl (any_action_fits_without_marks a t e)
+command_fits_without_marks time (Piece pin) t e = any_action_fits_without_marks (NextPiece pin time) t e
+command_fits_without_marks time (Dump pin) t e = dump_fits part_limit pin time t 0 e
+command_fits_without_marks time DumpNow t e = let r = done_quietly (OpenPin None) t in (any_action_fits_without_marks (OpenPin None) t e, open_fits_without_marks time (pin_in r.1) r.0 (ap allocations_after e))
+command_fits_without_marks time End t e = tt
 
-pub fine : (time : ℕ) (ls : List (List ℕ)) (t : Talk) → t.marks ≡ [] → FitLines time ls t
-fine time [] t e = tt
-fine time (l ∷ []) t e = tt
-fine time (l ∷ m ∷ ms) t e = (fits_fine time (command_of l) t e, fine time (m ∷ ms) (after_command time (command_of l) t) (command_fine time (command_of l) t e))
+pub unmarked_talk_fits_lines : (time : ℕ) (ls : List (List ℕ)) (t : Talk) → t.marks ≡ [] → FitLines time ls t
+unmarked_talk_fits_lines time [] t e = tt
+unmarked_talk_fits_lines time (l ∷ []) t e = tt
+unmarked_talk_fits_lines time (l ∷ m ∷ ms) t e = (command_fits_without_marks time (command_of l) t e, unmarked_talk_fits_lines time (m ∷ ms) (after_command time (command_of l) t) (command_fine time (command_of l) t e))
 
 -- ---- what was written stays
 
-begins_more : (w s : List ℕ) (z : List ℕ) → IsPrefix (w ++ s) z → IsPrefix w z
-begins_more w s z p = (s ++ p.0, sym (append_assoc w s p.0) ∙ p.1)
+prefix_of_shorter_text : (w s : List ℕ) (z : List ℕ) → IsPrefix (w ++ s) z → IsPrefix w z
+prefix_of_shorter_text w s z p = (s ++ p.0, sym (append_assoc w s p.0) ∙ p.1)
 
-pub begins_itself : (w : List ℕ) → IsPrefix w w
-begins_itself w = ([], append-nil w)
+pub text_is_its_own_prefix : (w : List ℕ) → IsPrefix w w
+text_is_its_own_prefix w = ([], append-nil w)
 
-either_begins : (b : Bool) (t u : Talk) (w : List ℕ) → IsPrefix w t.written → IsPrefix w u.written → IsPrefix w (if b then t else u).written
-either_begins true t u w p q = p
-either_begins false t u w p q = q
+prefix_of_either_talk : (b : Bool) (t u : Talk) (w : List ℕ) → IsPrefix w t.written → IsPrefix w u.written → IsPrefix w (if b then t else u).written
+prefix_of_either_talk true t u w p q = p
+prefix_of_either_talk false t u w p q = q
 
-rest_stays : (more : Talk → ℕ → Talk) → ((t : Talk) (n : ℕ) → IsPrefix t.written (more t n).written) → (so_far : ℕ) (r : Reply) (o : Option GivenPiece) (t : Talk) → IsPrefix t.written (after_reply more so_far r o t).written
-rest_stays more ih so_far r None t = (reply_text r, refl)
-rest_stays more ih so_far r (Some p) t =
+prefix_stays_through_dump_rest : (more : Talk → ℕ → Talk) → ((t : Talk) (n : ℕ) → IsPrefix t.written (more t n).written) → (so_far : ℕ) (r : Reply) (o : Option GivenPiece) (t : Talk) → IsPrefix t.written (after_reply more so_far r o t).written
+prefix_stays_through_dump_rest more ih so_far r None t = (reply_text r, refl)
+prefix_stays_through_dump_rest more ih so_far r (Some p) t =
     let n = so_far + length p.bytes in
-    either_begins p.last (wrote (total_line n) (wrote (data_lines p.bytes) t)) (more (wrote (data_lines p.bytes) t) n) t.written
-    (begins_more t.written (data_lines p.bytes) _ (total_line n, refl)) (begins_more t.written (data_lines p.bytes) _ (ih (wrote (data_lines p.bytes) t) n))
+    prefix_of_either_talk p.last (wrote (total_line n) (wrote (data_lines p.bytes) t)) (more (wrote (data_lines p.bytes) t) n) t.written
+    (prefix_of_shorter_text t.written (data_lines p.bytes) _ (total_line n, refl)) (prefix_of_shorter_text t.written (data_lines p.bytes) _ (ih (wrote (data_lines p.bytes) t) n))
 
-dump_stays : (n pin time : ℕ) (t : Talk) (so_far : ℕ) → IsPrefix t.written (pieces_dumped n pin time t so_far).written
+dumped_text_keeps_prefix : (n pin time : ℕ) (t : Talk) (so_far : ℕ) → IsPrefix t.written (pieces_dumped n pin time t so_far).written
 unfolding pieces_dumped
-dump_stays zero pin time t so_far = begins_itself t.written
-dump_stays (suc n) pin time t so_far = let r = done_quietly (NextPiece pin time) t in rest_stays (pieces_dumped n pin time) (λ u k. dump_stays n pin time u k) so_far r.1 (piece_in r.1) r.0
+dumped_text_keeps_prefix zero pin time t so_far = text_is_its_own_prefix t.written
+dumped_text_keeps_prefix (suc n) pin time t so_far = let r = done_quietly (NextPiece pin time) t in prefix_stays_through_dump_rest (pieces_dumped n pin time) (λ u k. dumped_text_keeps_prefix n pin time u k) so_far r.1 (piece_in r.1) r.0
 
-open_stays : (time : ℕ) (r : Reply) (o : Option ℕ) (t : Talk) → IsPrefix t.written (after_open_reply part_limit time r o t).written
-open_stays time r None t = (reply_text r, refl)
-open_stays time r (Some pin) t = dump_stays part_limit pin time t 0
+prefix_stays_through_open_reply : (time : ℕ) (r : Reply) (o : Option ℕ) (t : Talk) → IsPrefix t.written (after_open_reply part_limit time r o t).written
+prefix_stays_through_open_reply time r None t = (reply_text r, refl)
+prefix_stays_through_open_reply time r (Some pin) t = dumped_text_keeps_prefix part_limit pin time t 0
 
-end_stays : (e : ReadEnd) (b : Bool) (t : Talk) → IsPrefix t.written (at_read_end e b t).0.written
-end_stays Over true t = begins_itself t.written
-end_stays Over false t = (codes "bad cut\n", refl)
-end_stays Failed b t = (codes "bad read\n", refl)
-end_stays Spent b t = (codes "bad reads\n", refl)
+prefix_stays_through_read_end : (e : ReadEnd) (b : Bool) (t : Talk) → IsPrefix t.written (at_read_end e b t).0.written
+prefix_stays_through_read_end Over true t = text_is_its_own_prefix t.written
+prefix_stays_through_read_end Over false t = (codes "bad cut\n", refl)
+prefix_stays_through_read_end Failed b t = (codes "bad read\n", refl)
+prefix_stays_through_read_end Spent b t = (codes "bad reads\n", refl)
 
-either_stays : (b : Bool) (t : Talk) (r : Talk × Ended) → IsPrefix t.written r.0.written → IsPrefix t.written (if b then at_long t else r).0.written
-either_stays true t r p = (codes "bad long\n", refl)
-either_stays false t r p = p
+prefix_stays_through_long_line : (b : Bool) (t : Talk) (r : Talk × Ended) → IsPrefix t.written r.0.written → IsPrefix t.written (if b then at_long t else r).0.written
+prefix_stays_through_long_line true t r p = (codes "bad long\n", refl)
+prefix_stays_through_long_line false t r p = p
 
-on_stays : (more : Talk → Talk × Ended) → ((t : Talk) → IsPrefix t.written (more t).0.written) → (time : ℕ) (k : Command) (t : Talk) → IsPrefix t.written (go_on more time k t).0.written
-on_stays more ih time Blank t = ih t
-on_stays more ih time Bad t = begins_more t.written (codes "bad command\n") _ (ih (wrote (codes "bad command\n") t))
-on_stays more ih time (Ask a) t = begins_more t.written _ _ (ih (done a t))
-on_stays more ih time (Piece pin) t = begins_more t.written _ _ (ih (done (NextPiece pin time) t))
-on_stays more ih time (Dump pin) t = begins_then t.written _ _ (dump_stays part_limit pin time t 0) (ih (pieces_dumped part_limit pin time t 0))
-on_stays more ih time DumpNow t = let r = done_quietly (OpenPin None) t in begins_then t.written _ _ (open_stays time r.1 (pin_in r.1) r.0) (ih (after_open_reply part_limit time r.1 (pin_in r.1) r.0))
-on_stays more ih time End t = begins_itself t.written
+prefix_stays_through_command : (more : Talk → Talk × Ended) → ((t : Talk) → IsPrefix t.written (more t).0.written) → (time : ℕ) (k : Command) (t : Talk) → IsPrefix t.written (go_on more time k t).0.written
+prefix_stays_through_command more ih time Blank t = ih t
+prefix_stays_through_command more ih time Bad t = prefix_of_shorter_text t.written (codes "bad command\n") _ (ih (wrote (codes "bad command\n") t))
+prefix_stays_through_command more ih time (Ask a) t = prefix_of_shorter_text t.written _ _ (ih (done a t))
+prefix_stays_through_command more ih time (Piece pin) t = prefix_of_shorter_text t.written _ _ (ih (done (NextPiece pin time) t))
+prefix_stays_through_command more ih time (Dump pin) t = prefix_of_prefix_is_prefix t.written _ _ (dumped_text_keeps_prefix part_limit pin time t 0) (ih (pieces_dumped part_limit pin time t 0))
+prefix_stays_through_command more ih time DumpNow t = let r = done_quietly (OpenPin None) t in prefix_of_prefix_is_prefix t.written _ _ (prefix_stays_through_open_reply time r.1 (pin_in r.1) r.0) (ih (after_open_reply part_limit time r.1 (pin_in r.1) r.0))
+prefix_stays_through_command more ih time End t = text_is_its_own_prefix t.written
 
 pub stays : (limits : SessionLimits) (time : ℕ) (e : ReadEnd) (ls : List (List ℕ)) (t : Talk) → IsPrefix t.written (talked limits time e ls t).0.written
-stays limits time e [] t = end_stays e true t
-stays limits time e (l ∷ []) t = either_stays (nat_lt (longest_line limits) (length l)) t (at_read_end e (length l == 0) t) (end_stays e (length l == 0) t)
-stays limits time e (l ∷ m ∷ ms) t = either_stays (nat_lt (longest_line limits) (length l)) t (go_on (talked limits time e (m ∷ ms)) time (command_of l) t) (on_stays (talked limits time e (m ∷ ms)) (λ u. stays limits time e (m ∷ ms) u) time (command_of l) t)
+stays limits time e [] t = prefix_stays_through_read_end e true t
+stays limits time e (l ∷ []) t = prefix_stays_through_long_line (nat_lt (longest_line limits) (length l)) t (at_read_end e (length l == 0) t) (prefix_stays_through_read_end e (length l == 0) t)
+stays limits time e (l ∷ m ∷ ms) t = prefix_stays_through_long_line (nat_lt (longest_line limits) (length l)) t (go_on (talked limits time e (m ∷ ms)) time (command_of l) t) (prefix_stays_through_command (talked limits time e (m ∷ ms)) (λ u. stays limits time e (m ∷ ms) u) time (command_of l) t)
 
 -- ---- a dump of fewer pieces
 
@@ -155,30 +155,30 @@ record RestGoesOn (k n pin time so_far : ℕ) (r : Reply) (o : Option GivenPiece
   spent : (after_reply (pieces_dumped k pin time) so_far r o t).marks ≡ [] → (after_reply (pieces_dumped n pin time) so_far r o t).marks ≡ []
   fit : FitsRest (FitsDump k pin time) so_far o t → (after_reply (pieces_dumped k pin time) so_far r o t).marks ≡ [] → FitsRest (FitsDump n pin time) so_far o t
 
-same_begins : (b : Bool) (t u v : Talk) → IsPrefix u.written v.written → IsPrefix (if b then t else u).written (if b then t else v).written
-same_begins true t u v p = begins_itself t.written
-same_begins false t u v p = p
+prefix_under_equal_condition : (b : Bool) (t u v : Talk) → IsPrefix u.written v.written → IsPrefix (if b then t else u).written (if b then t else v).written
+prefix_under_equal_condition true t u v p = text_is_its_own_prefix t.written
+prefix_under_equal_condition false t u v p = p
 
-same_spent : (b : Bool) (t u v : Talk) → (u.marks ≡ [] → v.marks ≡ []) → (if b then t else u).marks ≡ [] → (if b then t else v).marks ≡ []
-same_spent true t u v f e = e
-same_spent false t u v f e = f e
+marks_spent_under_equal_condition : (b : Bool) (t u v : Talk) → (u.marks ≡ [] → v.marks ≡ []) → (if b then t else u).marks ≡ [] → (if b then t else v).marks ≡ []
+marks_spent_under_equal_condition true t u v f e = e
+marks_spent_under_equal_condition false t u v f e = f e
 
 rest_goes_on : (k n pin time so_far : ℕ) (r : Reply) (o : Option GivenPiece) (t : Talk) → ((u : Talk) (j : ℕ) → GoesOn k n pin time u j) → RestGoesOn k n pin time so_far r o t
-rest_goes_on k n pin time so_far r None t ih = record { stays = begins_itself (t.written ++ reply_text r); spent = λ e. e; fit = λ h e. tt }
+rest_goes_on k n pin time so_far r None t ih = record { stays = text_is_its_own_prefix (t.written ++ reply_text r); spent = λ e. e; fit = λ h e. tt }
 rest_goes_on k n pin time so_far r (Some p) t ih =
     let j = so_far + length p.bytes in
     let u = wrote (data_lines p.bytes) t in
     let g = ih u j in
     record {
-      stays = same_begins p.last (wrote (total_line j) u) (pieces_dumped k pin time u j) (pieces_dumped n pin time u j) g.stays;
-      spent = same_spent p.last (wrote (total_line j) u) (pieces_dumped k pin time u j) (pieces_dumped n pin time u j) g.spent;
+      stays = prefix_under_equal_condition p.last (wrote (total_line j) u) (pieces_dumped k pin time u j) (pieces_dumped n pin time u j) g.stays;
+      spent = marks_spent_under_equal_condition p.last (wrote (total_line j) u) (pieces_dumped k pin time u j) (pieces_dumped n pin time u j) g.spent;
       fit = λ h e no. g.fit (h no) (ap (λ (b : Bool). (if b then wrote (total_line j) u else pieces_dumped k pin time u j).marks) (sym no) ∙ e);
     }
 
 dump_goes_on : (k n pin time : ℕ) (t : Talk) (so_far : ℕ) → k ≤ n → GoesOn k n pin time t so_far
 unfolding pieces_dumped FitsDump
 dump_goes_on zero n pin time t so_far le = record {
-  stays = dump_stays n pin time t so_far;
+  stays = dumped_text_keeps_prefix n pin time t so_far;
   spent = λ e. dump_fine n pin time t so_far e;
   fit = λ h e. dump_fits n pin time t so_far e;
 }
@@ -190,8 +190,8 @@ dump_goes_on (suc k) (suc n) pin time t so_far le =
 
 -- ---- a line whose answer was cut short
 
-is_all : (m : Machine) (ms : List Allocation) (xs ys : List ℕ) (t : Talk) → t ≡ talk m ms xs → xs ≡ ys → IsPrefix ys t.written
-is_all m ms xs ys t e f = subst (λ (u : Talk). IsPrefix ys u.written) (sym e) (subst (λ l. IsPrefix ys l) (sym f) (begins_itself ys))
+equal_text_is_prefix_of_talk : (m : Machine) (ms : List Allocation) (xs ys : List ℕ) (t : Talk) → t ≡ talk m ms xs → xs ≡ ys → IsPrefix ys t.written
+equal_text_is_prefix_of_talk m ms xs ys t e f = subst (λ (u : Talk). IsPrefix ys u.written) (sym e) (subst (λ l. IsPrefix ys l) (sym f) (text_is_its_own_prefix ys))
 
 -- the marks under which a dump begins with this text
 record DumpBegins (k pin time : ℕ) (m : Machine) (text : List ℕ) (m' : Machine) : Type 0 where
@@ -203,13 +203,13 @@ record DumpBegins (k pin time : ℕ) (m : Machine) (text : List ℕ) (m' : Machi
 
 dump_begins : (k pin time : ℕ) (c : Local) (text : List ℕ) (d : Local) → k ≤ part_limit → Dumps acts pin time k c 0 text d → DumpBegins k pin time c.machine text d.machine
 dump_begins k pin time c text d le h =
-    let f = dumps_so k pin time c 0 text d h in
+    let f = dump_talks_so k pin time c 0 text d h in
     let g : (w : List ℕ) → GoesOn k part_limit pin time (talk c.machine (f.found ++ []) w) 0 = λ w. dump_goes_on k part_limit pin time (talk c.machine (f.found ++ []) w) 0 le in
     let none : (w : List ℕ) → (pieces_dumped k pin time (talk c.machine (f.found ++ []) w) 0).marks ≡ [] = λ w. ap (λ (u : Talk). u.marks) (f.so [] w) in
     record {
       found = f.found ++ [];
       here = λ w. f.so [] w;
-      so = λ w. begins_then (w ++ text) _ _ (is_all d.machine [] (w ++ text) (w ++ text) _ (f.so [] w) refl) (g w).stays;
+      so = λ w. prefix_of_prefix_is_prefix (w ++ text) _ _ (equal_text_is_prefix_of_talk d.machine [] (w ++ text) (w ++ text) _ (f.so [] w) refl) (g w).stays;
       spent = λ w. (g w).spent (none w);
       fit = λ w. (g w).fit (f.fit [] w) (none w);
     }
@@ -222,22 +222,22 @@ record OpenBegins (k time : ℕ) (m : Machine) (r : Reply) (o : Option ℕ) (tex
   spent : (w : List ℕ) → (after_open_reply part_limit time r o (talk m found w)).marks ≡ []
   fit : (w : List ℕ) → FitsOpen time o (talk m found w)
 
-open_begins : (k time : ℕ) (c : Local) (r : Reply) (o : Option ℕ) (text : List ℕ) (d : Local) → k ≤ part_limit → ClosesAfter acts time r o k c text d → OpenBegins k time c.machine r o text d.machine
-open_begins k time c r None text d le h =
-    let all : (w : List ℕ) → after_open_reply k time r None (talk c.machine [] w) ≡ talk d.machine [] (w ++ text) = λ w. moved c.machine d.machine [] w (reply_text r) text (ap (λ (x : Local). x.machine) h.1) h.0 in
+cut_open_begins_its_answer : (k time : ℕ) (c : Local) (r : Reply) (o : Option ℕ) (text : List ℕ) (d : Local) → k ≤ part_limit → ClosesAfter acts time r o k c text d → OpenBegins k time c.machine r o text d.machine
+cut_open_begins_its_answer k time c r None text d le h =
+    let all : (w : List ℕ) → after_open_reply k time r None (talk c.machine [] w) ≡ talk d.machine [] (w ++ text) = λ w. equal_talk_at_moved_machine c.machine d.machine [] w (reply_text r) text (ap (λ (x : Local). x.machine) h.1) h.0 in
     record {
       found = [];
       here = all;
-      so = λ w. is_all d.machine [] (w ++ text) (w ++ text) _ (all w) refl;
+      so = λ w. equal_text_is_prefix_of_talk d.machine [] (w ++ text) (w ++ text) _ (all w) refl;
       spent = λ w. refl;
       fit = λ w. tt;
     }
-open_begins k time c r (Some pin) text d le (between, closing, h, ((mark, may, e), kept)) =
+cut_open_begins_its_answer k time c r (Some pin) text d le (between, closing, h, ((mark, may, e), kept)) =
     let f = dump_begins k pin time c text between le h in
-    let is = close_so between.machine d.machine pin mark closing may e in
+    let is = close_has_plain_mark between.machine d.machine pin mark closing may e in
     record {
       found = f.found;
-      here = λ w. ap (λ x. closed pin x) (f.here w) ∙ closed_at between.machine d.machine pin closing [] (w ++ text) is;
+      here = λ w. ap (λ x. closed pin x) (f.here w) ∙ pin_closed_under_any_marks between.machine d.machine pin closing [] (w ++ text) is;
       so = λ w. f.so w;
       spent = λ w. f.spent w;
       fit = λ w. f.fit w;
@@ -254,50 +254,50 @@ pub record BeginsSo (time : ℕ) (k : Command) (c : Local) (tail : List ℕ) (d 
   pub here : IsPrefix (w ++ tail) (after_up_to pieces time k (talk c.machine found w)).written
   pub machine : d.machine ≡ (after_up_to pieces time k (talk c.machine found w)).machine
 
-follows_so : (time : ℕ) (k : Command) (c : Local) (tail : List ℕ) (d : Local) (w : List ℕ) (more : Talk → Talk × Ended) → ((t : Talk) → IsPrefix t.written (more t).0.written) → AnswersTo acts IsBadCommand time k c tail d → BeginsSo time k c tail d w more
-follows_so time k c tail d w more ih h =
-    let f = follows time k c tail d h in
+answered_command_begins_talk : (time : ℕ) (k : Command) (c : Local) (tail : List ℕ) (d : Local) (w : List ℕ) (more : Talk → Talk × Ended) → ((t : Talk) → IsPrefix t.written (more t).0.written) → AnswersTo acts IsBadCommand time k c tail d → BeginsSo time k c tail d w more
+answered_command_begins_talk time k c tail d w more ih h =
+    let f = answered_command_follows time k c tail d h in
     record {
       found = f.found ++ [];
       pieces = part_limit;
       most = omega arith;
-      so = subst (λ r. IsPrefix (w ++ tail) r.0.written) (sym (goes_on time k c tail d f [] w more)) (ih (talk d.machine [] (w ++ tail)));
+      so = subst (λ r. IsPrefix (w ++ tail) r.0.written) (sym (command_goes_on_to_more time k c tail d f [] w more)) (ih (talk d.machine [] (w ++ tail)));
       fit = f.fit [] w;
       spent = ap (λ (u : Talk). u.marks) (f.after [] w);
-      here = is_all d.machine [] (w ++ tail) (w ++ tail) _ (f.after [] w) refl;
+      here = equal_text_is_prefix_of_talk d.machine [] (w ++ tail) (w ++ tail) _ (f.after [] w) refl;
       machine = sym (ap (λ (u : Talk). u.machine) (f.after [] w));
     }
 
-pub begins_so : (time : ℕ) (k : Command) (c : Local) (tail : List ℕ) (d : Local) (w : List ℕ) (more : Talk → Talk × Ended) → ((t : Talk) → IsPrefix t.written (more t).0.written) → BeginsTo acts IsBadCommand time k c tail d → BeginsSo time k c tail d w more
-begins_so time Blank c tail d w more ih h = absurd h
-begins_so time Bad c tail d w more ih h = follows_so time Bad c tail d w more ih h
-begins_so time (Ask a) c tail d w more ih h = follows_so time (Ask a) c tail d w more ih h
-begins_so time (Piece pin) c tail d w more ih h = follows_so time (Piece pin) c tail d w more ih h
-begins_so time (Dump pin) c tail d w more ih (pieces, le, h) =
+pub begun_command_begins_talk : (time : ℕ) (k : Command) (c : Local) (tail : List ℕ) (d : Local) (w : List ℕ) (more : Talk → Talk × Ended) → ((t : Talk) → IsPrefix t.written (more t).0.written) → BeginsTo acts IsBadCommand time k c tail d → BeginsSo time k c tail d w more
+begun_command_begins_talk time Blank c tail d w more ih h = absurd h
+begun_command_begins_talk time Bad c tail d w more ih h = answered_command_begins_talk time Bad c tail d w more ih h
+begun_command_begins_talk time (Ask a) c tail d w more ih h = answered_command_begins_talk time (Ask a) c tail d w more ih h
+begun_command_begins_talk time (Piece pin) c tail d w more ih h = answered_command_begins_talk time (Piece pin) c tail d w more ih h
+begun_command_begins_talk time (Dump pin) c tail d w more ih (pieces, le, h) =
     let f = dump_begins pieces pin time c tail d le h in
     record {
       found = f.found;
       pieces = pieces;
       most = le;
-      so = begins_then (w ++ tail) _ _ (f.so w) (ih (pieces_dumped part_limit pin time (talk c.machine f.found w) 0));
+      so = prefix_of_prefix_is_prefix (w ++ tail) _ _ (f.so w) (ih (pieces_dumped part_limit pin time (talk c.machine f.found w) 0));
       fit = f.fit w;
       spent = f.spent w;
-      here = is_all d.machine [] (w ++ tail) (w ++ tail) _ (f.here w) refl;
+      here = equal_text_is_prefix_of_talk d.machine [] (w ++ tail) (w ++ tail) _ (f.here w) refl;
       machine = sym (ap (λ (u : Talk). u.machine) (f.here w));
     }
-begins_so time DumpNow c tail d w more ih (pieces, le, (r, opened, ((mark, may, e), kept), closes)) =
-    let f = open_begins pieces time opened r (pin_in r) tail d le closes in
-    let first = done_so (OpenPin None) c.machine mark f.found w opened.machine r e in
+begun_command_begins_talk time DumpNow c tail d w more ih (pieces, le, (r, opened, ((mark, may, e), kept), closes)) =
+    let f = cut_open_begins_its_answer pieces time opened r (pin_in r) tail d le closes in
+    let first = action_done_under_its_mark (OpenPin None) c.machine mark f.found w opened.machine r e in
     let t = talk c.machine (mark ∷ f.found) w in
     let here = ap (λ (x : Talk × Reply). after_open_reply pieces time x.1 (pin_in x.1) x.0) first ∙ f.here w in
     record {
       found = mark ∷ f.found;
       pieces = pieces;
       most = le;
-      so = begins_then (w ++ tail) _ _ (subst (λ (x : Talk × Reply). IsPrefix (w ++ tail) (after_open_reply part_limit time x.1 (pin_in x.1) x.0).written) (sym first) (f.so w)) (ih (after_command time DumpNow t));
+      so = prefix_of_prefix_is_prefix (w ++ tail) _ _ (subst (λ (x : Talk × Reply). IsPrefix (w ++ tail) (after_open_reply part_limit time x.1 (pin_in x.1) x.0).written) (sym first) (f.so w)) (ih (after_command time DumpNow t));
       fit = (may, subst (λ (x : Talk × Reply). FitsOpen time (pin_in x.1) x.0) (sym first) (f.fit w));
       spent = subst (λ (x : Talk × Reply). (after_open_reply part_limit time x.1 (pin_in x.1) x.0).marks ≡ []) (sym first) (f.spent w);
-      here = is_all d.machine [] (w ++ tail) (w ++ tail) (after_up_to pieces time DumpNow t) here refl;
+      here = equal_text_is_prefix_of_talk d.machine [] (w ++ tail) (w ++ tail) (after_up_to pieces time DumpNow t) here refl;
       machine = sym (ap (λ (u : Talk). u.machine) here);
     }
-begins_so time End c tail d w more ih h = absurd h
+begun_command_begins_talk time End c tail d w more ih h = absurd h

@@ -21,13 +21,13 @@ IsKnown k = Unit {0}
 abbrev pub StandFor : {S T : Type 0} → (S → T) → Acts S → Acts T → Type 0
 StandFor {S = S} f acts others = (c : S) (a : Action) (r : Reply) (d : S) → acts c a r d → others (f c) a r (f d)
 
-abbrev MoreStands : {S T : Type 0} → (S → T) → Dumping S → Dumping T → Type 0
-MoreStands {S = S} f more others = (c : S) (so_far : ℕ) (text : List ℕ) (d : S) → more c so_far text d → others (f c) so_far text (f d)
+abbrev MoreDumpingStands : {S T : Type 0} → (S → T) → Dumping S → Dumping T → Type 0
+MoreDumpingStands {S = S} f more others = (c : S) (so_far : ℕ) (text : List ℕ) (d : S) → more c so_far text d → others (f c) so_far text (f d)
 
-on_stands : {S T : Type 0} (f : S → T) (more : Dumping S) (others : Dumping T) → MoreStands f more others → (r : Reply) (o : Option GivenPiece) (c : S) (so_far : ℕ) (text : List ℕ) (d : S)
+dumping_stands_for_others : {S T : Type 0} (f : S → T) (more : Dumping S) (others : Dumping T) → MoreDumpingStands f more others → (r : Reply) (o : Option GivenPiece) (c : S) (so_far : ℕ) (text : List ℕ) (d : S)
     → DumpsOn more r o c so_far text d → DumpsOn others r o (f c) so_far text (f d)
-on_stands f more others h r None c so_far text d k = (k.0, ap f k.1)
-on_stands f more others h r (Some p) c so_far text d k = (
+dumping_stands_for_others f more others h r None c so_far text d k = (k.0, ap f k.1)
+dumping_stands_for_others f more others h r (Some p) c so_far text d k = (
   k.0,
   k.1,
   elim k.2 [
@@ -36,13 +36,13 @@ on_stands f more others h r (Some p) c so_far text d k = (
   ],
 )
 
-dumps_stand : {S T : Type 0} (f : S → T) (acts : Acts S) (others : Acts T) → StandFor f acts others → (pin time n : ℕ) → MoreStands f (Dumps acts pin time n) (Dumps others pin time n)
+dumps_stand : {S T : Type 0} (f : S → T) (acts : Acts S) (others : Acts T) → StandFor f acts others → (pin time n : ℕ) → MoreDumpingStands f (Dumps acts pin time n) (Dumps others pin time n)
 dumps_stand f acts others h pin time zero c so_far text d k = (k.0, ap f k.1)
 dumps_stand f acts others h pin time (suc n) c so_far text d k = (
   k.0,
   f k.1,
   h c _ k.0 k.1 k.2,
-  on_stands f (Dumps acts pin time n) (Dumps others pin time n) (dumps_stand f acts others h pin time n) k.0 (piece_in k.0) k.1 so_far text d k.3,
+  dumping_stands_for_others f (Dumps acts pin time n) (Dumps others pin time n) (dumps_stand f acts others h pin time n) k.0 (piece_in k.0) k.1 so_far text d k.3,
 )
 
 closes_stand : {S T : Type 0} (f : S → T) (acts : Acts S) (others : Acts T) → StandFor f acts others → (time : ℕ) (r : Reply) (o : Option ℕ) (n : ℕ) (c : S) (text : List ℕ) (d : S) → ClosesAfter acts time r o n c text d → ClosesAfter others time r o n (f c) text (f d)
@@ -73,20 +73,20 @@ answer_stands f acts others unknown unknown' h time End c text d known k = k
 abbrev pub Keep : {S : Type 0} → Acts S → (S → Type 0) → Type 0
 Keep {S = S} acts P = (c : S) (a : Action) (r : Reply) (d : S) → acts c a r d → P c → P d
 
-abbrev MoreKeeps : {S : Type 0} → (S → Type 0) → Dumping S → Type 0
-MoreKeeps {S = S} P more = (c : S) (so_far : ℕ) (text : List ℕ) (d : S) → more c so_far text d → P c → P d
+abbrev MoreDumpingKeeps : {S : Type 0} → (S → Type 0) → Dumping S → Type 0
+MoreDumpingKeeps {S = S} P more = (c : S) (so_far : ℕ) (text : List ℕ) (d : S) → more c so_far text d → P c → P d
 
-on_keeps : {S : Type 0} (P : S → Type 0) (more : Dumping S) → MoreKeeps P more → (r : Reply) (o : Option GivenPiece) (c : S) (so_far : ℕ) (text : List ℕ) (d : S) → DumpsOn more r o c so_far text d → P c → P d
-on_keeps P more h r None c so_far text d k p = subst P (sym k.1) p
-on_keeps P more h r (Some piece) c so_far text d k p = elim k.2 [
+dumping_keeps_property : {S : Type 0} (P : S → Type 0) (more : Dumping S) → MoreDumpingKeeps P more → (r : Reply) (o : Option GivenPiece) (c : S) (so_far : ℕ) (text : List ℕ) (d : S) → DumpsOn more r o c so_far text d → P c → P d
+dumping_keeps_property P more h r None c so_far text d k p = subst P (sym k.1) p
+dumping_keeps_property P more h r (Some piece) c so_far text d k p = elim k.2 [
   | inl e ↦ subst P (sym e.2) p
   | inr e ↦ h c (so_far + length piece.bytes) k.0 d e.1 p
 ]
 
-dumps_keep : {S : Type 0} (acts : Acts S) (P : S → Type 0) → Keep acts P → (pin time n : ℕ) → MoreKeeps P (Dumps acts pin time n)
+dumps_keep : {S : Type 0} (acts : Acts S) (P : S → Type 0) → Keep acts P → (pin time n : ℕ) → MoreDumpingKeeps P (Dumps acts pin time n)
 dumps_keep acts P h pin time zero c so_far text d k p = subst P (sym k.1) p
 dumps_keep acts P h pin time (suc n) c so_far text d k p =
-    on_keeps P (Dumps acts pin time n) (dumps_keep acts P h pin time n) k.0 (piece_in k.0) k.1 so_far text d k.3 (h c _ k.0 k.1 k.2 p)
+    dumping_keeps_property P (Dumps acts pin time n) (dumps_keep acts P h pin time n) k.0 (piece_in k.0) k.1 so_far text d k.3 (h c _ k.0 k.1 k.2 p)
 
 closes_keep : {S : Type 0} (acts : Acts S) (P : S → Type 0) → Keep acts P → (time : ℕ) (r : Reply) (o : Option ℕ) (n : ℕ) (c : S) (text : List ℕ) (d : S) → ClosesAfter acts time r o n c text d → P c → P d
 closes_keep acts P h time r None n c text d k p = subst P (sym k.1) p

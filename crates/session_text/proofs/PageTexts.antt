@@ -22,40 +22,40 @@ put_part text a b n put less = (
 )
 
 -- the page alone took it
-pub added_here : (text page : List ℕ) (a : Outgoing) (page' : List ℕ) → page' ≡ page ++ text → IsTextAdded text page a page' a true
-added_here text page a page' is = ([], sym (append-nil a.out), sym is, refl)
+pub text_added_to_page_alone : (text page : List ℕ) (a : Outgoing) (page' : List ℕ) → page' ≡ page ++ text → IsTextAdded text page a page' a true
+text_added_to_page_alone text page a page' is = ([], sym (append-nil a.out), sym is, refl)
 
 -- the page was put out, and is empty
-pub flushed : (page : List ℕ) (a b : Outgoing) (page' : List ℕ) (r : Bool) → IsTextWritten page a b r → page' ≡ [] → IsTextAdded [] page a page' b r
-flushed page a b page' true h is = (page, h.0, ap (λ l. page ++ l) (sym is), h.1)
-flushed page a b page' false h is = (record { part = h.0.part; rest = h.0.rest; has = h.0.has; lacks = append-nil page ∙ h.0.lacks; some = h.0.some }, h.1)
+pub page_put_out_is_empty : (page : List ℕ) (a b : Outgoing) (page' : List ℕ) (r : Bool) → IsTextWritten page a b r → page' ≡ [] → IsTextAdded [] page a page' b r
+page_put_out_is_empty page a b page' true h is = (page, h.0, ap (λ l. page ++ l) (sym is), h.1)
+page_put_out_is_empty page a b page' false h is = (record { part = h.0.part; rest = h.0.rest; has = h.0.has; lacks = append-nil page ∙ h.0.lacks; some = h.0.some }, h.1)
 
 -- what comes after a part that was put out
-more_of : (page put page1 xs ys : List ℕ) → page ++ xs ≡ put ++ page1 → page ++ (xs ++ ys) ≡ put ++ (page1 ++ ys)
-more_of page put page1 xs ys e = sym (append_assoc page xs ys) ∙ ap (λ l. l ++ ys) e ∙ append_assoc put page1 ys
+page_text_after_part : (page put page1 xs ys : List ℕ) → page ++ xs ≡ put ++ page1 → page ++ (xs ++ ys) ≡ put ++ (page1 ++ ys)
+page_text_after_part page put page1 xs ys e = sym (append_assoc page xs ys) ∙ ap (λ l. l ++ ys) e ∙ append_assoc put page1 ys
 
 -- one text and then another
-pub added_more : (xs ys page : List ℕ) (a : Outgoing) (page1 : List ℕ) (b : Outgoing) (page2 : List ℕ) (c : Outgoing) (r : Bool) → IsTextAdded xs page a page1 b true → IsTextAdded ys page1 b page2 c r → IsTextAdded (xs ++ ys) page a page2 c r
-added_more xs ys page a page1 b page2 c true h k = (
+pub texts_added_in_turn : (xs ys page : List ℕ) (a : Outgoing) (page1 : List ℕ) (b : Outgoing) (page2 : List ℕ) (c : Outgoing) (r : Bool) → IsTextAdded xs page a page1 b true → IsTextAdded ys page1 b page2 c r → IsTextAdded (xs ++ ys) page a page2 c r
+texts_added_in_turn xs ys page a page1 b page2 c true h k = (
   h.0 ++ k.0,
   k.1 ∙ ap (λ l. l ++ k.0) h.1 ∙ append_assoc a.out h.0 k.0,
-  more_of page h.0 page1 xs ys h.2 ∙ ap (λ l. h.0 ++ l) k.2 ∙ sym (append_assoc h.0 k.0 page2),
+  page_text_after_part page h.0 page1 xs ys h.2 ∙ ap (λ l. h.0 ++ l) k.2 ∙ sym (append_assoc h.0 k.0 page2),
   k.3 ∙ h.3,
 )
-added_more xs ys page a page1 b page2 c false h k = (
+texts_added_in_turn xs ys page a page1 b page2 c false h k = (
   record {
     part = h.0 ++ k.0.part;
     rest = k.0.rest;
     has = k.0.has ∙ ap (λ l. l ++ k.0.part) h.1 ∙ append_assoc a.out h.0 k.0.part;
-    lacks = more_of page h.0 page1 xs ys h.2 ∙ ap (λ l. h.0 ++ l) k.0.lacks ∙ sym (append_assoc h.0 k.0.part k.0.rest);
+    lacks = page_text_after_part page h.0 page1 xs ys h.2 ∙ ap (λ l. h.0 ++ l) k.0.lacks ∙ sym (append_assoc h.0 k.0.part k.0.rest);
     some = k.0.some;
   },
   k.1 ∙ ap (λ n. n + 1) h.3,
 )
 
 -- a text that was cut short, and another that would have come
-pub added_short : (xs ys page : List ℕ) (a : Outgoing) (page1 : List ℕ) (b : Outgoing) (page2 : List ℕ) → IsTextAdded xs page a page1 b false → IsTextAdded (xs ++ ys) page a page2 b false
-added_short xs ys page a page1 b page2 h = (
+pub cut_text_hides_later_text : (xs ys page : List ℕ) (a : Outgoing) (page1 : List ℕ) (b : Outgoing) (page2 : List ℕ) → IsTextAdded xs page a page1 b false → IsTextAdded (xs ++ ys) page a page2 b false
+cut_text_hides_later_text xs ys page a page1 b page2 h = (
   record {
     part = h.0.part;
     rest = h.0.rest ++ ys;
@@ -67,22 +67,22 @@ added_short xs ys page a page1 b page2 h = (
 )
 
 -- the text may be told in another way
-pub added_as : (xs ys page : List ℕ) (a : Outgoing) (page' : List ℕ) (b : Outgoing) (r : Bool) → xs ≡ ys → IsTextAdded xs page a page' b r → IsTextAdded ys page a page' b r
-added_as xs ys page a page' b true e h = (h.0, h.1, ap (λ l. page ++ l) (sym e) ∙ h.2, h.3)
-added_as xs ys page a page' b false e h = (record { part = h.0.part; rest = h.0.rest; has = h.0.has; lacks = ap (λ l. page ++ l) (sym e) ∙ h.0.lacks; some = h.0.some }, h.1)
+pub equal_text_added_alike : (xs ys page : List ℕ) (a : Outgoing) (page' : List ℕ) (b : Outgoing) (r : Bool) → xs ≡ ys → IsTextAdded xs page a page' b r → IsTextAdded ys page a page' b r
+equal_text_added_alike xs ys page a page' b true e h = (h.0, h.1, ap (λ l. page ++ l) (sym e) ∙ h.2, h.3)
+equal_text_added_alike xs ys page a page' b false e h = (record { part = h.0.part; rest = h.0.rest; has = h.0.has; lacks = ap (λ l. page ++ l) (sym e) ∙ h.0.lacks; some = h.0.some }, h.1)
 
 -- from an empty page to an empty page
-pub written_of : (text page : List ℕ) (a : Outgoing) (page' : List ℕ) (b : Outgoing) (r : Bool) → page ≡ [] → page' ≡ [] → IsTextAdded text page a page' b r → IsTextWritten text a b r
-written_of text page a page' b true e f h = (h.1 ∙ ap (λ l. a.out ++ l) (sym (append-nil h.0) ∙ ap (λ l. h.0 ++ l) (sym f) ∙ sym h.2 ∙ ap (λ l. l ++ text) e), h.3)
-written_of text page a page' b false e f h = (record { part = h.0.part; rest = h.0.rest; has = h.0.has; lacks = ap (λ l. l ++ text) (sym e) ∙ h.0.lacks; some = h.0.some }, h.1)
+pub text_written_from_empty_page : (text page : List ℕ) (a : Outgoing) (page' : List ℕ) (b : Outgoing) (r : Bool) → page ≡ [] → page' ≡ [] → IsTextAdded text page a page' b r → IsTextWritten text a b r
+text_written_from_empty_page text page a page' b true e f h = (h.1 ∙ ap (λ l. a.out ++ l) (sym (append-nil h.0) ∙ ap (λ l. h.0 ++ l) (sym f) ∙ sym h.2 ∙ ap (λ l. l ++ text) e), h.3)
+text_written_from_empty_page text page a page' b false e f h = (record { part = h.0.part; rest = h.0.rest; has = h.0.has; lacks = ap (λ l. l ++ text) (sym e) ∙ h.0.lacks; some = h.0.some }, h.1)
 
 -- a page had room made, and took a text
 pub added_then_here : (text page : List ℕ) (a : Outgoing) (page1 : List ℕ) (b : Outgoing) (page2 : List ℕ) → IsTextAdded [] page a page1 b true → page2 ≡ page1 ++ text → IsTextAdded text page a page2 b true
-added_then_here text page a page1 b page2 h is = added_more [] text page a page1 b page2 b true h (added_here text page1 b page2 is)
+added_then_here text page a page1 b page2 h is = texts_added_in_turn [] text page a page1 b page2 b true h (text_added_to_page_alone text page1 b page2 is)
 
 -- a text, and then the page was put out
 pub added_and_flushed : (text page : List ℕ) (a : Outgoing) (page1 : List ℕ) (b : Outgoing) (page2 : List ℕ) (c : Outgoing) (r : Bool) → IsTextAdded text page a page1 b true → IsTextAdded [] page1 b page2 c r → IsTextAdded text page a page2 c r
-added_and_flushed text page a page1 b page2 c r h k = added_as (text ++ []) text page a page2 c r (append-nil text) (added_more text [] page a page1 b page2 c r h k)
+added_and_flushed text page a page1 b page2 c r h k = equal_text_added_alike (text ++ []) text page a page2 c r (append-nil text) (texts_added_in_turn text [] page a page1 b page2 c r h k)
 
 -- an empty page took a text, and then it was put out with more behind it
 pub paged_written : (text page tail : List ℕ) (a b c : Outgoing) (r : Bool) → IsTextAdded text [] a page b true → IsTextWritten (page ++ tail) b c r → IsTextWritten (text ++ tail) a c r
@@ -103,7 +103,7 @@ paged_written text page tail a b c false h k = (
 
 -- an empty page took a text, and then it was put out
 pub paged_flushed : (text page : List ℕ) (a b : Outgoing) (page' : List ℕ) (c : Outgoing) (r : Bool) → IsTextAdded text [] a page b true → IsTextAdded [] page b page' c r → page' ≡ [] → IsTextWritten text a c r
-paged_flushed text page a b page' c r h k none = written_of text [] a page' c r refl none (added_and_flushed text [] a page b page' c r h k)
+paged_flushed text page a b page' c r h k none = text_written_from_empty_page text [] a page' c r refl none (added_and_flushed text [] a page b page' c r h k)
 
 -- a text, and then the page was put out with it
 pub ends_written : (text page : List ℕ) (a : Outgoing) (page1 : List ℕ) (b : Outgoing) (page2 : List ℕ) (c : Outgoing) (r : Bool) → IsTextAdded text page a page1 b true → IsTextAdded [] page1 b page2 c r → page2 ≡ [] → IsTextWritten (page ++ text) a c r

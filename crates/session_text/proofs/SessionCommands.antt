@@ -38,33 +38,33 @@ acts c a r d = LocalActs c.machine a r d.machine × (d.first_pin ≡ c.first_pin
 
 -- ---- dumps
 
-dump_none : (pin time : ℕ) (t : Talk) (so_far : ℕ) → pieces_dumped zero pin time t so_far ≡ t
+no_pieces_dumped_no_change : (pin time : ℕ) (t : Talk) (so_far : ℕ) → pieces_dumped zero pin time t so_far ≡ t
 unfolding pieces_dumped
-dump_none pin time t so_far = refl
+no_pieces_dumped_no_change pin time t so_far = refl
 
-dump_step : (n pin time : ℕ) (t : Talk) (so_far : ℕ) → pieces_dumped (suc n) pin time t so_far ≡ (let r = done_quietly (NextPiece pin time) t in after_reply (pieces_dumped n pin time) so_far r.1 (piece_in r.1) r.0)
+one_piece_dumped_then_others : (n pin time : ℕ) (t : Talk) (so_far : ℕ) → pieces_dumped (suc n) pin time t so_far ≡ (let r = done_quietly (NextPiece pin time) t in after_reply (pieces_dumped n pin time) so_far r.1 (piece_in r.1) r.0)
 unfolding pieces_dumped
-dump_step n pin time t so_far = refl
+one_piece_dumped_then_others n pin time t so_far = refl
 
-fit_none : (pin time : ℕ) (t : Talk) (so_far : ℕ) → FitsDump zero pin time t so_far
+zero_pieces_fit_dump : (pin time : ℕ) (t : Talk) (so_far : ℕ) → FitsDump zero pin time t so_far
 unfolding FitsDump
-fit_none pin time t so_far = tt
+zero_pieces_fit_dump pin time t so_far = tt
 
-fit_step : (n pin time : ℕ) (t : Talk) (so_far : ℕ) → FitsAction (NextPiece pin time) t → (let r = done_quietly (NextPiece pin time) t in FitsRest (FitsDump n pin time) so_far (piece_in r.1) r.0) → FitsDump (suc n) pin time t so_far
+piece_and_rest_fit_dump : (n pin time : ℕ) (t : Talk) (so_far : ℕ) → FitsAction (NextPiece pin time) t → (let r = done_quietly (NextPiece pin time) t in FitsRest (FitsDump n pin time) so_far (piece_in r.1) r.0) → FitsDump (suc n) pin time t so_far
 unfolding FitsDump
-fit_step n pin time t so_far h k = (h, k)
+piece_and_rest_fit_dump n pin time t so_far h k = (h, k)
 
-fit_rest : (n pin time : ℕ) (t : Talk) (so_far : ℕ) → FitsDump (suc n) pin time t so_far → (let r = done_quietly (NextPiece pin time) t in FitsRest (FitsDump n pin time) so_far (piece_in r.1) r.0)
+dump_fit_after_first_piece : (n pin time : ℕ) (t : Talk) (so_far : ℕ) → FitsDump (suc n) pin time t so_far → (let r = done_quietly (NextPiece pin time) t in FitsRest (FitsDump n pin time) so_far (piece_in r.1) r.0)
 unfolding FitsDump
-fit_rest n pin time t so_far h = h.1
+dump_fit_after_first_piece n pin time t so_far h = h.1
 
-fit_first : (n pin time : ℕ) (t : Talk) (so_far : ℕ) → FitsDump (suc n) pin time t so_far → FitsAction (NextPiece pin time) t
+dump_fit_of_first_piece : (n pin time : ℕ) (t : Talk) (so_far : ℕ) → FitsDump (suc n) pin time t so_far → FitsAction (NextPiece pin time) t
 unfolding FitsDump
-fit_first n pin time t so_far h = h.0
+dump_fit_of_first_piece n pin time t so_far h = h.0
 
 -- an action under a mark that may stand there
-pub done_so : (a : Action) (m : Machine) (mark : Allocation) (ms : List Allocation) (w : List ℕ) (m' : Machine) (r : Reply) → acted_under m (a, mark) ≡ (m', r) → done_quietly a (talk m (mark ∷ ms) w) ≡ (talk m' ms w, r)
-done_so a m mark ms w m' r e = ap (λ (x : Machine × Reply). (talk x.0 ms w, x.1)) e
+pub action_done_under_its_mark : (a : Action) (m : Machine) (mark : Allocation) (ms : List Allocation) (w : List ℕ) (m' : Machine) (r : Reply) → acted_under m (a, mark) ≡ (m', r) → done_quietly a (talk m (mark ∷ ms) w) ≡ (talk m' ms w, r)
+action_done_under_its_mark a m mark ms w m' r e = ap (λ (x : Machine × Reply). (talk x.0 ms w, x.1)) e
 
 -- the marks under which a dump has this text
 pub record DumpsSo (n pin time : ℕ) (m : Machine) (so_far : ℕ) (text : List ℕ) (m' : Machine) : Type 0 where
@@ -78,25 +78,25 @@ record RestSo (n pin time : ℕ) (m : Machine) (so_far : ℕ) (r : Reply) (o : O
   so : (ms : List Allocation) (w : List ℕ) → after_reply (pieces_dumped n pin time) so_far r o (talk m (found ++ ms) w) ≡ talk m' ms (w ++ text)
   fit : (ms : List Allocation) (w : List ℕ) → FitsRest (FitsDump n pin time) so_far o (talk m (found ++ ms) w)
 
-pub moved : (m m' : Machine) (ms : List Allocation) (w xs ys : List ℕ) → m' ≡ m → ys ≡ xs → talk m ms (w ++ xs) ≡ talk m' ms (w ++ ys)
-moved m m' ms w xs ys e f = λ i. talk ((sym e) i) ms (w ++ (sym f) i)
+pub equal_talk_at_moved_machine : (m m' : Machine) (ms : List Allocation) (w xs ys : List ℕ) → m' ≡ m → ys ≡ xs → talk m ms (w ++ xs) ≡ talk m' ms (w ++ ys)
+equal_talk_at_moved_machine m m' ms w xs ys e f = λ i. talk ((sym e) i) ms (w ++ (sym f) i)
 
-rest_so : (n pin time : ℕ) (c : Local) (so_far : ℕ) (r : Reply) (o : Option GivenPiece) (text : List ℕ) (d : Local) → ((k : ℕ) (words : List ℕ) → Dumps acts pin time n c k words d → DumpsSo n pin time c.machine k words d.machine) → DumpsOn (Dumps acts pin time n) r o c so_far text d → RestSo n pin time c.machine so_far r o text d.machine
-rest_so n pin time c so_far r None text d ih h = record {
+rest_of_dump_talks_so : (n pin time : ℕ) (c : Local) (so_far : ℕ) (r : Reply) (o : Option GivenPiece) (text : List ℕ) (d : Local) → ((k : ℕ) (words : List ℕ) → Dumps acts pin time n c k words d → DumpsSo n pin time c.machine k words d.machine) → DumpsOn (Dumps acts pin time n) r o c so_far text d → RestSo n pin time c.machine so_far r o text d.machine
+rest_of_dump_talks_so n pin time c so_far r None text d ih h = record {
   found = [];
-  so = λ ms w. moved c.machine d.machine ms w (reply_text r) text (ap (λ (x : Local). x.machine) h.1) h.0;
+  so = λ ms w. equal_talk_at_moved_machine c.machine d.machine ms w (reply_text r) text (ap (λ (x : Local). x.machine) h.1) h.0;
   fit = λ ms w. tt;
 }
-rest_so n pin time c so_far r (Some p) text d ih (rest, is, inl (last, total, same)) = record {
+rest_of_dump_talks_so n pin time c so_far r (Some p) text d ih (rest, is, inl (last, total, same)) = record {
   found = [];
   so = λ ms w.
       let t = wrote (data_lines p.bytes) (talk c.machine ms w) in
       ap (λ b. if b then wrote (total_line (so_far + length p.bytes)) t else pieces_dumped n pin time t (so_far + length p.bytes)) last
       ∙ ap (λ l. talk c.machine ms l) (append_assoc w (data_lines p.bytes) (total_line (so_far + length p.bytes)))
-      ∙ moved c.machine d.machine ms w (data_lines p.bytes ++ total_line (so_far + length p.bytes)) text (ap (λ (x : Local). x.machine) same) (is ∙ ap (λ l. data_lines p.bytes ++ l) total);
+      ∙ equal_talk_at_moved_machine c.machine d.machine ms w (data_lines p.bytes ++ total_line (so_far + length p.bytes)) text (ap (λ (x : Local). x.machine) same) (is ∙ ap (λ l. data_lines p.bytes ++ l) total);
   fit = λ ms w no. absurd (true≢false (sym last ∙ no));
 }
-rest_so n pin time c so_far r (Some p) text d ih (rest, is, inr (last, more)) =
+rest_of_dump_talks_so n pin time c so_far r (Some p) text d ih (rest, is, inr (last, more)) =
     let g = ih (so_far + length p.bytes) rest more in
     record {
       found = g.found;
@@ -107,34 +107,34 @@ rest_so n pin time c so_far r (Some p) text d ih (rest, is, inr (last, more)) =
       fit = λ ms w no. g.fit ms (w ++ data_lines p.bytes);
     }
 
-pub dumps_so : (n pin time : ℕ) (c : Local) (so_far : ℕ) (text : List ℕ) (d : Local) → Dumps acts pin time n c so_far text d → DumpsSo n pin time c.machine so_far text d.machine
-dumps_so zero pin time c so_far text d h = record {
+pub dump_talks_so : (n pin time : ℕ) (c : Local) (so_far : ℕ) (text : List ℕ) (d : Local) → Dumps acts pin time n c so_far text d → DumpsSo n pin time c.machine so_far text d.machine
+dump_talks_so zero pin time c so_far text d h = record {
   found = [];
-  so = λ ms w. dump_none pin time (talk c.machine ms w) so_far ∙ ap (λ l. talk c.machine ms l) (sym (append-nil w)) ∙ moved c.machine d.machine ms w [] text (ap (λ (x : Local). x.machine) h.1) h.0;
-  fit = λ ms w. fit_none pin time (talk c.machine ms w) so_far;
+  so = λ ms w. no_pieces_dumped_no_change pin time (talk c.machine ms w) so_far ∙ ap (λ l. talk c.machine ms l) (sym (append-nil w)) ∙ equal_talk_at_moved_machine c.machine d.machine ms w [] text (ap (λ (x : Local). x.machine) h.1) h.0;
+  fit = λ ms w. zero_pieces_fit_dump pin time (talk c.machine ms w) so_far;
 }
-dumps_so (suc n) pin time c so_far text d (r, next, ((mark, may, e), kept), goes) =
-    let g = rest_so n pin time next so_far r (piece_in r) text d (λ k words h. dumps_so n pin time next k words d h) goes in
+dump_talks_so (suc n) pin time c so_far text d (r, next, ((mark, may, e), kept), goes) =
+    let g = rest_of_dump_talks_so n pin time next so_far r (piece_in r) text d (λ k words h. dump_talks_so n pin time next k words d h) goes in
     record {
       found = mark ∷ g.found;
-      so = λ ms w. dump_step n pin time (talk c.machine (mark ∷ (g.found ++ ms)) w) so_far
-          ∙ ap (λ (x : Talk × Reply). after_reply (pieces_dumped n pin time) so_far x.1 (piece_in x.1) x.0) (done_so (NextPiece pin time) c.machine mark (g.found ++ ms) w next.machine r e) ∙ g.so ms w;
-      fit = λ ms w. fit_step n pin time (talk c.machine (mark ∷ (g.found ++ ms)) w) so_far may
-          (subst (λ (x : Talk × Reply). FitsRest (FitsDump n pin time) so_far (piece_in x.1) x.0) (sym (done_so (NextPiece pin time) c.machine mark (g.found ++ ms) w next.machine r e)) (g.fit ms w));
+      so = λ ms w. one_piece_dumped_then_others n pin time (talk c.machine (mark ∷ (g.found ++ ms)) w) so_far
+          ∙ ap (λ (x : Talk × Reply). after_reply (pieces_dumped n pin time) so_far x.1 (piece_in x.1) x.0) (action_done_under_its_mark (NextPiece pin time) c.machine mark (g.found ++ ms) w next.machine r e) ∙ g.so ms w;
+      fit = λ ms w. piece_and_rest_fit_dump n pin time (talk c.machine (mark ∷ (g.found ++ ms)) w) so_far may
+          (subst (λ (x : Talk × Reply). FitsRest (FitsDump n pin time) so_far (piece_in x.1) x.0) (sym (action_done_under_its_mark (NextPiece pin time) c.machine mark (g.found ++ ms) w next.machine r e)) (g.fit ms w));
     }
 
 -- ---- dumps of the current state
 
 -- the close of a pin may have no mark but Fine
-pub close_so : (m m' : Machine) (pin : ℕ) (mark : Allocation) (r : Reply) → MayStand m (ClosePin pin, mark) → acted_under m (ClosePin pin, mark) ≡ (m', r) → acted m (ClosePin pin) ≡ (m', r)
+pub close_has_plain_mark : (m m' : Machine) (pin : ℕ) (mark : Allocation) (r : Reply) → MayStand m (ClosePin pin, mark) → acted_under m (ClosePin pin, mark) ≡ (m', r) → acted m (ClosePin pin) ≡ (m', r)
 unfolding acted_under may_grow may_overwrite
-close_so m m' pin Granted r h e = e
-close_so m m' pin Denied r h e = absurd (true≢false (sym h.0))
-close_so m m' pin (LosesPins pins) r h e = absurd (true≢false (sym h.0))
+close_has_plain_mark m m' pin Granted r h e = e
+close_has_plain_mark m m' pin Denied r h e = absurd (true≢false (sym h.0))
+close_has_plain_mark m m' pin (LosesPins pins) r h e = absurd (true≢false (sym h.0))
 
 -- a pin is closed, whatever marks are left
-pub closed_at : (m m' : Machine) (pin : ℕ) (r : Reply) (ms : List Allocation) (w : List ℕ) → acted m (ClosePin pin) ≡ (m', r) → closed pin (talk m ms w) ≡ talk m' ms w
-closed_at m m' pin r ms w e = ap (λ (x : Machine × Reply). talk x.0 ms w) e
+pub pin_closed_under_any_marks : (m m' : Machine) (pin : ℕ) (r : Reply) (ms : List Allocation) (w : List ℕ) → acted m (ClosePin pin) ≡ (m', r) → closed pin (talk m ms w) ≡ talk m' ms w
+pin_closed_under_any_marks m m' pin r ms w e = ap (λ (x : Machine × Reply). talk x.0 ms w) e
 
 -- the marks under which a dump of the current state has this text after the reply to OpenPin
 record OpenSo (time : ℕ) (m : Machine) (r : Reply) (o : Option ℕ) (text : List ℕ) (m' : Machine) : Type 0 where
@@ -142,18 +142,18 @@ record OpenSo (time : ℕ) (m : Machine) (r : Reply) (o : Option ℕ) (text : Li
   so : (ms : List Allocation) (w : List ℕ) → after_open_reply part_limit time r o (talk m (found ++ ms) w) ≡ talk m' ms (w ++ text)
   fit : (ms : List Allocation) (w : List ℕ) → FitsOpen time o (talk m (found ++ ms) w)
 
-open_so : (time : ℕ) (c : Local) (r : Reply) (o : Option ℕ) (text : List ℕ) (d : Local) → ClosesAfter acts time r o part_limit c text d → OpenSo time c.machine r o text d.machine
-open_so time c r None text d h = record {
+open_and_dump_talks_so : (time : ℕ) (c : Local) (r : Reply) (o : Option ℕ) (text : List ℕ) (d : Local) → ClosesAfter acts time r o part_limit c text d → OpenSo time c.machine r o text d.machine
+open_and_dump_talks_so time c r None text d h = record {
   found = [];
-  so = λ ms w. moved c.machine d.machine ms w (reply_text r) text (ap (λ (x : Local). x.machine) h.1) h.0;
+  so = λ ms w. equal_talk_at_moved_machine c.machine d.machine ms w (reply_text r) text (ap (λ (x : Local). x.machine) h.1) h.0;
   fit = λ ms w. tt;
 }
-open_so time c r (Some pin) text d (between, closing, h, ((mark, may, e), kept)) =
-    let f = dumps_so part_limit pin time c 0 text between h in
-    let is = close_so between.machine d.machine pin mark closing may e in
+open_and_dump_talks_so time c r (Some pin) text d (between, closing, h, ((mark, may, e), kept)) =
+    let f = dump_talks_so part_limit pin time c 0 text between h in
+    let is = close_has_plain_mark between.machine d.machine pin mark closing may e in
     record {
       found = f.found;
-      so = λ ms w. ap (λ x. closed pin x) (f.so ms w) ∙ closed_at between.machine d.machine pin closing ms (w ++ text) is;
+      so = λ ms w. ap (λ x. closed pin x) (f.so ms w) ∙ pin_closed_under_any_marks between.machine d.machine pin closing ms (w ++ text) is;
       fit = λ ms w. f.fit ms w;
     }
 
@@ -166,59 +166,59 @@ pub record Follows (time : ℕ) (k : Command) (c : Local) (text : List ℕ) (d :
   pub after : (ms : List Allocation) (w : List ℕ) → after_command time k (talk c.machine (found ++ ms) w) ≡ talk d.machine ms (w ++ text)
   pub fit : (ms : List Allocation) (w : List ℕ) → FitsCommand time k (talk c.machine (found ++ ms) w)
 
-pub goes_on : (time : ℕ) (k : Command) (c : Local) (text : List ℕ) (d : Local) (f : Follows time k c text d) (ms : List Allocation) (w : List ℕ) (more : Talk → Talk × Ended) → go_on more time k (talk c.machine (f.found ++ ms) w) ≡ more (talk d.machine ms (w ++ text))
-goes_on time k c text d f ms w more =
+pub command_goes_on_to_more : (time : ℕ) (k : Command) (c : Local) (text : List ℕ) (d : Local) (f : Follows time k c text d) (ms : List Allocation) (w : List ℕ) (more : Talk → Talk × Ended) → go_on more time k (talk c.machine (f.found ++ ms) w) ≡ more (talk d.machine ms (w ++ text))
+command_goes_on_to_more time k c text d f ms w more =
     let t = talk c.machine (f.found ++ ms) w in
     ap (λ b. if b then (t, Quit) else more (after_command time k t)) f.no_end ∙ ap more (f.after ms w)
 
-pub is_refused : (m : Machine) (a : Action) → acted_under m (a, Denied) ≡ (m, Refused NoMemory)
+pub denied_action_is_no_memory : (m : Machine) (a : Action) → acted_under m (a, Denied) ≡ (m, Refused NoMemory)
 unfolding acted_under
-is_refused m a = refl
+denied_action_is_no_memory m a = refl
 
 -- an action under a mark, whose reply is written
-replied_so : (a : Action) (m : Machine) (mark : Allocation) (ms : List Allocation) (w : List ℕ) (m' : Machine) (r : Reply) (text : List ℕ) → acted_under m (a, mark) ≡ (m', r) → text ≡ reply_text r → done a (talk m (mark ∷ ms) w) ≡ talk m' ms (w ++ text)
-replied_so a m mark ms w m' r text e is = ap (λ (x : Talk × Reply). wrote (reply_text x.1) x.0) (done_so a m mark ms w m' r e) ∙ ap (λ l. talk m' ms (w ++ l)) (sym is)
+action_replied_under_its_mark : (a : Action) (m : Machine) (mark : Allocation) (ms : List Allocation) (w : List ℕ) (m' : Machine) (r : Reply) (text : List ℕ) → acted_under m (a, mark) ≡ (m', r) → text ≡ reply_text r → done a (talk m (mark ∷ ms) w) ≡ talk m' ms (w ++ text)
+action_replied_under_its_mark a m mark ms w m' r text e is = ap (λ (x : Talk × Reply). wrote (reply_text x.1) x.0) (action_done_under_its_mark a m mark ms w m' r e) ∙ ap (λ l. talk m' ms (w ++ l)) (sym is)
 
-pub follows : (time : ℕ) (k : Command) (c : Local) (text : List ℕ) (d : Local) → AnswersTo acts IsBadCommand time k c text d → Follows time k c text d
-follows time Blank c text d h = record {
+pub answered_command_follows : (time : ℕ) (k : Command) (c : Local) (text : List ℕ) (d : Local) → AnswersTo acts IsBadCommand time k c text d → Follows time k c text d
+answered_command_follows time Blank c text d h = record {
   found = [];
   no_end = refl;
   after = λ ms w. let p = sym h.1 in let q = sym (ap (λ l. w ++ l) h.0 ∙ append-nil w) in λ i. talk (p i).machine ms (q i);
   fit = λ ms w. tt;
 }
-follows time Bad c text d h = record {
+answered_command_follows time Bad c text d h = record {
   found = [];
   no_end = refl;
   after = λ ms w. let p = sym h.1 in let q = sym h.0 in λ i. talk (p i).machine ms (w ++ q i);
   fit = λ ms w. tt;
 }
-follows time (Ask a) c text d (r, inl ((mark, may, e), kept), is) = record {
+answered_command_follows time (Ask a) c text d (r, inl ((mark, may, e), kept), is) = record {
   found = mark ∷ [];
   no_end = refl;
-  after = λ ms w. replied_so a c.machine mark ms w d.machine r text e is;
+  after = λ ms w. action_replied_under_its_mark a c.machine mark ms w d.machine r text e is;
   fit = λ ms w. inl may;
 }
-follows time (Ask a) c text d (r, inr (takes, refused, same), is) = record {
+answered_command_follows time (Ask a) c text d (r, inr (takes, refused, same), is) = record {
   found = Denied ∷ [];
   no_end = refl;
-  after = λ ms w. replied_so a c.machine Denied ms w d.machine (Refused NoMemory) text (is_refused c.machine a ∙ ap (λ (x : Local). (x.machine, Refused NoMemory)) (sym same)) (is ∙ ap (λ x. reply_text x) refused);
+  after = λ ms w. action_replied_under_its_mark a c.machine Denied ms w d.machine (Refused NoMemory) text (denied_action_is_no_memory c.machine a ∙ ap (λ (x : Local). (x.machine, Refused NoMemory)) (sym same)) (is ∙ ap (λ x. reply_text x) refused);
   fit = λ ms w. inr (takes, refl);
 }
-follows time (Piece pin) c text d (r, ((mark, may, e), kept), is) = record {
+answered_command_follows time (Piece pin) c text d (r, ((mark, may, e), kept), is) = record {
   found = mark ∷ [];
   no_end = refl;
-  after = λ ms w. replied_so (NextPiece pin time) c.machine mark ms w d.machine r text e is;
+  after = λ ms w. action_replied_under_its_mark (NextPiece pin time) c.machine mark ms w d.machine r text e is;
   fit = λ ms w. may;
 }
-follows time (Dump pin) c text d h =
-    let f = dumps_so part_limit pin time c 0 text d h in
+answered_command_follows time (Dump pin) c text d h =
+    let f = dump_talks_so part_limit pin time c 0 text d h in
     record { found = f.found; no_end = refl; after = f.so; fit = f.fit }
-follows time DumpNow c text d (r, opened, ((mark, may, e), kept), closes) =
-    let g = open_so time opened r (pin_in r) text d closes in
+answered_command_follows time DumpNow c text d (r, opened, ((mark, may, e), kept), closes) =
+    let g = open_and_dump_talks_so time opened r (pin_in r) text d closes in
     record {
       found = mark ∷ g.found;
       no_end = refl;
-      after = λ ms w. ap (λ (x : Talk × Reply). after_open_reply part_limit time x.1 (pin_in x.1) x.0) (done_so (OpenPin None) c.machine mark (g.found ++ ms) w opened.machine r e) ∙ g.so ms w;
-      fit = λ ms w. (may, subst (λ (x : Talk × Reply). FitsOpen time (pin_in x.1) x.0) (sym (done_so (OpenPin None) c.machine mark (g.found ++ ms) w opened.machine r e)) (g.fit ms w));
+      after = λ ms w. ap (λ (x : Talk × Reply). after_open_reply part_limit time x.1 (pin_in x.1) x.0) (action_done_under_its_mark (OpenPin None) c.machine mark (g.found ++ ms) w opened.machine r e) ∙ g.so ms w;
+      fit = λ ms w. (may, subst (λ (x : Talk × Reply). FitsOpen time (pin_in x.1) x.0) (sym (action_done_under_its_mark (OpenPin None) c.machine mark (g.found ++ ms) w opened.machine r e)) (g.fit ms w));
     }
-follows time End c text d h = absurd h
+answered_command_follows time End c text d h = absurd h

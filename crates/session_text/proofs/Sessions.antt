@@ -17,59 +17,59 @@ use Rattle.dump_pump.specs.Inlets.{Incoming, whole}
 use Rattle.session_text.specs.Session.{Talk, after_up_to, after_command, FitLines, AllocationsFit, talked, session_of, ShowsSession, CutsLine, CutsEnd, CutsPage, IsSession}
 use Rattle.session_text.specs.Talks.{stream, IsTalk, EndsCleanly, FailsWhileWriting, IsTruncatedRun, Serves}
 use Rattle.session_text.specs.Writes.{IsCutShort, IsTextWritten}
-use Rattle.session_text.proofs.AnsweredLines.{served_fails}
+use Rattle.session_text.proofs.AnsweredLines.{served_lines_then_failed_write}
 use Rattle.session_text.proofs.SessionCommands.{parts, talk, acts}
-use Rattle.session_text.proofs.SessionLines.{line_then, line_fit, none_left, passes, FitsEnd, closes_so}
-use Rattle.session_text.proofs.CutAnswers.{fine, begins_itself, stays, begins_so}
+use Rattle.session_text.proofs.SessionLines.{line_talked_then_rest, line_and_later_lines_fit, nothing_left_is_eof, answered_lines_pass, FitsEnd, clean_end_is_talked}
+use Rattle.session_text.proofs.CutAnswers.{unmarked_talk_fits_lines, text_is_its_own_prefix, stays, begun_command_begins_talk}
 
 session_lines : (limits : SessionLimits) (time : ℕ) (e : ReadEnd) (bytes rest : List ℕ) (c : Local) (text : List ℕ) (d : Local) (k : IsTalk limits (AnswersCommand acts all_bad time) bytes c rest text d) (ms : List Allocation)
-    → session_of limits c.machine ((passes limits time k.lines c text d k.talks).found ++ ms) time bytes e ≡ talked limits time e (parts rest) (talk d.machine ms text)
+    → session_of limits c.machine ((answered_lines_pass limits time k.lines c text d k.talks).found ++ ms) time bytes e ≡ talked limits time e (parts rest) (talk d.machine ms text)
 unfolding session_of
 session_lines limits time e bytes rest c text d k ms =
-    let g = passes limits time k.lines c text d k.talks in
+    let g = answered_lines_pass limits time k.lines c text d k.talks in
     ap (λ bs. talked limits time e (parts bs) (talk c.machine (g.found ++ ms) [])) k.are ∙ g.so e rest ms []
 
 session_fit : (limits : SessionLimits) (time : ℕ) (bytes rest : List ℕ) (c : Local) (text : List ℕ) (d : Local) (k : IsTalk limits (AnswersCommand acts all_bad time) bytes c rest text d) (ms : List Allocation) → FitLines time (parts rest) (talk d.machine ms text)
-    → AllocationsFit c.machine ((passes limits time k.lines c text d k.talks).found ++ ms) time bytes
+    → AllocationsFit c.machine ((answered_lines_pass limits time k.lines c text d k.talks).found ++ ms) time bytes
 session_fit limits time bytes rest c text d k ms h =
-    let g = passes limits time k.lines c text d k.talks in
+    let g = answered_lines_pass limits time k.lines c text d k.talks in
     subst (λ bs. FitLines time (parts bs) (talk c.machine (g.found ++ ms) [])) (sym k.are) (g.fit rest ms [] h)
 
 -- all lines are answered, and no marks are left
-all_fit : (limits : SessionLimits) (time : ℕ) (bytes rest : List ℕ) (c : Local) (text : List ℕ) (d : Local) (k : IsTalk limits (AnswersCommand acts all_bad time) bytes c rest text d) → AllocationsFit c.machine ((passes limits time k.lines c text d k.talks).found ++ []) time bytes
-all_fit limits time bytes rest c text d k = session_fit limits time bytes rest c text d k [] (fine time (parts rest) (talk d.machine [] text) refl)
+allocations_fit_all_lines : (limits : SessionLimits) (time : ℕ) (bytes rest : List ℕ) (c : Local) (text : List ℕ) (d : Local) (k : IsTalk limits (AnswersCommand acts all_bad time) bytes c rest text d) → AllocationsFit c.machine ((answered_lines_pass limits time k.lines c text d k.talks).found ++ []) time bytes
+allocations_fit_all_lines limits time bytes rest c text d k = session_fit limits time bytes rest c text d k [] (unmarked_talk_fits_lines time (parts rest) (talk d.machine [] text) refl)
 
-abbrev end_for : Ended → ReadEnd
-end_for ReadFault = Failed
-end_for TooManyReads = Spent
-end_for ended = Over
+abbrev read_end_for_ending : Ended → ReadEnd
+read_end_for_ending ReadFault = Failed
+read_end_for_ending TooManyReads = Spent
+read_end_for_ending ended = Over
 
-fits : (ended : Ended) → FitsEnd (end_for ended) ended
-fits Quit = tt
-fits Eof = refl
-fits CutLine = refl
-fits TooLong = tt
-fits ReadFault = refl
-fits TooManyReads = refl
-fits WriteFault = tt
-fits NoRoom = tt
+end_fits_its_ending : (ended : Ended) → FitsEnd (read_end_for_ending ended) ended
+end_fits_its_ending Quit = tt
+end_fits_its_ending Eof = refl
+end_fits_its_ending CutLine = refl
+end_fits_its_ending TooLong = tt
+end_fits_its_ending ReadFault = refl
+end_fits_its_ending TooManyReads = refl
+end_fits_its_ending WriteFault = tt
+end_fits_its_ending NoRoom = tt
 
 -- the lines and what an ending prints
-closed_so : (limits : SessionLimits) (time : ℕ) (a b : Incoming) (c d : Local) (ended : Ended) (bytes rest text tail : List ℕ) (k : IsTalk limits (AnswersCommand acts all_bad time) bytes c rest text d) → EndsCleanly limits rest a b ended tail → (e : ReadEnd) → FitsEnd e ended
-    → ShowsSession limits c.machine ((passes limits time k.lines c text d k.talks).found ++ []) time bytes e (text ++ tail) d.machine ended
-closed_so limits time a b c d ended bytes rest text tail k closes e f = session_lines limits time e bytes rest c text d k [] ∙ closes_so limits time e rest a b ended tail d.machine [] text f closes
+lines_and_clean_end_talked : (limits : SessionLimits) (time : ℕ) (a b : Incoming) (c d : Local) (ended : Ended) (bytes rest text tail : List ℕ) (k : IsTalk limits (AnswersCommand acts all_bad time) bytes c rest text d) → EndsCleanly limits rest a b ended tail → (e : ReadEnd) → FitsEnd e ended
+    → ShowsSession limits c.machine ((answered_lines_pass limits time k.lines c text d k.talks).found ++ []) time bytes e (text ++ tail) d.machine ended
+lines_and_clean_end_talked limits time a b c d ended bytes rest text tail k closes e f = session_lines limits time e bytes rest c text d k [] ∙ clean_end_is_talked limits time e rest a b ended tail d.machine [] text f closes
 
 -- all lines are answered, and nothing follows
-session_done : (limits : SessionLimits) (time : ℕ) (bytes rest : List ℕ) (c : Local) (text : List ℕ) (d : Local) (k : IsTalk limits (AnswersCommand acts all_bad time) bytes c rest text d) (ms : List Allocation)
-    → session_of limits c.machine ((passes limits time k.lines c text d k.talks).found ++ ms) time (stream k.lines) Over ≡ (talk d.machine ms text, Eof)
+whole_session_is_talked : (limits : SessionLimits) (time : ℕ) (bytes rest : List ℕ) (c : Local) (text : List ℕ) (d : Local) (k : IsTalk limits (AnswersCommand acts all_bad time) bytes c rest text d) (ms : List Allocation)
+    → session_of limits c.machine ((answered_lines_pass limits time k.lines c text d k.talks).found ++ ms) time (stream k.lines) Over ≡ (talk d.machine ms text, Eof)
 unfolding session_of
-session_done limits time bytes rest c text d k ms =
-    let g = passes limits time k.lines c text d k.talks in
-    ap (λ bs. talked limits time Over (parts bs) (talk c.machine (g.found ++ ms) [])) (sym (append-nil (stream k.lines))) ∙ g.so Over [] ms [] ∙ none_left limits time (talk d.machine ms text)
+whole_session_is_talked limits time bytes rest c text d k ms =
+    let g = answered_lines_pass limits time k.lines c text d k.talks in
+    ap (λ bs. talked limits time Over (parts bs) (talk c.machine (g.found ++ ms) [])) (sym (append-nil (stream k.lines))) ∙ g.so Over [] ms [] ∙ nothing_left_is_eof limits time (talk d.machine ms text)
 
 -- what was cut short in a beginning of a text
-cut_in : (text full a b : List ℕ) (h : IsCutShort text a b) → IsPrefix text full → IsCutShort full [] h.part
-cut_in text full a b h p = record {
+cut_answer_in_full_text : (text full a b : List ℕ) (h : IsCutShort text a b) → IsPrefix text full → IsCutShort full [] h.part
+cut_answer_in_full_text text full a b h p = record {
   part = h.part;
   rest = h.rest ++ p.0;
   has = refl;
@@ -78,8 +78,8 @@ cut_in text full a b h p = record {
 }
 
 -- the place at which the text was cut short, told of the rest of a session
-abbrev Stops : SessionLimits → ℕ → ReadEnd → List ℕ → Talk → List ℕ → List ℕ → Machine → Type 0
-Stops limits time e rest t full out left =
+abbrev StopsInSession : SessionLimits → ℕ → ReadEnd → List ℕ → Talk → List ℕ → List ℕ → Machine → Type 0
+StopsInSession limits time e rest t full out left =
     CutsLine limits time rest t out left ⊎ (((ended : Ended) × (talked limits time e (parts rest) t ≡ (talk t.machine [] full, ended)) × (left ≡ t.machine)) ⊎ CutsPage limits rest t out left)
 
 -- the marks and the text of what was cut short
@@ -90,29 +90,29 @@ record CutTail (limits : SessionLimits) (time : ℕ) (rest : List ℕ) (c : Loca
   so : IsPrefix (text ++ tail) (talked limits time end (parts rest) (talk c.machine found text)).0.written
   fit : FitLines time (parts rest) (talk c.machine found text)
   cut : IsTextWritten (text ++ tail) w w' false
-  stops : Stops limits time end rest (talk c.machine found text) (text ++ tail) cut.0.part d.machine
+  stops : StopsInSession limits time end rest (talk c.machine found text) (text ++ tail) cut.0.part d.machine
 
 broken_tail : (limits : SessionLimits) (time : ℕ) (a b : Incoming) (rest : List ℕ) (c : Local) (text : List ℕ) (d : Local) (w w' : Outgoing) → FailsWhileWriting limits (Begins acts all_bad time) text rest a b c w d w' → CutTail limits time rest c text d w w'
 broken_tail limits time a b rest c text d w w' (inl ((l, tail, starts, h, cut), same)) =
-    let g = begins_so time (command_of l) c tail d text (talked limits time Over (parts starts.1)) (λ u. stays limits time Over (parts starts.1) u) h in
+    let g = begun_command_begins_talk time (command_of l) c tail d text (talked limits time Over (parts starts.1)) (λ u. stays limits time Over (parts starts.1) u) h in
     let t = talk c.machine g.found text in
     record {
       end = Over;
       found = g.found;
       tail = tail;
-      so = subst (λ r. IsPrefix (text ++ tail) r.0.written) (sym (ap (λ bs. talked limits time Over (parts bs) t) starts.2 ∙ line_then limits time Over l starts.1 t starts.0)) g.so;
-      fit = subst (λ bs. FitLines time (parts bs) t) (sym starts.2) (line_fit limits time l starts.1 t starts.0 g.fit (fine time (parts starts.1) (after_command time (command_of l) t) g.spent));
+      so = subst (λ r. IsPrefix (text ++ tail) r.0.written) (sym (ap (λ bs. talked limits time Over (parts bs) t) starts.2 ∙ line_talked_then_rest limits time Over l starts.1 t starts.0)) g.so;
+      fit = subst (λ bs. FitLines time (parts bs) t) (sym starts.2) (line_and_later_lines_fit limits time l starts.1 t starts.0 g.fit (unmarked_talk_fits_lines time (parts starts.1) (after_command time (command_of l) t) g.spent));
       cut = cut;
-      stops = inl (l, starts, g.pieces, g.most, g.machine, cut_in (text ++ tail) (after_up_to g.pieces time (command_of l) t).written w.out w'.out cut.0 g.here);
+      stops = inl (l, starts, g.pieces, g.most, g.machine, cut_answer_in_full_text (text ++ tail) (after_up_to g.pieces time (command_of l) t).written w.out w'.out cut.0 g.here);
     }
 broken_tail limits time a b rest c text d w w' (inr (inl (ended, tail, closes, same, cut))) =
-    let shows = closes_so limits time (end_for ended) rest a b ended tail c.machine [] text (fits ended) closes in
+    let shows = clean_end_is_talked limits time (read_end_for_ending ended) rest a b ended tail c.machine [] text (end_fits_its_ending ended) closes in
     record {
-      end = end_for ended;
+      end = read_end_for_ending ended;
       found = [];
       tail = tail;
-      so = subst (λ r. IsPrefix (text ++ tail) r.0.written) (sym shows) (begins_itself (text ++ tail));
-      fit = fine time (parts rest) (talk c.machine [] text) refl;
+      so = subst (λ r. IsPrefix (text ++ tail) r.0.written) (sym shows) (text_is_its_own_prefix (text ++ tail));
+      fit = unmarked_talk_fits_lines time (parts rest) (talk c.machine [] text) refl;
       cut = cut;
       stops = inr (inl (ended, shows, ap (λ (x : Local). x.machine) same));
     }
@@ -124,27 +124,27 @@ broken_tail limits time a b rest c text d w w' (inr (inr (line, none, same, cut)
       found = [];
       tail = [];
       so = subst (λ l. IsPrefix l (talked limits time Over (parts rest) t).0.written) (sym (append-nil text)) (stays limits time Over (parts rest) t);
-      fit = fine time (parts rest) t refl;
+      fit = unmarked_talk_fits_lines time (parts rest) t refl;
       cut = all;
-      stops = inr (inr (line, ap (λ (x : Local). x.machine) same, cut_in (text ++ []) text w.out w'.out all.0 (subst (λ l. IsPrefix l text) (sym (append-nil text)) (begins_itself text))));
+      stops = inr (inr (line, ap (λ (x : Local). x.machine) same, cut_answer_in_full_text (text ++ []) text w.out w'.out all.0 (subst (λ l. IsPrefix l text) (sym (append-nil text)) (text_is_its_own_prefix text))));
     }
 
 -- the place at which the text of a whole session was cut
-stops_so : (limits : SessionLimits) (time : ℕ) (bytes rest : List ℕ) (start : Machine) (marks : List Allocation) (e : ReadEnd) (t : Talk) (full out : List ℕ) (left : Machine) → session_of limits start marks time bytes e ≡ talked limits time e (parts rest) t → IsCutShort full [] out
-    → Stops limits time e rest t full out left → CutsLine limits time rest t out left ⊎ (CutsEnd limits start marks time bytes e t out left ⊎ CutsPage limits rest t out left)
-stops_so limits time bytes rest start marks e t full out left lines cut (inl h) = inl h
-stops_so limits time bytes rest start marks e t full out left lines cut (inr (inl (ended, shows, same))) = inr (inl (full, ended, lines ∙ shows ∙ ap (λ m. (talk m [] full, ended)) (sym same), same, cut))
-stops_so limits time bytes rest start marks e t full out left lines cut (inr (inr h)) = inr (inr h)
+session_stops_where_cut : (limits : SessionLimits) (time : ℕ) (bytes rest : List ℕ) (start : Machine) (marks : List Allocation) (e : ReadEnd) (t : Talk) (full out : List ℕ) (left : Machine) → session_of limits start marks time bytes e ≡ talked limits time e (parts rest) t → IsCutShort full [] out
+    → StopsInSession limits time e rest t full out left → CutsLine limits time rest t out left ⊎ (CutsEnd limits start marks time bytes e t out left ⊎ CutsPage limits rest t out left)
+session_stops_where_cut limits time bytes rest start marks e t full out left lines cut (inl h) = inl h
+session_stops_where_cut limits time bytes rest start marks e t full out left lines cut (inr (inl (ended, shows, same))) = inr (inl (full, ended, lines ∙ shows ∙ ap (λ m. (talk m [] full, ended)) (sym same), same, cut))
+session_stops_where_cut limits time bytes rest start marks e t full out left lines cut (inr (inr h)) = inr (inr h)
 
 failed_session : (limits : SessionLimits) (time : ℕ) (bytes : List ℕ) (a b : Incoming) (c : Local) (w : Outgoing) (d : Local) (w' : Outgoing) → b.taken ≡ a.taken ++ bytes → Keeps (whole a) (whole b) → IsTruncatedRun limits (AnswersCommand acts all_bad time) (Begins acts all_bad time) bytes a b c w d w' → IsSession limits c.machine time a b w w' d.machine WriteFault
 failed_session limits time bytes a b c w d w' taken keeps (rest, text, between, k, breaks) =
     let g = broken_tail limits time a b rest between text d w w' breaks in
     let h = g.cut.0 in
-    let marks = (passes limits time k.lines c text between k.talks).found ++ g.found in
+    let marks = (answered_lines_pass limits time k.lines c text between k.talks).found ++ g.found in
     let lines = session_lines limits time g.end bytes rest c text between k g.found in
-    let alone = cut_in (text ++ g.tail) (text ++ g.tail) w.out w'.out h (begins_itself (text ++ g.tail)) in
-    let stops = stops_so limits time bytes rest c.machine marks g.end (talk between.machine g.found text) (text ++ g.tail) h.part d.machine lines alone g.stops in
-    let cut = cut_in (text ++ g.tail) (talked limits time g.end (parts rest) (talk between.machine g.found text)).0.written w.out w'.out h g.so in (
+    let alone = cut_answer_in_full_text (text ++ g.tail) (text ++ g.tail) w.out w'.out h (text_is_its_own_prefix (text ++ g.tail)) in
+    let stops = session_stops_where_cut limits time bytes rest c.machine marks g.end (talk between.machine g.found text) (text ++ g.tail) h.part d.machine lines alone g.stops in
+    let cut = cut_answer_in_full_text (text ++ g.tail) (talked limits time g.end (parts rest) (talk between.machine g.found text)).0.written w.out w'.out h g.so in (
       bytes,
       h.part,
       marks,
@@ -155,16 +155,16 @@ failed_session limits time bytes a b c w d w' taken keeps (rest, text, between, 
       (
         g.end,
         subst (λ r. IsCutShort r.0.written [] h.part) (sym lines) cut,
-        (stream k.lines, rest, talk between.machine g.found text, k.are, session_done limits time bytes rest c text between k g.found, stops),
+        (stream k.lines, rest, talk between.machine g.found text, k.are, whole_session_is_talked limits time bytes rest c text between k g.found, stops),
       ),
     )
 
 pub local_session : (limits : SessionLimits) (time : ℕ) (a b : Incoming) (c : Local) (w : Outgoing) (d : Local) (w' : Outgoing) (ended : Ended) → Serves limits (AnswersCommand acts all_bad time) (Begins acts all_bad time) a b c w d w' ended → IsSession limits c.machine time a b w w' d.machine ended
-local_session limits time a b c w d w' Quit (bytes, taken, keeps, (rest, text, tail, k, closes, h)) = (bytes, text ++ tail, (passes limits time k.lines c text d k.talks).found ++ [], all_fit limits time bytes rest c text d k, taken, keeps, h.0, λ e. closed_so limits time a b c d Quit bytes rest text tail k closes e tt)
-local_session limits time a b c w d w' Eof (bytes, taken, keeps, (rest, text, tail, k, closes, h)) = (bytes, text ++ tail, (passes limits time k.lines c text d k.talks).found ++ [], all_fit limits time bytes rest c text d k, taken, keeps, h.0, closed_so limits time a b c d Eof bytes rest text tail k closes Over refl)
-local_session limits time a b c w d w' CutLine (bytes, taken, keeps, (rest, text, tail, k, closes, h)) = (bytes, text ++ tail, (passes limits time k.lines c text d k.talks).found ++ [], all_fit limits time bytes rest c text d k, taken, keeps, h.0, closed_so limits time a b c d CutLine bytes rest text tail k closes Over refl)
-local_session limits time a b c w d w' TooLong (bytes, taken, keeps, (rest, text, tail, k, closes, h)) = (bytes, text ++ tail, (passes limits time k.lines c text d k.talks).found ++ [], all_fit limits time bytes rest c text d k, taken, keeps, h.0, λ e. closed_so limits time a b c d TooLong bytes rest text tail k closes e tt)
-local_session limits time a b c w d w' ReadFault (bytes, taken, keeps, (rest, text, tail, k, closes, h)) = (bytes, text ++ tail, (passes limits time k.lines c text d k.talks).found ++ [], all_fit limits time bytes rest c text d k, taken, keeps, h.0, closed_so limits time a b c d ReadFault bytes rest text tail k closes Failed refl)
-local_session limits time a b c w d w' TooManyReads (bytes, taken, keeps, (rest, text, tail, k, closes, h)) = (bytes, text ++ tail, (passes limits time k.lines c text d k.talks).found ++ [], all_fit limits time bytes rest c text d k, taken, keeps, h.0, closed_so limits time a b c d TooManyReads bytes rest text tail k closes Spent refl)
-local_session limits time a b c w d w' WriteFault (bytes, taken, keeps, h) = failed_session limits time bytes a b c w d w' taken keeps (served_fails limits (AnswersCommand acts all_bad time) (Begins acts all_bad time) bytes a b c w d w' h)
-local_session limits time a b c w d w' NoRoom (bytes, taken, keeps, h) = (bytes, [], [], fine time (parts bytes) (talk c.machine [] []) refl, taken, keeps, ap (λ (x : Outgoing). x.out) h.3 ∙ sym (append-nil w.out), (h.0, refl, ap (λ (x : Local). x.machine) h.2))
+local_session limits time a b c w d w' Quit (bytes, taken, keeps, (rest, text, tail, k, closes, h)) = (bytes, text ++ tail, (answered_lines_pass limits time k.lines c text d k.talks).found ++ [], allocations_fit_all_lines limits time bytes rest c text d k, taken, keeps, h.0, λ e. lines_and_clean_end_talked limits time a b c d Quit bytes rest text tail k closes e tt)
+local_session limits time a b c w d w' Eof (bytes, taken, keeps, (rest, text, tail, k, closes, h)) = (bytes, text ++ tail, (answered_lines_pass limits time k.lines c text d k.talks).found ++ [], allocations_fit_all_lines limits time bytes rest c text d k, taken, keeps, h.0, lines_and_clean_end_talked limits time a b c d Eof bytes rest text tail k closes Over refl)
+local_session limits time a b c w d w' CutLine (bytes, taken, keeps, (rest, text, tail, k, closes, h)) = (bytes, text ++ tail, (answered_lines_pass limits time k.lines c text d k.talks).found ++ [], allocations_fit_all_lines limits time bytes rest c text d k, taken, keeps, h.0, lines_and_clean_end_talked limits time a b c d CutLine bytes rest text tail k closes Over refl)
+local_session limits time a b c w d w' TooLong (bytes, taken, keeps, (rest, text, tail, k, closes, h)) = (bytes, text ++ tail, (answered_lines_pass limits time k.lines c text d k.talks).found ++ [], allocations_fit_all_lines limits time bytes rest c text d k, taken, keeps, h.0, λ e. lines_and_clean_end_talked limits time a b c d TooLong bytes rest text tail k closes e tt)
+local_session limits time a b c w d w' ReadFault (bytes, taken, keeps, (rest, text, tail, k, closes, h)) = (bytes, text ++ tail, (answered_lines_pass limits time k.lines c text d k.talks).found ++ [], allocations_fit_all_lines limits time bytes rest c text d k, taken, keeps, h.0, lines_and_clean_end_talked limits time a b c d ReadFault bytes rest text tail k closes Failed refl)
+local_session limits time a b c w d w' TooManyReads (bytes, taken, keeps, (rest, text, tail, k, closes, h)) = (bytes, text ++ tail, (answered_lines_pass limits time k.lines c text d k.talks).found ++ [], allocations_fit_all_lines limits time bytes rest c text d k, taken, keeps, h.0, lines_and_clean_end_talked limits time a b c d TooManyReads bytes rest text tail k closes Spent refl)
+local_session limits time a b c w d w' WriteFault (bytes, taken, keeps, h) = failed_session limits time bytes a b c w d w' taken keeps (served_lines_then_failed_write limits (AnswersCommand acts all_bad time) (Begins acts all_bad time) bytes a b c w d w' h)
+local_session limits time a b c w d w' NoRoom (bytes, taken, keeps, h) = (bytes, [], [], unmarked_talk_fits_lines time (parts bytes) (talk c.machine [] []) refl, taken, keeps, ap (λ (x : Outgoing). x.out) h.3 ∙ sym (append-nil w.out), (h.0, refl, ap (λ (x : Local). x.machine) h.2))

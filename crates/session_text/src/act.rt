@@ -15,14 +15,6 @@ use dump_pump::Outlet;
 use heap_step::{Answer, IntoEvent};
 use heap_trail::{Action, Reply};
 
-// Tells whether a reply prints no more than that an event was done.
-#[inline(always)]
-fn is_done(reply: &Reply) -> bool
-    ensures { result ≡ true → reply.now ≡ Answered Done }
-{
-    matches!(reply, Reply::Answered(Answer::Done))
-}
-
 /// Does an action and adds its reply to a page. Returns false if a write failed.
 #[inline(always)]
 pub fn answer_action<O: Outlet, C: Commands>(
@@ -36,22 +28,6 @@ pub fn answer_action<O: Outlet, C: Commands>(
         result }
 {
     let reply = commands.act(action);
-    add_reply(page, writer, reply)
-}
-
-/// Takes a step and adds its reply to a page. Returns false if a write failed.
-#[inline(always)]
-pub fn answer_step<E: IntoEvent, O: Outlet, C: Commands>(
-    event: E,
-    page: &mut Page,
-    writer: &mut O,
-    commands: &mut C,
-) -> bool
-    ensures { (r : Reply) × C.acts commands.old (Step (E.event event)) r commands.new
-        × IsTextAdded (reply_text r) page.old (O.seen writer.old) page.new (O.seen writer.new)
-        result }
-{
-    let reply = commands.step(event);
     add_reply(page, writer, reply)
 }
 
@@ -71,6 +47,14 @@ fn add_reply<O: Outlet>(page: &mut Page, writer: &mut O, reply: Reply) -> bool
     }
 }
 
+// Tells whether a reply prints no more than that an event was done.
+#[inline(always)]
+fn is_done(reply: &Reply) -> bool
+    ensures { result ≡ true → reply.now ≡ Answered Done }
+{
+    matches!(reply, Reply::Answered(Answer::Done))
+}
+
 // Adds a reply to a page, which is flushed whenever it is full.
 #[inline(never)]
 fn write_other<O: Outlet>(page: &mut Page, writer: &mut O, reply: Reply) -> bool
@@ -78,4 +62,20 @@ fn write_other<O: Outlet>(page: &mut Page, writer: &mut O, reply: Reply) -> bool
         (O.seen writer.new) result }
 {
     write_reply(page, writer, &reply)
+}
+
+/// Takes a step and adds its reply to a page. Returns false if a write failed.
+#[inline(always)]
+pub fn answer_step<E: IntoEvent, O: Outlet, C: Commands>(
+    event: E,
+    page: &mut Page,
+    writer: &mut O,
+    commands: &mut C,
+) -> bool
+    ensures { (r : Reply) × C.acts commands.old (Step (E.event event)) r commands.new
+        × IsTextAdded (reply_text r) page.old (O.seen writer.old) page.new (O.seen writer.new)
+        result }
+{
+    let reply = commands.step(event);
+    add_reply(page, writer, reply)
 }

@@ -65,54 +65,67 @@ pub(crate) fn write_line_answer<O: Outlet>(
     }
 }
 
-// Has the commands answer a line that the grammar doesn't know, and adds the answer to a page, which is flushed whenever it is
-// full.
-#[inline(never)]
-fn answer_unknown<O: Outlet, C: Commands>(
-    alloc: Global,
-    text: &[u8],
-    page: &mut Page,
-    writer: &mut O,
-    commands: &mut C,
-) -> bool
-    ensures { (answer : List ℕ) × C.unknown text.now commands.old answer commands.new
-        × IsTextAdded answer page.old (O.seen writer.old) page.new (O.seen writer.new) result }
-{
-    let answer = commands.answer_unknown(alloc, text);
-    write_line_answer(page, writer, &answer)
-}
-
-// Adds the answer to a line without its CR to a page, which is flushed whenever it is full.
-#[inline(never)]
-fn answer_text<O: Outlet, C: Commands>(
+/// Answers the whole lines of a buffer, up to the first that is too long, and adds their answers to an empty page, which is
+/// flushed whenever it is full.
+pub fn answer_lines<O: Outlet, C: Commands>(
     context: Context,
-    spans: &mut FieldSpans,
-    text: &[u8],
-    page: &mut Page,
+    session: &mut Session,
     writer: &mut O,
     commands: &mut C,
 ) -> Flow
-    requires { length text.now ≤ LINE_LIMIT }
-    ensures { IsLineFlow
-        (AnswersTo C.acts (C.unknown text.now) context.time (command_of_text text.now))
-        (BeginsTo C.acts (C.unknown text.now) context.time (command_of_text text.now))
-        (command_of_text text.now) commands.old page.old (O.seen writer.old) commands.new page.new
-        (O.seen writer.new) result }
+    requires { session.old.page ≡ [] }
+    ensures { AreLinesAnswered context.limits (AnswersCommand C.acts C.unknown context.time)
+        (Begins C.acts C.unknown context.time)
+        session.old.buffer commands.old (O.seen writer.old) session.new.buffer commands.new
+        session.new.page (O.seen writer.new) result }
 {
-    let Context { alloc, time, .. } = context;
-    match command_of_text(alloc, spans, text) {
-        Err(_) => next_unless(write_reply(page, writer, &Reply::Refused(Refusal::NoMemory))),
-        Ok(Command::Blank) => Flow::Next,
-        Ok(Command::Bad) => next_unless(answer_unknown(alloc, text, page, writer, commands)),
-        Ok(Command::Ask(action)) => next_unless(answer_action(action, page, writer, commands)),
-        Ok(Command::Piece(pin)) => {
-            let action = Action::NextPiece { pin, time };
-            next_unless(answer_action(action, page, writer, commands))
+    loop {
+        if !answer_mutators(session, writer, commands) {
+            return Flow::Fault;
         }
-        Ok(Command::Dump(pin)) => next_unless(write_dump(page, writer, commands, pin, time)),
-        Ok(Command::DumpNow) => next_unless(write_dump_now(page, writer, commands, time)),
-        Ok(Command::End) => Flow::Quit,
+        match answer_first(context, session, writer, commands) {
+            None => return Flow::Next,
+            Some(Flow::Next) => {}
+            Some(Flow::Quit) => return Flow::Quit,
+            Some(Flow::Long) => return Flow::Long,
+            Some(Flow::Fault) => return Flow::Fault,
+        }
     }
+}
+
+// Answers the first lines of a session's buffer, as long as each can be answered at once, and drops them. Returns false if a
+// write failed.
+#[inline(always)]
+fn answer_mutators<O: Outlet, C: Commands>(
+    session: &mut Session,
+    writer: &mut O,
+    commands: &mut C,
+) -> bool
+    ensures answered { result ≡ true → (limits : SessionLimits)
+        → (time : ℕ) → AreFirstAnswered limits (AnswersCommand C.acts C.unknown time) session.old.buffer commands.old
+        session.old.page (O.seen writer.old) session.new.buffer commands.new session.new.page
+        (O.seen writer.new) }
+    ensures cut { result ≡ false → (limits : SessionLimits)
+        → (time : ℕ) → IsFirstCut limits (AnswersCommand C.acts C.unknown time) (Begins C.acts C.unknown time)
+        session.old.buffer commands.old session.old.page (O.seen writer.old) commands.new
+        session.new.page (O.seen writer.new) }
+{
+    let Session {
+        buffer,
+        page,
+        spans: _,
+    } = session;
+    let text = buffer.as_slice();
+    let mut passed = 0;
+    loop {
+        match answer_mutator(&text[passed..], page, writer, commands) {
+            (Quick::Next, n) => passed += n + 1,
+            (Quick::No, _) => break,
+            (Quick::Fault, _) => return false,
+        }
+    }
+    buffer.pass(passed);
+    true
 }
 
 // Answers the first line of a buffer if it is whole, and adds the answer to a page, which is flushed whenever it is full.
@@ -154,65 +167,52 @@ fn answer_first<O: Outlet, C: Commands>(
     Some(Flow::Next)
 }
 
-// Answers the first lines of a session's buffer, as long as each can be answered at once, and drops them. Returns false if a
-// write failed.
-#[inline(always)]
-fn answer_mutators<O: Outlet, C: Commands>(
-    session: &mut Session,
-    writer: &mut O,
-    commands: &mut C,
-) -> bool
-    ensures answered { result ≡ true → (limits : SessionLimits)
-        → (time : ℕ) → AreFirstAnswered limits (AnswersCommand C.acts C.unknown time) session.old.buffer commands.old
-        session.old.page (O.seen writer.old) session.new.buffer commands.new session.new.page
-        (O.seen writer.new) }
-    ensures cut { result ≡ false → (limits : SessionLimits)
-        → (time : ℕ) → IsFirstCut limits (AnswersCommand C.acts C.unknown time) (Begins C.acts C.unknown time)
-        session.old.buffer commands.old session.old.page (O.seen writer.old) commands.new
-        session.new.page (O.seen writer.new) }
-{
-    let Session {
-        buffer,
-        page,
-        spans: _,
-    } = session;
-    let text = buffer.as_slice();
-    let mut passed = 0;
-    loop {
-        match answer_mutator(&text[passed..], page, writer, commands) {
-            (Quick::Next, n) => passed += n + 1,
-            (Quick::No, _) => break,
-            (Quick::Fault, _) => return false,
-        }
-    }
-    buffer.pass(passed);
-    true
-}
-
-/// Answers the whole lines of a buffer, up to the first that is too long, and adds their answers to an empty page, which is
-/// flushed whenever it is full.
-pub fn answer_lines<O: Outlet, C: Commands>(
+// Adds the answer to a line without its CR to a page, which is flushed whenever it is full.
+#[inline(never)]
+fn answer_text<O: Outlet, C: Commands>(
     context: Context,
-    session: &mut Session,
+    spans: &mut FieldSpans,
+    text: &[u8],
+    page: &mut Page,
     writer: &mut O,
     commands: &mut C,
 ) -> Flow
-    requires { session.old.page ≡ [] }
-    ensures { AreLinesAnswered context.limits (AnswersCommand C.acts C.unknown context.time)
-        (Begins C.acts C.unknown context.time)
-        session.old.buffer commands.old (O.seen writer.old) session.new.buffer commands.new
-        session.new.page (O.seen writer.new) result }
+    requires { length text.now ≤ LINE_LIMIT }
+    ensures { IsLineFlow
+        (AnswersTo C.acts (C.unknown text.now) context.time (command_of_text text.now))
+        (BeginsTo C.acts (C.unknown text.now) context.time (command_of_text text.now))
+        (command_of_text text.now) commands.old page.old (O.seen writer.old) commands.new page.new
+        (O.seen writer.new) result }
 {
-    loop {
-        if !answer_mutators(session, writer, commands) {
-            return Flow::Fault;
+    let Context { alloc, time, .. } = context;
+    match command_of_text(alloc, spans, text) {
+        Err(_) => next_unless(write_reply(page, writer, &Reply::Refused(Refusal::NoMemory))),
+        Ok(Command::Blank) => Flow::Next,
+        Ok(Command::Bad) => next_unless(answer_unknown(alloc, text, page, writer, commands)),
+        Ok(Command::Ask(action)) => next_unless(answer_action(action, page, writer, commands)),
+        Ok(Command::Piece(pin)) => {
+            let action = Action::NextPiece { pin, time };
+            next_unless(answer_action(action, page, writer, commands))
         }
-        match answer_first(context, session, writer, commands) {
-            None => return Flow::Next,
-            Some(Flow::Next) => {}
-            Some(Flow::Quit) => return Flow::Quit,
-            Some(Flow::Long) => return Flow::Long,
-            Some(Flow::Fault) => return Flow::Fault,
-        }
+        Ok(Command::Dump(pin)) => next_unless(write_dump(page, writer, commands, pin, time)),
+        Ok(Command::DumpNow) => next_unless(write_dump_now(page, writer, commands, time)),
+        Ok(Command::End) => Flow::Quit,
     }
+}
+
+// Has the commands answer a line that the grammar doesn't know, and adds the answer to a page, which is flushed whenever it is
+// full.
+#[inline(never)]
+fn answer_unknown<O: Outlet, C: Commands>(
+    alloc: Global,
+    text: &[u8],
+    page: &mut Page,
+    writer: &mut O,
+    commands: &mut C,
+) -> bool
+    ensures { (answer : List ℕ) × C.unknown text.now commands.old answer commands.new
+        × IsTextAdded answer page.old (O.seen writer.old) page.new (O.seen writer.new) result }
+{
+    let answer = commands.answer_unknown(alloc, text);
+    write_line_answer(page, writer, &answer)
 }

@@ -112,6 +112,22 @@ impl Buffer {
     }
 }
 
+// Moves a range of a buffer to the front and reads once behind it.
+fn read_behind<I: Inlet>(bytes: &mut Vec<u8>, start: usize, end: usize, inlet: &mut I) -> Take
+    requires range { (start ≤ end) × (end ≤ length bytes.old.items) × (end - start ≤ LINE_LIMIT) }
+    requires room { (length bytes.old.items ≤ buffer_limit) × (buffer_limit ≤ vec_capacity bytes.old) }
+    ensures read { IsInletRead (take (end - start) (drop start bytes.old.items))
+        (take (end - start + count_of result) bytes.new.items) (I.seen inlet.old)
+        (I.seen inlet.new) result }
+    ensures kept { take (end - start) bytes.new.items
+        ≡ take (end - start) (drop start bytes.old.items) }
+    ensures fits { end - start + count_of result ≤ length bytes.new.items }
+    ensures room { (length bytes.new.items ≤ buffer_limit) × (buffer_limit ≤ vec_capacity bytes.new) }
+{
+    widen(bytes, start, end);
+    refill(bytes, start, end, inlet)
+}
+
 // Puts all memory to use, if a read has filled what was: then `end` is the end of what is in use. A range up to there stays.
 fn widen(bytes: &mut Vec<u8>, start: usize, end: usize)
     requires range { (start ≤ end) × (end ≤ length bytes.old.items) }
@@ -129,22 +145,6 @@ fn widen(bytes: &mut Vec<u8>, start: usize, end: usize)
         Ok(()) => {}
         Err(_) => unreachable!(),
     }
-}
-
-// Moves a range of a buffer to the front and reads once behind it.
-fn read_behind<I: Inlet>(bytes: &mut Vec<u8>, start: usize, end: usize, inlet: &mut I) -> Take
-    requires range { (start ≤ end) × (end ≤ length bytes.old.items) × (end - start ≤ LINE_LIMIT) }
-    requires room { (length bytes.old.items ≤ buffer_limit) × (buffer_limit ≤ vec_capacity bytes.old) }
-    ensures read { IsInletRead (take (end - start) (drop start bytes.old.items))
-        (take (end - start + count_of result) bytes.new.items) (I.seen inlet.old)
-        (I.seen inlet.new) result }
-    ensures kept { take (end - start) bytes.new.items
-        ≡ take (end - start) (drop start bytes.old.items) }
-    ensures fits { end - start + count_of result ≤ length bytes.new.items }
-    ensures room { (length bytes.new.items ≤ buffer_limit) × (buffer_limit ≤ vec_capacity bytes.new) }
-{
-    widen(bytes, start, end);
-    refill(bytes, start, end, inlet)
 }
 
 // Moves a range to the front and reads once behind it.

@@ -13,18 +13,6 @@ use dump_pump::Outlet;
 use dump_pump::source::PART_LIMIT;
 use heap_trail::Action;
 
-// Adds the last line of a dump to a page, which is flushed first unless it has room for one more line. Returns false if a
-// write failed.
-fn write_total<O: Outlet>(page: &mut Page, outlet: &mut O, total: u64) -> bool
-    ensures { IsTextAdded (total_line total) page.old (O.seen outlet.old) page.new
-        (O.seen outlet.new) result }
-{
-    if !write_text(page, outlet, b"ok dump") {
-        return false;
-    }
-    write_number_line(page, outlet, total)
-}
-
 /// Adds a dump of a pin to a page, which is flushed whenever it is full: the data lines of the pin's pieces, and their length
 /// or the line of a refusal. Returns false if a write failed.
 pub fn write_dump<O: Outlet, C: Commands>(
@@ -52,6 +40,18 @@ pub fn write_dump<O: Outlet, C: Commands>(
         }
     }
     true
+}
+
+// Adds the last line of a dump to a page, which is flushed first unless it has room for one more line. Returns false if a
+// write failed.
+fn write_total<O: Outlet>(page: &mut Page, outlet: &mut O, total: u64) -> bool
+    ensures { IsTextAdded (total_line total) page.old (O.seen outlet.old) page.new
+        (O.seen outlet.new) result }
+{
+    if !write_text(page, outlet, b"ok dump") {
+        return false;
+    }
+    write_number_line(page, outlet, total)
 }
 
 /// Adds a dump of the current state to a page: opens a pin, dumps it as `write_dump` does, and closes it, also if a write

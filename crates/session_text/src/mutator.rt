@@ -46,12 +46,29 @@ pub enum Quick {
     Fault,
 }
 
-// Returns the outcome of a line that was answered, and whose answer was written or not.
+/// Answers the first line of a text at once, if it is one of a mutator, `mark` or a rewind, in the shortest form: single spaces,
+/// none at the end. Returns the line's end, too.
 #[inline(always)]
-fn quick_of(written: bool) -> Quick
-    ensures { result ≡ quick_of written }
+pub fn answer_mutator<O: Outlet, C: Commands>(
+    text: &[u8],
+    page: &mut Page,
+    writer: &mut O,
+    commands: &mut C,
+) -> (Quick, usize)
+    ensures { IsQuickIn C.acts text.now commands.old page.old (O.seen writer.old) commands.new
+        page.new (O.seen writer.new) result }
 {
-    if written { Quick::Next } else { Quick::Fault }
+    match verb_of(text) {
+        Verb::Load => answer_short::<LoadEvent, O, C>(text, page, writer, commands),
+        Verb::Store => answer_short::<StoreEvent, O, C>(text, page, writer, commands),
+        Verb::Put => answer_short::<PutEvent, O, C>(text, page, writer, commands),
+        Verb::Move => answer_short::<MoveEvent, O, C>(text, page, writer, commands),
+        Verb::Clear => answer_short::<ClearEvent, O, C>(text, page, writer, commands),
+        Verb::New => answer_short::<NewEvent, O, C>(text, page, writer, commands),
+        Verb::Mark => answer_short::<MarkEvent, O, C>(text, page, writer, commands),
+        Verb::Rewind => answer_rewind(text, page, writer, commands),
+        Verb::Other => (Quick::No, 0),
+    }
 }
 
 // The first four bytes of each line that may be answered at once, as one number whose lowest byte is the first: `load`.
@@ -118,6 +135,14 @@ fn answer_short<E: ShortLine, O: Outlet, C: Commands>(
     (quick, n)
 }
 
+// Returns the outcome of a line that was answered, and whose answer was written or not.
+#[inline(always)]
+fn quick_of(written: bool) -> Quick
+    ensures { result ≡ quick_of written }
+{
+    if written { Quick::Next } else { Quick::Fault }
+}
+
 // Answers `rewind N`.
 #[inline(never)]
 fn answer_rewind<O: Outlet, C: Commands>(
@@ -135,29 +160,4 @@ fn answer_rewind<O: Outlet, C: Commands>(
     };
     let quick = quick_of(answer_action(Action::Rewind(n), page, writer, commands));
     (quick, end)
-}
-
-/// Answers the first line of a text at once, if it is one of a mutator, `mark` or a rewind, in the shortest form: single spaces,
-/// none at the end. Returns the line's end, too.
-#[inline(always)]
-pub fn answer_mutator<O: Outlet, C: Commands>(
-    text: &[u8],
-    page: &mut Page,
-    writer: &mut O,
-    commands: &mut C,
-) -> (Quick, usize)
-    ensures { IsQuickIn C.acts text.now commands.old page.old (O.seen writer.old) commands.new
-        page.new (O.seen writer.new) result }
-{
-    match verb_of(text) {
-        Verb::Load => answer_short::<LoadEvent, O, C>(text, page, writer, commands),
-        Verb::Store => answer_short::<StoreEvent, O, C>(text, page, writer, commands),
-        Verb::Put => answer_short::<PutEvent, O, C>(text, page, writer, commands),
-        Verb::Move => answer_short::<MoveEvent, O, C>(text, page, writer, commands),
-        Verb::Clear => answer_short::<ClearEvent, O, C>(text, page, writer, commands),
-        Verb::New => answer_short::<NewEvent, O, C>(text, page, writer, commands),
-        Verb::Mark => answer_short::<MarkEvent, O, C>(text, page, writer, commands),
-        Verb::Rewind => answer_rewind(text, page, writer, commands),
-        Verb::Other => (Quick::No, 0),
-    }
 }

@@ -60,6 +60,16 @@ impl Outlet for TextOutlet {
     }
 }
 
+/// Returns what is printed of the answer of a line that the grammar doesn't know. Fails if an allocation fails.
+pub fn printed(alloc: Global, answer: LineAnswer) -> Result<Vec<u8>, AllocError>
+    ensures { IfOk result (λ v. v.items ≡ line_answer_text answer) }
+{
+    match answer {
+        LineAnswer::Text(text) => Ok(text),
+        other => written(alloc, &other),
+    }
+}
+
 // Returns what is printed of an answer, written by way of a page. Fails if an allocation fails.
 fn written(alloc: Global, answer: &LineAnswer) -> Result<Vec<u8>, AllocError>
     ensures { IfOk result (λ v. v.items ≡ line_answer_text answer.now) }
@@ -70,15 +80,5 @@ fn written(alloc: Global, answer: &LineAnswer) -> Result<Vec<u8>, AllocError>
         Ok(outlet.into_text())
     } else {
         Err(AllocError)
-    }
-}
-
-/// Returns what is printed of the answer of a line that the grammar doesn't know. Fails if an allocation fails.
-pub fn printed(alloc: Global, answer: LineAnswer) -> Result<Vec<u8>, AllocError>
-    ensures { IfOk result (λ v. v.items ≡ line_answer_text answer) }
-{
-    match answer {
-        LineAnswer::Text(text) => Ok(text),
-        other => written(alloc, &other),
     }
 }

@@ -16,6 +16,52 @@ use heap_class::{LostCause, Refusal};
 use heap_step::Answer;
 use heap_trail::Reply;
 
+/// Returns the word of a cause.
+pub fn cause_word(cause: LostCause) -> &'static [u8]
+    ensures word { result.now ≡ cause_text cause }
+    ensures short { length result.now ≤ 9 }
+{
+    match cause {
+        LostCause::Rewound => b"Rewound",
+        LostCause::Memory => b"Memory",
+        LostCause::Closed => b"Closed",
+    }
+}
+
+/// Adds the line of an event's answer to a page, which is flushed first unless it has room for one more line. Returns false
+/// if a write failed.
+#[inline(always)]
+pub fn write_answer<O: Outlet>(page: &mut Page, outlet: &mut O, answer: Answer) -> bool
+    ensures { IsTextAdded (reply_text (Answered answer)) page.old (O.seen outlet.old) page.new
+        (O.seen outlet.new) result }
+{
+    if !make_room(page, outlet) {
+        return false;
+    }
+    add_answer(page, answer);
+    page.add(b"\n");
+    true
+}
+
+// Adds the answer of an event.
+#[inline(always)]
+fn add_answer(page: &mut Page, answer: Answer)
+    requires { length page.old ≤ LINE_START }
+    ensures text { page.new ≡ page.old ++ answer_text answer }
+    ensures short { length page.new ≤ length page.old + 35 }
+{
+    match answer {
+        Answer::Class(k) => add_numbered(page, b"ok class", k),
+        Answer::Object(id) => add_object(page, id),
+        Answer::Null => page.add(b"ok null"),
+        Answer::Value(value) => add_numbered(page, b"ok value", value),
+        Answer::Done => page.add(b"ok"),
+        Answer::Pushed(count) => add_numbered(page, b"ok pushed", count),
+        Answer::Condemned(count) => add_numbered(page, b"ok condemned", count),
+        Answer::Swept { dead, emptied } => add_swept(page, dead, emptied),
+    }
+}
+
 // Adds words, a space and a number.
 #[inline(always)]
 fn add_numbered(page: &mut Page, words: &[u8], n: u64)
@@ -49,35 +95,96 @@ fn add_swept(page: &mut Page, dead: u64, emptied: bool)
     }
 }
 
-// Adds the answer of an event.
-#[inline(always)]
-fn add_answer(page: &mut Page, answer: Answer)
-    requires { length page.old ≤ LINE_START }
-    ensures text { page.new ≡ page.old ++ answer_text answer }
-    ensures short { length page.new ≤ length page.old + 35 }
+/// Does what `write_answer` does with the answer of an event that made or loaded an object, which is the most frequent answer
+/// with a number.
+#[inline(never)]
+pub fn write_object<O: Outlet>(page: &mut Page, outlet: &mut O, id: u64) -> bool
+    ensures { IsTextAdded (reply_text (Answered (Object id))) page.old (O.seen outlet.old)
+        page.new (O.seen outlet.new) result }
 {
-    match answer {
-        Answer::Class(k) => add_numbered(page, b"ok class", k),
-        Answer::Object(id) => add_object(page, id),
-        Answer::Null => page.add(b"ok null"),
-        Answer::Value(value) => add_numbered(page, b"ok value", value),
-        Answer::Done => page.add(b"ok"),
-        Answer::Pushed(count) => add_numbered(page, b"ok pushed", count),
-        Answer::Condemned(count) => add_numbered(page, b"ok condemned", count),
-        Answer::Swept { dead, emptied } => add_swept(page, dead, emptied),
+    write_answer(page, outlet, Answer::Object(id))
+}
+
+/// Adds a reply to a page, which is flushed whenever it is full. Returns false if a write failed.
+pub fn write_reply<O: Outlet>(page: &mut Page, outlet: &mut O, reply: &Reply) -> bool
+    ensures { IsTextAdded (reply_text reply.now) page.old (O.seen outlet.old) page.new
+        (O.seen outlet.new) result }
+{
+    if !write_data(page, outlet, data_of(reply)) {
+        return false;
+    }
+    if !make_room(page, outlet) {
+        return false;
+    }
+    add_last_line(page, reply);
+    true
+}
+
+// Returns the bytes that a reply prints before its last line: those of a piece.
+#[tactic(auto, unfolding(crate::specs::Replies::data_lines, crate::specs::Replies::chunks_of_64))]
+fn data_of(reply: &Reply) -> &[u8]
+    ensures { data_lines result.now ≡ reply_data reply.now }
+{
+    match reply {
+        Reply::Part(piece) => piece.bytes.as_slice(),
+        _ => &[],
     }
 }
 
-/// Returns the word of a cause.
-pub fn cause_word(cause: LostCause) -> &'static [u8]
-    ensures word { result.now ≡ cause_text cause }
-    ensures short { length result.now ≤ 9 }
+// Adds the last line of a reply.
+fn add_last_line(page: &mut Page, reply: &Reply)
+    requires { length page.old ≤ LINE_START }
+    ensures { page.new ≡ page.old ++ line (reply_words reply.now) }
 {
-    match cause {
-        LostCause::Rewound => b"Rewound",
-        LostCause::Memory => b"Memory",
-        LostCause::Closed => b"Closed",
+    match reply {
+        Reply::Answered(answer) => add_answer(page, *answer),
+        Reply::Place(place) => add_numbered(page, b"ok place", *place),
+        Reply::Pinned { pin, at } => add_pinned(page, *pin, *at),
+        Reply::Part(piece) => add_piece(page, piece),
+        Reply::Closed => page.add(b"ok"),
+        Reply::Refused(refusal) => add_refusal(page, *refusal),
     }
+    page.add(b"\n");
+}
+
+// Adds the number of a new pin and its place.
+fn add_pinned(page: &mut Page, pin: u64, at: u64)
+    requires { length page.old ≤ LINE_START }
+    ensures text { page.new ≡ page.old ++ reply_words (Pinned pin at) }
+    ensures short { length page.new ≤ length page.old + 51 }
+{
+    add_numbered(page, b"ok pin", pin);
+    add_numbered(page, b" at", at);
+}
+
+// Adds the length of a piece, and whether it is the last.
+fn add_piece(page: &mut Page, piece: &Piece)
+    requires { length page.old ≤ LINE_START }
+    ensures text { page.new ≡ page.old ++ piece_words piece.now }
+    ensures short { length page.new ≤ length page.old + 29 }
+{
+    let words: &[u8] = if piece.last { b"ok last" } else { b"ok piece" };
+    add_numbered(page, words, piece.bytes.as_slice().len() as u64);
+}
+
+// Adds a refusal's number, name and facts.
+fn add_refusal(page: &mut Page, refusal: Refusal)
+    requires { length page.old ≤ LINE_START }
+    ensures text { page.new ≡ page.old ++ refusal_text refusal }
+    ensures short { length page.new ≤ length page.old + 80 }
+{
+    add_numbered(page, b"no", refusal.number());
+    page.add(b" ");
+    page.add(name_of(refusal));
+    add_facts(page, refusal);
+}
+
+// Returns the name of a refusal.
+fn name_of(refusal: Refusal) -> &'static [u8]
+    ensures word { result.now ≡ refusal_name refusal }
+    ensures short { length result.now ≤ 14 }
+{
+    refusal.name().as_bytes()
 }
 
 // Adds the facts of a refusal beside its name.
@@ -103,113 +210,6 @@ fn add_facts(page: &mut Page, refusal: Refusal)
         }
         _ => {}
     }
-}
-
-// Returns the name of a refusal.
-fn name_of(refusal: Refusal) -> &'static [u8]
-    ensures word { result.now ≡ refusal_name refusal }
-    ensures short { length result.now ≤ 14 }
-{
-    refusal.name().as_bytes()
-}
-
-// Adds a refusal's number, name and facts.
-fn add_refusal(page: &mut Page, refusal: Refusal)
-    requires { length page.old ≤ LINE_START }
-    ensures text { page.new ≡ page.old ++ refusal_text refusal }
-    ensures short { length page.new ≤ length page.old + 80 }
-{
-    add_numbered(page, b"no", refusal.number());
-    page.add(b" ");
-    page.add(name_of(refusal));
-    add_facts(page, refusal);
-}
-
-// Adds the number of a new pin and its place.
-fn add_pinned(page: &mut Page, pin: u64, at: u64)
-    requires { length page.old ≤ LINE_START }
-    ensures text { page.new ≡ page.old ++ reply_words (Pinned pin at) }
-    ensures short { length page.new ≤ length page.old + 51 }
-{
-    add_numbered(page, b"ok pin", pin);
-    add_numbered(page, b" at", at);
-}
-
-// Adds the length of a piece, and whether it is the last.
-fn add_piece(page: &mut Page, piece: &Piece)
-    requires { length page.old ≤ LINE_START }
-    ensures text { page.new ≡ page.old ++ piece_words piece.now }
-    ensures short { length page.new ≤ length page.old + 29 }
-{
-    let words: &[u8] = if piece.last { b"ok last" } else { b"ok piece" };
-    add_numbered(page, words, piece.bytes.as_slice().len() as u64);
-}
-
-// Adds the last line of a reply.
-fn add_last_line(page: &mut Page, reply: &Reply)
-    requires { length page.old ≤ LINE_START }
-    ensures { page.new ≡ page.old ++ line (reply_words reply.now) }
-{
-    match reply {
-        Reply::Answered(answer) => add_answer(page, *answer),
-        Reply::Place(place) => add_numbered(page, b"ok place", *place),
-        Reply::Pinned { pin, at } => add_pinned(page, *pin, *at),
-        Reply::Part(piece) => add_piece(page, piece),
-        Reply::Closed => page.add(b"ok"),
-        Reply::Refused(refusal) => add_refusal(page, *refusal),
-    }
-    page.add(b"\n");
-}
-
-/// Adds the line of an event's answer to a page, which is flushed first unless it has room for one more line. Returns false
-/// if a write failed.
-#[inline(always)]
-pub fn write_answer<O: Outlet>(page: &mut Page, outlet: &mut O, answer: Answer) -> bool
-    ensures { IsTextAdded (reply_text (Answered answer)) page.old (O.seen outlet.old) page.new
-        (O.seen outlet.new) result }
-{
-    if !make_room(page, outlet) {
-        return false;
-    }
-    add_answer(page, answer);
-    page.add(b"\n");
-    true
-}
-
-/// Does what `write_answer` does with the answer of an event that made or loaded an object, which is the most frequent answer
-/// with a number.
-#[inline(never)]
-pub fn write_object<O: Outlet>(page: &mut Page, outlet: &mut O, id: u64) -> bool
-    ensures { IsTextAdded (reply_text (Answered (Object id))) page.old (O.seen outlet.old)
-        page.new (O.seen outlet.new) result }
-{
-    write_answer(page, outlet, Answer::Object(id))
-}
-
-// Returns the bytes that a reply prints before its last line: those of a piece.
-#[tactic(auto, unfolding(crate::specs::Replies::data_lines, crate::specs::Replies::chunks_of_64))]
-fn data_of(reply: &Reply) -> &[u8]
-    ensures { data_lines result.now ≡ reply_data reply.now }
-{
-    match reply {
-        Reply::Part(piece) => piece.bytes.as_slice(),
-        _ => &[],
-    }
-}
-
-/// Adds a reply to a page, which is flushed whenever it is full. Returns false if a write failed.
-pub fn write_reply<O: Outlet>(page: &mut Page, outlet: &mut O, reply: &Reply) -> bool
-    ensures { IsTextAdded (reply_text reply.now) page.old (O.seen outlet.old) page.new
-        (O.seen outlet.new) result }
-{
-    if !write_data(page, outlet, data_of(reply)) {
-        return false;
-    }
-    if !make_room(page, outlet) {
-        return false;
-    }
-    add_last_line(page, reply);
-    true
 }
 
 /// Returns the piece that a reply gives, if it gives one.

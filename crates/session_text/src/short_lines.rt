@@ -61,21 +61,19 @@ fn two_in(text: &[u8], at: usize) -> Option<(u64, u64, usize)>
     Some((a, b, end))
 }
 
-// Returns the three numbers of one digit that a text begins with, each with a space behind it, and the last with this byte, or
-// None if it begins with others.
+// Returns the three numbers that the first line of a text has from a place on, and the line's end, or None if it has others.
 #[inline(always)]
-fn three_digits(text: &[u8], ender: u8) -> Option<(u64, u64, u64)>
-    ensures { IfSome result
-        (λ r. IsDigitThen text.now 0 SPACE r.0 × IsDigitThen text.now 2 SPACE r.1
-        × IsDigitThen text.now 4 ender r.2) }
+fn three_in(text: &[u8], at: usize) -> Option<(u64, u64, u64, usize)>
+    requires { (at ≤ 6) × (at ≤ length text.now) × NoLf (take at text.now) }
+    ensures line { IfSome result (λ r. IsShortLine r.3 text.now × (at ≤ r.3)) }
+    ensures numbers { IfSome result
+        (λ r. three_numbers (words_of_line (drop at (take r.3 text.now))) ≡ Some (r.0, r.1, r.2)) }
 {
-    let [a, after_a, b, after_b, c, after_c, ..] = text else {
+    let (a, b, c, end) = three_then(text, at, LF);
+    if end == text.len() {
         return None;
-    };
-    let a = digit_then(*a, *after_a, SPACE)?;
-    let b = digit_then(*b, *after_b, SPACE)?;
-    let c = digit_then(*c, *after_c, ender)?;
-    Some((a, b, c))
+    }
+    Some((a, b, c, end))
 }
 
 // Returns the three numbers at a place, if a space ends the first two and this byte the last, and that byte's place; or the
@@ -95,19 +93,21 @@ fn three_then(text: &[u8], at: usize, ender: u8) -> (u64, u64, u64, usize)
     (a, b, c, end)
 }
 
-// Returns the three numbers that the first line of a text has from a place on, and the line's end, or None if it has others.
+// Returns the three numbers of one digit that a text begins with, each with a space behind it, and the last with this byte, or
+// None if it begins with others.
 #[inline(always)]
-fn three_in(text: &[u8], at: usize) -> Option<(u64, u64, u64, usize)>
-    requires { (at ≤ 6) × (at ≤ length text.now) × NoLf (take at text.now) }
-    ensures line { IfSome result (λ r. IsShortLine r.3 text.now × (at ≤ r.3)) }
-    ensures numbers { IfSome result
-        (λ r. three_numbers (words_of_line (drop at (take r.3 text.now))) ≡ Some (r.0, r.1, r.2)) }
+fn three_digits(text: &[u8], ender: u8) -> Option<(u64, u64, u64)>
+    ensures { IfSome result
+        (λ r. IsDigitThen text.now 0 SPACE r.0 × IsDigitThen text.now 2 SPACE r.1
+        × IsDigitThen text.now 4 ender r.2) }
 {
-    let (a, b, c, end) = three_then(text, at, LF);
-    if end == text.len() {
+    let [a, after_a, b, after_b, c, after_c, ..] = text else {
         return None;
-    }
-    Some((a, b, c, end))
+    };
+    let a = digit_then(*a, *after_a, SPACE)?;
+    let b = digit_then(*b, *after_b, SPACE)?;
+    let c = digit_then(*c, *after_c, ender)?;
+    Some((a, b, c))
 }
 
 // Returns the four numbers that the first line of a text has from a place on, and the line's end, or None if it has others.

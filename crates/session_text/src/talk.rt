@@ -14,19 +14,38 @@ use crate::{Ended, SessionLimits};
 use dump_pump::{Inlet, Outlet, Take};
 use std::alloc::Global;
 
-// Puts out a session's page and the line of an ending.
-fn end_with<O: Outlet>(session: &mut Session, outlet: &mut O, ended: Ended, line: &[u8]) -> Ended
-    requires { length line.now ≤ TEXT_LIMIT }
-    ensures { EndsWith line.now session.old.page (O.seen outlet.old) (O.seen outlet.new) ended
-        result }
+/// Reads lines and writes the answers of the commands, in order, until an ending. The sizes of single reads and writes don't
+/// show. Answers wait in a page, which is put out when it is full, before each read and at the end.
+///
+/// After a write that failed nothing more is read and no line is acted on. What is out is then a beginning of the answers to
+/// the lines that were acted on and of the line of the ending, with all answers to lines that were whole before the last
+/// read. A dump asks for no more pieces, and one of the current state closes its pin.
+///
+/// `time`, in milliseconds, stands in the header of each dump. The session ends once it has as much of something as `limits`
+/// allow. Fails with NoMemory, before the first read, if an allocation for the session fails.
+pub fn serve<I: Inlet, O: Outlet, C: Commands>(
+    alloc: Global,
+    reader: &mut I,
+    writer: &mut O,
+    commands: &mut C,
+    time: u64,
+    limits: SessionLimits,
+) -> Ended
+    ensures ends { EndsSession limits (I.seen reader.old) (I.seen reader.new) (O.seen writer.old)
+        (O.seen writer.new) result }
+    ensures text { Serves limits (AnswersCommand C.acts C.unknown time) (Begins C.acts C.unknown time)
+        (I.seen reader.old) (I.seen reader.new) commands.old (O.seen writer.old) commands.new
+        (O.seen writer.new) result }
 {
-    if !write_text(&mut session.page, outlet, line) {
-        return Ended::WriteFault;
-    }
-    if !flush(&mut session.page, outlet) {
-        return Ended::WriteFault;
-    }
-    ended
+    let Ok(mut session) = Session::new(alloc) else {
+        return Ended::NoMemory;
+    };
+    let context = Context {
+        alloc,
+        time,
+        limits,
+    };
+    talk(context, &mut session, reader, writer, commands)
 }
 
 // Reads and answers lines until an ending, in a session that has read nothing.
@@ -68,38 +87,19 @@ fn talk<I: Inlet, O: Outlet, C: Commands>(
     }
 }
 
-/// Reads lines and writes the answers of the commands, in order, until an ending. The sizes of single reads and writes don't
-/// show. Answers wait in a page, which is put out when it is full, before each read and at the end.
-///
-/// After a write that failed nothing more is read and no line is acted on. What is out is then a beginning of the answers to
-/// the lines that were acted on and of the line of the ending, with all answers to lines that were whole before the last
-/// read. A dump asks for no more pieces, and one of the current state closes its pin.
-///
-/// `time`, in milliseconds, stands in the header of each dump. The session ends once it has as much of something as `limits`
-/// allow. Fails with NoMemory, before the first read, if an allocation for the session fails.
-pub fn serve<I: Inlet, O: Outlet, C: Commands>(
-    alloc: Global,
-    reader: &mut I,
-    writer: &mut O,
-    commands: &mut C,
-    time: u64,
-    limits: SessionLimits,
-) -> Ended
-    ensures ends { EndsSession limits (I.seen reader.old) (I.seen reader.new) (O.seen writer.old)
-        (O.seen writer.new) result }
-    ensures text { Serves limits (AnswersCommand C.acts C.unknown time) (Begins C.acts C.unknown time)
-        (I.seen reader.old) (I.seen reader.new) commands.old (O.seen writer.old) commands.new
-        (O.seen writer.new) result }
+// Puts out a session's page and the line of an ending.
+fn end_with<O: Outlet>(session: &mut Session, outlet: &mut O, ended: Ended, line: &[u8]) -> Ended
+    requires { length line.now ≤ TEXT_LIMIT }
+    ensures { EndsWith line.now session.old.page (O.seen outlet.old) (O.seen outlet.new) ended
+        result }
 {
-    let Ok(mut session) = Session::new(alloc) else {
-        return Ended::NoMemory;
-    };
-    let context = Context {
-        alloc,
-        time,
-        limits,
-    };
-    talk(context, &mut session, reader, writer, commands)
+    if !write_text(&mut session.page, outlet, line) {
+        return Ended::WriteFault;
+    }
+    if !flush(&mut session.page, outlet) {
+        return Ended::WriteFault;
+    }
+    ended
 }
 
 /// Serves a session of a private machine as `serve` does. The output and the machine afterwards are a function of the bytes

@@ -11,33 +11,33 @@ use Rattle.dump_pump.specs.Outlets.{Outgoing}
 use Rattle.dump_pump.specs.Pumps.{FitsPump}
 use Rattle.dump_pipe.specs.Watches.{watched}
 use Rattle.dump_pipe.specs.Streams.{IsStreamed}
-use Rattle.dump_pipe.proofs.PageStreams.{from_some}
+use Rattle.dump_pipe.proofs.PageStreams.{some_piece_lists_equal}
 use Rattle.heap_lock.specs.Calls.{Call}
 use Rattle.heap_lock.specs.Dumpers.{DumperState}
 use Rattle.heap_lock.specs.Laws.{pieces_given}
 use Rattle.shared_dump.specs.Supplies.{ToldSupply, nothing_of, AreGiven, AllLegal, AreGot, HasAsked, IsTooMany, MayEnd, IsSupplied, told_supply}
 use Rattle.shared_dump.specs.Streams.{GotFor, TellsStream, PutsLive}
 
-lost_so : (found : Bool) (e : Option Ending) (cause : LostCause) → (if found then Some End.Cancelled else e) ≡ Some (End.Lost cause) → e ≡ Some (End.Lost cause)
-lost_so true e cause h = absurd cc
-lost_so false e cause h = h
+told_loss_is_source_loss : (found : Bool) (e : Option Ending) (cause : LostCause) → (if found then Some End.Cancelled else e) ≡ Some (End.Lost cause) → e ≡ Some (End.Lost cause)
+told_loss_is_source_loss true e cause h = absurd cc
+told_loss_is_source_loss false e cause h = h
 
-found_so : (pin time : ℕ) (start : List Call) (given : List Piece) (seen : List Call) (found : Bool) (e : Option Ending) → MayEnd pin time start given seen e → (if found then Some End.Cancelled else e) ≡ Some End.Cancelled → found ≡ true
-found_so pin time start given seen true e may h = refl
-found_so pin time start given seen false e may h = absurd (subst (MayEnd pin time start given seen) h may)
+told_cancel_was_found : (pin time : ℕ) (start : List Call) (given : List Piece) (seen : List Call) (found : Bool) (e : Option Ending) → MayEnd pin time start given seen e → (if found then Some End.Cancelled else e) ≡ Some End.Cancelled → found ≡ true
+told_cancel_was_found pin time start given seen true e may h = refl
+told_cancel_was_found pin time start given seen false e may h = absurd (subst (MayEnd pin time start given seen) h may)
 
 tells : (pin time : ℕ) (start seen : List Call) (given : List Piece) (out : List ℕ) (found : Bool) (e : Option Ending) (failures failures2 : ℕ) (r : Pumped) → MayEnd pin time start given seen e → FitsPump given out (if found then Some End.Cancelled else e) failures failures2 r
     → TellsStream pin time start seen given out found failures failures2 r
 tells pin time start seen given out found e failures failures2 (Done n) may h = (h.0, h.1, h.3)
 tells pin time start seen given out found e failures failures2 (OutletFailed n) may h = h
-tells pin time start seen given out found e failures failures2 (Lost cause n) may h = (h.0, subst (MayEnd pin time start given seen) (lost_so found e cause h.1) may, h.2)
-tells pin time start seen given out found e failures failures2 (Cancelled n) may h = (h.0, found_so pin time start given seen found e may h.1, h.2)
+tells pin time start seen given out found e failures failures2 (Lost cause n) may h = (h.0, subst (MayEnd pin time start given seen) (told_loss_is_source_loss found e cause h.1) may, h.2)
+tells pin time start seen given out found e failures failures2 (Cancelled n) may h = (h.0, told_cancel_was_found pin time start given seen found e may h.1, h.2)
 
 -- ---- what the dumper got
 
-whole_so : (found : Bool) (e : Option Ending) → (if found then Some End.Cancelled else e) ≡ Some End.Whole → e ≡ Some End.Whole
-whole_so true e h = absurd cc
-whole_so false e h = h
+told_whole_is_source_whole : (found : Bool) (e : Option Ending) → (if found then Some End.Cancelled else e) ≡ Some End.Whole → e ≡ Some End.Whole
+told_whole_is_source_whole true e h = absurd cc
+told_whole_is_source_whole false e h = h
 
 got_or_many : (given : List Piece) (e : Option Ending) (got : List Piece) → AreGot given e got → (got ≡ given) ⊎ IsTooMany given got
 got_or_many given None got g = inl g
@@ -45,20 +45,20 @@ got_or_many given (Some End.Whole) got g = inl g
 got_or_many given (Some (End.Lost cause)) got g = g
 got_or_many given (Some End.Cancelled) got g = inl g
 
-got_for : (given got : List Piece) (out : List ℕ) (found : Bool) (e : Option Ending) (failures failures2 : ℕ) (r : Pumped) → AreGot given e got → FitsPump given out (if found then Some End.Cancelled else e) failures failures2 r → GotFor given r got
-got_for given got out found e failures failures2 (Done n) g h = subst (λ (x : Option Ending). AreGot given x got) (whole_so found e h.2) g
-got_for given got out found e failures failures2 (OutletFailed n) g h = got_or_many given e got g
-got_for given got out found e failures failures2 (Lost cause n) g h = got_or_many given e got g
-got_for given got out found e failures failures2 (Cancelled n) g h = got_or_many given e got g
+pieces_got_for_result : (given got : List Piece) (out : List ℕ) (found : Bool) (e : Option Ending) (failures failures2 : ℕ) (r : Pumped) → AreGot given e got → FitsPump given out (if found then Some End.Cancelled else e) failures failures2 r → GotFor given r got
+pieces_got_for_result given got out found e failures failures2 (Done n) g h = subst (λ (x : Option Ending). AreGot given x got) (told_whole_is_source_whole found e h.2) g
+pieces_got_for_result given got out found e failures failures2 (OutletFailed n) g h = got_or_many given e got g
+pieces_got_for_result given got out found e failures failures2 (Lost cause n) g h = got_or_many given e got g
+pieces_got_for_result given got out found e failures failures2 (Cancelled n) g h = got_or_many given e got g
 
 -- from a source that gave nothing
-pub puts : (config : HeapSettings) (pin time : ℕ) (d : DumperState) (a t : ToldSupply) (was found : Bool) (w w2 : Outgoing) (r : Pumped) → a ≡ nothing_of pin time d → t.pin ≡ a.pin → t.time ≡ a.time → t.start ≡ a.start → IsSupplied config t
+pub fresh_source_puts_served_pin : (config : HeapSettings) (pin time : ℕ) (d : DumperState) (a t : ToldSupply) (was found : Bool) (w w2 : Outgoing) (r : Pumped) → a ≡ nothing_of pin time d → t.pin ≡ a.pin → t.time ≡ a.time → t.start ≡ a.start → IsSupplied config t
     → IsStreamed (watched (told_supply a.given a.count a.ended) was) (watched (told_supply t.given t.count t.ended) found) w w2 r → PutsLive config pin time d t.dumper found w w2 r
-puts config pin time d a t was found w w2 r none p q o s done =
+fresh_source_puts_served_pin config pin time d a t was found w w2 r none p q o s done =
     let here : t.pin ≡ pin = p ∙ ap (λ (x : ToldSupply). x.pin) none in
     let when : t.time ≡ time = q ∙ ap (λ (x : ToldSupply). x.time) none in
     let from : t.start ≡ d = o ∙ ap (λ (x : ToldSupply). x.start) none in
-    let same : t.given ≡ done.given = from_some t.given done.given (done.told ∙ ap (λ (x : ToldSupply). Some (x.given ++ done.given)) none) in
+    let same : t.given ≡ done.given = some_piece_lists_equal t.given done.given (done.told ∙ ap (λ (x : ToldSupply). Some (x.given ++ done.given)) none) in
     let may = subst (λ (x : ℕ × ℕ × DumperState × List Piece). MayEnd x.0 x.1 x.2.seen x.3 t.dumper.seen t.ended) (λ k. (here k, when k, from k, same k)) s.ended in
     let asked = subst (λ (x : ℕ × ℕ × DumperState × List Piece). HasAsked x.0 x.1 x.2.own x.3 t.ended t.dumper.own) (λ k. (here k, when k, from k, same k)) s.asked in
     record {
@@ -68,7 +68,7 @@ puts config pin time d a t was found w w2 r none p q o s done =
       calls = subst (λ (x : ℕ × ℕ × DumperState × List Piece). AreGiven x.0 x.1 x.2.seen x.3 t.dumper.seen) (λ k. (here k, when k, from k, same k)) s.given;
       own = asked.1;
       asks = asked.2;
-      got = got_for done.given (pieces_given pin asked.0) done.out found t.ended w.failures w2.failures r asked.3 done.fits;
+      got = pieces_got_for_result done.given (pieces_given pin asked.0) done.out found t.ended w.failures w2.failures r asked.3 done.fits;
       pieces = subst (λ (x : ℕ × List Piece). AllLegal config.ids x.0 x.1) (λ k. (when k, same k)) s.legal;
       grows = done.grows;
       begins = done.begins;

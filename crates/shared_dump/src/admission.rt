@@ -8,6 +8,19 @@ use std::time::{Clock, Duration};
 // The milliseconds in which a client has to say the secret word.
 const FIRST_LINE: u64 = 250;
 
+/// Tells whether a client may have a dump: anyone may if there is no secret word; else the first line that the client sends has to be
+/// the word, and to come within a quarter of a second. That line is taken then, and nothing behind it. May wait.
+pub(crate) fn is_admitted<R: Clock + Wait>(
+    rt: &R,
+    stream: &TcpStream,
+    secret: Option<Secret>,
+) -> bool {
+    let Some(secret) = secret else {
+        return true;
+    };
+    await_line(rt, stream, Duration::from_millis(FIRST_LINE)) && takes_word(stream, secret)
+}
+
 // Takes the first line that a client has sent, if it is the word. Returns whether it is. Takes nothing that stands behind it.
 fn takes_word(stream: &TcpStream, secret: Secret) -> bool {
     let mut room = [0u8; FIRST_LINE_LIMIT];
@@ -22,17 +35,4 @@ fn takes_word(stream: &TcpStream, secret: Secret) -> bool {
         Ok(taken) => taken == size,
         Err(_) => false,
     }
-}
-
-/// Tells whether a client may have a dump: anyone may if there is no secret word; else the first line that the client sends has to be
-/// the word, and to come within a quarter of a second. That line is taken then, and nothing behind it. May wait.
-pub(crate) fn is_admitted<R: Clock + Wait>(
-    rt: &R,
-    stream: &TcpStream,
-    secret: Option<Secret>,
-) -> bool {
-    let Some(secret) = secret else {
-        return true;
-    };
-    await_line(rt, stream, Duration::from_millis(FIRST_LINE)) && takes_word(stream, secret)
 }

@@ -95,6 +95,15 @@ impl Failures {
     }
 }
 
+// Tells of the dumps that are counted, unless that was done in the last second.
+pub(crate) fn tell_due<R: Clock + Eprint + Wait>(rt: &R, failures: &Mutex<Failures>) {
+    let Ok(now) = Instant::now(rt) else {
+        return;
+    };
+    let line = failures.lock(rt).due(now);
+    write_line(rt, line);
+}
+
 // Writes a line on standard error.
 fn write_line<R: Eprint>(rt: &R, line: Option<Line>) {
     let _ = match line {
@@ -105,15 +114,6 @@ fn write_line<R: Eprint>(rt: &R, line: Option<Line>) {
         Some(Line::Last) => eprintln!(rt; "heapdbg: nothing is told of further dumps"),
         None => Ok(()),
     };
-}
-
-// Tells of the dumps that are counted, unless that was done in the last second.
-pub(crate) fn tell_due<R: Clock + Eprint + Wait>(rt: &R, failures: &Mutex<Failures>) {
-    let Ok(now) = Instant::now(rt) else {
-        return;
-    };
-    let line = failures.lock(rt).due(now);
-    write_line(rt, line);
 }
 
 // Counts a dump that ended with a word, and tells of it, unless that was done in the last second.

@@ -24,9 +24,20 @@ pub(crate) fn bar_lines(others: u64) -> u64 {
     }
 }
 
-// Returns the length of the bar of a region with this many words in use.
-fn bar_of(words: u64) -> u64 {
-    words.div_ceil(POINT_WORDS).min(BAR_WIDTH)
+// Appends the bars of the regions that have no row, if there are such regions.
+pub(crate) fn add_bars(
+    text: &mut Vec<u8>,
+    regions: &Regions,
+    rows: &Rows,
+) -> Result<(), AllocError> {
+    if rows.others() == 0 {
+        return Ok(());
+    }
+    add_bars_title(text, rows)?;
+    add_bar_labels(text, regions, rows)?;
+    add_path_begin(text, b"#9498a0", b"9")?;
+    add_bar_strokes(text, regions, rows)?;
+    add_path_end(text)
 }
 
 // Appends the line above the bars, in the row behind those of the regions.
@@ -77,18 +88,7 @@ fn add_bar_strokes(text: &mut Vec<u8>, regions: &Regions, rows: &Rows) -> Result
     Ok(())
 }
 
-// Appends the bars of the regions that have no row, if there are such regions.
-pub(crate) fn add_bars(
-    text: &mut Vec<u8>,
-    regions: &Regions,
-    rows: &Rows,
-) -> Result<(), AllocError> {
-    if rows.others() == 0 {
-        return Ok(());
-    }
-    add_bars_title(text, rows)?;
-    add_bar_labels(text, regions, rows)?;
-    add_path_begin(text, b"#9498a0", b"9")?;
-    add_bar_strokes(text, regions, rows)?;
-    add_path_end(text)
+// Returns the length of the bar of a region with this many words in use.
+fn bar_of(words: u64) -> u64 {
+    words.div_ceil(POINT_WORDS).min(BAR_WIDTH)
 }

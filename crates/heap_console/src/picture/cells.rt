@@ -56,6 +56,22 @@ pub(crate) fn middle_of(row: u64) -> u64 {
     TOP.saturating_add(STEP.saturating_mul(row))
 }
 
+// Appends the strokes of all cells that are of this sort, of the regions that have a row.
+pub(crate) fn add_all_cells(
+    text: &mut Vec<u8>,
+    regions: &Regions,
+    rows: &Rows,
+    palette: &Palette,
+    sort: CellSort,
+) -> Result<(), AllocError> {
+    for region in 0..regions.count() {
+        if let Some(row) = rows.row(region) {
+            add_cells(text, regions, palette, sort, region, row)?;
+        }
+    }
+    Ok(())
+}
+
 // Appends the strokes of a region's cells that are of this sort, in this row.
 fn add_cells(
     text: &mut Vec<u8>,
@@ -84,17 +100,18 @@ fn add_cells(
     Ok(())
 }
 
-// Appends the strokes of all cells that are of this sort, of the regions that have a row.
-pub(crate) fn add_all_cells(
+// Appends the strokes of the cells whose objects are gray, of the regions that have a row.
+pub(crate) fn add_gray(
     text: &mut Vec<u8>,
     regions: &Regions,
     rows: &Rows,
-    palette: &Palette,
-    sort: CellSort,
+    gray: &[u64],
 ) -> Result<(), AllocError> {
-    for region in 0..regions.count() {
-        if let Some(row) = rows.row(region) {
-            add_cells(text, regions, palette, sort, region, row)?;
+    for id in gray {
+        if let Some(at) = regions.find(*id) {
+            if let Some(row) = rows.row(at.region as u64) {
+                add_gray_cell(text, regions, at, row)?;
+            }
         }
     }
     Ok(())
@@ -111,23 +128,6 @@ fn add_gray_cell(
     let x = LEFT.saturating_add(size.saturating_mul(at.cell as u64));
     let y = middle_of(row).saturating_sub(4);
     add_stroke(text, x, y, size.saturating_sub(1))
-}
-
-// Appends the strokes of the cells whose objects are gray, of the regions that have a row.
-pub(crate) fn add_gray(
-    text: &mut Vec<u8>,
-    regions: &Regions,
-    rows: &Rows,
-    gray: &[u64],
-) -> Result<(), AllocError> {
-    for id in gray {
-        if let Some(at) = regions.find(*id) {
-            if let Some(row) = rows.row(at.region as u64) {
-                add_gray_cell(text, regions, at, row)?;
-            }
-        }
-    }
-    Ok(())
 }
 
 // Appends the beginning of a path in this colour and width.

@@ -25,22 +25,6 @@ const STROKES: [(&[u8], &[u8], &[u8]); 5] = [
 // The number of lines that the legend has beside those of classes.
 pub(crate) const OTHER_LINES: u64 = 5;
 
-// Appends a stroke of the legend, and the beginning of the text beside it.
-fn add_sample(text: &mut Vec<u8>, y: u64, color: &[u8], width: &[u8]) -> Result<(), AllocError> {
-    add_path_begin(text, color, width)?;
-    add_stroke(text, LEFT, y.saturating_sub(4), 15)?;
-    add_path_end(text)?;
-    add_text_at(text, LEFT + 24, y)
-}
-
-// A row of a histogram: its number, that of its colour, and what it counts.
-#[derive(Clone, Copy)]
-pub(crate) struct ColoredRow {
-    pub(crate) index: usize,
-    pub(crate) color: usize,
-    pub(crate) row: Row,
-}
-
 // Appends the line of a row of a histogram.
 pub(crate) fn add_row(
     alloc: Global,
@@ -67,6 +51,22 @@ pub(crate) fn add_row(
     add_number(text, row.bytes)?;
     add(text, b" bytes</text>\n")?;
     Ok(())
+}
+
+// A row of a histogram: its number, that of its colour, and what it counts.
+#[derive(Clone, Copy)]
+pub(crate) struct ColoredRow {
+    pub(crate) index: usize,
+    pub(crate) color: usize,
+    pub(crate) row: Row,
+}
+
+// Appends a stroke of the legend, and the beginning of the text beside it.
+fn add_sample(text: &mut Vec<u8>, y: u64, color: &[u8], width: &[u8]) -> Result<(), AllocError> {
+    add_path_begin(text, color, width)?;
+    add_stroke(text, LEFT, y.saturating_sub(4), 15)?;
+    add_path_end(text)?;
+    add_text_at(text, LEFT + 24, y)
 }
 
 // Appends the lines of the other strokes, the first at this height.

@@ -29,6 +29,15 @@ struct Contents {
     text: u64,
 }
 
+// Returns what there is in each region, without the strokes of gray objects.
+fn all_contents(alloc: Global, regions: &Regions) -> Result<Vec<Contents>, AllocError> {
+    let mut contents = Vec::new(alloc);
+    for region in 0..regions.count() {
+        contents.push(contents_of(regions, region))?;
+    }
+    Ok(contents)
+}
+
 // Returns what there is in a region, without the strokes of gray objects.
 fn contents_of(regions: &Regions, region: u64) -> Contents {
     let mut contents = Contents {
@@ -54,15 +63,6 @@ fn contents_of(regions: &Regions, region: u64) -> Contents {
         }
     }
     contents
-}
-
-// Returns what there is in each region, without the strokes of gray objects.
-fn all_contents(alloc: Global, regions: &Regions) -> Result<Vec<Contents>, AllocError> {
-    let mut contents = Vec::new(alloc);
-    for region in 0..regions.count() {
-        contents.push(contents_of(regions, region))?;
-    }
-    Ok(contents)
 }
 
 // Counts the strokes of gray objects.

@@ -7,35 +7,6 @@ use crate::past::trail::PastTrail;
 use heap_class::ObjRef;
 use heap_step::Undo;
 
-// Tells whether the step that left this record changed the word of a slot, which is `now` after the step. A new object in a
-// fresh region is the only one there, so before the step nothing stood in its other cells.
-fn changes(left: &Undo, at: ObjRef, slot: u64, now: u64) -> bool
-    ensures { result ≡ changed_by left.now at slot now }
-{
-    match left {
-        Undo::Put {
-            at: place,
-            slot: written,
-            old,
-        }
-        | Undo::Store {
-            at: place,
-            slot: written,
-            old,
-            ..
-        } => place.region == at.region
-            && place.cell == at.cell
-            && *written as u64 == slot
-            && *old != now,
-        Undo::New {
-            at: place,
-            fresh,
-            ..
-        } => place.region == at.region && (*fresh || place.cell == at.cell),
-        _ => false,
-    }
-}
-
 // Tells whether the step that left this record created the object at a place.
 pub(crate) fn makes(left: &Undo, at: ObjRef) -> bool
     ensures { result ≡ made_by left.now at }
@@ -65,6 +36,35 @@ pub fn last_write(past: &PastTrail<'_>, at: ObjRef, slot: u64, now: u64) -> Opti
         }
     }
     None
+}
+
+// Tells whether the step that left this record changed the word of a slot, which is `now` after the step. A new object in a
+// fresh region is the only one there, so before the step nothing stood in its other cells.
+fn changes(left: &Undo, at: ObjRef, slot: u64, now: u64) -> bool
+    ensures { result ≡ changed_by left.now at slot now }
+{
+    match left {
+        Undo::Put {
+            at: place,
+            slot: written,
+            old,
+        }
+        | Undo::Store {
+            at: place,
+            slot: written,
+            old,
+            ..
+        } => place.region == at.region
+            && place.cell == at.cell
+            && *written as u64 == slot
+            && *old != now,
+        Undo::New {
+            at: place,
+            fresh,
+            ..
+        } => place.region == at.region && (*fresh || place.cell == at.cell),
+        _ => false,
+    }
 }
 
 /// Returns the place of the step of a trail that created the object at `at`, or None if the object is older than all its steps.

@@ -32,29 +32,6 @@ pub enum PastEvent {
     Reclaim(u64),
 }
 
-// Returns the writing of a register.
-fn register_event(m: u8, r: u8, old: u64) -> PastEvent
-    ensures { result ≡ Register m r old }
-{
-    PastEvent::Register {
-        m: m as u64,
-        r: r as u64,
-        old,
-    }
-}
-
-// Returns the making of an object.
-fn new_event(id: u64, m: u8, r: u8, old: u64) -> PastEvent
-    ensures { result ≡ New id m r old }
-{
-    PastEvent::New {
-        id,
-        m: m as u64,
-        r: r as u64,
-        old,
-    }
-}
-
 // Returns what the step with this record did, given the id of the object that it wrote or created.
 pub(crate) fn event_with(left: &Undo, id: u64) -> PastEvent
     ensures { result ≡ event_with left.now id }
@@ -85,5 +62,28 @@ pub(crate) fn event_with(left: &Undo, id: u64) -> PastEvent
             dead: dead.len(),
         },
         Undo::Reclaim { region, .. } => PastEvent::Reclaim(*region as u64),
+    }
+}
+
+// Returns the writing of a register.
+fn register_event(m: u8, r: u8, old: u64) -> PastEvent
+    ensures { result ≡ Register m r old }
+{
+    PastEvent::Register {
+        m: m as u64,
+        r: r as u64,
+        old,
+    }
+}
+
+// Returns the making of an object.
+fn new_event(id: u64, m: u8, r: u8, old: u64) -> PastEvent
+    ensures { result ≡ New id m r old }
+{
+    PastEvent::New {
+        id,
+        m: m as u64,
+        r: r as u64,
+        old,
     }
 }

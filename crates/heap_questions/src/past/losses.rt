@@ -32,6 +32,27 @@ pub fn unreached_stays()
     ensures { (e : Event) (w : HeapState) → StaysUnreached e w }
 {}
 
+/// Tells whether a register reaches the object at `at` in the state to which a trail leads, in which it has this id, or which step of
+/// the trail took the last path from it. Fails with NoMemory if an allocation fails. Searches the heap twice if a guess by the
+/// references of the current state is right, and if it isn't, once more for each halving of the retained states: 17 times for 65,536
+/// steps.
+pub fn loss_of(alloc: Global, past: &PastTrail<'_>, at: ObjRef, id: u64) -> Result<Loss, Refusal>
+    requires named { ref_of past.now.current.regions id ≡ Some at }
+    requires there { IsSome (object_at past.now.current.regions at) }
+    ensures loss { IfOk result (λ loss. IsLossOf past.now at loss) }
+    ensures refused { IfErr result (λ e. e ≡ NoMemory) }
+{
+    let oldest = oldest_state(past, at);
+    let newest = newest_reached(alloc, past, at, id, oldest)?;
+    let Some(ago) = newest else {
+        return Ok(Loss::Older);
+    };
+    if ago == 0 {
+        return Ok(Loss::Reached);
+    }
+    Ok(Loss::At(past.place() - (ago - 1)))
+}
+
 // Returns how many steps ago the oldest state of a trail was since which the object at `at` has stood there.
 fn oldest_state(past: &PastTrail<'_>, at: ObjRef) -> u64
     requires { IsSome (object_at past.now.current.regions at) }
@@ -41,21 +62,6 @@ fn oldest_state(past: &PastTrail<'_>, at: ObjRef) -> u64
     match birth(past, at) {
         Some(place) => now - place,
         None => past.retained_count(),
-    }
-}
-
-// Returns the state to look at next, of those from `low` to `last` steps ago: the guess if it is among them, the last if that
-// came after the guess, and else the middle.
-fn next_look(low: u64, last: u64, guess: u64) -> u64
-    requires { low ≤ last }
-    ensures { (low ≤ result) × (result ≤ last) }
-{
-    if low <= guess && guess <= last {
-        guess
-    } else if guess > last && guess - last == 1 {
-        last
-    } else {
-        low + (last - low) / 2
     }
 }
 
@@ -97,23 +103,17 @@ fn newest_reached(
     }
 }
 
-/// Tells whether a register reaches the object at `at` in the state to which a trail leads, in which it has this id, or which step of
-/// the trail took the last path from it. Fails with NoMemory if an allocation fails. Searches the heap twice if a guess by the
-/// references of the current state is right, and if it isn't, once more for each halving of the retained states: 17 times for 65,536
-/// steps.
-pub fn loss_of(alloc: Global, past: &PastTrail<'_>, at: ObjRef, id: u64) -> Result<Loss, Refusal>
-    requires named { ref_of past.now.current.regions id ≡ Some at }
-    requires there { IsSome (object_at past.now.current.regions at) }
-    ensures loss { IfOk result (λ loss. IsLossOf past.now at loss) }
-    ensures refused { IfErr result (λ e. e ≡ NoMemory) }
+// Returns the state to look at next, of those from `low` to `last` steps ago: the guess if it is among them, the last if that
+// came after the guess, and else the middle.
+fn next_look(low: u64, last: u64, guess: u64) -> u64
+    requires { low ≤ last }
+    ensures { (low ≤ result) × (result ≤ last) }
 {
-    let oldest = oldest_state(past, at);
-    let newest = newest_reached(alloc, past, at, id, oldest)?;
-    let Some(ago) = newest else {
-        return Ok(Loss::Older);
-    };
-    if ago == 0 {
-        return Ok(Loss::Reached);
+    if low <= guess && guess <= last {
+        guess
+    } else if guess > last && guess - last == 1 {
+        last
+    } else {
+        low + (last - low) / 2
     }
-    Ok(Loss::At(past.place() - (ago - 1)))
 }

@@ -46,88 +46,6 @@ pub(crate) fn size_at(world: &World, region: u64) -> u64
     }
 }
 
-// Returns the sizes of the cells of all regions. Fails with NoMemory.
-fn sizes_now(alloc: Global, world: &World) -> Result<Vec<u64>, Refusal>
-    requires { IsLegal world.now }
-    ensures sizes { IfOk result (λ sizes. AreCellSizes world.now sizes.items) }
-    ensures refused { IfErr result (λ e. e ≡ NoMemory) }
-{
-    let count = world.regions().count();
-    let mut sizes = Vec::with_capacity(alloc, count as usize)?;
-    for region in 0..count {
-        sizes.push(size_at(world, region))?;
-    }
-    Ok(sizes)
-}
-
-// Returns the id of the object at a place, by the size of its region's cells.
-fn id_by(sizes: &[u64], at: ObjRef) -> u64
-    requires within { at.region < length sizes.now }
-    requires small { All (λ s. s ≤ region_words) sizes.now }
-    ensures { result ≡ id_by sizes.now at }
-{
-    let size = sizes[at.region as usize];
-    OBJECT_BASE + 8 * (REGION_WORDS * at.region as u64 + at.cell as u64 * size)
-}
-
-// Returns the place of the object that the step with this record wrote or created, if it did.
-fn written_at(left: &Undo) -> Option<ObjRef>
-    ensures { result ≡ written_at left.now }
-{
-    match left {
-        Undo::Put { at, .. } | Undo::Store { at, .. } | Undo::New { at, .. } => Some(*at),
-        _ => None,
-    }
-}
-
-// Returns the id of the object that the step with this record wrote or created, if it did.
-fn object_of(left: &Undo, sizes: &[u64]) -> Option<u64>
-    requires within { (at : ObjRef) → written_at left.now ≡ Some at → at.region < length sizes.now }
-    requires small { All (λ s. s ≤ region_words) sizes.now }
-    ensures { result ≡ option_map (id_by sizes.now) (written_at left.now) }
-{
-    match written_at(left) {
-        Some(at) => Some(id_by(sizes, at)),
-        None => None,
-    }
-}
-
-// Returns what the step with this record did.
-fn event_by(left: &Undo, sizes: &[u64]) -> PastEvent
-    requires within { (at : ObjRef) → written_at left.now ≡ Some at → at.region < length sizes.now }
-    requires small { All (λ s. s ≤ region_words) sizes.now }
-    ensures { result
-        ≡ event_with left.now (unwrap_or (option_map (id_by sizes.now) (written_at left.now)) 0) }
-{
-    event_with(left, object_of(left, sizes).unwrap_or(0))
-}
-
-// Makes the sizes those before the step with this record.
-fn undo_size(left: &Undo, sizes: &mut Vec<u64>)
-    requires { (r : ℕ) (u : UsedRegion) → left.now ≡ Reclaim r u
-        → (r < length sizes.old.items) × (0 < length u.cells) }
-    ensures { sizes.new.items ≡ sizes_before left.now sizes.old.items }
-{
-    if let Undo::Reclaim { region, storage } = left {
-        sizes[*region as usize] = size_of(storage);
-    }
-}
-
-// Returns the sizes of the cells of all regions in the state of `ago` steps ago. Fails with NoMemory.
-fn sizes_ago(alloc: Global, machine: &Machine, ago: u64) -> Result<Vec<u64>, Refusal>
-    requires { ago ≤ retained machine.now.trail }
-    ensures sizes { IfOk result (λ sizes. AreCellSizes (state_ago ago machine.now.trail) sizes.items) }
-    ensures refused { IfErr result (λ e. e ≡ NoMemory) }
-{
-    let _place = machine.place();
-    let world = machine.world();
-    let mut sizes = sizes_now(alloc, world)?;
-    for n in 0..ago {
-        undo_size(machine.record_ago(n), &mut sizes);
-    }
-    Ok(sizes)
-}
-
 /// Returns the newest `count` of the retained steps that led to the state of `ago` steps ago, or all if there are fewer, the newest
 /// first. That state must be retained. Fails with NoMemory if an allocation fails. Reads each record of the steps since, and of these,
 /// once.
@@ -154,4 +72,86 @@ pub fn history(
         undo_size(left, &mut sizes);
     }
     Ok(steps)
+}
+
+// Returns the sizes of the cells of all regions in the state of `ago` steps ago. Fails with NoMemory.
+fn sizes_ago(alloc: Global, machine: &Machine, ago: u64) -> Result<Vec<u64>, Refusal>
+    requires { ago ≤ retained machine.now.trail }
+    ensures sizes { IfOk result (λ sizes. AreCellSizes (state_ago ago machine.now.trail) sizes.items) }
+    ensures refused { IfErr result (λ e. e ≡ NoMemory) }
+{
+    let _place = machine.place();
+    let world = machine.world();
+    let mut sizes = sizes_now(alloc, world)?;
+    for n in 0..ago {
+        undo_size(machine.record_ago(n), &mut sizes);
+    }
+    Ok(sizes)
+}
+
+// Returns the sizes of the cells of all regions. Fails with NoMemory.
+fn sizes_now(alloc: Global, world: &World) -> Result<Vec<u64>, Refusal>
+    requires { IsLegal world.now }
+    ensures sizes { IfOk result (λ sizes. AreCellSizes world.now sizes.items) }
+    ensures refused { IfErr result (λ e. e ≡ NoMemory) }
+{
+    let count = world.regions().count();
+    let mut sizes = Vec::with_capacity(alloc, count as usize)?;
+    for region in 0..count {
+        sizes.push(size_at(world, region))?;
+    }
+    Ok(sizes)
+}
+
+// Makes the sizes those before the step with this record.
+fn undo_size(left: &Undo, sizes: &mut Vec<u64>)
+    requires { (r : ℕ) (u : UsedRegion) → left.now ≡ Reclaim r u
+        → (r < length sizes.old.items) × (0 < length u.cells) }
+    ensures { sizes.new.items ≡ sizes_before left.now sizes.old.items }
+{
+    if let Undo::Reclaim { region, storage } = left {
+        sizes[*region as usize] = size_of(storage);
+    }
+}
+
+// Returns what the step with this record did.
+fn event_by(left: &Undo, sizes: &[u64]) -> PastEvent
+    requires within { (at : ObjRef) → written_at left.now ≡ Some at → at.region < length sizes.now }
+    requires small { All (λ s. s ≤ region_words) sizes.now }
+    ensures { result
+        ≡ event_with left.now (unwrap_or (option_map (id_by sizes.now) (written_at left.now)) 0) }
+{
+    event_with(left, object_of(left, sizes).unwrap_or(0))
+}
+
+// Returns the id of the object that the step with this record wrote or created, if it did.
+fn object_of(left: &Undo, sizes: &[u64]) -> Option<u64>
+    requires within { (at : ObjRef) → written_at left.now ≡ Some at → at.region < length sizes.now }
+    requires small { All (λ s. s ≤ region_words) sizes.now }
+    ensures { result ≡ option_map (id_by sizes.now) (written_at left.now) }
+{
+    match written_at(left) {
+        Some(at) => Some(id_by(sizes, at)),
+        None => None,
+    }
+}
+
+// Returns the place of the object that the step with this record wrote or created, if it did.
+fn written_at(left: &Undo) -> Option<ObjRef>
+    ensures { result ≡ written_at left.now }
+{
+    match left {
+        Undo::Put { at, .. } | Undo::Store { at, .. } | Undo::New { at, .. } => Some(*at),
+        _ => None,
+    }
+}
+
+// Returns the id of the object at a place, by the size of its region's cells.
+fn id_by(sizes: &[u64], at: ObjRef) -> u64
+    requires within { at.region < length sizes.now }
+    requires small { All (λ s. s ≤ region_words) sizes.now }
+    ensures { result ≡ id_by sizes.now at }
+{
+    let size = sizes[at.region as usize];
+    OBJECT_BASE + 8 * (REGION_WORDS * at.region as u64 + at.cell as u64 * size)
 }

@@ -7,23 +7,6 @@ use heap_trail::Reply;
 use std::alloc::Global;
 use std::test::Fail;
 
-// Returns whether these are the replies to the actions of a dump.
-fn are_replies(replies: &Result<Vec<Reply>, Refusal>) -> bool {
-    let Ok(replies) = replies else {
-        return false;
-    };
-    matches!(
-        replies.as_slice(),
-        [
-            Reply::Pinned { pin: 1, at: 2 },
-            Reply::Answered(_),
-            Reply::Refused(Refusal::TooFar { .. }),
-            Reply::Part(_),
-            Reply::Closed,
-        ]
-    )
-}
-
 /// Makes a point, and drives a machine through a step, a refused rewind, and what a dump asks for. Returns whether the replies,
 /// the place and the number of retained steps after them are as expected.
 pub fn is_driven(alloc: Global, machine: &mut Machine) -> bool {
@@ -39,6 +22,23 @@ pub fn is_driven(alloc: Global, machine: &mut Machine) -> bool {
     ];
     let replies = machine.drive(actions.as_slice());
     are_replies(&replies) && machine.place() == 3 && machine.retained_count() == 2
+}
+
+// Returns whether these are the replies to the actions of a dump.
+fn are_replies(replies: &Result<Vec<Reply>, Refusal>) -> bool {
+    let Ok(replies) = replies else {
+        return false;
+    };
+    matches!(
+        replies.as_slice(),
+        [
+            Reply::Pinned { pin: 1, at: 2 },
+            Reply::Answered(_),
+            Reply::Refused(Refusal::TooFar { .. }),
+            Reply::Part(_),
+            Reply::Closed,
+        ]
+    )
 }
 
 #[test]

@@ -30,6 +30,35 @@ const WAITERS: &[Waiter] = &[
     Waiter::Sweeper,
 ];
 
+#[test]
+fn nobody_begins_a_round_too_early(rt: HostRuntime) -> Result<(), Fail> {
+    assert!(rt; all_keep(&rt));
+    Ok(())
+}
+
+// Returns whether each waiter waits just as long as it must, and a mutator begins its third round at once.
+fn all_keep<R: Threads + Wait>(rt: &R) -> bool {
+    for waiter in WAITERS {
+        if !keeps(rt, *waiter) {
+            return false;
+        }
+    }
+    Pace::new(2, 2).begin_round(2).is_some()
+}
+
+// Returns whether a waiter waits until it is let go on, and no longer.
+fn keeps<R: Threads + Wait>(rt: &R, waiter: Waiter) -> bool {
+    let pace = &Pace::new(2, 2);
+    let flags = &Flags::new();
+    end_rounds(pace, waiter);
+    let (waited, let_go) = thread::join(
+        rt,
+        move || waits(pace, waiter, flags),
+        move || lets_go(pace, waiter, flags),
+    );
+    waited && let_go
+}
+
 // Ends the rounds that have to be over before the waiter lacks one thing alone.
 fn end_rounds(pace: &Pace, waiter: Waiter) {
     let rounds: u64 = match waiter {
@@ -68,33 +97,4 @@ fn lets_go(pace: &Pace, waiter: Waiter, flags: &Flags) -> bool {
         Waiter::Sweeper => pace.end_marking(),
     }
     here && still
-}
-
-// Returns whether a waiter waits until it is let go on, and no longer.
-fn keeps<R: Threads + Wait>(rt: &R, waiter: Waiter) -> bool {
-    let pace = &Pace::new(2, 2);
-    let flags = &Flags::new();
-    end_rounds(pace, waiter);
-    let (waited, let_go) = thread::join(
-        rt,
-        move || waits(pace, waiter, flags),
-        move || lets_go(pace, waiter, flags),
-    );
-    waited && let_go
-}
-
-// Returns whether each waiter waits just as long as it must, and a mutator begins its third round at once.
-fn all_keep<R: Threads + Wait>(rt: &R) -> bool {
-    for waiter in WAITERS {
-        if !keeps(rt, *waiter) {
-            return false;
-        }
-    }
-    Pace::new(2, 2).begin_round(2).is_some()
-}
-
-#[test]
-fn nobody_begins_a_round_too_early(rt: HostRuntime) -> Result<(), Fail> {
-    assert!(rt; all_keep(&rt));
-    Ok(())
 }

@@ -8,12 +8,19 @@ use machine_dump::PinSource;
 use std::alloc::Global;
 use std::test::Fail;
 
-// Pumps a pin. Returns whether that ended so, and put out these bytes.
-fn puts(alloc: Global, machine: &mut Machine, pin: u64, ended: Pumped, bytes: &[u8]) -> bool {
-    let mut source = PinSource::new(machine, pin, 0);
-    let mut outlet = WriteOutlet::new(Vec::new(alloc));
-    let pumped = pump(&mut source, &mut outlet);
-    pumped == ended && outlet.into_writer().as_slice() == bytes
+/// Pumps the dump of a pin on a point that was changed since, but for its first piece, which was taken before. Returns whether it is
+/// that of the point as it was, and whether the dump of a pin that isn't open is lost.
+pub fn is_pumped(alloc: Global, machine: &mut Machine) -> bool {
+    if !has_point(alloc, machine) || !takes(machine, put_x(7)) {
+        return false;
+    }
+    let Ok(PinAt { pin, .. }) = machine.open_pin(None) else {
+        return false;
+    };
+    takes(machine, put_x(9))
+        && takes_piece(machine, pin)
+        && puts_the_rest(alloc, machine, pin)
+        && loses_closed(alloc, machine)
 }
 
 // Takes a pin's first piece, which has 143 bytes.
@@ -33,6 +40,14 @@ fn puts_the_rest(alloc: Global, machine: &mut Machine, pin: u64) -> bool {
     )
 }
 
+// Pumps a pin. Returns whether that ended so, and put out these bytes.
+fn puts(alloc: Global, machine: &mut Machine, pin: u64, ended: Pumped, bytes: &[u8]) -> bool {
+    let mut source = PinSource::new(machine, pin, 0);
+    let mut outlet = WriteOutlet::new(Vec::new(alloc));
+    let pumped = pump(&mut source, &mut outlet);
+    pumped == ended && outlet.into_writer().as_slice() == bytes
+}
+
 // Pumps a pin that isn't open. Returns whether it is lost.
 fn loses_closed(alloc: Global, machine: &mut Machine) -> bool {
     let lost = Pumped::Lost {
@@ -40,21 +55,6 @@ fn loses_closed(alloc: Global, machine: &mut Machine) -> bool {
         bytes: 0,
     };
     puts(alloc, machine, 9, lost, &[])
-}
-
-/// Pumps the dump of a pin on a point that was changed since, but for its first piece, which was taken before. Returns whether it is
-/// that of the point as it was, and whether the dump of a pin that isn't open is lost.
-pub fn is_pumped(alloc: Global, machine: &mut Machine) -> bool {
-    if !has_point(alloc, machine) || !takes(machine, put_x(7)) {
-        return false;
-    }
-    let Ok(PinAt { pin, .. }) = machine.open_pin(None) else {
-        return false;
-    };
-    takes(machine, put_x(9))
-        && takes_piece(machine, pin)
-        && puts_the_rest(alloc, machine, pin)
-        && loses_closed(alloc, machine)
 }
 
 #[test]

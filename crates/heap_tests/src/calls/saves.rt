@@ -34,20 +34,30 @@ const LOST: &[u8] = b"lost Closed 0\n";
 
 const SAVED: &[u8] = b"ok class 0\nok object 0x10000000\nok\nsaved 301\n";
 
-// Saves a session to a place. Returns the outlet that the place made, if it made one.
-fn save_to<P: Outlets + Drop, G: Gauge, I: Inlet, O: Outlet, R: Threads + Wait + Sync>(
+/// Opens all four pins of a machine, as others do, and saves a session, for whose dump no pin can be opened; closes one of the four
+/// and saves another session, which is dumped. Returns whether all goes as it must, and the other three pins stay open.
+pub fn is_saved_beside_pins<R: Threads + Wait + Sync>(
     rt: &R,
     alloc: Global,
     local: &mut Local,
-    place: P,
-    gauge: &mut G,
-    reader: &mut I,
-    writer: &mut O,
-) -> Option<P::Out> {
-    let time = 0;
-    let dump = LastDump { place, gauge, time };
-    let saved = dump.save_into(rt, alloc, local, reader, writer, SessionLimits::Narrow);
-    saved.outlet
+) -> bool {
+    let opened = open_pins(&mut local.machine);
+    local.first_pin = local.machine.next_pin();
+    opened == 4
+        && saves(rt, alloc, local, (b"", LOST), None)
+        && local.machine.close_pin(2).is_ok()
+        && saves(rt, alloc, local, (LINES, SAVED), Some(ONE_POINT))
+        && open_pins(&mut local.machine) == 1
+}
+
+// Opens pins until one is refused. Returns how many.
+fn open_pins(machine: &mut Machine) -> u64 {
+    for count in 0..5u64 {
+        if machine.open_pin(None).is_err() {
+            return count;
+        }
+    }
+    5
 }
 
 // Saves a session of these lines. Returns whether it was told this, and its dump has these bytes, or none was begun.
@@ -78,30 +88,20 @@ fn saves<R: Threads + Wait + Sync>(
     dumped && writer.into_writer().as_slice() == told
 }
 
-// Opens pins until one is refused. Returns how many.
-fn open_pins(machine: &mut Machine) -> u64 {
-    for count in 0..5u64 {
-        if machine.open_pin(None).is_err() {
-            return count;
-        }
-    }
-    5
-}
-
-/// Opens all four pins of a machine, as others do, and saves a session, for whose dump no pin can be opened; closes one of the four
-/// and saves another session, which is dumped. Returns whether all goes as it must, and the other three pins stay open.
-pub fn is_saved_beside_pins<R: Threads + Wait + Sync>(
+// Saves a session to a place. Returns the outlet that the place made, if it made one.
+fn save_to<P: Outlets + Drop, G: Gauge, I: Inlet, O: Outlet, R: Threads + Wait + Sync>(
     rt: &R,
     alloc: Global,
     local: &mut Local,
-) -> bool {
-    let opened = open_pins(&mut local.machine);
-    local.first_pin = local.machine.next_pin();
-    opened == 4
-        && saves(rt, alloc, local, (b"", LOST), None)
-        && local.machine.close_pin(2).is_ok()
-        && saves(rt, alloc, local, (LINES, SAVED), Some(ONE_POINT))
-        && open_pins(&mut local.machine) == 1
+    place: P,
+    gauge: &mut G,
+    reader: &mut I,
+    writer: &mut O,
+) -> Option<P::Out> {
+    let time = 0;
+    let dump = LastDump { place, gauge, time };
+    let saved = dump.save_into(rt, alloc, local, reader, writer, SessionLimits::Narrow);
+    saved.outlet
 }
 
 #[test]

@@ -17,15 +17,6 @@ pub enum Trial {
     IsSavedBesidePins,
 }
 
-// Holds a trial on a machine. Returns whether all goes as it must.
-fn goes<R: Threads + Wait + Sync>(rt: &R, alloc: Global, local: &mut Local, trial: Trial) -> bool {
-    match trial {
-        Trial::IsDriven => is_driven(alloc, &mut local.machine),
-        Trial::IsPumped => is_pumped(alloc, &mut local.machine),
-        Trial::IsSavedBesidePins => is_saved_beside_pins(rt, alloc, local),
-    }
-}
-
 /// Holds a trial on a new machine, which keeps two steps. Returns whether all goes as it must.
 pub fn goes_alone<R: Threads + Wait + Sync>(rt: &R, alloc: Global, trial: Trial) -> bool {
     let Some(config) = Config::new(1, 1, 2) else {
@@ -37,6 +28,15 @@ pub fn goes_alone<R: Threads + Wait + Sync>(rt: &R, alloc: Global, trial: Trial)
             goes(rt, alloc, &mut local, trial)
         }
         Err(_) => false,
+    }
+}
+
+// Holds a trial on a machine. Returns whether all goes as it must.
+fn goes<R: Threads + Wait + Sync>(rt: &R, alloc: Global, local: &mut Local, trial: Trial) -> bool {
+    match trial {
+        Trial::IsDriven => is_driven(alloc, &mut local.machine),
+        Trial::IsPumped => is_pumped(alloc, &mut local.machine),
+        Trial::IsSavedBesidePins => is_saved_beside_pins(rt, alloc, local),
     }
 }
 

@@ -126,6 +126,30 @@ const CASES: &[Case] = &[
     },
 ];
 
+/// Defines the class of each case twice, the second time in vain. Returns whether audits say what they should.
+pub fn defining<L: Heap, R: Wait>(stage: &Stage<'_, L, R>, user: &mut Seat<L>) -> bool {
+    for case in CASES {
+        if !is_audited(stage, user, case) || !is_audited(stage, user, case) {
+            return false;
+        }
+    }
+    true
+}
+
+// Defines the class of a case. Returns whether audits say of the receipt what they should.
+fn is_audited<L: Heap, R: Wait>(stage: &Stage<'_, L, R>, user: &mut Seat<L>, case: &Case) -> bool {
+    let Some(event) = definition(stage.alloc, case.class) else {
+        return false;
+    };
+    match did(stage.rt, stage.shared, user, event) {
+        Some(receipt) => {
+            says(stage, case.class, receipt, case.said.0)
+                && says(stage, case.other, receipt, case.said.1)
+        }
+        None => false,
+    }
+}
+
 // Returns the definition of a class, or None if an allocation fails.
 fn definition(alloc: Global, class: Shape) -> Option<Event> {
     let mut fields = Vec::new(alloc);
@@ -149,30 +173,6 @@ fn says<L: Heap, R: Wait>(
         }
         None => false,
     }
-}
-
-// Defines the class of a case. Returns whether audits say of the receipt what they should.
-fn is_audited<L: Heap, R: Wait>(stage: &Stage<'_, L, R>, user: &mut Seat<L>, case: &Case) -> bool {
-    let Some(event) = definition(stage.alloc, case.class) else {
-        return false;
-    };
-    match did(stage.rt, stage.shared, user, event) {
-        Some(receipt) => {
-            says(stage, case.class, receipt, case.said.0)
-                && says(stage, case.other, receipt, case.said.1)
-        }
-        None => false,
-    }
-}
-
-/// Defines the class of each case twice, the second time in vain. Returns whether audits say what they should.
-pub fn defining<L: Heap, R: Wait>(stage: &Stage<'_, L, R>, user: &mut Seat<L>) -> bool {
-    for case in CASES {
-        if !is_audited(stage, user, case) || !is_audited(stage, user, case) {
-            return false;
-        }
-    }
-    true
 }
 
 #[test]

@@ -93,58 +93,37 @@ pub struct MeterWatch<'m> {
     ghost reads: { reader.meter ≡ meter.now },
 }
 
-// Returns whether a dump ended as it was to.
-fn is_wanted(wanted: Wanted, (pumped, taken, is_text): Seen) -> bool {
-    let bytes = taken as u64;
-    is_text
-        && match wanted {
-            Wanted::Done(all) => bytes == all && pumped == Pumped::Done { bytes },
-            Wanted::Failed(all) => bytes == all && pumped == Pumped::OutletFailed { bytes },
-            Wanted::Cancelled(least, most) => {
-                least <= bytes && bytes <= most && pumped == Pumped::Cancelled { bytes }
-            }
-        }
-}
-
-// Dumps a pin by the seats of a meter. None if there is no pipe.
-fn dumped_by<L: Heap + Send + Sync, R: Threads + Wait + Sync>(
-    at: &PinnedText<'_, L, R>,
+/// Makes `points` points, each in the first register, and dumps them. Returns whether each dump goes as it must. The text of one
+/// point is given by hand, and of more by a pump.
+pub fn dumps_go<L: Heap + Send + Sync, R: Threads + Wait + Sync>(
+    stage: &Stage<'_, L, R>,
+    user: &mut Seat<L>,
     mutator: &mut Seat<L>,
-    seats: StreamSeats<'_>,
-    watch: MeterWatch<'_>,
-    way: Way,
-) -> Option<(Noted, Seen)>
-    requires { seats.out.known ≡ 0 }
-{
-    match way {
-        Way::Asking { turn } => Some(pumped_asking(at, seats, watch, turn)),
-        Way::Alone { asked, room } => Some(streamed_alone(at, seats, watch, asked, room)),
-        Way::Held(beside) => Some(streamed_beside(at, mutator, seats, watch, beside)),
-        Way::Piped { first } => piped(at, seats, first),
+    points: u64,
+    cases: &[Case],
+) -> bool {
+    if !has_points(stage, user, points) {
+        return false;
     }
+    if points == 1 {
+        return all_go(stage, mutator, ONE_POINT, cases);
+    }
+    all_go_as_pumped(stage, mutator, cases)
 }
 
-// Dumps a pin, with a new meter. None if there is no meter or no pipe.
-fn dumped<L: Heap + Send + Sync, R: Threads + Wait + Sync>(
-    at: &PinnedText<'_, L, R>,
+// Returns whether each of these dumps goes as it must, one after the other.
+fn all_go<L: Heap + Send + Sync, R: Threads + Wait + Sync>(
+    stage: &Stage<'_, L, R>,
     mutator: &mut Seat<L>,
-    way: Way,
-) -> Option<(Noted, Seen)> {
-    let Ok(mut made) = Meter::new(at.alloc, 1) else {
-        return None;
-    };
-    let Some(reader) = made.readers.pop() else {
-        unreachable!();
-    };
-    let (asker, out, feed) = (made.asker, made.out, made.feed);
-    let meter = &made.meter;
-    let seats = StreamSeats { meter, out, feed };
-    let watch = MeterWatch {
-        meter,
-        asker,
-        reader,
-    };
-    dumped_by(at, mutator, seats, watch, way)
+    text: &[u8],
+    cases: &[Case],
+) -> bool {
+    for case in cases {
+        if !goes(stage, mutator, text, case) {
+            return false;
+        }
+    }
+    true
 }
 
 // Opens a pin, dumps it and closes it. Returns whether the dump goes as it must.
@@ -173,19 +152,58 @@ fn goes<L: Heap + Send + Sync, R: Threads + Wait + Sync>(
     }
 }
 
-// Returns whether each of these dumps goes as it must, one after the other.
-fn all_go<L: Heap + Send + Sync, R: Threads + Wait + Sync>(
-    stage: &Stage<'_, L, R>,
+// Dumps a pin, with a new meter. None if there is no meter or no pipe.
+fn dumped<L: Heap + Send + Sync, R: Threads + Wait + Sync>(
+    at: &PinnedText<'_, L, R>,
     mutator: &mut Seat<L>,
-    text: &[u8],
-    cases: &[Case],
-) -> bool {
-    for case in cases {
-        if !goes(stage, mutator, text, case) {
-            return false;
-        }
+    way: Way,
+) -> Option<(Noted, Seen)> {
+    let Ok(mut made) = Meter::new(at.alloc, 1) else {
+        return None;
+    };
+    let Some(reader) = made.readers.pop() else {
+        unreachable!();
+    };
+    let (asker, out, feed) = (made.asker, made.out, made.feed);
+    let meter = &made.meter;
+    let seats = StreamSeats { meter, out, feed };
+    let watch = MeterWatch {
+        meter,
+        asker,
+        reader,
+    };
+    dumped_by(at, mutator, seats, watch, way)
+}
+
+// Dumps a pin by the seats of a meter. None if there is no pipe.
+fn dumped_by<L: Heap + Send + Sync, R: Threads + Wait + Sync>(
+    at: &PinnedText<'_, L, R>,
+    mutator: &mut Seat<L>,
+    seats: StreamSeats<'_>,
+    watch: MeterWatch<'_>,
+    way: Way,
+) -> Option<(Noted, Seen)>
+    requires { seats.out.known ≡ 0 }
+{
+    match way {
+        Way::Asking { turn } => Some(pumped_asking(at, seats, watch, turn)),
+        Way::Alone { asked, room } => Some(streamed_alone(at, seats, watch, asked, room)),
+        Way::Held(beside) => Some(streamed_beside(at, mutator, seats, watch, beside)),
+        Way::Piped { first } => piped(at, seats, first),
     }
-    true
+}
+
+// Returns whether a dump ended as it was to.
+fn is_wanted(wanted: Wanted, (pumped, taken, is_text): Seen) -> bool {
+    let bytes = taken as u64;
+    is_text
+        && match wanted {
+            Wanted::Done(all) => bytes == all && pumped == Pumped::Done { bytes },
+            Wanted::Failed(all) => bytes == all && pumped == Pumped::OutletFailed { bytes },
+            Wanted::Cancelled(least, most) => {
+                least <= bytes && bytes <= most && pumped == Pumped::Cancelled { bytes }
+            }
+        }
 }
 
 // Returns whether each of these dumps goes as it must, where the text is what a pump puts out.
@@ -198,22 +216,4 @@ fn all_go_as_pumped<L: Heap + Send + Sync, R: Threads + Wait + Sync>(
         Some(text) => all_go(stage, mutator, text.as_slice(), cases),
         None => false,
     }
-}
-
-/// Makes `points` points, each in the first register, and dumps them. Returns whether each dump goes as it must. The text of one
-/// point is given by hand, and of more by a pump.
-pub fn dumps_go<L: Heap + Send + Sync, R: Threads + Wait + Sync>(
-    stage: &Stage<'_, L, R>,
-    user: &mut Seat<L>,
-    mutator: &mut Seat<L>,
-    points: u64,
-    cases: &[Case],
-) -> bool {
-    if !has_points(stage, user, points) {
-        return false;
-    }
-    if points == 1 {
-        return all_go(stage, mutator, ONE_POINT, cases);
-    }
-    all_go_as_pumped(stage, mutator, cases)
 }

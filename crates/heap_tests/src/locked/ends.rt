@@ -18,24 +18,21 @@ use std::test::*;
 use std::thread;
 use std::thread::Threads;
 
-// Feeds the parts of a pin to a pipe, and counts in a word how often the source is asked. Returns whether all was fed, and how
-// many parts.
-fn feed_counted<L: Heap, R: Wait>(
-    rt: &R,
-    shared: &Shared<L>,
-    pin: u64,
-    sender: &Sender,
-    end: &mut End,
-    asked: &AtomicU64,
-) -> (bool, u64)
-    requires { IsSeatAt (sends_on sender.now) end.old × (view end.old ≡ Sends []) }
+/// Feeds the parts of a pin in one thread to a new pipe, and drains them in another once the source was asked `first` times.
+/// Notes whether all was fed, how many parts, and how often the source had been asked when the drain began. None if there is no
+/// pipe.
+pub fn piped<L: Heap + Send + Sync, R: Threads + Wait + Sync>(
+    at: &PinnedText<'_, L, R>,
+    seats: StreamSeats<'_>,
+    first: u64,
+) -> Option<(Noted, Seen)>
+    requires { seats.out.known ≡ 0 }
 {
-    let mut source = Counted {
-        source: LockedSource::new(Dumper::new(shared, rt, shared.witness(rt)), pin, 0),
-        asked,
-    };
-    let ending = feed(rt, &mut source, sender, end);
-    (ending == Ending::Whole, source.source.count)
+    let mut counter = Counter::new(seats.meter.progress(), seats.out);
+    match pipe(at.alloc) {
+        Ok((ends, mut known)) => Some(by_two(at, &ends, &mut known, &mut counter, first)),
+        Err(_) => None,
+    }
 }
 
 // The number of times that a source was asked, and the number after which its parts are drained.
@@ -43,27 +40,6 @@ fn feed_counted<L: Heap, R: Wait>(
 struct Asked<'a> {
     count: &'a AtomicU64,
     first: u64,
-}
-
-// Drains a pipe into a sink once the source was asked `first` times. Returns how often it had been asked then, and how that went.
-fn drain_after<R: Wait>(
-    rt: &R,
-    receiver: &Receiver,
-    end: &mut End,
-    counter: &mut Counter<'_>,
-    text: &[u8],
-    asked: Asked<'_>,
-) -> (u64, Seen)
-    requires end { IsSeatAt (receives_on receiver.now) end.old × (view end.old ≡ Gets []) }
-    requires counter { counter.old.known ≡ 0 }
-{
-    reaches(asked.count, asked.first);
-    let count = asked.count.load(Ordering::SeqCst);
-    let flags = Flags::new();
-    let mut outlet = WriteOutlet::new(Sink::new(text, &flags));
-    let pumped = drain_pipe(rt, receiver, end, &mut outlet, counter);
-    let sink = outlet.into_writer();
-    (count, (pumped, sink.taken, sink.is_text))
 }
 
 // Feeds the parts of a pin in one thread, and drains them into a sink in another once the source was asked `first` times.
@@ -98,21 +74,45 @@ fn by_two<L: Heap + Send + Sync, R: Threads + Wait + Sync>(
     ((whole, given, before), seen)
 }
 
-/// Feeds the parts of a pin in one thread to a new pipe, and drains them in another once the source was asked `first` times.
-/// Notes whether all was fed, how many parts, and how often the source had been asked when the drain began. None if there is no
-/// pipe.
-pub fn piped<L: Heap + Send + Sync, R: Threads + Wait + Sync>(
-    at: &PinnedText<'_, L, R>,
-    seats: StreamSeats<'_>,
-    first: u64,
-) -> Option<(Noted, Seen)>
-    requires { seats.out.known ≡ 0 }
+// Feeds the parts of a pin to a pipe, and counts in a word how often the source is asked. Returns whether all was fed, and how
+// many parts.
+fn feed_counted<L: Heap, R: Wait>(
+    rt: &R,
+    shared: &Shared<L>,
+    pin: u64,
+    sender: &Sender,
+    end: &mut End,
+    asked: &AtomicU64,
+) -> (bool, u64)
+    requires { IsSeatAt (sends_on sender.now) end.old × (view end.old ≡ Sends []) }
 {
-    let mut counter = Counter::new(seats.meter.progress(), seats.out);
-    match pipe(at.alloc) {
-        Ok((ends, mut known)) => Some(by_two(at, &ends, &mut known, &mut counter, first)),
-        Err(_) => None,
-    }
+    let mut source = Counted {
+        source: LockedSource::new(Dumper::new(shared, rt, shared.witness(rt)), pin, 0),
+        asked,
+    };
+    let ending = feed(rt, &mut source, sender, end);
+    (ending == Ending::Whole, source.source.count)
+}
+
+// Drains a pipe into a sink once the source was asked `first` times. Returns how often it had been asked then, and how that went.
+fn drain_after<R: Wait>(
+    rt: &R,
+    receiver: &Receiver,
+    end: &mut End,
+    counter: &mut Counter<'_>,
+    text: &[u8],
+    asked: Asked<'_>,
+) -> (u64, Seen)
+    requires end { IsSeatAt (receives_on receiver.now) end.old × (view end.old ≡ Gets []) }
+    requires counter { counter.old.known ≡ 0 }
+{
+    reaches(asked.count, asked.first);
+    let count = asked.count.load(Ordering::SeqCst);
+    let flags = Flags::new();
+    let mut outlet = WriteOutlet::new(Sink::new(text, &flags));
+    let pumped = drain_pipe(rt, receiver, end, &mut outlet, counter);
+    let sink = outlet.into_writer();
+    (count, (pumped, sink.taken, sink.is_text))
 }
 
 // The dump of 2,000 points, none of which is drained until the source was asked for a ninth part. That is the most that it is

@@ -35,12 +35,60 @@ impl<'a> Gate for WatchedGate<'a> {
     }
 }
 
-// Returns the turn of an act, or 0 if it has none.
-fn clears<L: Heap, R: Wait>(rt: &R, shared: &Shared<L>, seat: &mut Seat<L>) -> u64 {
-    match did(rt, shared, seat, Event::Clear { m: 0, r: 5 }) {
-        Some(receipt) => receipt.turn,
-        None => 0,
-    }
+/// Acts by a user at each pass of a marker, which has five turns, and then of a sweeper, which has one for each region. Returns
+/// whether both went as they must.
+pub fn watched_workers<L: Heap + Send + Sync, R: Threads + Wait + Sync>(
+    rt: &R,
+    alloc: Global,
+    shared: &Shared<L>,
+    user: &mut Seat<L>,
+    marker: &mut Seat<L>,
+    sweeper: &mut Seat<L>,
+) -> bool {
+    began(rt, alloc, shared, user)
+        && both_go(rt, shared, marker, user, 3, 5)
+        && both_go(rt, shared, sweeper, user, 13, 16)
+}
+
+// Runs a worker in one thread, and acts at each of its passes in another, after `first` entries. Returns whether both went as
+// they must.
+fn both_go<L: Heap + Send + Sync, R: Threads + Wait + Sync>(
+    rt: &R,
+    shared: &Shared<L>,
+    worker: &mut Seat<L>,
+    user: &mut Seat<L>,
+    first: u64,
+    count: u64,
+) -> bool {
+    let turns = &Turns {
+        here: AtomicU64::new(0),
+        seen: AtomicU64::new(0),
+    };
+    let (worked, acted) = thread::join(
+        rt,
+        move || works(rt, shared, worker, count, turns),
+        move || acts_at_each(rt, shared, user, first, count, turns),
+    );
+    worked && acted
+}
+
+// Runs the worker of a seat for `count` turns. Returns whether it used them up, and passed the gate as often.
+fn works<L: Heap, R: Wait>(
+    rt: &R,
+    shared: &Shared<L>,
+    seat: &mut Seat<L>,
+    count: u64,
+    turns: &Turns,
+) -> bool {
+    let mut gate = WatchedGate { passes: 0, turns };
+    let ended = matches!(
+        run_worker(rt, shared, seat, &mut gate, count),
+        Some((
+            WorkEnd::Marked(MarkEnd::TurnsOver) | WorkEnd::Swept(SweepEnd::Swept),
+            _
+        ))
+    );
+    ended && gate.passes == count
 }
 
 // Acts at each of `passes` passes of a gate. Returns whether the gate was told the number of the worker's act, counted from 1,
@@ -68,60 +116,12 @@ fn acts_at_each<L: Heap, R: Wait>(
     true
 }
 
-// Runs the worker of a seat for `count` turns. Returns whether it used them up, and passed the gate as often.
-fn works<L: Heap, R: Wait>(
-    rt: &R,
-    shared: &Shared<L>,
-    seat: &mut Seat<L>,
-    count: u64,
-    turns: &Turns,
-) -> bool {
-    let mut gate = WatchedGate { passes: 0, turns };
-    let ended = matches!(
-        run_worker(rt, shared, seat, &mut gate, count),
-        Some((
-            WorkEnd::Marked(MarkEnd::TurnsOver) | WorkEnd::Swept(SweepEnd::Swept),
-            _
-        ))
-    );
-    ended && gate.passes == count
-}
-
-// Runs a worker in one thread, and acts at each of its passes in another, after `first` entries. Returns whether both went as
-// they must.
-fn both_go<L: Heap + Send + Sync, R: Threads + Wait + Sync>(
-    rt: &R,
-    shared: &Shared<L>,
-    worker: &mut Seat<L>,
-    user: &mut Seat<L>,
-    first: u64,
-    count: u64,
-) -> bool {
-    let turns = &Turns {
-        here: AtomicU64::new(0),
-        seen: AtomicU64::new(0),
-    };
-    let (worked, acted) = thread::join(
-        rt,
-        move || works(rt, shared, worker, count, turns),
-        move || acts_at_each(rt, shared, user, first, count, turns),
-    );
-    worked && acted
-}
-
-/// Acts by a user at each pass of a marker, which has five turns, and then of a sweeper, which has one for each region. Returns
-/// whether both went as they must.
-pub fn watched_workers<L: Heap + Send + Sync, R: Threads + Wait + Sync>(
-    rt: &R,
-    alloc: Global,
-    shared: &Shared<L>,
-    user: &mut Seat<L>,
-    marker: &mut Seat<L>,
-    sweeper: &mut Seat<L>,
-) -> bool {
-    began(rt, alloc, shared, user)
-        && both_go(rt, shared, marker, user, 3, 5)
-        && both_go(rt, shared, sweeper, user, 13, 16)
+// Returns the turn of an act, or 0 if it has none.
+fn clears<L: Heap, R: Wait>(rt: &R, shared: &Shared<L>, seat: &mut Seat<L>) -> u64 {
+    match did(rt, shared, seat, Event::Clear { m: 0, r: 5 }) {
+        Some(receipt) => receipt.turn,
+        None => 0,
+    }
 }
 
 #[test]

@@ -35,6 +35,45 @@ pub struct Actor<L: Heap> {
     pub claims: Vec<(Action, Receipt)>,
 }
 
+/// Plays a scene on a new heap of 16 regions and 2 mutators, whose chronicle drops its oldest entries if the scene is of that.
+pub fn play_scene<R: Threads + Wait + Sync>(rt: &R, alloc: Global, scene: Scene) -> bool {
+    let Some(config) = Config::new(16, 2, 1024) else {
+        return false;
+    };
+    let roles = [
+        Role::User,
+        Role::Marker,
+        Role::Sweeper,
+        Role::Mutator(0),
+        Role::Mutator(1),
+    ];
+    let Ok(mut blank) = Blank::new(alloc, config, roles.as_slice()) else {
+        return false;
+    };
+    blank.set_rolls(matches!(scene, Scene::Rolling));
+    play_named(rt, alloc, blank, scene)
+}
+
+// Gives a heap its name, and plays a scene on it.
+fn play_named<R: Threads + Wait + Sync>(rt: &R, alloc: Global, blank: Blank, scene: Scene) -> bool {
+    open_and_play::<Brand, R>(rt, alloc, blank, scene)
+}
+
+// Opens a heap, and plays a scene on it.
+fn open_and_play<L: Heap + Send + Sync, R: Threads + Wait + Sync>(
+    rt: &R,
+    alloc: Global,
+    blank: Blank,
+    scene: Scene,
+) -> bool
+    requires { IsNamed L.config L.tables L.ledger L.rolls blank }
+{
+    let (shared, mut seats) = blank.open::<L>();
+    let mut actors = Vec::new(alloc);
+    let made = has_four(alloc, &mut seats, &mut actors);
+    made && play(rt, alloc, &shared, actors.as_mut_slice(), scene)
+}
+
 // Adds an actor for each of four seats, which claim nothing yet. Returns whether that was done.
 fn has_four<L: Heap>(alloc: Global, seats: &mut Seats<L>, actors: &mut Vec<Actor<L>>) -> bool {
     for _ in 0..4 {
@@ -72,43 +111,4 @@ fn play<L: Heap + Send + Sync, R: Threads + Wait + Sync>(
         Scene::Cuts => cuts(stage, user),
         Scene::Cycles => cycles(rt, alloc, shared, user, marker, sweeper),
     }
-}
-
-// Opens a heap, and plays a scene on it.
-fn open_and_play<L: Heap + Send + Sync, R: Threads + Wait + Sync>(
-    rt: &R,
-    alloc: Global,
-    blank: Blank,
-    scene: Scene,
-) -> bool
-    requires { IsNamed L.config L.tables L.ledger L.rolls blank }
-{
-    let (shared, mut seats) = blank.open::<L>();
-    let mut actors = Vec::new(alloc);
-    let made = has_four(alloc, &mut seats, &mut actors);
-    made && play(rt, alloc, &shared, actors.as_mut_slice(), scene)
-}
-
-// Gives a heap its name, and plays a scene on it.
-fn play_named<R: Threads + Wait + Sync>(rt: &R, alloc: Global, blank: Blank, scene: Scene) -> bool {
-    open_and_play::<Brand, R>(rt, alloc, blank, scene)
-}
-
-/// Plays a scene on a new heap of 16 regions and 2 mutators, whose chronicle drops its oldest entries if the scene is of that.
-pub fn play_scene<R: Threads + Wait + Sync>(rt: &R, alloc: Global, scene: Scene) -> bool {
-    let Some(config) = Config::new(16, 2, 1024) else {
-        return false;
-    };
-    let roles = [
-        Role::User,
-        Role::Marker,
-        Role::Sweeper,
-        Role::Mutator(0),
-        Role::Mutator(1),
-    ];
-    let Ok(mut blank) = Blank::new(alloc, config, roles.as_slice()) else {
-        return false;
-    };
-    blank.set_rolls(matches!(scene, Scene::Rolling));
-    play_named(rt, alloc, blank, scene)
 }

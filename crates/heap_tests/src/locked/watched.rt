@@ -29,6 +29,21 @@ impl DumpWatcher for Stopping<'_> {
     }
 }
 
+/// Makes 2,000 points, whose dump has 66,412 bytes, and dumps them in one call to a sink that is held until the watcher has
+/// cancelled the dump. Returns whether it is cut.
+pub fn cuts<L: Heap + Send + Sync, R: Threads + Wait + Sync>(
+    stage: &Stage<'_, L, R>,
+    user: &mut Seat<L>,
+) -> bool {
+    if !has_points(stage, user, 2000) {
+        return false;
+    }
+    match pumped_text(stage) {
+        Some(text) => is_cut(stage, text.as_slice()),
+        None => false,
+    }
+}
+
 // Returns whether a dump to a sink that is held from the first byte on was cancelled before its end, and what is out is a beginning.
 fn is_cut<L: Heap + Send + Sync, R: Threads + Wait + Sync>(
     stage: &Stage<'_, L, R>,
@@ -51,21 +66,6 @@ fn is_cut<L: Heap + Send + Sync, R: Threads + Wait + Sync>(
     let sink = outlet.into_writer();
     let bytes = sink.taken as u64;
     sink.is_text && bytes < 66_412 && end == Ok(Pumped::Cancelled { bytes })
-}
-
-/// Makes 2,000 points, whose dump has 66,412 bytes, and dumps them in one call to a sink that is held until the watcher has
-/// cancelled the dump. Returns whether it is cut.
-pub fn cuts<L: Heap + Send + Sync, R: Threads + Wait + Sync>(
-    stage: &Stage<'_, L, R>,
-    user: &mut Seat<L>,
-) -> bool {
-    if !has_points(stage, user, 2000) {
-        return false;
-    }
-    match pumped_text(stage) {
-        Some(text) => is_cut(stage, text.as_slice()),
-        None => false,
-    }
 }
 
 #[test]

@@ -2,12 +2,12 @@ use Rattle.std.proofs.Common.{◌≡◌, ◌+◌, length, sym, subst, arith, suc
 use Rattle.std.specs.Prelude.{slice_set}
 use Rattle.heap_trail.specs.OpenPins.{IsSizedPin, MayKeep}
 use Rattle.heap_trail.specs.declared.held.NumberedPin.{NumberedPin}
-use Rattle.heap_trail.proofs.EachPin.{KeptUpTo, sized_there, one_more, all_kept, none_touched}
+use Rattle.heap_trail.proofs.EachPin.{KeptUpTo, pin_to_keep_is_sized, pins_kept_one_further, pins_kept_to_the_end, untouching_record_leaves_pins}
 use Rattle.heap_trail.proofs.keep_each.Goals as goal
 
 pub keep-requires-clause-sized : goal.keep-requires-clause-sized
 keep-requires-clause-sized c = subst (λ (s : NumberedPin). IsSizedPin (length c.args.world.now.regions) s) c.index-pins-i.is
-    (sized_there c.args.left.now c.args.world.now (length c.args.world.now.regions) c.loop-i.i c.args.pins.now c.loop-i.pins c.index-pins-i.result c.requires.sized c.loop-i.invariant (omega (arith, c.loop-i-test.true, c.loop-i.auto.pins)) c.index-pins-i.is)
+    (pin_to_keep_is_sized c.args.left.now c.args.world.now (length c.args.world.now.regions) c.loop-i.i c.args.pins.now c.loop-i.pins c.index-pins-i.result c.requires.sized c.loop-i.invariant (omega (arith, c.loop-i-test.true, c.loop-i.auto.pins)) c.index-pins-i.is)
 
 pub keep-requires-clause-touched : goal.keep-requires-clause-touched
 keep-requires-clause-touched c = sym c.touched_region.ensures ∙ c.in-Some.is
@@ -16,11 +16,11 @@ pub loop-i-preserved : goal.loop-i-preserved
 loop-i-preserved c =
     let e : suc c.loop-i.i ≡ c.loop-i.i + 1 = omega arith in
     subst (λ n. KeptUpTo c.args.left.now c.args.world.now n c.args.pins.now (slice_set c.loop-i.pins c.loop-i.i c.keep.new.self)) e
-    (one_more c.args.left.now c.args.world.now c.loop-i.i c.args.pins.now c.loop-i.pins c.index-pins-i.result c.keep.new.self c.loop-i.invariant (omega (arith, c.loop-i-test.true, c.loop-i.auto.pins)) c.index-pins-i.is
+    (pins_kept_one_further c.args.left.now c.args.world.now c.loop-i.i c.args.pins.now c.loop-i.pins c.index-pins-i.result c.keep.new.self c.loop-i.invariant (omega (arith, c.loop-i-test.true, c.loop-i.auto.pins)) c.index-pins-i.is
     (subst (λ (s : NumberedPin). MayKeep c.args.left.now c.args.world.now s c.keep.new.self) (sym c.index-pins-i.is) c.keep.ensures))
 
 pub returns-after-loop-i : goal.returns-after-loop-i
-returns-after-loop-i c = all_kept c.args.left.now c.args.world.now c.loop-i.i c.args.pins.now c.loop-i.pins c.loop-i.invariant (omega (arith, c.loop-i-test.false, c.loop-i.auto.pins))
+returns-after-loop-i c = pins_kept_to_the_end c.args.left.now c.args.world.now c.loop-i.i c.args.pins.now c.loop-i.pins c.loop-i.invariant (omega (arith, c.loop-i-test.false, c.loop-i.auto.pins))
 
 pub returns-in-None : goal.returns-in-None
-returns-in-None c = none_touched c.args.left.now c.args.world.now c.args.pins.now (sym c.touched_region.ensures ∙ c.in-None.is)
+returns-in-None c = untouching_record_leaves_pins c.args.left.now c.args.world.now c.args.pins.now (sym c.touched_region.ensures ∙ c.in-None.is)

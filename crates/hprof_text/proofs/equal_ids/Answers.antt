@@ -1,5 +1,5 @@
-use Rattle.hprof_text.proofs.Ids.{equal_ids}
+use Rattle.hprof_text.proofs.Ids.{ids_are_equal_as_bytes}
 use Rattle.hprof_text.proofs.equal_ids.Goals as goal
 
 pub returns : goal.returns
-returns c = equal_ids
+returns c = ids_are_equal_as_bytes

@@ -1,5 +1,5 @@
-use Rattle.hprof_text.proofs.PieceCounts.{pieces_few}
+use Rattle.hprof_text.proofs.PieceCounts.{pieces_within_part_limit}
 use Rattle.hprof_text.proofs.pieces_few.Goals as goal
 
 pub returns : goal.returns
-returns c = pieces_few
+returns c = pieces_within_part_limit

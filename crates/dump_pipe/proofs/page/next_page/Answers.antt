@@ -1,5 +1,5 @@
 use Rattle.dump_pipe.specs.Pages.{parts_left}
-use Rattle.dump_pipe.proofs.PageFilling.{paged_so, lost_so, cancelled_so}
+use Rattle.dump_pipe.proofs.PageFilling.{drawn_part_begins_page, lost_part_gives_no_page, cancelled_part_gives_no_page}
 use Rattle.dump_pipe.proofs.page.next_page.Goals as goal
 
 pub page_from-requires-clause-small : goal.page_from-requires-clause-small
@@ -13,13 +13,13 @@ page_from-requires-clause-whole g c = (c.in-Part.ensures.drawn c.requires.0 c.re
 
 pub returns-in-Part-clause-page : goal.returns-in-Part-clause-page
 returns-in-Part-clause-page g c told ahead =
-    paged_so told (parts_left c.args.surplus.now (g.S.Source.seen c.args.source.now).left) (g.S.Source.seen c.draw.new.source) (g.S.Source.seen c.page_from.new.source) c.in-Part.first c.page_from.result c.page_from.new.surplus
+    drawn_part_begins_page told (parts_left c.args.surplus.now (g.S.Source.seen c.args.source.now).left) (g.S.Source.seen c.draw.new.source) (g.S.Source.seen c.page_from.new.source) c.in-Part.first c.page_from.result c.page_from.new.surplus
     (c.in-Part.ensures.drawn told ahead) c.page_from.ensures.page
 
 pub returns-in-Lost-clause-page : goal.returns-in-Lost-clause-page
 returns-in-Lost-clause-page g c told ahead =
-    lost_so told (parts_left c.args.surplus.now (g.S.Source.seen c.args.source.now).left) (g.S.Source.seen c.draw.new.source) c.in-Lost.cause c.draw.new.surplus c.in-Lost.ensures.empty (c.in-Lost.ensures.drawn told ahead)
+    lost_part_gives_no_page told (parts_left c.args.surplus.now (g.S.Source.seen c.args.source.now).left) (g.S.Source.seen c.draw.new.source) c.in-Lost.cause c.draw.new.surplus c.in-Lost.ensures.empty (c.in-Lost.ensures.drawn told ahead)
 
 pub returns-in-Cancelled-clause-page : goal.returns-in-Cancelled-clause-page
 returns-in-Cancelled-clause-page g c told ahead =
-    cancelled_so told (parts_left c.args.surplus.now (g.S.Source.seen c.args.source.now).left) (g.S.Source.seen c.draw.new.source) c.draw.new.surplus c.in-Cancelled.ensures.empty (c.in-Cancelled.ensures.drawn told ahead)
+    cancelled_part_gives_no_page told (parts_left c.args.surplus.now (g.S.Source.seen c.args.source.now).left) (g.S.Source.seen c.draw.new.source) c.draw.new.surplus c.in-Cancelled.ensures.empty (c.in-Cancelled.ensures.drawn told ahead)

@@ -1,7 +1,7 @@
 use Rattle.std.proofs.Common.{sym, subst}
 use Rattle.dump_pipe.specs.Streams.{IsStreamed}
 use Rattle.dump_pipe.specs.PagedSources.{paged_supply}
-use Rattle.dump_pipe.proofs.PageStreams.{streamed_by}
+use Rattle.dump_pipe.proofs.PageStreams.{pumped_pages_pump_their_parts}
 use Rattle.dump_pipe.proofs.page_streams.stream_by.Goals as goal
 
 pub returns-clause-streamed : goal.returns-clause-streamed
@@ -11,5 +11,5 @@ returns-clause-streamed g c =
     let w' = g.O.Outlet.seen c.stream_parts-pumped.new.outlet in
     let r = c.stream_parts-pumped.result in
     subst (λ s. IsStreamed (g.S.Source.seen c.args.source) (g.S.Source.seen s) w w' r) (sym c.into_source.ensures.source)
-    (streamed_by g.B.PartsBefore.told (g.S.Source.seen c.args.source) (g.S.Source.seen p.source) p.given p.ended p.surplus w w' r c.requires.start c.into_source.ensures.pages
+    (pumped_pages_pump_their_parts g.B.PartsBefore.told (g.S.Source.seen c.args.source) (g.S.Source.seen p.source) p.given p.ended p.surplus w w' r c.requires.start c.into_source.ensures.pages
     (subst (λ v. IsStreamed (paged_supply v.given v.ended v.surplus (g.S.Source.seen v.source).left) (paged_supply p.given p.ended p.surplus (g.S.Source.seen p.source).left) w w' r) c.new-pages.ensures c.stream_parts-pumped.ensures.streamed))

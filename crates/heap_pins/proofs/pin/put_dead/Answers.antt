@@ -1,18 +1,18 @@
 use Rattle.std.proofs.Common.{sym, ◌∙◌, refl}
 use Rattle.std.proofs.lemmas.List.{at_drop_all}
 use Rattle.heap_pins.specs.KeptCopies.{with_dead}
-use Rattle.heap_pins.proofs.AddedCopies.{puts_next}
+use Rattle.heap_pins.proofs.AddedCopies.{next_dead_is_put}
 use Rattle.heap_pins.proofs.pin.put_dead.Goals as goal
 
 pub put-requires-clause-within : goal.put-requires-clause-within
-put-requires-clause-within c = (puts_next c.args.dead.now c.loop-cell.cell-index c.loop-cell-item.result c.loop-cell.copy _ c.loop-cell-test.true c.loop-cell-item.is c.loop-cell.invariant.fit refl).within
+put-requires-clause-within c = (next_dead_is_put c.args.dead.now c.loop-cell.cell-index c.loop-cell-item.result c.loop-cell.copy _ c.loop-cell-test.true c.loop-cell-item.is c.loop-cell.invariant.fit refl).within
 
 pub put-requires-clause-fits : goal.put-requires-clause-fits
-put-requires-clause-fits c = (puts_next c.args.dead.now c.loop-cell.cell-index c.loop-cell-item.result c.loop-cell.copy _ c.loop-cell-test.true c.loop-cell-item.is c.loop-cell.invariant.fit refl).fits
+put-requires-clause-fits c = (next_dead_is_put c.args.dead.now c.loop-cell.cell-index c.loop-cell-item.result c.loop-cell.copy _ c.loop-cell-test.true c.loop-cell-item.is c.loop-cell.invariant.fit refl).fits
 
 pub loop-cell-preserved : goal.loop-cell-preserved
 loop-cell-preserved c =
-    let n = puts_next c.args.dead.now c.loop-cell.cell-index c.loop-cell-item.result c.loop-cell.copy c.put.new.self c.loop-cell-test.true c.loop-cell-item.is c.loop-cell.invariant.fit c.put.ensures in
+    let n = next_dead_is_put c.args.dead.now c.loop-cell.cell-index c.loop-cell-item.result c.loop-cell.copy c.put.new.self c.loop-cell-test.true c.loop-cell-item.is c.loop-cell.invariant.fit c.put.ensures in
     record { fit = n.fit; rest = n.rest ∙ c.loop-cell.invariant.rest }
 
 pub returns : goal.returns

@@ -1,6 +1,6 @@
 use Rattle.std.proofs.Common.{◌≡◌, ◌∙◌, ◌+◌, ◌*◌, ℕ, Bool, List, ap, arith, length, rules, subst, sym, take}
 use Rattle.std.proofs.lemmas.List.{length-replicate, length-set, take_all}
-use Rattle.hprof_text.proofs.Loops.{item_at}
+use Rattle.hprof_text.proofs.Loops.{indexed_item_is_default_free}
 use Rattle.heap_region.specs.Pool.{RegionPool}
 use Rattle.heap_region.specs.Regions.{Region}
 use Rattle.heap_questions.specs.Cells.{AreMarksOf}
@@ -33,7 +33,7 @@ loop-i-preserved c = elim c.match-find.branch [
       let within = mark_within s w.in-Some.at (length marks) w.cell_number.result c.count-count.ensures.whole w.in-Some.ensures.1 c.loop-i.invariant.many w.cell_number.ensures in
       record {
         many = ap (λ (m : List Bool). length m) set ∙ length-set marks w.cell_number.result _ ∙ c.loop-i.invariant.many;
-        marked = marked_one s ids i _ marks c.match-find.marks.items w.in-Some.at w.cell_number.result c.count-count.ensures.whole c.loop-i-test.true (item_at ids i 0 c.loop-i-test.true) w.in-Some.ensures.0 w.in-Some.ensures.1 w.cell_number.ensures within set c.loop-i.invariant.marked;
+        marked = marked_one s ids i _ marks c.match-find.marks.items w.in-Some.at w.cell_number.result c.count-count.ensures.whole c.loop-i-test.true (indexed_item_is_default_free ids i 0 c.loop-i-test.true) w.in-Some.ensures.0 w.in-Some.ensures.1 w.cell_number.ensures within set c.loop-i.invariant.marked;
       }
   | in_default w ↦
       let s = c.regions-regions.result.now in
@@ -43,7 +43,7 @@ loop-i-preserved c = elim c.match-find.branch [
       record {
         many = ap (λ (m : List Bool). length m) same ∙ c.loop-i.invariant.many;
         marked = subst (AreMarksOf s.regions (take (i + 1) ids)) (sym same)
-            (marked_none s ids i _ c.loop-i.marks.items c.count-count.ensures.whole c.loop-i-test.true (item_at ids i 0 c.loop-i-test.true) w.in_default.ensures c.loop-i.invariant.marked);
+            (marked_none s ids i _ c.loop-i.marks.items c.count-count.ensures.whole c.loop-i-test.true (indexed_item_is_default_free ids i 0 c.loop-i-test.true) w.in_default.ensures c.loop-i.invariant.marked);
       }
 ]
 

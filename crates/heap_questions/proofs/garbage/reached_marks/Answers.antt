@@ -1,6 +1,6 @@
 use Rattle.std.proofs.Common.{Bool, List, [], ◌∷◌, ◌++◌, map, take, ap, sym, ◌∙◌, arith}
 use Rattle.std.proofs.lemmas.List.{map_more, take_all}
-use Rattle.hprof_text.proofs.Loops.{some_item}
+use Rattle.hprof_text.proofs.Loops.{item_of_list_within}
 use Rattle.std.proofs.lemmas.Option.{get_or_from_slice_get}
 use Rattle.heap_questions.specs.declared.nodes.Node.{Node}
 use Rattle.heap_questions.specs.Garbage.{is_reached}
@@ -11,7 +11,7 @@ loop-node-preserved c =
     let nodes = c.args.nodes.now in
     let f : Node → Bool = λ n. is_reached nodes c.args.seen.now n.id in
     let i = c.loop-node.node in
-    let n = some_item nodes i (omega arith) in
+    let n = item_of_list_within nodes i (omega arith) in
     let x = c.id-id.ensures n.0 n.1 in
     c.in_ok-push.ensures.items
     ∙ ap (λ (bs : List Bool). bs ++ c.is_reached.result ∷ []) c.loop-node.invariant

@@ -2,7 +2,7 @@ use Rattle.std.proofs.Common.{◌≡◌, ◌∙◌, Bool, List, Some, ap, arith,
 use Rattle.std.specs.Prelude.{filter, not, slice_get}
 use Rattle.std.proofs.lemmas.List.{take_all}
 use Rattle.hprof_text.specs.Image.{DumpedObject}
-use Rattle.hprof_text.proofs.Loops.{some_item}
+use Rattle.hprof_text.proofs.Loops.{item_of_list_within}
 use Rattle.hprof_text.proofs.ViewedObjects.{is_there}
 use Rattle.heap_questions.specs.Garbage.{is_reached}
 use Rattle.heap_questions.specs.ObjectLists.{listed_object}
@@ -15,14 +15,14 @@ use Rattle.heap_questions.proofs.object_list.list_nodes.Goals as goal
 pub kind-kind-requires : goal.kind-kind-requires
 kind-kind-requires g c =
     let v = c.args.view.now in
-    let n = some_item c.args.nodes.now c.loop-node.node (omega arith) in
+    let n = item_of_list_within c.args.nodes.now c.loop-node.node (omega arith) in
     let led = node_place (g.V.View.image v) (g.V.View.places v) c.args.nodes.now c.loop-node.node n.0 c.requires n.1 ∙ ap Some (sym (c.place-at.ensures n.0 n.1)) in
     is_there (g.V.View.places v) c.loop-node.node c.place-at.result led
 
 pub words-words-requires : goal.words-words-requires
 words-words-requires g c =
     let v = c.args.view.now in
-    let n = some_item c.args.nodes.now c.loop-node.node (omega arith) in
+    let n = item_of_list_within c.args.nodes.now c.loop-node.node (omega arith) in
     let led = node_place (g.V.View.image v) (g.V.View.places v) c.args.nodes.now c.loop-node.node n.0 c.requires n.1 ∙ ap Some (sym (c.place-at.ensures n.0 n.1)) in
     is_there (g.V.View.places v) c.loop-node.node c.place-at.result led
 
@@ -35,8 +35,8 @@ loop-node-preserved g c =
     let seen = c.args.seen.now in
     let i = c.loop-node.node in
     let test : DumpedObject → Bool = λ o. not (is_reached nodes seen o.id) in
-    let n = some_item nodes i (omega arith) in
-    let o = some_item image.objects i (omega (arith, as_many image places nodes c.requires)) in
+    let n = item_of_list_within nodes i (omega arith) in
+    let o = item_of_list_within image.objects i (omega (arith, as_many image places nodes c.requires)) in
     let led : slice_get places i ≡ Some c.place-at.result = node_place image places nodes i n.0 c.requires n.1 ∙ ap Some (sym (c.place-at.ensures n.0 n.1)) in
     let id : c.id-id.result ≡ o.0.id = c.id-id.ensures n.0 n.1 ∙ node_id image places nodes i n.0 o.0 c.requires n.1 o.1 in
     let kind : c.kind-kind.result ≡ o.0.kind = said_of (λ (o : DumpedObject). c.kind-kind.result ≡ o.kind) (slice_get image.objects i) o.0 o.1 (c.kind-kind.ensures i led) in

@@ -1,7 +1,7 @@
 use Rattle.std.proofs.Common.{◌≡◌, take, false, length, replicate, sym, ap, ap₂, ◌+◌, ◌∙◌, subst, arith, rules}
 use Rattle.std.specs.Prelude.{slice_index_or}
 use Rattle.hprof_text.specs.Image.{IsKnown}
-use Rattle.hprof_text.proofs.ViewedObjects.{all_visited, fewer_left, is_there, within}
+use Rattle.hprof_text.proofs.ViewedObjects.{all_objects_were_visited, fewer_places_left_after_next, is_there, number_after_place_within}
 use Rattle.heap_questions.specs.Histogram.{AreRows, class_rows, counted_unless, no_objects, object_bytes, row_number, without_marked, value_size}
 use Rattle.heap_questions.proofs.Counting.{rows_begin, rows_more, rows_end, room_among}
 use Rattle.heap_questions.proofs.NamedObjects.{viewed}
@@ -40,7 +40,7 @@ row_number-index-requires g c =
     subst (λ cs. IsKnown cs c.kind-kind.result (length c.words.result.now)) (sym c.classes-classes.ensures.value) h.known
 
 pub loop-here-smaller : goal.loop-here-smaller
-loop-here-smaller g c = fewer_left (g.V.View.places c.args.view.now) c.loop-here.passed _ c.in-Some.at c.loop-here.invariant.here c.in-Some.is
+loop-here-smaller g c = fewer_places_left_after_next (g.V.View.places c.args.view.now) c.loop-here.passed _ c.in-Some.at c.loop-here.invariant.here c.in-Some.is
 
 pub loop-here-preserved : goal.loop-here-preserved
 loop-here-preserved g c =
@@ -66,7 +66,7 @@ loop-here-preserved g c =
     record {
       here = c.next-here.ensures i e;
       rows = subst (AreRows ids image.classes (without_marked c.args.marks.now (take (i + 1) image.objects))) (sym same) m;
-      passed = within (g.V.View.places v) i at e;
+      passed = number_after_place_within (g.V.View.places v) i at e;
     }
 
 pub count-requires-clause-within : goal.count-requires-clause-within
@@ -87,5 +87,5 @@ count-requires-clause-bytes g c =
 pub returns-clause-rows : goal.returns-clause-rows
 returns-clause-rows g c =
     let v = c.args.view.now in
-    let e = all_visited (g.V.View.image v) (g.V.View.places v) c.loop-here.passed _ c.loop-here.invariant.here c.in_default.is c.loop-here.invariant.passed c.classes-classes.ensures.placed in
+    let e = all_objects_were_visited (g.V.View.image v) (g.V.View.places v) c.loop-here.passed _ c.loop-here.invariant.here c.in_default.is c.loop-here.invariant.passed c.classes-classes.ensures.placed in
     rows_end (g.V.View.ids v) (g.V.View.image v).classes c.args.marks.now (g.V.View.image v).objects c.loop-here.passed c.loop-here.rows.items c.loop-here.invariant.rows e

@@ -1,6 +1,6 @@
 use Rattle.std.proofs.Common.{◌∙◌, [], ap}
 use Rattle.heap_lock.specs.LockStates.{SeatModel}
-use Rattle.heap_server.proofs.HeldSteps.{gains_none, heap_cycle}
+use Rattle.heap_server.proofs.HeldSteps.{lock_gains_no_entries, heap_cycle}
 use Rattle.heap_server.proofs.held_heap.cycle_from.Goals as goal
 
 pub run_cycle-cycle-requires : goal.run_cycle-cycle-requires
@@ -17,7 +17,7 @@ returns-clause-runs g c =
     let t = c.run_cycle-cycle.new.by in
     let runs = c.run_cycle-cycle.ensures.runs in
     heap_cycle g.L.Heap.config c.args.witness.now c.show-2.new.witness c.run_cycle-cycle.result runs.0 k k1 k2 l c.agree-2.new.self c.args.seat.now s1 t c.agree-2.new.seat
-    c.agree.ensures.share c.agree.ensures.same c.agree.ensures.seat c.show.ensures.heap c.show.ensures.begins c.show.ensures.same runs.1 (runs.2 (record h { kept = record h.kept { now = k2 } }) s1 [] (gains_none k2 s1))
+    c.agree.ensures.share c.agree.ensures.same c.agree.ensures.seat c.show.ensures.heap c.show.ensures.begins c.show.ensures.same runs.1 (runs.2 (record h { kept = record h.kept { now = k2 } }) s1 [] (lock_gains_no_entries k2 s1))
     c.agree-2.ensures.share c.agree-2.ensures.same c.agree-2.ensures.seat c.show-2.ensures.heap c.show-2.ensures.witness
 
 pub returns-clause-role : goal.returns-clause-role

@@ -2,9 +2,9 @@ use Rattle.std.proofs.Common.{ap}
 use Rattle.heap_step.specs.declared.Answer.{Answer}
 use Rattle.heap_step.specs.Apply.{refusal_of, state_after, answer_of}
 use Rattle.heap_step.specs.Records.{undo_record}
-use Rattle.heap_step.proofs.AppliedResults.{done_is, mark_record_is}
+use Rattle.heap_step.proofs.AppliedResults.{answered_event_is_applied, mark_record_is}
 use Rattle.heap_step.proofs.events.mark.Goals as goal
 
 pub returns : goal.returns
 unfolding refusal_of state_after answer_of undo_record
-returns c = let h = c.in_ok-marked.ensures in done_is _ _ _ _ _ h.answered h.marked (ap Answer.Pushed h.pushed) (mark_record_is c.args.world.now _ c.in_ok-marked.marked.parent c.in_ok-marked.marked.pushed h.marked h.parent h.pushed)
+returns c = let h = c.in_ok-marked.ensures in answered_event_is_applied _ _ _ _ _ h.answered h.marked (ap Answer.Pushed h.pushed) (mark_record_is c.args.world.now _ c.in_ok-marked.marked.parent c.in_ok-marked.marked.pushed h.marked h.parent h.pushed)

@@ -1,9 +1,9 @@
 use Rattle.std.proofs.Common.{refl}
 use Rattle.heap_step.specs.Apply.{refusal_of, state_after, answer_of}
 use Rattle.heap_step.specs.Records.{undo_record}
-use Rattle.heap_step.proofs.AppliedResults.{done_is}
+use Rattle.heap_step.proofs.AppliedResults.{answered_event_is_applied}
 use Rattle.heap_step.proofs.events.put.Goals as goal
 
 pub returns : goal.returns
 unfolding refusal_of state_after answer_of undo_record
-returns c = let h = c.in_ok-overwritten.ensures in done_is _ _ _ _ _ h.answered h.written refl (cc (h.slot.placed, h.slot.held))
+returns c = let h = c.in_ok-overwritten.ensures in answered_event_is_applied _ _ _ _ _ h.answered h.written refl (cc (h.slot.placed, h.slot.held))

@@ -2,7 +2,7 @@ use Rattle.std.proofs.Common.{ap, subst}
 use Rattle.heap_trail.specs.Machine.{Machine}
 use Rattle.heap_trail.specs.Pins.{AreDumpable, AreNumbered}
 use Rattle.heap_trail.specs.OpenPins.{pins_of}
-use Rattle.heap_trail.proofs.PinNumbers.{numbered, dumpable}
+use Rattle.heap_trail.proofs.PinNumbers.{numbered, pins_of_machine_are_dumpable}
 use Rattle.heap_trail.proofs.Machine.next_pin.Goals as goal
 
 pub returns-clause-value : goal.returns-clause-value
@@ -17,4 +17,4 @@ returns-clause-numbered c =
 pub returns-clause-dumpable : goal.returns-clause-dumpable
 returns-clause-dumpable c =
     let i = c.self.inside in
-    subst (λ (m : Machine). AreDumpable m.pins) c.self.view_is (dumpable i.ids i.world i.records i.place i.next i.pins.items c.self.invariant.1)
+    subst (λ (m : Machine). AreDumpable m.pins) c.self.view_is (pins_of_machine_are_dumpable i.ids i.world i.records i.place i.next i.pins.items c.self.invariant.1)

@@ -6,7 +6,7 @@ use Rattle.heap_trail.specs.Records.{machine_of}
 use Rattle.heap_trail.specs.Trail.{retained}
 use Rattle.heap_trail.specs.Views.{ShowsAgo}
 use Rattle.heap_trail.proofs.RecordedPast.{length-past_of}
-use Rattle.heap_trail.proofs.ShownPins.{shows_ago}
+use Rattle.heap_trail.proofs.ShownPins.{pin_of_past_shows_ago}
 use Rattle.heap_trail.proofs.Machine.pin_ago.Goals as goal
 
 pub past_pin-requires-clause-retained : goal.past_pin-requires-clause-retained
@@ -20,4 +20,4 @@ returns-clause-shown c =
     let i = c.self.inside in
     subst (λ (m : Machine). IfOk c.past_pin.result (λ p. ShowsAgo m.trail c.args.n p)) c.self.view_is
     (IfOk-weaker c.past_pin.result (λ p. HoldsPast p i.world i.records.items c.args.n) (λ p. ShowsAgo (machine_of i.ids i.world i.records i.place i.keep i.next i.pins.items).trail c.args.n p)
-    (λ p h. shows_ago i.ids i.world i.records i.place i.keep i.next i.pins.items c.args.n p h) c.past_pin.ensures.held)
+    (λ p h. pin_of_past_shows_ago i.ids i.world i.records i.place i.keep i.next i.pins.items c.args.n p h) c.past_pin.ensures.held)

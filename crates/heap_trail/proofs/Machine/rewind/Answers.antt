@@ -5,13 +5,13 @@ use Rattle.heap_trail.specs.Trail.{retained, rewound}
 use Rattle.heap_trail.specs.Pins.{after_rewind}
 use Rattle.heap_trail.specs.Machine.{Machine}
 use Rattle.heap_trail.specs.OpenPins.{AreAllBelow}
-use Rattle.heap_trail.proofs.LostPins.{below_after, higher}
-use Rattle.heap_trail.proofs.RewoundMachines.{rewound_none, rewound_more, rewound_place, some_left, rewind_done, rewind_too_far}
+use Rattle.heap_trail.proofs.LostPins.{pins_after_rewind_are_below, pins_below_a_higher_place}
+use Rattle.heap_trail.proofs.RewoundMachines.{rewound_none, rewound_more, rewound_place, rewound_trail_retains_more, rewind_done, machine_refuses_far_rewind}
 use Rattle.heap_trail.proofs.Machine.rewind.Goals as goal
 
 pub returns-then-n-retained-clause-refused : goal.returns-then-n-retained-clause-refused
 returns-then-n-retained-clause-refused c =
-    rewind_too_far c.args.self.now c.args.n (subst (λ k. k < c.args.n) c.retained_count-retained.ensures c.if-n-retained.true)
+    machine_refuses_far_rewind c.args.self.now c.args.n (subst (λ k. k < c.args.n) c.retained_count-retained.ensures c.if-n-retained.true)
     ∙ ap (λ k. (c.args.self.now, Refused (TooFar c.args.n k))) (sym c.retained_count-retained.ensures)
 
 pub loop-done-init : goal.loop-done-init
@@ -22,7 +22,7 @@ undo_last-requires-clause-some c =
     let s = c.args.self.now in
     let left : c.loop-done._done < retained s.trail = omega (arith, c.loop-done-test.true, c.if-n-retained.false, c.retained_count-retained.ensures) in
     let e = c.loop-done.invariant ∙ ap (λ (m : Machine). record m { trail = rewound c.loop-done._done m.trail }) c.lose.ensures in
-    subst (λ (m : Machine). 0 < retained m.trail) (sym e) (some_left c.loop-done._done s.trail left)
+    subst (λ (m : Machine). 0 < retained m.trail) (sym e) (rewound_trail_retains_more c.loop-done._done s.trail left)
 
 pub undo_last-requires-clause-below : goal.undo_last-requires-clause-below
 undo_last-requires-clause-below c =
@@ -31,7 +31,7 @@ undo_last-requires-clause-below c =
     let up : c.place.result - c.args.n + 1 ≤ (rewound c.loop-done._done s.trail).place
     = omega (arith, rewound_place c.loop-done._done s.trail, c.place.ensures.value, c.place.ensures.trail.placed, c.retained_count-retained.ensures, c.if-n-retained.false, c.loop-done-test.true) in
     subst (λ (m : Machine). AreAllBelow m.trail.place m.pins) (sym e)
-    (higher (c.place.result - c.args.n + 1) (rewound c.loop-done._done s.trail).place (after_rewind (c.place.result - c.args.n) s.pins) up (below_after (c.place.result - c.args.n) s.pins))
+    (pins_below_a_higher_place (c.place.result - c.args.n + 1) (rewound c.loop-done._done s.trail).place (after_rewind (c.place.result - c.args.n) s.pins) up (pins_after_rewind_are_below (c.place.result - c.args.n) s.pins))
 
 pub loop-done-preserved : goal.loop-done-preserved
 loop-done-preserved c =

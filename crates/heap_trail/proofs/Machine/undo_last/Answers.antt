@@ -6,12 +6,12 @@ use Rattle.heap_trail.specs.Trail.{rewound}
 use Rattle.heap_trail.specs.Machine.{Machine}
 use Rattle.heap_trail.specs.OpenPins.{AreAllBelow}
 use Rattle.heap_trail.specs.Records.{IsWholeMachine, machine_of}
-use Rattle.heap_trail.proofs.RewoundMachines.{popped, was_step, kept_after_undo, limits_before}
+use Rattle.heap_trail.proofs.RewoundMachines.{popped, recorded_step_was_made, kept_after_undo, limits_before}
 use Rattle.heap_trail.proofs.PinnedRewinds.{undone_pinned}
 use Rattle.heap_trail.proofs.Machine.undo_last.Goals as goal
 
 pub undo-requires : goal.undo-requires
-undo-requires c = was_step c.self.inside.world c.self.inside.records.items c.in-Some.left c.self.invariant.0.recorded (sym c.in-Some.ensures.value)
+undo-requires c = recorded_step_was_made c.self.inside.world c.self.inside.records.items c.in-Some.left c.self.invariant.0.recorded (sym c.in-Some.ensures.value)
 
 pub invariant_of-self : goal.invariant_of-self
 invariant_of-self c =

@@ -14,7 +14,7 @@ pub returns-clause-keep_one : goal.returns-clause-keep_one
 returns-clause-keep_one c = example.keep_one
 
 pub returns-clause-rewind_too_far : goal.returns-clause-rewind_too_far
-returns-clause-rewind_too_far c = example.rewind_too_far
+returns-clause-rewind_too_far c = example.computed_rewind_is_too_far
 
 pub returns-clause-refusals_of_mutators : goal.returns-clause-refusals_of_mutators
 returns-clause-refusals_of_mutators c = example.refusals_of_mutators

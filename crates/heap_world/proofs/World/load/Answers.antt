@@ -1,7 +1,7 @@
 use Rattle.std.proofs.Common.{inl, inr, sym, ◌∙◌}
 use Rattle.std.proofs.lemmas.Result.{err_from_is_err_and}
 use Rattle.heap_world.specs.Events.{load_refusal}
-use Rattle.heap_world.proofs.FirstRefusals.{here}
+use Rattle.heap_world.proofs.FirstRefusals.{refusal_of_test_that_holds}
 use Rattle.heap_world.proofs.RegisterEvents.{load_no_slot, load_accepted, loaded_legal, load_reference, load_value}
 use Rattle.heap_world.proofs.NamedSlots.{one_missing, reference_by, word_by}
 use Rattle.heap_world.proofs.Slot.{slot_by}
@@ -10,7 +10,7 @@ use Rattle.heap_world.proofs.World.load.Goals as goal
 
 pub returns-then-not-has_register-clause-answered : goal.returns-then-not-has_register-clause-answered
 unfolding load_refusal
-returns-then-not-has_register-clause-answered c = inl (here _ _ _ (one_missing _ _ (elim c.then-not-has_register.branch [
+returns-then-not-has_register-clause-answered c = inl (refusal_of_test_that_holds _ _ _ (one_missing _ _ (elim c.then-not-has_register.branch [
   | then-not-has_register-via-then-not-has_register w ↦ inl (sym w.if-not-has_register.ensures)
   | then-not-has_register-via-else-not-has_register+then-not-has_register-2 w ↦ inr (sym w.if-not-has_register-2.ensures)
 ])))

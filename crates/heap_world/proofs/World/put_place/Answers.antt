@@ -1,6 +1,6 @@
 use Rattle.std.proofs.Common.{sym}
 use Rattle.std.proofs.lemmas.Result.{err_from_is_err_and}
-use Rattle.heap_world.proofs.WriteEvents.{put_no_register, put_unnamed, put_reference, put_range, put_accepted}
+use Rattle.heap_world.proofs.WriteEvents.{put_no_register, put_unnamed, put_reference, put_range, put_of_value_accepted}
 use Rattle.heap_world.proofs.World.put_place.Goals as goal
 
 pub returns-then-not-has_register-clause-refused : goal.returns-then-not-has_register-clause-refused
@@ -21,4 +21,4 @@ returns-then-not-holds-clause-refused c = let slot = rw c.register.ensures at c.
 
 pub returns-clause-accepted : goal.returns-clause-accepted
 returns-clause-accepted c = let slot = rw c.register.ensures at c.in_ok-at.ensures.slot in
-    put_accepted _ _ _ _ _ c.in_ok-at.kind (sym c.if-not-has_register.ensures) slot.0 slot.1 (sym c.if-is_reference.ensures) (sym c.if-not-holds.ensures)
+    put_of_value_accepted _ _ _ _ _ c.in_ok-at.kind (sym c.if-not-has_register.ensures) slot.0 slot.1 (sym c.if-is_reference.ensures) (sym c.if-not-holds.ensures)

@@ -2,14 +2,14 @@ use Rattle.std.proofs.Common.{inl, inr, sym}
 use Rattle.std.proofs.lemmas.Result.{err_from_is_err_and}
 use Rattle.heap_world.specs.Events.{store_refusal}
 use Rattle.heap_world.proofs.NamedSlots.{one_missing}
-use Rattle.heap_world.proofs.FirstRefusals.{here}
+use Rattle.heap_world.proofs.FirstRefusals.{refusal_of_test_that_holds}
 use Rattle.heap_world.proofs.WriteEvents.{store_no_slot, store_value, store_accepted}
 use Rattle.heap_world.proofs.World.store_place.Goals.{then-not-has_register-via-then-not-has_register, then-not-has_register-via-else-not-has_register+then-not-has_register-2}
 use Rattle.heap_world.proofs.World.store_place.Goals as goal
 
 pub returns-then-not-has_register-clause-refused : goal.returns-then-not-has_register-clause-refused
 unfolding store_refusal
-returns-then-not-has_register-clause-refused c = here _ _ _ (one_missing _ _ (elim c.then-not-has_register.branch [
+returns-then-not-has_register-clause-refused c = refusal_of_test_that_holds _ _ _ (one_missing _ _ (elim c.then-not-has_register.branch [
   | then-not-has_register-via-then-not-has_register w ↦ inl (sym w.if-not-has_register.ensures)
   | then-not-has_register-via-else-not-has_register+then-not-has_register-2 w ↦ inr (sym w.if-not-has_register-2.ensures)
 ]))

@@ -1,7 +1,7 @@
 use Rattle.std.proofs.Common.{◌≡◌, None}
 use Rattle.clap.specs.Words.{found_of, rows_of}
 use Rattle.heapdbg_options.specs.CommandLine.{keep_in}
-use Rattle.heapdbg_options.proofs.GivenOptions.{of_unkept}
+use Rattle.heapdbg_options.proofs.GivenOptions.{keep_mistake_is_in_rows}
 use Rattle.heapdbg_options.proofs.command_line.settings_over.Goals as goal
 
 pub returns-in_default-option_size : goal.returns-in_default-option_size
@@ -12,5 +12,5 @@ returns-in_default-option_size c =
     let most = c.most_kept.ensures in
     let missing = c.in_default-option_size.ensures in
     let none : keep_in c.args.task c.args.wide rows ≡ None = cc in
-    let unkept = of_unkept c.args.task c.args.wide rows c.requires none in
+    let unkept = keep_mistake_is_in_rows c.args.task c.args.wide rows c.requires none in
     (tt, (unkept.0, rw c.keep_mistake.ensures unkept.1))

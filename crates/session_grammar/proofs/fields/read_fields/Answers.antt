@@ -1,5 +1,5 @@
 use Rattle.std.proofs.Common.{◌≡◌, ◌∙◌, ◌+◌, ◌-◌, ap, sym, arith, length, take, drop, Some}
-use Rattle.session_grammar.proofs.FieldSpans.{rest_of_rest, one_longer, within_more, fields_more}
+use Rattle.session_grammar.proofs.FieldSpans.{rest_of_rest, spans_longer_by_one, spans_within_with_one_more, field_spans_one_further}
 use Rattle.session_grammar.proofs.fields.read_fields.Goals as goal
 
 pub loop-rest-preserved : goal.loop-rest-preserved
@@ -17,7 +17,7 @@ loop-rest-preserved c =
     let start : drop (length c.rest-size.result.now - length t) text ≡ t = (λ k. drop (whole k - size k) text) ∙ sym here.1 ∙ sym same in
     let f = c.in-Some-field_at.field in (
       rest_of_rest text rest c.pass.new.self here c.pass.ensures.rest,
-      omega (arith, one_longer c.loop-rest.marks c.push.new.self _ c.push.ensures, i.1, c.pass.ensures.shorter, long, c.front.ensures.rest.0),
-      within_more text c.loop-rest.marks c.push.new.self _ c.push.ensures (omega (arith, long, within, size, here.0, whole)) i.2,
-      i.3 ∙ fields_more text t c.pass.new.self _ c.loop-rest.marks c.push.new.self _ f.whole (ap (λ l. Some (record { name = take f.name l; kind = f.kind }, f.whole)) start ∙ c.in-Some-field_at.ensures.value) (c.pass.ensures.next ∙ ap (λ l. drop (f.whole + 1) l) (sym same)) c.push.ensures c.in-Some.ensures.front.1,
+      omega (arith, spans_longer_by_one c.loop-rest.marks c.push.new.self _ c.push.ensures, i.1, c.pass.ensures.shorter, long, c.front.ensures.rest.0),
+      spans_within_with_one_more text c.loop-rest.marks c.push.new.self _ c.push.ensures (omega (arith, long, within, size, here.0, whole)) i.2,
+      i.3 ∙ field_spans_one_further text t c.pass.new.self _ c.loop-rest.marks c.push.new.self _ f.whole (ap (λ l. Some (record { name = take f.name l; kind = f.kind }, f.whole)) start ∙ c.in-Some-field_at.ensures.value) (c.pass.ensures.next ∙ ap (λ l. drop (f.whole + 1) l) (sym same)) c.push.ensures c.in-Some.ensures.front.1,
     )

@@ -1,5 +1,5 @@
 use Rattle.std.proofs.Common.{◌+◌, ◌-◌, ◌<◌, ◌≤◌, arith, get_or, length}
-use Rattle.session_grammar.proofs.Numbers.{sure_more, times_ten}
+use Rattle.session_grammar.proofs.Numbers.{digit_more_stays_below_limit, short_value_times_ten_fits}
 use Rattle.session_grammar.proofs.NumberDigits.{read_in_sure, read_in_last}
 use Rattle.session_grammar.proofs.number.digits_in.Goals as goal
 
@@ -7,7 +7,7 @@ pub loop-size-init : goal.loop-size-init
 loop-size-init c = (c.eights_in-value.ensures.read, grind (arith, c.eights_in-value.ensures.read.0, c.eights_in-value.ensures.most, c.min-sure.ensures), c.eights_in-value.ensures.small)
 
 pub overflow_mul-value : goal.overflow_mul-value
-overflow_mul-value c = omega (arith, times_ten c.loop-size.size c.loop-size.value (grind (arith, c.loop-size-test.true, c.min-sure.ensures)) c.loop-size.invariant.2)
+overflow_mul-value c = omega (arith, short_value_times_ten_fits c.loop-size.size c.loop-size.value (grind (arith, c.loop-size-test.true, c.min-sure.ensures)) c.loop-size.invariant.2)
 
 pub returns-in-Some : goal.returns-in-Some
 returns-in-Some c =
@@ -21,7 +21,7 @@ overflow_add-value c =
     let i = c.loop-size.invariant in
     let few : c.loop-size.size < 19 = grind (arith, c.loop-size-test.true, c.min-sure.ensures) in
     let high : c.from-b.result ≤ 57 = omega (arith, c.if-b-gt57.false) in
-    let sure = sure_more c.loop-size.size c.loop-size.value (c.from-b.result - 48) few i.2 (omega (arith, high)) in
+    let sure = digit_more_stays_below_limit c.loop-size.size c.loop-size.value (c.from-b.result - 48) few i.2 (omega (arith, high)) in
     omega (arith, sure.0)
 
 pub loop-size-preserved : goal.loop-size-preserved

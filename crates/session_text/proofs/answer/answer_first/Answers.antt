@@ -6,7 +6,7 @@ use Rattle.session_text.specs.Answers.{AnswersCommand, Begins}
 use Rattle.session_text.specs.Limits.{longest_line}
 use Rattle.session_text.specs.Talks.{IsLong, IsQuit}
 use Rattle.session_text.proofs.QuickLines.{flow_read}
-use Rattle.session_text.proofs.AnsweredLines.{line_answered, line_quits, line_cut, long_line, long_rest}
+use Rattle.session_text.proofs.AnsweredLines.{line_answered, line_quits, line_cut, line_at_over_longest_is_long, unended_rest_over_longest_is_long}
 use Rattle.session_text.proofs.answer.answer_first.Goals as goal
 
 pub returns-then-as_slice-most : goal.returns-then-as_slice-most
@@ -14,14 +14,14 @@ returns-then-as_slice-most g c =
     let same = c.line_end.ensures.same in
     let limits = c.args.context.limits in
     let more : longest_line limits < length c.args.session.now.buffer = omega (arith, c.if-as_slice-most.true, c.longest_line-most.ensures.value, ap (λ l. length l) c.as_slice.ensures, ap (λ l. length l) same) in
-    let long = long_rest limits c.args.session.now.buffer more c.in_default.ensures.found in
+    let long = unended_rest_over_longest_is_long limits c.args.session.now.buffer more c.in_default.ensures.found in
     (same, subst (λ l. IsLong limits l) (sym same) long, refl, refl, refl)
 
 pub returns-then-n-most : goal.returns-then-n-most
 returns-then-n-most g c =
     let same = c.line_end.ensures.same in
     let limits = c.args.context.limits in
-    let long = long_line limits c.args.session.now.buffer c.in-Some.n (omega (arith, c.if-n-most.true, c.longest_line-most.ensures.value)) c.in-Some.ensures.found in
+    let long = line_at_over_longest_is_long limits c.args.session.now.buffer c.in-Some.n (omega (arith, c.if-n-most.true, c.longest_line-most.ensures.value)) c.in-Some.ensures.found in
     (same, subst (λ l. IsLong limits l) (sym same) long, refl, refl, refl)
 
 pub returns : goal.returns

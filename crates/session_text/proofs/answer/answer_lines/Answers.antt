@@ -3,8 +3,8 @@ use Rattle.session_text.specs.declared.answer.Flow.{Flow}
 use Rattle.session_text.specs.declared.answer.Flow.TheVariants.{Next, Quit, Long, Fault}
 use Rattle.session_text.specs.Answers.{AnswersCommand, Begins}
 use Rattle.session_text.specs.Talks.{IsFirst, stream}
-use Rattle.session_text.proofs.AnsweredLines.{IsSoFarThen, talk_none, so_far_more, so_far_then, so_far_cut}
-use Rattle.session_text.proofs.PageTexts.{added_here}
+use Rattle.session_text.proofs.AnsweredLines.{IsSoFarThen, no_lines_make_a_talk, answered_so_far_with_more, so_far_then, so_far_cut}
+use Rattle.session_text.proofs.PageTexts.{text_added_to_page_alone}
 use Rattle.session_text.proofs.answer.answer_lines.Given.{Over}
 use Rattle.session_text.proofs.answer.answer_lines.Goals.{After-answer_first}
 use Rattle.session_text.proofs.answer.answer_lines.Goals as goal
@@ -19,13 +19,13 @@ came g c flow is =
     let w1 = g.O.Outlet.seen c.loop-context.writer in
     let w2 = g.O.Outlet.seen m.new.writer in
     let w3 = g.O.Outlet.seen c.answer_first.new.writer in
-    let k = so_far_more c.args.context.limits says c.args.session.now.buffer c.args.commands.now w0 c.loop-context.session.buffer c.loop-context.commands c.loop-context.session.page w1 m.new.session.buffer m.new.commands m.new.session.page w2 c.loop-context.invariant (m.ensures.answered c.if-not-answer_mutators.false c.args.context.limits c.args.context.time) in
+    let k = answered_so_far_with_more c.args.context.limits says c.args.session.now.buffer c.args.commands.now w0 c.loop-context.session.buffer c.loop-context.commands c.loop-context.session.page w1 m.new.session.buffer m.new.commands m.new.session.page w2 c.loop-context.invariant (m.ensures.answered c.if-not-answer_mutators.false c.args.context.limits c.args.context.time) in
     let h = subst (λ (o : Option Flow). IsFirst c.args.context.limits says begins m.new.session.buffer m.new.commands m.new.session.page w2 c.answer_first.new.session.buffer c.answer_first.new.commands c.answer_first.new.session.page w3 o) is c.answer_first.ensures in
     so_far_then c.args.context.limits says begins c.args.session.now.buffer c.args.commands.now w0 m.new.session.buffer m.new.commands m.new.session.page w2 c.answer_first.new.session.buffer c.answer_first.new.commands c.answer_first.new.session.page w3 flow k h
 
 pub loop-context-init : goal.loop-context-init
 loop-context-init g c =
-    ([], talk_none c.args.context.limits (AnswersCommand g.C.Commands.acts g.C.Commands.unknown c.args.context.time) c.args.session.now.buffer c.args.commands.now, added_here [] [] (g.O.Outlet.seen c.args.writer.now) c.args.session.now.page c.requires)
+    ([], no_lines_make_a_talk c.args.context.limits (AnswersCommand g.C.Commands.acts g.C.Commands.unknown c.args.context.time) c.args.session.now.buffer c.args.commands.now, text_added_to_page_alone [] [] (g.O.Outlet.seen c.args.writer.now) c.args.session.now.page c.requires)
 
 pub returns-then-not-answer_mutators : goal.returns-then-not-answer_mutators
 returns-then-not-answer_mutators g c =

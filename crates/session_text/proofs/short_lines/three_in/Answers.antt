@@ -1,15 +1,15 @@
 use Rattle.std.proofs.Common.{◌<◌, length, arith}
-use Rattle.session_text.proofs.QuickLines.{three_line, three_words}
+use Rattle.session_text.proofs.QuickLines.{three_number_line_is_short, three_numbers_of_line_words}
 use Rattle.session_text.proofs.short_lines.three_in.Goals as goal
 
 pub returns-clause-line : goal.returns-clause-line
 returns-clause-line c =
     let lt : c.three_then-a.result.3 < length c.args.text.now = omega (arith, c.three_then-a.ensures.within, c.if-end-text.false) in
     let h = c.three_then-a.ensures.numbers in
-    three_line c.args.text.now c.args.at c.three_then-a.result.0 h.0 c.three_then-a.result.1 h.1 c.three_then-a.result.2 c.three_then-a.result.3 c.requires.0 c.requires.2 h.2 h.3 h.4 lt
+    three_number_line_is_short c.args.text.now c.args.at c.three_then-a.result.0 h.0 c.three_then-a.result.1 h.1 c.three_then-a.result.2 c.three_then-a.result.3 c.requires.0 c.requires.2 h.2 h.3 h.4 lt
 
 pub returns-clause-numbers : goal.returns-clause-numbers
 returns-clause-numbers c =
     let lt : c.three_then-a.result.3 < length c.args.text.now = omega (arith, c.three_then-a.ensures.within, c.if-end-text.false) in
     let h = c.three_then-a.ensures.numbers in
-    three_words c.args.text.now c.args.at c.three_then-a.result.0 h.0 c.three_then-a.result.1 h.1 c.three_then-a.result.2 c.three_then-a.result.3 h.2 h.3 h.4 lt
+    three_numbers_of_line_words c.args.text.now c.args.at c.three_then-a.result.0 h.0 c.three_then-a.result.1 h.1 c.three_then-a.result.2 c.three_then-a.result.3 h.2 h.3 h.4 lt

@@ -1,5 +1,5 @@
 use Rattle.std.proofs.Common.{◌+◌, arith}
-use Rattle.session_text.proofs.QuickDigits.{number_there}
+use Rattle.session_text.proofs.QuickDigits.{digit_number_in_whole_text}
 use Rattle.session_text.proofs.short_lines.three_then.Goals as goal
 
 pub returns-in-Some-clause-numbers : goal.returns-in-Some-clause-numbers
@@ -9,9 +9,9 @@ returns-in-Some-clause-numbers c =
     let h = c.in-Some.ensures in (
       at + 1,
       at + 3,
-      number_there t at 0 at 32 (at + 1) _ (omega arith) (omega arith) c.requires h.0,
-      number_there t at 2 (at + 1 + 1) 32 (at + 3) _ (omega arith) (omega arith) c.requires h.1,
-      number_there t at 4 (at + 3 + 1) c.args.ender (at + 5) _ (omega arith) (omega arith) c.requires h.2,
+      digit_number_in_whole_text t at 0 at 32 (at + 1) _ (omega arith) (omega arith) c.requires h.0,
+      digit_number_in_whole_text t at 2 (at + 1 + 1) 32 (at + 3) _ (omega arith) (omega arith) c.requires h.1,
+      digit_number_in_whole_text t at 4 (at + 3 + 1) c.args.ender (at + 5) _ (omega arith) (omega arith) c.requires h.2,
     )
 
 pub returns-clause-numbers : goal.returns-clause-numbers

@@ -12,7 +12,7 @@ use Rattle.session_text.specs.Limits.{most_reads}
 use Rattle.session_text.specs.Writes.{IsTextAdded, IsTextWritten}
 use Rattle.session_text.proofs.Lists.{is_empty_of, is_some_of}
 use Rattle.session_text.proofs.PageTexts.{paged_written, paged_flushed}
-use Rattle.session_text.proofs.AnsweredLines.{IsOpen, keeps_same, open_none, open_answered, open_read, came_read, talk_none, ends_plainly, ends_saying, ends_failing, ends_silent}
+use Rattle.session_text.proofs.AnsweredLines.{IsOpen, option_keeps_itself, session_open_with_no_bytes, open_answered, session_open_after_read, session_open_with_read_bytes, no_lines_make_a_talk, session_ends_without_line, session_ends_with_ending_line, session_ends_in_failed_answers, session_ends_in_failed_ending}
 use Rattle.session_text.proofs.talk.talk.Given.{Over}
 use Rattle.session_text.proofs.talk.talk.Goals.{After-answer_lines, After-read}
 use Rattle.session_text.proofs.talk.talk.Goals as goal
@@ -29,8 +29,8 @@ closed g c text ended line w2 result talk added closes out =
     let left = c.answer_lines.new.session.buffer in
     let last = c.answer_lines.new.commands in
     let said = paged_written text c.answer_lines.new.session.page line w0 (g.O.Outlet.seen c.answer_lines.new.writer) w2 out.0 added out.1 in
-    rw out.2 (ends_saying c.args.context.limits says begins _ _ _ _ _ _ w0 _ left text last a w2 ended line out.0 i.1 talk refl (keeps_same (whole a)) closes said
-    (λ h. ends_failing c.args.context.limits says begins _ _ _ _ _ _ _ _ last w2 i.1 i.2 (left, text, last, talk, inr (inl (ended, line, closes, refl, h)))))
+    rw out.2 (session_ends_with_ending_line c.args.context.limits says begins _ _ _ _ _ _ w0 _ left text last a w2 ended line out.0 i.1 talk refl (option_keeps_itself (whole a)) closes said
+    (λ h. session_ends_in_failed_answers c.args.context.limits says begins _ _ _ _ _ _ _ _ last w2 i.1 i.2 (left, text, last, talk, inr (inl (ended, line, closes, refl, h)))))
 
 -- the buffer's lines, whose answers were put out
 opened : (g : Over) (c : After-read g) → IsOpen c.args.context.limits (AnswersCommand g.C.Commands.acts g.C.Commands.unknown c.args.context.time) (g.I.Inlet.seen c.args.reader.now) c.args.commands.now (g.O.Outlet.seen c.args.writer.now) (g.I.Inlet.seen c.loop-session.reader) c.answer_lines.new.session.buffer c.answer_lines.new.commands (g.O.Outlet.seen c.flush.new.outlet) c.loop-session.reads
@@ -53,13 +53,13 @@ unread g c ended line w2 result taken reads same closes out =
     let left = c.answer_lines.new.session.buffer in
     let last = c.answer_lines.new.commands in
     let said = subst (λ l. IsTextWritten (l ++ line) w1 w2 out.0) c.if-not-flush.ensures.empty out.1 in
-    rw out.2 (ends_saying c.args.context.limits says begins _ _ _ _ _ _ w1 _ left [] last b w2 ended line out.0 o (talk_none c.args.context.limits says left last) taken same closes said
-    (λ h. ends_silent c.args.context.limits says begins _ _ _ _ _ _ _ _ b w2 ended line o c.in-Next.ensures.2 taken reads same closes h))
+    rw out.2 (session_ends_with_ending_line c.args.context.limits says begins _ _ _ _ _ _ w1 _ left [] last b w2 ended line out.0 o (no_lines_make_a_talk c.args.context.limits says left last) taken same closes said
+    (λ h. session_ends_in_failed_ending c.args.context.limits says begins _ _ _ _ _ _ _ _ b w2 ended line o c.in-Next.ensures.2 taken reads same closes h))
 
 pub loop-session-init : goal.loop-session-init
 loop-session-init g c = (
   c.requires.1,
-  open_none c.args.context.limits (AnswersCommand g.C.Commands.acts g.C.Commands.unknown c.args.context.time) (g.I.Inlet.seen c.args.reader.now) c.args.session.now.buffer c.args.commands.now (g.O.Outlet.seen c.args.writer.now) c.requires.0,
+  session_open_with_no_bytes c.args.context.limits (AnswersCommand g.C.Commands.acts g.C.Commands.unknown c.args.context.time) (g.I.Inlet.seen c.args.reader.now) c.args.session.now.buffer c.args.commands.now (g.O.Outlet.seen c.args.writer.now) c.requires.0,
   inl (c.requires.0, refl),
   c.reads-most.ensures,
   omega arith,
@@ -69,7 +69,7 @@ pub returns-in-Fault : goal.returns-in-Fault
 returns-in-Fault g c =
     let e = c.in-Fault.ensures in
     let i = c.loop-session.invariant in
-    ends_failing c.args.context.limits (AnswersCommand g.C.Commands.acts g.C.Commands.unknown c.args.context.time) (Begins g.C.Commands.acts g.C.Commands.unknown c.args.context.time) _ _ _ _ _ _ _ _ c.answer_lines.new.commands (g.O.Outlet.seen c.answer_lines.new.writer) i.1 i.2 (e.0, e.1, e.2, e.3, inl (e.4, i.1.no_fault))
+    session_ends_in_failed_answers c.args.context.limits (AnswersCommand g.C.Commands.acts g.C.Commands.unknown c.args.context.time) (Begins g.C.Commands.acts g.C.Commands.unknown c.args.context.time) _ _ _ _ _ _ _ _ c.answer_lines.new.commands (g.O.Outlet.seen c.answer_lines.new.writer) i.1 i.2 (e.0, e.1, e.2, e.3, inl (e.4, i.1.no_fault))
 
 pub returns-in-Quit : goal.returns-in-Quit
 returns-in-Quit g c =
@@ -98,7 +98,7 @@ returns-then-not-flush g c =
     let f = c.if-not-flush.ensures in
     let w2 = g.O.Outlet.seen c.flush.new.outlet in
     let cut = paged_flushed e.0 c.answer_lines.new.session.page (g.O.Outlet.seen c.loop-session.writer) (g.O.Outlet.seen c.answer_lines.new.writer) c.flush.new.page w2 false e.3 f.added f.empty in
-    ends_failing c.args.context.limits (AnswersCommand g.C.Commands.acts g.C.Commands.unknown c.args.context.time) (Begins g.C.Commands.acts g.C.Commands.unknown c.args.context.time) _ _ _ _ _ _ _ _ c.answer_lines.new.commands w2 i.1 i.2 (c.answer_lines.new.session.buffer, e.0, c.answer_lines.new.commands, e.1, inr (inr (e.2, i.1.no_fault, refl, cut)))
+    session_ends_in_failed_answers c.args.context.limits (AnswersCommand g.C.Commands.acts g.C.Commands.unknown c.args.context.time) (Begins g.C.Commands.acts g.C.Commands.unknown c.args.context.time) _ _ _ _ _ _ _ _ c.answer_lines.new.commands w2 i.1 i.2 (c.answer_lines.new.session.buffer, e.0, c.answer_lines.new.commands, e.1, inr (inr (e.2, i.1.no_fault, refl, cut)))
 
 pub loop-session-preserved : goal.loop-session-preserved
 loop-session-preserved g c =
@@ -107,8 +107,8 @@ loop-session-preserved g c =
     let o = opened g (goal.at.loop-session-preserved g c).After-read in
     let b = g.I.Inlet.seen c.read.new.inlet in (
       c.if-not-flush.ensures.empty,
-      open_read c.args.context.limits says _ _ _ _ _ _ _ _ b c.read.new.self r.0 o r.1 r.2 r.3 r.4 r.5 r.6,
-      came_read c.args.context.limits says _ _ _ _ _ _ _ _ b c.read.new.self r.0 (c.loop-session.reads + 1) o c.in-Next.ensures.2 r.2 r.3 r.4,
+      session_open_after_read c.args.context.limits says _ _ _ _ _ _ _ _ b c.read.new.self r.0 o r.1 r.2 r.3 r.4 r.5 r.6,
+      session_open_with_read_bytes c.args.context.limits says _ _ _ _ _ _ _ _ b c.read.new.self r.0 (c.loop-session.reads + 1) o c.in-Next.ensures.2 r.2 r.3 r.4,
       c.loop-session.invariant.3,
       omega (arith, c.loop-session.invariant.4, c.if-reads-most.false),
     )
@@ -118,7 +118,7 @@ returns-in-End g c =
     let r = c.in-End.ensures in
     let o = opened g (goal.at.returns-in-End g c).After-read in
     let none = is_empty_of c.as_slice.result.now c.read.new.self c.answer_lines.new.session.buffer c.as_slice.ensures r.0 c.if-is_empty.ensures in
-    ends_plainly c.args.context.limits (AnswersCommand g.C.Commands.acts g.C.Commands.unknown c.args.context.time) (Begins g.C.Commands.acts g.C.Commands.unknown c.args.context.time) _ _ _ _ _ _ _ _ (g.I.Inlet.seen c.read.new.inlet) Eof o r.2 r.5 (none, (r.1, (_, r.3)), refl, r.4 ∙ o.no_fault)
+    session_ends_without_line c.args.context.limits (AnswersCommand g.C.Commands.acts g.C.Commands.unknown c.args.context.time) (Begins g.C.Commands.acts g.C.Commands.unknown c.args.context.time) _ _ _ _ _ _ _ _ (g.I.Inlet.seen c.read.new.inlet) Eof o r.2 r.5 (none, (r.1, (_, r.3)), refl, r.4 ∙ o.no_fault)
 
 pub returns-in-End-2 : goal.returns-in-End-2
 returns-in-End-2 g c =

@@ -1,11 +1,11 @@
 use Rattle.std.proofs.Common.{[], ◌∷◌, ◌++◌, ap, ◌∙◌}
 use Rattle.std.proofs.lemmas.List.{append_assoc}
 use Rattle.session_text.specs.Replies.{and_number, line}
-use Rattle.session_text.proofs.PageTexts.{added_short, added_then_here}
+use Rattle.session_text.proofs.PageTexts.{cut_text_hides_later_text, added_then_here}
 use Rattle.session_text.proofs.write.write_number_line.Goals as goal
 
 pub returns-then-not-make_room : goal.returns-then-not-make_room
-returns-then-not-make_room g c = added_short [] (line (and_number c.args.n)) c.args.page.now (g.O.Outlet.seen c.args.outlet.now) c.make_room.new.page (g.O.Outlet.seen c.make_room.new.outlet) c.make_room.new.page c.if-not-make_room.ensures.added
+returns-then-not-make_room g c = cut_text_hides_later_text [] (line (and_number c.args.n)) c.args.page.now (g.O.Outlet.seen c.args.outlet.now) c.make_room.new.page (g.O.Outlet.seen c.make_room.new.outlet) c.make_room.new.page c.if-not-make_room.ensures.added
 
 pub returns : goal.returns
 returns g c = added_then_here (line (and_number c.args.n)) _ _ c.make_room.new.page (g.O.Outlet.seen c.make_room.new.outlet) c.add.new.self c.if-not-make_room.ensures.added

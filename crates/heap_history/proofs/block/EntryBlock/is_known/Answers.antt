@@ -2,14 +2,14 @@ use Rattle.std.proofs.Common.{◌≡◌, ◌<◌, length, sym, ap, ◌∙◌, ar
 use Rattle.std.specs.Prelude.{Some, slice_get}
 use Rattle.heap_history.specs.Blocks.{BlockState}
 use Rattle.heap_history.specs.Packs.{entry_in}
-use Rattle.heap_history.proofs.Cases.{match_bool}
-use Rattle.heap_history.proofs.Places.{at_placed, by_nothing, differs_at, none_differs, reads, reads_none, tells_some}
+use Rattle.heap_history.proofs.Cases.{bool_cases_weakened}
+use Rattle.heap_history.proofs.Places.{pack_at_index_is_placed, empty_pack_tells_none, told_is_not_forgotten, missing_is_not_forgotten, entry_at_pack_index, no_entry_past_packs, filled_pack_tells_some_entry}
 use Rattle.heap_history.proofs.block.EntryBlock.is_known.Goals as goal
 
 pub returns-then-at-len : goal.returns-then-at-len
 returns-then-at-len c =
-    let none = reads_none c.self.inside.wides.items c.self.inside.packs.items c.args.at (omega (arith, c.len.ensures, c.if-at-len.true)) in
-    none_differs _ (ap (λ (s : BlockState). slice_get s.entries c.args.at) (sym c.self.view_is) ∙ none)
+    let none = no_entry_past_packs c.self.inside.wides.items c.self.inside.packs.items c.args.at (omega (arith, c.len.ensures, c.if-at-len.true)) in
+    missing_is_not_forgotten _ (ap (λ (s : BlockState). slice_get s.entries c.args.at) (sym c.self.view_is) ∙ none)
 
 pub returns : goal.returns
 returns c =
@@ -18,6 +18,6 @@ returns c =
     let p = c.index.result.now in
     let lt : c.args.at < length packs = omega (arith, c.len.ensures, c.if-at-len.false) in
     let is : slice_get c.args.self.now.entries c.args.at ≡ Some (entry_in wides p) =
-    ap (λ (s : BlockState). slice_get s.entries c.args.at) (sym c.self.view_is) ∙ reads wides packs c.args.at p lt c.index.ensures in
-    let placed = at_placed (length wides) packs c.args.at p c.self.invariant lt c.index.ensures in
-    match_bool c.tells_some.result _ _ _ _ c.tells_some.ensures (λ some. differs_at _ _ is (tells_some wides p some placed)) (λ no. is ∙ ap Some (by_nothing wides p no))
+    ap (λ (s : BlockState). slice_get s.entries c.args.at) (sym c.self.view_is) ∙ entry_at_pack_index wides packs c.args.at p lt c.index.ensures in
+    let placed = pack_at_index_is_placed (length wides) packs c.args.at p c.self.invariant lt c.index.ensures in
+    bool_cases_weakened c.tells_some.result _ _ _ _ c.tells_some.ensures (λ some. told_is_not_forgotten _ _ is (filled_pack_tells_some_entry wides p some placed)) (λ no. is ∙ ap Some (empty_pack_tells_none wides p no))

@@ -1,13 +1,13 @@
 use Rattle.std.proofs.Common.{◌≡◌, length, arith}
-use Rattle.heap_history.proofs.Places.{wide_placed, wide_read}
+use Rattle.heap_history.proofs.Places.{wide_pack_added_is_placed, entry_of_one_wide_more}
 use Rattle.heap_history.proofs.block.EntryBlock.push_wide.Goals as goal
 
 pub invariant_of-self : goal.invariant_of-self
 invariant_of-self c =
     let at : c.pack_at.result.first ≡ length c.self.inside.wides.items = omega (arith, c.pack_at.ensures.1, c.len-place.ensures) in
-    rw (c.push_reserved.ensures.items, c.push_reserved-2.ensures.items) (wide_placed _ _ _ c.args.wide c.self.invariant at)
+    rw (c.push_reserved.ensures.items, c.push_reserved-2.ensures.items) (wide_pack_added_is_placed _ _ _ c.args.wide c.self.invariant at)
 
 pub returns : goal.returns
 returns c =
     let at : c.pack_at.result.first ≡ length c.self.inside.wides.items = omega (arith, c.pack_at.ensures.1, c.len-place.ensures) in
-    rw (c.push_reserved.ensures.items, c.push_reserved-2.ensures.items, ← c.self.view_is) (wide_read _ _ _ c.args.wide c.self.invariant c.pack_at.ensures.0 at)
+    rw (c.push_reserved.ensures.items, c.push_reserved-2.ensures.items, ← c.self.view_is) (entry_of_one_wide_more _ _ _ c.args.wide c.self.invariant c.pack_at.ensures.0 at)

@@ -6,7 +6,7 @@ use Rattle.heap_lock.specs.declared.table_side.TableSide.TheVariants.{UnderLock,
 use Rattle.heap_history.specs.History.{entries_by}
 use Rattle.heap_lock.specs.SeatEntries.{entries_of, entries_in}
 use Rattle.heap_lock.specs.LockStates.{table_at, IsSeatTable}
-use Rattle.heap_lock.proofs.Histories.{seat_table_of, kept_as}
+use Rattle.heap_lock.proofs.Histories.{seat_table_of, entries_kept_with_equal_table}
 use Rattle.heap_lock.proofs.heap.Kept.agree.Goals as goal
 
 pub agree-requires-clause-seat_table : goal.agree-requires-clause-seat_table
@@ -32,7 +32,7 @@ invariant_of-self g c =
       t.1.0 ∙ d.2,
       t.1.1 ∙ (λ i. (UnderLock (entries_of (d.3 i).0), [])),
     ) in
-    (kept_as g.L.Heap.config g.L.Heap.tables c.self.inside.machine es c.self.inside.seat_tables.items n c.agree.new.self c.self.invariant.0 seat_table, c.self.invariant.1, c.self.invariant.2)
+    (entries_kept_with_equal_table g.L.Heap.config g.L.Heap.tables c.self.inside.machine es c.self.inside.seat_tables.items n c.agree.new.self c.self.invariant.0 seat_table, c.self.invariant.1, c.self.invariant.2)
 
 pub returns-clause-share : goal.returns-clause-share
 returns-clause-share g c =

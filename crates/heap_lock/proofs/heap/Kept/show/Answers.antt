@@ -1,14 +1,14 @@
 use Rattle.std.proofs.Common.{subst}
 use Rattle.heap_lock.specs.Calls.{IsHeapLedger, IsLegalLedger}
 use Rattle.heap_lock.specs.LockStates.{LockState}
-use Rattle.heap_lock.proofs.DumperCalls.{heap_of, legal_of, viewed}
+use Rattle.heap_lock.proofs.DumperCalls.{ledger_under_lock_is_heaps, ledger_under_lock_is_legal, viewed_ledger_is_legal}
 use Rattle.heap_lock.proofs.heap.Kept.show.Goals as goal
 
 pub invariant_of-witness : goal.invariant_of-witness
-invariant_of-witness g c = viewed _ _ _ _ _ _ c.self.inside.ledger c.show.result c.self.invariant.0 c.self.invariant.1 c.show.ensures.view
+invariant_of-witness g c = viewed_ledger_is_legal _ _ _ _ _ _ c.self.inside.ledger c.show.result c.self.invariant.0 c.self.invariant.1 c.show.ensures.view
 
 pub returns-clause-legal : goal.returns-clause-legal
-returns-clause-legal g c = subst (λ (h : LockState). IsLegalLedger g.L.Heap.config h.ledger) c.self.view_is (legal_of _ _ _ _ _ _ c.self.inside.ledger c.self.invariant.0 c.self.invariant.1)
+returns-clause-legal g c = subst (λ (h : LockState). IsLegalLedger g.L.Heap.config h.ledger) c.self.view_is (ledger_under_lock_is_legal _ _ _ _ _ _ c.self.inside.ledger c.self.invariant.0 c.self.invariant.1)
 
 pub returns-clause-heap : goal.returns-clause-heap
-returns-clause-heap g c = subst (λ (h : LockState). IsHeapLedger g.L.Heap.config h.machine h.chronicle h.ledger) c.self.view_is (heap_of _ _ _ _ _ _ c.self.inside.ledger c.self.invariant.0 c.self.invariant.1)
+returns-clause-heap g c = subst (λ (h : LockState). IsHeapLedger g.L.Heap.config h.machine h.chronicle h.ledger) c.self.view_is (ledger_under_lock_is_heaps _ _ _ _ _ _ c.self.inside.ledger c.self.invariant.0 c.self.invariant.1)

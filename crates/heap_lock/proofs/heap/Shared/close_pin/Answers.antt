@@ -3,7 +3,7 @@ use Rattle.heap_trail.specs.declared.Action.TheVariants.{ClosePin}
 use Rattle.heap_trail.specs.declared.Reply.TheVariants.{Closed}
 use Rattle.heap_lock.specs.Calls.{IsLegalLedger}
 use Rattle.heap_lock.specs.LockStates.{LockState}
-use Rattle.heap_lock.proofs.WitnessedCalls.{witnessed}
+use Rattle.heap_lock.proofs.WitnessedCalls.{dumper_act_is_witnessed}
 use Rattle.heap_lock.proofs.heap.Shared.close_pin.Goals as goal
 
 pub returns : goal.returns
@@ -15,4 +15,4 @@ returns g c =
     let same = c.deref_mut-2.ensures.value ∙ c.show.ensures.same in
     let is = c.show-2.ensures.witness ∙ ap (λ (s : LockState). s.ledger) held in
     let legal = subst (λ (s : LockState). IsLegalLedger g.L.Heap.config s.ledger) held c.show-2.ensures.legal in
-    witnessed g.L.Heap.config c.args.witness.now c.show-2.new.witness (ClosePin c.args.pin) (λ u. Closed) c.close_held-done.result k k1 k2 c.show.ensures.begins same c.close_held-done.ensures.done c.close_held-done.ensures.refused is legal
+    dumper_act_is_witnessed g.L.Heap.config c.args.witness.now c.show-2.new.witness (ClosePin c.args.pin) (λ u. Closed) c.close_held-done.result k k1 k2 c.show.ensures.begins same c.close_held-done.ensures.done c.close_held-done.ensures.refused is legal

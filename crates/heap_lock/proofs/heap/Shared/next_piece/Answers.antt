@@ -3,7 +3,7 @@ use Rattle.heap_trail.specs.declared.Action.TheVariants.{NextPiece}
 use Rattle.heap_trail.specs.declared.Reply.TheVariants.{Part}
 use Rattle.heap_lock.specs.Calls.{IsLegalLedger}
 use Rattle.heap_lock.specs.LockStates.{LockState}
-use Rattle.heap_lock.proofs.WitnessedCalls.{witnessed}
+use Rattle.heap_lock.proofs.WitnessedCalls.{dumper_act_is_witnessed}
 use Rattle.heap_lock.proofs.heap.Shared.next_piece.Goals as goal
 
 pub returns-clause-witnessed : goal.returns-clause-witnessed
@@ -15,4 +15,4 @@ returns-clause-witnessed g c =
     let same = c.deref_mut-2.ensures.value ∙ c.show.ensures.same in
     let is = c.show-2.ensures.witness ∙ ap (λ (s : LockState). s.ledger) held in
     let legal = subst (λ (s : LockState). IsLegalLedger g.L.Heap.config s.ledger) held c.show-2.ensures.legal in
-    witnessed g.L.Heap.config c.args.witness.now c.show-2.new.witness (NextPiece c.args.pin c.args.time) (λ p. Part p) c.piece_held-done.result k k1 k2 c.show.ensures.begins same c.piece_held-done.ensures.done c.piece_held-done.ensures.refused is legal
+    dumper_act_is_witnessed g.L.Heap.config c.args.witness.now c.show-2.new.witness (NextPiece c.args.pin c.args.time) (λ p. Part p) c.piece_held-done.result k k1 k2 c.show.ensures.begins same c.piece_held-done.ensures.done c.piece_held-done.ensures.refused is legal

@@ -1,7 +1,7 @@
 use Rattle.std.proofs.Common.{◌≡◌, ◌-◌, ap, ◌∙◌, arith}
 use Rattle.heap_mark.specs.MarkSteps.{unshaded, undrained}
 use Rattle.heap_mark.specs.Marker.{MarkerState, at_work}
-use Rattle.heap_mark.proofs.Calls.{gray_named, at_work_after, drain_back}
+use Rattle.heap_mark.proofs.Calls.{gray_named, at_work_after, drain_undone_gives_state_before}
 use Rattle.heap_mark.proofs.marker.Marker.undrain.Goals as goal
 
 pub unshade-requires-clause-names : goal.unshade-requires-clause-names
@@ -22,4 +22,4 @@ returns-clause-regions c = c.unshade.ensures.regions
 pub returns-clause-back : goal.returns-clause-back
 returns-clause-back c before is grown =
     let s = at_work c.args.regions.now.regions c.args.self.now in
-    at_work_after c.args.regions.now _ c.args.self.now _ (undrained c.args.pushed s) (returns-clause-marker c) (returns-clause-regions c) ∙ drain_back before s c.args.pushed is grown
+    at_work_after c.args.regions.now _ c.args.self.now _ (undrained c.args.pushed s) (returns-clause-marker c) (returns-clause-regions c) ∙ drain_undone_gives_state_before before s c.args.pushed is grown

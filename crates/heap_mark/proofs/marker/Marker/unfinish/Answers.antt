@@ -6,7 +6,7 @@ use Rattle.heap_mark.specs.Marker.{MarkerState, at_work}
 use Rattle.heap_region.specs.Regions.{Region}
 use Rattle.heap_mark.proofs.TurnedRegions.{turn_back_undoes}
 use Rattle.heap_mark.proofs.Calls.{at_work_after}
-use Rattle.heap_mark.proofs.Finishes.{finish_back}
+use Rattle.heap_mark.proofs.Finishes.{finish_undone_gives_state_before}
 use Rattle.heap_mark.proofs.marker.Marker.unfinish.Goals as goal
 
 pub returns-clause-marker : goal.returns-clause-marker
@@ -25,4 +25,4 @@ returns-clause-regions c =
 pub returns-clause-back : goal.returns-clause-back
 returns-clause-back c before accepted live within same is =
     let s = at_work c.args.regions.now.regions c.args.self.now in
-    at_work_after c.args.regions.now _ c.args.self.now _ (unfinished c.args.log s) (returns-clause-marker c) (returns-clause-regions c) ∙ finish_back before s c.args.log accepted live within same is
+    at_work_after c.args.regions.now _ c.args.self.now _ (unfinished c.args.log s) (returns-clause-marker c) (returns-clause-regions c) ∙ finish_undone_gives_state_before before s c.args.log accepted live within same is

@@ -1,19 +1,19 @@
 use Rattle.std.proofs.Common.{◌<◌, sym, subst}
 use Rattle.heap_pins.specs.KeptCopies.{touched, patched, copy_for, kept_if, kept}
-use Rattle.heap_region.proofs.Lookups.{used_below}
+use Rattle.heap_region.proofs.Lookups.{used_region_is_listed}
 use Rattle.heap_pins.proofs.RoomForCopies.{object_within, sweep_used, sweep_fit, reclaim_within}
-use Rattle.heap_pins.proofs.AddedCopies.{kept_other, on_err}
-use Rattle.heap_step.proofs.Steps.{put_there, put_within, store_there, store_within}
+use Rattle.heap_pins.proofs.AddedCopies.{other_records_keep_the_pin, truth_holds_at_refusal}
+use Rattle.heap_step.proofs.Steps.{put_record_names_an_object, put_record_slot_within_object, store_there, store_within}
 use Rattle.heap_pins.proofs.pin.Pin.keep.Goals as goal
 
 pub keep_word-requires-clause-there : goal.keep_word-requires-clause-there
-keep_word-requires-clause-there c = put_there c.requires.step.0 c.requires.step.1 c.args.world.now c.args.left.now c.requires.step.2 c.in-Put.at c.in-Put.slot c.in-Put.old c.in-Put.is
+keep_word-requires-clause-there c = put_record_names_an_object c.requires.step.0 c.requires.step.1 c.args.world.now c.args.left.now c.requires.step.2 c.in-Put.at c.in-Put.slot c.in-Put.old c.in-Put.is
 
 pub keep_word-requires-clause-within : goal.keep_word-requires-clause-within
-keep_word-requires-clause-within c = put_within c.requires.step.0 c.requires.step.1 c.args.world.now c.args.left.now c.requires.step.2 c.in-Put.at c.in-Put.slot c.in-Put.old c.in-Put.is
+keep_word-requires-clause-within c = put_record_slot_within_object c.requires.step.0 c.requires.step.1 c.args.world.now c.args.left.now c.requires.step.2 c.in-Put.at c.in-Put.slot c.in-Put.old c.in-Put.is
 
 pub keep_word-requires-clause-sized : goal.keep_word-requires-clause-sized
-keep_word-requires-clause-sized c = subst (λ n. c.in-Put.at.region < n) (sym c.requires.sized) (object_within c.args.world.now.regions c.in-Put.at (put_there c.requires.step.0 c.requires.step.1 c.args.world.now c.args.left.now c.requires.step.2 c.in-Put.at c.in-Put.slot c.in-Put.old c.in-Put.is))
+keep_word-requires-clause-sized c = subst (λ n. c.in-Put.at.region < n) (sym c.requires.sized) (object_within c.args.world.now.regions c.in-Put.at (put_record_names_an_object c.requires.step.0 c.requires.step.1 c.args.world.now c.args.left.now c.requires.step.2 c.in-Put.at c.in-Put.slot c.in-Put.old c.in-Put.is))
 
 pub keep_word-requires-in-Store-clause-there : goal.keep_word-requires-in-Store-clause-there
 keep_word-requires-in-Store-clause-there c = store_there c.requires.step.0 c.requires.step.1 c.args.world.now c.args.left.now c.requires.step.2 c.in-Store.at c.in-Store.slot c.in-Store.old _ c.in-Store.is
@@ -31,7 +31,7 @@ pub keep_dead-requires-clause-fit : goal.keep_dead-requires-clause-fit
 keep_dead-requires-clause-fit c = sweep_fit c.requires.step.0 c.requires.step.1 c.args.world.now c.args.left.now c.requires.step.2 c.in-Sweep.region c.in-Sweep.dead c.in-Sweep.is
 
 pub keep_dead-requires-clause-sized : goal.keep_dead-requires-clause-sized
-keep_dead-requires-clause-sized c = subst (λ n. c.in-Sweep.region < n) (sym c.requires.sized) (used_below c.args.world.now.regions c.in-Sweep.region (sweep_used c.requires.step.0 c.requires.step.1 c.args.world.now c.args.left.now c.requires.step.2 c.in-Sweep.region c.in-Sweep.dead c.in-Sweep.is))
+keep_dead-requires-clause-sized c = subst (λ n. c.in-Sweep.region < n) (sym c.requires.sized) (used_region_is_listed c.args.world.now.regions c.in-Sweep.region (sweep_used c.requires.step.0 c.requires.step.1 c.args.world.now c.args.left.now c.requires.step.2 c.in-Sweep.region c.in-Sweep.dead c.in-Sweep.is))
 
 pub keep_region-requires : goal.keep_region-requires
 keep_region-requires c = record { sized = subst (λ n. c.in-Reclaim.region < n) (sym c.requires.sized) (reclaim_within c.requires.step.0 c.requires.step.1 c.args.world.now c.args.left.now c.requires.step.2 c.in-Reclaim.region c.in-Reclaim.storage c.in-Reclaim.is) }
@@ -53,20 +53,20 @@ unfolding kept kept_if touched copy_for patched
 returns-in-Reclaim-clause-kept c = rw c.in-Reclaim.is c.keep_region.ensures.kept
 
 pub returns-in_default : goal.returns-in_default
-returns-in_default c = record { kept = kept_other c.args.left.now c.args.world.now c.args.self.now c.in_default.not-Put c.in_default.not-Store c.in_default.not-Sweep c.in_default.not-Reclaim; unchanged = tt; refused = tt; touched = tt }
+returns-in_default c = record { kept = other_records_keep_the_pin c.args.left.now c.args.world.now c.args.self.now c.in_default.not-Put c.in_default.not-Store c.in_default.not-Sweep c.in_default.not-Reclaim; unchanged = tt; refused = tt; touched = tt }
 
 pub returns-in-Put-clause-touched : goal.returns-in-Put-clause-touched
 unfolding touched
-returns-in-Put-clause-touched c = rw c.in-Put.is (on_err c.keep_word.result (search))
+returns-in-Put-clause-touched c = rw c.in-Put.is (truth_holds_at_refusal c.keep_word.result (search))
 
 pub returns-in-Store-clause-touched : goal.returns-in-Store-clause-touched
 unfolding touched
-returns-in-Store-clause-touched c = rw c.in-Store.is (on_err c.keep_word-in-Store.result (search))
+returns-in-Store-clause-touched c = rw c.in-Store.is (truth_holds_at_refusal c.keep_word-in-Store.result (search))
 
 pub returns-in-Sweep-clause-touched : goal.returns-in-Sweep-clause-touched
 unfolding touched
-returns-in-Sweep-clause-touched c = rw c.in-Sweep.is (on_err c.keep_dead.result (search))
+returns-in-Sweep-clause-touched c = rw c.in-Sweep.is (truth_holds_at_refusal c.keep_dead.result (search))
 
 pub returns-in-Reclaim-clause-touched : goal.returns-in-Reclaim-clause-touched
 unfolding touched
-returns-in-Reclaim-clause-touched c = rw c.in-Reclaim.is (on_err c.keep_region.result (search))
+returns-in-Reclaim-clause-touched c = rw c.in-Reclaim.is (truth_holds_at_refusal c.keep_region.result (search))

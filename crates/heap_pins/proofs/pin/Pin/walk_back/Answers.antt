@@ -2,11 +2,11 @@ use Rattle.std.proofs.Common.{◌<◌, ℕ, List, length, sym, subst, ap, arith}
 use Rattle.heap_world.specs.State.{register_index}
 use Rattle.heap_pins.specs.Pin.{PinContents}
 use Rattle.heap_pins.specs.States.{HasRegion}
-use Rattle.heap_step.proofs.Steps.{put_there, put_within, store_there, store_within, reg_register, new_there, new_register, class_there, reclaim_lifeless}
-use Rattle.heap_region.proofs.Lookups.{used_below}
+use Rattle.heap_step.proofs.Steps.{put_record_names_an_object, put_record_slot_within_object, store_there, store_within, reg_register, new_record_names_an_object, new_register, class_record_has_a_class, reclaim_lifeless}
+use Rattle.heap_region.proofs.Lookups.{used_region_is_listed}
 use Rattle.heap_pins.proofs.RoomForCopies.{object_within, sweep_used, sweep_fit, reclaim_within}
-use Rattle.heap_pins.proofs.Walkable.{sees_slot, sees_room, dead_within, region_bytes, cell_within, register_within}
-use Rattle.heap_pins.proofs.RecordWalks.{put_back, store_back, reg_back, new_back, class_back, finish_back, sweep_back, reclaim_back, quiet_back, on_ok}
+use Rattle.heap_pins.proofs.Walkable.{sees_slot, sees_room, dead_within, region_bytes, cell_of_object_below_256, register_within}
+use Rattle.heap_pins.proofs.RecordWalks.{walk_back_over_put, walk_back_over_store, reg_back, walk_back_over_new, class_back, walk_back_over_finish, walk_back_over_sweep, reclaim_back, quiet_back, consequence_of_an_ok}
 use Rattle.heap_pins.proofs.pin.Pin.walk_back.Goals as goal
 
 -- ---- a word
@@ -14,18 +14,18 @@ use Rattle.heap_pins.proofs.pin.Pin.walk_back.Goals as goal
 pub unwrite-requires-clause-sized : goal.unwrite-requires-clause-sized
 unwrite-requires-clause-sized c =
     let (x, e, s, pin, shows) = c.requires in
-    subst (λ n. c.in-Put.at.region < n) (sym pin.copies) (object_within x.regions c.in-Put.at (put_there e _ x c.args.left.now s c.in-Put.at c.in-Put.slot c.in-Put.old c.in-Put.is))
+    subst (λ n. c.in-Put.at.region < n) (sym pin.copies) (object_within x.regions c.in-Put.at (put_record_names_an_object e _ x c.args.left.now s c.in-Put.at c.in-Put.slot c.in-Put.old c.in-Put.is))
 
 pub unwrite-requires-clause-there : goal.unwrite-requires-clause-there
 unwrite-requires-clause-there c =
     let (x, e, s, pin, shows) = c.requires in
-    sees_slot c.args.self.now x c.args.world.now c.in-Put.at c.in-Put.slot shows (put_there e _ x c.args.left.now s c.in-Put.at c.in-Put.slot c.in-Put.old c.in-Put.is) (put_within e _ x c.args.left.now s c.in-Put.at c.in-Put.slot c.in-Put.old c.in-Put.is)
+    sees_slot c.args.self.now x c.args.world.now c.in-Put.at c.in-Put.slot shows (put_record_names_an_object e _ x c.args.left.now s c.in-Put.at c.in-Put.slot c.in-Put.old c.in-Put.is) (put_record_slot_within_object e _ x c.args.left.now s c.in-Put.at c.in-Put.slot c.in-Put.old c.in-Put.is)
 
 pub returns-in-Put-clause-walked : goal.returns-in-Put-clause-walked
 returns-in-Put-clause-walked c =
     let (x, e, s, pin, shows) = c.requires in
-    let sized = subst (λ n. c.in-Put.at.region < n) (sym pin.copies) (object_within x.regions c.in-Put.at (put_there e _ x c.args.left.now s c.in-Put.at c.in-Put.slot c.in-Put.old c.in-Put.is)) in
-    on_ok c.unwrite.result (put_back c.args.left.now c.args.world.now c.args.self.now c.unwrite.new.self c.in-Put.at c.in-Put.slot c.in-Put.old c.in-Put.is sized) c.unwrite.ensures.written
+    let sized = subst (λ n. c.in-Put.at.region < n) (sym pin.copies) (object_within x.regions c.in-Put.at (put_record_names_an_object e _ x c.args.left.now s c.in-Put.at c.in-Put.slot c.in-Put.old c.in-Put.is)) in
+    consequence_of_an_ok c.unwrite.result (walk_back_over_put c.args.left.now c.args.world.now c.args.self.now c.unwrite.new.self c.in-Put.at c.in-Put.slot c.in-Put.old c.in-Put.is sized) c.unwrite.ensures.written
 
 pub unwrite-requires-in-Store-clause-sized : goal.unwrite-requires-in-Store-clause-sized
 unwrite-requires-in-Store-clause-sized c =
@@ -41,7 +41,7 @@ pub returns-in-Store-clause-walked : goal.returns-in-Store-clause-walked
 returns-in-Store-clause-walked c =
     let (x, e, s, pin, shows) = c.requires in
     let sized = subst (λ n. c.in-Store.at.region < n) (sym pin.copies) (object_within x.regions c.in-Store.at (store_there e _ x c.args.left.now s c.in-Store.at c.in-Store.slot c.in-Store.old _ c.in-Store.is)) in
-    on_ok c.unwrite-in-Store.result (store_back c.args.left.now c.args.world.now c.args.self.now c.unwrite-in-Store.new.self c.in-Store.at c.in-Store.slot c.in-Store.old _ c.in-Store.is sized) c.unwrite-in-Store.ensures.written
+    consequence_of_an_ok c.unwrite-in-Store.result (walk_back_over_store c.args.left.now c.args.world.now c.args.self.now c.unwrite-in-Store.new.self c.in-Store.at c.in-Store.slot c.in-Store.old _ c.in-Store.is sized) c.unwrite-in-Store.ensures.written
 
 -- ---- a register and a new object
 
@@ -62,24 +62,24 @@ set_register-requires-in-New c =
 pub remove_new-requires-clause-within : goal.remove_new-requires-clause-within
 remove_new-requires-clause-within c =
     let (x, e, s, pin, shows) = c.requires in
-    cell_within x c.in-New.at pin.legal (new_there e _ x c.args.left.now s c.in-New.at c.in-New.fresh c.in-New.m c.in-New.r c.in-New.old c.in-New.is)
+    cell_of_object_below_256 x c.in-New.at pin.legal (new_record_names_an_object e _ x c.args.left.now s c.in-New.at c.in-New.fresh c.in-New.m c.in-New.r c.in-New.old c.in-New.is)
 
 pub remove_new-requires-clause-region : goal.remove_new-requires-clause-region
 remove_new-requires-clause-region c =
     let (x, e, s, pin, shows) = c.requires in
     subst (λ (p : PinContents). HasRegion p.live c.in-New.at.region) (sym c.set_register-in-New.ensures)
-    (region_bytes c.args.self.now.live x.regions c.in-New.at.region pin.states (object_within x.regions c.in-New.at (new_there e _ x c.args.left.now s c.in-New.at c.in-New.fresh c.in-New.m c.in-New.r c.in-New.old c.in-New.is)))
+    (region_bytes c.args.self.now.live x.regions c.in-New.at.region pin.states (object_within x.regions c.in-New.at (new_record_names_an_object e _ x c.args.left.now s c.in-New.at c.in-New.fresh c.in-New.m c.in-New.r c.in-New.old c.in-New.is)))
 
 pub returns-in-New-clause-walked : goal.returns-in-New-clause-walked
 returns-in-New-clause-walked c =
-    new_back c.args.left.now c.args.world.now c.args.self.now c.set_register-in-New.new.self c.remove_new.new.self c.in-New.at c.in-New.fresh c.in-New.m c.in-New.r c.in-New.old c.in-New.is c.set_register-in-New.ensures (c.remove_new.ensures c.in-New.m c.in-New.r c.in-New.old)
+    walk_back_over_new c.args.left.now c.args.world.now c.args.self.now c.set_register-in-New.new.self c.remove_new.new.self c.in-New.at c.in-New.fresh c.in-New.m c.in-New.r c.in-New.old c.in-New.is c.set_register-in-New.ensures (c.remove_new.ensures c.in-New.m c.in-New.r c.in-New.old)
 
 -- ---- a class
 
 pub overflow_sub-self : goal.overflow_sub-self
 overflow_sub-self c =
     let (x, e, s, pin, shows) = c.requires in
-    omega (arith, ap (λ (p : PinContents). p.classes) c.self.view_is, pin.classes, class_there e _ x c.args.left.now s c.in-Class.is)
+    omega (arith, ap (λ (p : PinContents). p.classes) c.self.view_is, pin.classes, class_record_has_a_class e _ x c.args.left.now s c.in-Class.is)
 
 pub returns-in-Class-clause-walked : goal.returns-in-Class-clause-walked
 returns-in-Class-clause-walked c = class_back c.args.left.now c.args.world.now c.args.self.now _ c.in-Class.is c.self.view_is
@@ -87,7 +87,7 @@ returns-in-Class-clause-walked c = class_back c.args.left.now c.args.world.now c
 -- ---- the marker's records
 
 pub returns-in-Finish-clause-walked : goal.returns-in-Finish-clause-walked
-returns-in-Finish-clause-walked c = finish_back c.args.left.now c.args.world.now c.args.self.now c.revive.new.self c.in-Finish.log c.in-Finish.is (c.revive.ensures c.in-Finish.log)
+returns-in-Finish-clause-walked c = walk_back_over_finish c.args.left.now c.args.world.now c.args.self.now c.revive.new.self c.in-Finish.log c.in-Finish.is (c.revive.ensures c.in-Finish.log)
 
 pub returns-in-Snap-clause-walked : goal.returns-in-Snap-clause-walked
 returns-in-Snap-clause-walked c = quiet_back c.args.left.now c.args.world.now c.args.self.now c.in-Snap.is
@@ -103,7 +103,7 @@ returns-in-Snap-3-clause-walked c = quiet_back c.args.left.now c.args.world.now 
 pub unsweep-requires-clause-sized : goal.unsweep-requires-clause-sized
 unsweep-requires-clause-sized c =
     let (x, e, s, pin, shows) = c.requires in
-    subst (λ n. c.in-Sweep.region < n) (sym pin.copies) (used_below x.regions c.in-Sweep.region (sweep_used e _ x c.args.left.now s c.in-Sweep.region c.in-Sweep.dead c.in-Sweep.is))
+    subst (λ n. c.in-Sweep.region < n) (sym pin.copies) (used_region_is_listed x.regions c.in-Sweep.region (sweep_used e _ x c.args.left.now s c.in-Sweep.region c.in-Sweep.dead c.in-Sweep.is))
 
 pub unsweep-requires-clause-there : goal.unsweep-requires-clause-there
 unsweep-requires-clause-there c =
@@ -118,13 +118,13 @@ unsweep-requires-clause-within c =
 pub unsweep-requires-clause-bytes : goal.unsweep-requires-clause-bytes
 unsweep-requires-clause-bytes c =
     let (x, e, s, pin, shows) = c.requires in
-    region_bytes c.args.self.now.live x.regions c.in-Sweep.region pin.states (used_below x.regions c.in-Sweep.region (sweep_used e _ x c.args.left.now s c.in-Sweep.region c.in-Sweep.dead c.in-Sweep.is))
+    region_bytes c.args.self.now.live x.regions c.in-Sweep.region pin.states (used_region_is_listed x.regions c.in-Sweep.region (sweep_used e _ x c.args.left.now s c.in-Sweep.region c.in-Sweep.dead c.in-Sweep.is))
 
 pub returns-in-Sweep-clause-walked : goal.returns-in-Sweep-clause-walked
 returns-in-Sweep-clause-walked c =
     let (x, e, s, pin, shows) = c.requires in
-    let sized = subst (λ n. c.in-Sweep.region < n) (sym pin.copies) (used_below x.regions c.in-Sweep.region (sweep_used e _ x c.args.left.now s c.in-Sweep.region c.in-Sweep.dead c.in-Sweep.is)) in
-    on_ok c.unsweep.result (sweep_back c.args.left.now c.args.world.now c.args.self.now c.unsweep.new.self c.in-Sweep.region c.in-Sweep.dead c.in-Sweep.is sized) c.unsweep.ensures.swept
+    let sized = subst (λ n. c.in-Sweep.region < n) (sym pin.copies) (used_region_is_listed x.regions c.in-Sweep.region (sweep_used e _ x c.args.left.now s c.in-Sweep.region c.in-Sweep.dead c.in-Sweep.is)) in
+    consequence_of_an_ok c.unsweep.result (walk_back_over_sweep c.args.left.now c.args.world.now c.args.self.now c.unsweep.new.self c.in-Sweep.region c.in-Sweep.dead c.in-Sweep.is sized) c.unsweep.ensures.swept
 
 -- ---- a region that was moved out
 
@@ -147,4 +147,4 @@ pub returns-in-Reclaim-clause-walked : goal.returns-in-Reclaim-clause-walked
 returns-in-Reclaim-clause-walked c =
     let (x, e, s, pin, shows) = c.requires in
     let sized = subst (λ n. c.in-Reclaim.region < n) (sym pin.copies) (reclaim_within e _ x c.args.left.now s c.in-Reclaim.region c.in-Reclaim.storage c.in-Reclaim.is) in
-    on_ok c.unreclaim.result (reclaim_back c.args.left.now c.args.world.now c.args.self.now c.unreclaim.new.self c.in-Reclaim.region c.in-Reclaim.storage c.in-Reclaim.is sized) c.unreclaim.ensures.reclaimed
+    consequence_of_an_ok c.unreclaim.result (reclaim_back c.args.left.now c.args.world.now c.args.self.now c.unreclaim.new.self c.in-Reclaim.region c.in-Reclaim.storage c.in-Reclaim.is sized) c.unreclaim.ensures.reclaimed

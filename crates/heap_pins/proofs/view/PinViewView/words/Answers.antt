@@ -1,9 +1,9 @@
 use Rattle.std.proofs.Common.{◌≡◌}
-use Rattle.heap_pins.proofs.PinViews.{sees_by, there_by}
+use Rattle.heap_pins.proofs.PinViews.{live_place_of_pin_is_seen, property_of_pin_image_object}
 use Rattle.heap_pins.proofs.view.PinViewView.words.Goals as goal
 
 pub words-requires : goal.words-requires
-words-requires c = sees_by _ c.args.self.now c.args.at c.self.view_is c.self.invariant c.requires
+words-requires c = live_place_of_pin_is_seen _ c.args.self.now c.args.at c.self.view_is c.self.invariant c.requires
 
 pub returns : goal.returns
-returns c = there_by _ c.args.self.now c.args.at (λ o. c.words.result.now ≡ o.words) c.self.view_is c.self.invariant c.words.ensures
+returns c = property_of_pin_image_object _ c.args.self.now c.args.at (λ o. c.words.result.now ≡ o.words) c.self.view_is c.self.invariant c.words.ensures

@@ -1,23 +1,23 @@
 use Rattle.std.proofs.Common.{None, sym, arith}
 use Rattle.heap_region.proofs.TurnedHeaders.{header_set}
-use Rattle.heap_region.proofs.CountedHeaders.{counted_few, counted_set}
+use Rattle.heap_region.proofs.CountedHeaders.{counts_of_headers_are_few, counts_after_header_set}
 use Rattle.heap_region.proofs.headers.Headers.fill.Goals as goal
 
 pub with-self-inside-requires-clause-objects : goal.with-self-inside-requires-clause-objects
-with-self-inside-requires-clause-objects c = (counted_few _ _ c.self.invariant).objects
+with-self-inside-requires-clause-objects c = (counts_of_headers_are_few _ _ c.self.invariant).objects
 
 pub with-self-inside-requires-clause-unmarked : goal.with-self-inside-requires-clause-unmarked
-with-self-inside-requires-clause-unmarked c = (counted_few _ _ c.self.invariant).unmarked
+with-self-inside-requires-clause-unmarked c = (counts_of_headers_are_few _ _ c.self.invariant).unmarked
 
 pub with-self-inside-requires-clause-dead : goal.with-self-inside-requires-clause-dead
-with-self-inside-requires-clause-dead c = (counted_few _ _ c.self.invariant).dead
+with-self-inside-requires-clause-dead c = (counts_of_headers_are_few _ _ c.self.invariant).dead
 
 pub invariant_of-self : goal.invariant_of-self
 invariant_of-self c =
     let i = c.self.inside in
     let f = c.with-self-inside.ensures in
     rw (c.set_header.ensures, header_set i.turn i.kept.items c.args.cell _ _ c.kept.ensures.value)
-    (counted_set _ i.counts _ c.args.cell None _ (rw (← c.self.view_is) at c.requires.within) (sym (rw (← c.self.view_is) at c.requires.vacant)) c.self.invariant
+    (counts_after_header_set _ i.counts _ c.args.cell None _ (rw (← c.self.view_is) at c.requires.within) (sym (rw (← c.self.view_is) at c.requires.vacant)) c.self.invariant
     (record { objects = omega (arith, f.objects); unmarked = omega (arith, f.unmarked); dead = omega (arith, f.dead) }))
 
 pub returns : goal.returns

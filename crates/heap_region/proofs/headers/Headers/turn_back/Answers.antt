@@ -1,5 +1,5 @@
 use Rattle.heap_region.specs.TurnedHeaders.{turned_back_header}
-use Rattle.heap_region.proofs.TurnedHeaders.{all_turned}
+use Rattle.heap_region.proofs.TurnedHeaders.{headers_shown_at_other_turn}
 use Rattle.heap_region.proofs.CountedHeaders.{unmarked_among, counted_turned_back}
 use Rattle.heap_region.proofs.headers.Headers.turn_back.Goals as goal
 
@@ -9,7 +9,7 @@ prior-self-inside-requires-2 c = unmarked_among _ _ c.self.invariant
 pub invariant_of-self : goal.invariant_of-self
 invariant_of-self c =
     let e = c.prior-self-inside-2.ensures in
-    rw (all_turned c.self.inside.turn c.prior-self-inside.result turned_back_header c.prior-self-inside.ensures c.self.inside.kept.items) (counted_turned_back _ _ _ c.self.invariant e.objects e.unmarked e.dead)
+    rw (headers_shown_at_other_turn c.self.inside.turn c.prior-self-inside.result turned_back_header c.prior-self-inside.ensures c.self.inside.kept.items) (counted_turned_back _ _ _ c.self.invariant e.objects e.unmarked e.dead)
 
 pub returns : goal.returns
-returns c = rw (← c.self.view_is) (all_turned _ _ _ c.prior-self-inside.ensures c.self.inside.kept.items)
+returns c = rw (← c.self.view_is) (headers_shown_at_other_turn _ _ _ c.prior-self-inside.ensures c.self.inside.kept.items)

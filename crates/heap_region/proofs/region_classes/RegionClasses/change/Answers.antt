@@ -1,7 +1,7 @@
 use Rattle.std.proofs.Common.{◌≡◌, ◌<◌, ◌≤◌, length, ℕ, List, get_or, set, ap, subst, ◌∙◌, arith, length-set}
 use Rattle.heap_region.specs.Table.{IsLowest}
 use Rattle.heap_region.specs.declared.region_classes.RegionClasses.TheInside.{Inside}
-use Rattle.heap_region.proofs.ChangedClasses.{few_set, kept_all, next_all, lower_all, stays_all}
+use Rattle.heap_region.proofs.ChangedClasses.{class_table_stays_short, lowest_regions_kept_almost, lowest_regions_almost_after_search, changed_region_becomes_lowest, lowest_regions_stay_after_change}
 use Rattle.heap_region.proofs.region_classes.RegionClasses.change.Goals as goal
 use Rattle.heap_region.proofs.region_classes.RegionClasses.change.Goals.{then-self-was, else-self-was}
 
@@ -20,17 +20,17 @@ invariant_of-self c =
     let l = c.self.inside.lowest in
     let under = within t _ c.args.region c.self.view_is c.requires.there in
     let is = was_at t _ c.args.region c.args.was c.self.view_is c.requires.was in
-    let few = few_set t c.args.region c.args.class c.self.invariant.0 in
+    let few = class_table_stays_short t c.args.region c.args.class c.self.invariant.0 in
     elim c.if-self-was.branch [
       | then-self-was w ↦
           let found = subst (λ (xs : List ℕ). IsLowest xs c.args.was c.args.region w.lowest_from.result) w.deref.ensures.value w.lowest_from.ensures in
-          let almost = next_all t l c.args.region c.args.was c.args.class w.lowest_from.result c.self.invariant.1 under is c.ranges.was.fits c.self.told w.if-self-was.true found in
+          let almost = lowest_regions_almost_after_search t l c.args.region c.args.was c.args.class w.lowest_from.result c.self.invariant.1 under is c.ranges.was.fits c.self.told w.if-self-was.true found in
           let above = subst (λ (s : Inside). c.args.region < get_or s.lowest c.args.class 0) w.self-inside-is c.if-self-class.true in
-          rw w.self-inside-is (few, lower_all t (set l c.args.was w.lowest_from.result) c.args.region c.args.class almost under c.ranges.class.fits (sized l c.args.was w.lowest_from.result c.self.told) above)
+          rw w.self-inside-is (few, changed_region_becomes_lowest t (set l c.args.was w.lowest_from.result) c.args.region c.args.class almost under c.ranges.class.fits (sized l c.args.was w.lowest_from.result c.self.told) above)
       | else-self-was w ↦
-          let almost = kept_all t l c.args.region c.args.was c.args.class c.self.invariant.1 under is w.if-self-was.false in
+          let almost = lowest_regions_kept_almost t l c.args.region c.args.was c.args.class c.self.invariant.1 under is w.if-self-was.false in
           let above = subst (λ (s : Inside). c.args.region < get_or s.lowest c.args.class 0) w.self-inside-is c.if-self-class.true in
-          rw w.self-inside-is (few, lower_all t l c.args.region c.args.class almost under c.ranges.class.fits c.self.told above)
+          rw w.self-inside-is (few, changed_region_becomes_lowest t l c.args.region c.args.class almost under c.ranges.class.fits c.self.told above)
     ]
 
 pub invariant_of-self-else-self-class : goal.invariant_of-self-else-self-class
@@ -39,15 +39,15 @@ invariant_of-self-else-self-class c =
     let l = c.self.inside.lowest in
     let under = within t _ c.args.region c.self.view_is c.requires.there in
     let is = was_at t _ c.args.region c.args.was c.self.view_is c.requires.was in
-    let few = few_set t c.args.region c.args.class c.self.invariant.0 in
+    let few = class_table_stays_short t c.args.region c.args.class c.self.invariant.0 in
     elim c.if-self-was.branch [
       | then-self-was w ↦
           let found = subst (λ (xs : List ℕ). IsLowest xs c.args.was c.args.region w.lowest_from.result) w.deref.ensures.value w.lowest_from.ensures in
-          let almost = next_all t l c.args.region c.args.was c.args.class w.lowest_from.result c.self.invariant.1 under is c.ranges.was.fits c.self.told w.if-self-was.true found in
+          let almost = lowest_regions_almost_after_search t l c.args.region c.args.was c.args.class w.lowest_from.result c.self.invariant.1 under is c.ranges.was.fits c.self.told w.if-self-was.true found in
           let below = subst (λ (s : Inside). get_or s.lowest c.args.class 0 ≤ c.args.region) w.self-inside-is c.if-self-class.false in
-          rw w.self-inside-is (few, stays_all t (set l c.args.was w.lowest_from.result) c.args.region c.args.class almost under below)
+          rw w.self-inside-is (few, lowest_regions_stay_after_change t (set l c.args.was w.lowest_from.result) c.args.region c.args.class almost under below)
       | else-self-was w ↦
-          let almost = kept_all t l c.args.region c.args.was c.args.class c.self.invariant.1 under is w.if-self-was.false in
+          let almost = lowest_regions_kept_almost t l c.args.region c.args.was c.args.class c.self.invariant.1 under is w.if-self-was.false in
           let below = subst (λ (s : Inside). get_or s.lowest c.args.class 0 ≤ c.args.region) w.self-inside-is c.if-self-class.false in
-          rw w.self-inside-is (few, stays_all t l c.args.region c.args.class almost under below)
+          rw w.self-inside-is (few, lowest_regions_stay_after_change t l c.args.region c.args.class almost under below)
     ]

@@ -1,6 +1,6 @@
 use Rattle.std.proofs.Common.{subst}
 use Rattle.heap_server.specs.Ahead.{IsSeenBehind}
-use Rattle.heap_server.proofs.AheadSeen.{seen_behind}
+use Rattle.heap_server.proofs.AheadSeen.{inlet_seen_behind_session}
 use Rattle.heap_server.proofs.ahead.AheadInlet.into_inlet.Goals as goal
 
 pub returns : goal.returns
@@ -8,4 +8,4 @@ returns g c =
     let start = g.B.AheadOrigin.start in
     let last = g.I.Inlet.seen c.self.inside.inlet in
     subst (λ s. IsSeenBehind start.bytes start.failed start.first last s.seen) c.self.view_is
-    (seen_behind c.self.inside.start start.bytes start.failed start.first last _ c.self.invariant.2)
+    (inlet_seen_behind_session c.self.inside.start start.bytes start.failed start.first last _ c.self.invariant.2)

@@ -1,18 +1,18 @@
 use Rattle.std.proofs.Common.{◌∙◌, ap, inr}
 use Rattle.heap_lock.specs.LockStates.{SeatModel, LockState}
-use Rattle.heap_server.proofs.HeldSteps.{answered_as, never_placed, never_refused, no_entry, none_gained, step_gained}
+use Rattle.heap_server.proofs.HeldSteps.{outcome_answered_is_reply, step_reply_is_never_place, allowed_act_never_refused, refused_act_has_no_entry, none_gained, step_gained}
 use Rattle.heap_server.proofs.held_heap.HeldHeapSteps.take.Goals as goal
 
 pub unreachable-requires : goal.unreachable-requires
 unreachable-requires g c =
     let moves = c.in-Ok.ensures.moves in
-    never_refused _ _ c.args.event _ _ c.requires.allowed moves.0 moves.2.enters c.in-Refused.is
+    allowed_act_never_refused _ _ c.args.event _ _ c.requires.allowed moves.0 moves.2.enters c.in-Refused.is
 
 pub unreachable-requires-in-Place : goal.unreachable-requires-in-Place
-unreachable-requires-in-Place g c = never_placed _ _ c.args.event _ _ c.in-Ok.ensures.moves.0 c.in-Place.is
+unreachable-requires-in-Place g c = step_reply_is_never_place _ _ c.args.event _ _ c.in-Ok.ensures.moves.0 c.in-Place.is
 
 pub returns-in-Answered-clause-done : goal.returns-in-Answered-clause-done
-returns-in-Answered-clause-done g c = answered_as _ _ c.args.event _ _ c.in-Ok.ensures.moves.0 c.in-Answered.is
+returns-in-Answered-clause-done g c = outcome_answered_is_reply _ _ c.args.event _ _ c.in-Ok.ensures.moves.0 c.in-Answered.is
 
 pub returns-in-Answered-clause-still : goal.returns-in-Answered-clause-still
 returns-in-Answered-clause-still g c = ap (λ (s : SeatModel). s.role) c.in-Ok.ensures.act.5 ∙ c.requires.may
@@ -25,7 +25,7 @@ pub returns-in-Err-clause-still : goal.returns-in-Err-clause-still
 returns-in-Err-clause-still g c = ap (λ (s : SeatModel). s.role) c.in-Err.ensures.unchanged.1 ∙ c.requires.may
 
 pub returns-in-Err-clause-refused : goal.returns-in-Err-clause-refused
-returns-in-Err-clause-refused g c = inr (no_entry c.args.self.now.kept.now _ c.in-Err.ensures.refused)
+returns-in-Err-clause-refused g c = inr (refused_act_has_no_entry c.args.self.now.kept.now _ c.in-Err.ensures.refused)
 
 pub returns-in-Err-clause-unchanged : goal.returns-in-Err-clause-unchanged
 returns-in-Err-clause-unchanged g c = (

@@ -2,7 +2,7 @@ use Rattle.std.proofs.Common.{refl, subst, sym}
 use Rattle.heap_lock.specs.Action.TheVariants.{Step}
 use Rattle.heap_server.specs.JoinedActs.{IsJoined}
 use Rattle.heap_server.specs.Stations.{Station}
-use Rattle.heap_server.proofs.Acts.{acted}
+use Rattle.heap_server.proofs.Acts.{received_reply_is_acted}
 use Rattle.heap_server.proofs.joined.JoinedCommands.act.Goals as goal
 
 pub returns-in-Step-clause-acts : goal.returns-in-Step-clause-acts
@@ -10,4 +10,4 @@ returns-in-Step-clause-acts g c =
     let joined = c.self.inside in
     subst (λ (s : Station). IsJoined g.L.Heap.config s.seat s.seen c.args.action c.reply_to_act.result c.act.new.seat joined.witness) c.self.view_is
     (subst (λ a. IsJoined g.L.Heap.config joined.seat joined.witness a c.reply_to_act.result c.act.new.seat joined.witness) (sym c.in-Step.is)
-    (acted g.L.Heap.config joined.seat c.act.new.seat (Step c.in-Step.event) c.act.result c.reply_to_act.result c.act.ensures.receipt c.act.ensures.stands c.act.ensures.refused c.reply_to_act.ensures.reply, refl))
+    (received_reply_is_acted g.L.Heap.config joined.seat c.act.new.seat (Step c.in-Step.event) c.act.result c.reply_to_act.result c.act.ensures.receipt c.act.ensures.stands c.act.ensures.refused c.reply_to_act.ensures.reply, refl))

@@ -5,7 +5,7 @@ use Rattle.hprof_text.specs.Records.{sub_record_bytes}
 use Rattle.hprof_text.specs.SizeSums.{IsMeasured}
 use Rattle.hprof_text.specs.declared.measure.Measure.{Measure}
 use Rattle.hprof_text.specs.declared.section.Section.TheVariants.{Numbered}
-use Rattle.hprof_text.proofs.AddedSizes.{item_measured, items_measured, none_added, none_sized, sub_sized}
+use Rattle.hprof_text.proofs.AddedSizes.{section_item_is_measured, section_items_are_measured, measure_with_no_sizes_added, no_sub_record_no_sizes, sub_record_has_one_size}
 use Rattle.hprof_text.proofs.measure.Measure.add_items.Goals.{in-Some, in_default}
 use Rattle.hprof_text.proofs.measure.Measure.add_items.Goals as goal
 
@@ -24,11 +24,11 @@ loop-number-preserved g c =
     elim c.match-item.branch [
       | in-Some w ↦
           let size = w.size.result in
-          let sized = sub_sized ids image.classes given w.in-Some.sub_record c.id_size-ids.result c.classes-classes.result size w.in-Some.is c.id_size-ids.ensures c.classes-classes.ensures.value w.size.ensures.value in
-          let added = item_measured ids image s n item rest (size ∷ []) old now w.add.new.self c.item.ensures.value sized w.add.ensures.added c.loop-number.invariant.0 in
+          let sized = sub_record_has_one_size ids image.classes given w.in-Some.sub_record c.id_size-ids.result c.classes-classes.result size w.in-Some.is c.id_size-ids.ensures c.classes-classes.ensures.value w.size.ensures.value in
+          let added = section_item_is_measured ids image s n item rest (size ∷ []) old now w.add.new.self c.item.ensures.value sized w.add.ensures.added c.loop-number.invariant.0 in
           subst Kept (sym w.self-is) (added, omega (arith, c.loop-number.invariant.1, w.add.ensures.limit, w.size.ensures.limit.1))
       | in_default w ↦
-          let added = item_measured ids image s n item rest [] old now now c.item.ensures.value (none_sized ids image.classes given w.in_default.is) (none_added now) c.loop-number.invariant.0 in
+          let added = section_item_is_measured ids image s n item rest [] old now now c.item.ensures.value (no_sub_record_no_sizes ids image.classes given w.in_default.is) (measure_with_no_sizes_added now) c.loop-number.invariant.0 in
           subst Kept (sym w.self-is) (added, omega (arith, c.loop-number.invariant.1))
     ]
 
@@ -37,4 +37,4 @@ returns-clause-added g c =
     let ids = g.V.View.ids c.args.view.now in
     let image = g.V.View.image c.args.view.now in
     let n = c.loop-number.number in
-    items_measured ids image (Numbered c.args.section) n (from_item ids image (Numbered c.args.section) 0) c.args.self.now c.loop-number.self (omega (arith, c.loop-number-test.false, c.count-number-end.ensures.value)) c.loop-number.invariant.0
+    section_items_are_measured ids image (Numbered c.args.section) n (from_item ids image (Numbered c.args.section) 0) c.args.self.now c.loop-number.self (omega (arith, c.loop-number-test.false, c.count-number-end.ensures.value)) c.loop-number.invariant.0

@@ -5,9 +5,9 @@ use Rattle.hprof_text.specs.SegmentFilling.{body_filled}
 use Rattle.hprof_text.specs.Text.{dump_of}
 use Rattle.hprof_text.specs.declared.Cursor.TheVariants.{Object}
 use Rattle.hprof_text.specs.declared.section.Section.TheVariants.{Objects}
-use Rattle.hprof_text.proofs.FilledSegments.{by_one, item_taken, item_left, items_taken}
-use Rattle.hprof_text.proofs.NumberedPieces.{filled_to}
-use Rattle.hprof_text.proofs.ViewedObjects.{here, is_there, object_record, within, objects_past}
+use Rattle.hprof_text.proofs.FilledSegments.{one_sub_record_item_offered, taken_item_fills_body, item_not_taken_is_left, all_items_fill_body}
+use Rattle.hprof_text.proofs.NumberedPieces.{body_filled_to_cursor}
+use Rattle.hprof_text.proofs.ViewedObjects.{here, is_there, object_record, number_after_place_within, no_objects_past_places}
 use Rattle.hprof_text.proofs.segment.Segment.fill_objects.Goals as goal
 
 pub returns-then-not-offer_object : goal.returns-then-not-offer_object
@@ -21,9 +21,9 @@ returns-then-not-offer_object g c = λ n b l.
     let e = sym (c.loop-here.invariant.here n b) ∙ c.in-Some.is in
     let x = dump_of c.id_size-ids.result c.classes-classes.result c.id.result c.kind.result c.words.result.now in
     let r = object_record ids image places i at c.id_size-ids.result c.classes-classes.result c.id.result c.kind.result c.words.result.now c.classes-classes.ensures.limits c.classes-classes.ensures.placed e c.id_size-ids.ensures c.classes-classes.ensures.value (c.id.ensures i e) (c.kind.ensures i e) (c.words.ensures i e) in
-    let o = by_one x c.loop-here.self c.offer_object.new.self c.offer_object.result c.offer_object.ensures in
-    filled_to ids image places (from_item ids image Objects n) (Object at) c.args.self.now c.offer_object.new.self (from_item ids image Objects i)
-    (item_left ids image Objects i n (x ∷ []) c.args.self.now c.loop-here.self c.offer_object.new.self c.offer_object.result r c.if-not-offer_object.true o (c.loop-here.invariant.filled n b)) (i, e, refl)
+    let o = one_sub_record_item_offered x c.loop-here.self c.offer_object.new.self c.offer_object.result c.offer_object.ensures in
+    body_filled_to_cursor ids image places (from_item ids image Objects n) (Object at) c.args.self.now c.offer_object.new.self (from_item ids image Objects i)
+    (item_not_taken_is_left ids image Objects i n (x ∷ []) c.args.self.now c.loop-here.self c.offer_object.new.self c.offer_object.result r c.if-not-offer_object.true o (c.loop-here.invariant.filled n b)) (i, e, refl)
 
 pub offer_object-requires-clause-small : goal.offer_object-requires-clause-small
 offer_object-requires-clause-small g c =
@@ -36,7 +36,7 @@ pub loop-here-smaller : goal.loop-here-smaller
 loop-here-smaller g c =
     let n = c.requires.0 in
     let e = sym (c.loop-here.invariant.here n c.requires.1) ∙ c.in-Some.is in
-    let w = within (g.V.View.places c.args.view.now) (n + c.loop-here.passed) c.in-Some.at e in
+    let w = number_after_place_within (g.V.View.places c.args.view.now) (n + c.loop-here.passed) c.in-Some.at e in
     omega (arith, w)
 
 pub loop-here-preserved : goal.loop-here-preserved
@@ -53,14 +53,14 @@ loop-here-preserved g c =
           let e = sym (c.loop-here.invariant.here n b) ∙ c.in-Some.is in
           let s : n + p + 1 ≡ n + (p + 1) = omega arith in
           c.next-here.ensures (n + p) e ∙ ap (slice_get places) s;
-      passed = λ n b l. omega (arith, within places (n + p) at (sym (c.loop-here.invariant.here n b) ∙ c.in-Some.is));
+      passed = λ n b l. omega (arith, number_after_place_within places (n + p) at (sym (c.loop-here.invariant.here n b) ∙ c.in-Some.is));
       filled = λ n b.
           let i = n + p in
           let e = sym (c.loop-here.invariant.here n b) ∙ c.in-Some.is in
           let r = object_record ids image places i at c.id_size-ids.result c.classes-classes.result c.id.result c.kind.result c.words.result.now c.classes-classes.ensures.limits c.classes-classes.ensures.placed e c.id_size-ids.ensures c.classes-classes.ensures.value (c.id.ensures i e) (c.kind.ensures i e) (c.words.ensures i e) in
-          let o = by_one x c.loop-here.self c.offer_object.new.self c.offer_object.result c.offer_object.ensures in
+          let o = one_sub_record_item_offered x c.loop-here.self c.offer_object.new.self c.offer_object.result c.offer_object.ensures in
           let s : n + p + 1 ≡ n + (p + 1) = omega arith in
-          item_taken ids image Objects i n (x ∷ []) c.args.self.now c.loop-here.self c.offer_object.new.self c.offer_object.result r c.if-not-offer_object.false o (c.loop-here.invariant.filled n b)
+          taken_item_fills_body ids image Objects i n (x ∷ []) c.args.self.now c.loop-here.self c.offer_object.new.self c.offer_object.result r c.if-not-offer_object.false o (c.loop-here.invariant.filled n b)
           ∙ ap (λ k. body_filled c.offer_object.new.self (from_item ids image Objects k)) s;
     }
 
@@ -70,8 +70,8 @@ returns g c = λ n b l.
     let ids = g.V.View.ids v in
     let image = g.V.View.image v in
     let i = n + c.loop-here.passed in
-    let h = objects_past ids image (g.V.View.places v) i (sym c.in_default.is ∙ c.loop-here.invariant.here n b) c.classes-classes.ensures.placed in
-    items_taken ids image Objects i n c.args.self.now c.loop-here.self h (c.loop-here.invariant.filled n b)
+    let h = no_objects_past_places ids image (g.V.View.places v) i (sym c.in_default.is ∙ c.loop-here.invariant.here n b) c.classes-classes.ensures.placed in
+    all_items_fill_body ids image Objects i n c.args.self.now c.loop-here.self h (c.loop-here.invariant.filled n b)
 
 pub id-requires : goal.id-requires
 id-requires g c = is_there (g.V.View.places c.args.view.now) (c.requires.0 + c.loop-here.passed) c.in-Some.at (sym (c.loop-here.invariant.here c.requires.0 c.requires.1) ∙ c.in-Some.is)

@@ -2,18 +2,18 @@ use Rattle.std.proofs.Common.{[], sym, ◌∙◌}
 use Rattle.heap_class.specs.declared.ObjKind.TheVariants.{Array}
 use Rattle.hprof_text.specs.Text.{dump_of}
 use Rattle.hprof_text.proofs.Lengths.{array_dump_length}
-use Rattle.hprof_text.proofs.RecordOffers.{room_taken, still_segment, offer_taken, offer_left}
+use Rattle.hprof_text.proofs.RecordOffers.{taken_record_has_room, written_segment_is_segment, taken_record_is_offered, record_left_is_offered}
 use Rattle.hprof_text.proofs.segment.Segment.offer_array.Goals as goal
 
 pub object_array_dump-requires-clause-room : goal.object_array_dump-requires-clause-room
-object_array_dump-requires-clause-room c = room_taken c.self.inside.buffer c.args.self.now (dump_of c.args.ids [] c.args.object (Array c.args.class) c.args.words.now) c.array_size.result c.self.view_is c.self.invariant (c.array_size.ensures.value c.args.class ∙ sym (array_dump_length c.args.ids [] c.args.object c.args.class c.args.words.now)) c.array_size.ensures.limit (sym c.takes-taken.ensures ∙ c.if-taken.true)
+object_array_dump-requires-clause-room c = taken_record_has_room c.self.inside.buffer c.args.self.now (dump_of c.args.ids [] c.args.object (Array c.args.class) c.args.words.now) c.array_size.result c.self.view_is c.self.invariant (c.array_size.ensures.value c.args.class ∙ sym (array_dump_length c.args.ids [] c.args.object c.args.class c.args.words.now)) c.array_size.ensures.limit (sym c.takes-taken.ensures ∙ c.if-taken.true)
 
 pub invariant_of-self : goal.invariant_of-self
-invariant_of-self c = still_segment c.self.inside.buffer c.object_array_dump.new.self (dump_of c.args.ids [] c.args.object (Array c.args.class) c.args.words.now) c.self.invariant
-    (room_taken c.self.inside.buffer c.args.self.now (dump_of c.args.ids [] c.args.object (Array c.args.class) c.args.words.now) c.array_size.result c.self.view_is c.self.invariant (c.array_size.ensures.value c.args.class ∙ sym (array_dump_length c.args.ids [] c.args.object c.args.class c.args.words.now)) c.array_size.ensures.limit (sym c.takes-taken.ensures ∙ c.if-taken.true)) c.object_array_dump.ensures.written c.object_array_dump.ensures.limit
+invariant_of-self c = written_segment_is_segment c.self.inside.buffer c.object_array_dump.new.self (dump_of c.args.ids [] c.args.object (Array c.args.class) c.args.words.now) c.self.invariant
+    (taken_record_has_room c.self.inside.buffer c.args.self.now (dump_of c.args.ids [] c.args.object (Array c.args.class) c.args.words.now) c.array_size.result c.self.view_is c.self.invariant (c.array_size.ensures.value c.args.class ∙ sym (array_dump_length c.args.ids [] c.args.object c.args.class c.args.words.now)) c.array_size.ensures.limit (sym c.takes-taken.ensures ∙ c.if-taken.true)) c.object_array_dump.ensures.written c.object_array_dump.ensures.limit
 
 pub returns-then-taken : goal.returns-then-taken
-returns-then-taken c = offer_taken c.self.inside.buffer c.object_array_dump.new.self c.args.self.now (dump_of c.args.ids [] c.args.object (Array c.args.class) c.args.words.now) c.array_size.result c.takes-taken.result c.self.view_is c.self.invariant (c.array_size.ensures.value c.args.class ∙ sym (array_dump_length c.args.ids [] c.args.object c.args.class c.args.words.now)) c.takes-taken.ensures c.if-taken.true c.object_array_dump.ensures.written
+returns-then-taken c = taken_record_is_offered c.self.inside.buffer c.object_array_dump.new.self c.args.self.now (dump_of c.args.ids [] c.args.object (Array c.args.class) c.args.words.now) c.array_size.result c.takes-taken.result c.self.view_is c.self.invariant (c.array_size.ensures.value c.args.class ∙ sym (array_dump_length c.args.ids [] c.args.object c.args.class c.args.words.now)) c.takes-taken.ensures c.if-taken.true c.object_array_dump.ensures.written
 
 pub returns-else-taken : goal.returns-else-taken
-returns-else-taken c = offer_left c.args.self.now (dump_of c.args.ids [] c.args.object (Array c.args.class) c.args.words.now) c.array_size.result c.takes-taken.result (c.array_size.ensures.value c.args.class ∙ sym (array_dump_length c.args.ids [] c.args.object c.args.class c.args.words.now)) c.takes-taken.ensures c.if-taken.false
+returns-else-taken c = record_left_is_offered c.args.self.now (dump_of c.args.ids [] c.args.object (Array c.args.class) c.args.words.now) c.array_size.result c.takes-taken.result (c.array_size.ensures.value c.args.class ∙ sym (array_dump_length c.args.ids [] c.args.object c.args.class c.args.words.now)) c.takes-taken.ensures c.if-taken.false

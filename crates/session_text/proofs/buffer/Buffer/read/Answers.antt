@@ -1,5 +1,5 @@
 use Rattle.std.proofs.Common.{arith, ◌-◌}
-use Rattle.session_text.proofs.Lists.{moved_none}
+use Rattle.session_text.proofs.Lists.{no_line_feed_in_moved_bytes}
 use Rattle.session_text.proofs.buffer.Buffer.read.Goals as goal
 
 pub invariant_of-self : goal.invariant_of-self
@@ -12,5 +12,5 @@ invariant_of-self g c =
       omega (arith, r.fits, c.count_of.ensures),
       r.room.0,
       r.room.1,
-      moved_none i.bytes.items now i.start (i.end - i.start) i.scanned (omega (arith, v.0)) v.4 r.kept,
+      no_line_feed_in_moved_bytes i.bytes.items now i.start (i.end - i.start) i.scanned (omega (arith, v.0)) v.4 r.kept,
     )

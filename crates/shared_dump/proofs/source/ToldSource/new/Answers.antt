@@ -2,7 +2,7 @@ use Rattle.std.proofs.Common.{List, [], ◌∷◌, ◌++◌, None, sym, ap, ◌�
 use Rattle.dump_pump.specs.Sources.{parts_in}
 use Rattle.heap_lock.specs.Dumpers.{DumperState}
 use Rattle.shared_dump.specs.Supplies.{ToldSupply, IsSupplied, first_dumper, supply_of}
-use Rattle.shared_dump.proofs.SupplySteps.{nothing_supplied}
+use Rattle.shared_dump.proofs.SupplySteps.{fresh_source_supplied_nothing}
 use Rattle.shared_dump.proofs.source.ToldSource.new.Goals as goal
 
 pub returns : goal.returns
@@ -12,4 +12,4 @@ returns g c =
     λ i. supply_of (n.0 i) (n.1 i) (first i) (n.2 i) (parts_in (c.new-3.ensures i)) (n.3 i) None
 
 pub invariant_of-result : goal.invariant_of-result
-invariant_of-result g c = subst (λ (t : ToldSupply). IsSupplied g.L.Heap.config t) (sym (returns g c)) (nothing_supplied g.L.Heap.config c.args.pin c.args.time c.args.dumper)
+invariant_of-result g c = subst (λ (t : ToldSupply). IsSupplied g.L.Heap.config t) (sym (returns g c)) (fresh_source_supplied_nothing g.L.Heap.config c.args.pin c.args.time c.args.dumper)

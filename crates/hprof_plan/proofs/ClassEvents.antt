@@ -1,21 +1,19 @@
 -- The events of classes that a heap takes have lines.
-use Rattle.std.proofs.Common.{◌≡◌, ℕ, ◌+◌, ◌<◌, ◌≤◌, ◌^◌, Bool, true, false, cond, not, ◌&&◌, ◌||◌, List, [], ◌∷◌, ◌++◌, length, map, Option, Some, None, refl, sym, ap, subst, ◌∙◌, append_assoc, arith, inl, inr, ◌⊎◌, true≢false}
+use Rattle.std.proofs.Common.{◌≡◌, ℕ, ◌+◌, ◌<◌, ◌≤◌, ◌^◌, Bool, true, false, not, ◌&&◌, ◌||◌, List, [], ◌∷◌, ◌++◌, length, map, Option, Some, None, refl, sym, ap, subst, ◌∙◌, append_assoc, arith, inl, inr, true≢false}
 use Rattle.std.specs.Prelude.{codes, ◌==◌, nat_le, flat_map}
 use Rattle.std.specs.Char.{is_ascii_alphanumeric, is_ascii_graphic}
 use Rattle.std.specs.List.{list_any, list_all, AllByRecursion}
 use Rattle.std.specs.Option.{option_map_or}
-use Rattle.std.specs.Str.{bytes_eq}
 use Rattle.std.proofs.lemmas.Bool.{ne_eqb, eqb-true, and_parts, and_from, or_cases, not-true, not-false, not_from_false, or_parts, leb-true, le-leb}
 use Rattle.std.proofs.lemmas.List.{append-nil}
 use Rattle.std.proofs.lemmas.List.Concat.{flat_map-cons}
 use Rattle.heap_class.specs.declared.ClassLimits.{ClassLimits}
 use Rattle.heap_class.specs.declared.Field.{Field}
 use Rattle.heap_class.specs.Classes.{Class, is_name, is_name_byte, names_in, class_refusal, is_instance_class, array_class, instance_class}
-use Rattle.heap_class.specs.Limits.{AreClassLimits}
 use Rattle.heap_class.proofs.Refusals.{no_refusal_test_holds}
 use Rattle.heap_class.proofs.Slots.{instance_class_is_in_table}
 use Rattle.session_lines.specs.EventLines.{line_of}
-use Rattle.session_lines.specs.Laws.{is_sign, IsWord, IsFieldWord, IsLong, IsLongOrNone, HasLine}
+use Rattle.session_lines.specs.Laws.{is_sign, IsWord, IsFieldWord, IsLongOrNone, HasLine}
 use Rattle.hprof_plan.specs.Accepted.{class_event, class_lines, AreAccepted}
 
 -- ---- bytes

@@ -1,17 +1,17 @@
 -- Names that are given to classes or fields, each once.
-use Rattle.std.proofs.Common.{◌≡◌, ℕ, ◌+◌, ◌-◌, ◌<◌, ◌≤◌, ◌^◌, Bool, true, false, cond, not, ◌&&◌, List, [], ◌∷◌, ◌++◌, length, map, take, refl, sym, ap, subst, ◌∙◌, append_assoc, arith, inl, inr, ◌⊎◌, true≢false}
-use Rattle.std.specs.Prelude.{codes, decimal, ◌==◌, nat_le}
-use Rattle.std.specs.List.{list_any, list_all, AllByRecursion}
+use Rattle.std.proofs.Common.{◌≡◌, ℕ, ◌+◌, ◌-◌, ◌<◌, ◌≤◌, ◌^◌, Bool, true, false, cond, not, ◌&&◌, List, [], ◌∷◌, ◌++◌, length, map, take, refl, sym, ap, subst, ◌∙◌, append_assoc, arith, inl, inr, true≢false}
+use Rattle.std.specs.Prelude.{decimal, ◌==◌, nat_le}
+use Rattle.std.specs.List.{list_any, list_all}
 use Rattle.std.specs.Str.{bytes_eq}
 use Rattle.std.specs.Str.Parse.{AllDigits}
-use Rattle.std.proofs.lemmas.Bool.{ne_eqb, cond-true, cond-false, and_parts, and_from, and_cases, not-true, or_from, or_left, or_right, false_from_ne_true, le-leb, cases_Bool}
+use Rattle.std.proofs.lemmas.Bool.{ne_eqb, cond-false, and_parts, and_from, not-true, or_from, or_left, or_right, false_from_ne_true, le-leb}
 use Rattle.std.proofs.lemmas.Fmt.{decimal_is_IsNumeral, decimal_injective, length-decimal-le}
 use Rattle.std.proofs.lemmas.List.{length-append, length-map, length-take}
 use Rattle.std.proofs.lemmas.Str.Parse.{tells_digits}
 use Rattle.heap_class.specs.declared.ClassLimits.{ClassLimits}
-use Rattle.heap_class.specs.Classes.{Class, is_name, is_name_byte}
-use Rattle.heap_class.proofs.FirstUses.{bytes_same, bytes_flip}
-use Rattle.hprof_plan.specs.Names.{is_clean, sign_for, other_name, given_name, IsOther, IsGiven, AreGiven}
+use Rattle.heap_class.specs.Classes.{is_name, is_name_byte}
+use Rattle.heap_class.proofs.FirstUses.{bytes_same}
+use Rattle.hprof_plan.specs.Names.{is_clean, sign_for, other_name, given_name, IsGiven, AreGiven}
 
 -- ---- other names
 

@@ -1,10 +1,7 @@
 -- Classes that a heap takes, one after another, and the lines that define them.
-use Rattle.std.specs.Prelude.{◌≡◌, ℕ, ◌+◌, ◌<◌, ◌≤◌, Bool, true, List, [], ◌∷◌, ◌++◌, length, map, None, flat_map, cond}
-use Rattle.std.specs.List.{list_all}
-use Rattle.std.specs.Option.{option_map_or}
+use Rattle.std.specs.Prelude.{◌≡◌, ℕ, ◌+◌, List, [], ◌∷◌, ◌++◌, length, map, None, flat_map, cond}
 use Rattle.heap_class.specs.declared.ClassLimits.{ClassLimits}
-use Rattle.heap_class.specs.Classes.{Class, class_refusal, is_instance_class, is_name, all_distinct, slots_of}
-use Rattle.heap_class.specs.Limits.{slot_limit}
+use Rattle.heap_class.specs.Classes.{Class, class_refusal}
 use Rattle.heap_step.specs.declared.Event.{Event}
 use Rattle.heap_step.specs.declared.Event.TheVariants as events
 use Rattle.session_lines.specs.EventLines.{line_of}

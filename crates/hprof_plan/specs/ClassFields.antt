@@ -1,5 +1,5 @@
 -- The fields of the classes of a session.
-use Rattle.std.specs.Prelude.{ℕ, nat_eq, List, [], ◌∷◌, ◌++◌, length, map, fold, unwrap_or, Option, Some, None}
+use Rattle.std.specs.Prelude.{ℕ, nat_eq, List, [], ◌∷◌, ◌++◌, length, map, fold, unwrap_or}
 use Rattle.std.specs.Option.{option_map_or}
 use Rattle.std.specs.Map.{lookup}
 use Rattle.heap_class.specs.declared.ClassLimits.{ClassLimits}

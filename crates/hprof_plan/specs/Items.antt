@@ -3,7 +3,7 @@ use Rattle.std.specs.Prelude.{ℕ, ◌==◌, List, drop, take, length, nat_lt, c
 use Rattle.std.specs.Int.{w32, w64, from_be_bytes}
 use Rattle.heap_class.specs.declared.IdSize.{IdSize}
 use Rattle.heap_class.specs.declared.IdSize.TheVariants.{Four, Eight}
-use Rattle.hprof_reader.specs.SubRecords.{Sub, ClassTold, root, class, instance, array, prim}
+use Rattle.hprof_reader.specs.SubRecords.{ClassTold, root, class, instance, array, prim}
 use Rattle.hprof_session.specs.Walks.{ItemTold, record_told, sub_told}
 use Rattle.hprof_plan.specs.declared.items.RootFound.{RootFound}
 

@@ -1,4 +1,4 @@
-use Rattle.std.proofs.Common.{◌≡◌, ◌∙◌, ◌==◌, ◌||◌, ◌+◌, suc, true, false, sym, ap, arith, drop, eq-eqb, ne_eqb}
+use Rattle.std.proofs.Common.{◌≡◌, ◌∙◌, ◌==◌, ◌||◌, ◌+◌, suc, sym, ap, arith, drop, eq-eqb, ne_eqb}
 use Rattle.std.specs.List.{list_any}
 use Rattle.heap_server.proofs.OpenPins.{pin_is_here_or_behind, no_pin_past_last}
 use Rattle.heap_server.proofs.joined.is_open.Goals as goal

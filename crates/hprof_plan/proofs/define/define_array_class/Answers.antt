@@ -1,5 +1,5 @@
 use Rattle.std.proofs.Common.{arith, refl}
-use Rattle.heap_class.specs.Classes.{Class, array_class}
+use Rattle.heap_class.specs.Classes.{array_class}
 use Rattle.hprof_plan.proofs.ClassEvents.{array_has_line}
 use Rattle.hprof_plan.proofs.DefinedClasses.{given_for, next_is, defined_and, with_name}
 use Rattle.hprof_plan.proofs.NotRefused.{memory_only, none_right, not_refused}

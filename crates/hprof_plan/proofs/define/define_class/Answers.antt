@@ -1,5 +1,5 @@
-use Rattle.std.proofs.Common.{arith, sym, ap, ◌++◌, ◌∷◌, [], ◌∙◌}
-use Rattle.heap_class.specs.Classes.{Class, instance_class}
+use Rattle.std.proofs.Common.{arith}
+use Rattle.heap_class.specs.Classes.{instance_class}
 use Rattle.hprof_plan.proofs.ClassEvents.{class_has_line}
 use Rattle.hprof_plan.proofs.DefinedClasses.{given_for, next_is, defined_and, with_name}
 use Rattle.hprof_plan.proofs.NotRefused.{memory_only, not_refused}

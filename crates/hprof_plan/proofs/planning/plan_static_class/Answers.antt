@@ -4,7 +4,6 @@ use Rattle.heap_class.specs.declared.Field.{Field}
 use Rattle.hprof_reader.specs.Fields.{static_told}
 use Rattle.hprof_plan.specs.Right.{AreRight}
 use Rattle.hprof_plan.specs.Tables.{names_told}
-use Rattle.hprof_plan.proofs.DefinedClasses.{one_longer}
 use Rattle.hprof_plan.proofs.NotRefused.{static_right, length-static_named}
 use Rattle.hprof_plan.proofs.planning.plan_static_class.Goals as goal
 

@@ -7,6 +7,7 @@ from questions import FORMS, QUESTIONS, Asking
 
 # What questions have to be answered, and how often at least: refusals by number, others by the words after `ok`.
 ABOUT_A_MOMENT = ("ok", "ok without AT", "no 22", "no 23", "no 24")
+UP_TO_A_PLACE = ("ok without AT", "ok up to a place", "no 24")
 WANTED = {
     "histogram": ABOUT_A_MOMENT,
     "garbage": ABOUT_A_MOMENT,
@@ -22,12 +23,12 @@ WANTED = {
     "objects": (*ABOUT_A_MOMENT, "ok of class", "ok by value", "no 2", "no 9"),
     "values": ("ok nothing", "ok some", "ok several", "ok without AT", "no 2", "no 9", "no 22", "no 23", "no 24"),
     "show": (*ABOUT_A_MOMENT, "no 28"),
-    "born": ("ok place", "ok older", "no 28"),
-    "wrote": ("ok place", "ok older", "no 9", "no 28"),
-    "watch": ("ok nothing", "ok some", "no 9", "no 28"),
-    "writes": ("ok nothing", "ok some", "no 2", "no 9"),
-    "dropped": ("ok place", "ok older", "ok reached", "no 28"),
-    "history": ("ok", "ok without AT", "ok up to a place", "no 24"),
+    "born": ("ok place", "ok older", *UP_TO_A_PLACE, "no 28"),
+    "wrote": ("ok place", "ok older", *UP_TO_A_PLACE, "no 9", "no 28"),
+    "watch": ("ok nothing", "ok some", *UP_TO_A_PLACE, "no 9", "no 28"),
+    "writes": ("ok nothing", "ok some", *UP_TO_A_PLACE[1:], "no 2", "no 9"),
+    "dropped": ("ok place", "ok older", "ok reached", *UP_TO_A_PLACE, "no 28"),
+    "history": ("ok", *UP_TO_A_PLACE),
     "pins": ("ok",),
     "cells": ("ok",),
     "regions": ("ok",),
@@ -37,6 +38,8 @@ WANTED = {
     "comment": ("nothing",),
 }
 LEAST = 3
+# The questions about the steps up to a place.
+PAST = (b"born", b"wrote", b"watch", b"writes", b"dropped", b"history")
 
 
 def sorts(word, form, words, left_out, last):
@@ -44,10 +47,10 @@ def sorts(word, form, words, left_out, last):
     line."""
     if left_out and last[0] == "ok":
         yield "ok without AT"
+    if word in PAST and any(str(each).startswith("@") for each in words) and last[0] == "ok":
+        yield "ok up to a place"
     if word == b"retained" and last[0] == "ok":
         yield "ok " + {"0": "nothing", "1": "itself"}.get(last[1], "more")
-    elif word == b"history" and str(words[0]).startswith("@") and last[0] == "ok":
-        yield "ok up to a place"
     elif word == b"objects" and form in ("ac", "acnv") and last[0] == "ok" and last[1] != "0":
         yield "ok of class" if form == "ac" else "ok by value"
     elif word == b"values" and last[0] == "ok":

@@ -4,7 +4,7 @@ from __future__ import annotations
 from typing import Any, Optional, Sequence, Union
 
 from .faults import word_of
-from .moments import Moment, Now, Pin, PinAt, Place, word_of_moment
+from .moments import Moment, Now, Pin, PinAt, Place, up_to, word_of_moment
 from .rows import (
     Cells,
     ClassCount,
@@ -251,26 +251,31 @@ class Calls:
         """Returns a `ClassCount` for each class with live objects that no register reaches."""
         return self.send(f"garbage {word_of_moment(moment)}", rows_by(counted))
 
-    def wrote(self, of: int, slot: int) -> When:
-        """Returns the `When` of the newest retained step that changed a slot: ("place", P), or ("older", P)."""
-        return self.send(f"wrote {ObjectId(of)} {slot}", place_or_older)
+    def wrote(self, of: int, slot: int, moment: Moment = None) -> When:
+        """Returns the `When` of the newest retained step that changed a slot: ("place", P), or ("older", P). With a `Place` it is
+        about the object and the steps up to there."""
+        return self.send(f"wrote {up_to(moment)}{ObjectId(of)} {slot}", place_or_older)
 
-    def watch(self, of: int, slot: int) -> list[SlotChange]:
-        """Returns a `SlotChange` for each retained step that changed a slot since its object was made, the oldest first."""
-        return self.send(f"watch {ObjectId(of)} {slot}", rows_by(changed))
+    def watch(self, of: int, slot: int, moment: Moment = None) -> list[SlotChange]:
+        """Returns a `SlotChange` for each retained step that changed a slot since its object was made, the oldest first. With a
+        `Place` it is about the object and the steps up to there."""
+        return self.send(f"watch {ObjectId(of)} {slot} {up_to(moment)}".rstrip(), rows_by(changed))
 
-    def writes(self, of_class: int, slot: int) -> list[SlotWrite]:
-        """Returns a `SlotWrite` for each retained step that changed a slot of some object of a class, the oldest first."""
-        return self.send(f"writes {of_class} {slot}", rows_by(written))
+    def writes(self, of_class: int, slot: int, after: Moment = None, to: Moment = None) -> list[SlotWrite]:
+        """Returns a `SlotWrite` for each retained step that changed a slot of some object of a class, the oldest first. With a
+        `Place` it is about the steps after it, up to a second one if there is one."""
+        span = f" {word_of_moment(after)} {word_of_moment(to)}" if after is not None else ""
+        return self.send(f"writes {of_class} {slot}{span}", rows_by(written))
 
-    def born(self, of: int) -> When:
-        """Returns the `When` of the step that made an object: ("place", P), or ("older", P)."""
-        return self.send(f"born {ObjectId(of)}", place_or_older)
+    def born(self, of: int, moment: Moment = None) -> When:
+        """Returns the `When` of the step that made an object: ("place", P), or ("older", P). With a `Place` it is about the object
+        and the steps up to there."""
+        return self.send(f"born {up_to(moment)}{ObjectId(of)}", place_or_older)
 
-    def dropped(self, of: int) -> When:
-        """Returns the `When` of the step after which no register reached an object: ("place", P), ("reached",) or
-        ("older", P)."""
-        return self.send(f"dropped {ObjectId(of)}", place_or_older)
+    def dropped(self, of: int, moment: Moment = None) -> When:
+        """Returns the `When` of the step after which no register reached an object: ("place", P), ("reached",) or ("older", P).
+        With a `Place` it is about the object and the steps up to there."""
+        return self.send(f"dropped {up_to(moment)}{ObjectId(of)}", place_or_older)
 
     def history(self, count: int, moment: Moment = None) -> list[PastStep]:
         """Returns a `PastStep` for each of the newest retained steps, or of those that led to a `Place`, the newest first. A pin has

@@ -26,6 +26,8 @@ pub mod ImagePaths
 pub mod UnreachedObjects
 pub mod PastIds
 pub mod PastLosses
+pub mod PastTrails
+pub mod SeenSlots
 pub mod ListedObjects
 pub mod GrayMarks
 pub mod CountedCells

@@ -39,7 +39,7 @@ unfolding steps_back
 back_none t ago = refl
 
 -- a record behind those that are left out
-left_there : (a n : ℕ) (records : List Undo) (left : Undo) → slice_get records (a + n) ≡ Some left → slice_get (drop a records) n ≡ Some left
+pub left_there : (a n : ℕ) (records : List Undo) (left : Undo) → slice_get records (a + n) ≡ Some left → slice_get (drop a records) n ≡ Some left
 left_there a n records left there =
     let within = slice_get_within records (a + n) left there in
     slice_get-get_or (drop a records) n left (omega (arith, within, length-drop a records))

@@ -1,5 +1,5 @@
 -- The id of an object that stays where it is, and what registers reached of it.
-use Rattle.std.proofs.Common.{◌≡◌, ◌≢◌, ℕ, zero, suc, ◌+◌, ◌*◌, ◌<◌, ◌≤◌, List, Option, Some, None, IsSome, refl, sym, ap, ◌∙◌, subst, inl, inr, arith, add-one}
+use Rattle.std.proofs.Common.{◌≡◌, ◌≢◌, ℕ, zero, suc, ◌+◌, ◌*◌, ◌<◌, ◌≤◌, List, length, Option, Some, None, IsSome, refl, sym, ap, ◌∙◌, subst, inl, inr, arith, add-one}
 use Rattle.std.specs.Option.{option_map_or}
 use Rattle.std.proofs.lemmas.Bool.{cases_eq, false≢true}
 use Rattle.std.proofs.lemmas.Option.{none-some, same_Some}
@@ -26,7 +26,7 @@ use Rattle.heap_trail.proofs.RetainedRecords.{HasRecord, has_record}
 use Rattle.heap_trail.proofs.RetainedStates.{as_many, steps_legal}
 use Rattle.heap_questions.specs.Losses.{StoodFor, UnreachedFor, id_now}
 use Rattle.heap_questions.proofs.ImagePaths.{id_back}
-use Rattle.heap_questions.proofs.Sizes.{covered_size, patched_size, used_of}
+use Rattle.heap_questions.proofs.Sizes.{covered_size, patched_size, same_regions, used_of}
 use Rattle.heap_questions.proofs.ToldObjects.{reclaimed_none, told}
 use Rattle.heap_questions.proofs.UnreachedObjects.{stays_unreached}
 use Rattle.heap_questions.proofs.Walk.{now_is}
@@ -44,7 +44,7 @@ untouched_sized left before after r u t n e = covered_size (used_at before.regio
 none_touched : (left : Undo) (before after : HeapState) (r : ℕ) (u : UsedRegion) → touched left ≡ None → TellsBefore left before after → used_at before.regions r ≡ Some u → StaysSized after r u
 none_touched left before after r u n t e = untouched_sized left before after r u t (λ z. none-some r (sym n ∙ z)) e
 
-sized : (left : Undo) (before after : HeapState) (r : ℕ) (u : UsedRegion) → TellsBefore left before after → ((storage : UsedRegion) → left ≡ Reclaim r storage → ⊥) → used_at before.regions r ≡ Some u → StaysSized after r u
+pub sized : (left : Undo) (before after : HeapState) (r : ℕ) (u : UsedRegion) → TellsBefore left before after → ((storage : UsedRegion) → left ≡ Reclaim r storage → ⊥) → used_at before.regions r ≡ Some u → StaysSized after r u
 unfolding touched region_frozen
 sized left before after r u t n e = by_patch (λ k. TellsBefore k before after → left ≡ k → StaysSized after r u)
     (λ k region p t is. elim (cases_eq r region) [
@@ -86,7 +86,7 @@ stands_object w at legal h =
 -- ---- the retained states
 
 -- the step that led to the state of n steps ago
-came_ago : (keep : ℕ) (t : Trail) (n : ℕ) → IsTrail keep t → n < retained t → (left : Undo) × HasRecord t n left
+pub came_ago : (keep : ℕ) (t : Trail) (n : ℕ) → IsTrail keep t → n < retained t → (left : Undo) × HasRecord t n left
 came_ago keep t n trail l =
     let left = some_item t.records n (omega (arith, l, as_many t.current t.past t.records trail.steps)) in
     (left.0, has_record keep t n left.0 trail left.1)
@@ -118,3 +118,12 @@ unreached_since keep t at (suc n) trail l s u m k = elim (cases_eq m (suc n)) [
       let after : ¬ Reaches (state_ago n t) (id_now t at) = subst (λ (v : HeapState). ¬ Reaches v (id_now t at)) (sym c.1.1.gave) (stays_unreached c.1.0 w c.1.1.legal c.1.1.accepted (id_now t at) there before) in
       unreached_since keep t at n trail (omega (arith, l)) (λ j z. s j (omega (arith, z))) after m (omega (arith, k, d))
 ]
+
+-- each retained state has as many regions
+pub regions_ago : (keep : ℕ) (t : Trail) (n : ℕ) → IsTrail keep t → n ≤ retained t → length (state_ago n t).regions ≡ length t.current.regions
+regions_ago keep t zero trail l = ap (λ (w : HeapState). length w.regions) (now_is t)
+regions_ago keep t (suc n) trail l =
+    let c = came_ago keep t n trail (omega (arith, l)) in
+    ap (λ k. length (state_ago k t).regions) (sym (add-one n))
+    ∙ same_regions c.0 c.1.0 (state_ago (n + 1) t) (state_ago n t) c.1.1
+    ∙ regions_ago keep t n trail (omega (arith, l))

@@ -36,10 +36,6 @@ told_by_path w image x (Some p) legal e h n = (
 pub not_reached : (w : HeapState) (x y : ℕ) (b : Bool) → (IsTrue b ↔ Reaches w x) → x ≡ y → b ≡ false → ¬ Reaches w y
 not_reached w x y b told same missed r = true≢false (sym (told.1 (subst (Reaches w) (sym same) r)) ∙ missed)
 
--- the name that the regions give it is the one that it has now
-pub now_named : (t : Trail) (at : ObjRef) (x : ℕ) (s : RegionPool) (w : HeapState) → x ≡ id_of s.regions at → s ≡ pool_of w → w ≡ t.current → x ≡ id_now t at
-now_named t at x s w named is now = named ∙ ap (λ (u : RegionPool). id_of u.regions at) is ∙ ap (λ (u : HeapState). id_of u.regions at) now
-
 -- ---- how long an object stood
 
 pub stood_since : (keep : ℕ) (t : Trail) (at : ObjRef) (place : ℕ) → IsTrail keep t → IsBirth t at place → HasStood t at (t.place - place)

@@ -252,7 +252,7 @@ reclaimed_within left e before after sizes s a r u h = (
 less_words : (n : ℕ) → 0 < n → region_words / n ≤ region_words
 less_words n l = div-le_self region_words n
 
-same_regions : (left : Undo) (e : Event) (before after : HeapState) → IsStep e before after left → length before.regions ≡ length after.regions
+pub same_regions : (left : Undo) (e : Event) (before after : HeapState) → IsStep e before after left → length before.regions ≡ length after.regions
 same_regions left e before after s =
     ap (λ (w : HeapState). length w.regions) (sym (undo_takes_back e before s.legal s.accepted) ∙ sym (ap₂ (λ (l : Undo) (w : HeapState). undone l w) s.recorded s.gave))
     ∙ sym (length_undone left after)

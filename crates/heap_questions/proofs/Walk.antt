@@ -104,3 +104,6 @@ pub object_there : (w : HeapState) (at : ObjRef) (s : ℕ) → IsSome (slot_word
 object_there w at s h =
     let o = slot_there w at s h in
     subst (λ (x : Option Object). IsSome x) (sym o.1) refl
+
+pub word_there : (w : HeapState) (at : ObjRef) (s now : ℕ) → slot_word w at s ≡ Some now → IsSome (object_at w.regions at)
+word_there w at s now h = object_there w at s (subst (λ (x : Option ℕ). IsSome x) (sym h) refl)

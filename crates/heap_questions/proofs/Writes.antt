@@ -131,14 +131,14 @@ write_tells before after a at s k old now e h =
 -- ---- a new object
 
 -- the state of a cell before an object was made
-new_state : (a at : ObjRef) (fresh : Bool) (m r old : ℕ) (f : ObjRef → ℕ) → ((a.region == at.region) && (fresh || (a.cell == at.cell))) ≡ true → states_before (New a fresh m r old) f at ≡ 0
+pub new_state : (a at : ObjRef) (fresh : Bool) (m r old : ℕ) (f : ObjRef → ℕ) → ((a.region == at.region) && (fresh || (a.cell == at.cell))) ≡ true → states_before (New a fresh m r old) f at ≡ 0
 unfolding states_before
 new_state a at true m r old f e = ap (λ (b : Bool). cond b 0 (f at)) (eq-eqb at.region a.region (sym (eqb-true a.region at.region (and_parts _ _ e).0)))
 new_state a at false m r old f e =
     let p = and_parts (a.region == at.region) (a.cell == at.cell) e in
     ap₂ (λ (x y : Bool). cond (x && y) 0 (f at)) (eq-eqb at.region a.region (sym (eqb-true a.region at.region p.0))) (eq-eqb at.cell a.cell (sym (eqb-true a.cell at.cell p.1)))
 
-old_state : (a at : ObjRef) (fresh : Bool) (m r old : ℕ) (f : ObjRef → ℕ) → ((a.region == at.region) && (fresh || (a.cell == at.cell))) ≡ false → states_before (New a fresh m r old) f at ≡ f at
+pub old_state : (a at : ObjRef) (fresh : Bool) (m r old : ℕ) (f : ObjRef → ℕ) → ((a.region == at.region) && (fresh || (a.cell == at.cell))) ≡ false → states_before (New a fresh m r old) f at ≡ f at
 unfolding states_before
 old_state a at true m r old f e =
     elim (cases_eq a.region at.region) [

@@ -30,6 +30,7 @@ use Rattle.heap_trail.proofs.RetainedRecords.{HasRecord}
 use Rattle.heap_questions.specs.declared.past.writes.SlotWrite.{SlotWrite}
 use Rattle.heap_questions.specs.Changes.{made_by, slot_word}
 use Rattle.heap_questions.specs.SlotChanges.{word_before}
+use Rattle.heap_questions.specs.PastTrails.{IsPinAgo, IsShownBeside}
 use Rattle.heap_questions.specs.Wanted.{is_of_class}
 use Rattle.heap_questions.specs.SlotWrites.{AreLastWrites, AreWritesAgo, IsSlotWrite, SeesObject, SeesOverwritten, before_others, changing_write, overwritten, seen_object, write_by}
 use Rattle.heap_questions.proofs.ChangedSlots.{before_is}
@@ -38,10 +39,6 @@ use Rattle.heap_questions.proofs.Writes.{record_makes, same_place, written_here}
 
 -- ---- a pin that shows a retained state
 
--- the pin shows the state of n steps ago beside the current state
-abbrev pub IsAgo : PinContents → Trail → ℕ → Type 0
-IsAgo p t n = IsWalked p (state_ago n t) n (t.current ∷ t.past)
-
 state_there : (t : Trail) (n : ℕ) → n < retained t + 1 → slice_get (t.current ∷ t.past) n ≡ Some (state_ago n t)
 unfolding state_ago
 state_there t n l = slice_get-get_or (t.current ∷ t.past) n t.current (omega (arith, l))
@@ -49,19 +46,19 @@ state_there t n l = slice_get-get_or (t.current ∷ t.past) n t.current (omega (
 back_is : (e : Event) (before x : HeapState) (left : Undo) → IsStep e before x left → undone left x ≡ before
 back_is e before x left s = ap₂ (λ (u : Undo) (v : HeapState). undone u v) s.recorded s.gave ∙ undo_takes_back e before s.legal s.accepted
 
-pub opened : (t : Trail) (w : HeapState) (p : PinContents) → w ≡ t.current → IsFreshPin p w → IsAgo p t 0
+pub opened : (t : Trail) (w : HeapState) (p : PinContents) → w ≡ t.current → IsFreshPin p w → IsPinAgo p t 0
 unfolding state_ago
 opened t w p now h = subst (λ (v : HeapState). IsWalked p v 0 (v ∷ t.past)) now (h t.past)
 
-shows_ago : (t : Trail) (n : ℕ) (w : HeapState) (p : PinContents) → w ≡ t.current → IsAgo p t n → ShowsState p (state_ago n t) w
+shows_ago : (t : Trail) (n : ℕ) (w : HeapState) (p : PinContents) → w ≡ t.current → IsPinAgo p t n → ShowsState p (state_ago n t) w
 shows_ago t n w p now h = subst (ShowsState p (state_ago n t)) (sym now) (first_of (ShowsState p (state_ago n t)) n t.current t.past h.shows)
 
-pub can_walk : (t : Trail) (n : ℕ) (left : Undo) (w : HeapState) (p : PinContents) → w ≡ t.current → IsAgo p t n → HasRecord t n left → CanWalk left w p
+pub can_walk : (t : Trail) (n : ℕ) (left : Undo) (w : HeapState) (p : PinContents) → w ≡ t.current → IsPinAgo p t n → HasRecord t n left → CanWalk left w p
 can_walk t n left w p now h r =
     let x = state_ago n t in
     (x, r.0, subst (λ (v : HeapState). IsStep r.0 v x left) (sym (back_is r.0 (state_ago (n + 1) t) x left r.1)) r.1, h.pin, shows_ago t n w p now h)
 
-pub walked_one : (t : Trail) (n : ℕ) (left : Undo) (w : HeapState) (p q : PinContents) → w ≡ t.current → n < retained t → IsAgo p t n → HasRecord t n left → IsWalkedBack left w p q → IsAgo q t (n + 1)
+pub walked_one : (t : Trail) (n : ℕ) (left : Undo) (w : HeapState) (p q : PinContents) → w ≡ t.current → n < retained t → IsPinAgo p t n → HasRecord t n left → IsWalkedBack left w p q → IsPinAgo q t (n + 1)
 walked_one t n left w p q now l h r b =
     let x = state_ago n t in
     let back = back_is r.0 (state_ago (n + 1) t) x left r.1 in
@@ -69,15 +66,14 @@ walked_one t n left w p q now l h r b =
     (walked_on left r.0 x t.current p q n t.past (subst (λ (v : HeapState). IsStep r.0 v x left) (sym back) r.1) (subst (λ (v : HeapState). IsWalkedBack left v p q) now b)
     (state_there t (n + 1) (omega (arith, l)) ∙ ap Some (sym back)) h)
 
-seen_ago : (t : Trail) (n : ℕ) (w : HeapState) (p : PinContents) (at : ObjRef) (o : Object) → w ≡ t.current → IsAgo p t n → object_at (state_ago n t).regions at ≡ Some o → IsSeen p w.regions at
-seen_ago t n w p at o now h here =
-    let u = state_ago n t in
-    let x = stands_in u.regions at o here in
-    let f : IsFound p w.regions at x.0.cell_size o = found p u w at x.0 o (shows_ago t n w p now h) x.1 x.2 in
-    (subst (λ k. at.region < k) (sym h.pin.copies) (object_within u.regions at (ap is_some here)), f.region, f.seen, ap is_some f.there)
+pub shown_beside : (t : Trail) (n : ℕ) (w : HeapState) (p : PinContents) → w ≡ t.current → IsPinAgo p t n → IsShownBeside w p (state_ago n t)
+shown_beside t n w p now h = (h.pin, shows_ago t n w p now h)
 
-shown_ago : (t : Trail) (n : ℕ) (w : HeapState) (p : PinContents) (at : ObjRef) (o : Object) → w ≡ t.current → IsAgo p t n → object_at (state_ago n t).regions at ≡ Some o → object_seen p w.regions at ≡ Some (shown (state_ago n t).regions (at, o))
-shown_ago t n w p at o now h here = object_is p (state_ago n t) w at o (shows_ago t n w p now h) here
+pub seen_beside : (u w : HeapState) (p : PinContents) (at : ObjRef) (o : Object) → IsShownBeside w p u → object_at u.regions at ≡ Some o → IsSeen p w.regions at
+seen_beside u w p at o h here =
+    let x = stands_in u.regions at o here in
+    let f : IsFound p w.regions at x.0.cell_size o = found p u w at x.0 o h.1 x.1 x.2 in
+    (subst (λ k. at.region < k) (sym h.0.copies) (object_within u.regions at (ap is_some here)), f.region, f.seen, ap is_some f.there)
 
 -- ---- the object that a record names
 
@@ -104,7 +100,7 @@ written_there e before after (Store a slot x logged) s at old st h =
     here_by after a at slot s p.1 (eqb-true slot s p.0) (store_there e before after (Store a slot x logged) st a slot x logged refl) (store_within e before after (Store a slot x logged) st a slot x logged refl)
 written_there e before after left s at old st h = absurd (none-some (at, old) h)
 
-word_here : (w : HeapState) (at : ObjRef) (s : ℕ) (o : Object) → object_at w.regions at ≡ Some o → s < length o.words → slot_word w at s ≡ Some (slice_index_or o.words s 0)
+pub word_here : (w : HeapState) (at : ObjRef) (s : ℕ) (o : Object) → object_at w.regions at ≡ Some o → s < length o.words → slot_word w at s ≡ Some (slice_index_or o.words s 0)
 unfolding slot_word
 word_here w at s o here l = ap (option_and_then (λ o. slice_get o.words s)) here ∙ slice_get-get_or o.words s 0 l
 
@@ -167,11 +163,11 @@ change_is t n left k s at w r i = change_named r.0 (state_ago (n + 1) t) (state_
 abbrev pub seen_or : Option DumpedObject → DumpedObject
 seen_or d = unwrap_or d (record { id = 0; kind = Instance 0; words = [] })
 
-pub sees_written : (t : Trail) (n s : ℕ) (left : Undo) (w : HeapState) (p : PinContents) → w ≡ t.current → IsAgo p t n → HasRecord t n left → SeesOverwritten p w left s
-sees_written t n s left w p now h r a e =
+pub sees_written : (t : Trail) (n s : ℕ) (left : Undo) (w : HeapState) (p : PinContents) → IsShownBeside w p (state_ago n t) → HasRecord t n left → SeesOverwritten p w left s
+sees_written t n s left w p h r a e =
     let o = written_there r.0 (state_ago (n + 1) t) (state_ago n t) left s a.0 a.1 r.1 e in
-    let seen = sym (shown_ago t n w p a.0 o.0 now h o.1) in (
-      (seen_ago t n w p a.0 o.0 now h o.1, subst (λ (d : Option DumpedObject). IsSome d) seen refl),
+    let seen = sym (object_is p (state_ago n t) w a.0 o.0 h.1 o.1) in (
+      (seen_beside (state_ago n t) w p a.0 o.0 h o.1, subst (λ (d : Option DumpedObject). IsSome d) seen refl),
       subst (λ (d : Option DumpedObject). s < length (seen_or d).words) seen o.2,
     )
 
@@ -241,22 +237,17 @@ tested t n k s left at o old place is r named here l = go (is_of_class o.kind k 
         )
     go false e = λ b w i. no (passes b w i) e
 
-pub writes_ago : (t : Trail) (n k s : ℕ) (left : Undo) (w : HeapState) (p : PinContents) (place : ℕ) → w ≡ t.current → place ≡ t.place - n → IsAgo p t n → HasRecord t n left → AreWritesAgo t k s n (write_by p w left k s place)
-writes_ago t n k s left w p place now is h r = go (overwritten left s) refl
+pub writes_ago : (t : Trail) (n k s : ℕ) (left : Undo) (w : HeapState) (p : PinContents) (place : ℕ) → place ≡ t.place - n → IsShownBeside w p (state_ago n t) → HasRecord t n left → AreWritesAgo t k s n (write_by p w left k s place)
+writes_ago t n k s left w p place is h r = go (overwritten left s) refl
   where
     go : (a : Option (ObjRef × ℕ)) → overwritten left s ≡ a → AreWritesAgo t k s n (option_and_then (λ a. changing_write k s place a.1 (seen_object p w a.0)) a)
     go None e = λ at x i. none-some (at, x.old) (sym e ∙ change_is t n left k s at x r i)
     go (Some a) e =
         let o = written_there r.0 (state_ago (n + 1) t) (state_ago n t) left s a.0 a.1 r.1 e in
-        subst (λ (d : Option DumpedObject). AreWritesAgo t k s n (changing_write k s place a.1 (seen_or d))) (sym (shown_ago t n w p a.0 o.0 now h o.1))
+        subst (λ (d : Option DumpedObject). AreWritesAgo t k s n (changing_write k s place a.1 (seen_or d))) (sym (object_is p (state_ago n t) w a.0 o.0 h.1 o.1))
         (tested t n k s left a.0 o.0 a.1 place is r e o.1 o.2)
 
 -- ---- step by step
-
--- after a look at the last n steps: the pin shows the state before them, and these are their writes, the newest first
-pub record AreNewest (t : Trail) (k s n : ℕ) (p : PinContents) (writes : List SlotWrite) : Type 0 where
-  pub pin : IsAgo p t n
-  pub told : AreLastWrites t k s n (reverse writes)
 
 reverse_more : (writes : List SlotWrite) (first : Option SlotWrite) → reverse (writes ++ before_others first []) ≡ before_others first (reverse writes)
 reverse_more writes None = reverse-append writes []

@@ -18,3 +18,4 @@ pub mod Newest
 pub mod Losses
 pub mod Cells
 pub mod RegionCounts
+pub mod PastTrails

@@ -1,5 +1,5 @@
 -- The writes of one slot of all objects of a class.
-use Rattle.std.specs.Prelude.{◌≡◌, ◌≢◌, ℕ, zero, suc, ◌+◌, ◌-◌, ◌<◌, ◌==◌, ◌&&◌, not, true, List, [], ◌∷◌, length, reverse, Option, Some, None, option_and_then, slice_index_or, unwrap_or, IsSome, if◌then◌else◌}
+use Rattle.std.specs.Prelude.{◌≡◌, ◌≢◌, ℕ, zero, suc, ◌+◌, ◌-◌, ◌<◌, ◌==◌, ◌&&◌, not, true, List, [], ◌∷◌, length, Option, Some, None, option_and_then, slice_index_or, unwrap_or, IsSome, if◌then◌else◌}
 use Rattle.heap_class.specs.declared.ObjKind.TheVariants.{Instance}
 use Rattle.heap_class.specs.declared.ObjRef.{ObjRef}
 use Rattle.heap_region.specs.Regions.{Object, id_of, object_at}
@@ -9,7 +9,7 @@ use Rattle.heap_step.specs.declared.Undo.TheVariants.{Put, Store}
 use Rattle.hprof_text.specs.Image.{DumpedObject}
 use Rattle.heap_pins.specs.Pin.{PinContents, object_seen}
 use Rattle.heap_pins.specs.Shows.{IsSeen}
-use Rattle.heap_trail.specs.Trail.{Trail, retained, state_ago}
+use Rattle.heap_trail.specs.Trail.{Trail, state_ago}
 use Rattle.heap_questions.specs.declared.past.writes.SlotWrite.{SlotWrite}
 use Rattle.heap_questions.specs.Changes.{slot_word}
 use Rattle.heap_questions.specs.Wanted.{is_of_class}
@@ -48,15 +48,7 @@ AreLastWrites t k s (suc n) writes =
     (first : Option SlotWrite) × (later : List SlotWrite) × AreWritesAgo t k s n first
     × AreLastWrites t k s n later × (writes ≡ before_others first later)
 
--- the retained steps made these
-abbrev pub AreSlotWrites : Trail → ℕ → ℕ → List SlotWrite → Type 0
-AreSlotWrites t k s writes = AreLastWrites t k s (retained t) writes
-
 -- ---- what a record tells, and a pin that shows the state after its step
-
--- the same, the newest first
-abbrev pub AreSlotWritesBack : Trail → ℕ → ℕ → List SlotWrite → Type 0
-AreSlotWritesBack t k s writes = AreSlotWrites t k s (reverse writes)
 
 -- the place of the object of which a step with this record wrote slot s, and the old word
 abbrev pub overwritten : Undo → ℕ → Option (ObjRef × ℕ)

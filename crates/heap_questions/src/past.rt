@@ -2,14 +2,19 @@
 mod changes;
 mod events;
 mod losses;
+mod seen;
 mod slots;
+mod standing;
 mod steps;
 mod suspects;
+mod trail;
 mod writes;
 
 pub use changes::{birth, last_write};
 pub use events::PastEvent;
 pub use losses::{Loss, loss_of, path_is_reach, unreached_stays};
-pub use slots::{SlotChange, refers_at, slot_changes};
+pub use seen::{SeenSlot, slot_now};
+pub use slots::{SlotChange, slot_changes};
 pub use steps::{PastStep, history};
+pub use trail::PastTrail;
 pub use writes::{SlotWrite, slot_writes};

@@ -22,6 +22,7 @@ use Rattle.question_text.specs.Kept.{IsKeptText}
 use Rattle.question_text.specs.Losses.{IsDroppedText}
 use Rattle.question_text.specs.ObjectLists.{IsObjectsText}
 use Rattle.question_text.specs.Objects.{IsShowText, shows_mark}
+use Rattle.question_text.specs.PastAnswers.{IsAnswerSeen, IsAnswerUpTo}
 use Rattle.question_text.specs.Paths.{IsPathText}
 use Rattle.question_text.specs.PinLists.{IsPinsText}
 use Rattle.question_text.specs.RegionLists.{IsRegionsText}
@@ -80,11 +81,11 @@ IsAnswer (Dominators at most) m acts text =
 IsAnswer (Dominator at x) m acts text = IsAnswerAbout (IsDominatorText x) (image_at at m) text
 IsAnswer (Show at x) m acts text =
     IsAnswerAbout (IsShowText x (shows_mark at m x)) (image_at at m) text
-IsAnswer (Born x) m acts text = IsBornText x m.trail text
-IsAnswer (Wrote x s) m acts text = IsWroteText x s m.trail text
-IsAnswer (Watch x s) m acts text = IsWatchText x s m.trail text
-IsAnswer (Writes k s) m acts text = IsWritesText k s m.trail text
-IsAnswer (Dropped x) m acts text = IsDroppedText x m.trail text
+IsAnswer (Born to x) m acts text = IsAnswerUpTo (IsBornText x) to m.trail text
+IsAnswer (Wrote to x s) m acts text = IsAnswerSeen (IsWroteText x s) to m.trail text
+IsAnswer (Watch x s to) m acts text = IsAnswerSeen (IsWatchText x s) to m.trail text
+IsAnswer (Writes k s span) m acts text = IsWritesText k s span m.trail text
+IsAnswer (Dropped to x) m acts text = IsAnswerUpTo (IsDroppedText x) to m.trail text
 IsAnswer (History to count) m acts text = IsHistoryText to count m.trail text
 IsAnswer Pins m acts text = IsPinsText m.pins text
 IsAnswer Cells m acts text = IsCellsText m.trail.current text

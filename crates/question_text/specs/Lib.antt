@@ -16,6 +16,7 @@ pub mod Objects
 pub mod ObjectLists
 pub mod ValueLists
 pub mod Places
+pub mod PastAnswers
 pub mod PinLists
 pub mod CellLists
 pub mod RegionLists

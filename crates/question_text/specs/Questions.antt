@@ -6,6 +6,8 @@ use Rattle.question_text.specs.declared.question.At.{At}
 use Rattle.question_text.specs.declared.question.At.TheVariants.{Current, Pin, Place}
 use Rattle.question_text.specs.declared.question.Question.{Question}
 use Rattle.question_text.specs.declared.question.Question.TheVariants.{Histogram, Garbage, Growth, Kept, Registers, Classes, Objects, Values, Referrers, Path, Retained, Dominators, Dominator, Show, Born, Wrote, Watch, Writes, Dropped, History, Pins, Cells, Regions, Status}
+use Rattle.question_text.specs.declared.question.Span.{Span}
+use Rattle.question_text.specs.declared.question.Span.TheVariants.{AllSteps, Between}
 use Rattle.std.specs.Option.{option_or}
 use Rattle.heap_questions.specs.declared.wanted.Wanted.{Wanted}
 use Rattle.heap_questions.specs.declared.wanted.Wanted.TheVariants.{All, OfClass, Holding}
@@ -79,30 +81,69 @@ optional_at_and_number (w ∷ v ∷ ws) =
     option_and_then (λ a. option_and_then (λ n. at_end (a.0, Some n.0) n.1) (next_number a.1))
     (next_at (w ∷ v ∷ ws))
 
--- the one id that the words name
-abbrev pub one_id : List (List ℕ) → Option ℕ
-one_id ws = option_and_then (λ x. at_end x.0 x.1) (next_id ws)
-
--- the id and the number that the words name
-abbrev pub id_and_number : List (List ℕ) → Option (ℕ × ℕ)
-id_and_number ws =
-    option_and_then (λ x. option_and_then (λ n. at_end (x.0, n.0) n.1) (next_number x.1))
-    (next_id ws)
-
 -- the place of a state: none for the current one; a pin may keep a state that the retained steps don't lead to
 abbrev pub place_of : At → Option (Option ℕ)
 place_of Current = Some None
 place_of (Place place) = Some (Some place)
 place_of (Pin pin) = None
 
+-- the place of the state that a word names
+abbrev pub place_of_word : List ℕ → Option (Option ℕ)
+place_of_word w = option_and_then place_of (at_of_word w)
+
+-- the place and the id that the words name; without a place it is that of the current state
+abbrev pub place_and_id : List (List ℕ) → Option (Option ℕ × ℕ)
+place_and_id [] = None
+place_and_id (w ∷ []) = option_map (λ x. (None, x)) (id_of_word w)
+place_and_id (w ∷ v ∷ ws) =
+    option_and_then (λ to. option_and_then (λ x. at_end (to, x) ws) (id_of_word v)) (place_of_word w)
+
+-- the id and the number that two words are
+abbrev pub id_and_number : List ℕ → List ℕ → Option (ℕ × ℕ)
+id_and_number w v =
+    option_and_then (λ x. option_map (λ n. (x, n)) (number_of_word v)) (id_of_word w)
+
+-- the place, and the id and the number, that the words name; without a place it is that of the current state
+abbrev pub place_and_slot : List (List ℕ) → Option (Option ℕ × (ℕ × ℕ))
+place_and_slot [] = None
+place_and_slot (w ∷ []) = None
+place_and_slot (w ∷ v ∷ []) = option_map (λ slot. (None, slot)) (id_and_number w v)
+place_and_slot (w ∷ v ∷ u ∷ ws) =
+    option_and_then (λ to. option_and_then (λ slot. at_end (to, slot) ws) (id_and_number v u))
+    (place_of_word w)
+
+-- the same, with the place at the end
+abbrev pub slot_and_place : List (List ℕ) → Option ((ℕ × ℕ) × Option ℕ)
+slot_and_place [] = None
+slot_and_place (w ∷ []) = None
+slot_and_place (w ∷ v ∷ []) = option_map (λ slot. (slot, None)) (id_and_number w v)
+slot_and_place (w ∷ v ∷ u ∷ ws) =
+    option_and_then (λ slot. option_and_then (λ to. at_end (slot, to) ws) (place_of_word u))
+    (id_and_number w v)
+
+-- the steps that the words name: all, or those after the first place up to the second, which is that of the current state if it
+-- isn't named
+abbrev pub span_of : List (List ℕ) → Option Span
+span_of [] = Some AllSteps
+span_of (w ∷ []) = option_map (λ after. Between after None) (place_of_word w)
+span_of (w ∷ v ∷ ws) =
+    option_and_then (λ after. option_and_then (λ to. at_end (Between after to) ws) (place_of_word v))
+    (place_of_word w)
+
+-- the class, the slot and the steps that the words name
+abbrev pub slot_and_span : List (List ℕ) → Option ((ℕ × ℕ) × Span)
+slot_and_span ws =
+    option_and_then
+    (λ k. option_and_then (λ s. option_map (λ span. ((k.0, s.0), span)) (span_of s.1)) (next_number k.1))
+    (next_number ws)
+
 -- the place and the number that the words name; without a place it is that of the current state
 abbrev pub place_and_number : List (List ℕ) → Option (Option ℕ × ℕ)
 place_and_number [] = None
 place_and_number (w ∷ []) = option_map (λ n. (None, n)) (number_of_word w)
 place_and_number (w ∷ v ∷ ws) =
-    option_and_then
-    (λ at. option_and_then (λ to. option_and_then (λ n. at_end (to, n) ws) (number_of_word v)) (place_of at))
-    (at_of_word w)
+    option_and_then (λ to. option_and_then (λ n. at_end (to, n) ws) (number_of_word v))
+    (place_of_word w)
 
 -- the word of a slot that a word tells: an id, `null` or a number
 unfoldable pub value_of_word : List ℕ → Option ℕ
@@ -125,12 +166,6 @@ abbrev pub at_and_wanted : List (List ℕ) → Option (At × Wanted)
 at_and_wanted [] = Some (Current, All)
 at_and_wanted (w ∷ ws) =
     option_and_then (λ at. option_map (λ x. (at, x)) (wanted_of ws)) (at_of_word w)
-
--- the two numbers that the words are
-abbrev pub two_numbers : List (List ℕ) → Option (ℕ × ℕ)
-two_numbers ws =
-    option_and_then (λ a. option_and_then (λ b. at_end (a.0, b.0) b.1) (next_number a.1))
-    (next_number ws)
 
 -- the class and the slot that two words name
 abbrev pub class_and_slot : List ℕ → List ℕ → Option (ℕ × ℕ)
@@ -155,16 +190,16 @@ QuestionRule = List ℕ × (List (List ℕ) → Option Question)
 -- the questions about what retained steps did, about pins, and about the current state
 unfoldable pub past_rules : List QuestionRule
 past_rules =
-    (codes "born", λ ws. option_map (λ x. Born x) (one_id ws))
-    ∷ (codes "dropped", λ ws. option_map (λ x. Dropped x) (one_id ws))
+    (codes "born", λ ws. option_map (λ a. Born a.0 a.1) (place_and_id ws))
+    ∷ (codes "dropped", λ ws. option_map (λ a. Dropped a.0 a.1) (place_and_id ws))
     ∷ (codes "pins", λ ws. at_end Pins ws)
     ∷ (codes "cells", λ ws. at_end Cells ws)
     ∷ (codes "regions", λ ws. at_end Regions ws)
     ∷ (codes "status", λ ws. at_end Status ws)
     ∷ (codes "history", λ ws. option_map (λ a. History a.0 a.1) (place_and_number ws))
-    ∷ (codes "wrote", λ ws. option_map (λ a. Wrote a.0 a.1) (id_and_number ws))
-    ∷ (codes "watch", λ ws. option_map (λ a. Watch a.0 a.1) (id_and_number ws))
-    ∷ (codes "writes", λ ws. option_map (λ a. Writes a.0 a.1) (two_numbers ws))
+    ∷ (codes "wrote", λ ws. option_map (λ a. Wrote a.0 a.1.0 a.1.1) (place_and_slot ws))
+    ∷ (codes "watch", λ ws. option_map (λ a. Watch a.0.0 a.0.1 a.1) (slot_and_place ws))
+    ∷ (codes "writes", λ ws. option_map (λ a. Writes a.0.0 a.0.1 a.1) (slot_and_span ws))
     ∷ []
 
 -- all questions: those about a state first

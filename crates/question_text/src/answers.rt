@@ -242,11 +242,13 @@ pub fn answer(alloc: Global, machine: &Machine, acts: Option<u64>, question: Que
             let marked = shows_mark(machine, at, id);
             state_answer(alloc, machine, at, StateQuestion::Show { id, marked })
         }
-        Question::Born(id) => born_answer(machine, id),
-        Question::Wrote { id, slot } => wrote_answer(machine, id, slot),
-        Question::Watch { id, slot } => line_answer(watch_answer(alloc, machine, id, slot)),
-        Question::Writes { class, slot } => line_answer(writes_answer(alloc, machine, class, slot)),
-        Question::Dropped(id) => dropped_answer(alloc, machine, id),
+        Question::Born { to, id } => born_answer(machine, to, id),
+        Question::Wrote { to, id, slot } => wrote_answer(alloc, machine, to, id, slot),
+        Question::Watch { id, slot, to } => line_answer(watch_answer(alloc, machine, id, slot, to)),
+        Question::Writes { class, slot, span } => {
+            line_answer(writes_answer(alloc, machine, class, slot, span))
+        }
+        Question::Dropped { to, id } => dropped_answer(alloc, machine, to, id),
         Question::History { to, count } => line_answer(history_answer(alloc, machine, to, count)),
         Question::Pins => line_answer(pins_answer(alloc, machine)),
         Question::Cells => line_answer(cells_answer(alloc, machine)),

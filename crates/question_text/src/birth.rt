@@ -3,31 +3,44 @@ ghost use Rattle.std.specs.Prelude.{IsSome};
 ghost use Rattle.heap_world.specs.Regions.{object_at};
 ghost use Rattle.session_text.specs.Replies.{line_answer_text};
 ghost use Rattle.question_text.specs.Births.{IsBirthText, IsBornText};
+ghost use Rattle.question_text.specs.PastAnswers.{IsAnswerUpTo};
 
-use crate::place::{older_line, place_line, place_of_object};
+use crate::at::steps_ago;
+use crate::place::{older_line, place_line};
 use crate::rows::{Unanswered, reason_line};
 use heap_class::ObjRef;
-use heap_questions::birth;
+use heap_questions::{PastTrail, birth};
 use heap_trail::Machine;
 use session_text::LineAnswer;
 
 // Returns the line of the birth of the object at a place.
-fn birth_line(machine: &Machine, at: ObjRef) -> LineAnswer
-    requires { IsSome (object_at machine.now.trail.current.regions at) }
-    ensures { IsBirthText machine.now.trail at (line_answer_text result) }
+fn birth_line(past: &PastTrail<'_>, at: ObjRef) -> LineAnswer
+    requires { IsSome (object_at past.now.current.regions at) }
+    ensures { IsBirthText past.now at (line_answer_text result) }
 {
-    match birth(machine, at) {
+    match birth(past, at) {
         Some(place) => place_line(place),
-        None => older_line(machine),
+        None => older_line(past),
     }
 }
 
-// Returns the answer of `born`. Reads each record since the object was made once. Takes no memory.
-pub(crate) fn born_answer(machine: &Machine, id: u64) -> LineAnswer
-    ensures { IsBornText id machine.now.trail (line_answer_text result) }
+// Returns the line of the birth of the object with this id.
+fn born_line(past: &PastTrail<'_>, id: u64) -> LineAnswer
+    ensures { IsBornText id past.now (line_answer_text result) }
 {
-    match place_of_object(machine, id) {
-        Some(at) => birth_line(machine, at),
+    match past.find(id) {
+        Some(at) => birth_line(past, at),
         None => reason_line(Unanswered::NoObject),
+    }
+}
+
+// Returns the answer of `born`, about the steps up to a place. Refused with NotRetained if its state isn't retained. Reads each
+// record since the object was made, and each since that state, at most twice. Takes no memory.
+pub(crate) fn born_answer(machine: &Machine, to: Option<u64>, id: u64) -> LineAnswer
+    ensures { IsAnswerUpTo (IsBornText id) to machine.now.trail (line_answer_text result) }
+{
+    match steps_ago(machine, to) {
+        Ok(ago) => born_line(&PastTrail::new(machine, ago), id),
+        Err(refusal) => reason_line(Unanswered::Refused(refusal)),
     }
 }

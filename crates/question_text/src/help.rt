@@ -29,11 +29,11 @@ pub fn question_help(word: &[u8]) -> Option<&'static [u8]>
         b"dominators" => Some(b"row dominators [AT] [N]\nrow dominators 10\nok\n"),
         b"dominator" => Some(b"row dominator [AT] ID\nrow dominator 0x10000020\nok\n"),
         b"show" => Some(b"row show [AT] ID\nrow show - 0x10000020\nok\n"),
-        b"born" => Some(b"row born ID\nrow born 0x10000020\nok\n"),
-        b"wrote" => Some(b"row wrote ID SLOT\nrow wrote 0x10000020 1\nok\n"),
-        b"watch" => Some(b"row watch ID SLOT\nrow watch 0x10000020 1\nok\n"),
-        b"writes" => Some(b"row writes CLASS SLOT\nrow writes 0 1\nok\n"),
-        b"dropped" => Some(b"row dropped ID\nrow dropped 0x10000020\nok\n"),
+        b"born" => Some(b"row born [@PLACE] ID\nrow born 0x10000020\nok\n"),
+        b"wrote" => Some(b"row wrote [@PLACE] ID SLOT\nrow wrote 0x10000020 1\nok\n"),
+        b"watch" => Some(b"row watch ID SLOT [@PLACE]\nrow watch 0x10000020 1\nok\n"),
+        b"writes" => Some(b"row writes CLASS SLOT [@PLACE [@PLACE]]\nrow writes 0 1\nok\n"),
+        b"dropped" => Some(b"row dropped [@PLACE] ID\nrow dropped 0x10000020\nok\n"),
         b"history" => Some(b"row history [@PLACE] N\nrow history 10\nok\n"),
         b"pins" => Some(b"row pins\nrow pins\nok\n"),
         b"cells" => Some(b"row cells\nrow cells\nok\n"),
@@ -97,7 +97,7 @@ pub fn all_help() -> &'static [u8]
         row rewind N\nrow open AT\nrow piece PIN\nrow dump PIN\nrow close PIN\nrow end\n\
         row histogram [AT]\nrow garbage [AT]\nrow growth AT [AT]\nrow kept AT [AT]\nrow registers [AT]\nrow classes [AT]\n\
         row objects [AT [CLASS [SLOT VALUE]]]\nrow values [AT] CLASS SLOT\nrow referrers [AT] ID\nrow path [AT] ID\nrow retained [AT] ID\nrow dominators [AT] [N]\nrow dominator [AT] ID\nrow show [AT] ID\n\
-        row born ID\nrow wrote ID SLOT\nrow watch ID SLOT\nrow writes CLASS SLOT\nrow dropped ID\nrow history [@PLACE] N\nrow pins\nrow cells\nrow regions\nrow status\nrow collect\n\
+        row born [@PLACE] ID\nrow wrote [@PLACE] ID SLOT\nrow watch ID SLOT [@PLACE]\nrow writes CLASS SLOT [@PLACE [@PLACE]]\nrow dropped [@PLACE] ID\nrow history [@PLACE] N\nrow pins\nrow cells\nrow regions\nrow status\nrow collect\n\
         row help WORD\nok\n"
 }
 

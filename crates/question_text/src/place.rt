@@ -5,6 +5,7 @@ ghost use Rattle.session_text.specs.Replies.{line_answer_text};
 ghost use Rattle.question_text.specs.Places.{StandsAt, older_text, place_text};
 
 use heap_class::ObjRef;
+use heap_questions::PastTrail;
 use heap_trail::Machine;
 use session_text::LineAnswer;
 
@@ -23,9 +24,9 @@ pub(crate) fn place_line(place: u64) -> LineAnswer
     LineAnswer::Number(b"ok place", place)
 }
 
-// Returns the line of what is older than all retained steps.
-pub(crate) fn older_line(machine: &Machine) -> LineAnswer
-    ensures { line_answer_text result ≡ older_text machine.now.trail }
+// Returns the line of what is older than all steps of a trail.
+pub(crate) fn older_line(past: &PastTrail<'_>) -> LineAnswer
+    ensures { line_answer_text result ≡ older_text past.now }
 {
-    LineAnswer::Number(b"ok older", machine.place() - machine.retained_count())
+    LineAnswer::Number(b"ok older", past.place() - past.retained_count())
 }

@@ -1,12 +1,11 @@
 //! The grammar of questions.
 ghost use Rattle.std.specs.Prelude.{◌≡◌, drop};
 ghost use Rattle.session_grammar.specs.Grammar.{words_of_line};
-ghost use Rattle.session_grammar.specs.Reads.{IsNextWord};
-ghost use Rattle.question_text.specs.Questions.{at_and_optional, at_and_slot, at_and_wanted, at_of_word, at_or_number, class_and_slot, id_and_number, next_id, one_id, optional_at, optional_at_and_id, optional_at_and_number, past_rules, place_and_number, place_of, question_by, question_of, question_rules, two_numbers, value_of_word, wanted_of};
+ghost use Rattle.question_text.specs.Questions.{at_and_optional, at_and_slot, at_and_wanted, at_of_word, at_or_number, class_and_slot, id_and_number, optional_at, optional_at_and_id, optional_at_and_number, past_rules, place_and_id, place_and_number, place_and_slot, place_of, place_of_word, question_by, question_of, question_rules, slot_and_place, slot_and_span, span_of, value_of_word, wanted_of};
 
 use crate::id::id_of;
 use heap_questions::Wanted;
-use session_grammar::command::{at_end, next_number, one_number};
+use session_grammar::command::{at_end, next_number};
 use session_grammar::number::number_of;
 use session_grammar::words::{Words, is_word};
 
@@ -19,6 +18,15 @@ pub enum At {
     Pin(u64),
     /// The retained state at a place: `@` and the place.
     Place(u64),
+}
+
+/// The retained steps that a question is about.
+#[derive(Clone, Copy)]
+pub enum Span {
+    /// All of them.
+    AllSteps,
+    /// Those after one place up to another: None is the place of the current state.
+    Between { after: Option<u64>, to: Option<u64> },
 }
 
 /// A question that a line asks.
@@ -52,16 +60,24 @@ pub enum Question {
     Dominator { at: At, id: u64 },
     /// The slots of an object.
     Show { at: At, id: u64 },
-    /// When an object was made.
-    Born(u64),
-    /// When a slot of an object last changed.
-    Wrote { id: u64, slot: u64 },
-    /// The changes of a slot of an object.
-    Watch { id: u64, slot: u64 },
-    /// The changes of a slot of all objects of a class.
-    Writes { class: u64, slot: u64 },
-    /// When registers lost an object.
-    Dropped(u64),
+    /// When an object was made, by the steps up to a place, or to the current state.
+    Born { to: Option<u64>, id: u64 },
+    /// When a slot of an object last changed, by the steps up to a place, or to the current state.
+    Wrote {
+        to: Option<u64>,
+        id: u64,
+        slot: u64,
+    },
+    /// The changes of a slot of an object by the steps up to a place, or to the current state.
+    Watch {
+        id: u64,
+        slot: u64,
+        to: Option<u64>,
+    },
+    /// The changes of a slot of all objects of a class by some steps.
+    Writes { class: u64, slot: u64, span: Span },
+    /// When registers lost an object, by the steps up to a place, or to the current state.
+    Dropped { to: Option<u64>, id: u64 },
     /// What the newest retained steps did, of those that led to a place, or to the current state: how many of them.
     History { to: Option<u64>, count: u64 },
     /// The open pins.
@@ -96,14 +112,6 @@ fn optional_at(mut words: Words) -> Option<At>
         return Some(At::Current);
     };
     at_end(at_of(word)?, words)
-}
-
-// Reads the id that the next word is. Returns None if it is none.
-fn next_id(words: &mut Words) -> Option<u64>
-    ensures { IsNextWord (next_id (words_of_line words.old)) (words_of_line words.new) result }
-{
-    let word = words.next_word()?;
-    id_of(word)
 }
 
 // Returns the state and the id that the words name. If they are only an id, the state is the current one.
@@ -151,20 +159,6 @@ fn at_and_optional(mut words: Words) -> Option<(At, At)>
     at_end((at_of(word)?, at_of(second)?), words)
 }
 
-// Returns the one id that the words name.
-fn one_id(mut words: Words) -> Option<u64>
-    ensures { result ≡ one_id (words_of_line words.entry) }
-{
-    at_end(next_id(&mut words)?, words)
-}
-
-// Returns the id and the number that the words name.
-fn id_and_number(mut words: Words) -> Option<(u64, u64)>
-    ensures { result ≡ id_and_number (words_of_line words.entry) }
-{
-    at_end((next_id(&mut words)?, next_number(&mut words)?), words)
-}
-
 // Returns the place of a state, or None of a pin: it may keep a state that the retained steps don't lead to.
 fn place_of(at: At) -> Option<Option<u64>>
     ensures { result ≡ place_of at }
@@ -176,6 +170,79 @@ fn place_of(at: At) -> Option<Option<u64>>
     }
 }
 
+// Returns the place of the state that a word names.
+fn place_of_word(word: &[u8]) -> Option<Option<u64>>
+    ensures { result ≡ place_of_word word.now }
+{
+    place_of(at_of(word)?)
+}
+
+// Returns the place and the id that the words name. If they are only an id, there is no place.
+fn place_and_id(mut words: Words) -> Option<(Option<u64>, u64)>
+    ensures { result ≡ place_and_id (words_of_line words.entry) }
+{
+    let word = words.next_word()?;
+    let Some(second) = words.next_word() else {
+        return Some((None, id_of(word)?));
+    };
+    at_end((place_of_word(word)?, id_of(second)?), words)
+}
+
+// Returns the id and the number that two words are.
+fn id_and_number(word: &[u8], second: &[u8]) -> Option<(u64, u64)>
+    ensures { result ≡ id_and_number word.now second.now }
+{
+    Some((id_of(word)?, number_of(second)?))
+}
+
+// Returns the place, and the id and the number, that the words name. If they are only an id and a number, there is no place.
+fn place_and_slot(mut words: Words) -> Option<(Option<u64>, (u64, u64))>
+    ensures { result ≡ place_and_slot (words_of_line words.entry) }
+{
+    let word = words.next_word()?;
+    let second = words.next_word()?;
+    let Some(third) = words.next_word() else {
+        return Some((None, id_and_number(word, second)?));
+    };
+    at_end((place_of_word(word)?, id_and_number(second, third)?), words)
+}
+
+// Returns the id and the number, and the place, that the words name. If they are only an id and a number, there is no place.
+fn slot_and_place(mut words: Words) -> Option<((u64, u64), Option<u64>)>
+    ensures { result ≡ slot_and_place (words_of_line words.entry) }
+{
+    let word = words.next_word()?;
+    let second = words.next_word()?;
+    let Some(third) = words.next_word() else {
+        return Some((id_and_number(word, second)?, None));
+    };
+    at_end((id_and_number(word, second)?, place_of_word(third)?), words)
+}
+
+// Returns the steps that the words name: all if there are no words.
+fn span_of(mut words: Words) -> Option<Span>
+    ensures { result ≡ span_of (words_of_line words.entry) }
+{
+    let Some(word) = words.next_word() else {
+        return Some(Span::AllSteps);
+    };
+    let after = place_of_word(word)?;
+    let Some(second) = words.next_word() else {
+        return Some(Span::Between { after, to: None });
+    };
+    let to = place_of_word(second)?;
+    at_end(Span::Between { after, to }, words)
+}
+
+// Returns the class and the slot, and the steps, that the words name.
+fn slot_and_span(mut words: Words) -> Option<((u64, u64), Span)>
+    ensures { result ≡ slot_and_span (words_of_line words.entry) }
+{
+    let class = next_number(&mut words)?;
+    let slot = next_number(&mut words)?;
+    Some(((class, slot), span_of(words)?))
+}
+
 // Returns the place and the number that the words name. If they are only a number, there is no place.
 fn place_and_number(mut words: Words) -> Option<(Option<u64>, u64)>
     ensures { result ≡ place_and_number (words_of_line words.entry) }
@@ -184,8 +251,7 @@ fn place_and_number(mut words: Words) -> Option<(Option<u64>, u64)>
     let Some(second) = words.next_word() else {
         return Some((None, number_of(word)?));
     };
-    let to = place_of(at_of(word)?)?;
-    at_end((to, number_of(second)?), words)
+    at_end((place_of_word(word)?, number_of(second)?), words)
 }
 
 // Returns the word that a word tells: an id, `null` or a number. Returns None if it tells none.
@@ -230,13 +296,6 @@ fn at_and_wanted(mut words: Words) -> Option<(At, Wanted)>
     Some((at, wanted_of(words)?))
 }
 
-// Returns the two numbers that the words are.
-fn two_numbers(mut words: Words) -> Option<(u64, u64)>
-    ensures { result ≡ two_numbers (words_of_line words.entry) }
-{
-    at_end((next_number(&mut words)?, next_number(&mut words)?), words)
-}
-
 // Returns the class and the slot that two words name.
 fn class_and_slot(class: &[u8], slot: &[u8]) -> Option<(u64, u64)>
     ensures { result ≡ class_and_slot class.now slot.now }
@@ -262,10 +321,12 @@ fn past_question(keyword: &[u8], words: Words) -> Option<Question>
     ensures { result ≡ question_by past_rules keyword.now (words_of_line words.entry) }
 {
     if is_word(keyword, b"born") {
-        return Some(Question::Born(one_id(words)?));
+        let (to, id) = place_and_id(words)?;
+        return Some(Question::Born { to, id });
     }
     if is_word(keyword, b"dropped") {
-        return Some(Question::Dropped(one_id(words)?));
+        let (to, id) = place_and_id(words)?;
+        return Some(Question::Dropped { to, id });
     }
     if is_word(keyword, b"pins") {
         return at_end(Question::Pins, words);
@@ -284,16 +345,16 @@ fn past_question(keyword: &[u8], words: Words) -> Option<Question>
         return Some(Question::History { to, count });
     }
     if is_word(keyword, b"wrote") {
-        let (id, slot) = id_and_number(words)?;
-        return Some(Question::Wrote { id, slot });
+        let (to, (id, slot)) = place_and_slot(words)?;
+        return Some(Question::Wrote { to, id, slot });
     }
     if is_word(keyword, b"watch") {
-        let (id, slot) = id_and_number(words)?;
-        return Some(Question::Watch { id, slot });
+        let ((id, slot), to) = slot_and_place(words)?;
+        return Some(Question::Watch { id, slot, to });
     }
     if is_word(keyword, b"writes") {
-        let (class, slot) = two_numbers(words)?;
-        return Some(Question::Writes { class, slot });
+        let ((class, slot), span) = slot_and_span(words)?;
+        return Some(Question::Writes { class, slot, span });
     }
     None
 }

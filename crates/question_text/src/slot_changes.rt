@@ -1,17 +1,18 @@
 //! The answer of `watch`.
-ghost use Rattle.std.specs.Prelude.{◌≡◌, IsSome, flat_map};
+ghost use Rattle.std.specs.Prelude.{◌≡◌, Some, IsSome, flat_map};
 ghost use Rattle.heap_world.specs.Regions.{object_at};
-ghost use Rattle.heap_questions.specs.Changes.{slot_word};
+ghost use Rattle.heap_questions.specs.PastTrails.{seen_slot};
 ghost use Rattle.question_text.specs.Appends.{Appends, ReturnsText};
 ghost use Rattle.question_text.specs.Moments.{told_text};
+ghost use Rattle.question_text.specs.PastAnswers.{IsAnswerSeen};
+ghost use Rattle.question_text.specs.Places.{IsTextOrNoMemory};
 ghost use Rattle.question_text.specs.SlotChanges.{IsChangesText, IsSlotChangesText, IsWatchText, and_word, change_line};
 
+use crate::at::steps_ago;
 use crate::id::push_reference;
-use crate::place::place_of_object;
 use crate::rows::{Unanswered, push_count, push_number, push_row, push_words};
-use crate::write::has_slot;
 use heap_class::{ObjRef, Refusal};
-use heap_questions::{SlotChange, refers_at, slot_changes};
+use heap_questions::{PastTrail, SeenSlot, SlotChange, slot_changes, slot_now};
 use heap_trail::Machine;
 use std::alloc::{AllocError, Global};
 
@@ -47,15 +48,20 @@ fn push_changes(text: &mut Vec<u8>, refers: bool, changes: &[SlotChange]) -> Res
     Ok(())
 }
 
-// Returns the lines of the changes of a slot of the object at a place, and their number. Fails with NoMemory.
-fn changes_text(alloc: Global, machine: &Machine, at: ObjRef, slot: u64) -> Result<Vec<u8>, Refusal>
-    requires { IsSome (slot_word machine.now.trail.current at slot) }
-    ensures { ReturnsText (IsChangesText machine.now.trail at slot) result }
+// Returns the lines of the changes of a slot of the object at a place, which holds this, and their number. Fails with NoMemory.
+fn changes_text(
+    alloc: Global,
+    past: &PastTrail<'_>,
+    at: ObjRef,
+    slot: u64,
+    seen: SeenSlot,
+) -> Result<Vec<u8>, Refusal>
+    requires { seen_slot past.now.current at slot ≡ Some seen }
+    ensures { ReturnsText (IsChangesText past.now at slot) result }
 {
-    let refers = refers_at(machine, at, slot);
-    let changes = slot_changes(alloc, machine, at, slot)?;
+    let changes = slot_changes(alloc, past, at, slot, seen.word)?;
     let mut text = Vec::new(alloc);
-    push_changes(&mut text, refers, changes.as_slice())?;
+    push_changes(&mut text, seen.refers, changes.as_slice())?;
     push_count(&mut text, changes.len() as u64)?;
     Ok(text)
 }
@@ -63,23 +69,22 @@ fn changes_text(alloc: Global, machine: &Machine, at: ObjRef, slot: u64) -> Resu
 // Returns the same. Fails with BadSlot if the object lacks the slot.
 fn changes_of_slot(
     alloc: Global,
-    machine: &Machine,
+    past: &PastTrail<'_>,
     at: ObjRef,
     slot: u64,
+    seen: Option<SeenSlot>,
 ) -> Result<Vec<u8>, Unanswered>
-    requires { IsSome (object_at machine.now.trail.current.regions at) }
-    ensures { IsSlotChangesText machine.now.trail slot at (told_text result) }
+    requires { seen ≡ seen_slot past.now.current at slot }
+    ensures { IsSlotChangesText past.now slot at (told_text result) }
 {
-    if has_slot(machine, at, slot) {
-        Ok(changes_text(alloc, machine, at, slot)?)
-    } else {
-        Err(Unanswered::Refused(Refusal::BadSlot))
+    match seen {
+        Some(seen) => Ok(changes_text(alloc, past, at, slot, seen)?),
+        None => Err(Unanswered::Refused(Refusal::BadSlot)),
     }
 }
 
-// Returns the answer of `watch`. Fails with NoObject if the id names no object, and with NoMemory if an allocation fails. Reads
-// each record since the object was made once.
-pub(crate) fn watch_answer(
+// Returns the answer of `watch` about the steps up to the current state. Fails with NoObject, BadSlot and NoMemory.
+fn watch_now(
     alloc: Global,
     machine: &Machine,
     id: u64,
@@ -87,8 +92,58 @@ pub(crate) fn watch_answer(
 ) -> Result<Vec<u8>, Unanswered>
     ensures { IsWatchText id slot machine.now.trail (told_text result) }
 {
-    match place_of_object(machine, id) {
-        Some(at) => changes_of_slot(alloc, machine, at, slot),
+    let past = PastTrail::new(machine, 0);
+    match past.find(id) {
+        Some(at) => changes_of_slot(alloc, &past, at, slot, slot_now(machine, at, slot)),
         None => Err(Unanswered::NoObject),
     }
+}
+
+// Returns the lines of the changes of a slot of the object at a place. Fails with BadSlot if the object lacks the slot, and with
+// NoMemory if an allocation fails.
+fn past_changes(
+    alloc: Global,
+    past: &PastTrail<'_>,
+    at: ObjRef,
+    slot: u64,
+) -> Result<Vec<u8>, Unanswered>
+    requires { IsSome (object_at past.now.current.regions at) }
+    ensures { IsTextOrNoMemory (IsSlotChangesText past.now slot at) (told_text result) }
+{
+    let seen = past.slot(alloc, at, slot)?;
+    changes_of_slot(alloc, past, at, slot, seen)
+}
+
+// Returns the answer of `watch` about the steps of a trail. Fails with NoObject, BadSlot and NoMemory.
+fn watch_past(
+    alloc: Global,
+    past: &PastTrail<'_>,
+    id: u64,
+    slot: u64,
+) -> Result<Vec<u8>, Unanswered>
+    ensures { IsTextOrNoMemory (IsWatchText id slot past.now) (told_text result) }
+{
+    match past.find(id) {
+        Some(at) => past_changes(alloc, past, at, slot),
+        None => Err(Unanswered::NoObject),
+    }
+}
+
+// Returns the answer of `watch`, about the steps up to a place. Fails with NotRetained if its state isn't retained, with NoObject if
+// the id names no object there, with BadSlot if it lacks the slot, and with NoMemory if an allocation fails. Reads each record since
+// the object was made at most three times.
+pub(crate) fn watch_answer(
+    alloc: Global,
+    machine: &Machine,
+    id: u64,
+    slot: u64,
+    to: Option<u64>,
+) -> Result<Vec<u8>, Unanswered>
+    ensures { IsAnswerSeen (IsWatchText id slot) to machine.now.trail (told_text result) }
+{
+    if to.is_none() {
+        return watch_now(alloc, machine, id, slot);
+    }
+    let ago = steps_ago(machine, to)?;
+    watch_past(alloc, &PastTrail::new(machine, ago), id, slot)
 }

@@ -1,11 +1,11 @@
 //! The retained steps that changed a slot or created an object: a walk over the records, the newest first.
-ghost use Rattle.std.specs.Prelude.{◌≡◌, IsSome, IfSome, IfNone};
+ghost use Rattle.std.specs.Prelude.{◌≡◌, IsSome, IfSome, IfNone, Some};
 ghost use Rattle.heap_region.specs.Regions.{object_at};
 ghost use Rattle.heap_questions.specs.Changes.{IsBirth, IsLastWrite, IsOld, IsUnwritten, changed_by, made_by, slot_word};
 
+use crate::past::trail::PastTrail;
 use heap_class::ObjRef;
 use heap_step::Undo;
-use heap_trail::Machine;
 
 // Tells whether the step that left this record changed the word of a slot, which is `now` after the step. A new object in a
 // fresh region is the only one there, so before the step nothing stood in its other cells.
@@ -50,33 +50,33 @@ pub(crate) fn makes(left: &Undo, at: ObjRef) -> bool
     }
 }
 
-/// Returns the place of the newest retained step that changed the word of a slot of the object at `at` or created the
-/// object, or None if no retained step did. Reads each record since that step once. Takes no memory.
-pub fn last_write(machine: &Machine, at: ObjRef, slot: u64) -> Option<u64>
-    requires { IsSome (slot_word machine.now.trail.current at slot) }
-    ensures written { IfSome result (λ place. IsLastWrite machine.now.trail at slot place) }
-    ensures none { IfNone result (IsUnwritten machine.now.trail at slot) }
+/// Returns the place of the newest step of a trail that changed the word of a slot of the object at `at` or created the object, or
+/// None if none did. The trail leads to a state in which the slot holds `now`. Reads each record since that step once. Takes no
+/// memory.
+pub fn last_write(past: &PastTrail<'_>, at: ObjRef, slot: u64, now: u64) -> Option<u64>
+    requires { slot_word past.now.current at slot ≡ Some now }
+    ensures written { IfSome result (λ place. IsLastWrite past.now at slot place) }
+    ensures none { IfNone result (IsUnwritten past.now at slot) }
 {
-    let place = machine.place();
-    let now = machine.world().regions().word(at, slot);
-    for n in 0..machine.retained_count() {
-        if changes(machine.record_ago(n), at, slot, now) {
+    let place = past.place();
+    for n in 0..past.retained_count() {
+        if changes(past.record_ago(n), at, slot, now) {
             return Some(place - n);
         }
     }
     None
 }
 
-/// Returns the place of the retained step that created the object at `at`, or None if the object is older than all
-/// retained steps. Reads each record since that step once. Takes no memory.
-pub fn birth(machine: &Machine, at: ObjRef) -> Option<u64>
-    requires { IsSome (object_at machine.now.trail.current.regions at) }
-    ensures born { IfSome result (λ place. IsBirth machine.now.trail at place) }
-    ensures none { IfNone result (IsOld machine.now.trail at) }
+/// Returns the place of the step of a trail that created the object at `at`, or None if the object is older than all its steps.
+/// Reads each record since that step once. Takes no memory.
+pub fn birth(past: &PastTrail<'_>, at: ObjRef) -> Option<u64>
+    requires { IsSome (object_at past.now.current.regions at) }
+    ensures born { IfSome result (λ place. IsBirth past.now at place) }
+    ensures none { IfNone result (IsOld past.now at) }
 {
-    let place = machine.place();
-    for n in 0..machine.retained_count() {
-        if makes(machine.record_ago(n), at) {
+    let place = past.place();
+    for n in 0..past.retained_count() {
+        if makes(past.record_ago(n), at) {
             return Some(place - n);
         }
     }

@@ -1,18 +1,14 @@
 //! When registers lost an object.
-ghost use Rattle.std.specs.Prelude.{◌≡◌, ◌↔◌, ◌≤◌, ℕ, IsSome, IsTrue, IfOk, IfErr};
+ghost use Rattle.std.specs.Prelude.{◌≡◌, ◌≤◌, ℕ, Some, IsSome, IfOk, IfErr};
 ghost use Rattle.heap_class.specs.declared.Refusal.TheVariants.{NoMemory};
-ghost use Rattle.heap_region.specs.Regions.{object_at};
+ghost use Rattle.heap_region.specs.Regions.{object_at, ref_of};
 ghost use Rattle.heap_step.specs.declared.Event.{Event};
-ghost use Rattle.heap_world.specs.Reach.{Reaches};
 ghost use Rattle.heap_world.specs.State.{HeapState};
-ghost use Rattle.heap_trail.specs.Trail.{retained, state_ago};
-ghost use Rattle.heap_questions.specs.Losses.{HasStood, IsLossOf, IsNewest, PathIsReach, StaysUnreached};
+ghost use Rattle.heap_questions.specs.Losses.{HasStood, IsLossOf, IsNewest, PathIsReach, StaysUnreached, id_now};
 
 use crate::past::changes::birth;
-use crate::past::suspects::suspect;
-use crate::paths::shortest_path;
+use crate::past::trail::PastTrail;
 use heap_class::{ObjRef, Refusal};
-use heap_trail::Machine;
 use std::alloc::Global;
 
 /// Whether registers reach an object, or when they lost it.
@@ -36,28 +32,15 @@ pub fn unreached_stays()
     ensures { (e : Event) (w : HeapState) → StaysUnreached e w }
 {}
 
-// Tells whether a register reached the object with this id `n` steps ago. Fails with NoMemory.
-fn was_reached(alloc: Global, machine: &Machine, id: u64, n: u64) -> Result<bool, Refusal>
-    requires { n ≤ retained machine.now.trail }
-    ensures told { IfOk result (λ b. IsTrue b ↔ Reaches (state_ago n machine.now.trail) id) }
-    ensures refused { IfErr result (λ e. e ≡ NoMemory) }
+// Returns how many steps ago the oldest state of a trail was since which the object at `at` has stood there.
+fn oldest_state(past: &PastTrail<'_>, at: ObjRef) -> u64
+    requires { IsSome (object_at past.now.current.regions at) }
+    ensures { HasStood past.now at result }
 {
-    // Its contract says that the retained states are legal.
-    let _place = machine.place();
-    let pin = machine.pin_ago(n)?;
-    let path = shortest_path(alloc, &machine.view(&pin), id)?;
-    Ok(path.is_some())
-}
-
-// Returns how many steps ago the oldest retained state was since which the object at `at` has stood there.
-fn oldest_state(machine: &Machine, at: ObjRef) -> u64
-    requires { IsSome (object_at machine.now.trail.current.regions at) }
-    ensures { HasStood machine.now.trail at result }
-{
-    let now = machine.place();
-    match birth(machine, at) {
+    let now = past.place();
+    match birth(past, at) {
         Some(place) => now - place,
-        None => machine.retained_count(),
+        None => past.retained_count(),
     }
 }
 
@@ -76,29 +59,30 @@ fn next_look(low: u64, last: u64, guess: u64) -> u64
     }
 }
 
-// Returns how many steps ago the newest state was in which a register reached the object at `at`, which has stood there since
-// `oldest` steps ago, or None if no register has reached it since then. Begins with a guess, and halves the states then, since an
+// Returns how many steps ago the newest state was in which a register reached the object at `at`, whose id is `id` and which has stood
+// there since `oldest` steps ago, or None if no register has reached it since then. Begins with a guess, and halves the states then, since an
 // object that isn't reached is never reached again. Fails with NoMemory.
 fn newest_reached(
     alloc: Global,
-    machine: &Machine,
+    past: &PastTrail<'_>,
     at: ObjRef,
+    id: u64,
     oldest: u64,
 ) -> Result<Option<u64>, Refusal>
-    requires { HasStood machine.now.trail at oldest }
-    ensures newest { IfOk result (λ newest. IsNewest machine.now.trail at oldest newest) }
+    requires named { id ≡ id_now past.now at }
+    requires stood { HasStood past.now at oldest }
+    ensures newest { IfOk result (λ newest. IsNewest past.now at oldest newest) }
     ensures refused { IfErr result (λ e. e ≡ NoMemory) }
 {
     // Its contract says that each retained state came from the one before it.
-    let _place = machine.place();
-    let id = machine.world().regions().id(at);
-    let guess = suspect(alloc, machine, id, oldest)?;
+    let _place = past.place();
+    let guess = past.suspect(alloc, id, oldest)?;
     let mut newest = None;
     let mut low = 0;
     let mut last = oldest;
     loop {
         let middle = next_look(low, last, guess);
-        if was_reached(alloc, machine, id, middle)? {
+        if past.was_reached(alloc, id, middle)? {
             newest = Some(middle);
             if middle == low {
                 return Ok(newest);
@@ -113,21 +97,28 @@ fn newest_reached(
     }
 }
 
-/// Tells whether a register reaches the object at `at`, or which retained step took the last path from it. Fails with NoMemory
-/// if an allocation fails. Searches the heap twice if a guess by the references of the current state is right, and if it isn't,
-/// once more for each halving of the retained states: 17 times for 65,536 steps.
-pub fn loss_of(alloc: Global, machine: &Machine, at: ObjRef) -> Result<Loss, Refusal>
-    requires { IsSome (object_at machine.now.trail.current.regions at) }
-    ensures loss { IfOk result (λ loss. IsLossOf machine.now.trail at loss) }
+/// Tells whether a register reaches the object at `at` in the state to which a trail leads, in which it has this id, or which step of
+/// the trail took the last path from it. Fails with NoMemory if an allocation fails. Searches the heap twice if a guess by the
+/// references of the current state is right, and if it isn't, once more for each halving of the retained states: 17 times for 65,536
+/// steps.
+pub fn loss_of(
+    alloc: Global,
+    past: &PastTrail<'_>,
+    at: ObjRef,
+    id: u64,
+) -> Result<Loss, Refusal>
+    requires named { ref_of past.now.current.regions id ≡ Some at }
+    requires there { IsSome (object_at past.now.current.regions at) }
+    ensures loss { IfOk result (λ loss. IsLossOf past.now at loss) }
     ensures refused { IfErr result (λ e. e ≡ NoMemory) }
 {
-    let oldest = oldest_state(machine, at);
-    let newest = newest_reached(alloc, machine, at, oldest)?;
+    let oldest = oldest_state(past, at);
+    let newest = newest_reached(alloc, past, at, id, oldest)?;
     let Some(ago) = newest else {
         return Ok(Loss::Older);
     };
     if ago == 0 {
         return Ok(Loss::Reached);
     }
-    Ok(Loss::At(machine.place() - (ago - 1)))
+    Ok(Loss::At(past.place() - (ago - 1)))
 }

@@ -1,14 +1,13 @@
 //! The changes of one slot of an object in the retained steps: a walk over the records, the newest first.
-ghost use Rattle.std.specs.Prelude.{◌≡◌, ◌++◌, reverse, Some, IsSome, IfOk, IfErr, OnOk};
+ghost use Rattle.std.specs.Prelude.{◌≡◌, ◌++◌, reverse, Some, IfOk, IfErr, OnOk};
 ghost use Rattle.heap_class.specs.declared.Refusal.TheVariants.{NoMemory};
 ghost use Rattle.heap_questions.specs.Changes.{slot_word};
-ghost use Rattle.heap_questions.specs.SlotChanges.{IsWatched, IsWatchedBack, changed, refers_at, word_before};
+ghost use Rattle.heap_questions.specs.SlotChanges.{IsWatched, IsWatchedBack, changed, word_before};
 
 use crate::past::changes::makes;
-use crate::references::is_reference_slot;
+use crate::past::trail::PastTrail;
 use heap_class::{ObjRef, Refusal};
 use heap_step::Undo;
-use heap_trail::Machine;
 use std::alloc::Global;
 
 /// A change of a word: the place that the step led to, and the words before and after it.
@@ -57,24 +56,24 @@ fn push_change(changes: &mut Vec<SlotChange>, place: u64, old: u64, new: u64) ->
     Ok(())
 }
 
-// Returns the changes of a slot of the object at `at` by the retained steps since it was made, the newest first. Fails with
-// NoMemory.
+// Returns the changes of a slot of the object at `at` by the steps of a trail since it was made, the newest first. The trail leads to
+// a state in which the slot holds `now`. Fails with NoMemory.
 fn newest_changes(
     alloc: Global,
-    machine: &Machine,
+    past: &PastTrail<'_>,
     at: ObjRef,
     slot: u64,
+    now: u64,
 ) -> Result<Vec<SlotChange>, Refusal>
-    requires { IsSome (slot_word machine.now.trail.current at slot) }
-    ensures watched { IfOk result
-        (λ changes. IsWatchedBack machine.now.trail at slot changes.items) }
+    requires { slot_word past.now.current at slot ≡ Some now }
+    ensures watched { IfOk result (λ changes. IsWatchedBack past.now at slot changes.items) }
     ensures refused { IfErr result (λ e. e ≡ NoMemory) }
 {
-    let place = machine.place();
-    let mut now = machine.world().regions().word(at, slot);
+    let place = past.place();
+    let mut now = now;
     let mut changes = Vec::new(alloc);
-    for n in 0..machine.retained_count() {
-        let left = machine.record_ago(n);
+    for n in 0..past.retained_count() {
+        let left = past.record_ago(n);
         if makes(left, at) {
             return Ok(changes);
         }
@@ -85,31 +84,20 @@ fn newest_changes(
     Ok(changes)
 }
 
-/// Returns the changes of a slot of the object at `at` by the retained steps since it was made, the oldest first. Fails with
-/// NoMemory if an allocation fails. Reads each of their records once.
+/// Returns the changes of a slot of the object at `at` by the steps of a trail since it was made, the oldest first. The trail leads to
+/// a state in which the slot holds `now`. Fails with NoMemory if an allocation fails. Reads each of the steps' records once.
 pub fn slot_changes(
     alloc: Global,
-    machine: &Machine,
+    past: &PastTrail<'_>,
     at: ObjRef,
     slot: u64,
+    now: u64,
 ) -> Result<Vec<SlotChange>, Refusal>
-    requires { IsSome (slot_word machine.now.trail.current at slot) }
-    ensures watched { IfOk result
-        (λ changes. IsWatched machine.now.trail at slot changes.items) }
+    requires { slot_word past.now.current at slot ≡ Some now }
+    ensures watched { IfOk result (λ changes. IsWatched past.now at slot changes.items) }
     ensures refused { IfErr result (λ e. e ≡ NoMemory) }
 {
-    let mut changes = newest_changes(alloc, machine, at, slot)?;
+    let mut changes = newest_changes(alloc, past, at, slot, now)?;
     changes.reverse();
     Ok(changes)
-}
-
-/// Tells whether a slot of the object at `at` holds a reference. Takes no memory.
-pub fn refers_at(machine: &Machine, at: ObjRef, slot: u64) -> bool
-    requires { IsSome (slot_word machine.now.trail.current at slot) }
-    ensures { result ≡ refers_at machine.now.trail.current at slot }
-{
-    let world = machine.world();
-    let regions = world.regions();
-    let classes = world.classes().all();
-    is_reference_slot(&classes, regions.kind(at), regions.len(at), slot)
 }

@@ -25,7 +25,7 @@ pub struct PastStep {
 }
 
 // Returns the size of a region's cells.
-fn size_of(storage: &Storage) -> u64
+pub(crate) fn size_of(storage: &Storage) -> u64
     requires { 0 < length storage.now.cells }
     ensures value { result ≡ storage_cell_size storage.now }
     ensures limit { result ≤ region_words }
@@ -34,7 +34,7 @@ fn size_of(storage: &Storage) -> u64
 }
 
 // Returns the size of the cells of a region, or 0 if it is empty.
-fn size_at(world: &World, region: u64) -> u64
+pub(crate) fn size_at(world: &World, region: u64) -> u64
     requires { IsLegal world.now }
     ensures value { (u : UsedRegion) → used_at world.now.regions region ≡ Some u
         → result ≡ u.cell_size }

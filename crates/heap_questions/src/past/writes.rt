@@ -1,9 +1,11 @@
-//! The writes of one slot of all objects of a class in the retained steps: a walk over the records, the newest first, with a pin
-//! that shows the state after each step.
-ghost use Rattle.std.specs.Prelude.{◌≡◌, ◌++◌, [], IfOk, IfErr, OnOk};
+//! The writes of one slot of all objects of a class in retained steps: a walk over the records, the newest first, with a pin that
+//! shows the state after each step.
+ghost use Rattle.std.specs.Prelude.{◌≡◌, ◌≤◌, ◌+◌, ◌++◌, [], reverse, IfOk, IfErr, OnOk};
 ghost use Rattle.heap_class.specs.declared.Refusal.TheVariants.{NoMemory};
-ghost use Rattle.heap_questions.specs.SlotWrites.{AreSlotWrites, AreSlotWritesBack, SeesObject, SeesOverwritten, SeesSlotOf, before_others, changing_write, overwritten, seen_object, write_by};
+ghost use Rattle.heap_trail.specs.Trail.{retained, rewound};
+ghost use Rattle.heap_questions.specs.SlotWrites.{AreLastWrites, SeesObject, SeesOverwritten, SeesSlotOf, before_others, changing_write, overwritten, seen_object, write_by};
 
+use crate::past::seen::past_pin;
 use crate::wanted::is_of_class;
 use heap_class::{ClassNo, ObjKind, ObjRef, Refusal};
 use heap_pins::Pin;
@@ -132,45 +134,53 @@ fn push_write(writes: &mut Vec<SlotWrite>, write: Option<SlotWrite>) -> Result<(
     Ok(())
 }
 
-// Returns the writes of a slot of the objects of a class by the retained steps, the newest first. Fails with NoMemory.
+// Returns the writes of a slot of the objects of a class by the last `count` steps to the state of `ago` steps ago, the newest first.
+// Fails with NoMemory.
 fn newest_writes(
     alloc: Global,
     machine: &Machine,
+    ago: u64,
+    count: u64,
     class: ClassNo,
     slot: u64,
 ) -> Result<Vec<SlotWrite>, Refusal>
+    requires { ago + count ≤ retained machine.now.trail }
     ensures writes { IfOk result
-        (λ writes. AreSlotWritesBack machine.now.trail class slot writes.items) }
+        (λ writes. AreLastWrites (rewound ago machine.now.trail) class slot count (reverse writes.items)) }
     ensures refused { IfErr result (λ e. e ≡ NoMemory) }
 {
     let place = machine.place();
     let world = machine.world();
-    let mut pin = Pin::open(alloc, world)?;
+    let mut pin = past_pin(alloc, machine, ago)?;
     let mut writes = Vec::new(alloc);
-    for n in 0..machine.retained_count() {
-        let left = machine.record_ago(n);
+    for n in 0..count {
+        let left = machine.record_ago(ago + n);
         push_write(
             &mut writes,
-            write_by(&pin, world, left, class, slot, place - n),
+            write_by(&pin, world, left, class, slot, place - (ago + n)),
         )?;
         pin.walk_back(world, left)?;
     }
     Ok(writes)
 }
 
-/// Returns the changes of a slot of all objects of a class by the retained steps, the oldest first: also of objects that aren't there
-/// any more. A class that isn't there has none. Fails with NoMemory if an allocation fails. Reads each record once.
+/// Returns the changes of a slot of all objects of a class by the last `count` steps to the state of `ago` steps ago, the oldest first:
+/// also of objects that aren't there any more. The steps must be retained. A class that isn't there has none. Fails with NoMemory if
+/// an allocation fails. Reads each record of these steps, and of the steps since, once.
 pub fn slot_writes(
     alloc: Global,
     machine: &Machine,
+    ago: u64,
+    count: u64,
     class: ClassNo,
     slot: u64,
 ) -> Result<Vec<SlotWrite>, Refusal>
+    requires { ago + count ≤ retained machine.now.trail }
     ensures writes { IfOk result
-        (λ writes. AreSlotWrites machine.now.trail class slot writes.items) }
+        (λ writes. AreLastWrites (rewound ago machine.now.trail) class slot count writes.items) }
     ensures refused { IfErr result (λ e. e ≡ NoMemory) }
 {
-    let mut writes = newest_writes(alloc, machine, class, slot)?;
+    let mut writes = newest_writes(alloc, machine, ago, count, class, slot)?;
     writes.reverse();
     Ok(writes)
 }

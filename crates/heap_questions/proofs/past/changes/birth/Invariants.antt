@@ -5,4 +5,4 @@ use Rattle.heap_trail.specs.Trail.{state_ago}
 use Rattle.heap_questions.proofs.past.changes.birth.Given as goal
 
 abbrev pub invariant-loop-n : goal.invariant-loop-n
-invariant-loop-n l = (m : ℕ) → m < l.n + 1 → IsSome (object_at (state_ago m l.machine.trail).regions l.at)
+invariant-loop-n l = (m : ℕ) → m < l.n + 1 → IsSome (object_at (state_ago m l.past).regions l.at)

@@ -6,8 +6,8 @@ abbrev pub invariant-loop-newest : goal.invariant-loop-newest
 invariant-loop-newest l = record {
   ordered : l.low ≤ l.last;
   within : l.last ≤ l.fn.oldest;
-  below : UnreachedFor l.machine.trail l.fn.at l.low;
-  above : LeavesOut l.machine.trail l.fn.at l.fn.oldest l.last l.newest;
+  below : UnreachedFor l.past l.fn.at l.low;
+  above : LeavesOut l.past l.fn.at l.fn.oldest l.last l.newest;
 }
 
 abbrev pub decreases-loop-newest : goal.decreases-loop-newest

@@ -14,9 +14,7 @@ use Rattle.heap_lock.specs.Entry.{Entry}
 use Rattle.heap_lock.specs.LockStates.{SeatModel}
 use Rattle.heap_lock.specs.Machine.{Machine}
 use Rattle.question_text.specs.Collections.{is_collect}
-use Rattle.question_text.specs.Questions.{question_of}
-use Rattle.question_text.specs.declared.question.Question.{Question}
-use Rattle.question_text.specs.declared.question.Question.TheVariants.{Pins}
+use Rattle.question_text.specs.Questions.{asks_pins}
 use Rattle.session_grammar.specs.Grammar.{one_number, words_of_line}
 use Rattle.session_text.specs.Answers.{AnswerRelation, all_bad}
 use Rattle.session_text.specs.Dumps.{Acts}
@@ -34,15 +32,6 @@ kept_in_words (w ∷ ws) = if bytes_eq w (codes "keep") then one_number ws else 
 -- the pin of the line `keep PIN`
 abbrev pub kept_pin : List ℕ → Option ℕ
 kept_pin l = kept_in_words (words_of_line l)
-
--- the question is the one about the open pins
-abbrev pub is_pins : Option Question → Bool
-is_pins (Some Pins) = true
-is_pins q = false
-
--- the line asks for the open pins
-abbrev pub asks_pins : List ℕ → Bool
-asks_pins l = is_pins (question_of l)
 
 -- ---- the pins of a session
 

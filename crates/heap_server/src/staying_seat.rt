@@ -3,7 +3,7 @@ ghost use Rattle.std.specs.Prelude.{◌≡◌, ◌==◌, ◌<◌, List, [], vec_
 ghost use Rattle.std.specs.List.{list_any};
 ghost use Rattle.heap_lock.specs.Calls.{Call};
 ghost use Rattle.heap_lock.specs.declared.role.Role.TheVariants.{User};
-ghost use Rattle.heap_server.specs.StayingSeats.{ActsWith, AnswersSeat, AnswersStaying, ClosesEach, KeepsPin, OpensNoted, asks_pins, kept_pin, with_opened, without};
+ghost use Rattle.heap_server.specs.StayingSeats.{ActsWith, AnswersSeat, AnswersStaying, ClosesEach, KeepsPin, OpensNoted, kept_pin, with_opened, without};
 ghost use Rattle.heap_lock.specs.Action.TheVariants.{ClosePin};
 ghost use Rattle.heap_lock.specs.Machine.{IsSmall};
 ghost use Rattle.question_text.specs.Collections.{is_collect};
@@ -11,7 +11,7 @@ ghost use Rattle.session_text.specs.Replies.{line_answer_text, pin_in};
 
 use crate::joined::Joined;
 use heap_lock::{Action, Heap, Refusal, Reply, Seat};
-use question_text::{Question, is_collect, question_of};
+use question_text::{asks_pins, is_collect};
 use session_grammar::command::one_number;
 use session_grammar::words::{Words, is_word};
 use session_text::{Commands, LineAnswer};
@@ -54,13 +54,6 @@ fn kept_pin(line: &[u8]) -> Option<u64>
     } else {
         None
     }
-}
-
-// Tells whether a line asks for the open pins.
-fn asks_pins(line: &[u8]) -> bool
-    ensures { result ≡ asks_pins line.now }
-{
-    matches!(question_of(line), Some(Question::Pins))
 }
 
 // Returns the pin that a reply says was opened.

@@ -3,6 +3,7 @@ use Rattle.std.proofs.Common.{◌≡◌, ◌∙◌, ap, ap₂, ℕ, Bool, true, 
 use Rattle.std.specs.Prelude.{Option, codes, slice_index, take}
 use Rattle.std.specs.Str.{bytes_eq}
 use Rattle.std.proofs.lemmas.Slice.Eq.{bytes_eq-Decides}
+use Rattle.heap_world.specs.State.{HeapState}
 use Rattle.session_grammar.specs.declared.command.Command.TheVariants.{Bad}
 use Rattle.session_grammar.specs.Grammar.{access_rules, all_rules, by_rule, class_rules, command_of_text, command_of_words, making_rules, marking_rules, session_rules, words_of_line}
 use Rattle.session_text.specs.declared.commands.Local.{Local}
@@ -24,9 +25,9 @@ no_rule : (v : List ℕ) (ws : List (List ℕ)) → by_rule all_rules (35 ∷ v)
 unfolding by_rule class_rules making_rules access_rules marking_rules session_rules
 no_rule v ws = refl
 
-no_question : (v : List ℕ) (ws : List (List ℕ)) → question_of_words ((35 ∷ v) ∷ ws) ≡ None
+no_question : (state : HeapState) (v : List ℕ) (ws : List (List ℕ)) → question_of_words state ((35 ∷ v) ∷ ws) ≡ None
 unfolding question_of_words question_rules past_rules
-no_question v ws = refl
+no_question state v ws = refl
 
 -- ---- the grammar of sessions
 
@@ -41,11 +42,11 @@ comments_no_command l e = bad_words l (by_words (words_of_line l) e)
 
 -- ---- questions
 
-asks_none : (ws : List (List ℕ)) → is_comment_words ws ≡ true → question_of_words ws ≡ None
-asks_none [] e = absurd (cc e)
-asks_none ([] ∷ ws) e = absurd (cc e)
-asks_none ((b ∷ v) ∷ ws) e =
-    subst (λ (x : ℕ). question_of_words ((x ∷ v) ∷ ws) ≡ None) (sym (first_byte b v e)) (no_question v ws)
+asks_none : (state : HeapState) (ws : List (List ℕ)) → is_comment_words ws ≡ true → question_of_words state ws ≡ None
+asks_none state [] e = absurd (cc e)
+asks_none state ([] ∷ ws) e = absurd (cc e)
+asks_none state ((b ∷ v) ∷ ws) e =
+    subst (λ (x : ℕ). question_of_words state ((x ∷ v) ∷ ws) ≡ None) (sym (first_byte b v e)) (no_question state v ws)
 
 collects_none : (ws : List (List ℕ)) → is_comment_words ws ≡ true → is_collect_words ws ≡ false
 collects_none [] e = absurd (cc e)
@@ -66,7 +67,7 @@ no_text l e = go (is_comment l) e
 local_silent : (b : Bool) (l text : List ℕ) (c d : Local) → b ≡ false → is_comment l ≡ true → AnswersLine b l c text d → (text ≡ []) × (d ≡ c)
 local_silent true l text c d h e a = absurd (cc h)
 local_silent false l text c d h e a =
-    (subst (λ (q : Option Question). IsAnswerOf q l c.machine None text) (asks_none (words_of_line l) e) a.0 ∙ no_text l e, a.1)
+    (subst (λ (q : Option Question). IsAnswerOf q l c.machine None text) (asks_none c.machine.trail.current (words_of_line l) e) a.0 ∙ no_text l e, a.1)
 
 pub comment_silent : (l text : List ℕ) (c d : Asking) → is_comment l ≡ true → AskingAnswers l c text d → (text ≡ []) × (d ≡ c)
 comment_silent l text c d e a =

@@ -9,6 +9,7 @@ pub mod Comments
 pub mod HelpForms
 pub mod Slots
 pub mod FieldNames
+pub mod NamedWords
 pub mod FieldRows
 pub mod NamedObjects
 pub mod PinRows

@@ -4,6 +4,7 @@ use Rattle.std.specs.Prelude.{codes, find, option_and_then}
 use Rattle.std.specs.List.{AllByRecursion}
 use Rattle.std.specs.Str.{bytes_eq}
 use Rattle.std.proofs.lemmas.Slice.Eq.{bytes_eq-Decides}
+use Rattle.heap_world.specs.State.{HeapState}
 use Rattle.session_grammar.specs.declared.command.Command.TheVariants.{Bad}
 use Rattle.session_grammar.specs.Grammar.{access_rules, all_rules, by_rule, class_rules, command_of_text, command_of_words, is_plain, making_rules, marking_rules, session_rules, words_of_line}
 use Rattle.session_text.specs.declared.commands.Local.{Local}
@@ -26,9 +27,9 @@ bad_words l e = go (is_plain l)
 abbrev IsNew : List ℕ → Type 0
 IsNew key = (ws : List (List ℕ)) → by_rule all_rules key ws ≡ None
 
-all_new : AllByRecursion (λ (r : QuestionRule). IsNew r.0) question_rules
+all_new : (state : HeapState) → AllByRecursion (λ (r : QuestionRule). IsNew r.0) (question_rules state)
 unfolding question_rules past_rules by_rule class_rules making_rules access_rules marking_rules session_rules
-all_new = (λ ws. refl, (λ ws. refl, (λ ws. refl, (λ ws. refl, (λ ws. refl, (λ ws. refl, (λ ws. refl, (λ ws. refl, (λ ws. refl, (λ ws. refl, (λ ws. refl, (λ ws. refl, (λ ws. refl, (λ ws. refl, (λ ws. refl, (λ ws. refl, (λ ws. refl, (λ ws. refl, (λ ws. refl, (λ ws. refl, (λ ws. refl, (λ ws. refl, (λ ws. refl, (λ ws. refl, tt))))))))))))))))))))))))
+all_new state = (λ ws. refl, (λ ws. refl, (λ ws. refl, (λ ws. refl, (λ ws. refl, (λ ws. refl, (λ ws. refl, (λ ws. refl, (λ ws. refl, (λ ws. refl, (λ ws. refl, (λ ws. refl, (λ ws. refl, (λ ws. refl, (λ ws. refl, (λ ws. refl, (λ ws. refl, (λ ws. refl, (λ ws. refl, (λ ws. refl, (λ ws. refl, (λ ws. refl, (λ ws. refl, (λ ws. refl, tt))))))))))))))))))))))))
 
 found_new : (w : List ℕ) (ws : List (List ℕ)) (rules : List QuestionRule) (q : Question) → AllByRecursion (λ (r : QuestionRule). IsNew r.0) rules
     → question_by rules w ws ≡ Some q → IsNew w
@@ -40,10 +41,10 @@ found_new w ws (r ∷ rs) q all e = go (found_new w ws rs q all.1) (bytes_eq w r
     go later true h e = subst IsNew (sym ((bytes_eq-Decides w r.0).0 h)) all.0
     go later false h e = later e
 
-by_words : (ws : List (List ℕ)) (q : Question) → question_of_words ws ≡ Some q → command_of_words ws ≡ Bad
+by_words : (state : HeapState) (ws : List (List ℕ)) (q : Question) → question_of_words state ws ≡ Some q → command_of_words ws ≡ Bad
 unfolding question_of_words
-by_words [] q e = cc
-by_words (w ∷ ws) q e = let none = found_new w ws question_rules q all_new e ws in rw none refl
+by_words state [] q e = cc
+by_words state (w ∷ ws) q e = let none = found_new w ws (question_rules state) q (all_new state) e ws in rw none refl
 
 -- ---- help
 
@@ -64,8 +65,8 @@ helps_no_command l text e = bad_words l (by_help (words_of_line l) text e)
 
 -- ---- questions
 
-pub asks_no_command : (l : List ℕ) (q : Question) → question_of l ≡ Some q → command_of_text l ≡ Bad
-asks_no_command l q e = bad_words l (by_words (words_of_line l) q e)
+pub asks_no_command : (state : HeapState) (l : List ℕ) (q : Question) → question_of state l ≡ Some q → command_of_text l ≡ Bad
+asks_no_command state l q e = bad_words l (by_words state (words_of_line l) q e)
 
 -- ---- collect
 
@@ -86,14 +87,14 @@ collects_no_command l e = bad_words l (by_collect (words_of_line l) e)
 
 -- ---- no other line changes anything
 
-asks_nothing : question_of_words (codes "collect" ∷ []) ≡ None
+asks_nothing : (state : HeapState) → question_of_words state (codes "collect" ∷ []) ≡ None
 unfolding question_of_words question_rules past_rules
-asks_nothing = refl
+asks_nothing state = refl
 
-no_question : (ws : List (List ℕ)) → is_collect_words ws ≡ true → question_of_words ws ≡ None
-no_question [] e = absurd (cc e)
-no_question (w ∷ []) e = subst (λ (v : List ℕ). question_of_words (v ∷ []) ≡ None) (sym (collect_word w e)) asks_nothing
-no_question (w ∷ v ∷ ws) e = absurd (cc e)
+no_question : (state : HeapState) (ws : List (List ℕ)) → is_collect_words ws ≡ true → question_of_words state ws ≡ None
+no_question state [] e = absurd (cc e)
+no_question state (w ∷ []) e = subst (λ (v : List ℕ). question_of_words state (v ∷ []) ≡ None) (sym (collect_word w e)) (asks_nothing state)
+no_question state (w ∷ v ∷ ws) e = absurd (cc e)
 
 no_help : (ws : List (List ℕ)) → is_collect_words ws ≡ true → help_of_words ws ≡ None
 no_help [] e = absurd (cc e)
@@ -108,9 +109,9 @@ unchanged : (l text : List ℕ) (c d : Asking) → (is_collect l ≡ true → �
 unchanged l text c d h a =
     ap₂ (λ local watch. record { local = local; watch = watch }) (same_local (is_collect l) l text c.local d.local h a.0) a.1
 
-pub question_changes_nothing : (l text : List ℕ) (q : Question) (c d : Asking) → question_of l ≡ Some q → AskingAnswers l c text d → d ≡ c
-question_changes_nothing l text q c d e a =
-    unchanged l text c d (λ t. let clash : None ≡ Some q = sym (no_question (words_of_line l) t) ∙ e in absurd (cc clash)) a
+pub question_changes_nothing : (state : HeapState) (l text : List ℕ) (q : Question) (c d : Asking) → question_of state l ≡ Some q → AskingAnswers l c text d → d ≡ c
+question_changes_nothing state l text q c d e a =
+    unchanged l text c d (λ t. let clash : None ≡ Some q = sym (no_question state (words_of_line l) t) ∙ e in absurd (cc clash)) a
 
 pub help_changes_nothing : (l text answer : List ℕ) (c d : Asking) → help_of l ≡ Some answer → AskingAnswers l c text d → d ≡ c
 help_changes_nothing l text answer c d e a =

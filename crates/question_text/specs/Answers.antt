@@ -97,6 +97,6 @@ abbrev pub IsAnswerOf : Option Question → List ℕ → Machine → Option ℕ 
 IsAnswerOf None l m acts text = text ≡ unasked_text l
 IsAnswerOf (Some q) l m acts text = IsAnswer q m acts text
 
--- the answer of a line that the grammar of sessions doesn't know
+-- the answer of a line that the grammar of sessions doesn't know; its names are those of the current state
 abbrev pub IsAnswerOfLine : List ℕ → Machine → Option ℕ → List ℕ → Type 0
-IsAnswerOfLine l m acts text = IsAnswerOf (question_of l) l m acts text
+IsAnswerOfLine l m acts text = IsAnswerOf (question_of m.trail.current l) l m acts text

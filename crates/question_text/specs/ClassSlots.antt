@@ -6,6 +6,7 @@ use Rattle.heap_class.specs.declared.Refusal.TheVariants.{BadSlot, NoClass}
 use Rattle.heap_questions.specs.declared.wanted.Wanted.{Wanted}
 use Rattle.heap_questions.specs.declared.wanted.Wanted.TheVariants.{All, OfClass, Holding}
 use Rattle.heap_class.specs.Kinds.{is_reference}
+use Rattle.heap_class.specs.Limits.{array_limit}
 use Rattle.heap_class.specs.Classes.{Class, is_array_class, slots_of}
 
 -- whether a slot of this kind holds a reference, if there is one
@@ -18,11 +19,15 @@ abbrev pub refusal_in : {A : Type 0} → Result A Refusal → Option Refusal
 refusal_in (Ok a) = None
 refusal_in (Err e) = Some e
 
--- whether slot s of the objects of class k holds a reference, or why they have none; an array of references may have any slot
+-- an array of references may have this slot
+abbrev pub element_or_none : ℕ → Result Bool Refusal
+element_or_none s = if nat_lt s array_limit then Ok true else Err BadSlot
+
+-- whether slot s of the objects of class k holds a reference, or why they have none
 unfoldable pub class_slot : List Class → ℕ → ℕ → Result Bool Refusal
 class_slot classes k s =
     if not (nat_lt k (length classes)) then Err NoClass
-    else (if is_array_class classes k then Ok true
+    else (if is_array_class classes k then element_or_none s
     else slot_or_none (slice_get (slots_of classes k) s))
 
 -- why no objects can be listed, if they can't: the class isn't there, or its objects have no such slot

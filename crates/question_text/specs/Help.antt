@@ -23,7 +23,7 @@ question_forms =
     ∷ form_of (codes "kept") (codes "kept AT [AT]") (codes "kept @120 -")
     ∷ form_of (codes "registers") (codes "registers [AT]") (codes "registers -")
     ∷ form_of (codes "classes") (codes "classes [AT]") (codes "classes -")
-    ∷ form_of (codes "objects") (codes "objects [AT [CLASS [SLOT VALUE]]]") (codes "objects - 0 1 42")
+    ∷ form_of (codes "objects") (codes "objects [AT] [CLASS [SLOT VALUE]]") (codes "objects - 0 1 42")
     ∷ form_of (codes "values") (codes "values [AT] CLASS SLOT") (codes "values - 0 1")
     ∷ form_of (codes "referrers") (codes "referrers [AT] ID") (codes "referrers - 0x10000020")
     ∷ form_of (codes "path") (codes "path [AT] ID") (codes "path @120 0x10000020")

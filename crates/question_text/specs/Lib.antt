@@ -3,6 +3,7 @@ pub mod Ids
 pub mod Questions
 pub mod Moments
 pub mod Names
+pub mod NameWords
 pub mod Histograms
 pub mod Referrers
 pub mod Registers

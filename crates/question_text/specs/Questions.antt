@@ -1,5 +1,5 @@
 -- The lines of questions.
-use Rattle.std.specs.Prelude.{ℕ, List, [], ◌∷◌, take, drop, find, codes, Option, Some, None, option_map, option_and_then, if◌then◌else◌}
+use Rattle.std.specs.Prelude.{ℕ, Bool, false, List, [], ◌∷◌, take, drop, find, codes, Option, Some, None, option_map, option_and_then, if◌then◌else◌}
 use Rattle.std.specs.Str.{bytes_eq}
 use Rattle.session_grammar.specs.Grammar.{at_end, next_number, number_of_word, words_of_line}
 use Rattle.question_text.specs.declared.question.At.{At}
@@ -11,7 +11,10 @@ use Rattle.question_text.specs.declared.question.Span.TheVariants.{AllSteps, Bet
 use Rattle.std.specs.Option.{option_or}
 use Rattle.heap_questions.specs.declared.wanted.Wanted.{Wanted}
 use Rattle.heap_questions.specs.declared.wanted.Wanted.TheVariants.{All, OfClass, Holding}
+use Rattle.heap_class.specs.Classes.{Class}
+use Rattle.heap_world.specs.State.{HeapState}
 use Rattle.question_text.specs.Ids.{id_of_word}
+use Rattle.question_text.specs.NameWords.{class_and_slot, class_of_word, id_and_slot}
 
 -- the state that a word names: `-`, `@` and a place, or the number of a pin
 unfoldable pub at_of_word : List ℕ → Option At
@@ -98,28 +101,23 @@ place_and_id (w ∷ []) = option_map (λ x. (None, x)) (id_of_word w)
 place_and_id (w ∷ v ∷ ws) =
     option_and_then (λ to. option_and_then (λ x. at_end (to, x) ws) (id_of_word v)) (place_of_word w)
 
--- the id and the number that two words are
-abbrev pub id_and_number : List ℕ → List ℕ → Option (ℕ × ℕ)
-id_and_number w v =
-    option_and_then (λ x. option_map (λ n. (x, n)) (number_of_word v)) (id_of_word w)
-
--- the place, and the id and the number, that the words name; without a place it is that of the current state
-abbrev pub place_and_slot : List (List ℕ) → Option (Option ℕ × (ℕ × ℕ))
-place_and_slot [] = None
-place_and_slot (w ∷ []) = None
-place_and_slot (w ∷ v ∷ []) = option_map (λ slot. (None, slot)) (id_and_number w v)
-place_and_slot (w ∷ v ∷ u ∷ ws) =
-    option_and_then (λ to. option_and_then (λ slot. at_end (to, slot) ws) (id_and_number v u))
+-- the place, and the id and the slot, that the words name; without a place it is that of the current state
+abbrev pub place_and_slot : HeapState → List (List ℕ) → Option (Option ℕ × (ℕ × ℕ))
+place_and_slot state [] = None
+place_and_slot state (w ∷ []) = None
+place_and_slot state (w ∷ v ∷ []) = option_map (λ slot. (None, slot)) (id_and_slot state w v)
+place_and_slot state (w ∷ v ∷ u ∷ ws) =
+    option_and_then (λ to. option_and_then (λ slot. at_end (to, slot) ws) (id_and_slot state v u))
     (place_of_word w)
 
 -- the same, with the place at the end
-abbrev pub slot_and_place : List (List ℕ) → Option ((ℕ × ℕ) × Option ℕ)
-slot_and_place [] = None
-slot_and_place (w ∷ []) = None
-slot_and_place (w ∷ v ∷ []) = option_map (λ slot. (slot, None)) (id_and_number w v)
-slot_and_place (w ∷ v ∷ u ∷ ws) =
+abbrev pub slot_and_place : HeapState → List (List ℕ) → Option ((ℕ × ℕ) × Option ℕ)
+slot_and_place state [] = None
+slot_and_place state (w ∷ []) = None
+slot_and_place state (w ∷ v ∷ []) = option_map (λ slot. (slot, None)) (id_and_slot state w v)
+slot_and_place state (w ∷ v ∷ u ∷ ws) =
     option_and_then (λ slot. option_and_then (λ to. at_end (slot, to) ws) (place_of_word u))
-    (id_and_number w v)
+    (id_and_slot state w v)
 
 -- the steps that the words name: all, or those after the first place up to the second, which is that of the current state if it
 -- isn't named
@@ -131,11 +129,12 @@ span_of (w ∷ v ∷ ws) =
     (place_of_word w)
 
 -- the class, the slot and the steps that the words name
-abbrev pub slot_and_span : List (List ℕ) → Option ((ℕ × ℕ) × Span)
-slot_and_span ws =
-    option_and_then
-    (λ k. option_and_then (λ s. option_map (λ span. ((k.0, s.0), span)) (span_of s.1)) (next_number k.1))
-    (next_number ws)
+abbrev pub slot_and_span : List Class → List (List ℕ) → Option ((ℕ × ℕ) × Span)
+slot_and_span classes [] = None
+slot_and_span classes (w ∷ []) = None
+slot_and_span classes (w ∷ v ∷ ws) =
+    option_and_then (λ slot. option_map (λ span. (slot, span)) (span_of ws))
+    (class_and_slot classes w v)
 
 -- the place and the number that the words name; without a place it is that of the current state
 abbrev pub place_and_number : List (List ℕ) → Option (Option ℕ × ℕ)
@@ -151,34 +150,34 @@ value_of_word w =
     if bytes_eq w (codes "null") then Some 0 else option_or (id_of_word w) (number_of_word w)
 
 -- the objects that the words name: all, those of a class, or those of a class with a value in a slot
-abbrev pub wanted_of : List (List ℕ) → Option Wanted
-wanted_of [] = Some All
-wanted_of (k ∷ []) = option_map (λ k. OfClass k) (number_of_word k)
-wanted_of (k ∷ s ∷ []) = None
-wanted_of (k ∷ s ∷ v ∷ []) =
-    option_and_then
-    (λ k. option_and_then (λ s. option_map (λ v. Holding k s v) (value_of_word v)) (number_of_word s))
-    (number_of_word k)
-wanted_of (k ∷ s ∷ v ∷ w ∷ ws) = None
+abbrev pub wanted_of : List Class → List (List ℕ) → Option Wanted
+wanted_of classes [] = Some All
+wanted_of classes (k ∷ []) = option_map (λ k. OfClass k) (class_of_word classes k)
+wanted_of classes (k ∷ s ∷ []) = None
+wanted_of classes (k ∷ s ∷ v ∷ []) =
+    option_and_then (λ slot. option_map (λ v. Holding slot.0 slot.1 v) (value_of_word v))
+    (class_and_slot classes k s)
+wanted_of classes (k ∷ s ∷ v ∷ w ∷ ws) = None
 
--- the state and the objects that the words name; without a state it is the current one
-abbrev pub at_and_wanted : List (List ℕ) → Option (At × Wanted)
-at_and_wanted [] = Some (Current, All)
-at_and_wanted (w ∷ ws) =
-    option_and_then (λ at. option_map (λ x. (at, x)) (wanted_of ws)) (at_of_word w)
+-- the same about a state, or about the current one if the first of all these words names none
+abbrev pub wanted_at : List Class → Option At → List (List ℕ) → List (List ℕ) → Option (At × Wanted)
+wanted_at classes (Some at) all ws = option_map (λ x. (at, x)) (wanted_of classes ws)
+wanted_at classes None all ws = option_map (λ x. (Current, x)) (wanted_of classes all)
 
--- the class and the slot that two words name
-abbrev pub class_and_slot : List ℕ → List ℕ → Option (ℕ × ℕ)
-class_and_slot w v =
-    option_and_then (λ k. option_map (λ s. (k, s)) (number_of_word v)) (number_of_word w)
+-- the state and the objects that the words name; the first word names the state, if it names any, and else it is the current one
+abbrev pub at_and_wanted : List Class → List (List ℕ) → Option (At × Wanted)
+at_and_wanted classes [] = Some (Current, All)
+at_and_wanted classes (w ∷ ws) = wanted_at classes (at_of_word w) (w ∷ ws) ws
 
 -- the state, and the class and the slot, that the words name; without a state it is the current one
-abbrev pub at_and_slot : List (List ℕ) → Option (At × (ℕ × ℕ))
-at_and_slot [] = None
-at_and_slot (w ∷ []) = None
-at_and_slot (w ∷ v ∷ []) = option_map (λ slot. (Current, slot)) (class_and_slot w v)
-at_and_slot (w ∷ v ∷ u ∷ ws) =
-    option_and_then (λ at. option_and_then (λ slot. at_end (at, slot) ws) (class_and_slot v u))
+abbrev pub at_and_slot : List Class → List (List ℕ) → Option (At × (ℕ × ℕ))
+at_and_slot classes [] = None
+at_and_slot classes (w ∷ []) = None
+at_and_slot classes (w ∷ v ∷ []) =
+    option_map (λ slot. (Current, slot)) (class_and_slot classes w v)
+at_and_slot classes (w ∷ v ∷ u ∷ ws) =
+    option_and_then
+    (λ at. option_and_then (λ slot. at_end (at, slot) ws) (class_and_slot classes v u))
     (at_of_word w)
 
 -- ---- the table of questions
@@ -187,9 +186,9 @@ at_and_slot (w ∷ v ∷ u ∷ ws) =
 abbrev pub QuestionRule : Type 0
 QuestionRule = List ℕ × (List (List ℕ) → Option Question)
 
--- the questions about what retained steps did, about pins, and about the current state
-unfoldable pub past_rules : List QuestionRule
-past_rules =
+-- the questions about what retained steps did, about pins, and about the current state, which tells what names stand for
+unfoldable pub past_rules : HeapState → List QuestionRule
+past_rules state =
     (codes "born", λ ws. option_map (λ a. Born a.0 a.1) (place_and_id ws))
     ∷ (codes "dropped", λ ws. option_map (λ a. Dropped a.0 a.1) (place_and_id ws))
     ∷ (codes "pins", λ ws. at_end Pins ws)
@@ -197,21 +196,21 @@ past_rules =
     ∷ (codes "regions", λ ws. at_end Regions ws)
     ∷ (codes "status", λ ws. at_end Status ws)
     ∷ (codes "history", λ ws. option_map (λ a. History a.0 a.1) (place_and_number ws))
-    ∷ (codes "wrote", λ ws. option_map (λ a. Wrote a.0 a.1.0 a.1.1) (place_and_slot ws))
-    ∷ (codes "watch", λ ws. option_map (λ a. Watch a.0.0 a.0.1 a.1) (slot_and_place ws))
-    ∷ (codes "writes", λ ws. option_map (λ a. Writes a.0.0 a.0.1 a.1) (slot_and_span ws))
+    ∷ (codes "wrote", λ ws. option_map (λ a. Wrote a.0 a.1.0 a.1.1) (place_and_slot state ws))
+    ∷ (codes "watch", λ ws. option_map (λ a. Watch a.0.0 a.0.1 a.1) (slot_and_place state ws))
+    ∷ (codes "writes", λ ws. option_map (λ a. Writes a.0.0 a.0.1 a.1) (slot_and_span state.classes ws))
     ∷ []
 
 -- all questions: those about a state first
-unfoldable pub question_rules : List QuestionRule
-question_rules =
+unfoldable pub question_rules : HeapState → List QuestionRule
+question_rules state =
     (codes "histogram", λ ws. option_map (λ at. Histogram at) (optional_at ws))
     ∷ (codes "garbage", λ ws. option_map (λ at. Garbage at) (optional_at ws))
     ∷ (codes "registers", λ ws. option_map (λ at. Registers at) (optional_at ws))
     ∷ (codes "growth", λ ws. option_map (λ a. Growth a.0 a.1) (at_and_optional ws))
     ∷ (codes "classes", λ ws. option_map (λ at. Classes at) (optional_at ws))
-    ∷ (codes "objects", λ ws. option_map (λ a. Objects a.0 a.1) (at_and_wanted ws))
-    ∷ (codes "values", λ ws. option_map (λ a. Values a.0 a.1.0 a.1.1) (at_and_slot ws))
+    ∷ (codes "objects", λ ws. option_map (λ a. Objects a.0 a.1) (at_and_wanted state.classes ws))
+    ∷ (codes "values", λ ws. option_map (λ a. Values a.0 a.1.0 a.1.1) (at_and_slot state.classes ws))
     ∷ (codes "kept", λ ws. option_map (λ a. Kept a.0 a.1) (at_and_optional ws))
     ∷ (codes "referrers", λ ws. option_map (λ a. Referrers a.0 a.1) (optional_at_and_id ws))
     ∷ (codes "path", λ ws. option_map (λ a. Path a.0 a.1) (optional_at_and_id ws))
@@ -219,7 +218,7 @@ question_rules =
     ∷ (codes "dominators", λ ws. option_map (λ a. Dominators a.0 a.1) (optional_at_and_number ws))
     ∷ (codes "dominator", λ ws. option_map (λ a. Dominator a.0 a.1) (optional_at_and_id ws))
     ∷ (codes "show", λ ws. option_map (λ a. Show a.0 a.1) (optional_at_and_id ws))
-    ∷ past_rules
+    ∷ past_rules state
 
 -- what the words after a keyword ask, by the first of these rules that has it
 abbrev pub question_by : List QuestionRule → List ℕ → List (List ℕ) → Option Question
@@ -227,10 +226,22 @@ question_by rules w ws =
     option_and_then (λ rule. rule.1 ws) (find (λ rule. bytes_eq w rule.0) rules)
 
 -- the question of these words, by the rule of the first
-unfoldable pub question_of_words : List (List ℕ) → Option Question
-question_of_words [] = None
-question_of_words (w ∷ ws) = question_by question_rules w ws
+unfoldable pub question_of_words : HeapState → List (List ℕ) → Option Question
+question_of_words state [] = None
+question_of_words state (w ∷ ws) = question_by (question_rules state) w ws
 
--- the question that a line asks
-abbrev pub question_of : List ℕ → Option Question
-question_of line = question_of_words (words_of_line line)
+-- the question that a line asks, if its names stand for what has them in this state
+abbrev pub question_of : HeapState → List ℕ → Option Question
+question_of state line = question_of_words state (words_of_line line)
+
+-- ---- one question
+
+-- the line asks for the open pins
+abbrev pub asks_pins_words : List (List ℕ) → Bool
+asks_pins_words [] = false
+asks_pins_words (w ∷ []) = bytes_eq w (codes "pins")
+asks_pins_words (w ∷ v ∷ ws) = false
+
+-- the same of a line
+abbrev pub asks_pins : List ℕ → Bool
+asks_pins line = asks_pins_words (words_of_line line)

@@ -263,7 +263,7 @@ pub fn answer(alloc: Global, machine: &Machine, acts: Option<u64>, question: Que
 pub fn answer_line(alloc: Global, machine: &Machine, acts: Option<u64>, line: &[u8]) -> LineAnswer
     ensures { IsAnswerOfLine line.now machine.now acts (line_answer_text result) }
 {
-    match question_of(line) {
+    match question_of(machine.world(), line) {
         Some(question) => answer(alloc, machine, acts, question),
         None => unasked_answer(line),
     }

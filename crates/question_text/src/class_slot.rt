@@ -1,12 +1,24 @@
 //! A slot of the objects of a class.
 ghost use Rattle.std.specs.Prelude.{◌≡◌};
-ghost use Rattle.question_text.specs.ClassSlots.{class_slot, wanted_refusal};
+ghost use Rattle.question_text.specs.ClassSlots.{class_slot, element_or_none, wanted_refusal};
 
 use heap_class::{ClassNo, FirstClasses, Refusal};
 use heap_questions::Wanted;
+use heap_world::ARRAY_LIMIT;
 
-// Tells whether a slot of the objects of a class holds a reference: an array of references may have any slot. Fails with NoClass if
-// the class isn't there, and with BadSlot if its objects have no such slot.
+// Tells that an array of references may have a slot. Fails with BadSlot if no array has so many elements.
+fn element_slot(slot: u64) -> Result<bool, Refusal>
+    ensures { result ≡ element_or_none slot }
+{
+    if slot < ARRAY_LIMIT {
+        Ok(true)
+    } else {
+        Err(Refusal::BadSlot)
+    }
+}
+
+// Tells whether a slot of the objects of a class holds a reference. Fails with NoClass if the class isn't there, and with BadSlot
+// if its objects have no such slot; arrays of references may have 1,024.
 #[tactic(auto, unfolding(crate::specs::ClassSlots::class_slot))]
 pub(crate) fn class_slot(
     classes: &FirstClasses<'_>,
@@ -19,7 +31,7 @@ pub(crate) fn class_slot(
         return Err(Refusal::NoClass);
     }
     if classes.is_array(class) {
-        return Ok(true);
+        return element_slot(slot);
     }
     match classes.slots(class).get(slot as usize) {
         Some(kind) => Ok(kind.is_reference()),

@@ -2,6 +2,7 @@
 #![tactic(auto)]
 
 ghost use Rattle.std.specs.Prelude.{◌≡◌, ℕ, List, [], Some, codes, true};
+ghost use Rattle.heap_world.specs.State.{HeapState};
 ghost use Rattle.heap_trail.specs.Machine.{Machine};
 ghost use Rattle.session_grammar.specs.declared.command.Command.TheVariants.{Bad};
 ghost use Rattle.std.specs.List.{AllByRecursion};
@@ -34,6 +35,7 @@ mod history;
 mod id;
 mod kept;
 mod loss;
+mod name_words;
 mod names;
 mod object_list;
 mod path;
@@ -60,7 +62,7 @@ pub use asking::Asking;
 pub use cycle::{CycleCounts, collect_answer, is_collect, run_cycle};
 pub use help::{all_help, keyword_help, question_help};
 pub use names::push_row_name;
-pub use question::{At, Question, at_of, question_of};
+pub use question::{At, Question, asks_pins, at_of, question_of};
 pub use session::serve_asking;
 pub use state_dump::dump_at;
 pub use steps::Steps;
@@ -68,7 +70,8 @@ pub use watch::{BAD_COMMAND, Watch};
 
 /// States that no line that asks a question is one of the grammar of sessions, so that each of these keeps its meaning.
 pub fn questions_are_new()
-    ensures { (l : List ℕ) (q : Question) → question_of l ≡ Some q → command_of_text l ≡ Bad }
+    ensures { (w : HeapState) (l : List ℕ) (q : Question) → question_of w l ≡ Some q
+        → command_of_text l ≡ Bad }
 {}
 
 /// States the same of a line that asks for help.
@@ -94,8 +97,8 @@ pub fn comments_are_silent()
 
 /// States that a question and a line that asks for help change nothing. Only `collect` does.
 pub fn questions_change_nothing()
-    ensures questions { (l text : List ℕ) (q : Question) (c d : Asking)
-        → question_of l ≡ Some q → AskingAnswers l c text d → d ≡ c }
+    ensures questions { (w : HeapState) (l text : List ℕ) (q : Question) (c d : Asking)
+        → question_of w l ≡ Some q → AskingAnswers l c text d → d ≡ c }
     ensures help { (l text answer : List ℕ) (c d : Asking)
         → help_of l ≡ Some answer → AskingAnswers l c text d → d ≡ c }
 {}
@@ -129,6 +132,7 @@ pub fn asking_session_is_list()
 /// States that `help` knows the keyword of each line of the grammar of sessions, of each question, and `collect`.
 pub fn help_is_whole()
     ensures sessions { AllByRecursion (λ (r : Rule). HasForm r.0) all_rules }
-    ensures questions { AllByRecursion (λ (r : QuestionRule). HasForm r.0) question_rules }
+    ensures questions { (w : HeapState)
+        → AllByRecursion (λ (r : QuestionRule). HasForm r.0) (question_rules w) }
     ensures collect { HasForm (codes "collect") }
 {}

@@ -1,11 +1,14 @@
 //! The grammar of questions.
 ghost use Rattle.std.specs.Prelude.{◌≡◌, drop};
 ghost use Rattle.session_grammar.specs.Grammar.{words_of_line};
-ghost use Rattle.question_text.specs.Questions.{at_and_optional, at_and_slot, at_and_wanted, at_of_word, at_or_number, class_and_slot, id_and_number, optional_at, optional_at_and_id, optional_at_and_number, past_rules, place_and_id, place_and_number, place_and_slot, place_of, place_of_word, question_by, question_of, question_rules, slot_and_place, slot_and_span, span_of, value_of_word, wanted_of};
+ghost use Rattle.question_text.specs.Questions.{asks_pins, at_and_optional, at_and_slot, at_and_wanted, at_of_word, at_or_number, optional_at, optional_at_and_id, optional_at_and_number, past_rules, place_and_id, place_and_number, place_and_slot, place_of, place_of_word, question_by, question_of, question_rules, slot_and_place, slot_and_span, span_of, value_of_word, wanted_of};
 
 use crate::id::id_of;
+use crate::name_words::{class_and_slot, class_of, id_and_slot};
+use heap_class::FirstClasses;
 use heap_questions::Wanted;
-use session_grammar::command::{at_end, next_number};
+use heap_world::World;
+use session_grammar::command::at_end;
 use session_grammar::number::number_of;
 use session_grammar::words::{Words, is_word};
 
@@ -188,35 +191,34 @@ fn place_and_id(mut words: Words) -> Option<(Option<u64>, u64)>
     at_end((place_of_word(word)?, id_of(second)?), words)
 }
 
-// Returns the id and the number that two words are.
-fn id_and_number(word: &[u8], second: &[u8]) -> Option<(u64, u64)>
-    ensures { result ≡ id_and_number word.now second.now }
-{
-    Some((id_of(word)?, number_of(second)?))
-}
-
-// Returns the place, and the id and the number, that the words name. If they are only an id and a number, there is no place.
-fn place_and_slot(mut words: Words) -> Option<(Option<u64>, (u64, u64))>
-    ensures { result ≡ place_and_slot (words_of_line words.entry) }
+// Returns the place, and the id and the slot, that the words name. If they are only an id and a slot, there is no place.
+fn place_and_slot(world: &World, mut words: Words) -> Option<(Option<u64>, (u64, u64))>
+    ensures { result ≡ place_and_slot world.now (words_of_line words.entry) }
 {
     let word = words.next_word()?;
     let second = words.next_word()?;
     let Some(third) = words.next_word() else {
-        return Some((None, id_and_number(word, second)?));
+        return Some((None, id_and_slot(world, word, second)?));
     };
-    at_end((place_of_word(word)?, id_and_number(second, third)?), words)
+    at_end(
+        (place_of_word(word)?, id_and_slot(world, second, third)?),
+        words,
+    )
 }
 
-// Returns the id and the number, and the place, that the words name. If they are only an id and a number, there is no place.
-fn slot_and_place(mut words: Words) -> Option<((u64, u64), Option<u64>)>
-    ensures { result ≡ slot_and_place (words_of_line words.entry) }
+// Returns the id and the slot, and the place, that the words name. If they are only an id and a slot, there is no place.
+fn slot_and_place(world: &World, mut words: Words) -> Option<((u64, u64), Option<u64>)>
+    ensures { result ≡ slot_and_place world.now (words_of_line words.entry) }
 {
     let word = words.next_word()?;
     let second = words.next_word()?;
     let Some(third) = words.next_word() else {
-        return Some((id_and_number(word, second)?, None));
+        return Some((id_and_slot(world, word, second)?, None));
     };
-    at_end((id_and_number(word, second)?, place_of_word(third)?), words)
+    at_end(
+        (id_and_slot(world, word, second)?, place_of_word(third)?),
+        words,
+    )
 }
 
 // Returns the steps that the words name: all if there are no words.
@@ -235,12 +237,12 @@ fn span_of(mut words: Words) -> Option<Span>
 }
 
 // Returns the class and the slot, and the steps, that the words name.
-fn slot_and_span(mut words: Words) -> Option<((u64, u64), Span)>
-    ensures { result ≡ slot_and_span (words_of_line words.entry) }
+fn slot_and_span(classes: &FirstClasses<'_>, mut words: Words) -> Option<((u64, u64), Span)>
+    ensures { result ≡ slot_and_span classes.now (words_of_line words.entry) }
 {
-    let class = next_number(&mut words)?;
-    let slot = next_number(&mut words)?;
-    Some(((class, slot), span_of(words)?))
+    let word = words.next_word()?;
+    let second = words.next_word()?;
+    Some((class_and_slot(classes, word, second)?, span_of(words)?))
 }
 
 // Returns the place and the number that the words name. If they are only a number, there is no place.
@@ -269,56 +271,55 @@ fn value_of(word: &[u8]) -> Option<u64>
 }
 
 // Returns the objects that the words name: all, those of a class, or those of a class with a value in a slot.
-fn wanted_of(mut words: Words) -> Option<Wanted>
-    ensures { result ≡ wanted_of (words_of_line words.entry) }
+fn wanted_of(classes: &FirstClasses<'_>, mut words: Words) -> Option<Wanted>
+    ensures { result ≡ wanted_of classes.now (words_of_line words.entry) }
 {
     let Some(first) = words.next_word() else {
         return Some(Wanted::All);
     };
-    let class = number_of(first)?;
     let Some(second) = words.next_word() else {
-        return Some(Wanted::OfClass(class));
+        return Some(Wanted::OfClass(class_of(classes, first)?));
     };
-    let slot = number_of(second)?;
     let third = words.next_word()?;
+    let (class, slot) = class_and_slot(classes, first, second)?;
     let word = value_of(third)?;
     at_end(Wanted::Holding { class, slot, word }, words)
 }
 
-// Returns the state and the objects that the words name. If there are no words, it is the current state.
-fn at_and_wanted(mut words: Words) -> Option<(At, Wanted)>
-    ensures { result ≡ at_and_wanted (words_of_line words.entry) }
+// Returns the state and the objects that the words name. The first word names the state, if it names any; else it is the current one.
+fn at_and_wanted(classes: &FirstClasses<'_>, mut words: Words) -> Option<(At, Wanted)>
+    ensures { result ≡ at_and_wanted classes.now (words_of_line words.entry) }
 {
+    let all = Words::new(words.rest());
     let Some(word) = words.next_word() else {
         return Some((At::Current, Wanted::All));
     };
-    let at = at_of(word)?;
-    Some((at, wanted_of(words)?))
-}
-
-// Returns the class and the slot that two words name.
-fn class_and_slot(class: &[u8], slot: &[u8]) -> Option<(u64, u64)>
-    ensures { result ≡ class_and_slot class.now slot.now }
-{
-    Some((number_of(class)?, number_of(slot)?))
+    match at_of(word) {
+        Some(at) => Some((at, wanted_of(classes, words)?)),
+        None => Some((At::Current, wanted_of(classes, all)?)),
+    }
 }
 
 // Returns the state, and the class and the slot, that the words name. If they name no state, it is the current one.
-fn at_and_slot(mut words: Words) -> Option<(At, (u64, u64))>
-    ensures { result ≡ at_and_slot (words_of_line words.entry) }
+fn at_and_slot(classes: &FirstClasses<'_>, mut words: Words) -> Option<(At, (u64, u64))>
+    ensures { result ≡ at_and_slot classes.now (words_of_line words.entry) }
 {
     let first = words.next_word()?;
     let second = words.next_word()?;
     let Some(third) = words.next_word() else {
-        return Some((At::Current, class_and_slot(first, second)?));
+        return Some((At::Current, class_and_slot(classes, first, second)?));
     };
-    at_end((at_of(first)?, class_and_slot(second, third)?), words)
+    at_end(
+        (at_of(first)?, class_and_slot(classes, second, third)?),
+        words,
+    )
 }
 
 // Reads the words behind a keyword of a question about what retained steps did, about pins, or about the current state.
 #[tactic(auto, unfolding(crate::specs::Questions::past_rules))]
-fn past_question(keyword: &[u8], words: Words) -> Option<Question>
-    ensures { result ≡ question_by past_rules keyword.now (words_of_line words.entry) }
+fn past_question(world: &World, keyword: &[u8], words: Words) -> Option<Question>
+    ensures { result
+        ≡ question_by (past_rules world.now) keyword.now (words_of_line words.entry) }
 {
     if is_word(keyword, b"born") {
         let (to, id) = place_and_id(words)?;
@@ -345,15 +346,15 @@ fn past_question(keyword: &[u8], words: Words) -> Option<Question>
         return Some(Question::History { to, count });
     }
     if is_word(keyword, b"wrote") {
-        let (to, (id, slot)) = place_and_slot(words)?;
+        let (to, (id, slot)) = place_and_slot(world, words)?;
         return Some(Question::Wrote { to, id, slot });
     }
     if is_word(keyword, b"watch") {
-        let ((id, slot), to) = slot_and_place(words)?;
+        let ((id, slot), to) = slot_and_place(world, words)?;
         return Some(Question::Watch { id, slot, to });
     }
     if is_word(keyword, b"writes") {
-        let ((class, slot), span) = slot_and_span(words)?;
+        let ((class, slot), span) = slot_and_span(&world.classes().all(), words)?;
         return Some(Question::Writes { class, slot, span });
     }
     None
@@ -361,19 +362,19 @@ fn past_question(keyword: &[u8], words: Words) -> Option<Question>
 
 // Reads the words behind a keyword of a question about classes, objects, retained steps, pins or the current state.
 #[tactic(auto, unfolding(crate::specs::Questions::question_rules))]
-fn later_question(keyword: &[u8], words: Words) -> Option<Question>
+fn later_question(world: &World, keyword: &[u8], words: Words) -> Option<Question>
     ensures { result
-        ≡ question_by (drop 4 question_rules) keyword.now (words_of_line words.entry) }
+        ≡ question_by (drop 4 (question_rules world.now)) keyword.now (words_of_line words.entry) }
 {
     if is_word(keyword, b"classes") {
         return Some(Question::Classes(optional_at(words)?));
     }
     if is_word(keyword, b"objects") {
-        let (at, wanted) = at_and_wanted(words)?;
+        let (at, wanted) = at_and_wanted(&world.classes().all(), words)?;
         return Some(Question::Objects { at, wanted });
     }
     if is_word(keyword, b"values") {
-        let (at, (class, slot)) = at_and_slot(words)?;
+        let (at, (class, slot)) = at_and_slot(&world.classes().all(), words)?;
         return Some(Question::Values { at, class, slot });
     }
     if is_word(keyword, b"kept") {
@@ -404,13 +405,14 @@ fn later_question(keyword: &[u8], words: Words) -> Option<Question>
         let (at, id) = optional_at_and_id(words)?;
         return Some(Question::Show { at, id });
     }
-    past_question(keyword, words)
+    past_question(world, keyword, words)
 }
 
-/// Returns the question that a line asks, or None if it asks none.
+/// Returns the question that a line asks, or None if it asks none. A name of a class or of a slot stands for what has it in this
+/// state, or for the number 2^64 - 1 if nothing has it.
 #[tactic(auto, unfolding(crate::specs::Questions::question_of_words, crate::specs::Questions::question_rules))]
-pub fn question_of(line: &[u8]) -> Option<Question>
-    ensures { result ≡ question_of line.now }
+pub fn question_of(world: &World, line: &[u8]) -> Option<Question>
+    ensures { result ≡ question_of world.now line.now }
 {
     let mut words = Words::new(line);
     let keyword = words.next_word()?;
@@ -427,5 +429,16 @@ pub fn question_of(line: &[u8]) -> Option<Question>
         let (older, newer) = at_and_optional(words)?;
         return Some(Question::Growth { older, newer });
     }
-    later_question(keyword, words)
+    later_question(world, keyword, words)
+}
+
+/// Tells whether a line asks for the open pins.
+pub fn asks_pins(line: &[u8]) -> bool
+    ensures { result ≡ asks_pins line.now }
+{
+    let mut words = Words::new(line);
+    let Some(word) = words.next_word() else {
+        return false;
+    };
+    is_word(word, b"pins") && words.front().is_none()
 }

@@ -159,9 +159,9 @@ heapdbg 3> |bad command
 the form of this line is: classes [AT]
 %(forms)sheapdbg 3> |bad command
 the form of this line is: retained [AT] ID
-%(forms)sheapdbg 3> |bad command
-the form of this line is: objects [AT] [CLASS [SLOT VALUE]]
-%(forms)sheapdbg 3> |no 24 NotRetained
+%(forms)sheapdbg 3> |no 2 NoClass
+no such class; classes lists the classes and their fields
+heapdbg 3> |no 24 NotRetained
 @PLACE is @P for the state at place P, or - for the current state
 the oldest retained place is @1
 heapdbg 3> |no 24 NotRetained
@@ -173,6 +173,55 @@ heapdbg 3> |ok place 2
 heapdbg 2> |no 24 NotRetained
 %(forms)sthe oldest retained place is @1
 heapdbg 2> |""" % {b"forms": AT_FORMS}
+
+
+# What is said of names that nothing has.
+NAMED = b"""class server/Entry - next:object state:int
+class Node 0 size:int
+new 0 0 0
+new 0 1 1
+values server/Entri state
+objects serverEntry
+writes Nod size
+values server/Entry stat
+values Node nexxt
+watch 0x10000020 siez
+wrote 0x10000020 state
+values Node elsewhere
+values elsewhere state
+values 7 state
+watch 0x10000000 2
+new 0 0 2
+q
+"""
+NAMED_SHOWN = b"""heapdbg 0> |ok class 0
+heapdbg 1> |ok class 1
+heapdbg 2> |ok object 0x10000000
+heapdbg 3> |ok object 0x10000020
+heapdbg 4> |no 2 NoClass
+no such class; did you mean: server/Entry
+heapdbg 4> |no 2 NoClass
+no such class; did you mean: server/Entry
+heapdbg 4> |no 2 NoClass
+no such class; did you mean: Node
+heapdbg 4> |no 9 BadSlot
+no such slot; did you mean: state
+heapdbg 4> |no 9 BadSlot
+no such slot; did you mean: next
+heapdbg 4> |no 9 BadSlot
+no such slot; did you mean: size
+heapdbg 4> |ok place 4
+heapdbg 4> |no 9 BadSlot
+no such slot; classes lists the classes and their fields
+heapdbg 4> |no 2 NoClass
+no such class; classes lists the classes and their fields
+heapdbg 4> |no 2 NoClass
+no such class; classes lists the classes and their fields
+heapdbg 4> |no 9 BadSlot
+no such slot; classes lists the classes and their fields
+heapdbg 4> |no 2 NoClass
+no such class; classes lists the classes and their fields
+heapdbg 4> |"""
 
 
 def typed_beside(program, words, given):
@@ -205,6 +254,7 @@ def at_a_terminal(program):
     yield "explore at a terminal", typed(program, ["explore"], TYPED), (SHOWN, 0)
     yield from advised(program)
     yield "states that aren't there", typed(program, ["explore", "--keep", "2"], STATES), (STATES_SHOWN, 0)
+    yield "names that nothing has", typed(program, ["explore"], NAMED.splitlines(keepends=True)), (NAMED_SHOWN, 0)
     yield from by_script(program)
     yield "an interrupt", typed(program, ["explore"], [b"frobnic\x03"])[1:], (-signal.SIGINT,)
     yield "explore with a page", typed_beside(program, [], TYPED), (b"heapdbg: ADDRESS\n" + SHOWN, 0)

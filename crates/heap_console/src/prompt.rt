@@ -11,9 +11,10 @@ use heap_class::Refusal;
 use question_text::{BAD_COMMAND, Watch};
 use session_text::{Inlet, Take};
 use std::alloc::Global;
+use std::str;
 
 /// An inlet for a person at a terminal. Before each read it writes advice on the line before, if that was no command or named
-/// no state, and the place of the session's machine as a prompt, both to standard error. A write that fails changes nothing. A
+/// no state, no class or no slot, and the place of the session's machine as a prompt, both to standard error. A write that fails changes nothing. A
 /// line `quit`, `exit` or `q` is given as `end`, and `?` as `help`. Contracts see the bytes that it gave.
 #[derive(Drop)]
 pub struct PromptInlet<'a, I: Inlet + Drop, R> {
@@ -47,7 +48,22 @@ impl<I: Inlet + Drop, R: Eprint> PromptInlet<'_, I, R> {
             self.write_form();
         } else if refusal == Refusal::NoPin.number() || refusal == Refusal::NotRetained.number() {
             self.write_places();
+        } else if refusal == Refusal::NoClass.number() {
+            self.write_meant("class");
+        } else if refusal == Refusal::BadSlot.number() {
+            self.write_meant("slot");
         }
+    }
+
+    // Writes the name that was meant in the line that was read before, or how to find it.
+    fn write_meant(&self, missing: &str) {
+        let meant = self.watch.take_meant();
+        let _ = match str::from_utf8(meant.as_slice()) {
+            Ok(name) if !name.is_empty() => {
+                eprintln!(self.rt; "no such {missing}; did you mean: {name}")
+            }
+            _ => eprintln!(self.rt; "no such {missing}; classes lists the classes and their fields"),
+        };
     }
 
     // Writes the form of the line that was read before, or of the line with the nearest keyword.

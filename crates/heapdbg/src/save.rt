@@ -158,7 +158,7 @@ where
     ensures { IsSavedTo to.unmade settings.now (I.seen reader.old) (I.seen reader.new)
         (O.seen writer.old) (O.seen writer.new) result }
 {
-    let watch = Watch::new();
+    let watch = Watch::new(rt.alloc());
     match open(rt.alloc(), settings, &watch) {
         Ok(mut asking) => {
             let Destination { place, unmade } = to;

@@ -56,7 +56,7 @@ where
         Ok(words) => words.collect(rt.alloc()).map_err(|_| Fault::Memory)?,
         Err(error) => return Err(unread(rt.alloc(), &error).into()),
     };
-    let watch = Watch::new();
+    let watch = Watch::new(rt.alloc());
     let screen = Screen {
         is_terminal: terminals.error,
         watch: &watch,

@@ -68,7 +68,7 @@ impl<'a, L: Heap, R: Wait> Commands for WatchedSeat<'a, L, R> {
     fn answer_unknown(&mut self, alloc: Global, line: &[u8]) -> LineAnswer {
         let answer = self.asking.answer_unknown(alloc, line);
         let kept = self.shared.lock(self.rt);
-        self.watch.note_answer(kept.machine(), &answer);
+        self.watch.note_answer(kept.machine(), line, &answer);
         answer
     }
 }

@@ -54,7 +54,7 @@ impl Commands for Asking<'_> {
 
     fn answer_unknown(&mut self, alloc: Global, line: &[u8]) -> LineAnswer {
         let answer = answer_question(alloc, &mut self.local, line);
-        self.watch.note_answer(&self.local.machine, &answer);
+        self.watch.note_answer(&self.local.machine, line, &answer);
         answer
     }
 }

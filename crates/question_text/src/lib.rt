@@ -35,6 +35,7 @@ mod history;
 mod id;
 mod kept;
 mod loss;
+mod meant_name;
 mod name_words;
 mod names;
 mod object_list;

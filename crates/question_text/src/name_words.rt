@@ -34,7 +34,7 @@ fn number_or_named(word: &[u8], named: Option<u64>) -> Option<u64>
 
 // Returns the number of the class with this name.
 #[tactic(auto, unfolding(crate::specs::NameWords::class_named))]
-fn class_named(classes: &FirstClasses<'_>, name: &[u8]) -> Option<ClassNo>
+pub(crate) fn class_named(classes: &FirstClasses<'_>, name: &[u8]) -> Option<ClassNo>
     ensures { result ≡ class_named classes.now name.now }
 {
     for class in 0..classes.len() {
@@ -122,7 +122,7 @@ pub(crate) fn class_and_slot(
 }
 
 // Returns the class of the instance with this id, dead or not.
-fn class_of_id(world: &World, id: u64) -> Option<ClassNo>
+pub(crate) fn class_of_id(world: &World, id: u64) -> Option<ClassNo>
     ensures { result ≡ class_of_id world.now id }
 {
     let at = world.regions().find(id)?;

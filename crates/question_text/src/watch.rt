@@ -1,15 +1,21 @@
 //! What a session with questions shows to readers beside it.
+use crate::meant_name::meant_name;
+use heap_class::Refusal;
 use heap_trail::{Machine, Reply};
 use session_text::LineAnswer;
+use std::alloc::Global;
+use std::cell::Cell;
 use std::sync::atomic::{AtomicU64, Ordering};
 
 /// The number that stands for `bad command`, beside those of refusals.
 pub const BAD_COMMAND: u64 = 1_000;
 
-/// The place of a session's machine, its oldest retained place, and the newest line that was refused, for readers beside the
-/// session such as a prompt.
+/// The place of a session's machine, its oldest retained place, the newest line that was refused, and the name that was meant in
+/// it, for readers beside the session such as a prompt.
 #[derive(Drop)]
 pub struct Watch {
+    alloc: Global,
+    meant: Cell<Vec<u8>>,
     place: AtomicU64,
     oldest: AtomicU64,
     refusal: AtomicU64,
@@ -17,8 +23,10 @@ pub struct Watch {
 
 impl Watch {
     /// Creates a watch at place 0, with no refusal.
-    pub fn new() -> Watch {
+    pub fn new(alloc: Global) -> Watch {
         Watch {
+            alloc,
+            meant: Cell::new(Vec::new(alloc)),
             place: AtomicU64::new(0),
             oldest: AtomicU64::new(0),
             refusal: AtomicU64::new(0),
@@ -41,6 +49,19 @@ impl Watch {
         self.refusal.swap(0, Ordering::SeqCst)
     }
 
+    /// Returns the name of a class or of a field that was meant in the newest line that was refused because nothing has the name
+    /// that it has. It is empty if there was no such line since this was asked last, or if no name is near.
+    pub fn take_meant(&self) -> Vec<u8> {
+        self.meant.replace(Vec::new(self.alloc))
+    }
+
+    // Notes the name that was meant in a line that was refused, if there is memory for it.
+    fn note_meant(&self, machine: &Machine, line: &[u8], refusal: Refusal) {
+        if let Ok(name) = meant_name(self.alloc, machine.world(), line, refusal) {
+            self.meant.set(name);
+        }
+    }
+
     // Notes the places of a machine.
     fn note_places(&self, machine: &Machine) {
         let place = machine.place();
@@ -56,13 +77,20 @@ impl Watch {
         self.note_places(machine);
         if let Reply::Refused(refusal) = reply {
             self.refusal.store(refusal.number(), Ordering::SeqCst);
+            self.meant.set(Vec::new(self.alloc));
         }
     }
 
-    /// Notes the places of a machine after a line that the grammar of sessions doesn't know, and its refusal, if there is one.
-    pub fn note_answer(&self, machine: &Machine, answer: &LineAnswer) {
+    /// Notes the places of a machine after a line that the grammar of sessions doesn't know, and its refusal, if there is one, with
+    /// the name that is meant.
+    pub fn note_answer(&self, machine: &Machine, line: &[u8], answer: &LineAnswer) {
         match answer {
-            LineAnswer::Known(reply) => self.note_reply(machine, reply),
+            LineAnswer::Known(reply) => {
+                self.note_reply(machine, reply);
+                if let Reply::Refused(refusal) = reply {
+                    self.note_meant(machine, line, *refusal);
+                }
+            }
             LineAnswer::BadCommand => self.refusal.store(BAD_COMMAND, Ordering::SeqCst),
             _ => self.note_places(machine),
         }

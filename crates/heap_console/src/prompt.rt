@@ -62,7 +62,9 @@ impl<I: Inlet + Drop, R: Eprint> PromptInlet<'_, I, R> {
             Ok(name) if !name.is_empty() => {
                 eprintln!(self.rt; "no such {missing}; did you mean: {name}")
             }
-            _ => eprintln!(self.rt; "no such {missing}; classes lists the classes and their fields"),
+            _ => eprintln!(self.rt;
+                "no such {missing}; classes lists the classes and their fields"
+            ),
         };
     }
 

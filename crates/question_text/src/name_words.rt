@@ -46,12 +46,7 @@ pub(crate) fn class_named(classes: &FirstClasses<'_>, name: &[u8]) -> Option<Cla
 }
 
 // Returns the slot of the first own field of a class with this name, if the first of its fields is slot `first`.
-fn field_named(
-    classes: &FirstClasses<'_>,
-    class: ClassNo,
-    name: &[u8],
-    first: u64,
-) -> Option<u64>
+fn field_named(classes: &FirstClasses<'_>, class: ClassNo, name: &[u8], first: u64) -> Option<u64>
     requires there { class < length classes.now }
     requires few { first < 2 ^ 32 }
     ensures { result

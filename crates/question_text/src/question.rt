@@ -66,17 +66,9 @@ pub enum Question {
     /// When an object was made, by the steps up to a place, or to the current state.
     Born { to: Option<u64>, id: u64 },
     /// When a slot of an object last changed, by the steps up to a place, or to the current state.
-    Wrote {
-        to: Option<u64>,
-        id: u64,
-        slot: u64,
-    },
+    Wrote { to: Option<u64>, id: u64, slot: u64 },
     /// The changes of a slot of an object by the steps up to a place, or to the current state.
-    Watch {
-        id: u64,
-        slot: u64,
-        to: Option<u64>,
-    },
+    Watch { id: u64, slot: u64, to: Option<u64> },
     /// The changes of a slot of all objects of a class by some steps.
     Writes { class: u64, slot: u64, span: Span },
     /// When registers lost an object, by the steps up to a place, or to the current state.

@@ -84,12 +84,7 @@ fn changes_of_slot(
 }
 
 // Returns the answer of `watch` about the steps up to the current state. Fails with NoObject, BadSlot and NoMemory.
-fn watch_now(
-    alloc: Global,
-    machine: &Machine,
-    id: u64,
-    slot: u64,
-) -> Result<Vec<u8>, Unanswered>
+fn watch_now(alloc: Global, machine: &Machine, id: u64, slot: u64) -> Result<Vec<u8>, Unanswered>
     ensures { IsWatchText id slot machine.now.trail (told_text result) }
 {
     let past = PastTrail::new(machine, 0);

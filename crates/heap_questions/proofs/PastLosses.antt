@@ -4,11 +4,10 @@ use Rattle.std.specs.Prelude.{◌↔◌, IfSome, IfNone, IsTrue, is_some}
 use Rattle.std.proofs.lemmas.Bool.{cases_lt, false≢true, true≢false}
 use Rattle.heap_trail.specs.Image.{Image}
 use Rattle.heap_class.specs.declared.ObjRef.{ObjRef}
-use Rattle.heap_region.specs.Pool.{RegionPool}
-use Rattle.heap_region.specs.Regions.{id_of, object_at}
+use Rattle.heap_region.specs.Regions.{object_at}
 use Rattle.heap_world.specs.Legal.{IsLegal}
 use Rattle.heap_world.specs.Reach.{Reaches}
-use Rattle.heap_world.specs.State.{HeapState, pool_of}
+use Rattle.heap_world.specs.State.{HeapState}
 use Rattle.heap_pins.specs.Images.{image_of}
 use Rattle.heap_questions.specs.Graph.{IsPathTo, IsUnreached}
 use Rattle.heap_questions.specs.declared.paths.Path.{Path}

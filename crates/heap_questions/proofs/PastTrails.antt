@@ -1,16 +1,16 @@
 -- The trail up to a retained state, and where objects stood there.
-use Rattle.std.proofs.Common.{◌≡◌, ◌≢◌, ℕ, zero, suc, ◌+◌, ◌-◌, ◌*◌, ◌/◌, ◌%◌, ◌<◌, ◌≤◌, Bool, true, false, cond, List, [], ◌∷◌, drop, length, length-drop, get_or, Option, Some, None, IsSome, refl, sym, ap, ap₂, ◌∙◌, subst, inl, inr, arith, add-one}
-use Rattle.std.specs.Prelude.{slice_get, is_some, not, ◌==◌, ◌&&◌, ◌||◌, MatchOption}
+use Rattle.std.proofs.Common.{◌≡◌, ◌≢◌, ℕ, zero, suc, ◌+◌, ◌-◌, ◌*◌, ◌/◌, ◌%◌, ◌<◌, ◌≤◌, Bool, true, false, cond, List, [], ◌∷◌, drop, length, length-drop, get_or, Option, Some, None, IsSome, refl, sym, ap, ◌∙◌, subst, inl, inr, arith}
+use Rattle.std.specs.Prelude.{slice_get, is_some, not, ◌==◌, ◌&&◌, ◌||◌}
 use Rattle.std.specs.List.{list_any}
 use Rattle.std.specs.Option.{option_map_or}
-use Rattle.std.proofs.lemmas.Bool.{cases_Bool, cases_eq, eq-eqb, ne_eqb, eqb-true, false≢true, true≢false}
-use Rattle.std.proofs.lemmas.Option.{none-some, same_Some, slice_get_within}
+use Rattle.std.proofs.lemmas.Bool.{cases_Bool, cases_eq, eq-eqb, ne_eqb, false≢true}
+use Rattle.std.proofs.lemmas.Option.{same_Some, slice_get_within}
 use Rattle.heap_class.specs.declared.ObjRef.{ObjRef}
 use Rattle.heap_region.specs.Limits.{region_words}
 use Rattle.heap_region.specs.Pool.{RegionPool}
-use Rattle.heap_region.specs.RegionCopies.{frozen, region_frozen}
+use Rattle.heap_region.specs.RegionCopies.{region_frozen}
 use Rattle.heap_region.specs.Regions.{Object, Region, UsedRegion, cell_object, id_of, object_at, object_base, object_of, ref_of, used_at}
-use Rattle.heap_region.proofs.Allocation.{region_around_id_in_use, ref_of_id_from_region}
+use Rattle.heap_region.proofs.Allocation.{ref_of_id_from_region}
 use Rattle.heap_region.proofs.ChangedLookups.{object_at_ref, place_of_object_of_id}
 use Rattle.heap_region.proofs.FoundObjects.{ref_region, region_around}
 use Rattle.heap_region.proofs.Ids.{cell_begins_within_region, ref_is}
@@ -23,11 +23,11 @@ use Rattle.heap_step.specs.declared.Undo.TheVariants.{New, Finish, Sweep, Reclai
 use Rattle.heap_step.specs.Laws.{IsStep}
 use Rattle.heap_step.proofs.Steps.{reclaim_inhabited}
 use Rattle.heap_pins.specs.KeptCopies.{touched}
-use Rattle.heap_pins.specs.Walk.{TellsBefore, cell_state, dead_state, states_before, walked_copy}
+use Rattle.heap_pins.specs.Walk.{cell_state, dead_state, states_before, walked_copy}
 use Rattle.heap_pins.proofs.CoveringCopies.{same_copy_covers}
 use Rattle.heap_trail.specs.declared.Action.TheVariants.{Rewind}
 use Rattle.heap_trail.specs.Laws.{IsTrail}
-use Rattle.heap_trail.specs.Machine.{Machine, Allocation, Granted, acted_under, machine_after}
+use Rattle.heap_trail.specs.Machine.{Machine, Granted, acted_under, machine_after}
 use Rattle.heap_trail.specs.Trail.{Trail, retained, rewound, state_ago}
 use Rattle.heap_trail.proofs.KeptTrails.{trails_stay}
 use Rattle.heap_trail.proofs.RetainedRecords.{HasRecord, has_record}

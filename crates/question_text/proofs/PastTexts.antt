@@ -1,9 +1,8 @@
 -- The answers about the steps up to a place.
-use Rattle.std.proofs.Common.{◌≡◌, ℕ, ◌+◌, ◌-◌, ◌≤◌, List, Option, Some, None, refl, sym, ap, ◌∙◌, subst, inl, inr, arith}
-use Rattle.std.specs.Prelude.{IsSome, IfOk, Ok, Err, Result}
+use Rattle.std.proofs.Common.{◌≡◌, ℕ, ◌≤◌, List, Option, Some, None, sym, ap, ◌∙◌, subst, inl}
+use Rattle.std.specs.Prelude.{IfOk, Ok, Err, Result}
 use Rattle.heap_class.specs.declared.ObjRef.{ObjRef}
 use Rattle.heap_class.specs.declared.Refusal.{Refusal}
-use Rattle.heap_class.specs.declared.Refusal.TheVariants.{NoMemory}
 use Rattle.heap_world.specs.State.{HeapState}
 use Rattle.heap_trail.specs.Trail.{Trail, retained, rewound}
 use Rattle.heap_trail.proofs.RewoundMachines.{rewound_none}

@@ -1,13 +1,11 @@
 -- The mark of the object at a place.
-use Rattle.std.proofs.Common.{Bool, ◌≡◌, ◌∙◌, ℕ, List, length, Option, Some, None, true, false, sym, ap, inl, inr, arith}
+use Rattle.std.proofs.Common.{Bool, ◌≡◌, ◌∙◌, ℕ, Option, Some, None, true, false, sym, ap}
 use Rattle.std.specs.Option.{option_map_or}
-use Rattle.std.specs.Prelude.{IfSome, IsSome, is_some, nat_lt, option_and_then, slice_get}
+use Rattle.std.specs.Prelude.{IfSome, IsSome, option_and_then}
 use Rattle.std.proofs.lemmas.Bool.{false≢true}
-use Rattle.std.proofs.lemmas.Option.{slice_get_cases}
 use Rattle.heap_class.specs.declared.ObjRef.{ObjRef}
 use Rattle.heap_world.specs.Regions.{Object, object_at, object_of, ref_of}
 use Rattle.heap_world.specs.State.{HeapState}
-use Rattle.heap_questions.specs.Changes.{slot_word}
 use Rattle.question_text.specs.Objects.{is_marked}
 use Rattle.question_text.specs.Places.{StandsAt}
 

@@ -1,6 +1,5 @@
-use Rattle.std.proofs.Common.{List, ◌≡◌, Some, get_or, length, sym, ap, ◌∙◌, subst, arith}
-use Rattle.std.specs.Prelude.{IsSome, IfSome}
-use Rattle.heap_class.specs.Classes.{Class}
+use Rattle.std.proofs.Common.{List, ◌≡◌, Some, get_or, length, ap, ◌∙◌, subst, arith}
+use Rattle.std.specs.Prelude.{IfSome}
 use Rattle.heap_region.specs.Regions.{Region, object_at}
 use Rattle.heap_world.specs.State.{HeapState}
 use Rattle.heap_questions.specs.declared.past.seen.SeenSlot.{SeenSlot}

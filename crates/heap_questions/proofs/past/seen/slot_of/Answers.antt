@@ -1,6 +1,5 @@
-use Rattle.std.proofs.Common.{◌≡◌, List, Bool, Some, ap, sym, take, ◌∙◌, arith, ℕ}
+use Rattle.std.proofs.Common.{◌≡◌, Some, take, ◌∙◌, arith}
 use Rattle.std.specs.Prelude.{slice_index_or}
-use Rattle.heap_class.specs.Classes.{Class}
 use Rattle.heap_questions.specs.declared.past.seen.SeenSlot.{SeenSlot}
 use Rattle.heap_questions.proofs.SeenSlots.{none_shown, sees_here, slot_shown}
 use Rattle.heap_questions.proofs.past.seen.slot_of.Goals as goal

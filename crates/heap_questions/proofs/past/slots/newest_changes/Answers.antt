@@ -1,6 +1,4 @@
-use Rattle.std.proofs.Common.{ℕ, List, ◌≡◌, ◌+◌, ◌-◌, ◌<◌, ◌++◌, length, sym, ap₂, ◌∙◌, subst, Some, arith}
-use Rattle.std.specs.Prelude.{IsSome, IfSome, slice_index}
-use Rattle.heap_region.specs.Regions.{Region, object_at}
+use Rattle.std.proofs.Common.{ℕ, ◌≡◌, ◌+◌, ◌-◌, ◌<◌, ◌++◌, sym, ap₂, ◌∙◌, subst, Some, arith}
 use Rattle.heap_trail.specs.Trail.{retained}
 use Rattle.heap_questions.proofs.PastTrails.{has_past}
 use Rattle.heap_questions.specs.SlotChanges.{changed, word_before}

@@ -1,8 +1,7 @@
-use Rattle.std.proofs.Common.{◌≡◌, ℕ, ◌+◌, ◌-◌, ◌<◌, ◌≤◌, sym, ap, ◌∙◌, subst, arith}
+use Rattle.std.proofs.Common.{◌≡◌, ◌+◌, ◌-◌, ◌<◌, ◌≤◌, sym, ap, subst, arith}
 use Rattle.std.specs.Prelude.{reverse}
-use Rattle.heap_trail.specs.Trail.{retained, rewound, state_ago}
+use Rattle.heap_trail.specs.Trail.{retained, rewound}
 use Rattle.heap_trail.proofs.RetainedRecords.{has_record}
-use Rattle.heap_world.specs.State.{HeapState}
 use Rattle.heap_questions.specs.PastTrails.{IsPinAgo, IsShownBeside}
 use Rattle.heap_questions.specs.SlotWrites.{AreLastWrites, AreWritesAgo}
 use Rattle.heap_questions.proofs.PastTrails.{has_record_past, place_past, state_past}

@@ -1,4 +1,4 @@
-use Rattle.std.proofs.Common.{◌≡◌, ◌+◌, ◌<◌, subst, Some, arith}
+use Rattle.std.proofs.Common.{◌≡◌, subst, Some, arith}
 use Rattle.std.specs.Prelude.{slice_get}
 use Rattle.heap_trail.specs.Trail.{Trail}
 use Rattle.heap_questions.proofs.PastTrails.{record_past, within_past}

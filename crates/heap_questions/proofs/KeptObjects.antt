@@ -8,10 +8,9 @@ use Rattle.heap_questions.specs.Garbage.{is_reached}
 use Rattle.heap_questions.specs.Graph.{HasId}
 use Rattle.heap_questions.specs.Histogram.{rows_of, without_marked}
 use Rattle.heap_questions.specs.Kept.{AreKept, IsKeptSince, is_kept}
-use Rattle.heap_questions.specs.Search.{AreNodes, AreSeen, IsSearched, node_with}
+use Rattle.heap_questions.specs.Search.{AreNodes, AreSeen, Found, IsSearched, node_with}
 use Rattle.heap_questions.specs.declared.nodes.Node.{Node}
 use Rattle.heap_questions.specs.declared.rows.Row.{Row}
-use Rattle.heap_questions.specs.declared.search.Found.{Found}
 use Rattle.heap_questions.proofs.Counting.{unmarked_is_filter}
 use Rattle.heap_questions.proofs.NodePlaces.{node_of_object, object_found}
 use Rattle.heap_questions.proofs.Reaching.{of_ids}

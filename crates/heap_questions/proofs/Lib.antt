@@ -15,6 +15,8 @@ pub mod RankedRows
 pub mod HeldValues
 pub mod SearchOrder
 pub mod PathOrder
+pub mod FoundPaths
+pub mod WaysBack
 pub mod ToldObjects
 pub mod Writes
 pub mod Walk

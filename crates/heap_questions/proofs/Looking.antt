@@ -1,7 +1,8 @@
 -- Looking at the slots of what was found, and at the registers.
-use Rattle.std.proofs.Common.{◌≡◌, ℕ, ◌+◌, ◌<◌, ◌≤◌, Bool, true, false, cond, List, length, get_or, refl, sym, ap, ◌∙◌, subst, inl, inr, arith}
-use Rattle.std.specs.Prelude.{slice_get, Some, None, IfSome, option_and_then}
-use Rattle.std.proofs.lemmas.Option.{none-some, same_Some, slice_get_within, slice_get-get_or}
+use Rattle.std.proofs.Common.{◌≡◌, ℕ, ◌+◌, ◌<◌, ◌≤◌, ◌++◌, ◌∷◌, [], Bool, true, false, cond, List, length, map, get_or, refl, sym, ap, ◌∙◌, subst, inl, inr, arith}
+use Rattle.std.specs.Prelude.{slice_get, Option, Some, None, IfSome, option_and_then, option_map}
+use Rattle.std.proofs.lemmas.List.{length-map, map_push}
+use Rattle.std.proofs.lemmas.Option.{none-some, same_Some, slice_get_within, slice_get-get_or, slice_get-map}
 use Rattle.std.proofs.lemmas.Bool.{cases_eq, cases_Bool}
 use Rattle.heap_class.specs.declared.ObjRef.{ObjRef}
 use Rattle.heap_class.specs.Classes.{Class}
@@ -11,10 +12,9 @@ use Rattle.hprof_text.specs.Image.{Image, DumpedObject, IsDumpable, IsKnown}
 use Rattle.hprof_text.proofs.ViewedObjects.{here}
 use Rattle.hprof_text.proofs.Loops.{item_of_list_within}
 use Rattle.heap_questions.specs.Graph.{HasId, slot_refers, named, object_with, slot_names}
-use Rattle.heap_questions.specs.Search.{AreNodes, HasAllRoots, HasRoots, HasChildren, IsFound, IsNear, IsOfferedTo, IsOrdered, IsSearching, IsWithin, node_with}
+use Rattle.heap_questions.specs.Search.{AreEntries, AreNodes, Found, HasAllRoots, HasChildren, HasRoots, IsEnteredIn, IsFound, IsNear, IsOfferedTo, IsOrdered, IsSearching, IsWithin, Register, Slot, Via, entry_of, from_via, node_with}
 use Rattle.heap_questions.specs.declared.nodes.Node.{Node}
-use Rattle.heap_questions.specs.declared.search.Found.{Found}
-use Rattle.heap_questions.specs.declared.search.Via.TheVariants.{Register, Slot}
+use Rattle.heap_questions.specs.declared.search.Entry.{Entry}
 use Rattle.heap_questions.proofs.NodePlaces.{node_place, node_within, object_of_node}
 use Rattle.heap_questions.proofs.SearchOrder.{next_register, next_slot, ordered_more, ordered_next, registers_looked_at, slots_looked_at}
 use Rattle.heap_questions.proofs.Searching.{IsKept, kept, stepped}
@@ -55,10 +55,6 @@ stands image places nodes f at n e p =
     let m = item_of_list_within nodes f.node w in
     record { within = w; placed = node_place image places nodes f.node m.0 n m.1 ∙ ap Some (sym (p m.0 m.1)); object = object_of_node image places nodes f.id f.node n e }
 
--- what is read of a queue at a place is what was found there
-pub found_here : (queue slice : List Found) (head : ℕ) (f : Found) → slice ≡ queue → slice_get slice head ≡ Some f → slice_get queue head ≡ Some f
-found_here queue slice head f same is = ap (λ q. slice_get q head) (sym same) ∙ is
-
 -- the object of what was found, by what a view tells of it
 pub record IsRead (image : Image) (f : Found) (kind : ObjKind) (words : List ℕ) : Type 0 where
   pub object : DumpedObject
@@ -79,24 +75,22 @@ read image places nodes f at kind words n e p d many k w =
 
 -- ---- slot by slot
 
--- the first slots of what stands at `head` were looked at; before, `first` was found
-pub record IsLooking (image : Image) (nodes : List Node) (first : List Found) (head : ℕ) (f : Found) (seen : List Bool) (queue : List Found) (slot : ℕ) : Type 0 where
+-- the first slots of what stands at `head` were looked at
+pub record IsLooking (image : Image) (nodes : List Node) (head : ℕ) (f : Found) (seen : List Bool) (queue : List Found) (slot : ℕ) : Type 0 where
   pub search : IsSearching image nodes seen queue head
   pub within : IsWithin queue (f.depth + 1)
   pub here : slice_get queue head ≡ Some f
   pub children : HasChildren image queue f.id slot (f.depth + 1)
-  pub longer : length first ≤ length queue
-  pub roots : (n : ℕ) → HasRoots image first n → HasRoots image queue n
   pub all_roots : HasAllRoots image queue
   pub ordered : IsOrdered image queue (Slot slot head)
 
-pub looking_begins : (image : Image) (nodes : List Node) (queue : List Found) (head : ℕ) (f : Found) (seen : List Bool) → IsSearching image nodes seen queue head → IsNear queue head → HasAllRoots image queue → IsOrdered image queue (Slot 0 head) → slice_get queue head ≡ Some f → IsLooking image nodes queue head f seen queue 0
+pub looking_begins : (image : Image) (nodes : List Node) (queue : List Found) (head : ℕ) (f : Found) (seen : List Bool) → IsSearching image nodes seen queue head → IsNear queue head → HasAllRoots image queue → IsOrdered image queue (Slot 0 head) → slice_get queue head ≡ Some f → IsLooking image nodes head f seen queue 0
 looking_begins image nodes queue head f seen s n r o h =
-    record { search = s; within = n f h; here = h; children = λ s y l. absurd (omega (arith, l)); longer = omega arith; roots = λ n r. r; all_roots = r; ordered = o }
+    record { search = s; within = n f h; here = h; children = λ s y l. absurd (omega (arith, l)); all_roots = r; ordered = o }
 
 -- a slot that names nothing
-pub looked_past : (image : Image) (nodes : List Node) (first : List Found) (head : ℕ) (f : Found) (seen : List Bool) (queue : List Found) (slot : ℕ) → IsLooking image nodes first head f seen queue slot → named image f.id slot ≡ None → IsLooking image nodes first head f seen queue (slot + 1)
-looked_past image nodes first head f seen queue slot l n =
+pub looked_past : (image : Image) (nodes : List Node) (head : ℕ) (f : Found) (seen : List Bool) (queue : List Found) (slot : ℕ) → IsLooking image nodes head f seen queue slot → named image f.id slot ≡ None → IsLooking image nodes head f seen queue (slot + 1)
+looked_past image nodes head f seen queue slot l n =
     record {
       search = l.search;
       within = l.within;
@@ -105,16 +99,14 @@ looked_past image nodes first head f seen queue slot l n =
         | inl p ↦ absurd (none-some y (sym n ∙ ap (named image f.id) (sym p) ∙ e))
         | inr p ↦ l.children s y (omega (arith, lt, p)) e o
       ];
-      longer = l.longer;
-      roots = l.roots;
       all_roots = l.all_roots;
       ordered = ordered_next image queue (Slot slot head) (Slot (slot + 1) head) (next_slot head slot) l.ordered;
     }
 
 -- a slot that names x, which was offered
-pub looked_at : (image : Image) (places : List ObjRef) (nodes : List Node) (first : List Found) (head : ℕ) (f : Found) (seen : List Bool) (queue : List Found) (slot x : ℕ) (seen_after : List Bool) (new : List Found)
-    → AreNodes image places nodes → IsLooking image nodes first head f seen queue slot → named image f.id slot ≡ Some x → IsOfferedTo nodes x (f.depth + 1) (Slot slot head) seen queue seen_after new → IsLooking image nodes first head f seen_after new (slot + 1)
-looked_at image places nodes first head f seen queue slot x seen_after new n l e o =
+pub looked_at : (image : Image) (places : List ObjRef) (nodes : List Node) (head : ℕ) (f : Found) (seen : List Bool) (queue : List Found) (slot x : ℕ) (seen_after : List Bool) (new : List Found)
+    → AreNodes image places nodes → IsLooking image nodes head f seen queue slot → named image f.id slot ≡ Some x → IsOfferedTo nodes x (f.depth + 1) (Slot slot head) seen queue seen_after new → IsLooking image nodes head f seen_after new (slot + 1)
+looked_at image places nodes head f seen queue slot x seen_after new n l e o =
     let w = slice_get_within queue head f l.here in
     let d = l.search.early head f l.here in
     let k : IsKept image nodes seen_after queue new head x (f.depth + 1) =
@@ -129,16 +121,14 @@ looked_at image places nodes first head f seen queue slot x seen_after new n l e
             subst (λ z. IsFound new z (f.depth + 1)) same (k.found (subst (HasId image) (sym same) h))
         | inr p ↦ k.stays y (f.depth + 1) (l.children s y (omega (arith, lt, p)) q h)
       ];
-      longer = omega (arith, k.longer, l.longer);
-      roots = λ m r n y lt q h. k.stays y 0 (l.roots m r n y lt q h);
       all_roots = λ r y lt q h. k.stays y 0 (l.all_roots r y lt q h);
       ordered = ordered_more image places nodes seen queue head x (f.depth + 1) (Slot slot head) (Slot (slot + 1) head) seen_after new n l.search l.ordered
           (slots_looked_at image nodes seen queue head slot f l.search l.all_roots l.here l.children) (next_slot head slot) (inr (refl, omega arith)) (f, l.here, refl, e) o;
     }
 
 -- all slots
-pub looked_through : (image : Image) (nodes : List Node) (first : List Found) (head : ℕ) (f : Found) (seen : List Bool) (queue : List Found) (slot : ℕ) (o : DumpedObject) → IsLooking image nodes first head f seen queue slot → object_with image f.id ≡ Some o → slot ≡ length o.words → IsSearching image nodes seen queue (head + 1)
-looked_through image nodes first head f seen queue slot o l e n =
+pub looked_through : (image : Image) (nodes : List Node) (head : ℕ) (f : Found) (seen : List Bool) (queue : List Found) (slot : ℕ) (o : DumpedObject) → IsLooking image nodes head f seen queue slot → object_with image f.id ≡ Some o → slot ≡ length o.words → IsSearching image nodes seen queue (head + 1)
+looked_through image nodes head f seen queue slot o l e n =
     stepped image nodes seen queue head f l.search l.here
     (λ s y q h. l.children s y (omega (arith, n, slot_within image.classes o s y (sym (named_is image f.id s o e) ∙ q))) q h)
 
@@ -169,6 +159,62 @@ rooted image places nodes seen queue r x seen_after new n l e o =
       ordered = ordered_more image places nodes seen queue 0 x 0 (Register r) (Register (r + 1)) seen_after new n l.search l.ordered (registers_looked_at image queue r l.roots) (next_register r) (omega arith) (refl, e) o;
     }
 
-pub looking_as : (image : Image) (nodes : List Node) (first : List Found) (head : ℕ) (f : Found) (seen others : List Bool) (queue same : List Found) (slot : ℕ) → others ≡ seen → same ≡ queue → IsLooking image nodes first head f seen queue slot → IsLooking image nodes first head f others same slot
-looking_as image nodes first head f seen others queue same slot a b l =
-    subst (λ (q : List Found). IsLooking image nodes first head f others q slot) (sym b) (subst (λ (m : List Bool). IsLooking image nodes first head f m queue slot) (sym a) l)
+-- ---- by the entries of a queue
+
+-- what stands at a place of a queue is what its entry keeps
+pub found_of : (entries : List Entry) (queue : List Found) (k : ℕ) (e : Entry) → AreEntries entries queue → slice_get entries k ≡ Some e → (f : Found) × (slice_get queue k ≡ Some f) × (entry_of f ≡ e)
+found_of entries queue k e a h = go (slice_get queue k) refl (sym (slice_get-map entry_of queue k) ∙ ap (λ es. slice_get es k) (sym a) ∙ h)
+  where
+    go : (o : Option Found) → slice_get queue k ≡ o → option_map entry_of o ≡ Some e → (f : Found) × (slice_get queue k ≡ Some f) × (entry_of f ≡ e)
+    go None g h = absurd (none-some e h)
+    go (Some f) g h = (f, g, same_Some (entry_of f) e h)
+
+-- and its entry keeps it
+pub entry_there : (entries : List Entry) (queue : List Found) (k : ℕ) (f : Found) → AreEntries entries queue → slice_get queue k ≡ Some f → slice_get entries k ≡ Some (entry_of f)
+entry_there entries queue k f a h = ap (λ (es : List Entry). slice_get es k) a ∙ slice_get-map entry_of queue k ∙ ap (option_map entry_of) h
+
+pub as_many_entries : (entries : List Entry) (queue : List Found) → AreEntries entries queue → length entries ≡ length queue
+as_many_entries entries queue a = ap length a ∙ length-map queue entry_of
+
+-- an entry that was added keeps what was offered
+pub entered : (nodes : List Node) (x d : ℕ) (via : Via) (seen : List Bool) (entries : List Entry) (queue : List Found) (seen_after : List Bool) (new : List Entry) → AreEntries entries queue → IsEnteredIn nodes x (from_via via) seen entries seen_after new
+    → (after : List Found) × AreEntries new after × IsOfferedTo nodes x d via seen queue seen_after after
+entered nodes x d via seen entries queue seen_after new a (inl o) = (queue, o.1 ∙ a, inl (o.0, refl, o.2))
+entered nodes x d via seen entries queue seen_after new a (inr o) =
+    let f : Found = record { node = o.0; id = x; depth = d; via = via } in
+    (queue ++ f ∷ [], o.4 ∙ ap (λ (es : List Entry). es ++ entry_of f ∷ []) a ∙ sym (map_push entry_of queue f), inr (o.0, o.1, o.2, o.3, refl))
+
+-- what is read of a queue at a place is the entry there
+pub entry_here : (entries slice : List Entry) (k : ℕ) (e : Entry) → slice ≡ entries → slice_get slice k ≡ Some e → slice_get entries k ≡ Some e
+entry_here entries slice k e same is = ap (λ (es : List Entry). slice_get es k) (sym same) ∙ is
+
+pub entry_stands : (image : Image) (places : List ObjRef) (nodes : List Node) (f : Found) (e : Entry) (at : ObjRef) → AreNodes image places nodes → node_with nodes f.id ≡ Some f.node → entry_of f ≡ e → ((n : Node) → slice_get nodes e.node ≡ Some n → at ≡ n.at) → StandsFor image places nodes f at
+entry_stands image places nodes f e at n there is p =
+    let same : f.node ≡ e.node = ap (λ (e : Entry). e.node) is in
+    stands image places nodes f at n there (λ m h. p m (ap (slice_get nodes) (sym same) ∙ h))
+
+-- the object of an entry, by what a view tells of it
+pub entry_read : (image : Image) (places : List ObjRef) (nodes : List Node) (f : Found) (e : Entry) (at : ObjRef) (kind : ObjKind) (words : List ℕ) → AreNodes image places nodes → node_with nodes f.id ≡ Some f.node → entry_of f ≡ e → ((n : Node) → slice_get nodes e.node ≡ Some n → at ≡ n.at)
+    → IsDumpable image → length places ≡ length image.objects → ((i : ℕ) → slice_get places i ≡ Some at → IfSome (slice_get image.objects i) (λ o. kind ≡ o.kind)) → ((i : ℕ) → slice_get places i ≡ Some at → IfSome (slice_get image.objects i) (λ o. words ≡ o.words))
+    → IsRead image f kind words
+entry_read image places nodes f e at kind words n there is p d many k w =
+    let same : f.node ≡ e.node = ap (λ (e : Entry). e.node) is in
+    read image places nodes f at kind words n there (λ m h. p m (ap (slice_get nodes) (sym same) ∙ h)) d many k w
+
+-- slot by slot, of what an entry keeps
+pub record LooksAt (image : Image) (nodes : List Node) (head : ℕ) (e : Entry) (seen : List Bool) (entries : List Entry) (slot : ℕ) : Type 0 where
+  pub queue : List Found
+  pub f : Found
+  pub kept : AreEntries entries queue
+  pub is : entry_of f ≡ e
+  pub looking : IsLooking image nodes head f seen queue slot
+
+pub looks_as : (image : Image) (nodes : List Node) (head : ℕ) (e : Entry) (seen others : List Bool) (entries same : List Entry) (slot : ℕ) → others ≡ seen → same ≡ entries → LooksAt image nodes head e seen entries slot → LooksAt image nodes head e others same slot
+looks_as image nodes head e seen others entries same slot a b l =
+    subst (λ (es : List Entry). LooksAt image nodes head e others es slot) (sym b) (subst (λ (m : List Bool). LooksAt image nodes head e m entries slot) (sym a) l)
+
+-- register by register
+pub record LooksAtRegisters (image : Image) (nodes : List Node) (seen : List Bool) (entries : List Entry) (r : ℕ) : Type 0 where
+  pub queue : List Found
+  pub kept : AreEntries entries queue
+  pub rooting : IsRooting image nodes seen queue r

@@ -6,10 +6,7 @@ use Rattle.std.proofs.lemmas.List.{length-reverse, reverse-append, reverse-rever
 use Rattle.std.proofs.lemmas.Option.{none-some, same_Some}
 use Rattle.hprof_text.specs.Image.{Image}
 use Rattle.heap_questions.specs.Graph.{AreAtMost, HasId, IsPathTo, followed, named}
-use Rattle.heap_questions.specs.Search.{Earlier, HasSearchOrder, IsWayBack, IsFound, IsOrdered, IsReachedBy, IsSearched, LeadsBy}
-use Rattle.heap_questions.specs.declared.search.Found.{Found}
-use Rattle.heap_questions.specs.declared.search.Via.{Via}
-use Rattle.heap_questions.specs.declared.search.Via.TheVariants.{Register, Slot}
+use Rattle.heap_questions.specs.Search.{AreReached, Earlier, Found, HasSearchOrder, IsFound, IsOrdered, IsReachedBy, IsSearchedTo, IsWayBack, LeadsBy, Register, Slot, Via}
 use Rattle.heap_questions.proofs.LongerLists.{got_same}
 use Rattle.heap_questions.proofs.TracedPaths.{named_object}
 
@@ -82,13 +79,13 @@ chains_rise image queue next o (s ∷ b) (t ∷ c) i j r q l h k = elim (subst (
 ]
 
 -- each that was found has a chain
-chain_there : (image : Image) (queue : List Found) → IsSearched image queue → (d k : ℕ) (f : Found) → slice_get queue k ≡ Some f → f.depth ≤ d → (r : ℕ) × (b : List ℕ) × IsWayBack queue k r b
-chain_there image queue s zero k f h l = go f.via refl (s.reached k f h)
+chain_there : (image : Image) (queue : List Found) → AreReached image queue → (d k : ℕ) (f : Found) → slice_get queue k ≡ Some f → f.depth ≤ d → (r : ℕ) × (b : List ℕ) × IsWayBack queue k r b
+chain_there image queue s zero k f h l = go f.via refl (s k f h)
   where
     go : (via : Via) → f.via ≡ via → IsReachedBy image queue f.id f.depth via → (r : ℕ) × (b : List ℕ) × IsWayBack queue k r b
     go (Register r) e m = (r, [], (f, h, e))
     go (Slot t p) e m = absurd (omega (arith, m.2, l))
-chain_there image queue s (suc d) k f h l = go f.via refl (s.reached k f h) (λ j g i m. chain_there image queue s d j g i m)
+chain_there image queue s (suc d) k f h l = go f.via refl (s k f h) (λ j g i m. chain_there image queue s d j g i m)
   where
     go : (via : Via) → f.via ≡ via → IsReachedBy image queue f.id f.depth via → ((j : ℕ) (g : Found) → slice_get queue j ≡ Some g → g.depth ≤ d → (r : ℕ) × (b : List ℕ) × IsWayBack queue j r b) → (r : ℕ) × (b : List ℕ) × IsWayBack queue k r b
     go (Register r) e m rest = (r, [], (f, h, e))
@@ -101,32 +98,32 @@ abbrev LeadsTo : Image → ℕ → List ℕ → ℕ → Type 0
 LeadsTo image q [] x = slice_get image.registers q ≡ Some x
 LeadsTo image q (t ∷ c) x = (z : ℕ) × LeadsTo image q c z × (named image z t ≡ Some x)
 
-leads_found : (image : Image) (queue : List Found) → IsSearched image queue → (q : ℕ) (c : List ℕ) (x : ℕ) → LeadsTo image q c x → HasId image x → (d : ℕ) × IsFound queue x d
-leads_found image queue s q [] x h o = (0, s.roots q x h o)
-leads_found image queue s q (t ∷ c) x h o =
-    let f = leads_found image queue s q c h.0 h.1 (named_object image h.0 t x h.2) in
-    let k = f.1 in
-    (k.1.depth + 1, s.closed k.0 k.1 k.2 t x (ap (λ y. named image y t) k.3 ∙ h.2) o)
+leads_found : (image : Image) (queue : List Found) (n : ℕ) → IsSearchedTo image queue n → (q : ℕ) (c : List ℕ) (x : ℕ) → length c < n → LeadsTo image q c x → HasId image x → IsFound queue x (length c)
+leads_found image queue n s q [] x l h o = s.roots q x h o
+leads_found image queue n s q (t ∷ c) x l h o =
+    let k = leads_found image queue n s q c h.0 (omega (arith, l)) h.1 (named_object image h.0 t x h.2) in
+    let m = s.closed k.0 k.1 (omega (arith, l, k.4)) k.2 t x (ap (λ y. named image y t) k.3 ∙ h.2) o in
+    (m.0, m.1, m.2, m.3, omega (arith, m.4, k.4))
 
 -- the chain of what was found comes before each path to it, or is that path
-chain_first : (image : Image) (queue : List Found) (next : Via) → IsSearched image queue → IsOrdered image queue next → (q : ℕ) (c : List ℕ) (x : ℕ) → LeadsTo image q c x → HasId image x
+chain_first : (image : Image) (queue : List Found) (next : Via) (n : ℕ) → IsSearchedTo image queue n → IsOrdered image queue next → (q : ℕ) (c : List ℕ) (x : ℕ) → length c ≤ n → LeadsTo image q c x → HasId image x
     → (k : ℕ) (f : Found) (r : ℕ) (b : List ℕ) → slice_get queue k ≡ Some f → f.id ≡ x → IsWayBack queue k r b → AtMost r b q c
-chain_first image queue next s o q [] x h there k f r [] g e i =
+chain_first image queue next n s o q [] x l h there k f r [] g e i =
     let no : ¬ Earlier (Register q) (Register r) = subst (λ (v : Via). ¬ Earlier (Register q) v) (i.2) (o.first k i.0 (Register q) i.1 (subst (λ y. slice_get image.registers q ≡ Some y) (sym (ap (λ (f : Found). f.id) (got_same queue k i.0 f i.1 g) ∙ e)) h)) in
     elim (cases_lt q r) [
-      | inl l ↦ absurd (no l)
-      | inr l ↦ elim (cases_lt r q) [ inl m ↦ inl m | inr m ↦ inr (omega (arith, l, m), refl) ]
+      | inl b ↦ absurd (no b)
+      | inr b ↦ elim (cases_lt r q) [ inl m ↦ inl m | inr m ↦ inr (omega (arith, b, m), refl) ]
     ]
-chain_first image queue next s o q [] x h there k f r (t ∷ b) g e i =
+chain_first image queue next n s o q [] x l h there k f r (t ∷ b) g e i =
     absurd (subst (λ (v : Via). ¬ Earlier (Register q) v) i.3 (o.first k i.0 (Register q) i.2 (subst (λ y. slice_get image.registers q ≡ Some y) (sym (ap (λ (f : Found). f.id) (got_same queue k i.0 f i.2 g) ∙ e)) h)) tt)
-chain_first image queue next s o q (t ∷ c) x h there k f r [] g e i = inl tt
-chain_first image queue next s o q (t ∷ c) x h there k f r (u ∷ b) g e i =
+chain_first image queue next n s o q (t ∷ c) x l h there k f r [] g e i = inl tt
+chain_first image queue next n s o q (t ∷ c) x l h there k f r (u ∷ b) g e i =
     let z = h.0 in
     let object : HasId image z = named_object image z t x h.2 in
-    let w = (leads_found image queue s q c z h.1 object).1 in
+    let w = leads_found image queue n s q c z (omega (arith, l)) h.1 object in
     let p = w.0 in
-    let chain = chain_there image queue s w.1.depth p w.1 w.2 (omega arith) in
-    let most = chain_first image queue next s o q c z h.1 object p w.1 chain.0 chain.1 w.2 w.3 chain.2 in
+    let chain = chain_there image queue s.reached w.1.depth p w.1 w.2 (omega arith) in
+    let most = chain_first image queue next n s o q c z (omega (arith, l)) h.1 object p w.1 chain.0 chain.1 w.2 w.3 chain.2 in
     let lead : LeadsBy image queue (Slot t p) i.0.id =
     (w.1, w.2, ap (λ y. named image y t) w.3 ∙ h.2 ∙ ap Some (sym (ap (λ (f : Found). f.id) (got_same queue k i.0 f i.2 g) ∙ e))) in
     let no : ¬ Earlier (Slot t p) (Slot u i.1) = subst (λ (v : Via). ¬ Earlier (Slot t p) v) i.3 (o.first k i.0 (Slot t p) i.2 lead) in
@@ -225,10 +222,10 @@ leads_to image q slots x p = go (slice_get image.registers q) refl p.leads
     go (Some y) e h = subst (λ (l : List ℕ). LeadsTo image q l x) (no_more (reverse slots)) (walked image q slots [] y x e h)
 
 -- the way on which an object was found is the first of all with as many slots
-pub found_first : (image : Image) (queue : List Found) (k : ℕ) (f : Found) (r : ℕ) (slots : List ℕ) (x : ℕ) → IsSearched image queue → HasSearchOrder image queue → slice_get queue k ≡ Some f → f.id ≡ x → IsWayBack queue k r (reverse slots)
+pub found_first : (image : Image) (queue : List Found) (k : ℕ) (f : Found) (r : ℕ) (slots : List ℕ) (x : ℕ) → IsSearchedTo image queue (length slots) → HasSearchOrder image queue → slice_get queue k ≡ Some f → f.id ≡ x → IsWayBack queue k r (reverse slots)
     → (q : ℕ) (others : List ℕ) → IsPathTo image q others x → length others ≡ length slots → AreAtMost (r ∷ slots) (q ∷ others)
 found_first image queue k f r slots x s o g e i q others p n =
-    let m = chain_first image queue o.0 s o.1 q (reverse others) x (leads_to image q others x p) p.there k f r (reverse slots) g e i in
+    let m = chain_first image queue o.0 (length slots) s o.1 q (reverse others) x (omega (arith, length-reverse others, n)) (leads_to image q others x p) p.there k f r (reverse slots) g e i in
     let many : length (reverse slots) ≡ length (reverse others) = length-reverse slots ∙ sym n ∙ sym (length-reverse others) in
     let turn = most_turned r (reverse slots) q (reverse others) many m in
     subst (λ (l : List ℕ). AreAtMost (r ∷ slots) (q ∷ l)) (reverse-reverse others) (subst (λ (l : List ℕ). AreAtMost (r ∷ l) (q ∷ reverse (reverse others))) (reverse-reverse slots) turn)

@@ -10,15 +10,12 @@ use Rattle.hprof_text.specs.Image.{Image, DumpedObject}
 use Rattle.heap_questions.specs.Graph.{IsPathTo, IsUnreached, named, followed}
 use Rattle.heap_questions.specs.Garbage.{IsGarbage, is_reached}
 use Rattle.heap_questions.specs.Histogram.{rows_of, without_marked}
-use Rattle.heap_questions.specs.Search.{AreNodes, AreReached, AreSeen, IsFound, IsReachedBy, IsSearched, node_with}
+use Rattle.heap_questions.specs.Search.{AreNodes, AreReached, AreSeen, Found, IsFound, IsReachedBy, IsSearched, Register, Slot, Via, node_with}
 use Rattle.heap_questions.specs.declared.nodes.Node.{Node}
 use Rattle.heap_questions.specs.declared.rows.Row.{Row}
-use Rattle.heap_questions.specs.declared.search.Found.{Found}
-use Rattle.heap_questions.specs.declared.search.Via.{Via}
-use Rattle.heap_questions.specs.declared.search.Via.TheVariants.{Register, Slot}
 use Rattle.heap_questions.proofs.Counting.{unmarked_is_filter}
 use Rattle.heap_questions.proofs.NodePlaces.{one_id}
-use Rattle.heap_questions.proofs.TracedPaths.{path_found}
+use Rattle.heap_questions.proofs.TracedPaths.{any_path_found}
 
 -- ---- a path to each that was found
 
@@ -62,8 +59,8 @@ path_there image queue a (suc d) k f h l = go f.via (a k f h) (λ j p e m. path_
 
 pub path_to_found : (image : Image) (queue : List Found) (k : ℕ) (f : Found) → IsSearched image queue → slice_get queue k ≡ Some f → (r : ℕ) × (slots : List ℕ) × IsPathTo image r slots f.id
 path_to_found image queue k f s h =
-    let p = path_there image queue s.reached f.depth k f h (omega arith) in
-    (p.0, p.1, record { there = s.objects k f h; leads = p.2 })
+    let p = path_there image queue (s 0).reached f.depth k f h (omega arith) in
+    (p.0, p.1, record { there = (s 0).objects k f h; leads = p.2 })
 
 -- ---- marks
 
@@ -84,7 +81,7 @@ found_if_reached nodes seen queue x a h = go (node_with nodes x) refl h
 -- an id is marked exactly if a register reaches it
 pub unreached_is : (image : Image) (nodes : List Node) (seen : List Bool) (queue : List Found) (x : ℕ) → IsSearched image queue → AreSeen nodes seen queue → ((not (is_reached nodes seen x) ≡ true) → IsUnreached image x) × (IsUnreached image x → not (is_reached nodes seen x) ≡ true)
 unreached_is image nodes seen queue x s a = (
-  λ n r slots p. absurd (true≢false (sym n ∙ ap not (reached_if_found nodes seen queue x (length slots) a (path_found image queue r slots x s p)))),
+  λ n r slots p. absurd (true≢false (sym n ∙ ap not (reached_if_found nodes seen queue x (length slots) a (any_path_found image queue r slots x s p)))),
   λ u. go (is_reached nodes seen x) refl u,
 )
   where

@@ -6,11 +6,8 @@ use Rattle.std.proofs.lemmas.Bool.{true≢false}
 use Rattle.heap_class.specs.declared.ObjRef.{ObjRef}
 use Rattle.hprof_text.specs.Image.{Image}
 use Rattle.heap_questions.specs.Graph.{HasId, named}
-use Rattle.heap_questions.specs.Search.{AreNodes, Earlier, HasAllRoots, HasChildren, HasRoots, IsFound, IsOfferedTo, IsOrdered, IsReachedBy, IsSearching, LeadsBy, node_with}
+use Rattle.heap_questions.specs.Search.{AreNodes, Earlier, Found, HasAllRoots, HasChildren, HasRoots, IsFound, IsOfferedTo, IsOrdered, IsReachedBy, IsSearching, LeadsBy, Register, Slot, Via, node_with}
 use Rattle.heap_questions.specs.declared.nodes.Node.{Node}
-use Rattle.heap_questions.specs.declared.search.Found.{Found}
-use Rattle.heap_questions.specs.declared.search.Via.{Via}
-use Rattle.heap_questions.specs.declared.search.Via.TheVariants.{Register, Slot}
 use Rattle.heap_questions.proofs.LongerLists.{got_cases, got_same}
 use Rattle.heap_questions.proofs.NodePlaces.{object_found}
 

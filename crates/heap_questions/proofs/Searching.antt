@@ -8,11 +8,8 @@ use Rattle.std.proofs.lemmas.Bool.{cases_eq, true≢false}
 use Rattle.heap_class.specs.declared.ObjRef.{ObjRef}
 use Rattle.hprof_text.specs.Image.{Image}
 use Rattle.heap_questions.specs.Graph.{HasId, named}
-use Rattle.heap_questions.specs.Search.{AreNodes, HasRoots, HasChildren, HasAllChildren, IsFound, IsNear, IsOfferedTo, IsReached, IsReachedBy, IsRising, IsSearched, IsSearching, IsWithin, AreSeen, node_with}
+use Rattle.heap_questions.specs.Search.{AreNodes, AreSeen, Found, HasAllChildren, HasChildren, HasRoots, IsFound, IsNear, IsOfferedTo, IsReached, IsReachedBy, IsRising, IsSearched, IsSearchedTo, IsSearching, IsWithin, Register, Slot, Via, node_with}
 use Rattle.heap_questions.specs.declared.nodes.Node.{Node}
-use Rattle.heap_questions.specs.declared.search.Found.{Found}
-use Rattle.heap_questions.specs.declared.search.Via.{Via}
-use Rattle.heap_questions.specs.declared.search.Via.TheVariants.{Register, Slot}
 use Rattle.heap_questions.proofs.LongerLists.{got_before, got_last, got_cases, got_same}
 use Rattle.heap_questions.proofs.NodePlaces.{node_of_object, node_within, object_found, one_id}
 
@@ -179,16 +176,21 @@ near_first queue w h p k f q = let a = w k f q in omega (arith, a)
 pub few : (image : Image) (nodes : List Node) (seen : List Bool) (queue : List Found) (head : ℕ) → IsSearching image nodes seen queue head → length queue ≤ length nodes
 few image nodes seen queue head s = omega (arith, s.counted, s.as_many, count_by-le-length (λ b. b) seen)
 
--- all was looked at
-pub searched : (image : Image) (places : List ObjRef) (nodes : List Node) (seen : List Bool) (queue : List Found) (head : ℕ) → AreNodes image places nodes → IsSearching image nodes seen queue head → length queue ≤ head → HasRoots image queue (length image.registers) → IsSearched image queue
-searched image places nodes seen queue head n s l r =
+-- all was looked at whose children are less than d deep
+pub searched_to : (image : Image) (places : List ObjRef) (nodes : List Node) (seen : List Bool) (queue : List Found) (head d : ℕ) → AreNodes image places nodes → IsSearching image nodes seen queue head
+    → ((k : ℕ) (f : Found) → f.depth + 1 < d → slice_get queue k ≡ Some f → k < head) → HasRoots image queue (length image.registers) → IsSearchedTo image queue d
+searched_to image places nodes seen queue head d n s l r =
     record {
       reached = s.reached;
       objects = λ k f h. object_found image places nodes f.id f.node n (s.placed k f h);
       rising = s.rising;
       roots = λ n y e o. r n y (slice_get_within image.registers n y e) e o;
-      closed = λ k f h. s.closed k f (omega (arith, l, slice_get_within queue k f h)) h;
+      closed = λ k f m h. s.closed k f (l k f m h) h;
     }
+
+-- all was looked at
+pub searched : (image : Image) (places : List ObjRef) (nodes : List Node) (seen : List Bool) (queue : List Found) (head : ℕ) → AreNodes image places nodes → IsSearching image nodes seen queue head → length queue ≤ head → HasRoots image queue (length image.registers) → IsSearched image queue
+searched image places nodes seen queue head n s l r d = searched_to image places nodes seen queue head d n s (λ k f m h. omega (arith, l, slice_get_within queue k f h)) r
 
 pub are_seen : (image : Image) (nodes : List Node) (seen : List Bool) (queue : List Found) (head : ℕ) → IsSearching image nodes seen queue head → AreSeen nodes seen queue
 are_seen image nodes seen queue head s = record { placed = s.placed; marked = s.marked; found = s.found; as_many = s.as_many }

@@ -1,13 +1,12 @@
 -- The objects that no register reaches.
-use Rattle.std.specs.Prelude.{◌≡◌, ◌↔◌, ℕ, Bool, true, false, List, Contains, filter, slice_index_or}
-use Rattle.std.specs.Option.{option_map_or}
+use Rattle.std.specs.Prelude.{◌≡◌, ◌↔◌, ℕ, Bool, true, List, Contains, filter}
 use Rattle.heap_class.specs.declared.IdSize.{IdSize}
 use Rattle.hprof_text.specs.Image.{Image, DumpedObject}
 use Rattle.heap_questions.specs.declared.rows.Row.{Row}
 use Rattle.heap_questions.specs.declared.nodes.Node.{Node}
 use Rattle.heap_questions.specs.Graph.{IsUnreached}
 use Rattle.heap_questions.specs.Histogram.{rows_of}
-use Rattle.heap_questions.specs.Search.{node_with}
+use Rattle.heap_questions.specs.Search.{is_found, node_with}
 
 -- the test holds of an object of the image exactly if no register reaches it
 abbrev pub TellsUnreached : Image → (DumpedObject → Bool) → Type 0
@@ -24,4 +23,4 @@ IsGarbage ids image rows =
 
 -- the node with this id was found
 abbrev pub is_reached : List Node → List Bool → ℕ → Bool
-is_reached nodes seen x = option_map_or (λ j. slice_index_or seen j false) (node_with nodes x) false
+is_reached nodes seen x = is_found seen (node_with nodes x)

@@ -1,14 +1,38 @@
 -- A search along references, breadth first.
 use Rattle.std.specs.Prelude.{◌≡◌, ◌⊎◌, ◌+◌, ◌*◌, ◌/◌, ◌≤◌, ◌<◌, ℕ, Bool, true, false, ◌==◌, List, [], ◌∷◌, ◌++◌, length, map, slice_get, slice_index_or, slice_set, Option, Some, count_by, option_and_then}
+use Rattle.std.specs.Option.{option_map_or}
 use Rattle.std.specs.List.{position}
 use Rattle.heap_class.specs.declared.ObjRef.{ObjRef}
+use Rattle.heap_class.specs.Classes.{Class}
 use Rattle.heap_region.specs.Limits.{region_limit, region_words}
-use Rattle.hprof_text.specs.Image.{Image}
-use Rattle.heap_questions.specs.Graph.{HasId, named, followed}
+use Rattle.hprof_text.specs.Image.{Image, DumpedObject, register_limit}
+use Rattle.heap_questions.specs.Graph.{HasId, named, followed, slot_names}
 use Rattle.heap_questions.specs.declared.nodes.Node.{Node}
-use Rattle.heap_questions.specs.declared.search.Via.{Via}
-use Rattle.heap_questions.specs.declared.search.Via.TheVariants.{Register, Slot}
-use Rattle.heap_questions.specs.declared.search.Found.{Found}
+use Rattle.heap_questions.specs.declared.search.Entry.{Entry}
+
+-- how an object was found: by a register, or by a slot of what stands at a place of the queue
+pub data Via : Type 0 where
+  Register : (r : ℕ) → Via
+  Slot : (s parent : ℕ) → Via
+
+-- an object that was found: its node, its id, how many slots lead to it, and the last of them
+pub record Found : Type 0 where
+  pub node : ℕ
+  pub id : ℕ
+  pub depth : ℕ
+  pub via : Via
+
+-- what the queue keeps of the way to an object: its register, or behind all registers the place of what names it
+abbrev pub from_via : Via → ℕ
+from_via (Register r) = r
+from_via (Slot s parent) = register_limit + parent
+
+abbrev pub entry_of : Found → Entry
+entry_of f = record { node = f.node; from = from_via f.via }
+
+-- the entries are what is kept of what was found
+abbrev pub AreEntries : List Entry → List Found → Type 0
+AreEntries entries queue = entries ≡ map entry_of queue
 
 -- the nodes are the objects of the image, with their places
 pub record AreNodes (image : Image) (places : List ObjRef) (nodes : List Node) : Type 0 where
@@ -62,10 +86,6 @@ HasRoots image queue n =
 abbrev pub HasAllRoots : Image → List Found → Type 0
 HasAllRoots image queue = HasRoots image queue (length image.registers)
 
--- the second queue still has what the first n registers name if the first has
-abbrev pub KeepsRoots : Image → List Found → List Found → Type 0
-KeepsRoots image before after = (n : ℕ) → HasRoots image before n → HasRoots image after n
-
 -- each object that one of the first n slots of x names was found at most d steps from a register
 abbrev pub HasChildren : Image → List Found → ℕ → ℕ → ℕ → Type 0
 HasChildren image queue x n d =
@@ -103,34 +123,52 @@ pub record IsSearching (image : Image) (nodes : List Node) (seen : List Bool) (q
       → HasAllChildren image queue f.id (f.depth + 1)
 
 -- x was offered to a search and skipped: it is no object, or was found before
-abbrev pub IsPassedOver : List Node → ℕ → List Bool → List Found → List Bool → List Found → Type 0
+abbrev pub IsPassedOver : {X : Type 0} → List Node → ℕ → List Bool → List X → List Bool → List X → Type 0
 IsPassedOver nodes x seen queue seen_after queue_after =
     (seen_after ≡ seen) × (queue_after ≡ queue)
     × ((j : ℕ) → node_with nodes x ≡ Some j → slice_index_or seen j false ≡ true)
 
--- x was offered to a search and added behind what was found before
-abbrev pub IsFoundNow : List Node → ℕ → ℕ → Via → List Bool → List Found → List Bool → List Found
-    → Type 0
-IsFoundNow nodes x d via seen queue seen_after queue_after =
+-- x was offered to a search, and its node was added behind what was found before
+abbrev pub IsFoundNow : {X : Type 0} → List Node → ℕ → (ℕ → X) → List Bool → List X → List Bool → List X → Type 0
+IsFoundNow nodes x item seen queue seen_after queue_after =
     (j : ℕ) × (node_with nodes x ≡ Some j) × (slice_index_or seen j false ≡ false)
-    × (seen_after ≡ slice_set seen j true)
-    × (queue_after ≡ queue ++ record { node = j; id = x; depth = d; via = via } ∷ [])
+    × (seen_after ≡ slice_set seen j true) × (queue_after ≡ queue ++ item j ∷ [])
 
 -- x was offered to a search: it was skipped or added
+abbrev pub IsAddedTo : {X : Type 0} → List Node → ℕ → (ℕ → X) → List Bool → List X → List Bool → List X → Type 0
+IsAddedTo nodes x item seen queue seen_after queue_after =
+    IsPassedOver nodes x seen queue seen_after queue_after
+    ⊎ IsFoundNow nodes x item seen queue seen_after queue_after
+
+-- so it was as an entry of the queue
+abbrev pub IsEnteredIn : List Node → ℕ → ℕ → List Bool → List Entry → List Bool → List Entry → Type 0
+IsEnteredIn nodes x from =
+    let item : ℕ → Entry = λ j. record { node = j; from = from } in IsAddedTo nodes x item
+
+-- so it was as what was found at depth d
 abbrev pub IsOfferedTo : List Node → ℕ → ℕ → Via → List Bool → List Found → List Bool → List Found
     → Type 0
-IsOfferedTo nodes x d via seen queue seen_after queue_after =
-    IsPassedOver nodes x seen queue seen_after queue_after
-    ⊎ IsFoundNow nodes x d via seen queue seen_after queue_after
+IsOfferedTo nodes x d via =
+    let item : ℕ → Found = λ j. record { node = j; id = x; depth = d; via = via } in
+    IsAddedTo nodes x item
 
--- all that registers reach has been found, each object at its least depth
-pub record IsSearched (image : Image) (queue : List Found) : Type 0 where
+-- what registers reach by fewer than d slots has been found, each object at its least depth
+pub record IsSearchedTo (image : Image) (queue : List Found) (d : ℕ) : Type 0 where
   pub reached : (k : ℕ) (f : Found) → slice_get queue k ≡ Some f → IsReached image queue f
   pub objects : (k : ℕ) (f : Found) → slice_get queue k ≡ Some f → HasId image f.id
   pub rising : IsRising queue
   pub roots : (r y : ℕ) → slice_get image.registers r ≡ Some y → HasId image y → IsFound queue y 0
-  pub closed : (k : ℕ) (f : Found) → slice_get queue k ≡ Some f
+  pub closed : (k : ℕ) (f : Found) → f.depth + 1 < d → slice_get queue k ≡ Some f
       → HasAllChildren image queue f.id (f.depth + 1)
+
+-- all that registers reach has been found
+abbrev pub IsSearched : Image → List Found → Type 0
+IsSearched image queue = (d : ℕ) → IsSearchedTo image queue d
+
+-- node `goal` was found no less than d slots deep, if it was
+abbrev pub IsNoHigher : List Found → ℕ → ℕ → Type 0
+IsNoHigher queue goal d =
+    (k : ℕ) (f : Found) → slice_get queue k ≡ Some f → f.node ≡ goal → d ≤ f.depth
 
 -- each object found was reached
 abbrev pub AreReached : Image → List Found → Type 0
@@ -145,12 +183,6 @@ abbrev pub IsTraced : Image → ℕ → List ℕ → Found → Type 0
 IsTraced image r slots f =
     (option_and_then (λ y. followed image y slots) (slice_get image.registers r) ≡ Some f.id)
     × (length slots ≡ f.depth)
-
--- register r and these slots lead to what was found at this place of a queue, in each image in which all of it was reached
-abbrev pub IsTraceOf : List Found → ℕ → ℕ → List ℕ → Type 0
-IsTraceOf queue index r slots =
-    (image : Image) (f : Found) → AreReached image queue → slice_get queue index ≡ Some f
-    → IsTraced image r slots f
 
 -- the marks are those of the nodes that stand in the queue
 pub record AreSeen (nodes : List Node) (seen : List Bool) (queue : List Found) : Type 0 where
@@ -194,3 +226,58 @@ IsWayBack queue k r [] = (f : Found) × (slice_get queue k ≡ Some f) × (f.via
 IsWayBack queue k r (s ∷ back) =
     (f : Found) × (p : ℕ) × (slice_get queue k ≡ Some f) × (f.via ≡ Slot s p)
     × IsWayBack queue p r back
+
+-- ---- what a search leaves
+
+-- the queue was found, in this order, and these are its entries
+pub record IsQueueOf (image : Image) (nodes : List Node) (entries : List Entry)
+    (queue : List Found) : Type 0 where
+  pub kept : AreEntries entries queue
+  pub few : length image.registers ≤ register_limit
+  pub reached : AreReached image queue
+  pub placed : (k : ℕ) (f : Found) → slice_get queue k ≡ Some f → node_with nodes f.id ≡ Some f.node
+  pub rising : IsRising queue
+  pub ordered : HasSearchOrder image queue
+
+-- a search that has looked at all registers, and at the slots of the first `head` entries
+pub record IsSearch (image : Image) (nodes : List Node) (seen : List Bool) (entries : List Entry)
+    (head : ℕ) : Type 0 where
+  pub queue : List Found
+  pub kept : AreEntries entries queue
+  pub search : IsSearching image nodes seen queue head
+  pub near : IsNear queue head
+  pub roots : HasAllRoots image queue
+  pub ordered : IsOrdered image queue (Slot 0 head)
+  pub within : head ≤ length queue
+
+-- the marks are those of all that registers reach
+pub record AreAllSeen (image : Image) (nodes : List Node) (seen : List Bool) : Type 0 where
+  pub queue : List Found
+  pub searched : IsSearched image queue
+  pub marked : AreSeen nodes seen queue
+
+-- a node was found, by the marks; none is not
+abbrev pub is_found : List Bool → Option ℕ → Bool
+is_found seen node = option_map_or (λ j. slice_index_or seen j false) node false
+
+-- a search has looked at all entries, or has found its goal
+abbrev pub HasEnded : List Bool → List Entry → ℕ → Option ℕ → Type 0
+HasEnded seen entries head goal = (length entries ≤ head) ⊎ (is_found seen goal ≡ true)
+
+-- the entries are those of a search that may have ended once node `goal` was found
+pub record HasSearchedFor (image : Image) (nodes : List Node) (entries : List Entry) (goal : ℕ)
+    : Type 0 where
+  pub queue : List Found
+  pub found : IsQueueOf image nodes entries queue
+  pub searched : (d : ℕ) → IsNoHigher queue goal d → IsSearchedTo image queue d
+
+-- if a slot of the object names x, then this is the first
+abbrev pub IsFirstSlotTo : List Class → DumpedObject → ℕ → ℕ → Type 0
+IsFirstSlotTo classes o x s =
+    (t : ℕ) → slot_names classes o t ≡ Some x → (slot_names classes o s ≡ Some x) × (s ≤ t)
+
+-- if a slot of node j's object names node k's object, then this is the first
+abbrev pub IsFirstNaming : Image → List Node → ℕ → ℕ → ℕ → Type 0
+IsFirstNaming image nodes j k s =
+    (x y t : ℕ) → node_with nodes x ≡ Some j → node_with nodes y ≡ Some k → named image x t ≡ Some y
+    → (named image x s ≡ Some y) × (s ≤ t)

@@ -5,7 +5,7 @@ ghost use Rattle.heap_questions.specs.Garbage.{IsGarbage, is_reached};
 
 use crate::nodes::NodeList;
 use crate::rows::{Histogram, count_unmarked};
-use crate::search::search;
+use crate::search::{is_found, search};
 use heap_class::Refusal;
 use hprof_text::View;
 use std::alloc::Global;
@@ -14,10 +14,7 @@ use std::alloc::Global;
 pub(crate) fn is_reached(nodes: &NodeList, seen: &[bool], id: u64) -> bool
     ensures { result ≡ is_reached nodes.now seen.now id }
 {
-    match nodes.find(id) {
-        Some(node) => node < seen.len() && seen[node],
-        None => false,
-    }
+    is_found(seen, nodes.find(id))
 }
 
 /// Counts the objects of a view that no register reaches, in the rows in which `count_by_class` counts all. Fails with
@@ -27,7 +24,7 @@ pub fn count_garbage<V: View>(alloc: Global, view: &V) -> Result<Histogram, Refu
     ensures refused { IfErr result (λ e. e ≡ NoMemory) }
 {
     let nodes = NodeList::new(alloc, view)?;
-    let reach = search(alloc, view, &nodes)?;
+    let reach = search(alloc, view, &nodes, None)?;
     let marks = reached_marks(alloc, &nodes, reach.seen.as_slice())?;
     count_unmarked(alloc, view, marks.as_slice())
 }

@@ -21,7 +21,7 @@ pub fn count_kept<V: View>(alloc: Global, older: &V, newer: &V) -> Result<Histog
 {
     let before = NodeList::new(alloc, older)?;
     let nodes = NodeList::new(alloc, newer)?;
-    let reach = search(alloc, newer, &nodes)?;
+    let reach = search(alloc, newer, &nodes, None)?;
     let marks = others(alloc, &before, &nodes, reach.seen.as_slice())?;
     count_unmarked(alloc, newer, marks.as_slice())
 }

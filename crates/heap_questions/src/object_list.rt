@@ -33,7 +33,7 @@ pub fn list_wanted<V: View>(
     ensures refused { IfErr result (λ e. e ≡ NoMemory) }
 {
     let nodes = NodeList::new(alloc, view)?;
-    let reach = search(alloc, view, &nodes)?;
+    let reach = search(alloc, view, &nodes, None)?;
     list_nodes(alloc, view, &nodes, reach.seen.as_slice(), wanted)
 }
 

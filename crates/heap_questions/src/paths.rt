@@ -1,14 +1,15 @@
 //! Why an object is alive: a shortest path from a register.
-ghost use Rattle.std.specs.Prelude.{◌≡◌, ◌==◌, ◌<◌, length, reverse, IfSome, IfNone, IfOk, IfErr};
+ghost use Rattle.std.specs.Prelude.{◌≡◌, ◌==◌, ◌<◌, List, Some, length, reverse, IfSome, IfNone, IfOk, IfErr};
 ghost use Rattle.std.specs.List.{position};
 ghost use Rattle.heap_class.specs.declared.Refusal.TheVariants.{NoMemory};
-ghost use Rattle.hprof_text.specs.Image.{Image};
+ghost use Rattle.hprof_text.specs.Image.{DumpedObject, IsKnown};
 ghost use Rattle.heap_questions.specs.Graph.{IsFirstPath, IsPathTo, IsShortest, IsUnreached};
-ghost use Rattle.heap_questions.specs.Search.{AreReached, IsWayBack, IsTraceOf};
+ghost use Rattle.heap_questions.specs.Search.{AreNodes, Found, IsFirstNaming, IsFirstSlotTo, IsQueueOf, IsWayBack, node_with};
 
 use crate::nodes::NodeList;
-use crate::search::{Found, Via, found_at, search};
-use heap_class::Refusal;
+use crate::references::is_reference_slot;
+use crate::search::{Entry, FIRST_PLACE, entry_at, search};
+use heap_class::{FirstClasses, ObjKind, Refusal};
 use hprof_text::View;
 use std::alloc::Global;
 
@@ -32,62 +33,103 @@ pub fn shortest_path<V: View>(alloc: Global, view: &V, id: u64) -> Result<Option
     ensures refused { IfErr result (λ e. e ≡ NoMemory) }
 {
     let nodes = NodeList::new(alloc, view)?;
-    let reach = search(alloc, view, &nodes)?;
-    match found_with(reach.queue.as_slice(), id) {
+    match nodes.find(id) {
+        Some(goal) => path_to(alloc, view, &nodes, id, goal),
+        None => Ok(None),
+    }
+}
+
+// Returns such a path to the object with this id, which is that of a node. The nodes must be the view's. Fails with NoMemory.
+fn path_to<V: View>(
+    alloc: Global,
+    view: &V,
+    nodes: &NodeList,
+    id: u64,
+    goal: usize,
+) -> Result<Option<Path>, Refusal>
+    requires nodes { AreNodes (V.image view.now) (V.places view.now) nodes.now }
+    requires goal { node_with nodes.now id ≡ Some goal }
+    ensures path { IfOk result (λ found. IfSome found (λ p.
+        IsPathTo (V.image view.now) p.register p.slots.items id)) }
+    ensures shortest { IfOk result (λ found. IfSome found (λ p.
+        IsShortest (V.image view.now) p.slots.items id)) }
+    ensures first { IfOk result (λ found. IfSome found (λ p.
+        IsFirstPath (V.image view.now) p.register p.slots.items id)) }
+    ensures none { IfOk result (λ found. IfNone found (IsUnreached (V.image view.now) id)) }
+    ensures refused { IfErr result (λ e. e ≡ NoMemory) }
+{
+    let reach = search(alloc, view, nodes, Some(goal))?;
+    let queue = reach.queue.as_slice();
+    match place_in(queue, goal as u32) {
         Some(index) => {
-            let path = trace(alloc, reach.queue.as_slice(), index)?;
+            let path = trace(alloc, view, nodes, queue, index)?;
             Ok(Some(path))
         }
         None => Ok(None),
     }
 }
 
-// Finds the first that has this id of what was found.
-fn found_with(queue: &[Found], id: u64) -> Option<usize>
-    ensures { result ≡ position (λ f. f.id == id) queue.now }
+// Returns the place of a node in a queue, or None if it isn't there.
+fn place_in(queue: &[Entry], node: u32) -> Option<usize>
+    ensures { result ≡ position (λ e. e.node == node) queue.now }
 {
-    queue.iter().position(|found| found.id == id)
+    queue.iter().position(|entry| entry.node == node)
 }
 
-// Returns the path on which an object was found. Fails with NoMemory.
-fn trace(alloc: Global, queue: &[Found], index: usize) -> Result<Path, Refusal>
-    requires reached { (image : Image) × AreReached image queue.now }
+// Returns the path on which an object was found. The nodes must be the view's. Fails with NoMemory.
+fn trace<V: View>(
+    alloc: Global,
+    view: &V,
+    nodes: &NodeList,
+    queue: &[Entry],
+    index: usize,
+) -> Result<Path, Refusal>
+    requires nodes { AreNodes (V.image view.now) (V.places view.now) nodes.now }
+    requires found { (q : List Found) × IsQueueOf (V.image view.now) nodes.now queue.now q }
     requires there { index < length queue.now }
-    ensures path { IfOk result (λ p. IsTraceOf queue.now index p.register p.slots.items) }
-    ensures chain { IfOk result
-        (λ p. IsWayBack queue.now index p.register (reverse p.slots.items)) }
+    ensures chain { IfOk result (λ p. (q : List Found)
+        → IsQueueOf (V.image view.now) nodes.now queue.now q
+        → IsWayBack q index p.register (reverse p.slots.items)) }
     ensures refused { IfErr result (λ e. e ≡ NoMemory) }
 {
     let mut slots = Vec::new(alloc);
-    let mut here = found_at(queue, index);
-    loop {
-        match here.via {
-            Via::Register(register) => {
-                slots.reverse();
-                return Ok(Path {
-                    register: number_of(register),
-                    slots,
-                });
-            }
-            Via::Slot { parent, slot } => {
-                slots.push(slot_number(slot))?;
-                let next = found_at(queue, number_of(parent) as usize);
-                here = next;
-            }
+    let mut here = entry_at(queue, index);
+    while here.from >= FIRST_PLACE {
+        let parent = entry_at(queue, (here.from - FIRST_PLACE) as usize);
+        let slot = naming_slot(view, nodes, parent.node as usize, here.node as usize);
+        slots.push(slot)?;
+        here = parent;
+    }
+    slots.reverse();
+    let register = here.from as u64;
+    Ok(Path { register, slots })
+}
+
+// Returns the first slot of a node's object that names another's. The nodes must be the view's.
+fn naming_slot<V: View>(view: &V, nodes: &NodeList, node: usize, named: usize) -> u64
+    requires nodes { AreNodes (V.image view.now) (V.places view.now) nodes.now }
+    requires node { node < length nodes.now }
+    requires named { named < length nodes.now }
+    ensures { IsFirstNaming (V.image view.now) nodes.now node named result }
+{
+    let at = nodes.place(node);
+    let classes = view.classes();
+    let kind = view.kind(at);
+    let words = view.words(at);
+    let id = nodes.id(named);
+    first_slot_to(&classes, kind, words, id)
+}
+
+// Returns the first slot of an object that holds this id and refers to it, or the number of its slots if none does.
+fn first_slot_to(classes: &FirstClasses<'_>, kind: ObjKind, words: &[u64], id: u64) -> u64
+    requires { IsKnown classes.now kind (length words.now) }
+    ensures { (o : DumpedObject) → o.kind ≡ kind → o.words ≡ words.now
+        → IsFirstSlotTo classes.now o id result }
+{
+    for slot in 0..words.len() {
+        if words[slot] == id && is_reference_slot(classes, kind, words.len() as u64, slot as u64) {
+            return slot as u64;
         }
     }
-}
-
-// Returns the number of a register or of a place of a queue.
-fn number_of(place: u32) -> u64
-    ensures { result ≡ place }
-{
-    place as u64
-}
-
-// Returns the number of a slot.
-fn slot_number(slot: u16) -> u64
-    ensures { result ≡ slot }
-{
-    slot as u64
+    words.len() as u64
 }

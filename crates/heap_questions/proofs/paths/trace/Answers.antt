@@ -1,39 +1,58 @@
-use Rattle.std.proofs.Common.{◌≡◌, ◌+◌, sym, ap, ap₂, ◌∙◌, subst, arith}
+use Rattle.std.proofs.Common.{ℕ, List, ◌≡◌, ◌-◌, sym, ap, ◌∙◌, subst, arith}
+use Rattle.std.specs.Prelude.{slice_get, Some}
 use Rattle.std.proofs.lemmas.Option.{slice_get_within}
-use Rattle.hprof_text.proofs.Loops.{item_of_list_within}
-use Rattle.heap_questions.specs.declared.search.Found.{Found}
-use Rattle.heap_questions.specs.declared.search.Via.TheVariants.{Register, Slot}
+use Rattle.heap_questions.specs.Search.{Found, entry_of}
+use Rattle.heap_questions.specs.declared.search.Entry.{Entry}
 use Rattle.heap_questions.proofs.LongerLists.{got_same}
-use Rattle.heap_questions.proofs.TracedPaths.{GoesOn, IsTracing, goes_on_ends, goes_on_more, parent_there, trace_more}
+use Rattle.heap_questions.proofs.Looking.{as_many_entries, found_of}
+use Rattle.heap_questions.proofs.NodePlaces.{node_within}
+use Rattle.heap_questions.proofs.TracedPaths.{goes_on, goes_on_ends}
+use Rattle.heap_questions.proofs.WaysBack.{GoesOnFrom, by_register, goes_on_back, lower, parent_found}
 use Rattle.heap_questions.proofs.paths.trace.Goals as goal
 
-pub found_at-next-requires : goal.found_at-next-requires
-found_at-next-requires c =
-    let queue = c.args.queue.now in
-    let f = item_of_list_within queue c.args.index c.requires.there in
-    let p = parent_there c.requires.reached.0 queue c.loop-here.here f.0 c.loop-here.slots.items c.number_of-in-Slot.result c.slot_number.result c.requires.reached.1 (c.loop-here.invariant.traced f.0 f.1) (c.in-Slot.is ∙ ap₂ Slot (sym c.slot_number.ensures) (sym c.number_of-in-Slot.ensures)) in
-    slice_get_within queue c.number_of-in-Slot.result p.0 p.1
+pub loop-here-init : goal.loop-here-init
+loop-here-init g c q i =
+    let f = found_of c.args.queue.now q c.args.index c.entry_at-here.result i.kept c.entry_at-here.ensures in
+    (f.0, f.2, goes_on q c.args.index f.0 f.1)
+
+pub entry_at-parent-requires : goal.entry_at-parent-requires
+entry_at-parent-requires g c =
+    let q = c.requires.found.0 in
+    let i = c.requires.found.1 in
+    let p = parent_found (g.V.View.image c.args.view.now) c.args.nodes.now c.args.queue.now q c.args.index c.loop-here.here c.loop-here.slots.items i (c.loop-here.invariant q i) c.loop-here-test.true in
+    slice_get_within c.args.queue.now (c.loop-here.here.from - 128) (entry_of p.by.other) p.there
+
+pub naming_slot-requires-clause-node : goal.naming_slot-requires-clause-node
+naming_slot-requires-clause-node g c =
+    let q = c.requires.found.0 in
+    let i = c.requires.found.1 in
+    let p = parent_found (g.V.View.image c.args.view.now) c.args.nodes.now c.args.queue.now q c.args.index c.loop-here.here c.loop-here.slots.items i (c.loop-here.invariant q i) c.loop-here-test.true in
+    let same = got_same c.args.queue.now (c.loop-here.here.from - 128) (entry_of p.by.other) c.entry_at-parent.result p.there c.entry_at-parent.ensures in
+    node_within c.args.nodes.now p.by.other.id c.entry_at-parent.result.node (i.placed p.by.parent p.by.other p.by.there ∙ ap (λ (e : Entry). Some e.node) same)
+
+pub naming_slot-requires-clause-named : goal.naming_slot-requires-clause-named
+naming_slot-requires-clause-named g c =
+    let q = c.requires.found.0 in
+    let i = c.requires.found.1 in
+    let v = c.loop-here.invariant q i in
+    node_within c.args.nodes.now v.0.id c.loop-here.here.node (i.placed v.2.0 v.0 v.2.1 ∙ ap (λ (e : Entry). Some e.node) v.1)
 
 pub loop-here-smaller : goal.loop-here-smaller
-loop-here-smaller c =
-    let queue = c.args.queue.now in
-    let f = item_of_list_within queue c.args.index c.requires.there in
-    let p = parent_there c.requires.reached.0 queue c.loop-here.here f.0 c.loop-here.slots.items c.number_of-in-Slot.result c.slot_number.result c.requires.reached.1 (c.loop-here.invariant.traced f.0 f.1) (c.in-Slot.is ∙ ap₂ Slot (sym c.slot_number.ensures) (sym c.number_of-in-Slot.ensures)) in
-    let e = got_same queue c.number_of-in-Slot.result p.0 c.found_at-next.result p.1 c.found_at-next.ensures in
-    let d : p.0.depth ≡ c.found_at-next.result.depth = ap (λ (f : Found). f.depth) e in
-    let n : c.loop-here.here.depth ≡ p.0.depth + 1 = p.2 in
-    omega (arith, d, n)
+loop-here-smaller g c =
+    let image = g.V.View.image c.args.view.now in
+    let q = c.requires.found.0 in
+    let i = c.requires.found.1 in
+    let v = c.loop-here.invariant q i in
+    let p = parent_found image c.args.nodes.now c.args.queue.now q c.args.index c.loop-here.here c.loop-here.slots.items i v c.loop-here-test.true in
+    let same = got_same c.args.queue.now (c.loop-here.here.from - 128) (entry_of p.by.other) c.entry_at-parent.result p.there c.entry_at-parent.ensures in
+    lower image c.args.nodes.now c.args.queue.now q v.2.0 v.0 c.loop-here.here c.entry_at-parent.result i p.by same
 
 pub loop-here-preserved : goal.loop-here-preserved
-loop-here-preserved c =
-    let queue = c.args.queue.now in
-    record {
-      traced = λ f h. subst (IsTracing queue c.found_at-next.result f) (sym c.in_ok-push-in-Slot.ensures.items)
-          (trace_more queue c.loop-here.here f c.found_at-next.result c.loop-here.slots.items c.number_of-in-Slot.result c.slot_number.result c.requires.reached (c.loop-here.invariant.traced f h) (c.in-Slot.is ∙ ap₂ Slot (sym c.slot_number.ensures) (sym c.number_of-in-Slot.ensures)) c.found_at-next.ensures);
-      chained = subst (GoesOn queue c.args.index c.found_at-next.result) (sym c.in_ok-push-in-Slot.ensures.items)
-          (goes_on_more queue c.args.index c.loop-here.here c.found_at-next.result c.loop-here.slots.items c.number_of-in-Slot.result c.slot_number.result c.loop-here.invariant.chained (c.in-Slot.is ∙ ap₂ Slot (sym c.slot_number.ensures) (sym c.number_of-in-Slot.ensures)) c.found_at-next.ensures);
-    }
+loop-here-preserved g c q i =
+    subst (GoesOnFrom q c.args.index c.entry_at-parent.result) (sym c.in_ok-push.ensures.items)
+    (goes_on_back (g.V.View.image c.args.view.now) c.args.nodes.now c.args.queue.now q c.args.index c.loop-here.here c.entry_at-parent.result c.loop-here.slots.items c.naming_slot-slot.result i (c.loop-here.invariant q i) c.loop-here-test.true c.entry_at-parent.ensures c.naming_slot-slot.ensures)
 
-pub returns-in-Register-clause-chain : goal.returns-in-Register-clause-chain
-returns-in-Register-clause-chain c =
-    goes_on_ends c.args.queue.now c.args.index c.loop-here.here c.loop-here.slots.items c.reverse.new.self.items c.number_of.result c.loop-here.invariant.chained (c.in-Register.is ∙ ap Register (sym c.number_of.ensures)) c.reverse.ensures.items
+pub returns-clause-chain : goal.returns-clause-chain
+returns-clause-chain g c q i =
+    let v = c.loop-here.invariant q i in
+    goes_on_ends q c.args.index v.0 c.loop-here.slots.items c.reverse.new.self.items c.loop-here.here.from v.2 (by_register v.0 c.loop-here.here v.1 c.loop-here-test.false) c.reverse.ensures.items

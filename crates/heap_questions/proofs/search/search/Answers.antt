@@ -1,28 +1,30 @@
-use Rattle.std.proofs.Common.{length, arith}
-use Rattle.heap_questions.specs.declared.search.Via.TheVariants.{Slot}
-use Rattle.heap_questions.proofs.Searching.{are_seen, searched}
+use Rattle.std.proofs.Common.{Option, ℕ, arith, subst, ap, sym}
+use Rattle.heap_questions.specs.Search.{HasEnded}
+use Rattle.heap_questions.proofs.FoundPaths.{all_seen, searched_for}
+use Rattle.heap_questions.proofs.Looking.{as_many_entries}
+use Rattle.heap_questions.proofs.Searching.{few}
 use Rattle.heap_questions.proofs.search.search.Goals as goal
 
-pub loop-head-preserved : goal.loop-head-preserved
-loop-head-preserved g c =
-    let image = g.V.View.image c.args.view.now in
-    record {
-      search = c.in_ok-expand.ensures.search;
-      near = c.in_ok-expand.ensures.near;
-      roots = c.in_ok-expand.ensures.roots (length image.registers) c.loop-head.invariant.roots;
-      within = omega (arith, c.in_ok-expand.ensures.longer, c.loop-head-test.true, c.len-in-loop-head.ensures, c.loop-head.reach.queue.ok.0);
-      ordered = c.in_ok-expand.ensures.ordered;
-    }
+pub loop-head-smaller : goal.loop-head-smaller
+loop-head-smaller g c =
+    let s = c.loop-head.invariant in
+    let n = few (g.V.View.image c.args.view.now) c.args.nodes.now c.loop-head.reach.seen.items s.queue c.loop-head.head s.search in
+    let m = as_many_entries c.loop-head.reach.queue.items s.queue s.kept in
+    let on = c.goes_on.ensures.on c.loop-head-test.true in
+    omega (arith, n, m, on)
 
-pub returns-clause-searched : goal.returns-clause-searched
-returns-clause-searched g c =
+pub returns-clause-all : goal.returns-clause-all
+returns-clause-all g c none =
     let v = c.args.view.now in
-    searched (g.V.View.image v) (g.V.View.places v) c.args.nodes.now c.loop-head.reach.seen.items c.loop-head.reach.queue.items c.loop-head.head c.requires c.loop-head.invariant.search
-    (omega (arith, c.loop-head-test.false, c.len-in-loop-head.ensures, c.loop-head.reach.queue.ok.0)) c.loop-head.invariant.roots
+    let seen = c.loop-head.reach.seen.items in
+    let entries = c.loop-head.reach.queue.items in
+    let head = c.loop-head.head in
+    all_seen (g.V.View.image v) (g.V.View.places v) c.args.nodes.now seen entries head c.requires c.loop-head.invariant (subst (λ (o : Option ℕ). HasEnded seen entries head o) none (c.goes_on.ensures.over c.loop-head-test.false))
 
-pub returns-clause-seen : goal.returns-clause-seen
-returns-clause-seen g c =
-    are_seen (g.V.View.image c.args.view.now) c.args.nodes.now c.loop-head.reach.seen.items c.loop-head.reach.queue.items c.loop-head.head c.loop-head.invariant.search
-
-pub returns-clause-order : goal.returns-clause-order
-returns-clause-order g c = (Slot 0 c.loop-head.head, c.loop-head.invariant.ordered)
+pub returns-clause-found : goal.returns-clause-found
+returns-clause-found g c j some =
+    let v = c.args.view.now in
+    let seen = c.loop-head.reach.seen.items in
+    let entries = c.loop-head.reach.queue.items in
+    let head = c.loop-head.head in
+    searched_for (g.V.View.image v) (g.V.View.places v) c.args.nodes.now seen entries head j c.requires c.classes.ensures.limits c.loop-head.invariant (subst (λ (o : Option ℕ). HasEnded seen entries head o) some (c.goes_on.ensures.over c.loop-head-test.false))

@@ -65,25 +65,6 @@ pub(crate) fn search<V: View>(
     Ok(reach)
 }
 
-// Tells whether a search goes on that has looked at the slots of the first `head` entries.
-fn goes_on(reach: &Reach, head: usize, goal: Option<usize>) -> bool
-    ensures on { IsTrue result → head < length reach.now.queue.items }
-    ensures over { result ≡ false
-        → HasEnded reach.now.seen.items reach.now.queue.items head goal }
-{
-    head < reach.queue.len() && !is_found(reach.seen.as_slice(), goal)
-}
-
-// Tells whether a node was found. None is no node.
-pub(crate) fn is_found(seen: &[bool], node: Option<usize>) -> bool
-    ensures { result ≡ is_found seen.now node }
-{
-    match node {
-        Some(node) => node < seen.len() && seen[node],
-        None => false,
-    }
-}
-
 // Begins a search: finds what the registers name. Fails with NoMemory.
 fn begin<V: View>(alloc: Global, view: &V, nodes: &NodeList) -> Result<Reach, Refusal>
     requires { AreNodes (V.image view.now) (V.places view.now) nodes.now }
@@ -135,6 +116,15 @@ fn offer(nodes: &NodeList, reach: &mut Reach, id: u64, from: u32) -> Result<(), 
     Ok(())
 }
 
+// Tells whether a search goes on that has looked at the slots of the first `head` entries.
+fn goes_on(reach: &Reach, head: usize, goal: Option<usize>) -> bool
+    ensures on { IsTrue result → head < length reach.now.queue.items }
+    ensures over { result ≡ false
+        → HasEnded reach.now.seen.items reach.now.queue.items head goal }
+{
+    head < reach.queue.len() && !is_found(reach.seen.as_slice(), goal)
+}
+
 // Finds what the slots of an object name that was found. Fails with NoMemory.
 fn expand<V: View>(
     view: &V,
@@ -161,4 +151,14 @@ fn expand<V: View>(
         }
     }
     Ok(())
+}
+
+// Tells whether a node was found. None is no node.
+pub(crate) fn is_found(seen: &[bool], node: Option<usize>) -> bool
+    ensures { result ≡ is_found seen.now node }
+{
+    match node {
+        Some(node) => node < seen.len() && seen[node],
+        None => false,
+    }
 }

@@ -126,11 +126,9 @@ none_found image nodes entries goal x s there at r slots path =
     let c = path_found image s.queue (length slots + 1) r slots x d (omega arith) path in
     absent c.0 c.1 c.2 (same_node nodes x c.1.id goal c.1.node there (s.found.placed c.0 c.1 c.2) c.3)
   where
-    p : Entry → Bool
-    p e = e.node == goal
-
     absent : (k : ℕ) (g : Found) → slice_get s.queue k ≡ Some g → g.node ≡ goal → ⊥
     absent k g h n =
+        let p : Entry → Bool = λ e. e.node == goal in
         let e = entry_there entries s.queue k g s.found.kept h in
         let l = slice_get_within entries k (entry_of g) e in
         elim (cases_lt (position_or_len p entries) (length entries)) [

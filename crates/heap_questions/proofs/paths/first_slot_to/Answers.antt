@@ -27,7 +27,13 @@ loop-slot-preserved c t l =
     ]
 
 pub returns-then-words-slot+then-is_reference_slot : goal.returns-then-words-slot+then-is_reference_slot
-returns-then-words-slot+then-is_reference_slot c o k w = ?
+returns-then-words-slot+then-is_reference_slot c o k w =
+    let s = c.loop-slot.slot in
+    let words = c.args.words.now in
+    let p : DumpedObject = record { id = 0; kind = c.args.kind; words = words } in
+    let h : s < length words = omega arith in
+    let held = sym c.if-words-slot.true ∙ get_or_default words s 0 c.args.id h in
+    is_first_slot c.args.classes.now c.args.id o p s k w c.loop-slot.invariant (slot_is c.args.classes.now p s c.args.id h held (sym c.is_reference_slot.ensures ∙ c.if-is_reference_slot.true))
 
 pub returns : goal.returns
 returns c o k w =

@@ -7,7 +7,7 @@ use Rattle.heap_questions.specs.Referrers.{names_at}
 use Rattle.heap_questions.proofs.Looking.{slot_is}
 use Rattle.heap_questions.proofs.Passing.{no_reference, other_word}
 use Rattle.heap_questions.proofs.WaysBack.{is_first_slot, no_first_slot}
-use Rattle.heap_questions.proofs.paths.first_slot_to.Goals.{else-words-slot, else-words-slot-via-then-words-slot+else-is_reference_slot, else-words-slot-via-else-words-slot}
+use Rattle.heap_questions.proofs.paths.first_slot_to.Goals.{else-words-slot-via-then-words-slot+else-is_reference_slot, else-words-slot-via-else-words-slot}
 use Rattle.heap_questions.proofs.paths.first_slot_to.Goals as goal
 
 pub loop-slot-preserved : goal.loop-slot-preserved
@@ -26,8 +26,8 @@ loop-slot-preserved c t l =
       | inr n ↦ c.loop-slot.invariant t (omega (arith, l, n))
     ]
 
-pub returns-then-words-slot+then-is_reference_slot : goal.returns-then-words-slot+then-is_reference_slot
-returns-then-words-slot+then-is_reference_slot c o k w =
+pub returns-then-is_reference_slot : goal.returns-then-is_reference_slot
+returns-then-is_reference_slot c o k w =
     let s = c.loop-slot.slot in
     let words = c.args.words.now in
     let p : DumpedObject = record { id = 0; kind = c.args.kind; words = words } in

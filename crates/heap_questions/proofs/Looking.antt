@@ -201,17 +201,17 @@ entry_read image places nodes f e at kind words n there is p d many k w =
     let same : f.node ≡ e.node = ap (λ (e : Entry). e.node) is in
     read image places nodes f at kind words n there (λ m h. p m (ap (slice_get nodes) (sym same) ∙ h)) d many k w
 
--- slot by slot, of what an entry keeps
-pub record LooksAt (image : Image) (nodes : List Node) (head : ℕ) (e : Entry) (seen : List Bool) (entries : List Entry) (slot : ℕ) : Type 0 where
+-- slot by slot, of what the entry keeps that stood at `head` at the beginning
+pub record LooksAt (image : Image) (nodes : List Node) (head : ℕ) (started : List Entry) (seen : List Bool) (entries : List Entry) (slot : ℕ) : Type 0 where
   pub queue : List Found
   pub f : Found
   pub kept : AreEntries entries queue
-  pub is : entry_of f ≡ e
+  pub is : slice_get started head ≡ Some (entry_of f)
   pub looking : IsLooking image nodes head f seen queue slot
 
-pub looks_as : (image : Image) (nodes : List Node) (head : ℕ) (e : Entry) (seen others : List Bool) (entries same : List Entry) (slot : ℕ) → others ≡ seen → same ≡ entries → LooksAt image nodes head e seen entries slot → LooksAt image nodes head e others same slot
-looks_as image nodes head e seen others entries same slot a b l =
-    subst (λ (es : List Entry). LooksAt image nodes head e others es slot) (sym b) (subst (λ (m : List Bool). LooksAt image nodes head e m entries slot) (sym a) l)
+pub looks_as : (image : Image) (nodes : List Node) (head : ℕ) (started : List Entry) (seen others : List Bool) (entries same : List Entry) (slot : ℕ) → others ≡ seen → same ≡ entries → LooksAt image nodes head started seen entries slot → LooksAt image nodes head started others same slot
+looks_as image nodes head started seen others entries same slot a b l =
+    subst (λ (es : List Entry). LooksAt image nodes head started others es slot) (sym b) (subst (λ (m : List Bool). LooksAt image nodes head started m entries slot) (sym a) l)
 
 -- register by register
 pub record LooksAtRegisters (image : Image) (nodes : List Node) (seen : List Bool) (entries : List Entry) (r : ℕ) : Type 0 where

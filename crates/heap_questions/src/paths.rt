@@ -60,7 +60,7 @@ fn path_to<V: View>(
 {
     let reach = search(alloc, view, nodes, Some(goal))?;
     let queue = reach.queue.as_slice();
-    match place_in(queue, goal as u32) {
+    match place_in(queue, goal) {
         Some(index) => {
             let path = trace(alloc, view, nodes, queue, index)?;
             Ok(Some(path))
@@ -70,10 +70,10 @@ fn path_to<V: View>(
 }
 
 // Returns the place of a node in a queue, or None if it isn't there.
-fn place_in(queue: &[Entry], node: u32) -> Option<usize>
+fn place_in(queue: &[Entry], node: usize) -> Option<usize>
     ensures { result ≡ position (λ e. e.node == node) queue.now }
 {
-    queue.iter().position(|entry| entry.node == node)
+    queue.iter().position(|entry| entry.node as usize == node)
 }
 
 // Returns the path on which an object was found. The nodes must be the view's. Fails with NoMemory.

@@ -31,5 +31,5 @@ first_slot_to-requires g c =
 pub returns : goal.returns
 returns g c =
     let v = c.args.view.now in
-    first_naming (g.V.View.image v) (g.V.View.places v) c.args.nodes.now c.args.node c.args.named c.first_slot_to.result c.id-id.result c.place-at.result c.kind-kind.result c.words-words.result.now c.classes-classes.result.now
+    first_naming (g.V.View.image v) (g.V.View.places v) c.args.nodes.now c.args.node c.args.named c.first_slot_to.result c.id-id.result c.place-at.result c.kind-kind.result c.words-words.result.now c.classes-classes.result
     c.requires.nodes c.requires.node c.requires.named c.place-at.ensures c.id-id.ensures c.classes-classes.ensures.value c.classes-classes.ensures.limits c.classes-classes.ensures.placed c.kind-kind.ensures c.words-words.ensures c.first_slot_to.ensures

@@ -4,8 +4,8 @@ use Rattle.heap_questions.specs.declared.search.Entry.{Entry}
 use Rattle.heap_questions.proofs.FoundPaths.{none_found, path_traced}
 use Rattle.heap_questions.proofs.paths.path_to.Goals as goal
 
-pub trace-path-requires-clause-found : goal.trace-path-requires-clause-found
-trace-path-requires-clause-found g c =
+pub trace-requires-clause-found : goal.trace-requires-clause-found
+trace-requires-clause-found g c =
     let s = subst (λ (es : List Entry). HasSearchedFor (g.V.View.image c.args.view.now) c.args.nodes.now es c.args.goal) (sym c.as_slice-queue.ensures.value) (c.in_ok-reach.ensures.found c.args.goal refl) in
     (s.queue, s.found)
 

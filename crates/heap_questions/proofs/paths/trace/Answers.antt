@@ -6,14 +6,14 @@ use Rattle.heap_questions.specs.declared.search.Entry.{Entry}
 use Rattle.heap_questions.proofs.LongerLists.{got_same}
 use Rattle.heap_questions.proofs.Looking.{as_many_entries, found_of}
 use Rattle.heap_questions.proofs.NodePlaces.{node_within}
-use Rattle.heap_questions.proofs.TracedPaths.{goes_on, goes_on_ends}
+use Rattle.heap_questions.proofs.TracedPaths.{GoesOn, goes_on, goes_on_ends}
 use Rattle.heap_questions.proofs.WaysBack.{GoesOnFrom, by_register, goes_on_back, lower, parent_found}
 use Rattle.heap_questions.proofs.paths.trace.Goals as goal
 
 pub loop-here-init : goal.loop-here-init
 loop-here-init g c q i =
     let f = found_of c.args.queue.now q c.args.index c.entry_at-here.result i.kept c.entry_at-here.ensures in
-    (f.0, f.2, goes_on q c.args.index f.0 f.1)
+    (f.0, f.2, subst (GoesOn q c.args.index f.0) (sym c.new-slots.ensures.items) (goes_on q c.args.index f.0 f.1))
 
 pub entry_at-parent-requires : goal.entry_at-parent-requires
 entry_at-parent-requires g c =
@@ -22,16 +22,16 @@ entry_at-parent-requires g c =
     let p = parent_found (g.V.View.image c.args.view.now) c.args.nodes.now c.args.queue.now q c.args.index c.loop-here.here c.loop-here.slots.items i (c.loop-here.invariant q i) c.loop-here-test.true in
     slice_get_within c.args.queue.now (c.loop-here.here.from - 128) (entry_of p.by.other) p.there
 
-pub naming_slot-requires-clause-node : goal.naming_slot-requires-clause-node
-naming_slot-requires-clause-node g c =
+pub naming_slot-slot-requires-clause-node : goal.naming_slot-slot-requires-clause-node
+naming_slot-slot-requires-clause-node g c =
     let q = c.requires.found.0 in
     let i = c.requires.found.1 in
     let p = parent_found (g.V.View.image c.args.view.now) c.args.nodes.now c.args.queue.now q c.args.index c.loop-here.here c.loop-here.slots.items i (c.loop-here.invariant q i) c.loop-here-test.true in
     let same = got_same c.args.queue.now (c.loop-here.here.from - 128) (entry_of p.by.other) c.entry_at-parent.result p.there c.entry_at-parent.ensures in
     node_within c.args.nodes.now p.by.other.id c.entry_at-parent.result.node (i.placed p.by.parent p.by.other p.by.there ∙ ap (λ (e : Entry). Some e.node) same)
 
-pub naming_slot-requires-clause-named : goal.naming_slot-requires-clause-named
-naming_slot-requires-clause-named g c =
+pub naming_slot-slot-requires-clause-named : goal.naming_slot-slot-requires-clause-named
+naming_slot-slot-requires-clause-named g c =
     let q = c.requires.found.0 in
     let i = c.requires.found.1 in
     let v = c.loop-here.invariant q i in

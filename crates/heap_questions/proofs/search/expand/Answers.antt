@@ -1,14 +1,14 @@
 use Rattle.std.proofs.Common.{ℕ, List, ◌≡◌, ◌<◌, ◌+◌, length, get_or, sym, ap, ap₂, ◌∙◌, subst, arith}
 use Rattle.std.specs.Prelude.{Some}
 use Rattle.std.proofs.lemmas.List.{get_or_default}
-use Rattle.std.proofs.lemmas.Option.{slice_get_within}
+use Rattle.std.proofs.lemmas.Option.{same_Some, slice_get_within}
 use Rattle.hprof_text.specs.Image.{IsKnown}
 use Rattle.hprof_text.proofs.ViewedObjects.{is_there}
 use Rattle.heap_questions.specs.Graph.{slot_refers}
-use Rattle.heap_questions.specs.Search.{Slot}
+use Rattle.heap_questions.specs.Search.{Slot, entry_of}
 use Rattle.heap_questions.specs.declared.search.Entry.{Entry}
 use Rattle.heap_questions.specs.declared.search.Reach.{Reach}
-use Rattle.heap_questions.proofs.Looking.{entered, entry_here, entry_read, entry_stands, found_of, looking_begins, looked_at, looked_past, looked_through, looks_as, named_is, slot_is, slot_is_none}
+use Rattle.heap_questions.proofs.Looking.{entered, entry_here, entry_read, entry_stands, entry_there, found_of, looking_begins, looked_at, looked_past, looked_through, looks_as, named_is, slot_is, slot_is_none}
 use Rattle.heap_questions.proofs.NodePlaces.{node_within}
 use Rattle.heap_questions.proofs.SearchOrder.{next_head, ordered_next}
 use Rattle.heap_questions.proofs.Searching.{near_next}
@@ -49,7 +49,7 @@ loop-slot-init g c =
       queue = s.queue;
       f = f.0;
       kept = s.kept;
-      is = f.2;
+      is = entry_there c.args.reach.now.queue.items s.queue c.args.head f.0 s.kept f.1;
       looking = looking_begins (g.V.View.image c.args.view.now) c.args.nodes.now s.queue c.args.head f.0 c.args.reach.now.seen.items s.search s.near s.roots s.ordered f.1;
     }
 
@@ -73,7 +73,8 @@ loop-slot-preserved g c =
     let i = c.loop-slot.invariant in
     let f = i.f in
     let there = i.looking.search.placed head f i.looking.here in
-    let r = entry_read image places nodes f e c.place-at.result c.kind-kind.result c.words-words.result.now c.requires.nodes there i.is c.place-at.ensures
+    let same = same_Some (entry_of f) e (sym i.is ∙ entry_here _ _ head e c.as_slice.ensures.value c.entry_at-found.ensures) in
+    let r = entry_read image places nodes f e c.place-at.result c.kind-kind.result c.words-words.result.now c.requires.nodes there same c.place-at.ensures
     c.classes-classes.ensures.limits c.classes-classes.ensures.placed c.kind-kind.ensures c.words-words.ensures in
     let words = c.words-words.result.now in
     let s = c.loop-slot.slot in
@@ -84,7 +85,7 @@ loop-slot-preserved g c =
     elim c.if-is_reference_slot.branch [
       | then-is_reference_slot+in_ok-offer w ↦
           let o = entered nodes x (f.depth + 1) (Slot s head) c.loop-slot.reach.seen.items c.loop-slot.reach.queue.items i.queue w.offer.new.reach.seen.items w.offer.new.reach.queue.items i.kept w.in_ok-offer.ensures.done in
-          looks_as image nodes head e w.offer.new.reach.seen.items c.if-is_reference_slot.reach.seen.items w.offer.new.reach.queue.items c.if-is_reference_slot.reach.queue.items (s + 1)
+          looks_as image nodes head c.args.reach.now.queue.items w.offer.new.reach.seen.items c.if-is_reference_slot.reach.seen.items w.offer.new.reach.queue.items c.if-is_reference_slot.reach.queue.items (s + 1)
           (ap (λ (r : Reach). r.seen.items) w.reach-is) (ap (λ (r : Reach). r.queue.items) w.reach-is)
           (record {
             queue = o.0;
@@ -95,7 +96,7 @@ loop-slot-preserved g c =
                 (named_is image f.id s r.object r.there ∙ slot_is image.classes r.object s x (omega (arith, lt, r.many)) xe (sym re ∙ w.if-is_reference_slot.true)) o.2;
           })
       | else-is_reference_slot w ↦
-          looks_as image nodes head e c.loop-slot.reach.seen.items c.if-is_reference_slot.reach.seen.items c.loop-slot.reach.queue.items c.if-is_reference_slot.reach.queue.items (s + 1)
+          looks_as image nodes head c.args.reach.now.queue.items c.loop-slot.reach.seen.items c.if-is_reference_slot.reach.seen.items c.loop-slot.reach.queue.items c.if-is_reference_slot.reach.queue.items (s + 1)
           (ap (λ (r : Reach). r.seen.items) w.reach-is) (ap (λ (r : Reach). r.queue.items) w.reach-is)
           (record {
             queue = i.queue;
@@ -116,7 +117,8 @@ returns-clause-search g c =
     let i = c.loop-slot.invariant in
     let f = i.f in
     let there = i.looking.search.placed head f i.looking.here in
-    let r = entry_read image (g.V.View.places c.args.view.now) nodes f e c.place-at.result c.kind-kind.result c.words-words.result.now c.requires.nodes there i.is c.place-at.ensures
+    let same = same_Some (entry_of f) e (sym i.is ∙ entry_here _ _ head e c.as_slice.ensures.value c.entry_at-found.ensures) in
+    let r = entry_read image (g.V.View.places c.args.view.now) nodes f e c.place-at.result c.kind-kind.result c.words-words.result.now c.requires.nodes there same c.place-at.ensures
     c.classes-classes.ensures.limits c.classes-classes.ensures.placed c.kind-kind.ensures c.words-words.ensures in
     let s = c.loop-slot.slot in
     record {

@@ -1,5 +1,5 @@
 -- Paths and what was found.
-use Rattle.std.proofs.Common.{append_assoc, ◌≡◌, ℕ, ◌+◌, ◌<◌, ◌≤◌, List, [], ◌∷◌, ◌++◌, length, refl, sym, ap, ◌∙◌, subst, arith, rules}
+use Rattle.std.proofs.Common.{append_assoc, ◌≡◌, ℕ, ◌+◌, ◌<◌, List, [], ◌∷◌, ◌++◌, length, refl, sym, ap, ◌∙◌, subst, arith, rules}
 use Rattle.std.specs.Prelude.{slice_get, Option, Some, None, IsSome, option_and_then, reverse}
 use Rattle.std.proofs.lemmas.Option.{none-some, same_Some}
 use Rattle.hprof_text.specs.Image.{Image}

@@ -1,5 +1,5 @@
 -- The way back from what a search found, entry by entry.
-use Rattle.std.proofs.Common.{◌≡◌, ◌≢◌, ℕ, ◌+◌, ◌-◌, ◌<◌, ◌≤◌, ◌++◌, ◌∷◌, [], Bool, true, false, cond, List, length, refl, sym, ap, ap₂, ◌∙◌, subst, inl, inr, arith}
+use Rattle.std.proofs.Common.{◌≡◌, ◌≢◌, ℕ, ◌+◌, ◌-◌, ◌<◌, ◌≤◌, ◌++◌, ◌∷◌, [], true, false, cond, List, length, refl, sym, ap, ap₂, ◌∙◌, subst, inl, inr, arith}
 use Rattle.std.specs.Prelude.{slice_get, Option, Some, None, IfSome, ◌==◌}
 use Rattle.std.specs.Option.{option_map_or}
 use Rattle.std.proofs.lemmas.Bool.{cases_lt, eq-eqb, true≢false}
@@ -12,7 +12,7 @@ use Rattle.hprof_text.proofs.Loops.{item_of_list_within}
 use Rattle.hprof_text.proofs.ViewedObjects.{here}
 use Rattle.heap_questions.specs.Graph.{named, slot_names, slot_refers}
 use Rattle.heap_questions.specs.Referrers.{names_at}
-use Rattle.heap_questions.specs.Search.{AreNodes, Earlier, Found, IsFirstNaming, IsFirstSlotTo, IsQueueOf, IsReachedBy, Register, Slot, Via, entry_of, from_via, node_with}
+use Rattle.heap_questions.specs.Search.{AreNodes, Earlier, Found, IsFirstNaming, IsFirstSlotTo, IsQueueOf, IsReachedBy, Register, Slot, Via, entry_of, from_via}
 use Rattle.heap_questions.specs.declared.nodes.Node.{Node}
 use Rattle.heap_questions.specs.declared.search.Entry.{Entry}
 use Rattle.heap_questions.proofs.LongerLists.{got_same}

@@ -1,10 +1,10 @@
-use Rattle.std.proofs.Common.{ℕ, List, ◌≡◌, ◌-◌, sym, ap, ◌∙◌, subst, arith}
-use Rattle.std.specs.Prelude.{slice_get, Some}
+use Rattle.std.proofs.Common.{◌-◌, sym, ap, ◌∙◌, subst}
+use Rattle.std.specs.Prelude.{Some}
 use Rattle.std.proofs.lemmas.Option.{slice_get_within}
-use Rattle.heap_questions.specs.Search.{Found, entry_of}
+use Rattle.heap_questions.specs.Search.{entry_of}
 use Rattle.heap_questions.specs.declared.search.Entry.{Entry}
 use Rattle.heap_questions.proofs.LongerLists.{got_same}
-use Rattle.heap_questions.proofs.Looking.{as_many_entries, found_of}
+use Rattle.heap_questions.proofs.Looking.{found_of}
 use Rattle.heap_questions.proofs.NodePlaces.{node_within}
 use Rattle.heap_questions.proofs.TracedPaths.{GoesOn, goes_on, goes_on_ends}
 use Rattle.heap_questions.proofs.WaysBack.{GoesOnFrom, by_register, goes_on_back, lower, parent_found}

@@ -1,4 +1,4 @@
-use Rattle.std.proofs.Common.{Option, ℕ, arith, subst, ap, sym}
+use Rattle.std.proofs.Common.{Option, ℕ, arith, subst}
 use Rattle.heap_questions.specs.Search.{HasEnded}
 use Rattle.heap_questions.proofs.FoundPaths.{all_seen, searched_for}
 use Rattle.heap_questions.proofs.Looking.{as_many_entries}

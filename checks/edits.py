@@ -4,9 +4,11 @@
 Usage: checks/edits.py fit                  checks that each edit can be applied, in crates/*/must-fail/ and in edits/
        checks/edits.py try [CRATE[/EDIT] ..] has the prover refuse edits of edits/: all, or those of a crate, or single ones
 
-`try` works in copies of this tree, over what earlier checks here kept, three crates at a time. It puts edits of different
-functions into one copy and has these functions checked at once. The environment's CHECK is the command that does so, run in the
-crate's folder: `rt check` where it isn't set."""
+`try` works in copies of this tree, over the libraries that `make test` or `make prove` left here, three crates at a time. It puts
+edits of different functions into one copy and has these functions checked at once. An edit that changes a contract, a definition
+or a constant goes into a copy alone, and the whole crate is checked: a function that calls the edited one may refuse it, and the
+edit is let through only where all functions are proved. The environment's CHECK is the command that checks, run in the crate's
+folder: `checks/over_built.py` where it isn't set."""
 import concurrent.futures
 import os
 import pathlib
@@ -17,8 +19,10 @@ import sys
 import tempfile
 import time
 
+import over_built
+
 TOP = pathlib.Path(__file__).resolve().parent.parent
-CHECK = os.environ.get("CHECK", "rt check").split()
+CHECK = os.environ["CHECK"].split() if "CHECK" in os.environ else [sys.executable, over_built.__file__]
 PROVERS = 3
 # The most edits that are checked at once.
 ROUND = 40
@@ -27,15 +31,17 @@ FUNCTION = re.compile(r"^( *)(?:pub(?:\(\w+\))? )?(?:const |unsafe )*fn (\w+)", 
 OWNER = re.compile(r"^(?:pub(?:\(\w+\))? )?(?:impl|trait)\b.*", re.MULTILINE)
 # An error that only says that a proof cites a name which the edit took away, or what such an error leads to.
 LOST_NAME = re.compile(r"has no field|is not in scope|has no `|was not admitted|which was rejected|: module `[^`]*`$")
+# What is said of a function that is proved: `fn NAME: proved`, or `fn NAME: proved, may wait`.
+PROVED = re.compile(r"fn \S+: proved(, .*)?$")
 PLACE = re.compile(r"(?:\./)?(src/\S+?):(\d+):\d+: error\[")
 
 
 class Edit:
-    """An edit, with the functions and the lines that it changes. It goes alone where it changes more than bodies."""
+    """An edit, with the lines that it changes, and the functions whose bodies it changes: none where it changes more than bodies."""
 
     def __init__(self, path, crate):
         self.path, self.crate, self.name = path, crate, f"{crate}/{path.stem}"
-        self.pairs, self.functions, self.lines, self.alone = [], set(), set(), False
+        self.pairs, self.functions, self.lines = [], set(), set()
         file = old = None
         for line in path.read_text().splitlines():
             key, _, text = line.partition(": ")
@@ -49,14 +55,16 @@ class Edit:
 
     def place(self, texts):
         """Finds what the edit changes in the texts of its crate's files."""
+        only_bodies = True
         for file, old, new in self.pairs:
             at = texts[file].find(old)
             self.lines.add((file, texts[file].count("\n", 0, at) + 1))
             function, in_body = function_at(file, texts[file], at)
             if function:
                 self.functions.add(function)
-            self.alone |= not in_body and old not in new and not old.startswith("use ")
-        self.alone |= not self.functions
+            only_bodies &= in_body or old in new or old.startswith("use ")
+        if not only_bodies:
+            self.functions.clear()
 
     def misfit(self, texts):
         """Applies the edit to the texts of a crate's files. Returns why it can't be applied; None where it can."""
@@ -130,10 +138,10 @@ def fit():
 
 
 def rounds_of(edits):
-    """Returns the edits in rounds, such that no two edits of a round change one function."""
+    """Returns the edits in rounds, such that no two edits of a round change one function. An edit of more than bodies goes alone."""
     rounds = []
     for edit in edits:
-        free = (it for it in rounds if len(it) < ROUND and not edit.alone and not it[0].alone
+        free = (it for it in rounds if len(it) < ROUND and edit.functions and it[0].functions
                 and not any(edit.functions & other.functions for other in it))
         found = next(free, None)
         if found is None:
@@ -178,9 +186,10 @@ def verdict(functions, said):
         return REFUSED, goals[0]
     if errors:
         return BAD, f"a proof cites a name that the edit took away: {errors[0]}"
-    if states and all(it.endswith(": proved") for it in states):
-        return LET_THROUGH, states[0]
-    return UNCLEAR, next((it for it in states if not it.endswith(": proved")), said[-1] if said else "nothing was said")
+    unproved = [it for it in states if not PROVED.match(it)]
+    if states and not unproved:
+        return LET_THROUGH, states[0] if functions else f"all {len(states)} functions are proved"
+    return UNCLEAR, (unproved or said[-1:] or ["nothing was said"])[0]
 
 
 def prover_fates(edits, said):
@@ -248,6 +257,10 @@ def try_all(words):
     by_crate = {}
     for edit in chosen:
         by_crate.setdefault(edit.crate, []).append(edit)
+    missing = [] if "CHECK" in os.environ else over_built.lacking(by_crate)
+    if missing:
+        print(over_built.NEEDS.format(", ".join(missing)))
+        return 2
     with concurrent.futures.ThreadPoolExecutor(PROVERS) as pool:
         return 0 if all(list(pool.map(try_crate, by_crate, by_crate.values()))) else 1
 

@@ -5,7 +5,7 @@ use Rattle.hprof_reader.specs.Fields.{static_told}
 use Rattle.hprof_plan.specs.Right.{AreRight}
 use Rattle.hprof_plan.specs.Tables.{names_told}
 use Rattle.hprof_plan.proofs.NotRefused.{static_right, length-static_named}
-use Rattle.hprof_plan.proofs.planning.plan_static_class.Goals as goal
+use Rattle.hprof_plan.proofs.static_classes.plan_static_class.Goals as goal
 
 pub define_class-requires : goal.define_class-requires
 define_class-requires c =

@@ -11,6 +11,7 @@ use Rattle.std.proofs.lemmas.Bool.{le-ltb, lt-ltb, ltb-false, ltb-true}
 use Rattle.std.proofs.lemmas.List.{append-nil, length-append, length-map, map-append, take_all, take_min}
 use Rattle.std.proofs.lemmas.List.Elements.{filter-append}
 use Rattle.std.proofs.lemmas.List.Sums.{fold-append}
+use Rattle.std.proofs.lemmas.Map.Entries.{length-keys_of}
 use Rattle.heap_class.specs.declared.ClassLimits.{ClassLimits}
 use Rattle.heap_class.specs.declared.Field.{Field}
 use Rattle.heap_class.specs.declared.Kind.{Kind}
@@ -23,9 +24,9 @@ use Rattle.hprof_plan.specs.Accepted.{next_name}
 use Rattle.hprof_plan.specs.ClassFields.{own_named}
 use Rattle.hprof_plan.specs.Defined.{AreDefined}
 use Rattle.hprof_plan.specs.Fields.{own_fields, static_fields}
-use Rattle.hprof_plan.specs.Plans.{IsPlanned, kinds_told, statics_told}
-use Rattle.hprof_plan.specs.SessionClasses.{and_arrays, and_statics, class_after, class_at, dump_classes, field_room, fields_in, instance_after, instance_number, is_array_in, kinds_in, name_in, names_object, static_class, static_if, statics_in, super_after, with_objects}
-use Rattle.hprof_plan.specs.Tables.{names_told}
+use Rattle.hprof_plan.specs.Plans.{IsPlanned, kinds_told, planned_classes, planned_ids, planned_statics, statics_told}
+use Rattle.hprof_plan.specs.SessionClasses.{and_arrays, and_statics, root_names, class_after, class_at, dump_classes, field_room, fields_in, instance_after, instance_number, is_array_in, kinds_in, name_in, names_object, static_class, static_if, statics_in, super_after, with_objects}
+use Rattle.hprof_plan.specs.Tables.{classes_told, names_told}
 use Rattle.hprof_plan.specs.declared.dump.Found.{Found}
 use Rattle.hprof_plan.specs.declared.dump_classes.Planned.{Planned}
 use Rattle.hprof_plan.specs.declared.planning.Statics.{Statics}
@@ -276,3 +277,27 @@ module _ (limits : ClassLimits) (f : Found) where
   next_array old classes new names k n at so_far more =
       more ∙ ap (λ (cs : List Class). cs ++ array_class (next_name limits cs n) ∷ []) so_far
       ∙ sym (arrays_and old (take k names) n) ∙ ap (and_arrays limits old) (sym (one_taken names k n (sym at)))
+
+  -- ---- the plan
+
+  module _ (p : Planned) (planned : IsPlanned limits (limits.classes - 10) f p) (ids : keys_of p.kinds.entries ≡ planned_ids limits f) where
+    as_many_numbered : length p.defined.classes ≡ length (planned_ids limits f)
+    as_many_numbered = sym planned.counted ∙ sym (length-keys_of p.kinds.entries) ∙ ap length ids
+
+    pub kinds_as_planned : kinds_told p.kinds.entries ≡ map (λ (id : ℕ). (id, kinds_in f id)) (planned_ids limits f)
+    kinds_as_planned = planned.kinds ∙ ap (map (λ (id : ℕ). (id, kinds_in f id))) ids
+
+    pub statics_as_planned : (statics : List (ℕ × List StaticTold))
+        → statics ≡ take (limits.classes - 10 - length p.defined.classes) (with_objects f (keys_of (classes_told f.classes.entries)))
+        → statics ≡ planned_statics limits f
+    statics_as_planned statics are =
+        are ∙ ap (λ (n : ℕ). take (limits.classes - 10 - n) (with_objects f (keys_of (classes_told f.classes.entries)))) as_many_numbered
+
+    pub classes_as_planned : (statics : List (ℕ × List StaticTold)) (with_them all : List Class) → statics ≡ planned_statics limits f
+        → with_them ≡ and_statics limits f p.defined.classes statics → all ≡ and_arrays limits with_them root_names → all ≡ planned_classes limits f
+    classes_as_planned statics with_them all are them whole =
+        whole
+        ∙ ap (λ (cs : List Class). and_arrays limits cs root_names)
+        (them
+        ∙ ap (λ (cs : List Class). and_statics limits f cs statics) (planned.classes ∙ ap (λ (l : List ℕ). values_of (dump_classes limits f l)) ids)
+        ∙ ap (and_statics limits f (values_of (dump_classes limits f (planned_ids limits f)))) are)

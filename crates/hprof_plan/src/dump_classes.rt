@@ -47,17 +47,6 @@ pub(crate) fn plan_dump(
     Ok(planned)
 }
 
-/// Returns the id of class i of the dump.
-pub(crate) fn class_id(found: &Found<'_>, i: usize) -> u64
-    requires { i < length found.now.classes.entries }
-    ensures { slice_get (keys_of (classes_told found.now.classes.entries)) i ≡ Some result }
-{
-    match found.classes.get_index(i) {
-        Some((id, _dump)) => *id,
-        None => 0,
-    }
-}
-
 // Returns no classes.
 fn none_planned(alloc: Global, limits: ClassLimits, room: u64, found: &Found<'_>) -> Planned
     ensures planned { IsPlanned limits room found.now result }
@@ -289,5 +278,16 @@ fn room_under(classes: &Classes, sup: Option<ClassNo>) -> usize
     match sup {
         Some(class) => SLOT_LIMIT - classes.slots(class).len(),
         None => SLOT_LIMIT,
+    }
+}
+
+/// Returns the id of class i of the dump.
+pub(crate) fn class_id(found: &Found<'_>, i: usize) -> u64
+    requires { i < length found.now.classes.entries }
+    ensures { slice_get (keys_of (classes_told found.now.classes.entries)) i ≡ Some result }
+{
+    match found.classes.get_index(i) {
+        Some((id, _dump)) => *id,
+        None => 0,
     }
 }

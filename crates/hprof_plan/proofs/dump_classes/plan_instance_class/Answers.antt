@@ -1,4 +1,4 @@
-use Rattle.std.proofs.Common.{◌≡◌, ◌≤◌, arith, ap, length, subst, sym, List, ℕ, ◌∙◌}
+use Rattle.std.proofs.Common.{◌≡◌, ◌≤◌, arith, ap, length, map, subst, sym, List, ℕ, ◌∙◌}
 use Rattle.std.specs.Map.{keys_of}
 use Rattle.heap_class.specs.declared.Field.{Field}
 use Rattle.heap_class.specs.Classes.{instance_class}
@@ -36,14 +36,14 @@ returns-clause-planned c =
     let names = names_told f.names.entries in
     let sup = c.super_of-sup.result in
     let room : c.room_under.result ≡ field_room classes sup = omega (arith, c.room_under.ensures) in
-    let own = c.as_slice.ensures.value ∙ c.truncate.ensures.items ∙ kept_are _ _ _ _ _ _ c.min-kept.ensures c.len.ensures.len room c.in_ok-own.ensures in
+    let own = c.as_slice.ensures.value ∙ c.truncate.ensures.items ∙ kept_are _ _ _ _ _ _ c.min-kept.ensures c.len.ensures room c.in_ok-own.ensures in
     planned_and c.args.limits f c.args.room c.args.planned.now _ c.args.id _ c.in_ok-kinds.kinds c.requires.state c.in_ok-define_class.ensures.defined c.in_ok-define_class.ensures.class
     (ap (λ (n : List ℕ). instance_class (next_name c.args.limits classes n) sup c.from_vec.result) c.class_name_at.ensures
     ∙ instance_is c.args.limits f (keys_of c.args.planned.now.kinds.entries) c.args.id classes (class_told c.args.dump.now) sup c.from_vec.result
     c.requires.state.classes c.requires.instance c.requires.class c.super_of-sup.ensures.number
     (c.from_vec.ensures ∙ c.in_ok-fields.ensures ∙ ap (λ (fs : List OwnField). own_named c.args.limits names fs) own))
     (c.in_ok-insert.ensures.entries ∙ insert_entry-new _ c.args.planned.now.kinds c.args.id c.in_ok-kinds.kinds c.requires.new)
-    (c.in_ok-kinds.ensures ∙ ap _ c.in_ok-own.ensures ∙ kinds_are f c.args.id (class_told c.args.dump.now) c.requires.instance c.requires.class)
+    (c.in_ok-kinds.ensures ∙ ap (map (λ (g : OwnField). g.kind)) (c.deref.ensures.value ∙ c.in_ok-own.ensures) ∙ kinds_are f c.args.id (class_told c.args.dump.now) c.requires.instance c.requires.class)
     c.requires.few
 
 pub returns-clause-numbers : goal.returns-clause-numbers

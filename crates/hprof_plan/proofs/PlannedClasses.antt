@@ -112,6 +112,24 @@ module _ (f : Found) where
   one_static room classes id named few =
       ap (λ (b : Bool). chosen (b && nat_lt (length classes) room) id) named ∙ ap (λ (b : Bool). chosen b id) (lt-ltb (length classes) room few)
 
+-- ---- classes of roots
+
+module _ (limits : ClassLimits) where
+  pub arrays_none : (classes : List Class) → and_arrays limits classes [] ≡ classes
+  unfolding and_arrays
+  arrays_none classes = refl
+
+  pub arrays_and : (classes : List Class) (names : List (List ℕ)) (n : List ℕ) → and_arrays limits classes (names ++ n ∷ [])
+      ≡ and_arrays limits classes names ++ array_class (next_name limits (and_arrays limits classes names) n) ∷ []
+  unfolding and_arrays
+  arrays_and classes names n = fold-append (λ (done : List Class) (x : List ℕ). done ++ array_class (next_name limits done x) ∷ []) classes names (n ∷ [])
+
+  pub next_array : (old classes new : List Class) (names : List (List ℕ)) (k : ℕ) (n : List ℕ) → slice_get names k ≡ Some n → classes ≡ and_arrays limits old (take k names)
+      → new ≡ classes ++ array_class (next_name limits classes n) ∷ [] → new ≡ and_arrays limits old (take (k + 1) names)
+  next_array old classes new names k n at so_far more =
+      more ∙ ap (λ (cs : List Class). cs ++ array_class (next_name limits cs n) ∷ []) so_far
+      ∙ sym (arrays_and old (take k names) n) ∙ ap (and_arrays limits old) (sym (one_taken names k n (sym at)))
+
 -- ---- classes, one after another
 
 module _ (limits : ClassLimits) (f : Found) where
@@ -260,23 +278,6 @@ module _ (limits : ClassLimits) (f : Found) where
   pub statics_one_more : (classes : List Class) (e : ℕ × List StaticTold) → and_statics limits f classes (e ∷ []) ≡ classes ++ static_class limits f classes e ∷ []
   unfolding and_statics
   statics_one_more classes e = refl
-
-  -- ---- classes of roots
-
-  pub arrays_none : (classes : List Class) → and_arrays limits classes [] ≡ classes
-  unfolding and_arrays
-  arrays_none classes = refl
-
-  pub arrays_and : (classes : List Class) (names : List (List ℕ)) (n : List ℕ) → and_arrays limits classes (names ++ n ∷ [])
-      ≡ and_arrays limits classes names ++ array_class (next_name limits (and_arrays limits classes names) n) ∷ []
-  unfolding and_arrays
-  arrays_and classes names n = fold-append (λ (done : List Class) (x : List ℕ). done ++ array_class (next_name limits done x) ∷ []) classes names (n ∷ [])
-
-  pub next_array : (old classes new : List Class) (names : List (List ℕ)) (k : ℕ) (n : List ℕ) → slice_get names k ≡ Some n → classes ≡ and_arrays limits old (take k names)
-      → new ≡ classes ++ array_class (next_name limits classes n) ∷ [] → new ≡ and_arrays limits old (take (k + 1) names)
-  next_array old classes new names k n at so_far more =
-      more ∙ ap (λ (cs : List Class). cs ++ array_class (next_name limits cs n) ∷ []) so_far
-      ∙ sym (arrays_and old (take k names) n) ∙ ap (and_arrays limits old) (sym (one_taken names k n (sym at)))
 
   -- ---- the plan
 

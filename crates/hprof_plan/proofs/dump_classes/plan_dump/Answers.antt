@@ -21,4 +21,4 @@ loop-i-preserved c = record {
 pub returns-clause-numbers : goal.returns-clause-numbers
 returns-clause-numbers c =
     all_lines c.args.room (classes_told c.args.found.now.classes.entries) (keys_of (classes_told c.args.found.now.classes.entries)) (keys_of c.loop-i.planned.kinds.entries) c.loop-i.i
-    (omega (arith, c.loop-i-test.false, c.len-end.ensures.len, as_many_ids c.args.found.now.classes.entries)) refl c.loop-i.invariant.numbers
+    (omega (arith, c.loop-i-test.false, c.len-i-end.ensures.len, as_many_ids c.args.found.now.classes.entries)) refl c.loop-i.invariant.numbers

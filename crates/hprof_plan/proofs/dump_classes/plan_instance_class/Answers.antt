@@ -36,7 +36,7 @@ returns-clause-planned c =
     let names = names_told f.names.entries in
     let sup = c.super_of-sup.result in
     let room : c.room_under.result ≡ field_room classes sup = omega (arith, c.room_under.ensures) in
-    let own = c.as_slice.ensures.value ∙ c.truncate.ensures.items ∙ kept_are _ _ _ _ _ _ c.min-kept.ensures c.len.ensures room c.in_ok-own.ensures in
+    let own = c.as_slice.ensures.value ∙ c.truncate.ensures.items ∙ kept_are _ c.len.result c.room_under.result _ c.in_ok-own.own.items _ c.min-kept.ensures (omega (arith, c.len.ensures)) room c.in_ok-own.ensures in
     planned_and c.args.limits f c.args.room c.args.planned.now _ c.args.id _ c.in_ok-kinds.kinds c.requires.state c.in_ok-define_class.ensures.defined c.in_ok-define_class.ensures.class
     (ap (λ (n : List ℕ). instance_class (next_name c.args.limits classes n) sup c.from_vec.result) c.class_name_at.ensures
     ∙ instance_is c.args.limits f (keys_of c.args.planned.now.kinds.entries) c.args.id classes (class_told c.args.dump.now) sup c.from_vec.result

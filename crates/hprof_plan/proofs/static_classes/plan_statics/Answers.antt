@@ -25,7 +25,7 @@ loop-i-preserved c = record {
 pub returns-clause-statics : goal.returns-clause-statics
 returns-clause-statics c =
     statics_all c.args.limits c.args.found.now c.args.room (keys_of (classes_told c.args.found.now.classes.entries)) c.args.defined.now.classes c.loop-i.i c.loop-i.defined.classes (statics_told c.loop-i.statics.items)
-    (omega (arith, c.loop-i-test.false, c.len-end.ensures.len, as_many_ids c.args.found.now.classes.entries)) c.loop-i.invariant.statics
+    (omega (arith, c.loop-i-test.false, c.len-i-end.ensures.len, as_many_ids c.args.found.now.classes.entries)) c.loop-i.invariant.statics
 
 pub returns-clause-classes : goal.returns-clause-classes
 returns-clause-classes c = c.loop-i.invariant.statics.classes_are

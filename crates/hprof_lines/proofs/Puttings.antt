@@ -90,7 +90,7 @@ putting_stopped old now lines rest all so_far = record {
   parts = sym so_far.left;
   left = omega arith;
   out = so_far.put.out;
-  failures = so_far.put.failures;
+  failures = omega (arith, so_far.put.failures);
 }
 
 -- the last lines are put out, or not all of them

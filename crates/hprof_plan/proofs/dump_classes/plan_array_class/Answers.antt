@@ -1,4 +1,4 @@
-use Rattle.std.proofs.Common.{arith, ap, sym, ◌∙◌, List, ℕ}
+use Rattle.std.proofs.Common.{arith, ap, ◌∙◌, List, ℕ}
 use Rattle.std.specs.Map.{keys_of}
 use Rattle.heap_class.specs.Classes.{array_class}
 use Rattle.indexmap.proofs.CallerLemmas.{insert_entry-new}

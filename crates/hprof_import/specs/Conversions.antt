@@ -11,7 +11,7 @@ use Rattle.hprof_lines.specs.Outputs.{Puts}
 use Rattle.hprof_lines.specs.Passes.{IsWhole}
 use Rattle.hprof_lines.specs.Sessions.{session_text}
 
--- the session of all items that this walk comes to was put out, by what is found in them and by a plan of its classes for a
+-- the session of all items that this walk comes to was put out, by what is found in them and by the plan of its classes for a
 -- wide heap
 pub record IsConverted (w : Left) (old new : Outgoing) : Type 0 where
   pub items : List ItemTold
@@ -19,5 +19,5 @@ pub record IsConverted (w : Left) (old new : Outgoing) : Type 0 where
   pub found : Found
   pub finds : Finds w found
   pub plan : Plan
-  pub planned : IsPlan widest_classes plan
+  pub planned : IsPlan widest_classes found plan
   pub put : Puts old new (session_text plan w.ids found.objects.keys items found.roots.items)

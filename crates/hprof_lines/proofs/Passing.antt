@@ -80,7 +80,7 @@ passing_more pass o i w v lines lines' left old now now' it items p first more s
 
 pub passing_failed : (pass : Pass) (o : ObjectsTold) (i : ℕ) (w v : Left) (lines lines' : List ℕ) (old now now' : Outgoing) (it : ItemTold) (items : List ItemTold)
     (p : IsPassing pass o i w lines old now items) → HasFirst p.rest it v → lines' ≡ lines ++ lines_of (item_events pass o i it)
-    → PutsPart now now' lines' → PutsPart old now' (lines_of (pass_events pass o 0 items))
+    → PutsPart 1 now now' lines' → PutsPart 1 old now' (lines_of (pass_events pass o 0 items))
 unfolding pass_events
 passing_failed pass o i w v lines lines' old now now' it items p first more part =
     let all = lines_of (pass_events pass o 0 items) in
@@ -90,7 +90,7 @@ passing_failed pass o i w v lines lines' old now now' it items p first more part
     putting_failed old now now' lines' others all (putting_more old now lines lines' next others all so_far more) part
 
 pub passing_stopped : (pass : Pass) (o : ObjectsTold) (i : ℕ) (w : Left) (lines : List ℕ) (old now : Outgoing) (items : List ItemTold)
-    → IsPassing pass o i w lines old now items → PutsPart old now (lines_of (pass_events pass o 0 items))
+    → IsPassing pass o i w lines old now items → PutsPart 0 old now (lines_of (pass_events pass o 0 items))
 passing_stopped pass o i w lines old now items p =
     putting_stopped old now lines (pass_events pass o i p.rest) (lines_of (pass_events pass o 0 items)) p.putting
 

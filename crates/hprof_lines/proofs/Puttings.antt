@@ -3,7 +3,7 @@ use Rattle.std.proofs.Common.{◌≡◌, ℕ, ◌+◌, ◌<◌, ◌≤◌, Bool,
 use Rattle.std.specs.Prelude.{flat_map}
 use Rattle.std.specs.declared.alloc.AllocError.{AllocError}
 use Rattle.std.proofs.lemmas.Grind.{flat_map-append}
-use Rattle.std.proofs.lemmas.List.{append-nil, take-append-drop, take_all, take_more}
+use Rattle.std.proofs.lemmas.List.{append-nil, length-append, length-drop, take-append-drop, take_all, take_more}
 use Rattle.dump_pump.specs.Outlets.{Outgoing}
 use Rattle.dump_pump.specs.Pumps.{PutsAll}
 use Rattle.heap_step.specs.declared.Event.{Event}
@@ -62,9 +62,12 @@ putting_last old now now' lines rest all none so_far put =
     let whole : so_far.front ++ lines ≡ all = ap (λ (ls : List ℕ). so_far.front ++ ls) (sym (append-nil lines)) ∙ sym (ap (λ (es : List Event). so_far.front ++ (lines ++ lines_of es)) none) ∙ so_far.left in
     record { out = both.out ∙ ap (λ (t : List ℕ). old.out ++ t) whole; failures = both.failures }
 
+longer : (xs ys : List ℕ) (n : ℕ) → n ≤ length xs → n ≤ length (xs ++ ys)
+longer xs ys n few = omega (arith, few, length-append xs ys)
+
 -- a put failed
 pub putting_failed : (old now now' : Outgoing) (lines : List ℕ) (rest : List Event) (all : List ℕ)
-    → IsPutting old now lines rest all → PutsPart now now' lines → PutsPart old now' all
+    → IsPutting old now lines rest all → PutsPart 1 now now' lines → PutsPart 1 old now' all
 putting_failed old now now' lines rest all so_far part = record {
   front = so_far.front ++ part.front;
   back = part.back ++ lines_of rest;
@@ -73,17 +76,21 @@ putting_failed old now now' lines rest all so_far part = record {
       ∙ ap (λ (ls : List ℕ). so_far.front ++ (ls ++ lines_of rest)) part.parts
       ∙ ap (λ (ls : List ℕ). so_far.front ++ ls) (append_assoc part.front part.back (lines_of rest))
       ∙ sym (append_assoc so_far.front part.front (part.back ++ lines_of rest));
+  left = longer part.back (lines_of rest) 1 part.left;
   out = part.out ∙ ap (λ (o : List ℕ). o ++ part.front) so_far.put.out ∙ append_assoc old.out so_far.front part.front;
+  failures = part.failures ∙ ap (λ (n : ℕ). n + 1) so_far.put.failures;
 }
 
 -- no more is put out
 pub putting_stopped : (old now : Outgoing) (lines : List ℕ) (rest : List Event) (all : List ℕ)
-    → IsPutting old now lines rest all → PutsPart old now all
+    → IsPutting old now lines rest all → PutsPart 0 old now all
 putting_stopped old now lines rest all so_far = record {
   front = so_far.front;
   back = lines ++ lines_of rest;
   parts = sym so_far.left;
+  left = omega arith;
   out = so_far.put.out;
+  failures = omega (arith, so_far.put.failures);
 }
 
 -- the last lines are put out, or not all of them
@@ -119,8 +126,8 @@ putting_step old now now' lines lines' left events next rest all parts so_far mo
     putting_on old now now' lines' left rest all (putting_next old now lines lines' events next rest all parts so_far more) some
 
 pub putting_step_failed : (old now now' : Outgoing) (lines lines' : List ℕ) (events next rest : List Event) (all : List ℕ)
-    → events ≡ next ++ rest → IsPutting old now lines events all → lines' ≡ lines ++ lines_of next → PutsPart now now' lines'
-    → PutsPart old now' all
+    → events ≡ next ++ rest → IsPutting old now lines events all → lines' ≡ lines ++ lines_of next → PutsPart 1 now now' lines'
+    → PutsPart 1 old now' all
 putting_step_failed old now now' lines lines' events next rest all parts so_far more part =
     putting_failed old now now' lines' rest all (putting_next old now lines lines' events next rest all parts so_far more) part
 
@@ -137,29 +144,33 @@ left_none lines events all none so_far = sym (append-nil lines) ∙ sym (ap (λ 
 
 -- ---- one text after another
 
-pub cut_more : (old new : Outgoing) (a b : List ℕ) → PutsPart old new a → PutsPart old new (a ++ b)
-cut_more old new a b part = record {
+pub cut_more : (failed : ℕ) (old new : Outgoing) (a b : List ℕ) → PutsPart failed old new a → PutsPart failed old new (a ++ b)
+cut_more failed old new a b part = record {
   front = part.front;
   back = part.back ++ b;
   parts = ap (λ (t : List ℕ). t ++ b) part.parts ∙ append_assoc part.front part.back b;
+  left = longer part.back b failed part.left;
   out = part.out;
+  failures = part.failures;
 }
 
-part_after : (old now new : Outgoing) (a b : List ℕ) → Puts old now a → PutsPart now new b → PutsPart old new (a ++ b)
-part_after old now new a b first part = record {
+part_after : (failed : ℕ) (old now new : Outgoing) (a b : List ℕ) → Puts old now a → PutsPart failed now new b → PutsPart failed old new (a ++ b)
+part_after failed old now new a b first part = record {
   front = a ++ part.front;
   back = part.back;
   parts = ap (λ (t : List ℕ). a ++ t) part.parts ∙ sym (append_assoc a part.front part.back);
+  left = part.left;
   out = part.out ∙ ap (λ (o : List ℕ). o ++ part.front) first.out ∙ append_assoc old.out a part.front;
+  failures = part.failures ∙ ap (λ (n : ℕ). n + failed) first.failures;
 }
 
 pub writes_then : (old now new : Outgoing) (a b : List ℕ) (r : Result Bool AllocError) → Puts old now a → Writes now new b r → Writes old new (a ++ b) r
 writes_then old now new a b (Ok true) first second = puts_after old now new a b first second
-writes_then old now new a b (Ok false) first second = part_after old now new a b first second
-writes_then old now new a b (Err e) first second = part_after old now new a b first second
+writes_then old now new a b (Ok false) first second = part_after 1 old now new a b first second
+writes_then old now new a b (Err e) first second = part_after 0 old now new a b first second
 
-pub cut_lines : (old new : Outgoing) (a b : List Event) → PutsPart old new (lines_of a) → PutsPart old new (lines_of (a ++ b))
-cut_lines old new a b part = subst (PutsPart old new) (sym (lines_append a b)) (cut_more old new (lines_of a) (lines_of b) part)
+pub cut_lines : (failed : ℕ) (old new : Outgoing) (a b : List Event) → PutsPart failed old new (lines_of a) → PutsPart failed old new (lines_of (a ++ b))
+cut_lines failed old new a b part = subst (PutsPart failed old new) (sym (lines_append a b)) (cut_more failed old new (lines_of a) (lines_of b) part)
 
 pub then_lines : (old now new : Outgoing) (a b : List Event) (r : Result Bool AllocError)
     → Puts old now (lines_of a) → Writes now new (lines_of b) r → Writes old new (lines_of (a ++ b)) r
@@ -167,8 +178,8 @@ then_lines old now new a b r first second =
     subst (λ (t : List ℕ). Writes old new t r) (sym (lines_append a b)) (writes_then old now new (lines_of a) (lines_of b) r first second)
 
 -- nothing was put out
-pub none_out : (w : Outgoing) (text : List ℕ) → PutsPart w w text
-none_out w text = record { front = []; back = text; parts = refl; out = sym (append-nil w.out) }
+pub none_out : (w : Outgoing) (text : List ℕ) → PutsPart 0 w w text
+none_out w text = record { front = []; back = text; parts = refl; left = omega arith; out = sym (append-nil w.out); failures = omega arith }
 
 -- ---- a put
 
@@ -178,12 +189,14 @@ puts_whole bytes w w' n put whole = record {
   failures = put.2 (omega (arith, put.0, whole));
 }
 
-pub puts_part : (bytes : List ℕ) (w w' : Outgoing) (n : ℕ) → PutsAll bytes w w' n → PutsPart w w' bytes
-puts_part bytes w w' n put = record {
+pub puts_part : (bytes : List ℕ) (w w' : Outgoing) (n : ℕ) → PutsAll bytes w w' n → n < length bytes → PutsPart 1 w w' bytes
+puts_part bytes w w' n put less = record {
   front = take n bytes;
   back = drop n bytes;
   parts = sym (take-append-drop n bytes);
+  left = omega (arith, less, length-drop n bytes);
   out = put.1;
+  failures = put.3 less;
 }
 
 pub some_none : (w : Outgoing) (lines : List ℕ) → PutsSome w w lines lines true

@@ -37,8 +37,8 @@ pub(crate) fn static_ids(
 const ROOT_TAGS: [u8; 9] = [0x01, 0x02, 0x03, 0x04, 0x05, 0x06, 0x07, 0x08, 0xff];
 
 /// Puts out the lines of the session that makes the heap of a dump: its classes, as they are planned, the objects with their
-/// values and references, and the roots. Tells whether all of them are out: if not, a put failed. Fails if an allocation fails.
-/// What is out then is a part of the lines, from the front. Walks over the dump three times.
+/// values and references, and the roots. Tells whether all of them are out: if not, a put failed. Fails if an allocation fails;
+/// no put failed then. What is out if not all are is a part of the lines, from the front. Walks over the dump three times.
 pub fn write_session<O: Outlet>(
     alloc: Global,
     outlet: &mut O,

@@ -5,3 +5,5 @@ pub mod FieldNames
 pub mod FoundTables
 pub mod GivenNames
 pub mod NotRefused
+pub mod Numbering
+pub mod PlannedClasses

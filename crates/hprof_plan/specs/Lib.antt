@@ -5,6 +5,8 @@ pub mod Fields
 pub mod Finds
 pub mod Items
 pub mod Names
+pub mod Numbers
 pub mod Plans
 pub mod Right
+pub mod SessionClasses
 pub mod Tables

@@ -4,10 +4,13 @@
 mod class_fields;
 mod define;
 mod dump;
+mod dump_classes;
 mod fields;
 mod items;
 mod names;
 mod planning;
+mod root_classes;
+mod static_classes;
 
 pub use dump::{Found, find};
 pub use fields::{own_fields, static_fields};

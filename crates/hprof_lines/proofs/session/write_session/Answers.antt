@@ -15,7 +15,7 @@ returns-in_err-made g c = λ items whole.
 
 pub returns-then-not-put_text : goal.returns-then-not-put_text
 returns-then-not-put_text g c = λ items whole.
-    cut_more _ _ _ _ (rw c.as_slice-text.ensures at c.if-not-put_text.ensures)
+    cut_more _ _ _ _ _ (rw c.as_slice-text.ensures at c.if-not-put_text.ensures)
 
 pub returns : goal.returns
 returns g c = λ items whole.

@@ -1,5 +1,0 @@
-use Rattle.heap_class.proofs.Slots.{instance_class_is_in_table}
-use Rattle.hprof_plan.proofs.planning.room_under.Goals as goal
-
-pub slots-requires : goal.slots-requires
-slots-requires c = instance_class_is_in_table c.args.classes.now c.in-Some.class (rw c.in-Some.is at c.requires)

@@ -80,7 +80,7 @@ IsLineResponse config seen line r seen' =
     (m : Machine) × (chronicle : List Entry) × IsHeapSeen config seen m chronicle seen'
     × IsAnswerResponse line m chronicle r
 
--- the status of a dump that is refused: 503 for want of memory, else 409
+-- the status of a dump that is refused: 503 if memory was refused, else 409
 abbrev pub dump_status : Refusal → ℕ
 dump_status NoMemory = 503
 dump_status _ = 409

@@ -27,7 +27,7 @@ made_entry x = record { key = x.0; kind = x.1.0; value = x.1.1 }
 unfoldable pub entry_parts : IdSize → ℕ → List ℕ → Result (EntryTold × List ℕ) Fault
 entry_parts ids key bytes = made made_entry (entry_fields ids key bytes)
 
--- the bytes after so many entries
+-- the bytes after n entries
 unfoldable pub after_entries : IdSize → ℕ → ℕ → List ℕ → Result (List ℕ) Fault
 after_entries ids key zero bytes = Ok bytes
 after_entries ids key (suc n) bytes = do

@@ -18,7 +18,7 @@ header_text h = header h.ids h.time
 abbrev pub format_name : List ℕ
 format_name = codes "JAVA PROFILE 1.0.2" ++ u1 0
 
--- identifiers of so many bytes
+-- identifiers of n bytes
 abbrev pub ids_of : ℕ → Option IdSize
 ids_of n = if n == 4 then Some Four else (if n == 8 then Some Eight else None)
 

@@ -29,7 +29,7 @@ root_fields ids size bytes = joined (id_at ids) (λ x. taken_at size) bytes
 abbrev pub made_root : ℕ → ℕ × List ℕ → Sub
 made_root tag x = root tag x.0 x.1
 
--- a root of this tag with so many bytes after its id
+-- a root of this tag with `size` bytes after its id
 unfoldable pub root_parts : IdSize → ℕ → ℕ → List ℕ → Result (Sub × List ℕ) Fault
 root_parts ids tag size bytes = made (made_root tag) (root_fields ids size bytes)
 
@@ -131,7 +131,7 @@ rootless_parts ids tag bytes =
     else (if tag == 0x22 then array_parts ids bytes
     else (if tag == 0x23 then prim_parts ids bytes else Err faults.Tag)))
 
--- what follows this tag, of a root with so many bytes after its id, or of no root
+-- what follows this tag, of a root with `size` bytes after its id, or of no root
 abbrev pub tagged_parts : IdSize → ℕ → Option ℕ → List ℕ → Result (Sub × List ℕ) Fault
 tagged_parts ids tag (Some size) bytes = root_parts ids tag size bytes
 tagged_parts ids tag None bytes = rootless_parts ids tag bytes

@@ -97,7 +97,7 @@ sub_text ids (prim x trace count kind elements) =
 abbrev pub FitsEntry : IdSize → ℕ → EntryTold → Type 0
 FitsEntry ids key e = (length e.key ≡ key) × (length e.value ≡ width_of ids e.kind)
 
--- the bytes are those of so many entries with keys of this many bytes
+-- the bytes are those of `t.count` entries with keys of `key` bytes
 pub record AreEntries (ids : IdSize) (key : ℕ) (t : Entries) : Type 0 where
   pub count : t.count < 2 ^ 16
   pub list : List EntryTold
@@ -105,7 +105,7 @@ pub record AreEntries (ids : IdSize) (key : ℕ) (t : Entries) : Type 0 where
   pub spelled : flat_map entry_text list ≡ t.bytes
   pub each : AllByRecursion (FitsEntry ids key) list
 
--- the bytes are those of so many fields: for each the id of its name, and its kind
+-- the bytes are those of `t.count` fields: for each the id of its name, and its kind
 abbrev pub AreFields : IdSize → Entries → Type 0
 AreFields ids t = (t.count < 2 ^ 16) × (length t.bytes ≡ (id_bytes ids + 1) * t.count)
 

@@ -124,7 +124,7 @@ fn table_at(ids: IdSize, key: u64, bytes: &[u8]) -> Result<(Table<'_>, &[u8]), F
     Ok((Table { count, bytes }, after))
 }
 
-// Returns the bytes after so many constants or static fields.
+// Returns the bytes after `count` constants or static fields.
 fn after_entries(ids: IdSize, key: u64, count: u16, bytes: &[u8]) -> Result<&[u8], Fault>
     ensures { Gives (λ x. x.now) result (after_entries ids key count bytes.now) }
 {

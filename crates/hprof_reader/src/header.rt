@@ -61,7 +61,7 @@ fn times_at(ids: Option<IdSize>, bytes: &[u8]) -> Result<(Header, &[u8]), Fault>
     Ok((Header { ids, time }, rest))
 }
 
-// Returns identifiers of so many bytes, if there are such.
+// Returns identifiers of `size` bytes, if there are such.
 fn ids_of(size: u32) -> Option<IdSize>
     ensures { result ≡ ids_of size }
 {

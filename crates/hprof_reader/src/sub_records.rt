@@ -99,7 +99,7 @@ fn read_sub_record(ids: IdSize, bytes: &[u8]) -> Result<(SubRecord<'_>, &[u8]), 
     tagged_at(ids, tag, root_size(ids, tag), rest)
 }
 
-// Reads what follows this tag, which has so many bytes after its id if it is that of a root.
+// Reads what follows this tag, which has `size` bytes after its id if it is that of a root.
 fn tagged_at(
     ids: IdSize,
     tag: u8,
@@ -120,7 +120,7 @@ fn tagged_at(
     }
 }
 
-// Reads what follows the tag of a root with so many bytes after its id.
+// Reads what follows the tag of a root with `size` bytes after its id.
 #[tactic(auto, unfolding(crate::specs::SubParts::root_parts))]
 fn root_at(ids: IdSize, tag: u8, size: u64, bytes: &[u8]) -> Result<(SubRecord<'_>, &[u8]), Fault>
     ensures { Gives (λ x. (sub_record x.0, x.1.now)) result (root_parts ids tag size bytes.now) }

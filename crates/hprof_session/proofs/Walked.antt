@@ -37,7 +37,7 @@ items_next_with_one_more : (w : Left) (list : List ItemTold) (u : Left) (i : Ite
 items_next_with_one_more w [] u i v same next = (v, subst (λ (x : Left). IsNext x i v) (sym same) next, refl)
 items_next_with_one_more w (j ∷ list) u i v are next = (are.0, are.1, items_next_with_one_more are.0 list u i v are.2 next)
 
--- so many items are passed, in so many turns
+-- a walk passes `items` items in `turns` turns
 pub record IsWalked (w : Left) (items turns : ℕ) (v : Left) : Type 0 where
   pub list : List ItemTold
   pub walked : AreNext w list v

@@ -13,7 +13,7 @@ abbrev pub EndsAt : Left → Option Fault → Type 0
 EndsAt w None = IsAtEnd w
 EndsAt w (Some fault) = ¬ IsAtEnd w × ((i : ItemTold) (v : Left) → ¬ IsNext w i v)
 
--- so many items are next, one after another, and then the walk ends, at this place, if the first byte had the place `from`
+-- `s.items` items are next, one after another, and then the walk ends, at this place if the first byte had the place `from`
 pub record IsSurvey (w : Left) (from : ℕ) (s : Survey) : Type 0 where
   pub list : List ItemTold
   pub end : Left

@@ -174,7 +174,8 @@ impl<I: Inlet + Drop, B: AheadOrigin> Model for AheadInlet<I, B> {
           };
         } };
 
-    ghost invariant = { λ i. (i.ahead.bytes.items ≡ B.start.bytes) × (i.ahead.failed ≡ B.start.failed)
+    ghost invariant = { λ i. (i.ahead.bytes.items ≡ B.start.bytes)
+        × (i.ahead.failed ≡ B.start.failed)
         × IsGivenUpTo i.start B.start.bytes B.start.failed B.start.first (I.seen i.inlet)
         (log_bytes i.taken.items) (map (λ e. e.0) i.asked.items) (length i.faults.items) };
 }

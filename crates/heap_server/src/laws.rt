@@ -9,7 +9,8 @@ ghost use Rattle.heap_server.specs.DumpAnswers.{AnswersPinDump, AnswersNewDump};
 /// dump of the state at the pin's place, and all of it if its last line is `ok dump`. `seat` and `seen` are the session's seat
 /// and what its witness has seen.
 pub fn served_dumps_are_text<S>()
-    ensures pin { (config : HeapSettings) (seat : S → SeatModel) (seen : S → List Call) (pin time : ℕ)
+    ensures pin { (config : HeapSettings) (seat : S → SeatModel)
+        (seen : S → List Call) (pin time : ℕ)
         (c d : S) (text : List ℕ) → AnswersPinDump config seat seen pin time c text d }
     ensures now { (config : HeapSettings) (seat : S → SeatModel) (seen : S → List Call) (time : ℕ)
         (c d : S) (text : List ℕ) → AnswersNewDump config seat seen time c text d }

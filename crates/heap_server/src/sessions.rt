@@ -208,7 +208,8 @@ fn attend_staying<L: Heap, R: Wait, I: Inlet + Drop, O: Outlet>(
     terms: &Terms,
 ) -> Attended<L, I>
     requires { seat.role ≡ User }
-    ensures attended { IsAttendedStaying L.config terms.now seat (I.seen inlet) (I.seen result.inlet)
+    ensures attended { IsAttendedStaying L.config terms.now seat (I.seen inlet)
+        (I.seen result.inlet)
         (O.seen outlet.old) (O.seen outlet.new) result.seat result.end }
     ensures role { result.seat.role ≡ User }
 {

@@ -132,7 +132,8 @@ impl<'a, L: Heap, R: Wait> StayingSeat<'a, L, R> {
 
     /// Asks to close each pin that is noted, in order, and gives the seat back.
     pub(crate) fn into_seat(self) -> Seat<L>
-        ensures closes { (seen : List Call) × ClosesEach L.config self.entry.pins self.entry.seen seen }
+        ensures closes { (seen : List Call)
+            × ClosesEach L.config self.entry.pins self.entry.seen seen }
         ensures seat { result ≡ self.entry.seat }
         ensures role { result.role ≡ User }
     {

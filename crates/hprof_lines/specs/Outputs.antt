@@ -8,7 +8,7 @@ pub record Puts (old new : Outgoing) (text : List ℕ) : Type 0 where
   pub out : new.out ≡ old.out ++ text
   pub failures : new.failures ≡ old.failures
 
--- some of these bytes were put out, from the front, and so many puts failed: at least as many bytes aren't out
+-- some of these bytes were put out, from the front, and `failed` puts failed: at least as many bytes aren't out
 pub record PutsPart (failed : ℕ) (old new : Outgoing) (text : List ℕ) : Type 0 where
   pub front : List ℕ
   pub back : List ℕ

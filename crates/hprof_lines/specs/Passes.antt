@@ -41,7 +41,7 @@ next_place objects i (sub_told s) = if is_turn objects i s then i + 1 else i
 
 -- ---- objects that are made
 
--- whether the object at place i is made, if so many objects come before the first: its class has a number, and it has a place
+-- whether the object at place i is made, with `before` objects before the first: its class has a number, and it has a place
 unfoldable pub is_made : Plan → ℕ → ℕ → Sub → Bool
 is_made p before i s = is_some (making_event p s) && nat_lt (before + i) (2 ^ 22)
 

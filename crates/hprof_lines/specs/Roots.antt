@@ -31,7 +31,7 @@ unfoldable pub roots_from : ℕ → ℕ → ℕ → ℕ → List ℕ → List Ev
 roots_from class first count i [] = []
 roots_from class first count i (n ∷ numbers) = root_events class first count i n ++ roots_from class first count (i + 1) numbers
 
--- as many of the roots of a kind as there is room for, if so many arrays are there
+-- as many of the roots of a kind as there is room for, after the first `first` arrays
 abbrev pub with_room : ℕ → List ℕ → List ℕ
 with_room first numbers = take ((1024 - first) * 1024) numbers
 
@@ -39,7 +39,7 @@ with_room first numbers = take ((1024 - first) * 1024) numbers
 abbrev pub kind_events : ℕ → ℕ → List ℕ → List Event
 kind_events class first numbers = roots_from class first (length numbers) 0 numbers
 
--- the number of arrays for so many roots
+-- the number of arrays that `count` roots take
 abbrev pub arrays_for : ℕ → ℕ
 arrays_for count = (count + 1023) / 1024
 

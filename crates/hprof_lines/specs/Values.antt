@@ -18,7 +18,7 @@ number_in bytes = fold with_byte 0 bytes
 abbrev pub value_at : IdSize → Kind → ℕ → List ℕ → SlotValue
 value_at ids kind slot bytes = record { slot = slot; kind = kind; value = number_in (take (width_of ids kind) bytes) }
 
--- the values of so many elements of this kind, from slot `at` on
+-- the values of this number of elements of this kind, from slot `at` on
 unfoldable pub elements_from : IdSize → Kind → ℕ → ℕ → List ℕ → List SlotValue
 elements_from ids kind zero at bytes = []
 elements_from ids kind (suc n) at bytes =
@@ -29,7 +29,7 @@ abbrev pub value_if : Bool → SlotValue → List SlotValue
 value_if true v = v ∷ []
 value_if false v = []
 
--- the values of fields of these kinds, from field i of their class on. The class keeps so many of its fields, in slots from
+-- the values of fields of these kinds, from field i of their class on. The class keeps its first `kept` fields, in slots from
 -- `base` on
 unfoldable pub fields_from : IdSize → ℕ → ℕ → ℕ → List Kind → List ℕ → List SlotValue
 fields_from ids kept base i [] bytes = []

@@ -48,7 +48,8 @@ pub fn count_left_out(
     requires { index_map_len plan.now.kinds ≤ length plan.now.classes }
     ensures { (items : List ItemTold) → IsWhole (left walk.entry) items
         → IfOk result (λ r. r
-        ≡ left_out_from (told_objects plan.now walk.entry.ids objects.now.keys items) none_left_out 0 items) }
+        ≡ left_out_from (told_objects plan.now walk.entry.ids objects.now.keys items)
+        none_left_out 0 items) }
 {
     let planned = plan.statics.as_slice();
     let statics = static_ids(alloc, planned)?;
@@ -101,8 +102,10 @@ fn left_out_in(
     item: &Item<'_>,
 ) -> Result<(LeftOut, usize), AllocError>
     requires { index_map_len all.now.plan.now.kinds ≤ length all.now.plan.now.classes }
-    ensures left { IfOk result (λ r. r.0 ≡ left_out_in (objects_told all.now) i (item_told item.now)) }
-    ensures place { IfOk result (λ r. r.1 ≡ next_place all.now.objects.now.keys i (item_told item.now)) }
+    ensures left { IfOk result
+        (λ r. r.0 ≡ left_out_in (objects_told all.now) i (item_told item.now)) }
+    ensures place { IfOk result
+        (λ r. r.1 ≡ next_place all.now.objects.now.keys i (item_told item.now)) }
 {
     match item {
         Item::Record(_) => Ok((NONE, i)),
@@ -124,7 +127,8 @@ fn left_out_of(
 ) -> Result<LeftOut, AllocError>
     requires { index_map_len all.now.plan.now.kinds ≤ length all.now.plan.now.classes }
     ensures { IfOk result (λ r. r
-        ≡ left_out_if (slice_index_or all.now.made.now i false) (objects_told all.now) (sub_record sub.now)) }
+        ≡ left_out_if (slice_index_or all.now.made.now i false) (objects_told all.now)
+        (sub_record sub.now)) }
 {
     if !made_at(all.made, i) {
         return Ok(LeftOut {

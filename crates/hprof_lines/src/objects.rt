@@ -169,7 +169,8 @@ pub(crate) fn making_event(plan: &Plan<'_>, sub: &SubRecord<'_>) -> Option<Event
 
 // Returns the event that makes an instance, if its class has a number.
 fn instance_event(plan: &Plan<'_>, id: u64) -> Option<Event>
-    ensures event { result ≡ option_and_then (instance_made plan.now) (index_of nat_eq plan.now.kinds id) }
+    ensures event { result
+        ≡ option_and_then (instance_made plan.now) (index_of nat_eq plan.now.kinds id) }
     ensures line { IfSome result HasLine }
 {
     match plan.number(id) {
@@ -188,7 +189,8 @@ fn instance_event(plan: &Plan<'_>, id: u64) -> Option<Event>
 
 // Returns the event that makes an array of references, if its class has a number.
 fn array_event(plan: &Plan<'_>, id: u64, count: u32) -> Option<Event>
-    ensures event { result ≡ option_and_then (array_made plan.now count) (index_of nat_eq plan.now.kinds id) }
+    ensures event { result
+        ≡ option_and_then (array_made plan.now count) (index_of nat_eq plan.now.kinds id) }
     ensures line { IfSome result HasLine }
 {
     match plan.number(id) {

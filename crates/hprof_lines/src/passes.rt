@@ -58,7 +58,8 @@ fn id_of(sub: &SubRecord<'_>) -> Option<u64>
     }
 }
 
-/// Returns whether each object of a dump is made, if so many objects come before the first. Fails if an allocation fails.
+/// Returns whether each object of a dump is made; `before` is the number of objects that come before the first. Fails if an
+/// allocation fails.
 pub(crate) fn made_objects(
     alloc: Global,
     walk: Walk<'_>,
@@ -105,7 +106,7 @@ fn note_made(
     Ok(())
 }
 
-// Tells whether the object at place i is made, if so many objects come before the first.
+// Tells whether the object at place i is made; `before` is the number of objects that come before the first.
 #[tactic(auto, unfolding(crate::specs::Passes::is_made))]
 fn is_made(plan: &Plan<'_>, before: u64, i: usize, sub: &SubRecord<'_>) -> bool
     requires before { before < 2 ^ 63 }
@@ -159,7 +160,8 @@ fn push_item(
     requires { index_map_len all.now.plan.now.kinds ≤ length all.now.plan.now.classes }
     ensures lines { OnOk result (lines.new ≡ lines.old
         ++ lines_of (item_events pass (objects_told all.now) i (item_told item.now))) }
-    ensures place { IfOk result (λ k. k ≡ next_place all.now.objects.now.keys i (item_told item.now)) }
+    ensures place { IfOk result
+        (λ k. k ≡ next_place all.now.objects.now.keys i (item_told item.now)) }
 {
     match item {
         Item::Record(_) => Ok(i),

@@ -65,7 +65,8 @@ fn push_kind(
 ) -> Result<u64, AllocError>
     requires { first ≤ 1024 }
     ensures lines { OnOk result (lines.new ≡ lines.old ++ lines_of
-        (kind_events class first (with_room first (roots_named (objects_told all.now) tag roots.now)))) }
+        (kind_events class first
+        (with_room first (roots_named (objects_told all.now) tag roots.now)))) }
     ensures first { IfOk result (λ k. (k ≡ first
         + arrays_for (length (with_room first (roots_named (objects_told all.now) tag roots.now))))
         × (k ≤ 1024)) }
@@ -117,7 +118,8 @@ fn add_root(
 // Appends the lines by which roots of a kind name objects. Their arrays have this class, and stand from slot `first` on.
 fn push_roots(lines: &mut Lines, class: u64, first: u64, numbers: &[u64]) -> Result<(), AllocError>
     requires { first ≤ 1024 }
-    ensures { OnOk result (lines.new ≡ lines.old ++ lines_of (kind_events class first numbers.now)) }
+    ensures { OnOk result
+        (lines.new ≡ lines.old ++ lines_of (kind_events class first numbers.now)) }
 {
     for (i, n) in numbers.iter().enumerate() {
         push_root(lines, class, first, numbers.len() as u64, i as u64, *n)?;

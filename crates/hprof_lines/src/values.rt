@@ -18,7 +18,7 @@ pub struct SlotValue {
     pub value: u64,
 }
 
-/// Adds the values of so many elements of an array. Fails if an allocation fails.
+/// Adds the values of an array's first `count` elements. Fails if an allocation fails.
 pub(crate) fn add_elements(
     slots: &mut Vec<SlotValue>,
     ids: IdSize,
@@ -60,8 +60,8 @@ fn number_in(bytes: &[u8]) -> u64
     number
 }
 
-/// Adds the values of fields of these kinds that a class has, of which it keeps so many in slots from `base` on. Returns the
-/// bytes after all of these fields. Fails if an allocation fails.
+/// Adds the values of fields of these kinds that a class has, of which it keeps the first `kept`, in slots from `base` on.
+/// Returns the bytes after all of these fields. Fails if an allocation fails.
 pub(crate) fn add_fields<'a>(
     slots: &mut Vec<SlotValue>,
     ids: IdSize,
@@ -85,7 +85,7 @@ pub(crate) fn add_fields<'a>(
     Ok(rest)
 }
 
-// Adds the value of field i of a class, if the class keeps it: it keeps so many, in slots from `base` on.
+// Adds the value of field i of a class, if the class keeps it: it keeps the first `kept`, in slots from `base` on.
 fn add_if_kept(
     slots: &mut Vec<SlotValue>,
     kept: u64,

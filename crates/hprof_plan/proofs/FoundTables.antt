@@ -137,7 +137,7 @@ snoc w (j ∷ list) u i v are next = (are.0, are.1, snoc are.0 list u i v are.2 
 
 -- ---- a walk so far
 
--- in so many turns the walk came here, and found this
+-- after this number of turns the walk came here, and found this
 pub record IsSoFar (w : Left) (turns : ℕ) (v : Left) (f : Found) : Type 0 where
   pub list : List ItemTold
   pub walked : AreNext w list v

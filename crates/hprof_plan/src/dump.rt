@@ -128,7 +128,8 @@ fn note_name<'a>(
 fn note_load(ids: IdSize, loads: &mut IndexMap<u64, u64>, item: Item<'_>) -> Result<(), AllocError>
     ensures { OnOk result
         (loads.new.entries
-        ≡ insert_entries nat_eq loads.old.entries (option_to_list (load_of ids (item_told item.entry)))) }
+        ≡ insert_entries nat_eq loads.old.entries
+        (option_to_list (load_of ids (item_told item.entry)))) }
 {
     match load_of(ids, item) {
         Some((class, name)) => {
@@ -186,7 +187,8 @@ fn note_object(
         ≡ insert_keys nat_eq objects.old.keys (option_to_list (object_of (item_told item.entry)))) }
     ensures again { OnOk result
         (length objects.new.keys + again.new
-        ≡ length objects.old.keys + again.old + length (option_to_list (object_of (item_told item.entry)))) }
+        ≡ length objects.old.keys + again.old + length
+        (option_to_list (object_of (item_told item.entry)))) }
     ensures few { again.new ≤ again.old + 1 }
 {
     match object_of(item) {

@@ -88,7 +88,8 @@ fn plan_after_supers(
 // Returns the ids of a class, of its super, and so on: the first `most`, up to the first that isn't in the dump. Fails if an
 // allocation fails.
 fn upwards(alloc: Global, found: &Found<'_>, most: u64, id: u64) -> Result<Vec<u64>, AllocError>
-    ensures { IfOk result (λ v. v.items ≡ upwards (classes_told found.now.classes.entries) most id) }
+    ensures { IfOk result
+        (λ v. v.items ≡ upwards (classes_told found.now.classes.entries) most id) }
 {
     let mut line = Vec::new(alloc);
     let mut at = id;
@@ -118,7 +119,8 @@ fn plan_each(
     ensures planned { OnOk result (IsPlanned limits room found.now planned.new) }
     ensures numbers { OnOk result
         (keys planned.new.kinds
-        ≡ with_numbers room (classes_told found.now.classes.entries) (keys planned.old.kinds) ids.now) }
+        ≡ with_numbers room (classes_told found.now.classes.entries)
+        (keys planned.old.kinds) ids.now) }
 {
     for id in ids {
         plan_class(alloc, limits, room, found, planned, *id)?;

@@ -42,7 +42,8 @@ pub fn static_fields<'a>(
     table: Table<'a>,
 ) -> Result<Vec<StaticField<'a>>, AllocError>
     ensures value { IfOk result
-        (λ v. map static_told v.items ≡ static_fields ids (min table.entry.count 64) table.entry.bytes.now) }
+        (λ v. map static_told v.items
+        ≡ static_fields ids (min table.entry.count 64) table.entry.bytes.now) }
     ensures few { IfOk result (λ v. length v.items ≤ 64) }
 {
     let fields = read_statics(alloc, ids, table)?;
@@ -56,7 +57,8 @@ fn read_statics<'a>(
     table: Table<'a>,
 ) -> Result<Vec<StaticField<'a>>, AllocError>
     ensures { IfOk result
-        (λ v. map static_told v.items ≡ static_fields ids (min table.entry.count 64) table.entry.bytes.now) }
+        (λ v. map static_told v.items
+        ≡ static_fields ids (min table.entry.count 64) table.entry.bytes.now) }
 {
     let mut fields = Vec::new(alloc);
     let mut rest = table.bytes;

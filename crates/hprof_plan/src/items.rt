@@ -17,7 +17,7 @@ pub struct RootFound {
     pub id: u64,
 }
 
-/// Returns the identifier in front of bytes, and the bytes after it, if there are so many.
+/// Returns the identifier in front of bytes, and the bytes after it; None if there are too few bytes.
 pub(crate) fn id_at(ids: IdSize, bytes: &[u8]) -> Option<(u64, &[u8])>
     ensures { option_map (λ x. (x.0, x.1.now)) result ≡ id_parts ids bytes.now }
 {
@@ -27,7 +27,7 @@ pub(crate) fn id_at(ids: IdSize, bytes: &[u8]) -> Option<(u64, &[u8])>
     }
 }
 
-// Returns the number of 4 bytes in front of bytes, and the bytes after it, if there are so many.
+// Returns the number of 4 bytes in front of bytes, and the bytes after it; None if there are too few bytes.
 fn four_at(bytes: &[u8]) -> Option<(u64, &[u8])>
     ensures { option_map (λ x. (x.0, x.1.now)) result ≡ four_parts bytes.now }
 {
@@ -39,7 +39,7 @@ fn four_at(bytes: &[u8]) -> Option<(u64, &[u8])>
     Some((number as u64, rest))
 }
 
-// Returns the number of 8 bytes in front of bytes, and the bytes after it, if there are so many.
+// Returns the number of 8 bytes in front of bytes, and the bytes after it; None if there are too few bytes.
 fn eight_at(bytes: &[u8]) -> Option<(u64, &[u8])>
     ensures { option_map (λ x. (x.0, x.1.now)) result ≡ eight_parts bytes.now }
 {

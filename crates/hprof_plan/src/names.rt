@@ -16,7 +16,9 @@ pub(crate) fn given_name(
     number: u64,
     name: &[u8],
 ) -> Result<Name, AllocError>
-    ensures { IfOk result (λ n. n ≡ cond (is_clean limits name.now && not is_given) name.now (other_name limits number name.now)) }
+    ensures { IfOk result
+        (λ n. n ≡ cond (is_clean limits name.now && not is_given) name.now
+        (other_name limits number name.now)) }
 {
     if is_clean(limits, name) && !is_given {
         Name::new(alloc, name)

@@ -141,7 +141,8 @@ fn plan_static_class(
     ensures class { OnOk result
         (defined.new.classes
         ≡ defined.old.classes
-        ++ static_class limits found.now defined.old.classes (id, map static_told statics.now) ∷ []) }
+        ++ static_class limits found.now defined.old.classes
+        (id, map static_told statics.now) ∷ []) }
 {
     let mut name = Vec::new(alloc);
     name.extend_from_slice(class_name_at(found, id))?;

@@ -34,7 +34,8 @@ pub struct StaticField<'a> {
 pub fn own_field_at(ids: IdSize, bytes: &[u8]) -> Result<(OwnField, &[u8]), Fault>
     ensures found { IfOk result (λ x. FitsOwnField ids x.0
         × (bytes.now ≡ own_field_text ids x.0 ++ x.1.now)) }
-    ensures only { (f : OwnField) (rest : List ℕ) → FitsOwnField ids f → bytes.now ≡ own_field_text ids f ++ rest
+    ensures only { (f : OwnField) (rest : List ℕ) → FitsOwnField ids f
+        → bytes.now ≡ own_field_text ids f ++ rest
         → IsRead (λ x. (x.0, x.1.now)) result f rest }
 {
     read_own_field(ids, bytes)
@@ -54,7 +55,8 @@ fn read_own_field(ids: IdSize, bytes: &[u8]) -> Result<(OwnField, &[u8]), Fault>
 pub fn static_field_at(ids: IdSize, bytes: &[u8]) -> Result<(StaticField<'_>, &[u8]), Fault>
     ensures found { IfOk result (λ x. FitsStaticField ids (static_told x.0)
         × (bytes.now ≡ static_field_text ids (static_told x.0) ++ x.1.now)) }
-    ensures only { (f : StaticTold) (rest : List ℕ) → FitsStaticField ids f → bytes.now ≡ static_field_text ids f ++ rest
+    ensures only { (f : StaticTold) (rest : List ℕ) → FitsStaticField ids f
+        → bytes.now ≡ static_field_text ids f ++ rest
         → IsRead (λ x. (static_told x.0, x.1.now)) result f rest }
 {
     read_static_field(ids, bytes)

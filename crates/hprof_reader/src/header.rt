@@ -22,8 +22,10 @@ pub struct Header {
 /// Reads the header at the front of a dump. Returns it with the bytes after it. Fails with Header if no such file begins so, or
 /// with Short if the bytes end within the header.
 pub fn header_at(bytes: &[u8]) -> Result<(Header, &[u8]), Fault>
-    ensures found { IfOk result (λ x. (x.0.time < 2 ^ 64) × (bytes.now ≡ header_text x.0 ++ x.1.now)) }
-    ensures only { (h : Header) (rest : List ℕ) → h.time < 2 ^ 64 → bytes.now ≡ header_text h ++ rest
+    ensures found { IfOk result
+        (λ x. (x.0.time < 2 ^ 64) × (bytes.now ≡ header_text x.0 ++ x.1.now)) }
+    ensures only { (h : Header) (rest : List ℕ) → h.time < 2 ^ 64
+        → bytes.now ≡ header_text h ++ rest
         → IsRead (λ x. (x.0, x.1.now)) result h rest }
 {
     read_header(bytes)

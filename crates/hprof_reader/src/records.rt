@@ -20,7 +20,8 @@ pub struct Record<'a> {
 /// Reads the record at the front of these bytes, of any tag. Returns it with the bytes after it. Fails with Short if no whole
 /// record begins there. Takes the same time for each record.
 pub fn record_at(bytes: &[u8]) -> Result<(Record<'_>, &[u8]), Fault>
-    ensures found { IfOk result (λ x. FitsRecord (told x.0) × (bytes.now ≡ record_text (told x.0) ++ x.1.now)) }
+    ensures found { IfOk result
+        (λ x. FitsRecord (told x.0) × (bytes.now ≡ record_text (told x.0) ++ x.1.now)) }
     ensures only { (r : Told) (rest : List ℕ) → FitsRecord r → bytes.now ≡ record_text r ++ rest
         → IsRead (λ x. (told x.0, x.1.now)) result r rest }
 {

@@ -129,7 +129,8 @@ fn push_array_class(text: &mut Vec<u8>, name: &[u8]) -> Result<(), AllocError>
 
 // Appends a verb, and numbers with a space before each. Fails if an allocation fails.
 fn push_line(text: &mut Vec<u8>, verb: &[u8], numbers: &[u64]) -> Result<(), AllocError>
-    ensures { Appends (verb.now ++ and_words (map decimal numbers.now)) text.old.items text.new.items
+    ensures { Appends (verb.now ++ and_words (map decimal numbers.now))
+        text.old.items text.new.items
         result }
 {
     push_words(text, verb)?;

@@ -17,6 +17,7 @@ from .rows import (
     ListedObject,
     LostPin,
     NullRegister,
+    ObjectDifference,
     ObjectId,
     PastStep,
     Piece,
@@ -26,6 +27,7 @@ from .rows import (
     RegisterReference,
     RegisterStep,
     SlotChange,
+    SlotDifference,
     SlotReference,
     SlotRow,
     SlotStep,
@@ -39,6 +41,7 @@ from .rows import (
     collected,
     counted,
     defined,
+    difference,
     dominating,
     facts_by_name,
     grown,
@@ -221,6 +224,11 @@ class Calls:
         the older one."""
         return self.send(f"kept {word_of_moment(older)} {word_of_moment(newer)}", rows_by(counted))
 
+    def diff(self, older: Moment, newer: Moment = None) -> list[Union[ObjectDifference, SlotDifference]]:
+        """Returns what differs between the objects of two moments, by id: an `ObjectDifference` for each object of one of them alone,
+        and a `SlotDifference` for each slot of an object of both that holds other values."""
+        return self.send(f"diff {word_of_moment(older)} {word_of_moment(newer)}", rows_by(difference))
+
     def path(self, moment: Moment, to: int) -> list[Union[RegisterStep, SlotStep]]:
         """Returns a shortest path to an object: a `RegisterStep`, then a `SlotStep` for each slot."""
         return self.send(f"path {word_of_moment(moment)} {ObjectId(to)}", rows_by(path_step))
@@ -230,10 +238,12 @@ class Calls:
         among them. What several objects retain may overlap."""
         return self.send(f"retained {word_of_moment(moment)} {ObjectId(of)}", rows_by(counted))
 
-    def dominators(self, moment: Moment = None, most: Optional[int] = None) -> list[Holding]:
-        """Returns a `Holding` for each object that a register reaches and no other object dominates, the most bytes first; at most
-        so many, or all. These rows overlap nowhere."""
+    def dominators(self, moment: Moment = None, most: Optional[int] = None, of: Optional[int] = None) -> list[Holding]:
+        """Returns a `Holding` for each object that a register reaches and no other object dominates, or, with an object, for each
+        that it dominates immediately: the most bytes first; at most so many, or all. These rows overlap nowhere."""
         word = word_of_moment(moment)
+        if of is not None:
+            word = f"{word} {ObjectId(of)}"
         if word.isdigit() and most is None:
             most = MOST
         return self.send(f"dominators {word}" + ("" if most is None else f" {most}"), rows_by(holding))

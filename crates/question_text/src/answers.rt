@@ -10,7 +10,8 @@ use crate::birth::born_answer;
 use crate::cell_list::cells_answer;
 use crate::class_list::classes_answer;
 use crate::comment::unasked_answer;
-use crate::dominator_rows::{dominator_answer, dominators_answer};
+use crate::diff::diff_text;
+use crate::dominator_rows::{dominated_answer, dominator_answer, dominators_answer};
 use crate::growth::growth_answer;
 use crate::histogram::{garbage_text, histogram_text, retained_answer};
 use crate::history::history_answer;
@@ -60,6 +61,8 @@ enum StateQuestion {
     Retained(u64),
     // The objects that no other dominates: how many rows, or all.
     Dominators(Option<u64>),
+    // What the object with this id dominates immediately: how many rows, or all.
+    Dominated { id: u64, most: Option<u64> },
     // What dominates the object with this id.
     Dominator(u64),
     // The slots of an object, and whether it is marked.
@@ -73,6 +76,8 @@ enum PairQuestion {
     Growth,
     // What is reached in the newer state and isn't in the older, as a histogram has it.
     Kept,
+    // What differs between their objects.
+    Diff,
 }
 
 /// Returns the answer of a question about a machine, which may have a chronicle of this length, or the refusal NoMemory if an
@@ -88,6 +93,9 @@ pub fn answer(alloc: Global, machine: &Machine, acts: Option<u64>, question: Que
         }
         Question::Kept { older, newer } => {
             pair_answer(alloc, machine, older, newer, PairQuestion::Kept)
+        }
+        Question::Diff { older, newer } => {
+            pair_answer(alloc, machine, older, newer, PairQuestion::Diff)
         }
         Question::Registers(at) => state_answer(alloc, machine, at, StateQuestion::Registers),
         Question::Classes(at) => state_answer(alloc, machine, at, StateQuestion::Classes),
@@ -106,6 +114,9 @@ pub fn answer(alloc: Global, machine: &Machine, acts: Option<u64>, question: Que
         }
         Question::Dominators { at, most } => {
             state_answer(alloc, machine, at, StateQuestion::Dominators(most))
+        }
+        Question::Dominated { at, id, most } => {
+            state_answer(alloc, machine, at, StateQuestion::Dominated { id, most })
         }
         Question::Dominator { at, id } => {
             state_answer(alloc, machine, at, StateQuestion::Dominator(id))
@@ -181,6 +192,7 @@ fn view_lines(
         StateQuestion::Path(id) => path_answer(alloc, view, id),
         StateQuestion::Retained(id) => retained_answer(alloc, view, id),
         StateQuestion::Dominators(most) => or_refused(dominators_answer(alloc, view, most)),
+        StateQuestion::Dominated { id, most } => dominated_answer(alloc, view, id, most),
         StateQuestion::Dominator(id) => dominator_answer(alloc, view, id),
         StateQuestion::Show { id, marked } => show_answer(alloc, view, id, marked),
     }
@@ -254,6 +266,7 @@ fn pair_lines(
     match asked {
         PairQuestion::Growth => or_refused(growth_answer(alloc, older, newer)),
         PairQuestion::Kept => or_refused(kept_text(alloc, older, newer)),
+        PairQuestion::Diff => or_refused(diff_text(alloc, older, newer)),
     }
 }
 

@@ -2,7 +2,6 @@
 use Rattle.std.specs.Prelude.{◌≡◌, ◌⊎◌, ◌↔◌, ℕ, Bool, ◌==◌, ◌&&◌, not, if◌then◌else◌, List, [], ◌∷◌, Contains, Option, Some, None, filter, flat_map, length, map, slice_index}
 use Rattle.std.specs.List.{range_with_len}
 use Rattle.std.specs.List.Sorted.{IsStrictlyIncreasing}
-use Rattle.heap_class.specs.declared.ObjKind.{ObjKind}
 use Rattle.heap_class.specs.Classes.{Class}
 use Rattle.hprof_text.specs.Image.{DumpedObject, Image, IsKnown}
 use Rattle.heap_questions.specs.declared.differences.Difference.{Difference}
@@ -15,10 +14,10 @@ use Rattle.heap_questions.specs.Histogram.{row_number}
 abbrev pub is_like : DumpedObject → DumpedObject → Bool
 is_like o p = (row_number o.kind == row_number p.kind) && (length o.words == length p.words)
 
--- what slot s of an object of this kind with these words holds
-abbrev pub slot_seen : List Class → ObjKind → List ℕ → ℕ → SeenSlot
-slot_seen classes kind words s =
-    record { word = slice_index words s; refers = slot_refers classes kind s }
+-- what slot s of an object holds
+abbrev pub slot_seen : List Class → DumpedObject → ℕ → SeenSlot
+slot_seen classes o s =
+    record { word = slice_index o.words s; refers = slot_refers classes o.kind s }
 
 -- two objects hold other words in slot s
 abbrev pub differs_at : DumpedObject → DumpedObject → ℕ → Bool
@@ -27,7 +26,7 @@ differs_at o p s = not (slice_index o.words s == slice_index p.words s)
 -- the slots in which two objects, each beside the classes of its image, hold other words, in order
 unfoldable pub changes_of_slots : ℕ → List Class → DumpedObject → List Class → DumpedObject → List Difference
 changes_of_slots x old_classes o new_classes p =
-    map (λ s. Changed x s (slot_seen old_classes o.kind o.words s) (slot_seen new_classes p.kind p.words s))
+    map (λ s. Changed x s (slot_seen old_classes o s) (slot_seen new_classes p s))
     (filter (differs_at o p) (range_with_len 0 (length o.words)))
 
 -- what differs between two objects of one id

@@ -1,5 +1,5 @@
 //! What differs between the objects of two views.
-ghost use Rattle.std.specs.Prelude.{◌≡◌, ◌++◌, ◌∷◌, ◌<◌, [], flat_map, length, map, IfOk, IfErr, OnOk};
+ghost use Rattle.std.specs.Prelude.{◌≡◌, ◌++◌, ◌∷◌, ◌<◌, [], flat_map, length, map, slice_index, IfOk, IfErr, OnOk};
 ghost use Rattle.heap_class.specs.declared.Refusal.TheVariants.{NoMemory};
 ghost use Rattle.hprof_text.specs.Image.{IsKnown};
 ghost use Rattle.heap_questions.specs.Differences.{AreDifferences, AreIdsOfBoth, IsKnownIf, changes_of_slots, differences_between, differences_of, differences_of_two, is_like, slot_seen};
@@ -9,7 +9,7 @@ use crate::objects::ShownObject;
 use crate::past::SeenSlot;
 use crate::references::is_reference_slot;
 use crate::rows::row_number;
-use heap_class::{FirstClasses, ObjKind, Refusal};
+use heap_class::{FirstClasses, Refusal};
 use hprof_text::View;
 use std::alloc::{AllocError, Global};
 
@@ -110,10 +110,10 @@ fn add_differences(
     new: Option<ShownObject<'_>>,
     rows: &mut Vec<Difference>,
 ) -> Result<(), Refusal>
-    requires old { IsKnownIf old_classes.now old.entry }
-    requires new { IsKnownIf new_classes.now new.entry }
+    requires old { IsKnownIf old_classes.now old }
+    requires new { IsKnownIf new_classes.now new }
     ensures added { OnOk result (rows.new.items ≡ rows.old.items
-        ++ differences_between id old_classes.now old.entry new_classes.now new.entry) }
+        ++ differences_between id old_classes.now old new_classes.now new) }
     ensures refused { IfErr result (λ e. e ≡ NoMemory) }
 {
     match (old, new) {
@@ -181,32 +181,41 @@ fn add_slots(
         ++ changes_of_slots id old_classes.now old.now new_classes.now new.now) }
     ensures refused { IfErr result (λ e. e ≡ NoMemory) }
 {
-    let old_words = old.words();
-    let new_words = new.words();
-    for slot in 0..old_words.len() {
-        let before = old_words[slot];
-        let after = new_words[slot];
+    for slot in 0..old.words().len() {
+        let before = word_at(old, slot);
+        let after = word_at(new, slot);
         if before != after {
+            let seen = slot_seen(old_classes, old, slot);
+            let now = slot_seen(new_classes, new, slot);
             rows.push(Difference::Changed {
                 id,
                 slot: slot as u64,
-                old: slot_seen(old_classes, old.kind(), old_words, slot),
-                new: slot_seen(new_classes, new.kind(), new_words, slot),
+                old: seen,
+                new: now,
             })?;
         }
     }
     Ok(())
 }
 
-// Returns what a slot of an object of this kind with these words holds. Its class must be there.
-fn slot_seen(classes: &FirstClasses<'_>, kind: ObjKind, words: &[u64], slot: usize) -> SeenSlot
-    requires known { IsKnown classes.now kind (length words.now) }
-    requires within { slot < length words.now }
-    ensures { result ≡ slot_seen classes.now kind words.now slot }
+// Returns the word in a slot of an object.
+fn word_at(object: &ShownObject<'_>, slot: usize) -> u64
+    requires { slot < length object.now.words }
+    ensures { result ≡ slice_index object.now.words slot }
 {
+    object.words()[slot]
+}
+
+// Returns what a slot of an object holds. Its class must be there.
+fn slot_seen(classes: &FirstClasses<'_>, object: &ShownObject<'_>, slot: usize) -> SeenSlot
+    requires known { IsKnown classes.now object.now.kind (length object.now.words) }
+    requires within { slot < length object.now.words }
+    ensures { result ≡ slot_seen classes.now object.now slot }
+{
+    let count = object.words().len() as u64;
     SeenSlot {
-        word: words[slot],
-        refers: is_reference_slot(classes, kind, words.len() as u64, slot as u64),
+        word: word_at(object, slot),
+        refers: is_reference_slot(classes, object.kind(), count, slot as u64),
     }
 }
 

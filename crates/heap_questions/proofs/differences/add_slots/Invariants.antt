@@ -6,4 +6,4 @@ use Rattle.heap_questions.proofs.differences.add_slots.Given as goal
 
 abbrev pub invariant-loop-slot : goal.invariant-loop-slot
 invariant-loop-slot l =
-    l.rows.items ≡ l.fn.rows.items ++ passing (differs_at l.old l.new) (λ s. Changed l.id s (slot_seen l.old_classes l.old.kind l.old.words s) (slot_seen l.new_classes l.new.kind l.new.words s)) l.slot
+    l.rows.items ≡ l.fn.rows.items ++ passing (differs_at l.old l.new) (λ s. Changed l.id s (slot_seen l.old_classes l.old s) (slot_seen l.new_classes l.new s)) l.slot

@@ -22,7 +22,6 @@ from .rows import (
     ListedObject,
     LostPin,
     NullRegister,
-    ObjectDifference,
     ObjectId,
     PastStep,
     Piece,
@@ -31,7 +30,6 @@ from .rows import (
     RegisterReference,
     RegisterStep,
     SlotChange,
-    SlotDifference,
     SlotReference,
     SlotRow,
     SlotStep,
@@ -47,5 +45,5 @@ __all__ += ["NotDoneFacts", "RegionFact", "TooFarFacts", "LostFact"]
 __all__ += ["Moment", "Now", "Place", "Pin", "PinAt", "ObjectId", "Swept", "Collected", "Piece"]
 __all__ += ["Cells", "ClassCount", "ClassGrowth", "ClassRow", "Dominator", "Field", "HeldPin", "Holding", "LostPin", "ListedObject"]
 __all__ += ["NullRegister", "Register", "PastStep", "RegisterReference", "RegisterStep", "SlotChange", "SlotReference", "SlotRow"]
-__all__ += ["ObjectDifference", "RegionRow", "SlotDifference", "SlotStep", "SlotValue", "SlotWrite", "When"]
+__all__ += ["RegionRow", "SlotStep", "SlotValue", "SlotWrite", "When"]
 __all__ += ["Recorder", "Call", "Cost", "UnknownName"]

@@ -31,4 +31,3 @@ pub mod SeenSlots
 pub mod ListedObjects
 pub mod GrayMarks
 pub mod CountedCells
-pub mod DifferentObjects

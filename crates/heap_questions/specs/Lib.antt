@@ -19,4 +19,3 @@ pub mod Losses
 pub mod Cells
 pub mod RegionCounts
 pub mod PastTrails
-pub mod Differences

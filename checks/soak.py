@@ -113,6 +113,7 @@ def line_by_lot(lot):
         (1, f"path - 0x{0x10000000 + lot.randrange(1 << 12) * 8:08x}"),
         (1, f"retained {lot.choice(['', '- '])}0x{0x10000000 + lot.randrange(1 << 12) * 8:08x}"),
         (1, f"dominators {lot.choice(['', '-', '5', '- 5'])}"),
+        (1, f"dominators 0x{0x10000000 + lot.randrange(1 << 8) * 32:08x}{lot.choice(['', ' 5'])}"),
         (1, f"dominator {lot.choice(['', '- '])}0x{0x10000000 + lot.randrange(1 << 12) * 8:08x}"),
         (1, f"watch 0x{0x10000000 + lot.randrange(1 << 8) * 32:08x} {slot}{lot.choice(['', f' @{lot.randrange(3000)}'])}"),
         (0.3, f"writes {lot.randrange(3)} {slot}{lot.choice(['', f' @{lot.randrange(3000)}', f' @{lot.randrange(3000)} -'])}"),

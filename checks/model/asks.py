@@ -15,7 +15,10 @@ WANTED = {
     "kept": ("ok nothing", "ok some", *ABOUT_A_MOMENT[1:]),
     "path": (*ABOUT_A_MOMENT, "no 27", "no 28"),
     "retained": ("ok nothing", "ok itself", "ok more", "ok without AT", "no 22", "no 23", "no 24", "no 28"),
-    "dominators": ("ok nothing", "ok some", "ok some of them", "ok without AT", "no 22", "no 23"),
+    "dominators": (
+        *("ok nothing", "ok some", "ok some of them", "ok nothing below", "ok some below", "ok some of them below"),
+        *("ok without AT", "no 22", "no 23", "no 27", "no 28"),
+    ),
     "dominator": ("ok nothing", "ok some", "ok without AT", "no 23", "no 27", "no 28"),
     "referrers": (*ABOUT_A_MOMENT, "no 28"),
     "registers": ABOUT_A_MOMENT,
@@ -56,9 +59,10 @@ def sorts(word, form, words, left_out, last):
     elif word == b"values" and last[0] == "ok":
         yield "ok " + {"0": "nothing", "1": "some"}.get(last[1], "several")
     elif word in (b"watch", b"writes", b"kept", b"dominators", b"dominator") and last[0] == "ok":
-        yield "ok nothing" if last[1] == "0" else "ok some"
+        below = " below" if word == b"dominators" and "i" in form else ""
+        yield ("ok nothing" if last[1] == "0" else "ok some") + below
         if word == b"dominators" and form.endswith("n") and last[1] != "0":
-            yield "ok some of them"
+            yield "ok some of them" + below
     else:
         yield " ".join(last[:2]) if last[0] == "no" or last[1:2] in (["place"], ["older"], ["reached"]) else last[0]
 

@@ -181,6 +181,12 @@ class Replies(unittest.TestCase):
             self.assertEqual([(row.objects, row.class_name) for row in heap.kept("@1")], [(1, "Node")])
             self.assertEqual((heap.kept("@2"), heap.kept("@1", "@1")), ([], []))
 
+    def test_dominators_of_an_object(self):
+        heap = canned("row 0x10000020 1 16 Node", "ok 1", "ok 0", "ok 0")
+        self.assertEqual(heap.dominators(of=0x10000000), [(0x10000020, 1, 16, "Node")])
+        self.assertEqual((heap.dominators(Pin(1), of=16), heap.dominators(Place(7), 3, 0x10000000)), ([], []))
+        self.assertEqual(heap.writer.getvalue(), b"dominators - 0x10000000\ndominators 1 0x00000010\ndominators @7 0x10000000 3\n")
+
     def test_regions(self):
         heap = canned("row 0 4 5 3 2 waits", "row 7 64 1 1 0 -", "ok 2", "ok 0")
         rows = heap.regions()

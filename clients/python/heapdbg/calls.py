@@ -230,10 +230,12 @@ class Calls:
         among them. What several objects retain may overlap."""
         return self.send(f"retained {word_of_moment(moment)} {ObjectId(of)}", rows_by(counted))
 
-    def dominators(self, moment: Moment = None, most: Optional[int] = None) -> list[Holding]:
-        """Returns a `Holding` for each object that a register reaches and no other object dominates, the most bytes first; at most
-        so many, or all. These rows overlap nowhere."""
+    def dominators(self, moment: Moment = None, most: Optional[int] = None, of: Optional[int] = None) -> list[Holding]:
+        """Returns a `Holding` for each object that a register reaches and no other object dominates, or, with an object, for each
+        that it dominates immediately: the most bytes first; at most so many, or all. These rows overlap nowhere."""
         word = word_of_moment(moment)
+        if of is not None:
+            word = f"{word} {ObjectId(of)}"
         if word.isdigit() and most is None:
             most = MOST
         return self.send(f"dominators {word}" + ("" if most is None else f" {most}"), rows_by(holding))

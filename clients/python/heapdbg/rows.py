@@ -45,7 +45,7 @@ class ClassCount(NamedTuple):
 
 
 class Holding(NamedTuple):
-    """An object that no other dominates, how many objects it retains, itself among them, and their bytes."""
+    """An object, how many objects it retains, itself among them, and their bytes: a row of `dominators`."""
 
     id: ObjectId
     objects: int

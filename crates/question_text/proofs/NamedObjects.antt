@@ -70,8 +70,8 @@ all_listed_there wanted image all d is =
     (subst (λ (l : List ListedObject). AllByRecursion (IsListedThere image.classes) l) (sym is.2) (listed_there image.classes is.0 these (recursion_from_All (IsThere image.classes) these (All-filter (λ o. is_wanted wanted o.kind o.words) (IsThere image.classes) image.objects d.known))))
 
 -- the classes of the rows of `dominators` are there
-pub all_tops_there : (ids : IdSize) (image : Image) (most : Option ℕ) (rows : List TopObject) → IsDumpable image → AreFirstRows ids image most rows → All (IsTopThere image.classes) rows
-all_tops_there ids image most rows d is i t h =
+pub all_tops_there : (ids : IdSize) (image : Image) (Shown : ℕ → Type 0) (most : Option ℕ) (rows : List TopObject) → IsDumpable image → AreFirstRows ids image Shown most rows → All (IsTopThere image.classes) rows
+all_tops_there ids image Shown most rows d is i t h =
     let r = get_or rows i t in
-    let k = top_row_kind_is_known ids image most rows i r d is (slice_get-get_or rows i t h) in
+    let k = top_row_kind_is_known ids image Shown most rows i r d is (slice_get-get_or rows i t h) in
     there image.classes r.kind k.0 k.1

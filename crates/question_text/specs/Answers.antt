@@ -8,11 +8,11 @@ use Rattle.hprof_text.specs.Image.{Image}
 use Rattle.question_text.specs.declared.answers.PairQuestion.{PairQuestion}
 use Rattle.question_text.specs.declared.answers.StateQuestion.{StateQuestion}
 use Rattle.question_text.specs.declared.question.Question.{Question}
-use Rattle.question_text.specs.declared.question.Question.TheVariants.{Histogram, Garbage, Growth, Kept, Registers, Classes, Objects, Values, Referrers, Path, Retained, Dominators, Dominator, Show, Born, Wrote, Watch, Writes, Dropped, History, Pins, Cells, Regions, Status}
+use Rattle.question_text.specs.declared.question.Question.TheVariants.{Histogram, Garbage, Growth, Kept, Registers, Classes, Objects, Values, Referrers, Path, Retained, Dominators, Dominated, Dominator, Show, Born, Wrote, Watch, Writes, Dropped, History, Pins, Cells, Regions, Status}
 use Rattle.question_text.specs.Births.{IsBornText}
 use Rattle.question_text.specs.CellLists.{IsCellsText}
 use Rattle.question_text.specs.ClassLists.{IsClassesText}
-use Rattle.question_text.specs.DominatorRows.{IsDominatorText, IsDominatorsText}
+use Rattle.question_text.specs.DominatorRows.{IsDominatedText, IsDominatorText, IsDominatorsText}
 use Rattle.question_text.specs.Histograms.{IsGarbageText, IsHistogramText, IsRetainedText}
 use Rattle.question_text.specs.Moments.{IsAnswerAbout, IsAnswerBetween, image_at, refused_text}
 use Rattle.question_text.specs.Growths.{IsGrowthText}
@@ -47,6 +47,7 @@ IsStateText (StateQuestion.Referrers x) ids = IsReferrersText x
 IsStateText (StateQuestion.Path x) ids = IsPathText x
 IsStateText (StateQuestion.Retained x) ids = IsRetainedText x ids
 IsStateText (StateQuestion.Dominators most) ids = IsDominatorsText most ids
+IsStateText (StateQuestion.Dominated x most) ids = IsDominatedText x most ids
 IsStateText (StateQuestion.Dominator x) ids = IsDominatorText x
 IsStateText (StateQuestion.Show x marked) ids = IsShowText x marked
 
@@ -78,6 +79,8 @@ IsAnswer (Path at x) m acts text = IsAnswerAbout (IsPathText x) (image_at at m) 
 IsAnswer (Retained at x) m acts text = IsAnswerAbout (IsRetainedText x m.ids) (image_at at m) text
 IsAnswer (Dominators at most) m acts text =
     IsAnswerAbout (IsDominatorsText most m.ids) (image_at at m) text
+IsAnswer (Dominated at x most) m acts text =
+    IsAnswerAbout (IsDominatedText x most m.ids) (image_at at m) text
 IsAnswer (Dominator at x) m acts text = IsAnswerAbout (IsDominatorText x) (image_at at m) text
 IsAnswer (Show at x) m acts text =
     IsAnswerAbout (IsShowText x (shows_mark at m x)) (image_at at m) text

@@ -5,9 +5,9 @@ use Rattle.heap_class.specs.declared.IdSize.{IdSize}
 use Rattle.heap_class.specs.declared.ObjKind.{ObjKind}
 use Rattle.heap_class.specs.Classes.{Class}
 use Rattle.hprof_text.specs.Image.{DumpedObject, Image}
-use Rattle.heap_questions.specs.Graph.{IsUnreached, object_with}
+use Rattle.heap_questions.specs.Graph.{HasPath, IsUnreached, object_with}
 use Rattle.heap_dominators.specs.Rows.{AreFirstRows}
-use Rattle.heap_dominators.specs.Upward.{AreDominatorsUp}
+use Rattle.heap_dominators.specs.Upward.{AreDominatorsUp, IsImmediateDominator, IsTop}
 use Rattle.heap_dominators.specs.declared.rows.TopObject.{TopObject}
 use Rattle.session_text.specs.Replies.{and_number, line}
 use Rattle.question_text.specs.Ids.{and_id}
@@ -26,11 +26,35 @@ top_text classes t =
     ((((codes "row" ++ and_id t.id) ++ and_number t.objects) ++ and_number t.bytes)
     ++ 32 ∷ class_name classes t.kind)
 
--- the answer of `dominators`: the rows that are asked for, and how many they are
+-- the lines of these rows, and how many they are
+abbrev pub tops_text : List Class → List TopObject → List ℕ
+tops_text classes tops = flat_map (top_text classes) tops ++ count_text (length tops)
+
+-- the rows that are asked for, of the objects that are to be shown, and how many they are
+abbrev pub AreTopLines : (ℕ → Type 0) → Option ℕ → IdSize → Image → List ℕ → Type 0
+AreTopLines Shown most ids image text =
+    (tops : List TopObject) × AreFirstRows ids image Shown most tops
+    × (text ≡ tops_text image.classes tops)
+
+-- the answer of `dominators`: of the objects that no other dominates
 abbrev pub IsDominatorsText : Option ℕ → IdSize → Image → List ℕ → Type 0
-IsDominatorsText most ids image text =
-    (tops : List TopObject) × AreFirstRows ids image most tops
-    × (text ≡ flat_map (top_text image.classes) tops ++ count_text (length tops))
+IsDominatorsText most ids image text = AreTopLines (IsTop image) most ids image text
+
+-- the same of the objects that x dominates immediately; or no register reaches x
+abbrev pub IsBelowText : ℕ → Option ℕ → IdSize → Image → List ℕ → Type 0
+IsBelowText x most ids image text =
+    (HasPath image x × AreTopLines (IsImmediateDominator image x) most ids image text)
+    ⊎ (IsUnreached image x × (text ≡ unreachable_text))
+
+-- the same about the object with this id, if there is one
+abbrev pub IsDominatedTextOf : Option DumpedObject → ℕ → Option ℕ → IdSize → Image → List ℕ → Type 0
+IsDominatedTextOf None x most ids image text = text ≡ no_object_text
+IsDominatedTextOf (Some o) x most ids image text = IsBelowText x most ids image text
+
+-- the answer of `dominators` and an id
+abbrev pub IsDominatedText : ℕ → Option ℕ → IdSize → Image → List ℕ → Type 0
+IsDominatedText x most ids image text =
+    IsDominatedTextOf (object_with image x) x most ids image text
 
 -- the line of an object that dominates another: its id and its class
 unfoldable pub holder_text : List Class → ℕ → ObjKind → List ℕ

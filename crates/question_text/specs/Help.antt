@@ -28,7 +28,7 @@ question_forms =
     ∷ form_of (codes "referrers") (codes "referrers [AT] ID") (codes "referrers - 0x10000020")
     ∷ form_of (codes "path") (codes "path [AT] ID") (codes "path @120 0x10000020")
     ∷ form_of (codes "retained") (codes "retained [AT] ID") (codes "retained 0x10000020")
-    ∷ form_of (codes "dominators") (codes "dominators [AT] [N]") (codes "dominators 10")
+    ∷ form_of (codes "dominators") (codes "dominators [AT] [ID] [N]") (codes "dominators 0x10000020 10")
     ∷ form_of (codes "dominator") (codes "dominator [AT] ID") (codes "dominator 0x10000020")
     ∷ form_of (codes "show") (codes "show [AT] ID") (codes "show - 0x10000020")
     ∷ form_of (codes "born") (codes "born [@PLACE] ID") (codes "born 0x10000020")

@@ -5,7 +5,7 @@ use Rattle.session_grammar.specs.Grammar.{at_end, next_number, number_of_word, w
 use Rattle.question_text.specs.declared.question.At.{At}
 use Rattle.question_text.specs.declared.question.At.TheVariants.{Current, Pin, Place}
 use Rattle.question_text.specs.declared.question.Question.{Question}
-use Rattle.question_text.specs.declared.question.Question.TheVariants.{Histogram, Garbage, Growth, Kept, Registers, Classes, Objects, Values, Referrers, Path, Retained, Dominators, Dominator, Show, Born, Wrote, Watch, Writes, Dropped, History, Pins, Cells, Regions, Status}
+use Rattle.question_text.specs.declared.question.Question.TheVariants.{Histogram, Garbage, Growth, Kept, Registers, Classes, Objects, Values, Referrers, Path, Retained, Dominators, Dominated, Dominator, Show, Born, Wrote, Watch, Writes, Dropped, History, Pins, Cells, Regions, Status}
 use Rattle.question_text.specs.declared.question.Span.{Span}
 use Rattle.question_text.specs.declared.question.Span.TheVariants.{AllSteps, Between}
 use Rattle.std.specs.Option.{option_or}
@@ -72,14 +72,6 @@ number_or_at None w = option_map (λ at. (at, None)) (at_of_word w)
 -- the number that a word is, about the current state, or the state that it names
 abbrev pub at_or_number : List ℕ → Option (At × Option ℕ)
 at_or_number w = number_or_at (number_of_word w) w
-
--- the state and the number that the words name; a single word is the number, if it is one
-abbrev pub optional_at_and_number : List (List ℕ) → Option (At × Option ℕ)
-optional_at_and_number [] = Some (Current, None)
-optional_at_and_number (w ∷ []) = at_or_number w
-optional_at_and_number (w ∷ v ∷ ws) =
-    option_and_then (λ a. option_and_then (λ n. at_end (a.0, Some n.0) n.1) (next_number a.1))
-    (next_at (w ∷ v ∷ ws))
 
 -- the place of a state: none for the current one; a pin may keep a state that the retained steps don't lead to
 abbrev pub place_of : At → Option (Option ℕ)
@@ -181,6 +173,32 @@ at_and_slot (w ∷ v ∷ u ∷ ws) =
     option_and_then (λ at. option_and_then (λ slot. at_end (at, slot) ws) (class_and_slot v u))
     (at_of_word w)
 
+-- ---- the words after `dominators`
+
+-- what object x dominates in a state: as many rows as the words say, or all
+abbrev pub dominated_by : At → ℕ → List (List ℕ) → Option Question
+dominated_by at x [] = Some (Dominated at x None)
+dominated_by at x (w ∷ ws) =
+    option_and_then (λ n. at_end (Dominated at x (Some n)) ws) (number_of_word w)
+
+-- what is asked of a state by a word, which may be this id, and those behind it
+abbrev pub dominators_by : At → Option ℕ → List ℕ → List (List ℕ) → Option Question
+dominators_by at (Some x) w ws = dominated_by at x ws
+dominators_by at None w ws =
+    option_and_then (λ n. at_end (Dominators at (Some n)) ws) (number_of_word w)
+
+-- the same; the first word, which may be this id, may be the state
+abbrev pub dominators_from : Option ℕ → List ℕ → List (List ℕ) → Option Question
+dominators_from (Some x) w ws = dominated_by Current x ws
+dominators_from None w [] = option_map (λ a. Dominators a.0 a.1) (at_or_number w)
+dominators_from None w (v ∷ ws) =
+    option_and_then (λ at. dominators_by at (id_of_word v) v ws) (at_of_word w)
+
+-- a state, an id and a number of rows, each if it is named
+abbrev pub dominators_of : List (List ℕ) → Option Question
+dominators_of [] = Some (Dominators Current None)
+dominators_of (w ∷ ws) = dominators_from (id_of_word w) w ws
+
 -- ---- the table of questions
 
 -- a keyword, and what the words after it ask
@@ -216,7 +234,7 @@ question_rules =
     ∷ (codes "referrers", λ ws. option_map (λ a. Referrers a.0 a.1) (optional_at_and_id ws))
     ∷ (codes "path", λ ws. option_map (λ a. Path a.0 a.1) (optional_at_and_id ws))
     ∷ (codes "retained", λ ws. option_map (λ a. Retained a.0 a.1) (optional_at_and_id ws))
-    ∷ (codes "dominators", λ ws. option_map (λ a. Dominators a.0 a.1) (optional_at_and_number ws))
+    ∷ (codes "dominators", λ ws. dominators_of ws)
     ∷ (codes "dominator", λ ws. option_map (λ a. Dominator a.0 a.1) (optional_at_and_id ws))
     ∷ (codes "show", λ ws. option_map (λ a. Show a.0 a.1) (optional_at_and_id ws))
     ∷ past_rules

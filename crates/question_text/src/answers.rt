@@ -10,7 +10,7 @@ use crate::birth::born_answer;
 use crate::cell_list::cells_answer;
 use crate::class_list::classes_answer;
 use crate::comment::unasked_answer;
-use crate::dominator_rows::{dominator_answer, dominators_answer};
+use crate::dominator_rows::{dominated_answer, dominator_answer, dominators_answer};
 use crate::growth::growth_answer;
 use crate::histogram::{garbage_text, histogram_text, retained_answer};
 use crate::history::history_answer;
@@ -60,6 +60,8 @@ enum StateQuestion {
     Retained(u64),
     // The objects that no other dominates: how many rows, or all.
     Dominators(Option<u64>),
+    // What the object with this id dominates immediately: how many rows, or all.
+    Dominated { id: u64, most: Option<u64> },
     // What dominates the object with this id.
     Dominator(u64),
     // The slots of an object, and whether it is marked.
@@ -106,6 +108,9 @@ pub fn answer(alloc: Global, machine: &Machine, acts: Option<u64>, question: Que
         }
         Question::Dominators { at, most } => {
             state_answer(alloc, machine, at, StateQuestion::Dominators(most))
+        }
+        Question::Dominated { at, id, most } => {
+            state_answer(alloc, machine, at, StateQuestion::Dominated { id, most })
         }
         Question::Dominator { at, id } => {
             state_answer(alloc, machine, at, StateQuestion::Dominator(id))
@@ -181,6 +186,7 @@ fn view_lines(
         StateQuestion::Path(id) => path_answer(alloc, view, id),
         StateQuestion::Retained(id) => retained_answer(alloc, view, id),
         StateQuestion::Dominators(most) => or_refused(dominators_answer(alloc, view, most)),
+        StateQuestion::Dominated { id, most } => dominated_answer(alloc, view, id, most),
         StateQuestion::Dominator(id) => dominator_answer(alloc, view, id),
         StateQuestion::Show { id, marked } => show_answer(alloc, view, id, marked),
     }

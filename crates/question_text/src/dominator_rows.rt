@@ -3,7 +3,7 @@ ghost use Rattle.std.specs.Prelude.{◌≡◌, All, flat_map};
 ghost use Rattle.heap_class.specs.declared.Refusal.TheVariants.{NoMemory};
 ghost use Rattle.hprof_text.specs.Image.{IsDumpable};
 ghost use Rattle.question_text.specs.Appends.{Appends, ReturnsText};
-ghost use Rattle.question_text.specs.DominatorRows.{IsDominatorText, IsDominatorsText, IsTopThere, above_text, holder_text, top_text, up_text};
+ghost use Rattle.question_text.specs.DominatorRows.{IsDominatedText, IsDominatorText, IsDominatorsText, IsTopThere, above_text, holder_text, top_text, tops_text, up_text};
 ghost use Rattle.question_text.specs.Moments.{IsToldOf, told_text};
 ghost use Rattle.question_text.specs.Names.{IsClassThere};
 
@@ -11,7 +11,7 @@ use crate::id::push_id;
 use crate::names::push_class_name;
 use crate::rows::{Unanswered, push_count, push_number, push_words};
 use heap_class::{FirstClasses, ObjKind, Refusal};
-use heap_dominators::{TopObject, dominators, dominators_up};
+use heap_dominators::{TopObject, dominated, dominators, dominators_up};
 use heap_questions::{ObjectIndex, object_with};
 use hprof_text::View;
 use std::alloc::{AllocError, Global};
@@ -27,13 +27,25 @@ pub(crate) fn dominators_answer<V: View>(
 {
     let tops = dominators(alloc, view, most)?;
     let classes = view.classes();
+    top_lines(alloc, &classes, tops.as_slice())
+}
+
+// Returns the lines of objects with what each retains, whose classes must be there, and how many they are. Fails with NoMemory.
+fn top_lines(
+    alloc: Global,
+    classes: &FirstClasses<'_>,
+    tops: &[TopObject],
+) -> Result<Vec<u8>, Refusal>
+    requires { All (IsTopThere classes.now) tops.now }
+    ensures { ReturnsText (λ text. text ≡ tops_text classes.now tops.now) result }
+{
     let mut text = Vec::new(alloc);
-    push_tops(&mut text, &classes, tops.as_slice())?;
+    push_tops(&mut text, classes, tops)?;
     push_count(&mut text, tops.len() as u64)?;
     Ok(text)
 }
 
-// Appends the lines of objects that no other dominates, whose classes must be there. Fails if an allocation fails.
+// Appends the lines of objects with what each retains, whose classes must be there. Fails if an allocation fails.
 fn push_tops(
     text: &mut Vec<u8>,
     classes: &FirstClasses<'_>,
@@ -49,7 +61,7 @@ fn push_tops(
     Ok(())
 }
 
-// Appends the line of an object that no other dominates, whose class must be there. Fails if an allocation fails.
+// Appends the line of an object with what it retains, whose class must be there. Fails if an allocation fails.
 #[tactic(auto, unfolding(crate::specs::DominatorRows::top_text))]
 fn push_top(
     text: &mut Vec<u8>,
@@ -66,6 +78,29 @@ fn push_top(
     push_words(text, b" ")?;
     push_class_name(text, classes, top.kind)?;
     push_words(text, b"\n")
+}
+
+// Returns the answer of `dominators` and an id about a view: of the first rows, if there is a number, and else of all. Fails with
+// NoObject if the id names no object, with Unreachable if no register reaches it, and with NoMemory if an allocation fails. Reads
+// each object a few times.
+pub(crate) fn dominated_answer<V: View>(
+    alloc: Global,
+    view: &V,
+    id: u64,
+    most: Option<u64>,
+) -> Result<Vec<u8>, Unanswered>
+    ensures { IsToldOf (IsDominatedText id most (V.ids view.now)) (V.image view.now)
+        (told_text result) }
+{
+    if object_with(view, id).is_none() {
+        return Err(Unanswered::NoObject);
+    }
+    let classes = view.classes();
+    let Some(tops) = dominated(alloc, view, id, most)? else {
+        return Err(Unanswered::Unreachable);
+    };
+    let text = top_lines(alloc, &classes, tops.as_slice())?;
+    Ok(text)
 }
 
 // Returns the answer of `dominator` about a view. Fails with NoObject if the id names no object, with Unreachable if no register

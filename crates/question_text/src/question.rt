@@ -1,7 +1,8 @@
 //! The grammar of questions.
 ghost use Rattle.std.specs.Prelude.{◌≡◌, drop};
 ghost use Rattle.session_grammar.specs.Grammar.{words_of_line};
-ghost use Rattle.question_text.specs.Questions.{at_and_optional, at_and_slot, at_and_wanted, at_of_word, at_or_number, class_and_slot, id_and_number, optional_at, optional_at_and_id, optional_at_and_number, past_rules, place_and_id, place_and_number, place_and_slot, place_of, place_of_word, question_by, question_of, question_rules, slot_and_place, slot_and_span, span_of, value_of_word, wanted_of};
+ghost use Rattle.question_text.specs.Ids.{id_of_word};
+ghost use Rattle.question_text.specs.Questions.{at_and_optional, at_and_slot, at_and_wanted, at_of_word, at_or_number, class_and_slot, dominated_by, dominators_by, dominators_of, id_and_number, optional_at, optional_at_and_id, past_rules, place_and_id, place_and_number, place_and_slot, place_of, place_of_word, question_by, question_of, question_rules, slot_and_place, slot_and_span, span_of, value_of_word, wanted_of};
 
 use crate::id::id_of;
 use heap_questions::Wanted;
@@ -56,6 +57,8 @@ pub enum Question {
     Retained { at: At, id: u64 },
     /// The objects that no other dominates, with what each retains: how many rows, or all.
     Dominators { at: At, most: Option<u64> },
+    /// The objects that an object dominates immediately, with what each retains: how many rows, or all.
+    Dominated { at: At, id: u64, most: Option<u64> },
     /// The objects without which an object wouldn't be reached, one above the other.
     Dominator { at: At, id: u64 },
     /// The slots of an object.
@@ -174,8 +177,7 @@ fn later_question(keyword: &[u8], words: Words) -> Option<Question>
         return Some(Question::Retained { at, id });
     }
     if is_word(keyword, b"dominators") {
-        let (at, most) = optional_at_and_number(words)?;
-        return Some(Question::Dominators { at, most });
+        return dominators_of(words);
     }
     if is_word(keyword, b"dominator") {
         let (at, id) = optional_at_and_id(words)?;
@@ -260,17 +262,35 @@ fn optional_at_and_id(mut words: Words) -> Option<(At, u64)>
     at_end((at_of(word)?, id_of(second)?), words)
 }
 
-// Returns the state and the number that the words name. A single word is the number, if it is one.
-fn optional_at_and_number(mut words: Words) -> Option<(At, Option<u64>)>
-    ensures { result ≡ optional_at_and_number (words_of_line words.entry) }
+// Reads the words behind `dominators`: a state, an id and a number of rows, each if it is named. A single number is that of rows.
+fn dominators_of(mut words: Words) -> Option<Question>
+    ensures { result ≡ dominators_of (words_of_line words.entry) }
 {
     let Some(word) = words.next_word() else {
-        return Some((At::Current, None));
+        let at = At::Current;
+        return Some(Question::Dominators { at, most: None });
     };
+    if let Some(id) = id_of(word) {
+        return dominated_by(At::Current, id, words);
+    }
     let Some(second) = words.next_word() else {
-        return at_or_number(word);
+        let (at, most) = at_or_number(word)?;
+        return Some(Question::Dominators { at, most });
     };
-    at_end((at_of(word)?, Some(number_of(second)?)), words)
+    let at = at_of(word)?;
+    dominators_by(at, second, words)
+}
+
+// Reads the words behind an id: a number of rows, if there is one.
+fn dominated_by(at: At, id: u64, mut words: Words) -> Option<Question>
+    ensures { result ≡ dominated_by at id (words_of_line words.entry) }
+{
+    let Some(word) = words.next_word() else {
+        let most = None;
+        return Some(Question::Dominated { at, id, most });
+    };
+    let most = Some(number_of(word)?);
+    at_end(Question::Dominated { at, id, most }, words)
 }
 
 // Returns the number that a word is, about the current state, or the state that it names, without a number.
@@ -281,6 +301,17 @@ fn at_or_number(word: &[u8]) -> Option<(At, Option<u64>)>
         Some(number) => Some((At::Current, Some(number))),
         None => Some((at_of(word)?, None)),
     }
+}
+
+// Reads a word, an id or a number of rows, and those behind it.
+fn dominators_by(at: At, word: &[u8], words: Words) -> Option<Question>
+    ensures { result ≡ dominators_by at (id_of_word word.now) word.now (words_of_line words.entry) }
+{
+    if let Some(id) = id_of(word) {
+        return dominated_by(at, id, words);
+    }
+    let most = Some(number_of(word)?);
+    at_end(Question::Dominators { at, most }, words)
 }
 
 // Reads the words behind a keyword of a question about what retained steps did, about pins, or about the current state.

@@ -1,0 +1,9 @@
+use Rattle.heap_dominators.specs.Upward.{IsImmediateDominator}
+use Rattle.question_text.proofs.NamedObjects.{all_tops_there}
+use Rattle.question_text.proofs.dominator_rows.dominated_answer.Goals as goal
+
+pub top_lines-requires : goal.top_lines-requires
+top_lines-requires g c =
+    let image = g.V.View.image c.args.view.now in
+    rw (c.as_slice.ensures.value, c.classes-classes.ensures.value)
+    (all_tops_there (g.V.View.ids c.args.view.now) image (IsImmediateDominator image c.args.id) c.args.most c.in-Some.tops.items c.classes-classes.ensures.limits (rw c.in-Some.is at c.in_ok-tops.ensures.answer).1)

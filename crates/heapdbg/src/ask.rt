@@ -59,7 +59,8 @@ where
         (⟦<ReadInlet<Half> as Inlet>⟧.seen s.socket) (O.seen writer.old) (O.seen writer.new)
         result.outcome) }
     ensures sends { IfSome result.asked (λ s. IfSome s.client.sender (λ h.
-        (h.promise.secret ≡ secret) × (h.promise.input.value ≡ input) × (h.promise.outlet.value.out ≡ []))) }
+        (h.promise.secret ≡ secret) × (h.promise.input.value ≡ input)
+        × (h.promise.outlet.value.out ≡ []))) }
     ensures unsent { IfSome result.asked (λ s. IfNone s.client.sender
         (s.client.asked ≡ ended.NoMemory)) }
     ensures unasked { IfNone result.asked (IsUnasked (O.seen writer.old) (O.seen writer.new)

@@ -84,7 +84,8 @@ where
     requires named { IsNamed L.config L.tables L.ledger L.rolls blank }
     requires made { IsMadeFor L.config blank }
     ensures { IsPageExploredOver (session_limits request.entry.settings.wide) L.config from
-        request.entry.settings.time (I.seen reader.old) (I.seen reader.new) (O.seen writer.old) (O.seen writer.new) result }
+        request.entry.settings.time (I.seen reader.old) (I.seen reader.new) (O.seen writer.old)
+        (O.seen writer.new) result }
 {
     let (shared, seats) = blank.open::<L>();
     let mut seat = WatchedSeat::new(rt, &shared, only_seat(seats), &screen.console.watch);

@@ -122,7 +122,8 @@ pub fn questions_can_be_left_out()
 /// States that some list of actions leads to the machine that a session with questions leaves, `collect` included.
 pub fn asking_session_is_list()
     ensures { (limits : SessionLimits) (time : ℕ) (lines : List (List ℕ)) (text : List ℕ)
-        (c d : Asking) → AnswersAll limits (AnswersCommand AskingActs AskingAnswers time) lines c text d
+        (c d : Asking) → AnswersAll limits
+        (AnswersCommand AskingActs AskingAnswers time) lines c text d
         → IsDriven c.local.machine d.local.machine }
 {}
 

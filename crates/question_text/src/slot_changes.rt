@@ -94,7 +94,8 @@ fn changes_text(
 
 // Appends the lines of all changes. Fails if an allocation fails.
 fn push_changes(text: &mut Vec<u8>, refers: bool, changes: &[SlotChange]) -> Result<(), AllocError>
-    ensures { Appends (flat_map (change_line refers) changes.now) text.old.items text.new.items result }
+    ensures { Appends (flat_map (change_line refers) changes.now) text.old.items
+        text.new.items result }
 {
     for change in changes {
         push_change(text, refers, *change)?;

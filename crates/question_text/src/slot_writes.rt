@@ -77,7 +77,8 @@ fn written_text(
 
 // Appends the lines of all writes. Fails if an allocation fails.
 fn push_writes(text: &mut Vec<u8>, refers: bool, writes: &[SlotWrite]) -> Result<(), AllocError>
-    ensures { Appends (flat_map (write_line refers) writes.now) text.old.items text.new.items result }
+    ensures { Appends (flat_map (write_line refers) writes.now) text.old.items
+        text.new.items result }
 {
     for write in writes {
         push_write(text, refers, *write)?;

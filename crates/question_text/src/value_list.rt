@@ -49,7 +49,8 @@ fn values_text<V: View>(
 
 // Appends the lines of all values. Fails if an allocation fails.
 fn push_values(text: &mut Vec<u8>, refers: bool, values: &[SlotValue]) -> Result<(), AllocError>
-    ensures { Appends (flat_map (value_line refers) values.now) text.old.items text.new.items result }
+    ensures { Appends (flat_map (value_line refers) values.now) text.old.items
+        text.new.items result }
 {
     for value in values {
         push_value(text, refers, *value)?;

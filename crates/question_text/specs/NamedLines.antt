@@ -15,13 +15,13 @@ use Rattle.question_text.specs.NameWords.{class_and_slot_named, class_of_word, i
 use Rattle.question_text.specs.Questions.{QuestionRule, at_of_word, place_of_word, question_by, question_of, span_of, value_of_word}
 
 -- the objects of a class with a value in a slot, which three words name
-abbrev pub holding_named : List Class → List ℕ → List ℕ → List ℕ → Option Wanted
+unfoldable pub holding_named : List Class → List ℕ → List ℕ → List ℕ → Option Wanted
 holding_named classes k s v =
     option_and_then (λ slot. option_map (λ x. Holding slot.0 slot.1 x) (value_of_word v))
     (class_and_slot_named classes k s)
 
 -- the state, and a class or a class with a value in a slot, that the words name; without a state it is the current one
-abbrev pub objects_named : List Class → List (List ℕ) → Option (At × Wanted)
+unfoldable pub objects_named : List Class → List (List ℕ) → Option (At × Wanted)
 objects_named classes [] = None
 objects_named classes (k ∷ []) =
     option_map (λ k. (Current, OfClass k)) (class_of_word classes k)
@@ -36,7 +36,7 @@ objects_named classes (w ∷ k ∷ s ∷ v ∷ ws) =
     (at_of_word w)
 
 -- the state, and the class and the slot, that the words name; without a state it is the current one
-abbrev pub values_named : List Class → List (List ℕ) → Option (At × (ℕ × ℕ))
+unfoldable pub values_named : List Class → List (List ℕ) → Option (At × (ℕ × ℕ))
 values_named classes [] = None
 values_named classes (w ∷ []) = None
 values_named classes (w ∷ v ∷ []) =
@@ -47,7 +47,7 @@ values_named classes (w ∷ v ∷ u ∷ ws) =
     (at_of_word w)
 
 -- the place, and the id and the slot, that the words name; without a place it is that of the current state
-abbrev pub write_named : HeapState → List (List ℕ) → Option (Option ℕ × (ℕ × ℕ))
+unfoldable pub write_named : HeapState → List (List ℕ) → Option (Option ℕ × (ℕ × ℕ))
 write_named state [] = None
 write_named state (w ∷ []) = None
 write_named state (w ∷ v ∷ []) = option_map (λ slot. (None, slot)) (id_and_slot_named state w v)
@@ -57,7 +57,7 @@ write_named state (w ∷ v ∷ u ∷ ws) =
     (place_of_word w)
 
 -- the same, with the place at the end
-abbrev pub watch_named : HeapState → List (List ℕ) → Option ((ℕ × ℕ) × Option ℕ)
+unfoldable pub watch_named : HeapState → List (List ℕ) → Option ((ℕ × ℕ) × Option ℕ)
 watch_named state [] = None
 watch_named state (w ∷ []) = None
 watch_named state (w ∷ v ∷ []) = option_map (λ slot. (slot, None)) (id_and_slot_named state w v)
@@ -66,7 +66,7 @@ watch_named state (w ∷ v ∷ u ∷ ws) =
     (id_and_slot_named state w v)
 
 -- the class, the slot and the steps that the words name
-abbrev pub writes_named : List Class → List (List ℕ) → Option ((ℕ × ℕ) × Span)
+unfoldable pub writes_named : List Class → List (List ℕ) → Option ((ℕ × ℕ) × Span)
 writes_named classes [] = None
 writes_named classes (w ∷ []) = None
 writes_named classes (w ∷ v ∷ ws) =

@@ -3,7 +3,7 @@ ghost use Rattle.std.specs.Prelude.{◌≡◌, ◌<◌, ◌^◌, length};
 ghost use Rattle.std.specs.List.{position_from};
 ghost use Rattle.std.specs.Str.{bytes_eq};
 ghost use Rattle.heap_class.specs.Classes.{fields_of};
-ghost use Rattle.question_text.specs.NameWords.{class_and_slot_named, class_named, class_of_id, class_of_word, id_and_slot_named, slot_named, slot_of_object, slot_of_object_named, slot_of_word};
+ghost use Rattle.question_text.specs.NameWords.{class_and_slot_named, class_named, class_of_id, class_of_word, id_and_slot_named, instance_of, slot_named, slot_of_object, slot_of_object_named, slot_of_word};
 
 use crate::id::id_of;
 use crate::show::field_name;
@@ -13,6 +13,7 @@ use session_grammar::number::number_of;
 use session_grammar::words::is_word;
 
 // Returns the class that a word names, by its number or its name, or None if it names none.
+#[tactic(auto, unfolding(crate::specs::NameWords::class_of_word))]
 pub(crate) fn class_of(classes: &FirstClasses<'_>, word: &[u8]) -> Option<ClassNo>
     ensures { result ≡ class_of_word classes.now word.now }
 {
@@ -36,6 +37,7 @@ fn class_named(classes: &FirstClasses<'_>, name: &[u8]) -> Option<ClassNo>
 }
 
 // Returns the class and the slot that two words name.
+#[tactic(auto, unfolding(crate::specs::NameWords::class_and_slot_named))]
 pub(crate) fn class_and_slot_named(
     classes: &FirstClasses<'_>,
     class: &[u8],
@@ -48,6 +50,7 @@ pub(crate) fn class_and_slot_named(
 }
 
 // Returns the slot of the instances of a class that a word names, by its number or its name, or None if it names none.
+#[tactic(auto, unfolding(crate::specs::NameWords::slot_of_word))]
 fn slot_of(classes: &FirstClasses<'_>, class: ClassNo, word: &[u8]) -> Option<u64>
     ensures { result ≡ slot_of_word classes.now class word.now }
 {
@@ -76,10 +79,11 @@ fn slot_up(classes: &FirstClasses<'_>, class: ClassNo, name: &[u8]) -> Option<u6
     let mut here = Some(class);
     let mut first = 0;
     for depth in 0..classes.len() {
-        let above = here?;
-        let found = field_named(classes, above, name, first);
-        if found.is_some() {
-            return found;
+        let Some(above) = here else {
+            return None;
+        };
+        if let Some(slot) = field_named(classes, above, name, first) {
+            return Some(slot);
         }
         first += classes.field_count(above);
         here = classes.sup(above);
@@ -103,6 +107,7 @@ fn field_named(classes: &FirstClasses<'_>, class: ClassNo, name: &[u8], first: u
 }
 
 // Returns the id and the slot that two words name.
+#[tactic(auto, unfolding(crate::specs::NameWords::id_and_slot_named))]
 pub(crate) fn id_and_slot_named(world: &World, id: &[u8], slot: &[u8]) -> Option<(u64, u64)>
     ensures { result ≡ id_and_slot_named world.now id.now slot.now }
 {
@@ -111,6 +116,7 @@ pub(crate) fn id_and_slot_named(world: &World, id: &[u8], slot: &[u8]) -> Option
 }
 
 // Returns the slot of the object with this id that a word names, by its number or its name, or None if it names none.
+#[tactic(auto, unfolding(crate::specs::NameWords::slot_of_object))]
 fn slot_of_object(world: &World, id: u64, word: &[u8]) -> Option<u64>
     ensures { result ≡ slot_of_object world.now id word.now }
 {
@@ -121,6 +127,7 @@ fn slot_of_object(world: &World, id: u64, word: &[u8]) -> Option<u64>
 }
 
 // Returns the first slot with this name of the object with this id, dead or not.
+#[tactic(auto, unfolding(crate::specs::NameWords::slot_of_object_named))]
 fn slot_of_object_named(world: &World, id: u64, name: &[u8]) -> Option<u64>
     ensures { result ≡ slot_of_object_named world.now id name.now }
 {
@@ -133,8 +140,17 @@ fn class_of_id(world: &World, id: u64) -> Option<ClassNo>
     ensures { result ≡ class_of_id world.now id }
 {
     let regions = world.regions();
-    let at = regions.find(id)?;
-    match regions.kind(at) {
+    match regions.find(id) {
+        Some(at) => class_of_kind(regions.kind(at)),
+        None => None,
+    }
+}
+
+// Returns the class of an instance, or None of an array.
+fn class_of_kind(kind: ObjKind) -> Option<ClassNo>
+    ensures { result ≡ instance_of kind }
+{
+    match kind {
         ObjKind::Instance(class) => Some(class),
         _ => None,
     }

@@ -55,6 +55,7 @@ fn named_question(world: &World, line: &[u8]) -> Option<Question>
 
 // Returns the state, and a class or a class with a value in a slot, that the words name. If they name no state, it is the current
 // one.
+#[tactic(auto, unfolding(crate::specs::NamedLines::objects_named))]
 fn objects_named(classes: &FirstClasses<'_>, mut words: Words) -> Option<(At, Wanted)>
     ensures { result ≡ objects_named classes.now (words_of_line words.entry) }
 {
@@ -74,6 +75,7 @@ fn objects_named(classes: &FirstClasses<'_>, mut words: Words) -> Option<(At, Wa
 }
 
 // Returns the objects of a class with a value in a slot, which three words name.
+#[tactic(auto, unfolding(crate::specs::NamedLines::holding_named))]
 fn holding_named(
     classes: &FirstClasses<'_>,
     class: &[u8],
@@ -88,6 +90,7 @@ fn holding_named(
 }
 
 // Returns the state, and the class and the slot, that the words name. If they name no state, it is the current one.
+#[tactic(auto, unfolding(crate::specs::NamedLines::values_named))]
 fn values_named(classes: &FirstClasses<'_>, mut words: Words) -> Option<(At, (u64, u64))>
     ensures { result ≡ values_named classes.now (words_of_line words.entry) }
 {
@@ -101,6 +104,7 @@ fn values_named(classes: &FirstClasses<'_>, mut words: Words) -> Option<(At, (u6
 }
 
 // Returns the place, and the id and the slot, that the words name. If they are only an id and a slot, there is no place.
+#[tactic(auto, unfolding(crate::specs::NamedLines::write_named))]
 fn write_named(world: &World, mut words: Words) -> Option<(Option<u64>, (u64, u64))>
     ensures { result ≡ write_named world.now (words_of_line words.entry) }
 {
@@ -114,6 +118,7 @@ fn write_named(world: &World, mut words: Words) -> Option<(Option<u64>, (u64, u6
 }
 
 // Returns the id and the slot, and the place, that the words name. If they are only an id and a slot, there is no place.
+#[tactic(auto, unfolding(crate::specs::NamedLines::watch_named))]
 fn watch_named(world: &World, mut words: Words) -> Option<((u64, u64), Option<u64>)>
     ensures { result ≡ watch_named world.now (words_of_line words.entry) }
 {
@@ -127,6 +132,7 @@ fn watch_named(world: &World, mut words: Words) -> Option<((u64, u64), Option<u6
 }
 
 // Returns the class and the slot, and the steps, that the words name.
+#[tactic(auto, unfolding(crate::specs::NamedLines::writes_named))]
 fn writes_named(classes: &FirstClasses<'_>, mut words: Words) -> Option<((u64, u64), Span)>
     ensures { result ≡ writes_named classes.now (words_of_line words.entry) }
 {

@@ -1,5 +1,5 @@
 -- Lines of questions that name classes and fields.
-use Rattle.std.specs.Prelude.{ℕ, List, [], ◌∷◌, codes, Option, Some, None, option_map, option_and_then}
+use Rattle.std.specs.Prelude.{ℕ, List, [], ◌∷◌, codes, Option, None, option_map, option_and_then}
 use Rattle.std.specs.Option.{option_or}
 use Rattle.heap_class.specs.Classes.{Class}
 use Rattle.heap_world.specs.State.{HeapState}

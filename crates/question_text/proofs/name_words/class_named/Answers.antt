@@ -1,4 +1,4 @@
-use Rattle.std.proofs.Common.{◌≡◌, ◌∙◌, arith, sym}
+use Rattle.std.proofs.Common.{◌∙◌, arith, sym}
 use Rattle.question_text.specs.NameWords.{class_named}
 use Rattle.question_text.proofs.NameWords.{class_here, class_on}
 use Rattle.question_text.proofs.name_words.class_named.Goals as goal

@@ -1,4 +1,4 @@
-use Rattle.std.proofs.Common.{◌≡◌, ◌∙◌, arith, sym}
+use Rattle.std.proofs.Common.{◌∙◌, arith, sym}
 use Rattle.heap_class.specs.Classes.{fields_of}
 use Rattle.question_text.proofs.NameWords.{field_here, field_on}
 use Rattle.question_text.proofs.name_words.field_named.Goals as goal

@@ -1,9 +1,7 @@
 //! The session of a dump.
-ghost use Rattle.std.specs.Prelude.{◌≡◌, ◌++◌, ℕ, List, [], OnOk};
-ghost use Rattle.hprof_reader.specs.Headers.{header_text};
-ghost use Rattle.hprof_reader.specs.declared.header.Header.{Header};
+ghost use Rattle.std.specs.Prelude.{OnOk};
 ghost use Rattle.hprof_session.specs.Walks.{left};
-ghost use Rattle.hprof_import.specs.Conversions.{IsConverted};
+ghost use Rattle.hprof_convert.specs.Conversions.{IsConverted, IsSessionPut};
 
 use dump_pump::Outlet;
 use heap_class::WIDEST_CLASSES;
@@ -43,7 +41,7 @@ pub enum Failure {
 
 impl From<AllocError> for Failure {
     ghost use Rattle.std.specs.Prelude.{◌≡◌};
-    ghost use Rattle.hprof_import.specs.declared.convert.Failure.TheVariants.{Memory};
+    ghost use Rattle.hprof_convert.specs.declared.convert.Failure.TheVariants.{Memory};
 
     ghost from_gives = { λ _ e. e ≡ Memory };
 
@@ -55,9 +53,7 @@ impl From<AllocError> for Failure {
 /// Puts out the session of a dump, and counts what is left out. Fails with Header if the bytes don't begin as a dump does, with
 /// Memory if an allocation fails, or with Write if a put fails.
 pub fn convert<O: Outlet>(alloc: Global, outlet: &mut O, bytes: &[u8]) -> Result<Converted, Failure>
-    ensures { OnOk result ((h : Header) × (rest : List ℕ) × (bytes.now ≡ header_text h ++ rest)
-        × IsConverted (record { ids = h.ids; segment = []; rest = rest }) (O.seen outlet.old)
-        (O.seen outlet.new)) }
+    ensures { OnOk result (IsSessionPut bytes.now (O.seen outlet.old) (O.seen outlet.new)) }
 {
     match header_at(bytes) {
         Ok(read) => {

@@ -1,0 +1,8 @@
+//! The session of a heap dump: from the bytes of the dump to its lines, and what of it is left out.
+#![tactic(auto)]
+
+mod convert;
+mod report;
+
+pub use convert::{Converted, Failure, convert};
+pub use report::tell_left_out;

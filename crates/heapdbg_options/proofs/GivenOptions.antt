@@ -52,7 +52,7 @@ source_mistake_is_in_rows m rows (inl h) = subst (λ x. IsMistakeIn x rows) (sym
 source_mistake_is_in_rows m rows (inr (inl h)) = subst (λ x. IsMistakeIn x rows) (sym h.0) (outside_number_is_none 1 port_limit (first_of (codes "port") rows) h.1)
 source_mistake_is_in_rows m rows (inr (inr (inl h))) = subst (λ x. IsMistakeIn x rows) (sym h.0) h.1
 source_mistake_is_in_rows m rows (inr (inr (inr (inl h)))) = subst (λ x. IsMistakeIn x rows) (sym h.0) (inr (inr (inr (inl (refl, h.1, h.2)))))
-source_mistake_is_in_rows m rows (inr (inr (inr (inr h)))) = subst (λ x. IsMistakeIn x rows) (sym h.0) h.1
+source_mistake_is_in_rows m rows (inr (inr (inr (inr h)))) = subst (λ x. IsMistakeIn x rows) (sym h.0) (h.1, h.2)
 
 -- the texts of the options of `explore` are those of their rows
 abbrev pub AreExploreTexts : Found → Option Text → Option Text → Option Text → Option Text → Type 0

@@ -3,6 +3,8 @@
 
 mod convert;
 mod report;
+#[cfg(test)]
+mod tests;
 
 pub use convert::{Converted, Failure, convert};
 pub use report::tell_left_out;

@@ -1,0 +1,32 @@
+-- Sessions of dumps that were run.
+use Rattle.std.proofs.Common.{◌≡◌, List, ℕ, Option, Some, None, Result, Ok, Err, OnOk, IfOk, subst}
+use Rattle.std.specs.Prelude.{IsOk}
+use Rattle.dump_pump.specs.Outlets.{Outgoing}
+use Rattle.session_text.specs.Answers.{AnswerRelation}
+use Rattle.session_text.specs.declared.Ended.{Ended}
+use Rattle.session_text.specs.declared.limits.SessionLimits.{SessionLimits}
+use Rattle.heap_console.specs.Loads.{IsTextLoadedFrom}
+use Rattle.hprof_convert.specs.Conversions.{IsSessionPut}
+use Rattle.hprof_convert.specs.declared.convert.Converted.{Converted}
+use Rattle.hprof_convert.specs.declared.convert.Failure.{Failure}
+use Rattle.heapdbg_options.specs.declared.settings.Origin.TheVariants.{Dump}
+use Rattle.heapdbg.specs.Explorations.{IsDumpRunFrom, IsRunFirst, untouched}
+use Rattle.heapdbg.specs.declared.failure.Fault.{Fault}
+
+-- what a conversion put out to an outlet that ran it is the session of a dump
+pub converted_dump_is_run : {S : Type 0} (limits : SessionLimits) (says begins : AnswerRelation S) (dump : List ℕ) (start : Option S) (w : Outgoing) (converted : Result Converted Failure) (left : Result S Ended) (result : Result S Fault)
+    → OnOk converted (IsSessionPut dump untouched w) → IfOk left (IsTextLoadedFrom limits says begins w.out start) → IfOk result (λ d. IsOk converted × (left ≡ Ok d))
+    → IfOk result (IsDumpRunFrom limits says begins dump start)
+converted_dump_is_run limits says begins dump start w converted left (Err f) put loaded is = tt
+converted_dump_is_run {S} limits says begins dump start w converted left (Ok d) put loaded is =
+    run start converted put is.0 (subst (λ r. IfOk r (IsTextLoadedFrom limits says begins w.out start)) is.1 loaded)
+  where
+    run : (begun : Option S) (done : Result Converted Failure) → OnOk done (IsSessionPut dump untouched w) → IsOk done → IsTextLoadedFrom limits says begins w.out begun d → IsDumpRunFrom limits says begins dump begun d
+    run None done put ok loaded = tt
+    run (Some b) (Ok x) put ok loaded = (w, put, loaded)
+    run (Some b) (Err e) put ok loaded = absurd ok
+
+-- commands that the session of a dump left began as that says
+pub dump_is_run_first : {S : Type 0} (limits : SessionLimits) (says begins : AnswerRelation S) (dump : List ℕ) (b : S) (result : Result S Fault) → IfOk result (IsDumpRunFrom limits says begins dump (Some b)) → IfOk result (IsRunFirst limits Dump says begins b)
+dump_is_run_first limits says begins dump b (Ok d) run = (dump, run)
+dump_is_run_first limits says begins dump b (Err f) run = tt

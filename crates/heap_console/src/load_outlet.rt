@@ -1,5 +1,5 @@
 //! An outlet that runs the lines that it takes.
-ghost use Rattle.std.specs.Prelude.{◌≡◌, ◌<◌, ◌≤◌, [], Some, IfOk, length};
+ghost use Rattle.std.specs.Prelude.{◌≡◌, ◌<◌, ◌≤◌, [], Some, IfOk, length, true};
 ghost use Rattle.session_text.specs.Answers.{AnswersCommand, Begins};
 ghost use Rattle.session_text.specs.declared.Ended.TheVariants.{Eof};
 ghost use Rattle.heap_console.specs.Loads.{AreAllAnswered, IsTextLoadedFrom};
@@ -117,7 +117,7 @@ impl<'a, R: Clock + Eprint, C: Commands + Drop, B: LoadStart<C>> LoadOutlet<'a, 
             of: _,
         } = self;
         end_reports(reports, ended, limits);
-        if ended == Ended::Eof {
+        if is_open(ended) {
             Ok(commands)
         } else {
             Err(ended)
@@ -134,6 +134,14 @@ fn end_reports<R: Clock + Eprint>(
     let mut reports = reports;
     reports.end_count();
     report_ending(&reports, ended, limits);
+}
+
+// Tells whether further lines may be run after a session that ended so.
+fn is_open(ended: Ended) -> bool
+    ensures open { result ≡ true → ended ≡ Eof }
+    ensures closed { ended ≡ Eof → result ≡ true }
+{
+    matches!(ended, Ended::Eof)
 }
 
 // Returns the length of the whole lines at the front.
@@ -172,17 +180,19 @@ impl<R: Clock + Eprint, C: Commands + Drop, B: LoadStart<C>> Outlet for LoadOutl
 
     fn put(&mut self, given: &[u8]) -> Put {
         let lines = &given[..whole_lines(given)];
-        if self.ended == Ended::Eof {
-            self.ended = run_lines(
-                self.alloc,
-                &mut self.reports,
-                &mut self.commands,
-                lines,
-                self.time,
-                self.limits,
-            );
+        if !is_open(self.ended) {
+            self.failed = self.failed.and(&(), &());
+            return Put::Failed;
         }
-        if self.ended != Ended::Eof {
+        self.ended = run_lines(
+            self.alloc,
+            &mut self.reports,
+            &mut self.commands,
+            lines,
+            self.time,
+            self.limits,
+        );
+        if !is_open(self.ended) {
             self.failed = self.failed.and(&(), &());
             return Put::Failed;
         }

@@ -12,6 +12,9 @@ use std::fs::Files;
 use std::process::ExitCode;
 use std::{env, fs};
 
+// The name by which the program tells of a dump.
+const PROGRAM: &str = "heapdbg-import";
+
 // Runs the program.
 fn main(rt: HostRuntime) -> ExitCode {
     match paths(&rt) {

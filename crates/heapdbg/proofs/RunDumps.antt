@@ -24,7 +24,7 @@ converted_dump_is_run {S} limits says begins dump start w converted left (Ok d) 
     run : (begun : Option S) (done : Result Converted Failure) → OnOk done (IsSessionPut dump untouched w) → IsOk done → IsTextLoadedFrom limits says begins w.out begun d → IsDumpRunFrom limits says begins dump begun d
     run None done put ok loaded = tt
     run (Some b) (Ok x) put ok loaded = (w, put, loaded)
-    run (Some b) (Err e) put ok loaded = absurd ok
+    run (Some b) (Err e) put ok loaded = cc
 
 -- commands that the session of a dump left began as that says
 pub dump_is_run_first : {S : Type 0} (limits : SessionLimits) (says begins : AnswerRelation S) (dump : List ℕ) (b : S) (result : Result S Fault) → IfOk result (IsDumpRunFrom limits says begins dump (Some b)) → IfOk result (IsRunFirst limits Dump says begins b)

@@ -75,6 +75,7 @@ impl<'a, R, C: Commands + Drop, B: LoadStart<C>> Model for LoadOutlet<'a, R, C, 
 
 impl<'a, R: Clock + Eprint, C: Commands + Drop, B: LoadStart<C>> LoadOutlet<'a, R, C, B> {
     /// Creates an outlet that has run nothing.
+    #[tactic(auto, using(crate::proofs::LoadedTexts::no_bytes_are_all_answered))]
     pub fn new(
         alloc: Global,
         reports: LineReports<'a, R>,
@@ -101,6 +102,7 @@ impl<'a, R: Clock + Eprint, C: Commands + Drop, B: LoadStart<C>> LoadOutlet<'a, 
     }
 
     /// Returns the commands as the lines left them. Fails if a put failed, reports why no more lines were run, and returns it.
+    #[tactic(auto, using(crate::proofs::LoadedTexts::all_answered_text_is_loaded))]
     pub fn into_commands(self) -> Result<C, Ended>
         ensures { IfOk result (IsTextLoadedFrom B.limits (AnswersCommand C.acts C.unknown B.time)
             (Begins C.acts C.unknown B.time) self.out B.start) }
@@ -156,6 +158,7 @@ fn whole_lines(bytes: &[u8]) -> usize
 
 // Runs whole lines as a session, whose answers go nowhere. Returns how it ended: at their end if all were run, and with CutLine if
 // there is none.
+#[tactic(auto, using(crate::proofs::LoadedTexts::text_served_to_its_end_is_all_answered))]
 fn run_lines<R: Clock + Eprint, C: Commands>(
     alloc: Global,
     reports: &mut LineReports<'_, R>,
@@ -178,6 +181,7 @@ fn run_lines<R: Clock + Eprint, C: Commands>(
 impl<R: Clock + Eprint, C: Commands + Drop, B: LoadStart<C>> Outlet for LoadOutlet<'_, R, C, B> {
     ghost seen = { λ o. o };
 
+    #[tactic(auto, using(crate::proofs::LoadedTexts::further_lines_are_all_answered))]
     fn put(&mut self, given: &[u8]) -> Put {
         let lines = &given[..whole_lines(given)];
         if !is_open(self.ended) {

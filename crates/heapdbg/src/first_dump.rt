@@ -19,6 +19,7 @@ use std::time::Clock;
 /// Runs by these commands the lines of the session of the dump in the file of the path, and returns them as the lines left them.
 /// Reports lines as `run_first` does, and on standard error what of the dump is left out, and its first fault. Fails with Memory,
 /// and with Hprof if the file can't be read, if it has no header of a dump, or if a line ends the session.
+#[tactic(auto, using(crate::proofs::RunDumps::dump_is_run_first))]
 pub(crate) fn load_dump<R: AllocGlobal + Clock + Eprint + Files, C: Commands + Drop>(
     rt: &R,
     request: Request<'_>,
@@ -44,6 +45,7 @@ pub(crate) fn load_dump<R: AllocGlobal + Clock + Eprint + Files, C: Commands + D
 }
 
 // Runs the lines of the session of a dump by these commands, which are those that `B` says.
+#[tactic(auto, using(crate::proofs::RunDumps::converted_dump_is_run))]
 fn run_dump<R: AllocGlobal + Clock + Eprint, C: Commands + Drop, B: LoadStart<C>>(
     rt: &R,
     request: Request<'_>,

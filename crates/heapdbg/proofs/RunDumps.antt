@@ -7,8 +7,8 @@ use Rattle.session_text.specs.declared.Ended.{Ended}
 use Rattle.session_text.specs.declared.limits.SessionLimits.{SessionLimits}
 use Rattle.heap_console.specs.Loads.{IsTextLoadedFrom}
 use Rattle.hprof_convert.specs.Conversions.{IsSessionPut}
-use Rattle.hprof_convert.specs.declared.convert.Converted.{Converted}
-use Rattle.hprof_convert.specs.declared.convert.Failure.{Failure}
+use Rattle.hprof_convert.specs.declared.conversion.Converted.{Converted}
+use Rattle.hprof_convert.specs.declared.conversion.Failure.{Failure}
 use Rattle.heapdbg_options.specs.declared.settings.Origin.TheVariants.{Dump}
 use Rattle.heapdbg.specs.Explorations.{IsDumpRunFrom, IsRunFirst, untouched}
 use Rattle.heapdbg.specs.declared.failure.Fault.{Fault}

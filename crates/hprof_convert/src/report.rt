@@ -1,5 +1,5 @@
 //! What is told of a dump that was converted. A write that fails changes nothing.
-use crate::convert::Converted;
+use crate::conversion::Converted;
 use hprof_reader::Fault;
 
 /// Tells on standard error, as the program of this name, what of a dump is left out, in one line, if anything is.

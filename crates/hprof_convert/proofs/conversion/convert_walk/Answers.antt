@@ -1,5 +1,5 @@
 use Rattle.hprof_convert.proofs.Endings.{found_whole}
-use Rattle.hprof_convert.proofs.convert.convert_walk.Goals as goal
+use Rattle.hprof_convert.proofs.conversion.convert_walk.Goals as goal
 
 pub returns : goal.returns
 returns g c =

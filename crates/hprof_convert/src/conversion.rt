@@ -41,7 +41,7 @@ pub enum Failure {
 
 impl From<AllocError> for Failure {
     ghost use Rattle.std.specs.Prelude.{◌≡◌};
-    ghost use Rattle.hprof_convert.specs.declared.convert.Failure.TheVariants.{Memory};
+    ghost use Rattle.hprof_convert.specs.declared.conversion.Failure.TheVariants.{Memory};
 
     ghost from_gives = { λ _ e. e ≡ Memory };
 

@@ -105,7 +105,7 @@ impl<'a, R: Clock + Eprint, C: Commands + Drop, B: LoadStart<C>> LoadOutlet<'a, 
     #[tactic(auto, using(crate::proofs::LoadedTexts::all_answered_text_is_loaded))]
     pub fn into_commands(self) -> Result<C, Ended>
         ensures { IfOk result (IsTextLoadedFrom B.limits (AnswersCommand C.acts C.unknown B.time)
-            (Begins C.acts C.unknown B.time) self.out B.start) }
+            (Begins C.acts C.unknown B.time) self.entry.out B.start) }
     {
         let LoadOutlet {
             alloc: _,

@@ -19,6 +19,7 @@ use std::time::Clock;
 /// Runs one session, in which questions are answered, over a heap of its own. If `origin` says so, the lines of the file of the
 /// path, or of the session of the dump in it, are run first; their answers are not shown, and each line that is refused is reported
 /// on standard error. Fails as a session does, with Memory if the heap can't be allocated, and as `run_first` does.
+#[tactic(auto, using(crate::proofs::PageHindrances::no_memory_hinders))]
 pub fn explore<R: AllocGlobal + Clock + Eprint + Files, I: Inlet, O: Outlet>(
     rt: &R,
     request: Request<'_>,

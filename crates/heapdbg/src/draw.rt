@@ -6,7 +6,7 @@ ghost use Rattle.heapdbg.specs.Runs.{IsDrawingOutcome, IsSessionDrawn};
 use crate::explore::open;
 use crate::failure::{Fault, outcome};
 use crate::reasons::tell_path;
-use crate::request::Request;
+use heapdbg_options::settings::Request;
 use crate::terminals::Screen;
 use dump_pump::{Outlet, WriteOutlet};
 use heap_console::picture_of;

@@ -6,7 +6,7 @@ ghost use Rattle.heapdbg.specs.Explorations.{IsExplored, IsOpening};
 use crate::failure::{Fault, outcome};
 use crate::first_lines::run_first;
 use crate::opening::open_local;
-use crate::request::Request;
+use heapdbg_options::settings::Request;
 use crate::terminals::Screen;
 use dump_pump::Outlet;
 use heapdbg_options::settings::Settings;

@@ -7,7 +7,7 @@ ghost use Rattle.heapdbg.specs.Explorations.{IsHindrance, IsRunFirst};
 use crate::failure::Fault;
 use crate::folder::is_folder;
 use crate::reasons::tell_path;
-use crate::request::Request;
+use heapdbg_options::settings::Request;
 use heap_console::load_lines;
 use session_text::{Commands, session_limits};
 use std::fs;

@@ -15,7 +15,6 @@ mod page_exploration;
 mod ports;
 mod progress;
 mod reasons;
-mod request;
 mod save;
 mod secret_file;
 mod serve;

@@ -12,7 +12,7 @@ ghost use Rattle.heapdbg.specs.PageExplorations.{IsMadeFor, IsPageExplored, IsPa
 use crate::failure::{Fault, outcome};
 use crate::first_lines::run_first;
 use crate::ports::page_port;
-use crate::request::Request;
+use heapdbg_options::settings::Request;
 use crate::terminals::Screen;
 use crate::watched_seat::WatchedSeat;
 use dump_pump::Outlet;

@@ -1,8 +1,8 @@
 //! The tasks, from the words of the command line on.
-ghost use Rattle.std.specs.Prelude.{◌≡◌, ◌⊎◌, ◌≤◌, Some, IfOk, IfErr, map, string_bytes};
+ghost use Rattle.std.specs.Prelude.{◌≡◌, ◌⊎◌, ◌≤◌, IfOk, IfErr, map, string_bytes};
 ghost use Rattle.std.specs.IoError.{error_kind};
-ghost use Rattle.heapdbg_options.specs.CommandLine.{AreSettingsWithin, IsBadWith, IsHeapWithin, settings_of};
-ghost use Rattle.heapdbg_options.specs.Refusals.{IsRefusalOf};
+ghost use Rattle.heapdbg_options.specs.CommandLine.{AreSettingsWithin, IsHeapWithin, texts};
+ghost use Rattle.heapdbg_options.specs.Refusals.{IsBadWith, IsRefusalOf};
 ghost use Rattle.heapdbg_options.specs.declared.settings.Task.TheVariants.{Explore, Save};
 ghost use Rattle.heapdbg.specs.FetchOutcomes.{IsDumpFetched};
 ghost use Rattle.heap_server.specs.SessionSeats.{session_limit};
@@ -18,17 +18,16 @@ use crate::opening::open_local;
 use crate::page_exploration::explore_with_page;
 use crate::progress::TerminalGauge;
 use crate::reasons::tell_path;
-use crate::request::Request;
 use crate::save::{out_file, peer, save};
 use crate::secret_file::secret_for;
 use crate::serve::serve_port;
 use crate::terminals::{Screen, Terminals};
 use dump_pump::{Outlet, WriteOutlet};
 use heap_console::{ColumnOutlet, Console, LineInlet, NewestLine, NotingOutlet, PromptInlet};
-use heapdbg_options::command_line::{path_option, settings};
+use heapdbg_options::command_line::request;
 use heapdbg_options::line_words::borrow_words;
 use heapdbg_options::refusal::bad;
-use heapdbg_options::settings::{LineFault, Service, Settings, Target, Task};
+use heapdbg_options::settings::{LineFault, Request, Service, Settings, Target, Task};
 use secret_word::Secret;
 use session_text::{Inlet, ReadInlet, serve_local, session_limits};
 use std::alloc::Global;
@@ -135,50 +134,20 @@ where
     ensures { IsPerformed (map string_bytes words.now) (I.seen reader.old) (I.seen reader.new)
         (O.seen writer.old) (O.seen writer.new) result }
 {
-    let alloc = rt.alloc();
-    let settings = settings_of_words(alloc, words)?;
-    let line = line_of_words(alloc, words)?;
-    let path = path_of_task(alloc, line.as_slice(), settings.task);
-    let secret = path_option(alloc, line.as_slice(), "secret");
-    let request = Request {
-        settings,
-        path,
-        secret,
-    };
+    let line = line_of_words(rt.alloc(), words)?;
+    let request = request(rt.alloc(), line.as_slice())?;
     work(rt, request, screen, reader, input, writer)?;
     Ok(())
 }
 
-// Returns the settings that the words ask for.
-fn settings_of_words(alloc: Global, words: &[String]) -> Result<Settings, LineFault>
-    ensures ok { IfOk result (λ s. settings_of (map string_bytes words.now) ≡ Some s) }
-    ensures refused { IfErr result (IsRefusalOf (map string_bytes words.now)) }
-    ensures limits { IfOk result AreSettingsWithin }
-{
-    match borrow_words(alloc, words) {
-        Ok(line) => settings(alloc, line.as_slice()),
-        Err(_) => Err(LineFault::Memory),
-    }
-}
-
 // Returns the words as text. Fails with Memory.
 fn line_of_words<'a>(alloc: Global, words: &'a [String]) -> Result<Vec<&'a str>, LineFault>
-    ensures { IfErr result (IsRefusalOf (map string_bytes words.now)) }
+    ensures ok { IfOk result (λ line. texts line.items ≡ map string_bytes words.now) }
+    ensures refused { IfErr result (IsRefusalOf (map string_bytes words.now)) }
 {
     match borrow_words(alloc, words) {
         Ok(line) => Ok(line),
         Err(_) => Err(LineFault::Memory),
-    }
-}
-
-// Returns the path of the task's file, or None if the task has no file or an allocation fails.
-fn path_of_task<'a>(alloc: Global, line: &'a [&'a str], task: Task) -> Option<&'a str> {
-    match task {
-        Task::Explore { from: true, .. } => path_option(alloc, line, "from"),
-        Task::Draw | Task::Save(Target::Out) | Task::Fetch { .. } => {
-            path_option(alloc, line, "out")
-        }
-        _ => None,
     }
 }
 

@@ -1,583 +1,179 @@
 -- What the settings are that a command line asks for.
-use Rattle.std.proofs.Common.{◌≡◌, ◌∙◌, ◌<◌, ◌≤◌, ◌^◌, ◌*◌, ℕ, Bool, true, false, ◌&&◌, ◌||◌, cond, List, [], ◌∷◌, Option, Some, None, refl, sym, ap, subst, arith, codes, rules}
-use Rattle.std.specs.Prelude.{◌==◌, Err, is_some, not, find, drop, length, option_and_then, option_map, nat_le, nat_lt}
-use Rattle.std.specs.List.{list_all}
+use Rattle.std.proofs.Common.{◌≡◌, ◌∙◌, ◌≤◌, ℕ, Bool, true, false, ◌||◌, cond, List, [], ◌∷◌, Option, Some, None, Result, Ok, Err, refl, sym, ap, subst, arith}
+use Rattle.std.specs.Prelude.{◌==◌, option_map}
 use Rattle.std.specs.Option.{option_map_or}
-use Rattle.std.specs.Char.{is_ascii_digit}
-use Rattle.std.specs.Str.{bytes_eq}
-use Rattle.std.specs.Str.Parse.{IsNumeral, digits_value, without_leading_plus}
-use Rattle.std.proofs.lemmas.Str.Parse.{IsNumeralModel, numerals_by_value, parse_digits}
-use Rattle.std.proofs.lemmas.Bool.{eqb-false, leb-true, ltb-true}
-use Rattle.clap.specs.Simple.{Shape, argument_words, built, entered, label_of, names_of, rows_at}
-use Rattle.clap.specs.Walk.{answers_to, stop_after}
-use Rattle.clap.specs.Words.{Row, Text, first_of, subcommand_of}
-use Rattle.heap_class.specs.declared.IdSize.{IdSize}
-use Rattle.heap_class.specs.declared.IdSize.TheVariants.{Eight}
-use Rattle.heap_world.specs.Limits.{mutator_limit}
-use Rattle.heapdbg_options.specs.CommandLine.{AreNumbersOf, AreSettingsWithin, HasDefaults, IsTask, ask_in, idle_in, idle_limit, idle_of, is_guarded, has_secret, stays_in, stays_of, dumps_in, dumps_of, dumps_with, page_beside, page_in, page_of, page_with, explore_in, explore_with, own_page, flag_in, fetch_in, heapdbg_line, id_size_in, id_size_of, is_given, is_task, IsOther, IsThird, keep_default, keep_in, most_kept, most_regions, most_sessions, number_in, number_or, other_port, port_in, port_limit, questions_in, regions_in, rolls_in, reads_file, save_in, serve_in, serve_with, sessions_in, sessions_of, settings_in, settings_over, settings_under, settings_with, target_in, task_in, third_port, time_limit, option_value, wide_in, workers_in, workers_of, counted_in, option_size, size_or, size_with, text_before, times_in}
-use Rattle.heapdbg_options.specs.declared.settings.Settings.{Settings}
+use Rattle.std.proofs.lemmas.Bool.{eqb-false}
+use Rattle.clap.specs.Words.{Row, Text}
+use Rattle.heapdbg_options.specs.CommandLine.{AreNumbersOf, AreSettingsWithin, IsOther, IsTask, IsThird, clash_in, clash_of, command_of, explore_with, is_port, keep_row, pair_in, service_of, settings_by, settings_from, settings_over, settings_under, settings_with, target_of, task_in, unfit_in, unless}
+use Rattle.heapdbg_options.specs.Values.{given_in, has, is_on, port_limit, value_of}
+use Rattle.heapdbg_options.specs.declared.option_rows.CommandRow.{CommandRow}
+use Rattle.heapdbg_options.specs.declared.option_rows.Kind.{Kind}
+use Rattle.heapdbg_options.specs.declared.option_rows.Kind.TheVariants.{Runs, Explores, Draws, Saves, Serves, Asks, Fetches}
+use Rattle.heapdbg_options.specs.declared.option_rows.OptionRow.{OptionRow}
+use Rattle.heapdbg_options.specs.declared.option_rows.TheConstants.{ASKED_PORT, DUMPS, FROM, IDLE, KEEP, KEEP_MOST, MUTATORS, PAGE, PORT, REGIONS, SECRET, SERVED_PAGE, SESSIONS, TO, WIDE, WORKERS}
+use Rattle.heapdbg_options.specs.declared.refusal.Mistake.{Mistake}
+use Rattle.heapdbg_options.specs.declared.refusal.Mistake.TheVariants.{Command, Value}
 use Rattle.heapdbg_options.specs.declared.settings.Service.{Service}
+use Rattle.heapdbg_options.specs.declared.settings.Settings.{Settings}
 use Rattle.heapdbg_options.specs.declared.settings.Task.{Task}
 use Rattle.heapdbg_options.specs.declared.settings.Task.TheVariants.{Run, Explore, Draw, Save, Serve, Ask, Fetch}
-use Rattle.heapdbg_options.specs.declared.settings.Target.{Target}
-use Rattle.heapdbg_options.specs.declared.settings.Target.TheVariants.{Out, To}
-use Rattle.heapdbg_options.proofs.Words.{IsPlainRules, IsTailFree, and_true_gives_both, found_item_passes_both_tests, is_plain_rule, unnamed_option_has_no_value, or_false_right_is_false, subcommand_tail_lacks_name}
+use Rattle.heapdbg_options.proofs.Numbers.{given_number_within_bounds, value_at_most, value_within_bounds}
 
--- ---- numbers
+-- ---- what was read
 
-own_digits_are_numerals : IsNumeralModel (λ ds. list_all is_ascii_digit ds ≡ true) (digits_value 10)
-own_digits_are_numerals = numerals_by_value _ (search rules)
+-- settings that were read are those of a command, its options, and its task whose ports don't clash
+pub record AreReadFrom (found : Option (Text × List Row)) (s : Settings) : Type 0 where
+  pub name : Text
+  pub rows : List Row
+  pub command : CommandRow
+  pub task : Task
+  pub is : found ≡ Some (name, rows)
+  pub named : command_of name ≡ Some command
+  pub asked : task_in command.kind rows ≡ Some task
+  pub free : clash_in task ≡ None
+  pub settings : s ≡ settings_from command.kind rows (is_on WIDE rows) task
 
--- digits that `parse` refuses are none, or more than the limit
-pub refused_digits_none_or_large : (least most : ℕ) (text : List ℕ) → most < 2 ^ 64 → list_all is_ascii_digit text ≡ true
-    → ((IsNumeral 10 (without_leading_plus text) × (digits_value 10 (without_leading_plus text) < 2 ^ 64)) → ⊥)
-    → None ≡ number_in least most text
-refused_digits_none_or_large least most text fits digits refused =
-    go (nat_lt 0 (length text) && (list_all is_ascii_digit text && (nat_le least (digits_value 10 text) && nat_le (digits_value 10 text) most))) refl
+no_mistake_leaves_rest : (m : Option Mistake) (rest : Result Settings Mistake) (s : Settings) → unless m rest ≡ Ok s → (m ≡ None) × (rest ≡ Ok s)
+no_mistake_leaves_rest None rest s e = (refl, e)
+no_mistake_leaves_rest (Some m) rest s e = cc
+
+mapped_from_none : {A B : Type 0} (f : A → B) (o : Option A) → option_map f o ≡ None → o ≡ None
+mapped_from_none f None e = refl
+mapped_from_none f (Some x) e = cc
+
+ok_values_are_equal : (a b : Settings) → Ok {E = Mistake} a ≡ Ok b → b ≡ a
+ok_values_are_equal a b e = cc
+
+read_settings_come_from_command : (name : Text) (rows : List Row) (command : CommandRow) (s : Settings) → command_of name ≡ Some command → settings_over command rows (is_on WIDE rows) ≡ Ok s → AreReadFrom (Some (name, rows)) s
+read_settings_come_from_command name rows command s named e =
+    let wide = is_on WIDE rows in
+    let paired = no_mistake_leaves_rest (pair_in command.kind rows) (unless (option_map (λ row. Value row wide) (unfit_in command rows wide)) (settings_with command.kind rows wide (task_in command.kind rows))) s e in
+    let fitting = no_mistake_leaves_rest (option_map (λ row. Value row wide) (unfit_in command rows wide)) (settings_with command.kind rows wide (task_in command.kind rows)) s paired.1 in
+    go (task_in command.kind rows) refl fitting.1
   where
-    go : (b : Bool) → (nat_lt 0 (length text) && (list_all is_ascii_digit text && (nat_le least (digits_value 10 text) && nat_le (digits_value 10 text) most))) ≡ b
-        → None ≡ cond b (Some (digits_value 10 text)) None
-    go false h = refl
-    go true h =
-        let all = and_true_gives_both _ _ h in
-        let within = and_true_gives_both _ _ (and_true_gives_both _ _ all.1).1 in
-        let some_digit : 0 < length text = ltb-true _ _ all.0 in
-        let below : digits_value 10 text ≤ most = leb-true _ _ within.1 in
-        absurd (parse_digits own_digits_are_numerals {E = ℕ} 64 text (Err 0) refused digits (some_digit, omega arith))
-
-pub number_setting_within_bounds : (least most : ℕ) (text : Text) (n : ℕ) → number_in least most text ≡ Some n → (least ≤ n) × (n ≤ most)
-number_setting_within_bounds least most text n e =
-    go (nat_lt 0 (length text) && (list_all is_ascii_digit text && (nat_le least (digits_value 10 text) && nat_le (digits_value 10 text) most))) refl e
-  where
-    go : (b : Bool) → (nat_lt 0 (length text) && (list_all is_ascii_digit text && (nat_le least (digits_value 10 text) && nat_le (digits_value 10 text) most))) ≡ b
-        → cond b (Some (digits_value 10 text)) None ≡ Some n → (least ≤ n) × (n ≤ most)
-    go false h found = cc
-    go true h found =
-        let within = and_true_gives_both _ _ (and_true_gives_both _ _ (and_true_gives_both _ _ h).1).1 in
-        let same : digits_value 10 text ≡ n = cc (found) in
-        rw (← same) (leb-true _ _ within.0, leb-true _ _ within.1)
-
-times_setting_within_bounds : (least most times k n : ℕ) → times_in least most times k ≡ Some n → (least ≤ n) × (n ≤ most)
-times_setting_within_bounds least most times k n e = go (nat_le least (k * times) && nat_le (k * times) most) refl e
-  where
-    go : (b : Bool) → (nat_le least (k * times) && nat_le (k * times) most) ≡ b → cond b (Some (k * times)) None ≡ Some n → (least ≤ n) × (n ≤ most)
-    go false h found = cc
-    go true h found =
-        let within = and_true_gives_both _ _ h in
-        let same : k * times ≡ n = cc (found) in
-        rw (← same) (leb-true _ _ within.0, leb-true _ _ within.1)
-
-counted_setting_within_bounds : (least most times : ℕ) (text : Text) (n : ℕ) → counted_in least most times text ≡ Some n → (least ≤ n) × (n ≤ most)
-counted_setting_within_bounds least most times text n e = go (number_in 0 most text) e
-  where
-    go : (o : Option ℕ) → option_and_then (times_in least most times) o ≡ Some n → (least ≤ n) × (n ≤ most)
-    go None found = cc
-    go (Some k) found = times_setting_within_bounds least most times k n found
-
-size_setting_within_bounds : (least most : ℕ) (text : Text) (before_k before_m : Option Text) (n : ℕ) → size_with least most text before_k before_m ≡ Some n → (least ≤ n) × (n ≤ most)
-size_setting_within_bounds least most text (Some digits) before_m n e = counted_setting_within_bounds least most 1024 digits n e
-size_setting_within_bounds least most text None (Some digits) n e = counted_setting_within_bounds least most 1048576 digits n e
-size_setting_within_bounds least most text None None n e = number_setting_within_bounds least most text n e
-
-size_or_default_within_bounds : (default least most : ℕ) (given : Option Text) (n : ℕ) → least ≤ default → default ≤ most
-    → size_or default least most given ≡ Some n → (least ≤ n) × (n ≤ most)
-size_or_default_within_bounds default least most None n low high e = let same : default ≡ n = cc in rw (← same) (low, high)
-size_or_default_within_bounds default least most (Some text) n low high e = size_setting_within_bounds least most text (text_before (codes "k") text) (text_before (codes "m") text) n e
-
-number_or_default_within_bounds : (default least most : ℕ) (given : Option Text) (n : ℕ) → least ≤ default → default ≤ most
-    → number_or default least most given ≡ Some n → (least ≤ n) × (n ≤ most)
-number_or_default_within_bounds default least most None n low high e = let same : default ≡ n = cc in rw (← same) (low, high)
-number_or_default_within_bounds default least most (Some text) n low high e = number_setting_within_bounds least most text n e
-
--- ---- settings
-
--- the rows have the settings' values
-pub record AreRead (rows : List Row) (s : Settings) : Type 0 where
-  pub wide : wide_in rows ≡ Some s.wide
-  pub regions : regions_in s.wide rows ≡ Some s.regions
-  pub mutators : option_value (codes "mutators") 2 1 mutator_limit rows ≡ Some s.mutators
-  pub keep : keep_in s.task s.wide rows ≡ Some s.keep
-  pub time : option_value (codes "time") 0 0 time_limit rows ≡ Some s.time
-  pub ids : id_size_in rows ≡ Some s.ids
-  pub questions : questions_in rows ≡ Some s.questions
-  pub rolls : rolls_in rows ≡ Some s.rolls
-
-settings_keep_all_given : (task : Task) (w : Bool) (r m k t : Option ℕ) (i : Option IdSize) (q o : Option Bool) (s : Settings) → settings_with task w r m k t i q o ≡ Some s
-    → (s.task ≡ task) × (w ≡ s.wide) × (r ≡ Some s.regions) × (m ≡ Some s.mutators) × (k ≡ Some s.keep) × (t ≡ Some s.time) × (i ≡ Some s.ids) × (q ≡ Some s.questions) × (o ≡ Some s.rolls)
-settings_keep_all_given task w None m k t i q o s e = cc
-settings_keep_all_given task w (Some r) None k t i q o s e = cc
-settings_keep_all_given task w (Some r) (Some m) None t i q o s e = cc
-settings_keep_all_given task w (Some r) (Some m) (Some k) None i q o s e = cc
-settings_keep_all_given task w (Some r) (Some m) (Some k) (Some t) None q o s e = cc
-settings_keep_all_given task w (Some r) (Some m) (Some k) (Some t) (Some i) None o s e = cc
-settings_keep_all_given task w (Some r) (Some m) (Some k) (Some t) (Some i) (Some q) None s e = cc
-settings_keep_all_given task w (Some r) (Some m) (Some k) (Some t) (Some i) (Some q) (Some o) s e = (cc, cc, cc, cc, cc, cc, cc, cc, cc)
-
--- the settings over a heap that is wide, or isn't, are those of the rows
-settings_are_read_from_rows : (task : Task) (rows : List Row) (w : Bool) (s : Settings) → wide_in rows ≡ Some w → settings_over task rows w ≡ Some s → (s.task ≡ task) × AreRead rows s
-settings_are_read_from_rows task rows w s wide found =
-    let there = settings_keep_all_given task w (regions_in w rows) (option_value (codes "mutators") 2 1 mutator_limit rows) (keep_in task w rows) (option_value (codes "time") 0 0 time_limit rows) (id_size_in rows) (questions_in rows) (rolls_in rows) s found in
-    let same : w ≡ s.wide = there.1 in (
-      there.0,
-      record {
-        wide = wide ∙ ap (λ b. Some b) same;
-        regions = ap (λ b. regions_in b rows) (sym same) ∙ there.2;
-        mutators = there.3;
-        keep = ap (λ t. keep_in t s.wide rows) there.0 ∙ (ap (λ b. keep_in task b rows) (sym same) ∙ there.4);
-        time = there.5;
-        ids = there.6;
-        questions = there.7;
-        rolls = there.8;
-      },
-    )
-
-abbrev task_by_flags_and_rows : Bool → Bool → Bool → Bool → Bool → Bool → Bool → List Row → Option Task
-task_by_flags_and_rows runs explores draws saves serves asks fetches rows = cond runs (Some Run) (cond explores (explore_in rows) (cond draws (Some Draw) (cond saves (save_in rows) (cond serves (serve_in rows) (cond asks (ask_in rows) (cond fetches (fetch_in rows) None))))))
-
-task_is_named_by_one : (runs explores draws saves serves asks fetches : Bool) (rows : List Row) (task : Task) → task_by_flags_and_rows runs explores draws saves serves asks fetches rows ≡ Some task → (runs || (explores || (draws || (saves || (serves || (asks || fetches)))))) ≡ true
-task_is_named_by_one true explores draws saves serves asks fetches rows task e = refl
-task_is_named_by_one false true draws saves serves asks fetches rows task e = refl
-task_is_named_by_one false false true saves serves asks fetches rows task e = refl
-task_is_named_by_one false false false true serves asks fetches rows task e = refl
-task_is_named_by_one false false false false true asks fetches rows task e = refl
-task_is_named_by_one false false false false false true fetches rows task e = refl
-task_is_named_by_one false false false false false false true rows task e = refl
-task_is_named_by_one false false false false false false false rows task e = cc
-
-pub record AreAsked (o : Option (Text × List Row)) (s : Settings) : Type 0 where
-  pub found : Text × List Row
-  pub is : o ≡ Some found
-  pub named : is_task found.0 ≡ true
-  pub task : task_in found.0 found.1 ≡ Some s.task
-  pub read : AreRead found.1 s
-
-found_settings_are_asked : (o : Option (Text × List Row)) (s : Settings) → option_and_then settings_under o ≡ Some s → AreAsked o s
-found_settings_are_asked None s e = cc
-found_settings_are_asked (Some f) s e = go (task_in f.0 f.1) refl e
-  where
-    sized : (task : Task) (b : Option Bool) → wide_in f.1 ≡ b → option_and_then (settings_over task f.1) b ≡ Some s → (s.task ≡ task) × AreRead f.1 s
-    sized task None h found = cc
-    sized task (Some w) h found = settings_are_read_from_rows task f.1 w s h found
-
-    go : (t : Option Task) → task_in f.0 f.1 ≡ t → option_and_then (λ task. settings_in task f.1) t ≡ Some s → AreAsked (Some f) s
-    go None h found = cc
-    go (Some task) h found =
-        let there = sized task (wide_in f.1) refl found in
+    go : (t : Option Task) → task_in command.kind rows ≡ t → settings_with command.kind rows (is_on WIDE rows) t ≡ Ok s → AreReadFrom (Some (name, rows)) s
+    go None at found = cc
+    go (Some task) at found =
+        let clear = no_mistake_leaves_rest (option_map (λ row. Value row (is_on WIDE rows)) (clash_in task)) (Ok (settings_from command.kind rows (is_on WIDE rows) task)) s found in
         record {
-          found = f;
+          name = name;
+          rows = rows;
+          command = command;
+          task = task;
           is = refl;
-          named = task_is_named_by_one (bytes_eq f.0 (codes "run")) (bytes_eq f.0 (codes "explore")) (bytes_eq f.0 (codes "draw")) (bytes_eq f.0 (codes "save")) (bytes_eq f.0 (codes "serve")) (bytes_eq f.0 (codes "ask")) (bytes_eq f.0 (codes "fetch")) f.1 task h;
-          task = h ∙ ap (λ t. Some t) (sym there.0);
-          read = there.1;
+          named = named;
+          asked = at;
+          free = mapped_from_none (λ row. Value row (is_on WIDE rows)) (clash_in task) clear.0;
+          settings = ok_values_are_equal (settings_from command.kind rows (is_on WIDE rows) task) s clear.1;
         }
 
--- as many steps as can be undone by default may be undone
-default_within : (task : Task) (w : Bool) → (1 ≤ keep_default task w) × (keep_default task w ≤ most_kept w)
-default_within (Explore from page) false = (omega arith, omega arith)
-default_within (Explore from page) true = (omega arith, omega arith)
-default_within Run false = (omega arith, omega arith)
-default_within Run true = (omega arith, omega arith)
-default_within Draw false = (omega arith, omega arith)
-default_within Draw true = (omega arith, omega arith)
-default_within (Save target) false = (omega arith, omega arith)
-default_within (Save target) true = (omega arith, omega arith)
-default_within (Serve service) false = (omega arith, omega arith)
-default_within (Serve service) true = (omega arith, omega arith)
-default_within (Ask port secret) false = (omega arith, omega arith)
-default_within (Ask port secret) true = (omega arith, omega arith)
-default_within (Fetch port secret) false = (omega arith, omega arith)
-default_within (Fetch port secret) true = (omega arith, omega arith)
+pub settings_are_read_from : (found : Option (Text × List Row)) (s : Settings) → settings_under found ≡ Ok s → AreReadFrom found s
+settings_are_read_from None s e = cc
+settings_are_read_from (Some (name, rows)) s e = go (command_of name) refl e
+  where
+    go : (c : Option CommandRow) → command_of name ≡ c → settings_by rows c ≡ Ok s → AreReadFrom (Some (name, rows)) s
+    go None at found = cc
+    go (Some command) at found = read_settings_come_from_command name rows command s at found
 
-numbers_of_heap_within_bounds : (task : Task) (w : Bool) (rows : List Row) (r m k : ℕ) → regions_in w rows ≡ Some r → option_value (codes "mutators") 2 1 mutator_limit rows ≡ Some m → keep_in task w rows ≡ Some k → AreNumbersOf w r m k
-numbers_of_heap_within_bounds task false rows r m k regions mutators keep =
+-- ---- limits
+
+keep_within_bounds : (kind : Kind) (wide : Bool) (rows : List Row) → (1 ≤ value_of wide (keep_row kind) rows) × (value_of wide (keep_row kind) rows ≤ cond wide 16777216 65536)
+keep_within_bounds Explores true rows = value_within_bounds true KEEP_MOST rows (omega arith)
+keep_within_bounds Explores false rows = value_within_bounds false KEEP_MOST rows (omega arith)
+keep_within_bounds Runs true rows = value_within_bounds true KEEP rows (omega arith)
+keep_within_bounds Runs false rows = value_within_bounds false KEEP rows (omega arith)
+keep_within_bounds Draws true rows = value_within_bounds true KEEP rows (omega arith)
+keep_within_bounds Draws false rows = value_within_bounds false KEEP rows (omega arith)
+keep_within_bounds Saves true rows = value_within_bounds true KEEP rows (omega arith)
+keep_within_bounds Saves false rows = value_within_bounds false KEEP rows (omega arith)
+keep_within_bounds Serves true rows = value_within_bounds true KEEP rows (omega arith)
+keep_within_bounds Serves false rows = value_within_bounds false KEEP rows (omega arith)
+keep_within_bounds Asks true rows = value_within_bounds true KEEP rows (omega arith)
+keep_within_bounds Asks false rows = value_within_bounds false KEEP rows (omega arith)
+keep_within_bounds Fetches true rows = value_within_bounds true KEEP rows (omega arith)
+keep_within_bounds Fetches false rows = value_within_bounds false KEEP rows (omega arith)
+
+heap_numbers_within_bounds : (kind : Kind) (wide : Bool) (rows : List Row) → AreNumbersOf wide (value_of wide REGIONS rows) (value_of wide MUTATORS rows) (value_of wide (keep_row kind) rows)
+heap_numbers_within_bounds kind true rows =
     record {
-      regions_within = size_or_default_within_bounds 16 1 (most_regions false) (first_of (codes "regions") rows) r (omega arith) (omega arith) regions;
-      mutators_within = number_or_default_within_bounds 2 1 mutator_limit (first_of (codes "mutators") rows) m (omega arith) (omega arith) mutators;
-      keep_within = size_or_default_within_bounds (keep_default task false) 1 (most_kept false) (first_of (codes "keep") rows) k (default_within task false).0 (default_within task false).1 keep;
+      regions_within = value_within_bounds true REGIONS rows (omega arith);
+      mutators_within = value_within_bounds true MUTATORS rows (omega arith);
+      keep_within = keep_within_bounds kind true rows;
     }
-numbers_of_heap_within_bounds task true rows r m k regions mutators keep =
+heap_numbers_within_bounds kind false rows =
     record {
-      regions_within = size_or_default_within_bounds 16 1 (most_regions true) (first_of (codes "regions") rows) r (omega arith) (omega arith) regions;
-      mutators_within = number_or_default_within_bounds 2 1 mutator_limit (first_of (codes "mutators") rows) m (omega arith) (omega arith) mutators;
-      keep_within = size_or_default_within_bounds (keep_default task true) 1 (most_kept true) (first_of (codes "keep") rows) k (default_within task true).0 (default_within task true).1 keep;
+      regions_within = value_within_bounds false REGIONS rows (omega arith);
+      mutators_within = value_within_bounds false MUTATORS rows (omega arith);
+      keep_within = keep_within_bounds kind false rows;
     }
 
-port_within : (given : Option Text) (port : ℕ) → option_and_then (number_in 1 port_limit) given ≡ Some port → (1 ≤ port) × (port ≤ port_limit)
-port_within None port e = cc
-port_within (Some text) port e = number_setting_within_bounds 1 port_limit text port e
+-- a port that is given is one
+abbrev IsPort : Option ℕ → Type 0
+IsPort given = (n : ℕ) → given ≡ Some n → (1 ≤ n) × (n ≤ port_limit)
 
-other_port_is_legal : (port : ℕ) (n : Option ℕ) (dumps : Option ℕ) → ((d : ℕ) → n ≡ Some d → (1 ≤ d) × (d ≤ port_limit)) → option_and_then (other_port port) n ≡ Some dumps → IsOther port dumps
-other_port_is_legal port None dumps within e = cc
-other_port_is_legal port (Some d) dumps within e = go (d == port) refl e
+other_port_is_legal : (port : ℕ) (dumps : Option ℕ) → IsPort dumps → is_port dumps port ≡ false → IsOther port dumps
+other_port_is_legal port None legal free = tt
+other_port_is_legal port (Some dumps) legal free = ((legal dumps refl).0, (legal dumps refl).1, eqb-false dumps port free)
+
+dumps_are_another_port : (dumps : Option ℕ) (page : ℕ) → is_port dumps page ≡ false → dumps ≡ Some page → ⊥
+dumps_are_another_port None page free e = cc
+dumps_are_another_port (Some dumps) page free e = eqb-false dumps page free (some_is dumps page e)
   where
-    go : (b : Bool) → (d == port) ≡ b → cond b None (Some (Some d)) ≡ Some dumps → IsOther port dumps
-    go true h found = cc
-    go false h found =
-        let same : Some d ≡ dumps = cc in
-        let limits = within d refl in
-        subst (IsOther port) same (limits.0, limits.1, eqb-false d port h)
+    some_is : (a b : ℕ) → Some a ≡ Some b → a ≡ b
+    some_is a b h = cc
 
-dumps_within : (port : ℕ) (given : Option Text) (dumps : Option ℕ) → dumps_with port given ≡ Some dumps → IsOther port dumps
-dumps_within port None dumps e = let same : None ≡ dumps = cc in subst (IsOther port) same tt
-dumps_within port (Some text) dumps e = other_port_is_legal port (number_in 1 port_limit text) dumps (λ d is. number_setting_within_bounds 1 port_limit text d is) e
+third_port_is_legal : (port : ℕ) (dumps page : Option ℕ) → IsPort page → is_port page port ≡ false → option_map_or (is_port dumps) page false ≡ false → IsThird port dumps page
+third_port_is_legal port dumps None legal free other = tt
+third_port_is_legal port dumps (Some page) legal free other =
+    ((legal page refl).0, (legal page refl).1, eqb-false page port free, dumps_are_another_port dumps page other)
 
-third_port_is_legal : (port : ℕ) (dumps n page : Option ℕ) → ((g : ℕ) → n ≡ Some g → (1 ≤ g) × (g ≤ port_limit)) → option_and_then (third_port port dumps) n ≡ Some page → IsThird port dumps page
-third_port_is_legal port dumps None page within e = cc
-third_port_is_legal port dumps (Some g) page within e = go (g == port) (option_map_or (λ d. g == d) dumps false) refl refl e
+ports_without_clash_are_legal : (s : Service) → IsPort s.dumps → IsPort s.page → clash_of s ≡ None → IsOther s.port s.dumps × IsThird s.port s.dumps s.page
+ports_without_clash_are_legal s dumps page free = go (is_port s.dumps s.port) (is_port s.page s.port) (option_map_or (is_port s.dumps) s.page false) refl refl refl free
   where
-    no_dumps : (o : Option ℕ) → option_map_or (λ d. g == d) o false ≡ false → o ≡ Some g → ⊥
-    no_dumps None h is = cc
-    no_dumps (Some d) h is = eqb-false g d h (sym (some_is d g is))
-      where
-        some_is : (a b : ℕ) → Some a ≡ Some b → a ≡ b
-        some_is a b e = cc
+    go : (d p o : Bool) → is_port s.dumps s.port ≡ d → is_port s.page s.port ≡ p → option_map_or (is_port s.dumps) s.page false ≡ o
+        → cond d (Some DUMPS) (cond (p || o) (Some SERVED_PAGE) None) ≡ None → IsOther s.port s.dumps × IsThird s.port s.dumps s.page
+    go true p o at with_port with_dumps e = cc
+    go false true o at with_port with_dumps e = cc
+    go false false true at with_port with_dumps e = cc
+    go false false false at with_port with_dumps e = (other_port_is_legal s.port s.dumps dumps at, third_port_is_legal s.port s.dumps s.page page with_port with_dumps)
 
-    go : (b k : Bool) → (g == port) ≡ b → option_map_or (λ d. g == d) dumps false ≡ k → cond (b || k) None (Some (Some g)) ≡ Some page → IsThird port dumps page
-    go true k h t found = cc
-    go false true h t found = cc
-    go false false h t found =
-        let same : Some g ≡ page = cc in
-        let limits = within g refl in
-        subst (IsThird port dumps) same (limits.0, limits.1, eqb-false g port h, no_dumps dumps t)
+service_is_legal : (rows : List Row) (port : ℕ) → given_in false PORT rows ≡ Some port → clash_of (service_of rows port) ≡ None → IsTask (Serve (service_of rows port))
+service_is_legal rows port at free =
+    let own = given_number_within_bounds false PORT rows port at in
+    let sessions = value_within_bounds false SESSIONS rows (omega arith) in
+    let others = ports_without_clash_are_legal (service_of rows port) (λ n e. given_number_within_bounds false DUMPS rows n e) (λ n e. given_number_within_bounds false SERVED_PAGE rows n e) free in
+    (own.0, own.1, sessions.0, sessions.1, value_at_most false WORKERS rows, others.0, others.1, value_at_most false IDLE rows)
 
-page_within : (port : ℕ) (dumps : Option ℕ) (given : Option Text) (page : Option ℕ) → page_with port dumps given ≡ Some page → IsThird port dumps page
-page_within port dumps None page e = let same : None ≡ page = cc in subst (IsThird port dumps) same tt
-page_within port dumps (Some text) page e = third_port_is_legal port dumps (number_in 1 port_limit text) page (λ g is. number_setting_within_bounds 1 port_limit text g is) e
+page_is_legal : (from : Bool) (page : Option ℕ) → IsPort page → IsTask (Explore from page)
+page_is_legal from None legal = tt
+page_is_legal from (Some page) legal = legal page refl
 
--- seconds of an option whose default is none
-idle_within : (given : Option Text) (n : ℕ) → number_or 0 1 idle_limit given ≡ Some n → n ≤ idle_limit
-idle_within None n e = let same : 0 ≡ n = cc in rw (← same) (omega arith)
-idle_within (Some text) n e = (number_setting_within_bounds 1 idle_limit text n e).1
+explore_is_legal : (rows : List Row) (port : Option ℕ) → given_in false ASKED_PORT rows ≡ port → IsTask (explore_with rows port)
+explore_is_legal rows None at = page_is_legal (has FROM rows) (given_in false PAGE rows) (λ n e. given_number_within_bounds false PAGE rows n e)
+explore_is_legal rows (Some port) at = given_number_within_bounds false ASKED_PORT rows port at
 
--- a served heap has what its options say
-pub record IsServeOf (p n w : Option ℕ) (d g : Option (Option ℕ)) (i : Option ℕ) (y : Option Bool) (x : Bool) (task : Task) : Type 0 where
-  pub service : Service
-  pub is : task ≡ Serve service
-  pub port : p ≡ Some service.port
-  pub sessions : n ≡ Some service.sessions
-  pub workers : w ≡ Some service.workers
-  pub dumps : d ≡ Some service.dumps
-  pub page : g ≡ Some service.page
-  pub idle : i ≡ Some service.idle
-  pub stays : y ≡ Some service.stays
-  pub secret : x ≡ service.secret
+target_is_legal : (rows : List Row) (port : Option ℕ) → given_in false TO rows ≡ port → IsTask (Save (target_of port))
+target_is_legal rows None at = tt
+target_is_legal rows (Some port) at = given_number_within_bounds false TO rows port at
 
-serve_settings_make_task : (p n w : Option ℕ) (d g : Option (Option ℕ)) (i : Option ℕ) (y : Option Bool) (x : Bool) (task : Task) → serve_with p n w d g i y x ≡ Some task → IsServeOf p n w d g i y x task
-serve_settings_make_task None n w d g i y x task e = cc
-serve_settings_make_task (Some port) None w d g i y x task e = cc
-serve_settings_make_task (Some port) (Some sessions) None d g i y x task e = cc
-serve_settings_make_task (Some port) (Some sessions) (Some workers) None g i y x task e = cc
-serve_settings_make_task (Some port) (Some sessions) (Some workers) (Some dumps) None i y x task e = cc
-serve_settings_make_task (Some port) (Some sessions) (Some workers) (Some dumps) (Some page) None y x task e = cc
-serve_settings_make_task (Some port) (Some sessions) (Some workers) (Some dumps) (Some page) (Some idle) None x task e = cc
-serve_settings_make_task (Some port) (Some sessions) (Some workers) (Some dumps) (Some page) (Some idle) (Some stays) x task e =
-    let made : Service =
-    record {
-      port = port;
-      sessions = sessions;
-      workers = workers;
-      dumps = dumps;
-      page = page;
-      idle = idle;
-      stays = stays;
-      secret = x;
-    }
-    in
-    let same : Serve made ≡ task = cc in
-    record { service = made; is = sym same; port = refl; sessions = refl; workers = refl; dumps = refl; page = refl; idle = refl; stays = refl; secret = refl }
+-- a task that is made of a port, if there is one, is legal if that port makes a legal one
+task_of_port_is_legal : (make : ℕ → Task) (port : Option ℕ) (task : Task) → ((n : ℕ) → port ≡ Some n → clash_in (make n) ≡ None → IsTask (make n)) → clash_in task ≡ None → option_map make port ≡ Some task → IsTask task
+task_of_port_is_legal make None task legal free e = cc
+task_of_port_is_legal make (Some n) task legal free e =
+    let same : make n ≡ task = cc in
+    subst IsTask same (legal n refl (ap clash_in same ∙ free))
 
--- what the rows say of a served heap
-abbrev IsServedByRows : List Row → Task → Type 0
-IsServedByRows rows task = IsServeOf (port_in rows) (sessions_in rows) (workers_in rows) (dumps_in rows) (page_in rows) (idle_in rows) (stays_in rows) (has_secret rows) task
+task_is_legal : (kind : Kind) (rows : List Row) (task : Task) → task_in kind rows ≡ Some task → clash_in task ≡ None → IsTask task
+task_is_legal Runs rows task e free = let same : Run ≡ task = cc in subst IsTask same tt
+task_is_legal Explores rows task e free = let same : explore_with rows (given_in false ASKED_PORT rows) ≡ task = cc in subst IsTask same (explore_is_legal rows (given_in false ASKED_PORT rows) refl)
+task_is_legal Draws rows task e free = let same : Draw ≡ task = cc in subst IsTask same tt
+task_is_legal Saves rows task e free = let same : Save (target_of (given_in false TO rows)) ≡ task = cc in subst IsTask same (target_is_legal rows (given_in false TO rows) refl)
+task_is_legal Serves rows task e free = task_of_port_is_legal (λ port. Serve (service_of rows port)) (given_in false PORT rows) task (λ n at clear. service_is_legal rows n at clear) free e
+task_is_legal Asks rows task e free = task_of_port_is_legal (λ port. Ask port (has SECRET rows)) (given_in false PORT rows) task (λ n at clear. given_number_within_bounds false PORT rows n at) free e
+task_is_legal Fetches rows task e free = task_of_port_is_legal (λ port. Fetch port (has SECRET rows)) (given_in false PORT rows) task (λ n at clear. given_number_within_bounds false PORT rows n at) free e
 
-serve_rows_make_task : (rows : List Row) (task : Task) → serve_in rows ≡ Some task → IsServedByRows rows task
-serve_rows_make_task rows task e = serve_settings_make_task (port_in rows) (sessions_in rows) (workers_in rows) (dumps_in rows) (page_in rows) (idle_in rows) (stays_in rows) (has_secret rows) task e
-
--- the port for dumps is read beside the port that was read
-dumps_port_beside_served_port : (rows : List Row) (task : Task) (served : IsServedByRows rows task) → dumps_with served.service.port (first_of (codes "dumps") rows) ≡ Some served.service.dumps
-dumps_port_beside_served_port rows task served =
-    sym (ap (option_and_then (λ port. dumps_with port (first_of (codes "dumps") rows))) served.port) ∙ served.dumps
-
--- the port of the page is read beside these two
-page_port_beside_other_ports : (rows : List Row) (task : Task) (served : IsServedByRows rows task) → page_beside served.service.port served.service.dumps rows ≡ Some served.service.page
-page_port_beside_other_ports rows task served =
-    sym
-    (ap (λ p. option_and_then (λ port. option_and_then (λ dumps. page_beside port dumps rows) (dumps_in rows)) p) served.port
-    ∙ ap (λ d. option_and_then (λ dumps. page_beside served.service.port dumps rows) d) served.dumps)
-    ∙ served.page
-
-serve_within : (rows : List Row) (task : Task) → serve_in rows ≡ Some task → IsTask task
-serve_within rows task e =
-    let served = serve_rows_make_task rows task e in
-    let service = served.service in
-    let ports = port_within (first_of (codes "port") rows) service.port served.port in
-    let counts = number_or_default_within_bounds 1 1 most_sessions (first_of (codes "sessions") rows) service.sessions (omega arith) (omega arith) served.sessions in
-    let tended = number_or_default_within_bounds 0 0 1 (first_of (codes "workers") rows) service.workers (omega arith) (omega arith) served.workers in
-    subst IsTask (sym served.is) (
-      ports.0,
-      ports.1,
-      counts.0,
-      counts.1,
-      tended.1,
-      dumps_within service.port (first_of (codes "dumps") rows) service.dumps (dumps_port_beside_served_port rows task served),
-      page_within service.port service.dumps (first_of (codes "page") rows) service.page (page_port_beside_other_ports rows task served),
-      idle_within (first_of (codes "idle") rows) service.idle served.idle,
-    )
-
-ask_within : (rows : List Row) (secret : Bool) (p : Option ℕ) (task : Task) → port_in rows ≡ p → option_map (λ port. Ask port secret) p ≡ Some task → IsTask task
-ask_within rows secret None task at e = cc
-ask_within rows secret (Some port) task at e =
-    let same : Ask port secret ≡ task = cc in
-    subst IsTask same (port_within (first_of (codes "port") rows) port at)
-
-fetch_within : (rows : List Row) (secret : Bool) (p : Option ℕ) (task : Task) → port_in rows ≡ p → option_map (λ port. Fetch port secret) p ≡ Some task → IsTask task
-fetch_within rows secret None task at e = cc
-fetch_within rows secret (Some port) task at e =
-    let same : Fetch port secret ≡ task = cc in
-    subst IsTask same (port_within (first_of (codes "port") rows) port at)
-
-save_within : (path port : Option Text) (task : Task) → option_map (λ target. Save target) (target_in path port) ≡ Some task → IsTask task
-save_within (Some path) None task e =
-    let same : Save Out ≡ task = cc in
-    subst IsTask same tt
-save_within (Some path) (Some text) task e = cc
-save_within None None task e = cc
-save_within None (Some text) task e = go (number_in 1 port_limit text) refl e
-  where
-    go : (n : Option ℕ) → number_in 1 port_limit text ≡ n → option_map (λ target. Save target) (option_map (λ port. To port) n) ≡ Some task → IsTask task
-    go None at e = cc
-    go (Some port) at e =
-        let same : Save (To port) ≡ task = cc in
-        subst IsTask same (number_setting_within_bounds 1 port_limit text port at)
-
-own_page_task_is_legal : (from : Bool) (page : Option Text) (task : Task) → option_map (λ p. Explore from p) (own_page page) ≡ Some task → IsTask task
-own_page_task_is_legal from None task e = let same : Explore from None ≡ task = cc in subst IsTask same tt
-own_page_task_is_legal from (Some text) task e = go (number_in 1 port_limit text) refl e
-  where
-    go : (n : Option ℕ) → number_in 1 port_limit text ≡ n → option_map (λ p. Explore from p) (option_map (λ page. Some page) n) ≡ Some task → IsTask task
-    go None at h = cc
-    go (Some page) at h =
-        let same : Explore from (Some page) ≡ task = cc in
-        subst IsTask same (number_setting_within_bounds 1 port_limit text page at)
-
-explore_within : (from page port : Option Text) (secret : Bool) (task : Task) → explore_with from page port secret ≡ Some task → IsTask task
-explore_within from page None false task e = own_page_task_is_legal (is_some from) page task e
-explore_within from page None true task e = cc
-explore_within (Some path) page (Some text) secret task e = cc
-explore_within None (Some shown) (Some text) secret task e = cc
-explore_within None None (Some text) secret task e = go (number_in 1 port_limit text) refl e
-  where
-    go : (n : Option ℕ) → number_in 1 port_limit text ≡ n → option_map (λ port. Ask port secret) n ≡ Some task → IsTask task
-    go None at h = cc
-    go (Some port) at h =
-        let same : Ask port secret ≡ task = cc in
-        subst IsTask same (number_setting_within_bounds 1 port_limit text port at)
-
-task_within : (runs explores draws saves serves asks fetches : Bool) (rows : List Row) (task : Task) → task_by_flags_and_rows runs explores draws saves serves asks fetches rows ≡ Some task → IsTask task
-task_within true explores draws saves serves asks fetches rows task e = let same : Run ≡ task = cc in subst IsTask same tt
-task_within false true draws saves serves asks fetches rows task e = explore_within (first_of (codes "from") rows) (first_of (codes "page") rows) (first_of (codes "port") rows) (has_secret rows) task e
-task_within false false true saves serves asks fetches rows task e = let same : Draw ≡ task = cc in subst IsTask same tt
-task_within false false false true serves asks fetches rows task e = save_within (first_of (codes "out") rows) (first_of (codes "to") rows) task e
-task_within false false false false true asks fetches rows task e = serve_within rows task e
-task_within false false false false false true fetches rows task e = ask_within rows (has_secret rows) (port_in rows) task refl e
-task_within false false false false false false true rows task e = fetch_within rows (has_secret rows) (port_in rows) task refl e
-task_within false false false false false false false rows task e = cc
-
-pub settings_within : (o : Option (Text × List Row)) (s : Settings) → option_and_then settings_under o ≡ Some s → AreSettingsWithin s
-settings_within o s e =
-    let asked = found_settings_are_asked o s e in
-    let name = asked.found.0 in (
-      numbers_of_heap_within_bounds s.task s.wide asked.found.1 s.regions s.mutators s.keep asked.read.regions asked.read.mutators asked.read.keep,
-      task_within (bytes_eq name (codes "run")) (bytes_eq name (codes "explore")) (bytes_eq name (codes "draw")) (bytes_eq name (codes "save")) (bytes_eq name (codes "serve")) (bytes_eq name (codes "ask")) (bytes_eq name (codes "fetch")) asked.found.1 s.task asked.task,
-    )
-
--- ---- defaults
-
--- the command's rules leave the option alone if no word names it, or the command is no task
-abbrev is_free_command : Text → Shape → Bool
-is_free_command name s = not (is_task s.name) || list_all (is_plain_rule name) s.rules
-
-free_command_rules_are_plain : (name : Text) (s : Shape) → is_free_command name s ≡ true → is_task s.name ≡ true → IsPlainRules name s.rules
-free_command_rules_are_plain name s e named = go (is_task s.name) named e
-  where
-    go : (b : Bool) → b ≡ true → (not b || list_all (is_plain_rule name) s.rules) ≡ true → IsPlainRules name s.rules
-    go true h all = all
-    go false h all = cc
-
-option_not_named_later : (name : Text) (words : List Text) → is_given name words ≡ false → is_given name (drop 1 words) ≡ false
-option_not_named_later name [] e = refl
-option_not_named_later name (word ∷ rest) e = or_false_right_is_false _ _ e
-
-entered_command_lacks_option : (name : Text) (stop : Option (Text × List Text)) (f : Text × List Row) → list_all (is_free_command name) (built heapdbg_line).subs ≡ true
-    → IsTailFree name stop → entered (built heapdbg_line) stop ≡ Some f → is_task f.0 ≡ true → first_of name f.1 ≡ None
-entered_command_lacks_option name None f all tail e named = cc
-entered_command_lacks_option name (Some p) f all tail e named = go (find (λ s. answers_to p.0 (label_of s)) (built heapdbg_line).subs) refl e
-  where
-    go : (o : Option Shape) → find (λ s. answers_to p.0 (label_of s)) (built heapdbg_line).subs ≡ o → option_map (λ s. rows_at s p.1) o ≡ Some f
-        → first_of name f.1 ≡ None
-    go None h found = cc
-    go (Some s) h found =
-        let free = (found_item_passes_both_tests (λ s. answers_to p.0 (label_of s)) (is_free_command name) (built heapdbg_line).subs s all h).0 in
-        let same : rows_at s p.1 ≡ f = cc in
-        let is_task : is_task s.name ≡ true = subst (λ (g : Text × List Row). is_task g.0 ≡ true) (sym same) named in
-        subst (λ (g : Text × List Row). first_of name g.1 ≡ None) same (unnamed_option_has_no_value name s.rules p.1 (free_command_rules_are_plain name s free is_task) tail)
-
--- an option that no word names has no row
-unnamed_option_has_no_row : (name : Text) (words : List Text) (f : Text × List Row) → list_all (is_free_command name) (built heapdbg_line).subs ≡ true → subcommand_of heapdbg_line words ≡ Some f → is_task f.0 ≡ true
-    → is_given name words ≡ false → first_of name f.1 ≡ None
-unnamed_option_has_no_row name words f all is named other =
-    let after = subcommand_tail_lacks_name name (built heapdbg_line).top.rules (names_of (built heapdbg_line)) (argument_words heapdbg_line words) (option_not_named_later name words other) in
-    entered_command_lacks_option name (stop_after (built heapdbg_line).top.rules (names_of (built heapdbg_line)) (argument_words heapdbg_line words)) f all after is named
-
-ungiven_number_is_default : (name : Text) (default least most : ℕ) (words : List Text) (f : Text × List Row) (n : ℕ)
-    → list_all (is_free_command name) (built heapdbg_line).subs ≡ true → subcommand_of heapdbg_line words ≡ Some f → is_task f.0 ≡ true
-    → option_value name default least most f.1 ≡ Some n → is_given name words ≡ false → n ≡ default
-ungiven_number_is_default name default least most words f n all is named read other =
-    let none = unnamed_option_has_no_row name words f all is named other in
-    let same : Some default ≡ Some n = subst (λ o. number_or default least most o ≡ Some n) none read in
-    cc
-
-ungiven_size_is_default : (name : Text) (default least most : ℕ) (words : List Text) (f : Text × List Row) (n : ℕ)
-    → list_all (is_free_command name) (built heapdbg_line).subs ≡ true → subcommand_of heapdbg_line words ≡ Some f → is_task f.0 ≡ true
-    → option_size name default least most f.1 ≡ Some n → is_given name words ≡ false → n ≡ default
-ungiven_size_is_default name default least most words f n all is named read other =
-    let none = unnamed_option_has_no_row name words f all is named other in
-    let same : Some default ≡ Some n = subst (λ o. size_or default least most o ≡ Some n) none read in
-    cc
-
--- what sessions with questions have, of a private heap and of a served one, is what the task of `explore` has
-explore_has : (P : Task → Type 0) (from page port : Option Text) (secret : Bool) (task : Task) → ((p : Option ℕ) → own_page page ≡ Some p → P (Explore (is_some from) p)) → ((n : ℕ) → P (Ask n secret)) → explore_with from page port secret ≡ Some task → P task
-explore_has P from page None true task one other e = cc
-explore_has P from page None false task one other e = go (own_page page) refl e
-  where
-    go : (o : Option (Option ℕ)) → own_page page ≡ o → option_map (λ p. Explore (is_some from) p) o ≡ Some task → P task
-    go None at h = cc
-    go (Some p) at h = let same : Explore (is_some from) p ≡ task = cc in subst P same (one p at)
-explore_has P (Some path) page (Some text) secret task one other e = cc
-explore_has P None (Some shown) (Some text) secret task one other e = cc
-explore_has P None None (Some text) secret task one other e = go (number_in 1 port_limit text) e
-  where
-    go : (n : Option ℕ) → option_map (λ port. Ask port secret) n ≡ Some task → P task
-    go None h = cc
-    go (Some n) h = let same : Ask n secret ≡ task = cc in subst P same (other n)
-
--- what a task of no served heap has, and what a served heap has, is what each task has
-each_task_has_property : (P : Task → Type 0) (runs explores draws saves serves asks fetches : Bool) (rows : List Row) (task : Task) → P Run
-    → ((p : Option ℕ) → own_page (first_of (codes "page") rows) ≡ Some p → P (Explore (is_some (first_of (codes "from") rows)) p)) → P Draw → ((target : Target) → P (Save target))
-    → ((port : ℕ) → P (Ask port (has_secret rows))) → ((port : ℕ) → P (Fetch port (has_secret rows))) → (serve_in rows ≡ Some task → P task) → task_by_flags_and_rows runs explores draws saves serves asks fetches rows ≡ Some task → P task
-each_task_has_property P true explores draws saves serves asks fetches rows task run explore draw save ask fetch serve e = let same : Run ≡ task = cc in subst P same run
-each_task_has_property P false true draws saves serves asks fetches rows task run explore draw save ask fetch serve e = explore_has P (first_of (codes "from") rows) (first_of (codes "page") rows) (first_of (codes "port") rows) (has_secret rows) task explore ask e
-each_task_has_property P false false true saves serves asks fetches rows task run explore draw save ask fetch serve e = let same : Draw ≡ task = cc in subst P same draw
-each_task_has_property P false false false true serves asks fetches rows task run explore draw save ask fetch serve e = go (target_in (first_of (codes "out") rows) (first_of (codes "to") rows)) e
-  where
-    go : (t : Option Target) → option_map (λ target. Save target) t ≡ Some task → P task
-    go None h = cc
-    go (Some target) h = let same : Save target ≡ task = cc in subst P same (save target)
-each_task_has_property P false false false false true asks fetches rows task run explore draw save ask fetch serve e = serve e
-each_task_has_property P false false false false false true fetches rows task run explore draw save ask fetch serve e = go (port_in rows) e
-  where
-    go : (p : Option ℕ) → option_map (λ port. Ask port (has_secret rows)) p ≡ Some task → P task
-    go None h = cc
-    go (Some port) h = let same : Ask port (has_secret rows) ≡ task = cc in subst P same (ask port)
-each_task_has_property P false false false false false false true rows task run explore draw save ask fetch serve e = go (port_in rows) e
-  where
-    go : (p : Option ℕ) → option_map (λ port. Fetch port (has_secret rows)) p ≡ Some task → P task
-    go None h = cc
-    go (Some port) h = let same : Fetch port (has_secret rows) ≡ task = cc in subst P same (fetch port)
-each_task_has_property P false false false false false false false rows task run explore draw save ask fetch serve e = cc
-
--- what a served heap has, by its options
-by_service : {A : Type 0} (of : Task → A) (rows : List Row) (task : Task) (served : IsServedByRows rows task) (x : A) → of (Serve served.service) ≡ x → of task ≡ x
-by_service of rows task served x e = ap of served.is ∙ e
-
--- a port for dumps that no word tells is none
-default_dumps : (rows : List Row) (task : Task) → first_of (codes "dumps") rows ≡ None → serve_in rows ≡ Some task → dumps_of task ≡ None
-default_dumps rows task missing e =
-    let served = serve_rows_make_task rows task e in
-    let same : Some None ≡ Some served.service.dumps = sym (ap (dumps_with served.service.port) missing) ∙ dumps_port_beside_served_port rows task served in
-    by_service dumps_of rows task served None cc
-
--- a port of the page that no word tells is none
-default_page : (rows : List Row) (task : Task) → first_of (codes "page") rows ≡ None → serve_in rows ≡ Some task → page_of task ≡ None
-default_page rows task missing e =
-    let served = serve_rows_make_task rows task e in
-    let same : Some None ≡ Some served.service.page = sym (ap (page_with served.service.port served.service.dumps) missing) ∙ page_port_beside_other_ports rows task served in
-    by_service page_of rows task served None cc
-
--- a page of a session's own heap that no word tells is none
-default_own : (given : Option Text) (p : Option ℕ) → given ≡ None → own_page given ≡ Some p → p ≡ None
-default_own None p none e = cc
-default_own (Some text) p none e = cc
-
--- a file of lines that no word tells is none
-ungiven_file_is_unread : (given : Option Text) → given ≡ None → is_some given ≡ false
-ungiven_file_is_unread None none = refl
-ungiven_file_is_unread (Some path) none = cc
-
--- no secret is given where no word tells one
-no_secret_given_unguarded : (rows : List Row) → first_of (codes "secret") rows ≡ None → has_secret rows ≡ false
-no_secret_given_unguarded rows none = ungiven_file_is_unread (first_of (codes "secret") rows) none
-
--- identifiers of which no word tells the size have 8 bytes
-default_size : (words : List Text) (f : Text × List Row) (x : IdSize) → subcommand_of heapdbg_line words ≡ Some f → is_task f.0 ≡ true
-    → id_size_in f.1 ≡ Some x → is_given (codes "ids") words ≡ false → x ≡ Eight
-default_size words f x is named read other = go (option_value (codes "ids") 8 4 8 f.1) refl read
-  where
-    go : (o : Option ℕ) → option_value (codes "ids") 8 4 8 f.1 ≡ o → option_and_then id_size_of o ≡ Some x → x ≡ Eight
-    go None e sized = cc
-    go (Some bytes) e sized =
-        let eight : bytes ≡ 8 = ungiven_number_is_default (codes "ids") 8 4 8 words f bytes refl is named e other in
-        let same : Some Eight ≡ Some x = subst (λ n. id_size_of n ≡ Some x) eight sized in
-        cc
-
--- an option that no word tells is not given as 1
-default_flag : (flag : Text) (words : List Text) (f : Text × List Row) (x : Bool) → list_all (is_free_command flag) (built heapdbg_line).subs ≡ true → subcommand_of heapdbg_line words ≡ Some f → is_task f.0 ≡ true
-    → flag_in flag f.1 ≡ Some x → is_given flag words ≡ false → x ≡ false
-default_flag flag words f x free is named read other = go (option_value flag 0 0 1 f.1) refl read
-  where
-    go : (o : Option ℕ) → option_value flag 0 0 1 f.1 ≡ o → option_map (λ number. number == 1) o ≡ Some x → x ≡ false
-    go None e h = cc
-    go (Some n) e h =
-        let zero_is : n ≡ 0 = ungiven_number_is_default flag 0 0 1 words f n free is named e other in
-        let same : Some false ≡ Some x = subst (λ k. option_map (λ number. number == 1) (Some k) ≡ Some x) zero_is h in
-        cc
-
-pub defaults_of : (words : List Text) (s : Settings) → option_and_then settings_under (subcommand_of heapdbg_line words) ≡ Some s → HasDefaults words s
-defaults_of words s e =
-    let asked = found_settings_are_asked (subcommand_of heapdbg_line words) s e in
-    let name = asked.found.0 in
-    let rows = asked.found.1 in
-    record {
-      regions = ungiven_size_is_default (codes "regions") 16 1 (most_regions s.wide) words asked.found s.regions refl asked.is asked.named asked.read.regions;
-      mutators = ungiven_number_is_default (codes "mutators") 2 1 mutator_limit words asked.found s.mutators refl asked.is asked.named asked.read.mutators;
-      keep = ungiven_size_is_default (codes "keep") (keep_default s.task s.wide) 1 (most_kept s.wide) words asked.found s.keep refl asked.is asked.named asked.read.keep;
-      time = ungiven_number_is_default (codes "time") 0 0 time_limit words asked.found s.time refl asked.is asked.named asked.read.time;
-      ids = default_size words asked.found s.ids asked.is asked.named asked.read.ids;
-      questions = default_flag (codes "questions") words asked.found s.questions refl asked.is asked.named asked.read.questions;
-      rolls = default_flag (codes "roll") words asked.found s.rolls refl asked.is asked.named asked.read.rolls;
-      wide = default_flag (codes "wide") words asked.found s.wide refl asked.is asked.named asked.read.wide;
-      sessions = λ other. each_task_has_property (λ t. sessions_of t ≡ 1) (bytes_eq name (codes "run")) (bytes_eq name (codes "explore")) (bytes_eq name (codes "draw")) (bytes_eq name (codes "save")) (bytes_eq name (codes "serve")) (bytes_eq name (codes "ask")) (bytes_eq name (codes "fetch")) rows s.task
-          refl (λ p at. refl) refl (λ target. refl) (λ port. refl) (λ port. refl)
-          (λ is. let served = serve_rows_make_task rows s.task is in by_service sessions_of rows s.task served 1 (ungiven_number_is_default (codes "sessions") 1 1 most_sessions words asked.found served.service.sessions refl asked.is asked.named served.sessions other)) asked.task;
-      workers = λ other. each_task_has_property (λ t. workers_of t ≡ 0) (bytes_eq name (codes "run")) (bytes_eq name (codes "explore")) (bytes_eq name (codes "draw")) (bytes_eq name (codes "save")) (bytes_eq name (codes "serve")) (bytes_eq name (codes "ask")) (bytes_eq name (codes "fetch")) rows s.task
-          refl (λ p at. refl) refl (λ target. refl) (λ port. refl) (λ port. refl)
-          (λ is. let served = serve_rows_make_task rows s.task is in by_service workers_of rows s.task served 0 (ungiven_number_is_default (codes "workers") 0 0 1 words asked.found served.service.workers refl asked.is asked.named served.workers other)) asked.task;
-      dumps = λ other. each_task_has_property (λ t. dumps_of t ≡ None) (bytes_eq name (codes "run")) (bytes_eq name (codes "explore")) (bytes_eq name (codes "draw")) (bytes_eq name (codes "save")) (bytes_eq name (codes "serve")) (bytes_eq name (codes "ask")) (bytes_eq name (codes "fetch")) rows s.task
-          refl (λ p at. refl) refl (λ target. refl) (λ port. refl) (λ port. refl)
-          (λ is. default_dumps rows s.task (unnamed_option_has_no_row (codes "dumps") words asked.found refl asked.is asked.named other) is) asked.task;
-      page = λ other. each_task_has_property (λ t. page_of t ≡ None) (bytes_eq name (codes "run")) (bytes_eq name (codes "explore")) (bytes_eq name (codes "draw")) (bytes_eq name (codes "save")) (bytes_eq name (codes "serve")) (bytes_eq name (codes "ask")) (bytes_eq name (codes "fetch")) rows s.task
-          refl (λ p at. default_own (first_of (codes "page") rows) p (unnamed_option_has_no_row (codes "page") words asked.found refl asked.is asked.named other) at) refl (λ target. refl) (λ port. refl) (λ port. refl)
-          (λ is. default_page rows s.task (unnamed_option_has_no_row (codes "page") words asked.found refl asked.is asked.named other) is) asked.task;
-      from = λ other. each_task_has_property (λ t. reads_file t ≡ false) (bytes_eq name (codes "run")) (bytes_eq name (codes "explore")) (bytes_eq name (codes "draw")) (bytes_eq name (codes "save")) (bytes_eq name (codes "serve")) (bytes_eq name (codes "ask")) (bytes_eq name (codes "fetch")) rows s.task
-          refl (λ p at. ungiven_file_is_unread (first_of (codes "from") rows) (unnamed_option_has_no_row (codes "from") words asked.found refl asked.is asked.named other)) refl (λ target. refl) (λ port. refl) (λ port. refl)
-          (λ is. let served = serve_rows_make_task rows s.task is in by_service reads_file rows s.task served false (refl)) asked.task;
-      idle = λ other. each_task_has_property (λ t. idle_of t ≡ 0) (bytes_eq name (codes "run")) (bytes_eq name (codes "explore")) (bytes_eq name (codes "draw")) (bytes_eq name (codes "save")) (bytes_eq name (codes "serve")) (bytes_eq name (codes "ask")) (bytes_eq name (codes "fetch")) rows s.task
-          refl (λ p at. refl) refl (λ target. refl) (λ port. refl) (λ port. refl)
-          (λ is. let served = serve_rows_make_task rows s.task is in by_service idle_of rows s.task served 0 (ungiven_number_is_default (codes "idle") 0 1 idle_limit words asked.found served.service.idle refl asked.is asked.named served.idle other)) asked.task;
-      stays = λ other. each_task_has_property (λ t. stays_of t ≡ false) (bytes_eq name (codes "run")) (bytes_eq name (codes "explore")) (bytes_eq name (codes "draw")) (bytes_eq name (codes "save")) (bytes_eq name (codes "serve")) (bytes_eq name (codes "ask")) (bytes_eq name (codes "fetch")) rows s.task
-          refl (λ p at. refl) refl (λ target. refl) (λ port. refl) (λ port. refl)
-          (λ is. let served = serve_rows_make_task rows s.task is in by_service stays_of rows s.task served false (default_flag (codes "stay") words asked.found served.service.stays refl asked.is asked.named served.stays other)) asked.task;
-      secret = λ other. each_task_has_property (λ t. is_guarded t ≡ false) (bytes_eq name (codes "run")) (bytes_eq name (codes "explore")) (bytes_eq name (codes "draw")) (bytes_eq name (codes "save")) (bytes_eq name (codes "serve")) (bytes_eq name (codes "ask")) (bytes_eq name (codes "fetch")) rows s.task
-          refl (λ p at. refl) refl (λ target. refl) (λ port. no_secret_given_unguarded rows (unnamed_option_has_no_row (codes "secret") words asked.found refl asked.is asked.named other)) (λ port. no_secret_given_unguarded rows (unnamed_option_has_no_row (codes "secret") words asked.found refl asked.is asked.named other))
-          (λ is. let served = serve_rows_make_task rows s.task is in by_service is_guarded rows s.task served false (sym served.secret ∙ no_secret_given_unguarded rows (unnamed_option_has_no_row (codes "secret") words asked.found refl asked.is asked.named other))) asked.task;
-    }
+pub settings_within : (found : Option (Text × List Row)) (s : Settings) → settings_under found ≡ Ok s → AreSettingsWithin s
+settings_within found s e =
+    let read = settings_are_read_from found s e in
+    let rows = read.rows in
+    subst AreSettingsWithin (sym read.settings) (heap_numbers_within_bounds read.command.kind (is_on WIDE rows) rows, task_is_legal read.command.kind rows read.task read.asked read.free)

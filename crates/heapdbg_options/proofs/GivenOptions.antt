@@ -1,79 +1,23 @@
 -- What the options tell, and the words.
-use Rattle.std.proofs.Common.{◌≡◌, ℕ, Bool, false, inl, inr, refl, ap, sym, ◌∙◌, subst, true, List, Option, Some, None, Result, Ok, Err, IfOk, codes}
+use Rattle.std.proofs.Common.{◌≡◌, Bool, List, None, Option, Result, Some, Ok, Err, IfOk, true, refl, sym, ap, ◌∙◌, subst}
 use Rattle.std.specs.Borrow.{Bor}
-use Rattle.std.specs.Prelude.{IfSome, is_some, option_and_then, option_map}
+use Rattle.std.specs.Prelude.{is_some, option_map}
 use Rattle.clap.proofs.WalkLemmas.{first_value-rows}
 use Rattle.clap.specs.Matches.{first_value}
 use Rattle.clap.specs.Words.{App, FailsBy, HasMatchesOf, Row, Text, fault_of, first_of, is_simple, is_simple_and_free, rows_of, subcommand_of, subcommand_rows_of}
 use Rattle.clap.specs.declared.error.Error.{Error}
 use Rattle.clap.specs.declared.parser.matches.ArgMatches.{ArgMatches}
 use Rattle.clap.specs.declared.parser.matches.Found.{Found}
-use Rattle.heapdbg_options.specs.CommandLine.{explore_in, has_secret, heapdbg_line, id_size_in, keep_default, keep_in, most_kept, number_in, option_value, path_of, port_limit, questions_in, regions_in, rolls_in, settings_over, settings_with, size_or, time_limit, wide_in}
-use Rattle.heap_class.specs.declared.IdSize.{IdSize}
-use Rattle.heap_world.specs.Limits.{mutator_limit}
-use Rattle.heapdbg_options.specs.Refusals.{IsExploreMistake, IsExploreOrMistake, IsMistakeIn, IsNoSize, IsOutside, keep_mistake, IsTargetMistake, IsTaskOrMistake}
-use Rattle.heapdbg_options.specs.declared.refusal.Mistake.{Mistake}
-use Rattle.heapdbg_options.specs.declared.settings.Task.{Task}
-
--- ---- what is told of options
-
--- what the texts of two options give is what their rows give
-pub two_options_given_as_rows : {A : Type 0} (F : Option Text → Option Text → A) (found : Found) (name second : Text) (one other : Option (Bor Text)) → option_map (λ s. s.now) one ≡ first_value found name → option_map (λ s. s.now) other ≡ first_value found second
-    → F (option_map (λ s. s.now) one) (option_map (λ s. s.now) other) ≡ F (first_of name (rows_of found)) (first_of second (rows_of found))
-two_options_given_as_rows F found name second one other e f = λ i. F ((e ∙ first_value-rows found name) i) ((f ∙ first_value-rows found second) i)
-
--- so is a mistake in them
-pub given_mistake : (IsMade : Mistake → Option Text → Option Text → Type 0) (m : Mistake) (found : Found) (name second : Text) (one other : Option (Bor Text)) → option_map (λ s. s.now) one ≡ first_value found name → option_map (λ s. s.now) other ≡ first_value found second
-    → IsMade m (option_map (λ s. s.now) one) (option_map (λ s. s.now) other) → IsMade m (first_of name (rows_of found)) (first_of second (rows_of found))
-given_mistake IsMade m found name second one other e f h =
-    subst (λ o. IsMade m o (first_of second (rows_of found))) (e ∙ first_value-rows found name)
-    (subst (λ o. IsMade m (option_map (λ s. s.now) one) o) (f ∙ first_value-rows found second) h)
+use Rattle.heapdbg_options.specs.Parsers.{heapdbg_line}
 
 -- the text of an option is that of its row
 pub text_of_row : (found : Found) (name : Text) (given : Option Text) → given ≡ first_value found name → first_of name (rows_of found) ≡ given
 text_of_row found name given e = sym (first_value-rows found name) ∙ sym e
 
--- a mistake in the two places is one of the options
-pub target_mistake_is_in_rows : (m : Mistake) (rows : List Row) → IsTargetMistake m (first_of (codes "out") rows) (first_of (codes "to") rows) → IsMistakeIn m rows
-target_mistake_is_in_rows m rows (inl h) = subst (λ x. IsMistakeIn x rows) (sym h.0) (inl (refl, h.1))
-target_mistake_is_in_rows m rows (inr h) = subst (λ x. IsMistakeIn x rows) (sym h.0) (inr (refl, h.1))
-
-outside_number_is_none : (least most : ℕ) (given : Option Text) → IsOutside least most given → option_and_then (number_in least most) given ≡ None
-outside_number_is_none least most None h = absurd h
-outside_number_is_none least most (Some text) h = h
-
 -- an option is given as its row is there
 pub option_given_as_its_row : (found : Found) (name : Text) (given : Option (Bor Text)) → option_map (λ s. s.now) given ≡ first_value found name → is_some given ≡ is_some (first_of name (rows_of found))
 option_given_as_its_row found name None e = ap is_some (e ∙ first_value-rows found name)
 option_given_as_its_row found name (Some text) e = ap is_some (e ∙ first_value-rows found name)
-
-source_mistake_is_in_rows : (m : Mistake) (rows : List Row) → IsExploreMistake m (first_of (codes "from") rows) (first_of (codes "page") rows) (first_of (codes "port") rows) (has_secret rows) → IsMistakeIn m rows
-source_mistake_is_in_rows m rows (inl h) = subst (λ x. IsMistakeIn x rows) (sym h.0) (inl (refl, h.1, h.2))
-source_mistake_is_in_rows m rows (inr (inl h)) = subst (λ x. IsMistakeIn x rows) (sym h.0) (outside_number_is_none 1 port_limit (first_of (codes "port") rows) h.1)
-source_mistake_is_in_rows m rows (inr (inr (inl h))) = subst (λ x. IsMistakeIn x rows) (sym h.0) h.1
-source_mistake_is_in_rows m rows (inr (inr (inr h))) = subst (λ x. IsMistakeIn x rows) (sym h.0) (inr (inr (inr (refl, h.1, h.2))))
-
--- the texts of the options of `explore` are those of their rows
-abbrev pub AreExploreTexts : Found → Option Text → Option Text → Option Text → Type 0
-AreExploreTexts found from page port =
-    (from ≡ first_value found (codes "from")) × (page ≡ first_value found (codes "page")) × (port ≡ first_value found (codes "port"))
-
--- its task, or a mistake in them, is that of the rows
-pub explore_task_from_rows : (found : Found) (from page port : Option Text) (secret : Bool) (result : Result Task Mistake) → AreExploreTexts found from page port → secret ≡ has_secret (rows_of found) → IsExploreOrMistake from page port secret result
-    → IsTaskOrMistake explore_in (rows_of found) result
-explore_task_from_rows found from page port secret result texts guarded h =
-    of_rows result
-    (subst (λ b. IsExploreOrMistake (first_of (codes "from") (rows_of found)) (first_of (codes "page") (rows_of found)) (first_of (codes "port") (rows_of found)) b result) guarded
-    (subst (λ o. IsExploreOrMistake o (first_of (codes "page") (rows_of found)) (first_of (codes "port") (rows_of found)) secret result) (texts.0 ∙ first_value-rows found (codes "from"))
-    (subst (λ o. IsExploreOrMistake from o (first_of (codes "port") (rows_of found)) secret result) (texts.1 ∙ first_value-rows found (codes "page"))
-    (subst (λ o. IsExploreOrMistake from page o secret result) (texts.2 ∙ first_value-rows found (codes "port")) h))))
-  where
-    of_rows : (r : Result Task Mistake) → IsExploreOrMistake (first_of (codes "from") (rows_of found)) (first_of (codes "page") (rows_of found)) (first_of (codes "port") (rows_of found)) (has_secret (rows_of found)) r
-        → IsTaskOrMistake explore_in (rows_of found) r
-    of_rows (Ok task) made = (made.0, tt)
-    of_rows (Err m) made = (tt, (made.1.0, source_mistake_is_in_rows m (rows_of found) made.1.1))
-
--- ---- what is told of the words
 
 heapdbg_line_is_simple : is_simple heapdbg_line ≡ true
 heapdbg_line_is_simple = refl
@@ -88,35 +32,8 @@ matches_tell_subcommand_rows a (Err e) words is h = tt
 pub simple_faults : {T : Type 0} (a : App) (r : Result T Error) (words : List Text) → a ≡ heapdbg_line → (is_simple_and_free a ≡ true → FailsBy (fault_of a words) r) → FailsBy (fault_of heapdbg_line words) r
 simple_faults a r words is h = subst (λ x. is_simple_and_free x ≡ true → FailsBy (fault_of x words) r) is h heapdbg_line_is_simple_and_free
 
-rows_alone : (name : Text) (o : Option (Text × List Row)) → option_and_then (λ f. first_of name f.1) o ≡ option_and_then (first_of name) (option_map (λ p. p.1) o)
-rows_alone name None = refl
-rows_alone name (Some f) = refl
-
--- the path is that of the words
-pub path_option_of_words : (name : Text) (o : Option (Text × List Row)) (found : Found) (r : Option (Bor Text)) (words : List Text) → Some (rows_of found) ≡ option_map (λ p. p.1) o → o ≡ subcommand_of heapdbg_line words
-    → option_map (λ s. s.now) r ≡ first_value found name → IfSome r (λ path. path_of name words ≡ Some path.now)
-path_option_of_words name o found None words rows is text = tt
-path_option_of_words name o found (Some path) words rows is text =
-    ap (option_and_then (λ f. first_of name f.1)) (sym is) ∙ rows_alone name o ∙ ap (option_and_then (first_of name)) (sym rows) ∙ sym (first_value-rows found name) ∙ sym text
-
--- ---- steps that can be undone
-
-no_size_within_bounds : (default least most : ℕ) (given : Option Text) → size_or default least most given ≡ None → IsNoSize least most given
-no_size_within_bounds default least most None e = cc
-no_size_within_bounds default least most (Some text) e = e
-
-no_settings_without_keep : (task : Task) (w : Bool) (r m t : Option ℕ) (i : Option IdSize) (q o : Option Bool) → settings_with task w r m None t i q o ≡ None
-no_settings_without_keep task w None m t i q o = refl
-no_settings_without_keep task w (Some r) None t i q o = refl
-no_settings_without_keep task w (Some r) (Some m) t i q o = refl
-
-mistake_of_keep : (w : Bool) (rows : List Row) → wide_in rows ≡ Some w → IsNoSize 1 (most_kept w) (first_of (codes "keep") rows) → IsMistakeIn (keep_mistake w) rows
-mistake_of_keep false rows wide h = (wide, h)
-mistake_of_keep true rows wide h = (wide, h)
-
--- an option `--keep` that is out of its range is the mistake of its command
-pub keep_mistake_is_in_rows : (task : Task) (w : Bool) (rows : List Row) → wide_in rows ≡ Some w → keep_in task w rows ≡ None → (settings_over task rows w ≡ None) × IsMistakeIn (keep_mistake w) rows
-keep_mistake_is_in_rows task w rows wide e = (
-  rw e (no_settings_without_keep task w (regions_in w rows) (option_value (codes "mutators") 2 1 mutator_limit rows) (option_value (codes "time") 0 0 time_limit rows) (id_size_in rows) (questions_in rows) (rolls_in rows)),
-  mistake_of_keep w rows wide (no_size_within_bounds (keep_default task w) 1 (most_kept w) (first_of (codes "keep") rows) e),
-)
+-- what was found, by its name and its rows
+pub found_command_by_name_and_rows : {S : Type 0} (f : S → Text) (g : S → List Row) (o : Option S) (name : Text) (rows : List Row) → Some name ≡ option_map f o → Some rows ≡ option_map (λ (p : Text × List Row). p.1) (option_map {U = Text × List Row} (λ s. (f s, g s)) o)
+    → option_map {U = Text × List Row} (λ s. (f s, g s)) o ≡ Some (name, rows)
+found_command_by_name_and_rows f g None name rows e h = cc
+found_command_by_name_and_rows f g (Some s) name rows e h = cc

@@ -1,6 +1,7 @@
 pub mod Words
+pub mod Numbers
 pub mod AskedSettings
+pub mod NamedOptions
 pub mod GivenOptions
 pub mod MadeParsers
-pub mod NamedTasks
 pub mod AskedTexts

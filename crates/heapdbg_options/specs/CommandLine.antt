@@ -1,451 +1,200 @@
--- The command line: the settings that a list of words asks for.
-use Rattle.std.specs.Prelude.{◌≡◌, ◌≢◌, ◌≤◌, ◌==◌, ◌∷◌, ◌++◌, ◌*◌, ◌-◌, [], take, ◌&&◌, ◌||◌, ℕ, List, Option, Some, None, Bool, ⊤, true, false, codes}
-use Rattle.std.specs.Prelude.{is_some, length, map, nat_le, nat_lt, option_and_then, option_map, string_bytes, if◌then◌else◌}
-use Rattle.std.specs.List.{list_all, list_any}
-use Rattle.std.specs.Option.{option_map_or}
-use Rattle.clap.specs.Lexer.{long_of}
+-- The command line: the settings that a list of words asks for, or the mistake in it.
+use Rattle.std.specs.Prelude.{◌≡◌, ◌≢◌, ◌≤◌, ◌==◌, ◌∷◌, [], ◌&&◌, ◌||◌, ℕ, List, Option, Some, None, Bool, ⊤, true, false, codes, find, Result, Ok, Err}
+use Rattle.std.specs.Prelude.{is_some, length, map, not, option_and_then, option_map, if◌then◌else◌}
+use Rattle.std.specs.List.{list_any}
+use Rattle.std.specs.Option.{option_map_or, option_or}
 use Rattle.std.specs.Borrow.{Bor}
-use Rattle.std.specs.Char.{is_ascii_digit}
 use Rattle.std.specs.Str.{bytes_eq}
-use Rattle.std.specs.Str.Parse.{digits_value}
-use Rattle.clap.specs.Words.{App, Row, Rule, Text, fault_of, first_of, new_app, new_rule, subcommand_of, with_rule, with_subcommand}
-use Rattle.clap.specs.declared.builder.ArgAction.TheVariants.{Set}
+use Rattle.clap.specs.Lexer.{long_of}
+use Rattle.clap.specs.Words.{Row, Text, fault_of, first_of, subcommand_of}
 use Rattle.heap_class.specs.declared.IdSize.{IdSize}
 use Rattle.heap_class.specs.declared.IdSize.TheVariants.{Four, Eight}
-use Rattle.heap_world.specs.RegionLimits.{region_limit}
-use Rattle.heap_world.specs.Limits.{AreHeapSettings, AreNarrowSettings, keep_limit, mutator_limit, narrow_keep, narrow_limits, narrow_regions, wide_limits}
+use Rattle.heap_world.specs.Limits.{AreHeapSettings, AreNarrowSettings, narrow_limits, wide_limits}
 use Rattle.heap_world.specs.declared.Limits.{Limits}
+use Rattle.heapdbg_options.specs.Parsers.{heapdbg_line}
+use Rattle.heapdbg_options.specs.Values.{given_in, has, is_on, is_unfit, port_limit, value_of}
+use Rattle.heapdbg_options.specs.declared.option_rows.CommandRow.{CommandRow}
+use Rattle.heapdbg_options.specs.declared.option_rows.Kind.{Kind}
+use Rattle.heapdbg_options.specs.declared.option_rows.Kind.TheVariants.{Runs, Explores, Draws, Saves, Serves, Asks, Fetches}
+use Rattle.heapdbg_options.specs.declared.option_rows.OptionRow.{OptionRow}
+use Rattle.heapdbg_options.specs.declared.option_rows.TheConstants.{ASKED_PORT, ASKED_SECRET, COMMANDS, DUMPS, FROM, IDLE, IDS, KEEP, KEEP_MOST, MUTATORS, PAGE, PORT, QUESTIONS, REGIONS, ROLL, SAVED_OUT, SECRET, SERVED_PAGE, SESSIONS, STAY, TIME, TO, WIDE, WORKERS}
+use Rattle.heapdbg_options.specs.declared.refusal.Mistake.{Mistake}
+use Rattle.heapdbg_options.specs.declared.refusal.Mistake.TheVariants.{Command, Pair, Value}
+use Rattle.heapdbg_options.specs.declared.refusal.TheConstants.{ONE_PLACE, PORT_ALONE, SECRET_WITH_PORT}
 use Rattle.heapdbg_options.specs.declared.settings.Service.{Service}
-use Rattle.heapdbg_options.specs.declared.settings.Task.{Task}
-use Rattle.heapdbg_options.specs.declared.settings.Task.TheVariants.{Run, Explore, Draw, Save, Serve, Ask, Fetch}
+use Rattle.heapdbg_options.specs.declared.settings.Settings.{Settings}
 use Rattle.heapdbg_options.specs.declared.settings.Target.{Target}
 use Rattle.heapdbg_options.specs.declared.settings.Target.TheVariants.{Out, To}
-use Rattle.heapdbg_options.specs.declared.settings.Settings.{Settings}
-use Rattle.heapdbg_options.specs.declared.settings.LineFault.{LineFault}
-use Rattle.heapdbg_options.specs.declared.settings.LineFault.TheVariants.{Bad, CommandText, Memory, OptionText}
+use Rattle.heapdbg_options.specs.declared.settings.Task.{Task}
+use Rattle.heapdbg_options.specs.declared.settings.Task.TheVariants.{Run, Explore, Draw, Save, Serve, Ask, Fetch}
 
 -- the texts that a list of words holds
 abbrev pub texts : List (Bor Text) → List Text
 texts = map (λ word. word.now)
 
--- an option `--NAME VALUE`
-abbrev pub value_option : Text → Rule
-value_option name = record (new_rule name) { long = Some name; action = Some Set; value_names = 1 }
+-- ---- settings
 
--- the option, of which a use without a value is one with the value 1
-abbrev pub flag_of : Rule → Rule
-flag_of option =
-    record option {
-      range = Some (record { start_inclusive = 0; end_inclusive = 1 });
-      missing = codes "1" ∷ [];
+-- how a heap is served at this port
+abbrev pub service_of : List Row → ℕ → Service
+service_of rows port =
+    record {
+      port = port;
+      sessions = value_of false SESSIONS rows;
+      workers = value_of false WORKERS rows;
+      dumps = given_in false DUMPS rows;
+      page = given_in false SERVED_PAGE rows;
+      idle = value_of false IDLE rows;
+      stays = is_on STAY rows;
+      secret = has SECRET rows;
     }
 
--- an option `--NAME VALUE` or `--NAME`
-abbrev pub flag_option : Text → Rule
-flag_option name = flag_of (value_option name)
+-- the task of `explore`: it asks a heap that is served at a port, if one is given
+abbrev pub explore_with : List Row → Option ℕ → Task
+explore_with rows None = Explore (has FROM rows) (given_in false PAGE rows)
+explore_with rows (Some port) = Ask port (has ASKED_SECRET rows)
 
--- a command with the options of the heap and its history
-abbrev pub heap_line : Text → App
-heap_line name =
-    with_rule
-    (with_rule
-    (with_rule (with_rule (new_app name) (value_option (codes "regions")))
-    (value_option (codes "mutators")))
-    (value_option (codes "keep")))
-    (flag_option (codes "wide"))
+-- the target of a dump: a port, if one is given
+abbrev pub target_of : Option ℕ → Target
+target_of None = Out
+target_of (Some port) = To port
 
--- a command with the options of the heap, its history and its dumps
-abbrev pub session_line : Text → App
-session_line name =
-    with_rule (with_rule (heap_line name) (value_option (codes "time")))
-    (value_option (codes "ids"))
+-- the task of a command and its options, which needs the port that some commands require
+abbrev pub task_in : Kind → List Row → Option Task
+task_in Runs rows = Some Run
+task_in Explores rows = Some (explore_with rows (given_in false ASKED_PORT rows))
+task_in Draws rows = Some Draw
+task_in Saves rows = Some (Save (target_of (given_in false TO rows)))
+task_in Serves rows = option_map (λ port. Serve (service_of rows port)) (given_in false PORT rows)
+task_in Asks rows = option_map (λ port. Ask port (has SECRET rows)) (given_in false PORT rows)
+task_in Fetches rows = option_map (λ port. Fetch port (has SECRET rows)) (given_in false PORT rows)
 
--- the option `--port VALUE`, which has to be given
-abbrev pub port_option : Rule
-port_option = record (value_option (codes "port")) { required = true }
+-- the row of `--keep`: `explore` keeps the most by default
+abbrev pub keep_row : Kind → OptionRow
+keep_row Explores = KEEP_MOST
+keep_row _ = KEEP
 
--- the option `--secret VALUE`
-abbrev pub secret_option : Rule
-secret_option = value_option (codes "secret")
+-- the size of an identifier of 4 or of 8 bytes
+abbrev pub id_size_of : ℕ → IdSize
+id_size_of bytes = if bytes == 4 then Four else Eight
 
--- the command `run`
-abbrev pub run_line : App
-run_line = with_rule (session_line (codes "run")) (flag_option (codes "questions"))
-
--- the command `explore`
-abbrev pub explore_line : App
-explore_line =
-    with_rule
-    (with_rule
-    (with_rule (with_rule (session_line (codes "explore")) (value_option (codes "from")))
-    (value_option (codes "port")))
-    (value_option (codes "page")))
-    secret_option
-
--- the command `save`
-abbrev pub save_line : App
-save_line =
-    with_rule
-    (with_rule (with_rule (session_line (codes "save")) (value_option (codes "out")))
-    (value_option (codes "to")))
-    (flag_option (codes "questions"))
-
--- the command `serve` with its port, its sessions and its workers
-abbrev pub staffed_line : App
-staffed_line =
-    with_rule
-    (with_rule (with_rule (session_line (codes "serve")) port_option)
-    (value_option (codes "sessions")))
-    (flag_option (codes "workers"))
-
--- the command `serve` with its ports beside that of the sessions
-abbrev pub ported_line : App
-ported_line =
-    with_rule (with_rule staffed_line (value_option (codes "dumps"))) (value_option (codes "page"))
-
--- the command `serve` with what it answers and forgets
-abbrev pub answering_line : App
-answering_line =
-    with_rule (with_rule ported_line (flag_option (codes "questions")))
-    (flag_option (codes "roll"))
-
--- the command `serve`
-abbrev pub serve_line : App
-serve_line =
-    with_rule
-    (with_rule (with_rule answering_line (flag_option (codes "stay")))
-    (value_option (codes "idle")))
-    secret_option
-
--- the command `ask`
-abbrev pub ask_line : App
-ask_line = with_rule (with_rule (new_app (codes "ask")) port_option) secret_option
-
--- the option `--out VALUE`, which has to be given
-abbrev pub out_option : Rule
-out_option = record (value_option (codes "out")) { required = true }
-
--- the command `draw`
-abbrev pub draw_line : App
-draw_line = with_rule (session_line (codes "draw")) out_option
-
--- the command `fetch`
-abbrev pub fetch_line : App
-fetch_line =
-    with_rule (with_rule (with_rule (new_app (codes "fetch")) port_option) out_option) secret_option
-
--- the program's name and `--version`, and a command that has to follow
-abbrev pub named_line : App
-named_line =
-    let named = new_app (codes "heapdbg") in
-    record named { top = record named.top { subcommand_required = true; has_version = true } }
-
--- all commands
-abbrev pub heapdbg_line : App
-heapdbg_line =
-    let first = with_subcommand (with_subcommand named_line run_line.top) explore_line.top in
-    let local = with_subcommand (with_subcommand first save_line.top) draw_line.top in
-    let serving = with_subcommand local serve_line.top in
-    with_subcommand (with_subcommand serving ask_line.top) fetch_line.top
-
--- the number that a text of digits alone writes, if it lies from least to most
-abbrev pub number_in : ℕ → ℕ → Text → Option ℕ
-number_in least most text =
-    if nat_lt 0 (length text) && (list_all is_ascii_digit text
-    && (nat_le least (digits_value 10 text) && nat_le (digits_value 10 text) most))
-    then Some (digits_value 10 text) else None
-
--- the number that an option is given, and its default if it is not given
-abbrev pub number_or : ℕ → ℕ → ℕ → Option Text → Option ℕ
-number_or default least most None = Some default
-number_or default least most (Some text) = number_in least most text
-
--- the value of the option of this name among the options given
-abbrev pub option_value : Text → ℕ → ℕ → ℕ → List Row → Option ℕ
-option_value name default least most rows = number_or default least most (first_of name rows)
-
--- the text before this ending, if it ends so
-abbrev pub text_before : Text → Text → Option Text
-text_before ending text =
-    let front = take (length text - length ending) text in
-    if bytes_eq text (front ++ ending) then Some front else None
-
--- this number of times a number, if that lies from least to most
-abbrev pub times_in : ℕ → ℕ → ℕ → ℕ → Option ℕ
-times_in least most times number =
-    if nat_le least (number * times) && nat_le (number * times) most then Some (number * times)
-    else None
-
--- this number of times the number that a text writes, if that lies from least to most
-abbrev pub counted_in : ℕ → ℕ → ℕ → Text → Option ℕ
-counted_in least most times text =
-    option_and_then (times_in least most times) (number_in 0 most text)
-
--- the size that a text writes, if it lies from least to most, from what stands before a `k`, or before an `m`, at its end
-abbrev pub size_with : ℕ → ℕ → Text → Option Text → Option Text → Option ℕ
-size_with least most text (Some digits) before_m = counted_in least most 1024 digits
-size_with least most text None (Some digits) = counted_in least most 1048576 digits
-size_with least most text None None = number_in least most text
-
--- the size that a text writes, if it lies from least to most: a number, or 1,024 times the number before a `k`, or 1,048,576 times the
--- number before an `m`
-abbrev pub size_in : ℕ → ℕ → Text → Option ℕ
-size_in least most text =
-    size_with least most text (text_before (codes "k") text) (text_before (codes "m") text)
-
--- the size that an option is given, and its default if it is not given
-abbrev pub size_or : ℕ → ℕ → ℕ → Option Text → Option ℕ
-size_or default least most None = Some default
-size_or default least most (Some text) = size_in least most text
-
--- the size that the option of this name among the options is given
-abbrev pub option_size : Text → ℕ → ℕ → ℕ → List Row → Option ℕ
-option_size name default least most rows = size_or default least most (first_of name rows)
-
--- the size of an identifier of this number of bytes
-abbrev pub id_size_of : ℕ → Option IdSize
-id_size_of bytes = if bytes == 4 then Some Four else (if bytes == 8 then Some Eight else None)
-
--- the size of identifiers that the option is given, and its default if it is not given
-abbrev pub id_size_in : List Row → Option IdSize
-id_size_in rows = option_and_then id_size_of (option_value (codes "ids") 8 4 8 rows)
-
--- the settings, if each option has a value in its range
-abbrev pub settings_with : Task → Bool → Option ℕ → Option ℕ → Option ℕ → Option ℕ → Option IdSize
-    → Option Bool → Option Bool → Option Settings
-settings_with task wide (Some regions) (Some mutators) (Some keep) (Some time) (Some ids)
-    (Some questions) (Some rolls) =
-    Some (record {
+-- the settings of a command's task and its options over a heap that is wide, or isn't
+abbrev pub settings_from : Kind → List Row → Bool → Task → Settings
+settings_from kind rows wide task =
+    record {
       task = task;
       wide = wide;
-      regions = regions;
-      mutators = mutators;
-      keep = keep;
-      time = time;
-      ids = ids;
-      questions = questions;
-      rolls = rolls;
-    })
-settings_with task wide _ _ _ _ _ _ _ = None
+      regions = value_of wide REGIONS rows;
+      mutators = value_of wide MUTATORS rows;
+      keep = value_of wide (keep_row kind) rows;
+      time = value_of wide TIME rows;
+      ids = id_size_of (value_of wide IDS rows);
+      questions = is_on QUESTIONS rows;
+      rolls = is_on ROLL rows;
+    }
 
--- the largest time
-abbrev pub time_limit : ℕ
-time_limit = 18446744073709551615
+-- ---- mistakes
 
--- whether an option is given as 1: not, if it is not given
-abbrev pub flag_in : Text → List Row → Option Bool
-flag_in name rows = option_map (λ number. number == 1) (option_value name 0 0 1 rows)
+-- the mistake of the two places for a dump: both are given, or neither
+abbrev pub save_pair : Bool → Bool → Option Mistake
+save_pair true true = Some (Pair ONE_PLACE)
+save_pair false false = Some (Pair ONE_PLACE)
+save_pair _ _ = None
 
--- whether questions are answered
-abbrev pub questions_in : List Row → Option Bool
-questions_in rows = flag_in (codes "questions") rows
+-- the mistake of options of a command that don't go together
+abbrev pub pair_in : Kind → List Row → Option Mistake
+pair_in Saves rows = save_pair (has SAVED_OUT rows) (has TO rows)
+pair_in Explores rows =
+    if has ASKED_PORT rows then (if has FROM rows || has PAGE rows then Some (Pair PORT_ALONE) else None)
+    else (if has ASKED_SECRET rows then Some (Pair SECRET_WITH_PORT) else None)
+pair_in _ rows = None
 
--- whether old entries of a chronicle are dropped in place of refusing new ones
-abbrev pub rolls_in : List Row → Option Bool
-rolls_in rows = flag_in (codes "roll") rows
+-- the first of these options that is given a value that it does not take
+abbrev pub unfit_among : Bool → List Row → List OptionRow → Option OptionRow
+unfit_among wide rows options = find (is_unfit wide rows) options
 
--- whether the heap is wide
-abbrev pub wide_in : List Row → Option Bool
-wide_in rows = flag_in (codes "wide") rows
+-- the first of a command's options that is: of its own, `--wide`, or of those of its heap
+abbrev pub unfit_in : CommandRow → List Row → Bool → Option OptionRow
+unfit_in command rows wide =
+    option_or (unfit_among wide rows command.options.now)
+    (option_or (unfit_among wide rows (WIDE ∷ [])) (unfit_among wide rows command.heap.now))
 
--- the largest number of regions of a heap that is wide, or isn't
-abbrev pub most_regions : Bool → ℕ
-most_regions wide = if wide then region_limit else narrow_regions
+-- a port, if there is one, is this number
+abbrev pub is_port : Option ℕ → ℕ → Bool
+is_port None number = false
+is_port (Some port) number = port == number
 
--- the largest number of steps that can be undone in a heap that is wide, or isn't
-abbrev pub most_kept : Bool → ℕ
-most_kept wide = if wide then keep_limit else narrow_keep
+-- the option of a served heap whose port is that of an option before it
+abbrev pub clash_of : Service → Option OptionRow
+clash_of s =
+    if is_port s.dumps s.port then Some DUMPS
+    else (if is_port s.page s.port || option_map_or (is_port s.dumps) s.page false then Some SERVED_PAGE
+    else None)
 
--- the number of steps that can be undone, if the option is not given: for `explore` the most that there may be
-abbrev pub keep_default : Task → Bool → ℕ
-keep_default (Explore from page) wide = most_kept wide
-keep_default _ wide = 1024
+-- the option of a task whose port is that of an option before it
+abbrev pub clash_in : Task → Option OptionRow
+clash_in (Serve service) = clash_of service
+clash_in _ = None
 
--- the regions of a heap that is wide, or isn't
-abbrev pub regions_in : Bool → List Row → Option ℕ
-regions_in wide rows = option_size (codes "regions") 16 1 (most_regions wide) rows
+-- ---- the command line
 
--- the steps of a task that can be undone in a heap that is wide, or isn't
-abbrev pub keep_in : Task → Bool → List Row → Option ℕ
-keep_in task wide rows =
-    option_size (codes "keep") (keep_default task wide) 1 (most_kept wide) rows
+-- a mistake, or else this
+abbrev pub unless : Option Mistake → Result Settings Mistake → Result Settings Mistake
+unless (Some mistake) rest = Err mistake
+unless None rest = rest
 
--- the settings of a task and its options over a heap that is wide, or isn't
-abbrev pub settings_over : Task → List Row → Bool → Option Settings
-settings_over task rows wide = settings_with task wide (regions_in wide rows)
-    (option_value (codes "mutators") 2 1 mutator_limit rows) (keep_in task wide rows)
-    (option_value (codes "time") 0 0 time_limit rows)
-    (id_size_in rows) (questions_in rows) (rolls_in rows)
+-- the settings of a command's task, or the mistake in its ports
+abbrev pub settings_with : Kind → List Row → Bool → Option Task → Result Settings Mistake
+settings_with kind rows wide None = Err (Value PORT wide)
+settings_with kind rows wide (Some task) =
+    unless (option_map (λ row. Value row wide) (clash_in task)) (Ok (settings_from kind rows wide task))
 
--- the settings of a task and its options
-abbrev pub settings_in : Task → List Row → Option Settings
-settings_in task rows = option_and_then (settings_over task rows) (wide_in rows)
+-- the settings of a command and its options over a heap that is wide, or isn't, or the mistake in them
+abbrev pub settings_over : CommandRow → List Row → Bool → Result Settings Mistake
+settings_over command rows wide =
+    unless (pair_in command.kind rows)
+    (unless (option_map (λ row. Value row wide) (unfit_in command rows wide))
+    (settings_with command.kind rows wide (task_in command.kind rows)))
 
--- the highest port
-abbrev pub port_limit : ℕ
-port_limit = 65535
+-- the command of this name
+abbrev pub command_of : Text → Option CommandRow
+command_of name = find (λ row. bytes_eq row.name.now name) COMMANDS.now
 
--- the port that is given
-abbrev pub port_in : List Row → Option ℕ
-port_in rows = option_and_then (number_in 1 port_limit) (first_of (codes "port") rows)
+-- the settings of a command, if there is one, and its options
+abbrev pub settings_by : List Row → Option CommandRow → Result Settings Mistake
+settings_by rows None = Err Command
+settings_by rows (Some command) = settings_over command rows (is_on WIDE rows)
 
--- the largest number of sessions
-abbrev pub most_sessions : ℕ
-most_sessions = 1000
+-- the settings of a command's name and its options, if they were found, or the mistake in them
+abbrev pub settings_under : Option (Text × List Row) → Result Settings Mistake
+settings_under None = Err Command
+settings_under (Some found) = settings_by found.1 (command_of found.0)
 
--- the number of sessions asked for, and 1 if the option is not given
-abbrev pub sessions_in : List Row → Option ℕ
-sessions_in rows = option_value (codes "sessions") 1 1 most_sessions rows
-
--- the number of markers and of sweepers asked for, and none if the option is not given
-abbrev pub workers_in : List Row → Option ℕ
-workers_in rows = option_value (codes "workers") 0 0 1 rows
-
--- the port of the page of a session's own heap: none, if the option is not given
-abbrev pub own_page : Option Text → Option (Option ℕ)
-own_page None = Some None
-own_page (Some text) = option_map (λ page. Some page) (number_in 1 port_limit text)
-
--- the file of a secret is given
-abbrev pub has_secret : List Row → Bool
-has_secret rows = is_some (first_of (codes "secret") rows)
-
--- the task of `explore`, to which this file of lines and this page are given, or this port, and a secret or none, or none of them
-abbrev pub explore_with : Option Text → Option Text → Option Text → Bool → Option Task
-explore_with from page None false = option_map (λ p. Explore (is_some from) p) (own_page page)
-explore_with from page None true = None
-explore_with None None (Some text) secret =
-    option_map (λ port. Ask port secret) (number_in 1 port_limit text)
-explore_with (Some path) page (Some text) secret = None
-explore_with None (Some page) (Some text) secret = None
-
--- the task of the options of `explore`
-abbrev pub explore_in : List Row → Option Task
-explore_in rows =
-    explore_with (first_of (codes "from") rows) (first_of (codes "page") rows)
-    (first_of (codes "port") rows) (has_secret rows)
-
--- the target of a dump: one of the two options is given, and a port has to be one
-abbrev pub target_in : Option Text → Option Text → Option Target
-target_in (Some path) None = Some Out
-target_in None (Some text) = option_map (λ port. To port) (number_in 1 port_limit text)
-target_in None None = None
-target_in (Some path) (Some text) = None
-
--- the task of the options of `save`
-abbrev pub save_in : List Row → Option Task
-save_in rows =
-    option_map (λ target. Save target)
-    (target_in (first_of (codes "out") rows) (first_of (codes "to") rows))
-
--- a port for dumps, if it isn't that of the sessions
-abbrev pub other_port : ℕ → ℕ → Option (Option ℕ)
-other_port port dumps = if dumps == port then None else Some (Some dumps)
-
--- the port for dumps beside that of the sessions: none, if the option is not given
-abbrev pub dumps_with : ℕ → Option Text → Option (Option ℕ)
-dumps_with port None = Some None
-dumps_with port (Some text) = option_and_then (other_port port) (number_in 1 port_limit text)
-
--- the port for dumps that is given, beside that of the sessions
-abbrev pub dumps_in : List Row → Option (Option ℕ)
-dumps_in rows =
-    option_and_then (λ port. dumps_with port (first_of (codes "dumps") rows)) (port_in rows)
-
--- a port of the page, if it is neither that of the sessions nor that for dumps
-abbrev pub third_port : ℕ → Option ℕ → ℕ → Option (Option ℕ)
-third_port port dumps page =
-    if (page == port) || option_map_or (λ d. page == d) dumps false then None else Some (Some page)
-
--- the port of the page beside these two: none, if the option is not given
-abbrev pub page_with : ℕ → Option ℕ → Option Text → Option (Option ℕ)
-page_with port dumps None = Some None
-page_with port dumps (Some text) =
-    option_and_then (third_port port dumps) (number_in 1 port_limit text)
-
--- the port of the page that is given, beside these two
-abbrev pub page_beside : ℕ → Option ℕ → List Row → Option (Option ℕ)
-page_beside port dumps rows = page_with port dumps (first_of (codes "page") rows)
-
--- the port of the page that is given, beside that of the sessions and that for dumps
-abbrev pub page_in : List Row → Option (Option ℕ)
-page_in rows =
-    option_and_then (λ port. option_and_then (λ dumps. page_beside port dumps rows) (dumps_in rows))
-    (port_in rows)
-
--- the largest number of seconds after which a session is ended
-abbrev pub idle_limit : ℕ
-idle_limit = 86400
-
--- after how many seconds without input a session is ended, and 0 if the option is not given: none is
-abbrev pub idle_in : List Row → Option ℕ
-idle_in rows = option_value (codes "idle") 0 1 idle_limit rows
-
--- whether the heap is served until it is ended from outside
-abbrev pub stays_in : List Row → Option Bool
-stays_in rows = flag_in (codes "stay") rows
-
--- a served heap, if each option has a value in its range
-abbrev pub serve_with : Option ℕ → Option ℕ → Option ℕ → Option (Option ℕ) → Option (Option ℕ)
-    → Option ℕ → Option Bool → Bool → Option Task
-serve_with (Some port) (Some sessions) (Some workers) (Some dumps) (Some page) (Some idle)
-    (Some stays) secret =
-    Some (Serve (record {
-      port = port;
-      sessions = sessions;
-      workers = workers;
-      dumps = dumps;
-      page = page;
-      idle = idle;
-      stays = stays;
-      secret = secret;
-    }))
-serve_with _ _ _ _ _ _ _ _ = None
-
--- the task of the options of `serve`
-abbrev pub serve_in : List Row → Option Task
-serve_in rows =
-    serve_with (port_in rows) (sessions_in rows) (workers_in rows) (dumps_in rows) (page_in rows)
-    (idle_in rows) (stays_in rows) (has_secret rows)
-
--- the task of the options of `ask`
-abbrev pub ask_in : List Row → Option Task
-ask_in rows = option_map (λ port. Ask port (has_secret rows)) (port_in rows)
-
--- the task of the options of `fetch`
-abbrev pub fetch_in : List Row → Option Task
-fetch_in rows = option_map (λ port. Fetch port (has_secret rows)) (port_in rows)
-
--- a task has this name
-abbrev pub is_task : Text → Bool
-is_task name =
-    bytes_eq name (codes "run")
-    || (bytes_eq name (codes "explore")
-    || (bytes_eq name (codes "draw")
-    || (bytes_eq name (codes "save")
-    || (bytes_eq name (codes "serve")
-    || (bytes_eq name (codes "ask") || bytes_eq name (codes "fetch"))))))
-
--- the task of a command's name and options
-abbrev pub task_in : Text → List Row → Option Task
-task_in name rows =
-    if bytes_eq name (codes "run") then Some Run
-    else (if bytes_eq name (codes "explore") then explore_in rows
-    else (if bytes_eq name (codes "draw") then Some Draw
-    else (if bytes_eq name (codes "save") then save_in rows
-    else (if bytes_eq name (codes "serve") then serve_in rows
-    else (if bytes_eq name (codes "ask") then ask_in rows
-    else (if bytes_eq name (codes "fetch") then fetch_in rows else None))))))
-
--- the settings of a command and its options
-abbrev pub settings_under : Text × List Row → Option Settings
-settings_under found = option_and_then (λ task. settings_in task found.1) (task_in found.0 found.1)
+-- the settings, if there is no mistake
+abbrev pub settings_of_read : Result Settings Mistake → Option Settings
+settings_of_read (Ok settings) = Some settings
+settings_of_read (Err mistake) = None
 
 -- the settings that the words ask for, if they are a command line of the program
 abbrev pub settings_of : List Text → Option Settings
 settings_of words =
     if length (fault_of heapdbg_line words) == 0
-    then option_and_then settings_under (subcommand_of heapdbg_line words) else None
+    then settings_of_read (settings_under (subcommand_of heapdbg_line words)) else None
+
+-- the text that is given to an option of the command that was found
+abbrev pub text_in : Text → Option (Text × List Row) → Option Text
+text_in name found = option_and_then (λ f. first_of name f.1) found
+
+-- the path that is given to the command: that of `--out`, or else that of `--from`
+abbrev pub path_in : Option (Text × List Row) → Option Text
+path_in found = option_or (text_in (codes "out") found) (text_in (codes "from") found)
+
+-- the path that the words give
+abbrev pub path_of : List Text → Option Text
+path_of words = path_in (subcommand_of heapdbg_line words)
+
+-- the path that the words give to `--secret`
+abbrev pub secret_of : List Text → Option Text
+secret_of words = text_in (codes "secret") (subcommand_of heapdbg_line words)
 
 -- the word is `--NAME` or `--NAME=VALUE`
 abbrev pub names_option : Text → Text → Bool
@@ -455,10 +204,19 @@ names_option name word = option_map_or (λ found. bytes_eq found.0 name) (long_o
 abbrev pub is_given : Text → List Text → Bool
 is_given name words = list_any (names_option name) words
 
--- the path that the words give to an option
-abbrev pub path_of : Text → List Text → Option Text
-path_of name words =
-    option_and_then (λ found. first_of name found.1) (subcommand_of heapdbg_line words)
+-- the program has an option of this name
+abbrev pub is_option : Text → Bool
+is_option name =
+    list_any (λ command. list_any (λ row. bytes_eq row.name.now name) command.options.now
+    || list_any (λ row. bytes_eq row.name.now name) command.heap.now) COMMANDS.now
+
+-- an option that no word names is given no text, so it counts as its default
+abbrev pub AreGivenByName : List Text → Type 0
+AreGivenByName words =
+    (name : Text) → is_option name ≡ true → is_given name words ≡ false
+    → text_in name (subcommand_of heapdbg_line words) ≡ None
+
+-- ---- limits
 
 -- a port for dumps, if there is one, is within the limits, and isn't that of the sessions
 abbrev pub IsOther : ℕ → Option ℕ → Type 0
@@ -474,9 +232,9 @@ IsThird port dumps (Some page) =
 -- the ports and numbers of a served heap are within their limits
 abbrev pub IsService : Service → Type 0
 IsService s =
-    (1 ≤ s.port) × (s.port ≤ port_limit) × (1 ≤ s.sessions) × (s.sessions ≤ most_sessions)
+    (1 ≤ s.port) × (s.port ≤ port_limit) × (1 ≤ s.sessions) × (s.sessions ≤ 1000)
     × (s.workers ≤ 1) × IsOther s.port s.dumps × IsThird s.port s.dumps s.page
-    × (s.idle ≤ idle_limit)
+    × (s.idle ≤ 86400)
 
 -- the ports and numbers of a task are within their limits
 abbrev pub IsTask : Task → Type 0
@@ -507,76 +265,3 @@ IsHeapWithin s = AreNumbersOf s.wide s.regions s.mutators s.keep
 abbrev pub AreSettingsWithin : Settings → Type 0
 AreSettingsWithin s = IsHeapWithin s × IsTask s.task
 
--- the number of sessions
-abbrev pub sessions_of : Task → ℕ
-sessions_of (Serve service) = service.sessions
-sessions_of _ = 1
-
--- the number of markers, and of sweepers
-abbrev pub workers_of : Task → ℕ
-workers_of (Serve service) = service.workers
-workers_of _ = 0
-
--- the port for dumps
-abbrev pub dumps_of : Task → Option ℕ
-dumps_of (Serve service) = service.dumps
-dumps_of _ = None
-
--- the port of the page
-abbrev pub page_of : Task → Option ℕ
-page_of (Serve service) = service.page
-page_of (Explore from page) = page
-page_of _ = None
-
--- after how many seconds without input a session is ended: 0, if none is
-abbrev pub idle_of : Task → ℕ
-idle_of (Serve service) = service.idle
-idle_of _ = 0
-
--- the heap is served until it is ended from outside
-abbrev pub stays_of : Task → Bool
-stays_of (Serve service) = service.stays
-stays_of _ = false
-
--- a secret is asked for, or sent
-abbrev pub is_guarded : Task → Bool
-is_guarded (Serve service) = service.secret
-is_guarded (Ask port secret) = secret
-is_guarded (Fetch port secret) = secret
-is_guarded _ = false
-
--- the lines of a file are read first
-abbrev pub reads_file : Task → Bool
-reads_file Run = false
-reads_file (Explore from page) = from
-reads_file Draw = false
-reads_file (Save target) = false
-reads_file (Serve service) = false
-reads_file (Ask port secret) = false
-reads_file (Fetch port secret) = false
-
--- an option that no word names has its default
-pub record HasDefaults (words : List Text) (s : Settings) : Type 0 where
-  pub regions : is_given (codes "regions") words ≡ false → s.regions ≡ 16
-  pub mutators : is_given (codes "mutators") words ≡ false → s.mutators ≡ 2
-  pub keep : is_given (codes "keep") words ≡ false → s.keep ≡ keep_default s.task s.wide
-  pub time : is_given (codes "time") words ≡ false → s.time ≡ 0
-  pub ids : is_given (codes "ids") words ≡ false → s.ids ≡ Eight
-  pub questions : is_given (codes "questions") words ≡ false → s.questions ≡ false
-  pub rolls : is_given (codes "roll") words ≡ false → s.rolls ≡ false
-  pub wide : is_given (codes "wide") words ≡ false → s.wide ≡ false
-  pub sessions : is_given (codes "sessions") words ≡ false → sessions_of s.task ≡ 1
-  pub workers : is_given (codes "workers") words ≡ false → workers_of s.task ≡ 0
-  pub from : is_given (codes "from") words ≡ false → reads_file s.task ≡ false
-  pub dumps : is_given (codes "dumps") words ≡ false → dumps_of s.task ≡ None
-  pub page : is_given (codes "page") words ≡ false → page_of s.task ≡ None
-  pub idle : is_given (codes "idle") words ≡ false → idle_of s.task ≡ 0
-  pub stays : is_given (codes "stay") words ≡ false → stays_of s.task ≡ false
-  pub secret : is_given (codes "secret") words ≡ false → is_guarded s.task ≡ false
-
--- the fault has this text, or memory ran out
-abbrev pub IsBadWith : Text → LineFault → Type 0
-IsBadWith text (Bad shown) = string_bytes shown ≡ text
-IsBadWith text (OptionText shown) = ⊥
-IsBadWith text (CommandText shown) = ⊥
-IsBadWith text Memory = ⊤

@@ -1,13 +1,13 @@
 -- What is made to read a command line.
-use Rattle.std.specs.Prelude.{◌≡◌, ◌∷◌, [], false, IfOk, List, Result, Some, map, if◌then◌else◌}
+use Rattle.std.specs.Prelude.{◌≡◌, ◌∷◌, [], true, false, codes, IfOk, List, Result, Some, map, if◌then◌else◌}
 use Rattle.std.specs.declared.alloc.AllocError.{AllocError}
 use Rattle.clap.specs.Words.{App, Rule, app_of, new_app, new_rule, with_rule, with_subcommand}
 use Rattle.clap.specs.declared.builder.ArgAction.TheVariants.{Set}
 use Rattle.clap.specs.declared.builder.Command.{Command}
 use Rattle.clap.specs.declared.builder.Command.TheViews.{out-Command}
-use Rattle.heapdbg_options.specs.CommandLine.{flag_of}
 use Rattle.heapdbg_options.specs.declared.option_rows.CommandRow.{CommandRow}
 use Rattle.heapdbg_options.specs.declared.option_rows.OptionRow.{OptionRow}
+use Rattle.heapdbg_options.specs.declared.option_rows.TheConstants.{COMMANDS}
 
 -- what was made, if it was, reads this command line, and has no option for all commands
 abbrev pub IsParserOf : App → Result Command AllocError → Type 0
@@ -28,13 +28,23 @@ valued_rule row =
       required = row.is_required;
     }
 
+-- the option, of which a use without a value is one with the value 1
+abbrev pub flag_of : Rule → Rule
+flag_of option =
+    record option {
+      range = Some (record { start_inclusive = 0; end_inclusive = 1 });
+      missing = codes "1" ∷ [];
+    }
+
 -- the option of a row, which takes a value, or may have none if it is a flag
 abbrev pub rule_of_row : OptionRow → Rule
 rule_of_row row = if row.is_flag then flag_of (valued_rule row) else valued_rule row
 
 -- the line of a row's command
 abbrev pub line_of_row : CommandRow → App
-line_of_row row = with_rules (new_app row.name.now) (map rule_of_row row.options.now)
+line_of_row row =
+    with_rules (with_rules (new_app row.name.now) (map rule_of_row row.heap.now))
+    (map rule_of_row row.options.now)
 
 -- `new` is `old` with the command of this line, the last, and has no option for all commands if `old` has none
 abbrev pub AddsCommand : App → Command → Command → Type 0
@@ -47,3 +57,13 @@ abbrev pub with_command_rows : App → List CommandRow → App
 with_command_rows line [] = line
 with_command_rows line (row ∷ rows) =
     with_command_rows (with_subcommand line (line_of_row row).top) rows
+
+-- the program's name and `--version`, and a command that has to follow
+abbrev pub named_line : App
+named_line =
+    let named = new_app (codes "heapdbg") in
+    record named { top = record named.top { subcommand_required = true; has_version = true } }
+
+-- the command lines of the program
+abbrev pub heapdbg_line : App
+heapdbg_line = with_command_rows named_line COMMANDS.now

@@ -1,152 +1,41 @@
 -- The texts for command lines that the program refuses.
-use Rattle.std.specs.Prelude.{◌≡◌, ◌≢◌, ◌⊎◌, ◌++◌, ◌||◌, ℕ, Bool, List, Option, Some, None, [], ◌∷◌, ⊤, false, true, codes, is_some, string_bytes, if◌then◌else◌, IfErr, IfOk, Result}
-use Rattle.std.specs.Option.{option_map_or}
+use Rattle.std.specs.Prelude.{◌≡◌, ◌≢◌, ◌⊎◌, ◌++◌, ℕ, Bool, List, Option, Some, None, [], ◌∷◌, ⊤, ⊥, false, true, codes, decimal, string_bytes, if◌then◌else◌, Result, Ok, Err}
 use Rattle.std.specs.Str.{bytes_eq}
-use Rattle.clap.specs.Words.{IsAmong, Row, Text, fault_of, first_of, subcommand_of}
+use Rattle.clap.specs.Words.{IsAmong, Text, fault_of, subcommand_of}
 use Rattle.clap.specs.declared.error.kind.ErrorKind.{ErrorKind}
 use Rattle.clap.specs.declared.error.kind.ErrorKind.TheVariants.{DisplayHelp, DisplayVersion, OutOfMemory}
-use Rattle.heap_world.specs.Limits.{mutator_limit}
-use Rattle.heapdbg_options.specs.CommandLine.{dumps_with, explore_with, has_secret, heapdbg_line, id_size_in, idle_in, is_task, most_kept, number_in, page_with, port_in, port_limit, questions_in, regions_in, rolls_in, sessions_in, settings_of, stays_in, option_value, size_in, time_limit, wide_in, workers_in}
+use Rattle.heapdbg_options.specs.CommandLine.{settings_of, settings_under}
+use Rattle.heapdbg_options.specs.Parsers.{heapdbg_line}
+use Rattle.heapdbg_options.specs.declared.option_rows.Values.{Values}
+use Rattle.heapdbg_options.specs.declared.option_rows.Values.TheVariants.{Path, Between, Sizes, Either}
 use Rattle.heapdbg_options.specs.declared.refusal.Mistake.{Mistake}
-use Rattle.heapdbg_options.specs.declared.refusal.Mistake.TheVariants.{Command, Wide, Regions, WideRegions, Mutators, Keep, WideKeep, Time, Ids, Port, Sessions, Workers, Questions, Roll, Dumps, Page, Idle, Stay, To, Place, Source, OwnPage, Secret}
+use Rattle.heapdbg_options.specs.declared.refusal.Mistake.TheVariants.{Command, Pair, Value}
 use Rattle.heapdbg_options.specs.declared.settings.LineFault.{LineFault}
 use Rattle.heapdbg_options.specs.declared.settings.LineFault.TheVariants.{Bad, CommandText, Memory, OptionText}
-use Rattle.heapdbg_options.specs.declared.settings.Task.{Task}
 
--- a value is given that is no number in this range
-abbrev pub IsOutside : ℕ → ℕ → Option Text → Type 0
-IsOutside least most None = ⊥
-IsOutside least most (Some text) = number_in least most text ≡ None
+-- two numbers, and a word between them
+abbrev pub numbers_text : ℕ → Text → ℕ → Text
+numbers_text one word other = decimal one ++ (word ++ decimal other)
 
--- a value is given that is no size in this range
-abbrev pub IsNoSize : ℕ → ℕ → Option Text → Type 0
-IsNoSize least most None = ⊥
-IsNoSize least most (Some text) = size_in least most text ≡ None
-
--- a path and a port have this mistake, of which one has to be given
-abbrev pub IsTargetMistake : Mistake → Option Text → Option Text → Type 0
-IsTargetMistake m path port =
-    ((m ≡ Place) × (is_some path ≡ is_some port)) ⊎ ((m ≡ To) × IsOutside 1 port_limit port)
-
--- a file of lines, a page, a port, and a secret or none have this mistake: the port may only be given without the two before it, and
--- a secret only with the port
-abbrev pub IsExploreMistake : Mistake → Option Text → Option Text → Option Text → Bool → Type 0
-IsExploreMistake m from page port secret =
-    ((m ≡ Source) × (is_some from || is_some page ≡ true) × (is_some port ≡ true))
-    ⊎ (((m ≡ Port) × IsOutside 1 port_limit port)
-    ⊎ (((m ≡ OwnPage) × IsOutside 1 port_limit page)
-    ⊎ ((m ≡ Secret) × (secret ≡ true) × (is_some port ≡ false))))
-
--- the options of a command have this mistake
-abbrev pub IsMistakeIn : Mistake → List Row → Type 0
-IsMistakeIn Command rows = ⊥
-IsMistakeIn Wide rows = wide_in rows ≡ None
-IsMistakeIn Regions rows = (wide_in rows ≡ Some false) × (regions_in false rows ≡ None)
-IsMistakeIn WideRegions rows = (wide_in rows ≡ Some true) × (regions_in true rows ≡ None)
-IsMistakeIn Mutators rows = option_value (codes "mutators") 2 1 mutator_limit rows ≡ None
-IsMistakeIn Keep rows =
-    (wide_in rows ≡ Some false) × IsNoSize 1 (most_kept false) (first_of (codes "keep") rows)
-IsMistakeIn WideKeep rows =
-    (wide_in rows ≡ Some true) × IsNoSize 1 (most_kept true) (first_of (codes "keep") rows)
-IsMistakeIn Time rows = option_value (codes "time") 0 0 time_limit rows ≡ None
-IsMistakeIn Ids rows = id_size_in rows ≡ None
-IsMistakeIn Port rows = port_in rows ≡ None
-IsMistakeIn Sessions rows = sessions_in rows ≡ None
-IsMistakeIn Workers rows = workers_in rows ≡ None
-IsMistakeIn Questions rows = questions_in rows ≡ None
-IsMistakeIn Roll rows = rolls_in rows ≡ None
-IsMistakeIn Dumps rows =
-    (port : ℕ) × (port_in rows ≡ Some port)
-    × (dumps_with port (first_of (codes "dumps") rows) ≡ None)
-IsMistakeIn Page rows =
-    (port : ℕ) × (dumps : Option ℕ) × (port_in rows ≡ Some port)
-    × (dumps_with port (first_of (codes "dumps") rows) ≡ Some dumps)
-    × (page_with port dumps (first_of (codes "page") rows) ≡ None)
-IsMistakeIn Source rows =
-    IsExploreMistake Source (first_of (codes "from") rows) (first_of (codes "page") rows)
-    (first_of (codes "port") rows) (has_secret rows)
-IsMistakeIn Secret rows =
-    IsExploreMistake Secret (first_of (codes "from") rows) (first_of (codes "page") rows)
-    (first_of (codes "port") rows) (has_secret rows)
-IsMistakeIn OwnPage rows = IsOutside 1 port_limit (first_of (codes "page") rows)
-IsMistakeIn Idle rows = idle_in rows ≡ None
-IsMistakeIn Stay rows = stays_in rows ≡ None
-IsMistakeIn To rows = IsTargetMistake To (first_of (codes "out") rows) (first_of (codes "to") rows)
-IsMistakeIn Place rows =
-    IsTargetMistake Place (first_of (codes "out") rows) (first_of (codes "to") rows)
-
--- the mistake of regions that are out of the range of a heap that is wide, or isn't
-abbrev pub regions_mistake : Bool → Mistake
-regions_mistake wide = if wide then WideRegions else Regions
-
--- the mistake of steps to keep that are out of the range of a heap that is wide, or isn't
-abbrev pub keep_mistake : Bool → Mistake
-keep_mistake wide = if wide then WideKeep else Keep
-
--- what is read, or why there is none: a mistake
-abbrev pub IsValueOrMistake : {A : Type 0} → Option A → (Mistake → Type 0) → Result A Mistake
-    → Type 0
-IsValueOrMistake read IsMade result =
-    IfOk result (λ x. read ≡ Some x) × IfErr result (λ m. (read ≡ None) × IsMade m)
-
--- the task of a command's options, or the mistake in them
-abbrev pub IsTaskOrMistake : (List Row → Option Task) → List Row → Result Task Mistake → Type 0
-IsTaskOrMistake read rows result = IsValueOrMistake (read rows) (λ m. IsMistakeIn m rows) result
-
--- what is chosen by two options, or the mistake in them
-abbrev pub IsChoiceOrMistake : {A : Type 0} → (Option Text → Option Text → Option A)
-    → (Mistake → Option Text → Option Text → Type 0) → Option Text → Option Text
-    → Result A Mistake → Type 0
-IsChoiceOrMistake choose IsMade one other result =
-    IsValueOrMistake (choose one other) (λ m. IsMade m one other) result
-
--- the task of `explore` to which these are given, or the mistake in them
-abbrev pub IsExploreOrMistake : Option Text → Option Text → Option Text → Bool
-    → Result Task Mistake → Type 0
-IsExploreOrMistake from page port secret result =
-    IsValueOrMistake (explore_with from page port secret)
-    (λ m. IsExploreMistake m from page port secret) result
-
--- no command of the program is there
-abbrev pub IsNoTask : Option (Text × List Row) → Type 0
-IsNoTask None = ⊤
-IsNoTask (Some found) = is_task found.0 ≡ false
-
--- a command line, of which a command and its options were found, has this mistake
-abbrev pub IsMistake : Mistake → Option (Text × List Row) → Type 0
-IsMistake m found =
-    IsMistakeIn m (option_map_or (λ f. f.1) found []) ⊎ ((m ≡ Command) × IsNoTask found)
+-- the values that an option takes over a heap that is wide, or isn't
+abbrev pub values_text : Bool → Values → Text
+values_text wide Path = codes "a path"
+values_text wide (Between least most) = numbers_text least (codes " to ") most
+values_text wide (Sizes least most widest) =
+    numbers_text least (codes " to ") (if wide then widest else most)
+values_text wide (Either one other) = numbers_text one (codes " or ") other
 
 -- the text that says what has to be given instead
-abbrev pub mistake_of : Mistake → Text
-mistake_of Command = codes "heapdbg takes one of run, explore, draw, save, serve, ask and fetch"
-mistake_of Wide = codes "--wide takes 0 or 1"
-mistake_of Regions = codes "--regions takes 1 to 256"
-mistake_of WideRegions = codes "--regions takes 1 to 65536"
-mistake_of Mutators = codes "--mutators takes 1 to 16"
-mistake_of Keep = codes "--keep takes 1 to 65536"
-mistake_of WideKeep = codes "--keep takes 1 to 16777216"
-mistake_of Time = codes "--time takes 0 to 18446744073709551615"
-mistake_of Ids = codes "--ids takes 4 or 8"
-mistake_of Port = codes "--port takes 1 to 65535"
-mistake_of Sessions = codes "--sessions takes 1 to 1000"
-mistake_of Workers = codes "--workers takes 0 or 1"
-mistake_of Questions = codes "--questions takes 0 or 1"
-mistake_of Roll = codes "--roll takes 0 or 1"
-mistake_of Dumps = codes "--dumps takes 1 to 65535, and not the number of --port"
-mistake_of Page = codes "--page takes 1 to 65535, and not the number of --port or --dumps"
-mistake_of Idle = codes "--idle takes 1 to 86400"
-mistake_of Stay = codes "--stay takes 0 or 1"
-mistake_of To = codes "--to takes 1 to 65535"
-mistake_of Place = codes "save takes one of --out and --to"
-mistake_of Source = codes "explore takes --port without --from and --page"
-mistake_of OwnPage = codes "--page takes 1 to 65535"
-mistake_of Secret = codes "explore takes --secret with --port alone"
+abbrev pub mistake_text : Mistake → Text
+mistake_text Command = codes "heapdbg takes one of run, explore, draw, save, serve, ask and fetch"
+mistake_text (Pair text) = text.now
+mistake_text (Value row wide) =
+    codes "--" ++ (row.name.now ++ (codes " takes " ++ (values_text wide row.takes ++ row.but.now)))
 
 -- the whole text of a mistake
 abbrev pub text_of_mistake : Mistake → Text
 text_of_mistake m =
-    codes "error: " ++ (mistake_of m ++ codes "\n\nFor more information, try 'heapdbg --help'.\n")
+    codes "error: " ++ (mistake_text m ++ codes "\n\nFor more information, try 'heapdbg --help'.\n")
 
 -- the answer to `--version`
 abbrev pub version_text : Text
@@ -155,7 +44,8 @@ version_text = codes "heapdbg 1.0.0 (logic dac8208d650f15bf)\n"
 -- the text names a mistake of the command line
 abbrev pub NamesMistake : List Text → Text → Type 0
 NamesMistake words text =
-    (m : Mistake) × IsMistake m (subcommand_of heapdbg_line words) × (text ≡ text_of_mistake m)
+    (m : Mistake) × (settings_under (subcommand_of heapdbg_line words) ≡ Err m)
+    × (text ≡ text_of_mistake m)
 
 -- the command is `help`
 abbrev pub is_help : List Text → Bool
@@ -218,3 +108,10 @@ IsRefusalOf words (OptionText text) =
 IsRefusalOf words (CommandText text) =
     (settings_of words ≡ None) × IsCommandText words (string_bytes text)
 IsRefusalOf words Memory = ⊤
+
+-- the fault has this text, or memory ran out
+abbrev pub IsBadWith : Text → LineFault → Type 0
+IsBadWith text (Bad shown) = string_bytes shown ≡ text
+IsBadWith text (OptionText shown) = ⊥
+IsBadWith text (CommandText shown) = ⊥
+IsBadWith text Memory = ⊤

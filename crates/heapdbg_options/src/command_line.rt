@@ -1,38 +1,33 @@
 //! Reads the command line.
-ghost use Rattle.std.specs.Prelude.{◌≡◌, ◌<◌, None, Some, false, IfOk, IfErr, IfSome, option_map};
-ghost use Rattle.std.specs.List.{list_all};
-ghost use Rattle.std.specs.Prelude.{option_and_then};
-ghost use Rattle.std.specs.Char.{is_ascii_digit};
-ghost use Rattle.clap.specs.Words.{FailsBy, app_of, fault_of, found_of, kind_of, rows_of, subcommand_of, subcommand_rows_of};
-ghost use Rattle.clap.specs.declared.builder.Command.TheViews.{out-Command};
-ghost use Rattle.heapdbg_options.specs.Parsers.{IsParserOf};
-ghost use Rattle.heapdbg_options.specs.CommandLine.{AreSettingsWithin, HasDefaults, heapdbg_line, named_line, number_in};
-ghost use Rattle.heapdbg_options.specs.CommandLine.{settings_in, settings_of, settings_over, settings_under, texts, option_size, option_value, counted_in, size_in, text_before};
-ghost use Rattle.heapdbg_options.specs.CommandLine.{id_size_in, id_size_of, flag_in, keep_default, most_kept, most_regions, path_of, task_in, wide_in};
-ghost use Rattle.heapdbg_options.specs.Refusals.{IsMistake, IsMistakeIn, IsRefusalOf, keep_mistake, regions_mistake, IsSaidOf, IsValueOrMistake, is_help};
+ghost use Rattle.std.specs.Prelude.{◌≡◌, Some, IfOk, IfErr, map, option_map};
+ghost use Rattle.clap.specs.Words.{FailsBy, fault_of, first_of, found_of, kind_of, rows_of, subcommand_of, subcommand_rows_of};
+ghost use Rattle.heapdbg_options.specs.CommandLine.{AreGivenByName, AreSettingsWithin, command_of, path_in, path_of, text_in, secret_of, settings_of, settings_over, settings_under, texts, unfit_among, unfit_in};
+ghost use Rattle.heapdbg_options.specs.Parsers.{heapdbg_line};
+ghost use Rattle.heapdbg_options.specs.Refusals.{IsRefusalOf, IsSaidOf, is_help};
 
 use crate::line_words::{is_help, is_version};
-use crate::option_rows::{CommandRow, with_commands};
-use crate::refusal::{Mistake, VERSION, version_by_command, version_by_option};
-use crate::save_options::{SAVE, save_task};
-use crate::session_options::{DRAW, EXPLORE, RUN, explore_task};
-use crate::settings::{LineFault, Settings, Task};
-use crate::socket_options::{ASK, FETCH, SERVE, ask_task, fetch_task, serve_task};
+use crate::option_rows::{COMMANDS, CommandRow, OptionRow, PORT, WIDE};
+use crate::parsers::parser;
+use crate::refusal::{Mistake, version_by_command, version_by_option};
+use crate::settings::{LineFault, Request, Settings, settings_from};
+use crate::tasks::{clash, pair_mistake, task_of};
 use crate::tip::with_tip;
+use crate::values::{is_on, is_unfit};
 use clap::error::ErrorKind;
-use clap::{ArgMatches, Command, Error};
-use heap_class::IdSize;
-use heap_world::{KEEP_LIMIT, MUTATOR_LIMIT, NARROW_KEEP, NARROW_REGIONS, REGION_LIMIT};
-use std::alloc::{AllocError, Global};
+use clap::{ArgMatches, Error};
+use std::alloc::Global;
 
-/// Returns the settings that the words ask for, the first of which is the program's name. Fails with Bad if they are no command
-/// line of this program, with OptionText or CommandText if they ask for help or for the version, and with Memory only if an
-/// allocation fails.
-pub fn settings(alloc: Global, words: &[&str]) -> Result<Settings, LineFault>
-    ensures ok { IfOk result (λ s. settings_of (texts words.now) ≡ Some s) }
+/// Returns the settings that the words ask for, the first of which is the program's name, and the paths that they name. Fails
+/// with Bad if they are no command line of this program, with OptionText or CommandText if they ask for help or for the version,
+/// and with Memory only if an allocation fails.
+pub fn request<'a>(alloc: Global, words: &'a [&'a str]) -> Result<Request<'a>, LineFault>
+    ensures ok { IfOk result (λ r. settings_of (texts words.now) ≡ Some r.settings) }
+    ensures path { IfOk result (λ r. option_map (λ s. s.now) r.path ≡ path_of (texts words.now)) }
+    ensures secret { IfOk result
+        (λ r. option_map (λ s. s.now) r.secret ≡ secret_of (texts words.now)) }
     ensures refused { IfErr result (IsRefusalOf (texts words.now)) }
-    ensures limits { IfOk result AreSettingsWithin }
-    ensures defaults { IfOk result (HasDefaults (texts words.now)) }
+    ensures limits { IfOk result (λ r. AreSettingsWithin r.settings) }
+    ensures defaults { IfOk result (λ r. AreGivenByName (texts words.now)) }
 {
     if is_version(words) {
         return Err(version_by_command(alloc));
@@ -42,7 +37,11 @@ pub fn settings(alloc: Global, words: &[&str]) -> Result<Settings, LineFault>
         Err(error) => return Err(refusal(alloc, words, &error)),
     };
     match settings_of_matches(&matches) {
-        Ok(settings) => Ok(settings),
+        Ok(settings) => Ok(Request {
+            settings,
+            path: path_of(&matches),
+            secret: text_given(&matches, "secret"),
+        }),
         Err(mistake) => Err(mistake.refusal(alloc)),
     }
 }
@@ -55,26 +54,6 @@ fn parse<'a>(alloc: Global, words: &'a [&'a str]) -> Result<ArgMatches<'a>, Erro
 {
     let parser = parser(alloc)?;
     parser.try_get_matches_from(words)
-}
-
-// Creates the parser of the command line: the program's name, and a command that has to follow.
-fn parser<'a>(alloc: Global) -> Result<Command<'a>, AllocError>
-    ensures { IsParserOf heapdbg_line result }
-{
-    with_commands(alloc, named_parser(alloc), &COMMANDS)
-}
-
-// The commands, in the order of help.
-const COMMANDS: [CommandRow; 7] = [RUN, EXPLORE, SAVE, DRAW, SERVE, ASK, FETCH];
-
-// Creates the parser of the program's name.
-fn named_parser<'a>(alloc: Global) -> Command<'a>
-    ensures app { app_of result ≡ named_line }
-    ensures local { (out-Command result).has_globals ≡ false }
-{
-    Command::new(alloc, "heapdbg")
-        .version(VERSION)
-        .subcommand_required(true)
 }
 
 // Returns the refusal of words for an error of the parser: the version or a help that is asked for, and else the parser's text,
@@ -113,270 +92,94 @@ fn help_text(words: &[&str], text: String) -> LineFault
 
 // Returns the settings that the matches ask for, or the mistake in them.
 fn settings_of_matches(matches: &ArgMatches<'_>) -> Result<Settings, Mistake>
-    ensures { IsValueOrMistake (option_and_then settings_under (subcommand_rows_of matches.now))
-        (λ m. IsMistake m (subcommand_rows_of matches.now)) result }
+    ensures { result ≡ settings_under (subcommand_rows_of matches.now) }
 {
     let Some((name, options)) = matches.subcommand() else {
         return Err(Mistake::Command);
     };
-    match task_of(name, options) {
-        Ok(task) => settings_from(task, options),
-        Err(mistake) => Err(mistake),
+    match command_of(name) {
+        Some(command) => settings_over(&command, options, is_on(options, &WIDE)),
+        None => Err(Mistake::Command),
     }
 }
 
-// Returns the task of a command's name and options, or the mistake in them.
-fn task_of(name: &str, options: &ArgMatches<'_>) -> Result<Task, Mistake>
-    ensures { IsValueOrMistake (task_in name.now (rows_of (found_of options.now)))
-        (λ m. IsMistake m (Some (name.now, rows_of (found_of options.now)))) result }
+// Returns the command of this name.
+fn command_of(name: &str) -> Option<CommandRow>
+    ensures { result ≡ command_of name.now }
 {
-    if name == "run" {
-        return Ok(Task::Run);
+    for command in COMMANDS {
+        if command.name == name {
+            return Some(*command);
+        }
     }
-    if name == "explore" {
-        return explore_task(options);
-    }
-    if name == "draw" {
-        return Ok(Task::Draw);
-    }
-    if name == "save" {
-        return save_task(options);
-    }
-    if name == "serve" {
-        return serve_task(options);
-    }
-    if name == "ask" {
-        return ask_task(options);
-    }
-    if name == "fetch" {
-        fetch_task(options)
-    } else {
-        Err(Mistake::Command)
-    }
+    None
 }
 
-// Returns the settings of a task's options, or the option whose value is out of its range.
-fn settings_from(task: Task, options: &ArgMatches<'_>) -> Result<Settings, Mistake>
-    ensures { IsValueOrMistake (settings_in task (rows_of (found_of options.now)))
-        (λ m. IsMistakeIn m (rows_of (found_of options.now))) result }
-{
-    match flag_from(options, "wide") {
-        Some(wide) => settings_over(task, options, wide),
-        None => Err(Mistake::Wide),
-    }
-}
-
-// Returns the settings of a task's options over a heap that is wide, or isn't, or the option whose value is out of its range.
-fn settings_over(task: Task, options: &ArgMatches<'_>, wide: bool) -> Result<Settings, Mistake>
-    requires { wide_in (rows_of (found_of options.now)) ≡ Some wide }
-    ensures { IsValueOrMistake (settings_over task (rows_of (found_of options.now)) wide)
-        (λ m. IsMistakeIn m (rows_of (found_of options.now))) result }
-{
-    let Some(regions) = option_size(options, "regions", 16, 1, most_regions(wide)) else {
-        return Err(regions_mistake(wide));
-    };
-    let Some(mutators) = option_value(options, "mutators", 2, 1, MUTATOR_LIMIT) else {
-        return Err(Mistake::Mutators);
-    };
-    let kept = keep_default(task, wide);
-    let Some(keep) = option_size(options, "keep", kept, 1, most_kept(wide)) else {
-        return Err(keep_mistake(wide));
-    };
-    let Some(time) = option_value(options, "time", 0, 0, u64::MAX) else {
-        return Err(Mistake::Time);
-    };
-    let Some(ids) = id_size_from(options) else {
-        return Err(Mistake::Ids);
-    };
-    let Some(questions) = flag_from(options, "questions") else {
-        return Err(Mistake::Questions);
-    };
-    let Some(rolls) = flag_from(options, "roll") else {
-        return Err(Mistake::Roll);
-    };
-    Ok(Settings {
-        task,
-        wide,
-        regions,
-        mutators,
-        keep,
-        time,
-        ids,
-        questions,
-        rolls,
-    })
-}
-
-// Returns the size that an option is given, `default` if it isn't given, or None if it isn't from `least` to `most`.
-fn option_size(
+// Returns the settings of a command and its options over a heap that is wide, or isn't, or the mistake in them.
+fn settings_over(
+    command: &CommandRow,
     options: &ArgMatches<'_>,
-    name: &str,
-    default: u64,
-    least: u64,
-    most: u64,
-) -> Option<u64>
-    ensures { result ≡ option_size name.now default least most (rows_of (found_of options.now)) }
+    wide: bool,
+) -> Result<Settings, Mistake>
+    ensures { result ≡ settings_over command.now (rows_of (found_of options.now)) wide }
 {
-    match options.get_str(name) {
-        Some(text) => size(text, least, most),
-        None => Some(default),
+    if let Some(mistake) = pair_mistake(command.kind, options) {
+        return Err(mistake);
+    }
+    if let Some(row) = unfit(command, options, wide) {
+        return Err(Mistake::Value(row, wide));
+    }
+    let Some(task) = task_of(command.kind, options) else {
+        return Err(Mistake::Value(PORT, wide));
+    };
+    match clash(task) {
+        Some(row) => Err(Mistake::Value(row, wide)),
+        None => Ok(settings_from(command.kind, options, wide, task)),
     }
 }
 
-// Returns the size that a text writes, by digits alone or with `k` or `m` behind them, or None if it isn't from `least` to `most` or the
-// text is another.
-fn size(text: &str, least: u64, most: u64) -> Option<u64>
-    ensures { result ≡ size_in least most text.now }
+// Returns the first option of a command that is given a value that it doesn't take: one of its own, `--wide`, or one of its heap.
+fn unfit(command: &CommandRow, options: &ArgMatches<'_>, wide: bool) -> Option<OptionRow>
+    ensures { result ≡ unfit_in command.now (rows_of (found_of options.now)) wide }
 {
-    if let Some(digits) = text_before(text, "k") {
-        return counted(digits, 1_024, least, most);
+    if let Some(row) = unfit_among(command.options, options, wide) {
+        return Some(row);
     }
-    match text_before(text, "m") {
-        Some(digits) => counted(digits, 1_048_576, least, most),
-        None => number(text, least, most),
+    match unfit_among(&[WIDE], options, wide) {
+        Some(row) => Some(row),
+        None => unfit_among(command.heap, options, wide),
     }
 }
 
-// Returns the text before an ending, or None if it doesn't end so.
-fn text_before<'a>(text: &'a str, ending: &str) -> Option<&'a str>
-    ensures { option_map (λ front. front.now) result ≡ text_before ending.now text.now }
+// Returns the first of these options that is given a value that it doesn't take.
+fn unfit_among(rows: &[OptionRow], options: &ArgMatches<'_>, wide: bool) -> Option<OptionRow>
+    ensures { result ≡ unfit_among wide (rows_of (found_of options.now)) rows.now }
 {
-    text.strip_suffix(ending)
+    for row in rows {
+        if is_unfit(options, row, wide) {
+            return Some(*row);
+        }
+    }
+    None
 }
 
-// Returns so many times the number that a text of digits alone writes, or None if that isn't from `least` to `most` or the text is
-// another.
-fn counted(text: &str, times: u64, least: u64, most: u64) -> Option<u64>
-    requires { 0 < times }
-    ensures { result ≡ counted_in least most times text.now }
+// Returns the path that the matches give: that of `--out`, or else that of `--from`.
+fn path_of<'a>(matches: &ArgMatches<'a>) -> Option<&'a str>
+    ensures { option_map (λ s. s.now) result ≡ path_in (subcommand_rows_of matches.now) }
 {
-    let number = number(text, 0, most)?;
-    match number.checked_mul(times) {
-        Some(size) if least <= size && size <= most => Some(size),
-        Some(_) => None,
+    match text_given(matches, "out") {
+        Some(path) => Some(path),
+        None => text_given(matches, "from"),
+    }
+}
+
+// Returns the text that the matches give to an option.
+fn text_given<'a>(matches: &ArgMatches<'a>, name: &str) -> Option<&'a str>
+    ensures { option_map (λ s. s.now) result
+        ≡ text_in name.now (subcommand_rows_of matches.now) }
+{
+    match matches.subcommand() {
+        Some((_, options)) => options.get_str(name),
         None => None,
     }
-}
-
-// Returns the largest number of regions of a heap that is wide, or isn't.
-fn most_regions(wide: bool) -> u64
-    ensures { result ≡ most_regions wide }
-{
-    if wide { REGION_LIMIT } else { NARROW_REGIONS }
-}
-
-// Returns the mistake of regions that are out of the range of a heap that is wide, or isn't.
-fn regions_mistake(wide: bool) -> Mistake
-    ensures { result ≡ regions_mistake wide }
-{
-    if wide {
-        Mistake::WideRegions
-    } else {
-        Mistake::Regions
-    }
-}
-
-// Returns how many steps can be undone if the option isn't given: for `explore` the most that there may be.
-fn keep_default(task: Task, wide: bool) -> u64
-    ensures { result ≡ keep_default task wide }
-{
-    match task {
-        Task::Explore { .. } => most_kept(wide),
-        _ => 1024,
-    }
-}
-
-// Returns the largest number of steps that can be undone in a heap that is wide, or isn't.
-fn most_kept(wide: bool) -> u64
-    ensures { result ≡ most_kept wide }
-{
-    if wide { KEEP_LIMIT } else { NARROW_KEEP }
-}
-
-// Returns the mistake of steps to keep that are out of the range of a heap that is wide, or isn't.
-fn keep_mistake(wide: bool) -> Mistake
-    ensures { result ≡ keep_mistake wide }
-{
-    if wide {
-        Mistake::WideKeep
-    } else {
-        Mistake::Keep
-    }
-}
-
-// Returns the size of identifiers that the options give, or None if it is out of its range.
-fn id_size_from(options: &ArgMatches<'_>) -> Option<IdSize>
-    ensures { result ≡ id_size_in (rows_of (found_of options.now)) }
-{
-    let bytes = option_value(options, "ids", 8, 4, 8)?;
-    id_size(bytes)
-}
-
-// Returns the size of an identifier of `bytes` bytes, or None if they are neither 4 nor 8.
-fn id_size(bytes: u64) -> Option<IdSize>
-    ensures { result ≡ id_size_of bytes }
-{
-    match bytes {
-        4 => Some(IdSize::Four),
-        8 => Some(IdSize::Eight),
-        _ => None,
-    }
-}
-
-/// Returns the path that the words give to an option, or None if they give none or an allocation fails.
-pub fn path_option<'a>(alloc: Global, words: &'a [&'a str], name: &str) -> Option<&'a str>
-    ensures { IfSome result (λ path. path_of name.now (texts words.now) ≡ Some path.now) }
-{
-    match parse(alloc, words) {
-        Ok(matches) => match matches.subcommand() {
-            Some((_, options)) => options.get_str(name),
-            None => None,
-        },
-        Err(_) => None,
-    }
-}
-
-// Returns whether an option is given as 1, or None if it is out of its range.
-pub(crate) fn flag_from(options: &ArgMatches<'_>, name: &str) -> Option<bool>
-    ensures { result ≡ flag_in name.now (rows_of (found_of options.now)) }
-{
-    let number = option_value(options, name, 0, 0, 1)?;
-    Some(number == 1)
-}
-
-// Returns the value of an option, `default` if it isn't given, or None if it isn't from `least` to `most`.
-pub(crate) fn option_value(
-    options: &ArgMatches<'_>,
-    name: &str,
-    default: u64,
-    least: u64,
-    most: u64,
-) -> Option<u64>
-    ensures { result ≡ option_value name.now default least most (rows_of (found_of options.now)) }
-{
-    match options.get_str(name) {
-        Some(text) => number(text, least, most),
-        None => Some(default),
-    }
-}
-
-// Returns the number that a text of digits alone writes, or None if it isn't from `least` to `most` or the text is another.
-pub(crate) fn number(text: &str, least: u64, most: u64) -> Option<u64>
-    ensures { result ≡ number_in least most text.now }
-{
-    if !is_digits(text) {
-        return None;
-    }
-    match text.parse::<u64>() {
-        Ok(number) if least <= number && number <= most => Some(number),
-        Ok(_) => None,
-        Err(_) => None,
-    }
-}
-
-// Tells whether each byte is a decimal digit.
-fn is_digits(text: &str) -> bool
-    ensures { result ≡ list_all is_ascii_digit text.now }
-{
-    text.bytes().all(|byte| byte.is_ascii_digit())
 }

@@ -4,11 +4,11 @@
 pub mod command_line;
 pub mod line_words;
 mod option_rows;
+mod parsers;
 pub mod refusal;
-mod save_options;
-mod session_options;
 pub mod settings;
-mod socket_options;
+mod tasks;
 mod tip;
+mod values;
 
 pub use heap_class::IdSize;

@@ -1,8 +1,9 @@
 //! The texts for command lines that the program refuses.
 ghost use Rattle.std.specs.Prelude.{◌≡◌, ◌++◌, IfOk, codes, string_bytes};
-ghost use Rattle.heapdbg_options.specs.CommandLine.{IsBadWith};
-ghost use Rattle.heapdbg_options.specs.Refusals.{IsCommandWith, IsOptionWith, mistake_of, text_of_mistake, version_text};
+ghost use Rattle.heapdbg_options.specs.Refusals.{IsBadWith, IsCommandWith, IsOptionWith, mistake_text, text_of_mistake, version_text};
+ghost use Rattle.heapdbg_options.specs.declared.refusal.Mistake.TheVariants.{Value};
 
+use crate::option_rows::{OptionRow, Values};
 use crate::settings::LineFault;
 use std::alloc::{AllocError, Global};
 
@@ -12,98 +13,69 @@ pub(crate) const VERSION: &str = "1.0.0";
 // The hash of the logic in which the program is proved, as `rt version` prints it.
 const LOGIC: &str = "dac8208d650f15bf";
 
-/// The mistake in a command line whose words are all known: mostly the option with a value out of its range.
-#[derive(Clone, Copy, Debug, PartialEq, Eq)]
-pub enum Mistake {
-    /// There is no command.
+// Says that `save` is given both places for its dump, or neither.
+pub(crate) const ONE_PLACE: &str = "save takes one of --out and --to";
+
+// Says that `explore` is given a heap that is served, and lines or a page of its own.
+pub(crate) const PORT_ALONE: &str = "explore takes --port without --from and --page";
+
+// Says that `explore` is given a secret, and no heap that is served.
+pub(crate) const SECRET_WITH_PORT: &str = "explore takes --secret with --port alone";
+
+// The mistake in a command line whose words are all known.
+#[derive(Clone, Copy)]
+pub(crate) enum Mistake {
+    // There is no command.
     Command,
-    /// `--wide` is out of its range.
-    Wide,
-    /// `--regions` is out of its range, and the heap isn't wide.
-    Regions,
-    /// `--regions` is out of its range, and the heap is wide.
-    WideRegions,
-    /// `--mutators` is out of its range.
-    Mutators,
-    /// `--keep` is out of its range, and the heap isn't wide.
-    Keep,
-    /// `--keep` is out of its range, and the heap is wide.
-    WideKeep,
-    /// `--time` is out of its range.
-    Time,
-    /// `--ids` is neither 4 nor 8.
-    Ids,
-    /// `--port` is out of its range.
-    Port,
-    /// `--sessions` is out of its range.
-    Sessions,
-    /// `--workers` is out of its range.
-    Workers,
-    /// `--questions` is out of its range.
-    Questions,
-    /// `--roll` is out of its range.
-    Roll,
-    /// `--dumps` is out of its range, or the port of the sessions.
-    Dumps,
-    /// `--page` is out of its range, or another port of the heap.
-    Page,
-    /// `--idle` is out of its range.
-    Idle,
-    /// `--stay` is out of its range.
-    Stay,
-    /// `--to` is out of its range.
-    To,
-    /// Both of `--out` and `--to` are given, or neither.
-    Place,
-    /// `--port` of `explore` is given with `--from` or `--page`.
-    Source,
-    /// `--page` of `explore` is out of its range.
-    OwnPage,
-    /// `--secret` of `explore` is given without `--port`.
-    Secret,
+    // Options don't go together. It holds the text that says so.
+    Pair(&'static str),
+    // The option of this row is given a value that it doesn't take, over a heap that is wide, or isn't.
+    Value(OptionRow, bool),
 }
 
 impl Mistake {
-    // Returns the text that says what has to be given instead.
-    fn text(self) -> &'static str
-        ensures { result.now ≡ mistake_of self }
-    {
-        match self {
-            Mistake::Command =>
-                "heapdbg takes one of run, explore, draw, save, serve, ask and fetch",
-            Mistake::Wide => "--wide takes 0 or 1",
-            Mistake::Regions => "--regions takes 1 to 256",
-            Mistake::WideRegions => "--regions takes 1 to 65536",
-            Mistake::Mutators => "--mutators takes 1 to 16",
-            Mistake::Keep => "--keep takes 1 to 65536",
-            Mistake::WideKeep => "--keep takes 1 to 16777216",
-            Mistake::Time => "--time takes 0 to 18446744073709551615",
-            Mistake::Ids => "--ids takes 4 or 8",
-            Mistake::Port => "--port takes 1 to 65535",
-            Mistake::Sessions => "--sessions takes 1 to 1000",
-            Mistake::Workers => "--workers takes 0 or 1",
-            Mistake::Questions => "--questions takes 0 or 1",
-            Mistake::Roll => "--roll takes 0 or 1",
-            Mistake::Dumps => "--dumps takes 1 to 65535, and not the number of --port",
-            Mistake::Page => "--page takes 1 to 65535, and not the number of --port or --dumps",
-            Mistake::Idle => "--idle takes 1 to 86400",
-            Mistake::Stay => "--stay takes 0 or 1",
-            Mistake::To => "--to takes 1 to 65535",
-            Mistake::Place => "save takes one of --out and --to",
-            Mistake::Source => "explore takes --port without --from and --page",
-            Mistake::OwnPage => "--page takes 1 to 65535",
-            Mistake::Secret => "explore takes --secret with --port alone",
-        }
-    }
-
     // Returns the refusal of a command line with this mistake, or Memory if its text can't be allocated.
     pub(crate) fn refusal(self, alloc: Global) -> LineFault
         ensures { IsBadWith (text_of_mistake self) result }
     {
-        match refusal_text(alloc, self.text()) {
+        match self.whole_text(alloc) {
             Ok(text) => LineFault::Bad(text),
             Err(_) => LineFault::Memory,
         }
+    }
+
+    // Returns the whole text of this mistake. Fails if an allocation fails.
+    fn whole_text(self, alloc: Global) -> Result<String, AllocError>
+        ensures { IfOk result (λ s. string_bytes s ≡ text_of_mistake self) }
+    {
+        match self {
+            Mistake::Command => refusal_text(alloc, NO_COMMAND),
+            Mistake::Pair(text) => refusal_text(alloc, text),
+            Mistake::Value(row, wide) => {
+                let text = value_text(alloc, &row, wide)?;
+                refusal_text(alloc, text.as_str())
+            }
+        }
+    }
+}
+
+// Says that there is no command.
+const NO_COMMAND: &str = "heapdbg takes one of run, explore, draw, save, serve, ask and fetch";
+
+// Returns the text that says which values an option takes. Fails if an allocation fails.
+fn value_text(alloc: Global, row: &OptionRow, wide: bool) -> Result<String, AllocError>
+    ensures { IfOk result (λ s. string_bytes s ≡ mistake_text (Value row.now wide)) }
+{
+    let name = row.name;
+    let but = row.but;
+    match row.takes {
+        Values::Path => format!(in alloc; "--{name} takes a path{but}"),
+        Values::Between(least, most) => format!(in alloc; "--{name} takes {least} to {most}{but}"),
+        Values::Sizes(least, most, widest) => {
+            let most = if wide { widest } else { most };
+            format!(in alloc; "--{name} takes {least} to {most}{but}")
+        }
+        Values::Either(one, other) => format!(in alloc; "--{name} takes {one} or {other}{but}"),
     }
 }
 

@@ -1,8 +1,14 @@
 //! The settings that a command line asks for.
 ghost use Rattle.std.specs.Prelude.{◌≡◌, ◌↔◌, IfSome, IsSome};
 ghost use Rattle.heap_class.specs.declared.IdSize.TheVariants.{Eight};
-ghost use Rattle.heapdbg_options.specs.CommandLine.{IsHeapWithin, limits_of};
+ghost use Rattle.clap.specs.Words.{found_of, rows_of};
+ghost use Rattle.heapdbg_options.specs.CommandLine.{IsHeapWithin, id_size_of, keep_row, limits_of, settings_from};
 
+use crate::option_rows::{
+    IDS, KEEP, KEEP_MOST, Kind, MUTATORS, OptionRow, QUESTIONS, REGIONS, ROLL, TIME,
+};
+use crate::values::{is_on, value};
+use clap::ArgMatches;
 use heap_class::IdSize;
 use heap_world::Config;
 use std::fmt;
@@ -95,6 +101,17 @@ pub struct Settings {
     pub rolls: bool,
 }
 
+/// The settings that a command line asks for, and the paths that it names.
+#[derive(Clone, Copy)]
+pub struct Request<'a> {
+    /// The settings.
+    pub settings: Settings,
+    /// The path of the task's file: that of `--out`, or else that of `--from`. None if it names neither.
+    pub path: Option<&'a str>,
+    /// The path of the file of the secret. None if it names none.
+    pub secret: Option<&'a str>,
+}
+
 /// The reason why a command line gives no settings.
 #[derive(Debug, Drop, Error)]
 pub enum LineFault {
@@ -110,6 +127,49 @@ pub enum LineFault {
     /// Memory ran out while the words were read.
     #[error("out of memory")]
     Memory,
+}
+
+// Returns the settings of a command's task and its options over a heap that is wide, or isn't.
+pub(crate) fn settings_from(
+    kind: Kind,
+    options: &ArgMatches<'_>,
+    wide: bool,
+    task: Task,
+) -> Settings
+    ensures { result ≡ settings_from kind (rows_of (found_of options.now)) wide task }
+{
+    Settings {
+        task,
+        wide,
+        regions: value(options, &REGIONS, wide),
+        mutators: value(options, &MUTATORS, wide),
+        keep: value(options, &keep_row(kind), wide),
+        time: value(options, &TIME, wide),
+        ids: id_size(value(options, &IDS, wide)),
+        questions: is_on(options, &QUESTIONS),
+        rolls: is_on(options, &ROLL),
+    }
+}
+
+// Returns the row of `--keep` of a command.
+fn keep_row(kind: Kind) -> OptionRow
+    ensures { result ≡ keep_row kind }
+{
+    match kind {
+        Kind::Explores => KEEP_MOST,
+        _ => KEEP,
+    }
+}
+
+// Returns the size of an identifier of 4 or of 8 bytes.
+fn id_size(bytes: u64) -> IdSize
+    ensures { result ≡ id_size_of bytes }
+{
+    if bytes == 4 {
+        IdSize::Four
+    } else {
+        IdSize::Eight
+    }
 }
 
 /// Returns the configuration of the heap that the settings ask for.

@@ -1,0 +1,10 @@
+use Rattle.std.proofs.Common.{refl}
+use Rattle.clap.specs.Words.{found_of}
+use Rattle.heapdbg_options.proofs.GivenOptions.{text_of_row}
+use Rattle.heapdbg_options.proofs.values.given.Goals as goal
+
+pub returns-in-Some : goal.returns-in-Some
+returns-in-Some c = rw (text_of_row (found_of c.args.options.now) c.args.row.now.name.now _ c.in-Some.ensures) c.number_as.ensures
+
+pub returns-in-None : goal.returns-in-None
+returns-in-None c = rw (text_of_row (found_of c.args.options.now) c.args.row.now.name.now _ c.in-None.ensures) refl

@@ -2,7 +2,8 @@
 """Installs the built programs as a user does, from a copy of this repository, and types there what the pages type:
 `installed.py PROGRAM IMPORT`.
 
-Looks whether the manual page and the completions know each option that the program's help names, whether the examples of the
+Looks whether the manual page and the completions know each option that the program's help names, whether the page tells their ranges
+and defaults, whether the examples of the
 page, as `man` shows them, and the commands of README, SESSIONS, HUNT, RECORD, VIEWERS and of the clients' READMEs do in the
 installed folder what they say, and whether `make uninstall` leaves nothing. Prints a line for each thing that is otherwise, and ends with
 status 1 if there is one; prints nothing where all is well."""
@@ -25,7 +26,7 @@ from typed import LIMIT, Shell, command_word, commands_of, complaints, manual_ex
 
 TOP = pathlib.Path(__file__).resolve().parent.parent
 COMMANDS = ("run", "explore", "draw", "save", "serve", "ask", "fetch")
-COMPLETED = 'source "$1"; COMP_WORDS=(heapdbg "$2" --); COMP_CWORD=2; _heapdbg; echo "${COMPREPLY[@]}"'
+COMPLETED = 'source "$1"; COMP_WORDS=("$3" "$2" --); COMP_CWORD=2; _heapdbg; echo "${COMPREPLY[@]}"'
 EXAMPLE = TOP / "examples/point.session"
 REPLIES = (TOP / "crates/heapdbg/stdout").read_bytes()
 # How the last line begins that each command of the manual page's examples writes, and what must stand in the file that it makes.
@@ -64,15 +65,42 @@ def options_of(program, command):
     return set(re.findall(r"^ +(?:-\w, )?(--[a-z]+)", said, re.MULTILINE))
 
 
+def paragraphs_of(man):
+    """Returns what the manual page says about each option, and first about all of its section, without the page's marks."""
+    found, first = {}, ""
+    for section in re.split(r"^\.SH ", man.read_text().replace("\\-", "-"), flags=re.MULTILINE):
+        first, *paragraphs = section.split("\n.TP\n")
+        for paragraph in paragraphs:
+            option = re.match(r"\.BI? (--[a-z]+)", paragraph)
+            if option:
+                found[option[1]] = " ".join(re.sub(r'^\.[A-Z]+ |"', "", f"{first} {paragraph}", flags=re.MULTILINE).split())
+    return found
+
+
+def untrue(program, man):
+    """Yields the ranges and the defaults of the program's help that the manual page doesn't tell of the same option."""
+    told = paragraphs_of(man)
+    for command in COMMANDS:
+        said = subprocess.run([program, command, "--help"], capture_output=True, text=True).stdout
+        for option, text in re.findall(r"^ +(--[a-z]+) (.*)", said, re.MULTILINE):
+            page = told.get(option, "")
+            ranges = re.findall(r"\d+ (?:to|or) \d+|to \d+ with", text)
+            yield from (f"the manual page doesn't say {each!r} of {option}" for each in ranges if each not in page)
+            default = re.search(r"\[default: (.*)\]", text)
+            if default and default[1] != "none" and not re.search(rf"The default is [^.]*\b{default[1]}\b", page):
+                yield f"the manual page doesn't say that the default of {option} is {default[1]} for {command}"
+
+
 def misses(program, man, completions):
     """Yields what the manual page and the completions lack of the options of the program, or have beyond them."""
     told = set(re.findall(r"^\.BI? (--[a-z]+)", man.read_text().replace("\\-", "-"), re.MULTILINE)) | {"--help"}
     for command in COMMANDS:
         options = options_of(program, command)
-        ran = subprocess.run(["bash", "-c", COMPLETED, "bash", completions, command], capture_output=True, text=True)
+        ran = subprocess.run(["bash", "-c", COMPLETED, "bash", completions, command, program], capture_output=True, text=True)
         if set(ran.stdout.split()) != options:
             yield f"the completions of {command} are {ran.stdout.strip()}, and its options {' '.join(sorted(options))}"
         yield from (f"the manual page doesn't say what {option} does" for option in sorted(options - told))
+    yield from untrue(program, man)
     if shutil.which("mandoc"):
         said = subprocess.run(["mandoc", "-T", "lint", man], capture_output=True, text=True).stdout
         yield from said.splitlines()

@@ -1,48 +1,39 @@
-# Completions of heapdbg for bash.
+# Completions of heapdbg for bash. The options of a command, and what they take, are those of its help.
 
 _heapdbg() {
     local word=${COMP_WORDS[COMP_CWORD]} before=${COMP_WORDS[COMP_CWORD - 1]}
-    local heap="--regions --mutators --keep --wide --time --ids" commands="run explore draw save serve ask fetch" options
+    local commands="run explore draw save serve ask fetch" help
     COMPREPLY=()
-    case $before in
-        --ids)
-            mapfile -t COMPREPLY < <(compgen -W "4 8" -- "$word")
-            return
-            ;;
-        --out | --from | --secret)
+    if ((COMP_CWORD == 1)); then
+        mapfile -t COMPREPLY < <(compgen -W "$commands help version --help --version" -- "$word")
+        return
+    fi
+    if [[ ${COMP_WORDS[1]} == help ]]; then
+        mapfile -t COMPREPLY < <(compgen -W "$commands" -- "$word")
+        return
+    fi
+    help=$("${COMP_WORDS[0]}" "${COMP_WORDS[1]}" --help 2> /dev/null)
+    case $(grep -e "^ *$before " <<< "$help") in
+        *"<PATH>"*)
             compopt -o filenames
             mapfile -t COMPREPLY < <(compgen -f -- "$word")
             return
             ;;
-        --questions | --roll | --stay | --wide | --workers)
+        *"[<N>]"*)
             [[ $word == -* ]] || {
                 mapfile -t COMPREPLY < <(compgen -W "0 1" -- "$word")
                 return
             }
             ;;
-        --regions | --mutators | --keep | --time | --port | --to | --sessions | --dumps | --page | --idle)
+        *" 4 or 8 "*)
+            mapfile -t COMPREPLY < <(compgen -W "4 8" -- "$word")
+            return
+            ;;
+        *"<"*">"*)
             return
             ;;
     esac
-    if ((COMP_CWORD == 1)); then
-        mapfile -t COMPREPLY < <(compgen -W "$commands help version --help --version" -- "$word")
-        return
-    fi
-    case ${COMP_WORDS[1]} in
-        help)
-            mapfile -t COMPREPLY < <(compgen -W "$commands" -- "$word")
-            return
-            ;;
-        run) options="$heap --questions" ;;
-        explore) options="$heap --from --port --page --secret" ;;
-        draw) options="$heap --out" ;;
-        save) options="$heap --out --to --questions" ;;
-        serve) options="$heap --port --sessions --workers --dumps --page --questions --roll --stay --idle --secret" ;;
-        ask) options="--port --secret" ;;
-        fetch) options="--port --out --secret" ;;
-        *) return ;;
-    esac
-    mapfile -t COMPREPLY < <(compgen -W "$options --help" -- "$word")
+    mapfile -t COMPREPLY < <(compgen -W "$(grep -o -e "^ *\(-h, \)\?--[a-z]*" <<< "$help" | grep -o -e "--[a-z]*")" -- "$word")
 }
 
 complete -F _heapdbg heapdbg

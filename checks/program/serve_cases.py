@@ -241,11 +241,11 @@ def asking(program):
 MANY_DUMPS = b"dump -\n" * 3_000_000
 
 
-def listening_on_a_terminal(program):
-    """Returns what `serve` says on a terminal that is its standard error, with PORT for its port, and its status."""
+def listening_on_a_terminal(program, *options):
+    """Returns what `serve` with these options says on a terminal that is its standard error, with PORT for its port, and its status."""
     terminal, error = os.openpty()
     port = free_port()
-    words = ["heapdbg", "serve", "--port", str(port)]
+    words = ["heapdbg", "serve", "--port", str(port), *options]
     with subprocess.Popen(words, executable=program, stdout=subprocess.DEVNULL, stderr=error) as child:
         with connected(port) as client:
             rest_of(client, b"end\n")
@@ -262,7 +262,9 @@ def listening_on_a_terminal(program):
 
 def served_on_terminals(program):
     """Yields a server whose standard error is a terminal as (name, what happened, what must happen)."""
-    yield "served beside a terminal", listening_on_a_terminal(program), (b"heapdbg: listening on 127.0.0.1:PORT\r\n", 0)
+    said = b"heapdbg: listening on 127.0.0.1:PORT\r\n"
+    for options, wanted in (([], said), (["--quiet", "0"], said), (["--quiet"], b"")):
+        yield f"served beside a terminal {' '.join(options)}", listening_on_a_terminal(program, *options), (wanted, 0)
 
 
 def served_faults(program):

@@ -167,7 +167,11 @@ where
     ensures { IsTaskDone request.entry.settings.task request.entry.settings (I.seen reader.old)
         (I.seen reader.new) (O.seen writer.old) (O.seen writer.new) result }
 {
-    let is_terminal = screen.is_terminal;
+    let is_terminal = screen.is_terminal && !request.settings.quiet;
+    let screen = Screen {
+        is_terminal,
+        console: screen.console,
+    };
     match request.settings.task {
         Task::Run => run(rt, request, screen, reader, writer),
         Task::Explore { from, page } => {

@@ -17,7 +17,7 @@ use Rattle.heapdbg_options.specs.declared.option_rows.CommandRow.{CommandRow}
 use Rattle.heapdbg_options.specs.declared.option_rows.Kind.{Kind}
 use Rattle.heapdbg_options.specs.declared.option_rows.Kind.TheVariants.{Runs, Explores, Draws, Saves, Serves, Asks, Fetches}
 use Rattle.heapdbg_options.specs.declared.option_rows.OptionRow.{OptionRow}
-use Rattle.heapdbg_options.specs.declared.option_rows.TheConstants.{ASKED_PORT, ASKED_SECRET, COMMANDS, DUMPS, FROM, IDLE, IDS, KEEP, KEEP_MOST, MUTATORS, PAGE, PORT, QUESTIONS, REGIONS, ROLL, SAVED_OUT, SECRET, SERVED_PAGE, SESSIONS, STAY, TIME, TO, WIDE, WORKERS}
+use Rattle.heapdbg_options.specs.declared.option_rows.TheConstants.{ASKED_PORT, ASKED_SECRET, COMMANDS, DUMPS, FROM, IDLE, IDS, KEEP, KEEP_MOST, MUTATORS, PAGE, PORT, QUESTIONS, QUIET, REGIONS, ROLL, SAVED_OUT, SECRET, SERVED_PAGE, SESSIONS, STAY, TIME, TO, WIDE, WORKERS}
 use Rattle.heapdbg_options.specs.declared.refusal.Mistake.{Mistake}
 use Rattle.heapdbg_options.specs.declared.refusal.Mistake.TheVariants.{Command, Pair, Value}
 use Rattle.heapdbg_options.specs.declared.refusal.TheConstants.{ONE_PLACE, PORT_ALONE, SECRET_WITH_PORT}
@@ -90,6 +90,7 @@ settings_from kind rows wide task =
       ids = id_size_of (value_of wide IDS rows);
       questions = is_on QUESTIONS rows;
       rolls = is_on ROLL rows;
+      quiet = is_on QUIET rows;
     }
 
 -- ---- mistakes

@@ -1,0 +1,8 @@
+-- The meaning of the program's command line.
+pub mod CommandLine
+pub mod Parsers
+pub mod Refusals
+pub mod Values
+-- What clauses here, and proofs above, cite of the crates below.
+pub use Rattle.heap_class.specs.declared.IdSize
+pub use Rattle.heap_world.specs.Limits as HeapLimits

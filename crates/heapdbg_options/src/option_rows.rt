@@ -277,6 +277,10 @@ pub(crate) const IDLE: OptionRow = number!(
 pub(crate) const SECRET: OptionRow =
     path!("secret", "File with the word that each client has to send first [default: none]");
 
+// `--quiet` of a command that tells a terminal more than a file.
+pub(crate) const QUIET: OptionRow =
+    flag!("quiet", "Whether a terminal is told no more than a file would be, 0 or 1");
+
 // ---- the commands
 
 // The options of a heap.
@@ -298,7 +302,7 @@ pub(crate) const COMMANDS: &[CommandRow] = &[
         about: "Reads commands and questions from standard input and writes answers to standard output",
         usage: None,
         heap: &[REGIONS, MUTATORS, KEEP_MOST, WIDE, TIME, IDS],
-        options: &[FROM, ASKED_PORT, PAGE, ASKED_SECRET],
+        options: &[FROM, ASKED_PORT, PAGE, ASKED_SECRET, QUIET],
     },
     CommandRow {
         kind: Kind::Saves,
@@ -306,7 +310,7 @@ pub(crate) const COMMANDS: &[CommandRow] = &[
         about: "Runs a session, and dumps the state that it leaves; one of --out and --to is required",
         usage: Some("heapdbg save [OPTIONS] <--out <PATH>|--to <N>>"),
         heap: &HEAP,
-        options: &[SAVED_OUT, TO, QUESTIONS],
+        options: &[SAVED_OUT, TO, QUESTIONS, QUIET],
     },
     CommandRow {
         kind: Kind::Draws,
@@ -326,7 +330,7 @@ pub(crate) const COMMANDS: &[CommandRow] = &[
         usage: None,
         heap: &HEAP,
         options: &[
-            PORT, SESSIONS, WORKERS, DUMPS, SERVED_PAGE, QUESTIONS, ROLL, IDLE, STAY, SECRET,
+            PORT, SESSIONS, WORKERS, DUMPS, SERVED_PAGE, QUESTIONS, ROLL, IDLE, STAY, SECRET, QUIET,
         ],
     },
     CommandRow {
@@ -350,6 +354,7 @@ pub(crate) const COMMANDS: &[CommandRow] = &[
                 ..path!("out", "File that the dump goes to")
             },
             SECRET,
+            QUIET,
         ],
     },
 ];

@@ -5,7 +5,7 @@ ghost use Rattle.clap.specs.Words.{found_of, rows_of};
 ghost use Rattle.heapdbg_options.specs.CommandLine.{IsHeapWithin, id_size_of, keep_row, limits_of, settings_from};
 
 use crate::option_rows::{
-    IDS, KEEP, KEEP_MOST, Kind, MUTATORS, OptionRow, QUESTIONS, REGIONS, ROLL, TIME,
+    IDS, KEEP, KEEP_MOST, Kind, MUTATORS, OptionRow, QUESTIONS, QUIET, REGIONS, ROLL, TIME,
 };
 use crate::values::{is_on, value};
 use clap::ArgMatches;
@@ -99,6 +99,8 @@ pub struct Settings {
     pub questions: bool,
     /// Whether the chronicle of a heap that is served drops old entries in place of refusing new ones.
     pub rolls: bool,
+    /// Whether standard error is told no more than if it were no terminal.
+    pub quiet: bool,
 }
 
 /// The settings that a command line asks for, and the paths that it names.
@@ -148,6 +150,7 @@ pub(crate) fn settings_from(
         ids: id_size(value(options, &IDS, wide)),
         questions: is_on(options, &QUESTIONS),
         rolls: is_on(options, &ROLL),
+        quiet: is_on(options, &QUIET),
     }
 }
 

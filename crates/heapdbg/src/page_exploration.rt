@@ -12,12 +12,11 @@ ghost use Rattle.heapdbg.specs.PageExplorations.{IsMadeFor, IsPageExplored, IsPa
 use crate::failure::{Fault, outcome};
 use crate::first_lines::run_first;
 use crate::ports::page_port;
-use heapdbg_options::settings::Request;
 use crate::terminals::Screen;
 use crate::watched_seat::WatchedSeat;
 use dump_pump::Outlet;
 use heap_server::{Blank, Heap, PagePort, Seat, Seats, serve_beside_page, users};
-use heapdbg_options::settings::{Settings, config};
+use heapdbg_options::settings::{Request, Settings, config};
 use session_text::{Inlet, session_limits};
 use std::alloc::Global;
 use std::fs::Files;

@@ -1,8 +1,8 @@
 -- What the settings are that a command line asks for.
-use Rattle.std.proofs.Common.{◌≡◌, ◌∙◌, ◌≤◌, ℕ, Bool, true, false, ◌||◌, cond, List, [], ◌∷◌, Option, Some, None, Result, Ok, Err, refl, sym, ap, subst, arith}
+use Rattle.std.proofs.Common.{◌≡◌, ◌∙◌, ◌≤◌, ℕ, Bool, true, false, ◌||◌, cond, List, [], ◌∷◌, Option, Some, None, Result, Ok, Err, refl, sym, ap, subst}
 use Rattle.std.specs.Prelude.{◌==◌, option_map}
 use Rattle.std.specs.Option.{option_map_or}
-use Rattle.std.proofs.lemmas.Bool.{eqb-false}
+use Rattle.std.proofs.lemmas.Bool.{eqb-false, leb-true}
 use Rattle.clap.specs.Words.{Row, Text}
 use Rattle.heapdbg_options.specs.CommandLine.{AreNumbersOf, AreSettingsWithin, IsOther, IsTask, IsThird, clash_in, clash_of, command_of, explore_with, is_port, keep_row, pair_in, service_of, settings_by, settings_from, settings_over, settings_under, settings_with, target_of, task_in, unfit_in, unless}
 use Rattle.heapdbg_options.specs.Values.{given_in, has, is_on, port_limit, value_of}
@@ -12,7 +12,7 @@ use Rattle.heapdbg_options.specs.declared.option_rows.Kind.TheVariants.{Runs, Ex
 use Rattle.heapdbg_options.specs.declared.option_rows.OptionRow.{OptionRow}
 use Rattle.heapdbg_options.specs.declared.option_rows.TheConstants.{ASKED_PORT, DUMPS, FROM, IDLE, KEEP, KEEP_MOST, MUTATORS, PAGE, PORT, REGIONS, SECRET, SERVED_PAGE, SESSIONS, TO, WIDE, WORKERS}
 use Rattle.heapdbg_options.specs.declared.refusal.Mistake.{Mistake}
-use Rattle.heapdbg_options.specs.declared.refusal.Mistake.TheVariants.{Command, Value}
+use Rattle.heapdbg_options.specs.declared.refusal.Mistake.TheVariants.{Value}
 use Rattle.heapdbg_options.specs.declared.settings.Service.{Service}
 use Rattle.heapdbg_options.specs.declared.settings.Settings.{Settings}
 use Rattle.heapdbg_options.specs.declared.settings.Task.{Task}
@@ -23,87 +23,86 @@ use Rattle.heapdbg_options.proofs.Numbers.{given_number_within_bounds, value_at_
 
 -- settings that were read are those of a command, its options, and its task whose ports don't clash
 pub record AreReadFrom (found : Option (Text × List Row)) (s : Settings) : Type 0 where
-  pub name : Text
-  pub rows : List Row
+  pub entry : Text × List Row
   pub command : CommandRow
   pub task : Task
-  pub is : found ≡ Some (name, rows)
-  pub named : command_of name ≡ Some command
-  pub asked : task_in command.kind rows ≡ Some task
+  pub is : found ≡ Some entry
+  pub named : command_of entry.0 ≡ Some command
+  pub asked : task_in command.kind entry.1 ≡ Some task
   pub free : clash_in task ≡ None
-  pub settings : s ≡ settings_from command.kind rows (is_on WIDE rows) task
+  pub settings : s ≡ settings_from command.kind entry.1 (is_on WIDE entry.1) task
 
 no_mistake_leaves_rest : (m : Option Mistake) (rest : Result Settings Mistake) (s : Settings) → unless m rest ≡ Ok s → (m ≡ None) × (rest ≡ Ok s)
 no_mistake_leaves_rest None rest s e = (refl, e)
 no_mistake_leaves_rest (Some m) rest s e = cc
 
+no_mistake_leaves_settings : (m : Option Mistake) (made s : Settings) → unless m (Ok made) ≡ Ok s → (m ≡ None) × (s ≡ made)
+no_mistake_leaves_settings None made s e = (refl, cc)
+no_mistake_leaves_settings (Some m) made s e = cc
+
 mapped_from_none : {A B : Type 0} (f : A → B) (o : Option A) → option_map f o ≡ None → o ≡ None
 mapped_from_none f None e = refl
 mapped_from_none f (Some x) e = cc
 
-ok_values_are_equal : (a b : Settings) → Ok {E = Mistake} a ≡ Ok b → b ≡ a
-ok_values_are_equal a b e = cc
-
-read_settings_come_from_command : (name : Text) (rows : List Row) (command : CommandRow) (s : Settings) → command_of name ≡ Some command → settings_over command rows (is_on WIDE rows) ≡ Ok s → AreReadFrom (Some (name, rows)) s
-read_settings_come_from_command name rows command s named e =
-    let wide = is_on WIDE rows in
-    let paired = no_mistake_leaves_rest (pair_in command.kind rows) (unless (option_map (λ row. Value row wide) (unfit_in command rows wide)) (settings_with command.kind rows wide (task_in command.kind rows))) s e in
-    let fitting = no_mistake_leaves_rest (option_map (λ row. Value row wide) (unfit_in command rows wide)) (settings_with command.kind rows wide (task_in command.kind rows)) s paired.1 in
-    go (task_in command.kind rows) refl fitting.1
+read_settings_come_from_command : (f : Text × List Row) (command : CommandRow) (s : Settings) → command_of f.0 ≡ Some command → settings_over command f.1 (is_on WIDE f.1) ≡ Ok s → AreReadFrom (Some f) s
+read_settings_come_from_command f command s named e =
+    let wide = is_on WIDE f.1 in
+    let paired = no_mistake_leaves_rest (pair_in command.kind f.1) (unless (option_map (λ row. Value row wide) (unfit_in command f.1 wide)) (settings_with command.kind f.1 wide (task_in command.kind f.1))) s e in
+    let fitting = no_mistake_leaves_rest (option_map (λ row. Value row wide) (unfit_in command f.1 wide)) (settings_with command.kind f.1 wide (task_in command.kind f.1)) s paired.1 in
+    go (task_in command.kind f.1) refl fitting.1
   where
-    go : (t : Option Task) → task_in command.kind rows ≡ t → settings_with command.kind rows (is_on WIDE rows) t ≡ Ok s → AreReadFrom (Some (name, rows)) s
+    go : (t : Option Task) → task_in command.kind f.1 ≡ t → settings_with command.kind f.1 (is_on WIDE f.1) t ≡ Ok s → AreReadFrom (Some f) s
     go None at found = cc
     go (Some task) at found =
-        let clear = no_mistake_leaves_rest (option_map (λ row. Value row (is_on WIDE rows)) (clash_in task)) (Ok (settings_from command.kind rows (is_on WIDE rows) task)) s found in
+        let clear = no_mistake_leaves_settings (option_map (λ row. Value row (is_on WIDE f.1)) (clash_in task)) (settings_from command.kind f.1 (is_on WIDE f.1) task) s found in
         record {
-          name = name;
-          rows = rows;
+          entry = f;
           command = command;
           task = task;
           is = refl;
           named = named;
           asked = at;
-          free = mapped_from_none (λ row. Value row (is_on WIDE rows)) (clash_in task) clear.0;
-          settings = ok_values_are_equal (settings_from command.kind rows (is_on WIDE rows) task) s clear.1;
+          free = mapped_from_none (λ row. Value row (is_on WIDE f.1)) (clash_in task) clear.0;
+          settings = clear.1;
         }
 
 pub settings_are_read_from : (found : Option (Text × List Row)) (s : Settings) → settings_under found ≡ Ok s → AreReadFrom found s
 settings_are_read_from None s e = cc
-settings_are_read_from (Some (name, rows)) s e = go (command_of name) refl e
+settings_are_read_from (Some f) s e = go (command_of f.0) refl e
   where
-    go : (c : Option CommandRow) → command_of name ≡ c → settings_by rows c ≡ Ok s → AreReadFrom (Some (name, rows)) s
+    go : (c : Option CommandRow) → command_of f.0 ≡ c → settings_by f.1 c ≡ Ok s → AreReadFrom (Some f) s
     go None at found = cc
-    go (Some command) at found = read_settings_come_from_command name rows command s at found
+    go (Some command) at found = read_settings_come_from_command f command s at found
 
 -- ---- limits
 
 keep_within_bounds : (kind : Kind) (wide : Bool) (rows : List Row) → (1 ≤ value_of wide (keep_row kind) rows) × (value_of wide (keep_row kind) rows ≤ cond wide 16777216 65536)
-keep_within_bounds Explores true rows = value_within_bounds true KEEP_MOST rows (omega arith)
-keep_within_bounds Explores false rows = value_within_bounds false KEEP_MOST rows (omega arith)
-keep_within_bounds Runs true rows = value_within_bounds true KEEP rows (omega arith)
-keep_within_bounds Runs false rows = value_within_bounds false KEEP rows (omega arith)
-keep_within_bounds Draws true rows = value_within_bounds true KEEP rows (omega arith)
-keep_within_bounds Draws false rows = value_within_bounds false KEEP rows (omega arith)
-keep_within_bounds Saves true rows = value_within_bounds true KEEP rows (omega arith)
-keep_within_bounds Saves false rows = value_within_bounds false KEEP rows (omega arith)
-keep_within_bounds Serves true rows = value_within_bounds true KEEP rows (omega arith)
-keep_within_bounds Serves false rows = value_within_bounds false KEEP rows (omega arith)
-keep_within_bounds Asks true rows = value_within_bounds true KEEP rows (omega arith)
-keep_within_bounds Asks false rows = value_within_bounds false KEEP rows (omega arith)
-keep_within_bounds Fetches true rows = value_within_bounds true KEEP rows (omega arith)
-keep_within_bounds Fetches false rows = value_within_bounds false KEEP rows (omega arith)
+keep_within_bounds Explores true rows = value_within_bounds true KEEP_MOST rows (leb-true _ _ refl)
+keep_within_bounds Explores false rows = value_within_bounds false KEEP_MOST rows (leb-true _ _ refl)
+keep_within_bounds Runs true rows = value_within_bounds true KEEP rows (leb-true _ _ refl)
+keep_within_bounds Runs false rows = value_within_bounds false KEEP rows (leb-true _ _ refl)
+keep_within_bounds Draws true rows = value_within_bounds true KEEP rows (leb-true _ _ refl)
+keep_within_bounds Draws false rows = value_within_bounds false KEEP rows (leb-true _ _ refl)
+keep_within_bounds Saves true rows = value_within_bounds true KEEP rows (leb-true _ _ refl)
+keep_within_bounds Saves false rows = value_within_bounds false KEEP rows (leb-true _ _ refl)
+keep_within_bounds Serves true rows = value_within_bounds true KEEP rows (leb-true _ _ refl)
+keep_within_bounds Serves false rows = value_within_bounds false KEEP rows (leb-true _ _ refl)
+keep_within_bounds Asks true rows = value_within_bounds true KEEP rows (leb-true _ _ refl)
+keep_within_bounds Asks false rows = value_within_bounds false KEEP rows (leb-true _ _ refl)
+keep_within_bounds Fetches true rows = value_within_bounds true KEEP rows (leb-true _ _ refl)
+keep_within_bounds Fetches false rows = value_within_bounds false KEEP rows (leb-true _ _ refl)
 
 heap_numbers_within_bounds : (kind : Kind) (wide : Bool) (rows : List Row) → AreNumbersOf wide (value_of wide REGIONS rows) (value_of wide MUTATORS rows) (value_of wide (keep_row kind) rows)
 heap_numbers_within_bounds kind true rows =
     record {
-      regions_within = value_within_bounds true REGIONS rows (omega arith);
-      mutators_within = value_within_bounds true MUTATORS rows (omega arith);
+      regions_within = value_within_bounds true REGIONS rows (leb-true _ _ refl);
+      mutators_within = value_within_bounds true MUTATORS rows (leb-true _ _ refl);
       keep_within = keep_within_bounds kind true rows;
     }
 heap_numbers_within_bounds kind false rows =
     record {
-      regions_within = value_within_bounds false REGIONS rows (omega arith);
-      mutators_within = value_within_bounds false MUTATORS rows (omega arith);
+      regions_within = value_within_bounds false REGIONS rows (leb-true _ _ refl);
+      mutators_within = value_within_bounds false MUTATORS rows (leb-true _ _ refl);
       keep_within = keep_within_bounds kind false rows;
     }
 
@@ -140,7 +139,7 @@ ports_without_clash_are_legal s dumps page free = go (is_port s.dumps s.port) (i
 service_is_legal : (rows : List Row) (port : ℕ) → given_in false PORT rows ≡ Some port → clash_of (service_of rows port) ≡ None → IsTask (Serve (service_of rows port))
 service_is_legal rows port at free =
     let own = given_number_within_bounds false PORT rows port at in
-    let sessions = value_within_bounds false SESSIONS rows (omega arith) in
+    let sessions = value_within_bounds false SESSIONS rows (leb-true _ _ refl) in
     let others = ports_without_clash_are_legal (service_of rows port) (λ n e. given_number_within_bounds false DUMPS rows n e) (λ n e. given_number_within_bounds false SERVED_PAGE rows n e) free in
     (own.0, own.1, sessions.0, sessions.1, value_at_most false WORKERS rows, others.0, others.1, value_at_most false IDLE rows)
 
@@ -175,5 +174,5 @@ task_is_legal Fetches rows task e free = task_of_port_is_legal (λ port. Fetch p
 pub settings_within : (found : Option (Text × List Row)) (s : Settings) → settings_under found ≡ Ok s → AreSettingsWithin s
 settings_within found s e =
     let read = settings_are_read_from found s e in
-    let rows = read.rows in
+    let rows = read.entry.1 in
     subst AreSettingsWithin (sym read.settings) (heap_numbers_within_bounds read.command.kind (is_on WIDE rows) rows, task_is_legal read.command.kind rows read.task read.asked read.free)

@@ -105,7 +105,8 @@ found_command_is_task : (name : Text) (command : CommandRow) → command_of name
 found_command_is_task name command named = ap is_some named
 
 pub options_are_given_by_name : (words : List Text) (s : Settings) → settings_under (subcommand_of heapdbg_line words) ≡ Ok s → AreGivenByName words
-options_are_given_by_name words s e name option other =
+options_are_given_by_name words s e =
     let read = settings_are_read_from (subcommand_of heapdbg_line words) s e in
-    let none = unnamed_option_has_no_row name words (read.name, read.rows) (option_of_commands_is_free name COMMANDS.now all_commands_have_free_rows option) read.is (found_command_is_task read.name read.command read.named) other in
-    ap (text_in name) read.is ∙ none
+    λ name option other.
+    ap (text_in name) read.is
+    ∙ unnamed_option_has_no_row name words read.entry (option_of_commands_is_free name COMMANDS.now all_commands_have_free_rows option) read.is (found_command_is_task read.entry.0 read.command read.named) other

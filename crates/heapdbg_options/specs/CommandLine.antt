@@ -265,4 +265,3 @@ IsHeapWithin s = AreNumbersOf s.wide s.regions s.mutators s.keep
 -- the settings are within their limits
 abbrev pub AreSettingsWithin : Settings → Type 0
 AreSettingsWithin s = IsHeapWithin s × IsTask s.task
-

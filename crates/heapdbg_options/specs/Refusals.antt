@@ -1,5 +1,5 @@
 -- The texts for command lines that the program refuses.
-use Rattle.std.specs.Prelude.{◌≡◌, ◌≢◌, ◌⊎◌, ◌++◌, ℕ, Bool, List, Option, Some, None, [], ◌∷◌, ⊤, ⊥, false, true, codes, decimal, string_bytes, if◌then◌else◌, Result, Ok, Err}
+use Rattle.std.specs.Prelude.{◌≡◌, ◌≢◌, ◌⊎◌, ◌++◌, ℕ, Bool, List, Option, Some, None, [], ◌∷◌, ⊤, false, true, codes, decimal, string_bytes, if◌then◌else◌, Err}
 use Rattle.std.specs.Str.{bytes_eq}
 use Rattle.clap.specs.Words.{IsAmong, Text, fault_of, subcommand_of}
 use Rattle.clap.specs.declared.error.kind.ErrorKind.{ErrorKind}
@@ -13,24 +13,24 @@ use Rattle.heapdbg_options.specs.declared.refusal.Mistake.TheVariants.{Command, 
 use Rattle.heapdbg_options.specs.declared.settings.LineFault.{LineFault}
 use Rattle.heapdbg_options.specs.declared.settings.LineFault.TheVariants.{Bad, CommandText, Memory, OptionText}
 
--- two numbers, and a word between them
-abbrev pub numbers_text : ℕ → Text → ℕ → Text
-numbers_text one word other = decimal one ++ (word ++ decimal other)
+-- two numbers, the word between them, and what stands behind them
+abbrev pub numbers_text : ℕ → Text → ℕ → Text → Text
+numbers_text one word other rest = decimal one ++ (word ++ (decimal other ++ rest))
 
--- the values that an option takes over a heap that is wide, or isn't
-abbrev pub values_text : Bool → Values → Text
-values_text wide Path = codes "a path"
-values_text wide (Between least most) = numbers_text least (codes " to ") most
-values_text wide (Sizes least most widest) =
-    numbers_text least (codes " to ") (if wide then widest else most)
-values_text wide (Either one other) = numbers_text one (codes " or ") other
+-- the values that an option takes over a heap that is wide, or isn't, and what stands behind them
+abbrev pub values_text : Bool → Values → Text → Text
+values_text wide Path rest = codes "a path" ++ rest
+values_text wide (Between least most) rest = numbers_text least (codes " to ") most rest
+values_text wide (Sizes least most widest) rest =
+    numbers_text least (codes " to ") (if wide then widest else most) rest
+values_text wide (Either one other) rest = numbers_text one (codes " or ") other rest
 
 -- the text that says what has to be given instead
 abbrev pub mistake_text : Mistake → Text
 mistake_text Command = codes "heapdbg takes one of run, explore, draw, save, serve, ask and fetch"
 mistake_text (Pair text) = text.now
 mistake_text (Value row wide) =
-    codes "--" ++ (row.name.now ++ (codes " takes " ++ (values_text wide row.takes ++ row.but.now)))
+    codes "--" ++ (row.name.now ++ (codes " takes " ++ values_text wide row.takes row.but.now))
 
 -- the whole text of a mistake
 abbrev pub text_of_mistake : Mistake → Text

@@ -1,5 +1,5 @@
 -- The values of options: which of them an option takes, and what it counts as if it is not given.
-use Rattle.std.specs.Prelude.{◌≡◌, ◌==◌, ◌++◌, ◌*◌, ◌-◌, ◌&&◌, ◌||◌, ℕ, List, Option, Some, None, Bool, false, codes, is_some, length, min, nat_le, nat_lt, not, option_and_then, take, unwrap_or, if◌then◌else◌}
+use Rattle.std.specs.Prelude.{◌==◌, ◌++◌, ◌*◌, ◌-◌, ◌&&◌, ◌||◌, ℕ, List, Option, Some, None, Bool, codes, is_some, length, min, nat_le, nat_lt, not, option_and_then, take, unwrap_or, if◌then◌else◌}
 use Rattle.std.specs.List.{list_all}
 use Rattle.std.specs.Char.{is_ascii_digit}
 use Rattle.std.specs.Str.{bytes_eq}

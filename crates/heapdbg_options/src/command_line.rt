@@ -1,6 +1,6 @@
 //! Reads the command line.
-ghost use Rattle.std.specs.Prelude.{◌≡◌, Some, IfOk, IfErr, map, option_map};
-ghost use Rattle.clap.specs.Words.{FailsBy, fault_of, first_of, found_of, kind_of, rows_of, subcommand_of, subcommand_rows_of};
+ghost use Rattle.std.specs.Prelude.{◌≡◌, Some, IfOk, IfErr, option_map};
+ghost use Rattle.clap.specs.Words.{FailsBy, fault_of, found_of, kind_of, rows_of, subcommand_of, subcommand_rows_of};
 ghost use Rattle.heapdbg_options.specs.CommandLine.{AreGivenByName, AreSettingsWithin, command_of, path_in, path_of, text_in, secret_of, settings_of, settings_over, settings_under, texts, unfit_among, unfit_in};
 ghost use Rattle.heapdbg_options.specs.Parsers.{heapdbg_line};
 ghost use Rattle.heapdbg_options.specs.Refusals.{IsRefusalOf, IsSaidOf, is_help};
@@ -43,6 +43,27 @@ pub fn request<'a>(alloc: Global, words: &'a [&'a str]) -> Result<Request<'a>, L
             secret: text_given(&matches, "secret"),
         }),
         Err(mistake) => Err(mistake.refusal(alloc)),
+    }
+}
+
+// Returns the path that the matches give: that of `--out`, or else that of `--from`.
+fn path_of<'a>(matches: &ArgMatches<'a>) -> Option<&'a str>
+    ensures { option_map (λ s. s.now) result ≡ path_in (subcommand_rows_of matches.now) }
+{
+    match text_given(matches, "out") {
+        Some(path) => Some(path),
+        None => text_given(matches, "from"),
+    }
+}
+
+// Returns the text that the matches give to an option.
+fn text_given<'a>(matches: &ArgMatches<'a>, name: &str) -> Option<&'a str>
+    ensures { option_map (λ s. s.now) result
+        ≡ text_in name.now (subcommand_rows_of matches.now) }
+{
+    match matches.subcommand() {
+        Some((_, options)) => options.get_str(name),
+        None => None,
     }
 }
 
@@ -161,25 +182,4 @@ fn unfit_among(rows: &[OptionRow], options: &ArgMatches<'_>, wide: bool) -> Opti
         }
     }
     None
-}
-
-// Returns the path that the matches give: that of `--out`, or else that of `--from`.
-fn path_of<'a>(matches: &ArgMatches<'a>) -> Option<&'a str>
-    ensures { option_map (λ s. s.now) result ≡ path_in (subcommand_rows_of matches.now) }
-{
-    match text_given(matches, "out") {
-        Some(path) => Some(path),
-        None => text_given(matches, "from"),
-    }
-}
-
-// Returns the text that the matches give to an option.
-fn text_given<'a>(matches: &ArgMatches<'a>, name: &str) -> Option<&'a str>
-    ensures { option_map (λ s. s.now) result
-        ≡ text_in name.now (subcommand_rows_of matches.now) }
-{
-    match matches.subcommand() {
-        Some((_, options)) => options.get_str(name),
-        None => None,
-    }
 }

@@ -158,21 +158,51 @@ macro_rules! path {
 
 // ---- the options of a heap
 
-pub(crate) const REGIONS: OptionRow =
-    size!("regions", "Regions of the heap", 1, 256, 65536, "16", 16);
+pub(crate) const REGIONS: OptionRow = size!(
+    "regions",
+    "Regions of the heap",
+    1,
+    256,
+    65536,
+    "16",
+    16
+);
 
-pub(crate) const MUTATORS: OptionRow =
-    number!("mutators", "N", "Mutators of the heap", 1, 16, "2", 2);
+pub(crate) const MUTATORS: OptionRow = number!(
+    "mutators",
+    "N",
+    "Mutators of the heap",
+    1,
+    16,
+    "2",
+    2
+);
 
-pub(crate) const KEEP: OptionRow =
-    size!("keep", "Steps that can be undone", 1, 65536, 16777216, "1024", 1024);
+pub(crate) const KEEP: OptionRow = size!(
+    "keep",
+    "Steps that can be undone",
+    1,
+    65536,
+    16777216,
+    "1024",
+    1024
+);
 
 // `--keep` of a command that keeps the most by default.
-pub(crate) const KEEP_MOST: OptionRow =
-    size!("keep", "Steps that can be undone", 1, 65536, 16777216, "the most", 16777216);
+pub(crate) const KEEP_MOST: OptionRow = size!(
+    "keep",
+    "Steps that can be undone",
+    1,
+    65536,
+    16777216,
+    "the most",
+    16777216
+);
 
-pub(crate) const WIDE: OptionRow =
-    flag!("wide", "Whether the heap has wider limits, of classes, names and pins too, 0 or 1");
+pub(crate) const WIDE: OptionRow = flag!(
+    "wide",
+    "Whether the heap has wider limits, of classes, names and pins too, 0 or 1"
+);
 
 pub(crate) const TIME: OptionRow = OptionRow {
     name: "time",
@@ -189,11 +219,15 @@ pub(crate) const IDS: OptionRow = either!("ids", "Bytes of an identifier in a du
 
 // ---- the options of commands
 
-pub(crate) const QUESTIONS: OptionRow =
-    flag!("questions", "Whether questions are answered, 0 or 1");
+pub(crate) const QUESTIONS: OptionRow = flag!(
+    "questions",
+    "Whether questions are answered, 0 or 1"
+);
 
-pub(crate) const FROM: OptionRow =
-    path!("from", "File of lines that are run first; their replies are not shown");
+pub(crate) const FROM: OptionRow = path!(
+    "from",
+    "File of lines that are run first; their replies are not shown"
+);
 
 // `--port` of `explore`.
 pub(crate) const ASKED_PORT: OptionRow = port!(
@@ -211,12 +245,16 @@ pub(crate) const PAGE: OptionRow = port!(
 );
 
 // `--secret` of `explore`.
-pub(crate) const ASKED_SECRET: OptionRow =
-    path!("secret", "File with the word that the heap at --port has to be sent first; only with --port");
+pub(crate) const ASKED_SECRET: OptionRow = path!(
+    "secret",
+    "File with the word that the heap at --port has to be sent first; only with --port"
+);
 
 // `--out` of `save`.
-pub(crate) const SAVED_OUT: OptionRow =
-    path!("out", "File that the last state is dumped to; if not given, --to is required");
+pub(crate) const SAVED_OUT: OptionRow = path!(
+    "out",
+    "File that the last state is dumped to; if not given, --to is required"
+);
 
 pub(crate) const TO: OptionRow = port!(
     "to",
@@ -240,8 +278,10 @@ pub(crate) const SESSIONS: OptionRow = number!(
     1
 );
 
-pub(crate) const WORKERS: OptionRow =
-    flag!("workers", "Threads that mark, and threads that sweep, 0 or 1 of each");
+pub(crate) const WORKERS: OptionRow = flag!(
+    "workers",
+    "Threads that mark, and threads that sweep, 0 or 1 of each"
+);
 
 pub(crate) const DUMPS: OptionRow = port!(
     "dumps",
@@ -258,11 +298,15 @@ pub(crate) const SERVED_PAGE: OptionRow = port!(
     ", and not the number of --port or --dumps"
 );
 
-pub(crate) const ROLL: OptionRow =
-    flag!("roll", "Whether the heap drops old acts in place of refusing new ones, 0 or 1");
+pub(crate) const ROLL: OptionRow = flag!(
+    "roll",
+    "Whether the heap drops old acts in place of refusing new ones, 0 or 1"
+);
 
-pub(crate) const STAY: OptionRow =
-    flag!("stay", "Whether the heap is served until it is ended from outside, and drops old acts, 0 or 1");
+pub(crate) const STAY: OptionRow = flag!(
+    "stay",
+    "Whether the heap is served until it is ended from outside, and drops old acts, 0 or 1"
+);
 
 pub(crate) const IDLE: OptionRow = number!(
     "idle",
@@ -274,12 +318,16 @@ pub(crate) const IDLE: OptionRow = number!(
     0
 );
 
-pub(crate) const SECRET: OptionRow =
-    path!("secret", "File with the word that each client has to send first [default: none]");
+pub(crate) const SECRET: OptionRow = path!(
+    "secret",
+    "File with the word that each client has to send first [default: none]"
+);
 
 // `--quiet` of a command that tells a terminal more than a file.
-pub(crate) const QUIET: OptionRow =
-    flag!("quiet", "Whether a terminal is told no more than a file would be, 0 or 1");
+pub(crate) const QUIET: OptionRow = flag!(
+    "quiet",
+    "Whether a terminal is told no more than a file would be, 0 or 1"
+);
 
 // ---- the commands
 
@@ -330,7 +378,17 @@ pub(crate) const COMMANDS: &[CommandRow] = &[
         usage: None,
         heap: &HEAP,
         options: &[
-            PORT, SESSIONS, WORKERS, DUMPS, SERVED_PAGE, QUESTIONS, ROLL, IDLE, STAY, SECRET, QUIET,
+            PORT,
+            SESSIONS,
+            WORKERS,
+            DUMPS,
+            SERVED_PAGE,
+            QUESTIONS,
+            ROLL,
+            IDLE,
+            STAY,
+            SECRET,
+            QUIET,
         ],
     },
     CommandRow {

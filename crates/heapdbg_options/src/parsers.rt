@@ -16,16 +16,6 @@ pub(crate) fn parser<'a>(alloc: Global) -> Result<Command<'a>, AllocError>
     with_commands(alloc, named_parser(alloc), COMMANDS)
 }
 
-// Creates the parser of the program's name.
-fn named_parser<'a>(alloc: Global) -> Command<'a>
-    ensures app { app_of result ≡ named_line }
-    ensures local { (out-Command result).has_globals ≡ false }
-{
-    Command::new(alloc, "heapdbg")
-        .version(VERSION)
-        .subcommand_required(true)
-}
-
 // Returns the parser with the commands of these rows added in turn.
 fn with_commands<'a>(
     alloc: Global,
@@ -118,4 +108,14 @@ fn named_command<'a>(alloc: Global, row: &CommandRow) -> Command<'a>
         Some(usage) => named.override_usage(usage),
         None => named,
     }
+}
+
+// Creates the parser of the program's name.
+fn named_parser<'a>(alloc: Global) -> Command<'a>
+    ensures app { app_of result ≡ named_line }
+    ensures local { (out-Command result).has_globals ≡ false }
+{
+    Command::new(alloc, "heapdbg")
+        .version(VERSION)
+        .subcommand_required(true)
 }

@@ -1,9 +1,8 @@
 //! The task of a command and its options.
-ghost use Rattle.std.specs.Prelude.{◌≡◌};
+ghost use Rattle.std.specs.Prelude.{◌≡◌, false};
 ghost use Rattle.clap.specs.Words.{found_of, rows_of};
 ghost use Rattle.heapdbg_options.specs.CommandLine.{clash_in, clash_of, explore_with, is_port, pair_in, save_pair, service_of, target_of, task_in};
 ghost use Rattle.heapdbg_options.specs.Values.{given_in};
-ghost use Rattle.heapdbg_options.specs.declared.option_rows.TheConstants.{ASKED_PORT, TO};
 
 use crate::option_rows::{
     ASKED_PORT, ASKED_SECRET, DUMPS, FROM, IDLE, Kind, OptionRow, PAGE, PORT, SAVED_OUT, SECRET,
@@ -44,7 +43,7 @@ pub(crate) fn task_of(kind: Kind, options: &ArgMatches<'_>) -> Option<Task>
 fn explore_task(options: &ArgMatches<'_>) -> Task
     ensures { result
         ≡ explore_with (rows_of (found_of options.now))
-          (given_in false ASKED_PORT (rows_of (found_of options.now))) }
+        (given_in false ASKED_PORT (rows_of (found_of options.now))) }
 {
     match port(options, ASKED_PORT.name) {
         Some(port) => {
@@ -129,7 +128,10 @@ fn service_clash(service: Service) -> Option<OptionRow>
     ensures { result ≡ clash_of service }
 {
     let Service {
-        port, dumps, page, ..
+        port,
+        dumps,
+        page,
+        ..
     } = service;
     if is_port(dumps, port) {
         return Some(DUMPS);

@@ -1,5 +1,5 @@
 //! The values of options.
-ghost use Rattle.std.specs.Prelude.{◌≡◌, ◌<◌, ◌≤◌, codes, option_and_then, option_map};
+ghost use Rattle.std.specs.Prelude.{◌≡◌, ◌<◌, option_and_then, option_map};
 ghost use Rattle.std.specs.List.{list_all};
 ghost use Rattle.std.specs.Char.{is_ascii_digit};
 ghost use Rattle.clap.specs.Words.{first_of, found_of, rows_of};
@@ -28,20 +28,6 @@ pub(crate) fn value(options: &ArgMatches<'_>, row: &OptionRow, wide: bool) -> u6
     }
 }
 
-// Tells whether an option is given a value that it doesn't take, over a heap that is wide, or isn't.
-pub(crate) fn is_unfit(options: &ArgMatches<'_>, row: &OptionRow, wide: bool) -> bool
-    ensures { result ≡ is_unfit wide (rows_of (found_of options.now)) row.now }
-{
-    has(options, row) && given(options, row, wide).is_none()
-}
-
-// Tells whether an option is given.
-pub(crate) fn has(options: &ArgMatches<'_>, row: &OptionRow) -> bool
-    ensures { result ≡ has row.now (rows_of (found_of options.now)) }
-{
-    options.get_str(row.name).is_some()
-}
-
 // Returns the number that an option is given, over a heap that is wide, or isn't, or None if it is given none that it takes.
 fn given(options: &ArgMatches<'_>, row: &OptionRow, wide: bool) -> Option<u64>
     ensures { result ≡ given_in wide row.now (rows_of (found_of options.now)) }
@@ -50,26 +36,6 @@ fn given(options: &ArgMatches<'_>, row: &OptionRow, wide: bool) -> Option<u64>
         Some(text) => number_as(row.takes, text, wide),
         None => None,
     }
-}
-
-// Returns the port that the option of this name is given, or None if it is given none.
-pub(crate) fn port(options: &ArgMatches<'_>, name: &str) -> Option<u16>
-    ensures { result
-        ≡ option_and_then (number_in 1 port_limit)
-          (first_of name.now (rows_of (found_of options.now))) }
-{
-    match options.get_str(name) {
-        Some(text) => port_of(text),
-        None => None,
-    }
-}
-
-// Returns the port that a text writes.
-fn port_of(text: &str) -> Option<u16>
-    ensures { result ≡ number_in 1 port_limit text.now }
-{
-    let port = number(text, 1, PORT_LIMIT)?;
-    Some(port as u16)
 }
 
 // Returns the number that a text writes among these values, over a heap that is wide, or isn't. A path counts as 0.
@@ -96,15 +62,25 @@ fn most(takes: Values, wide: bool) -> u64
     }
 }
 
-// Returns which of two numbers a text writes.
-fn either(text: &str, one: u64, other: u64) -> Option<u64>
-    ensures { result ≡ option_and_then (either one other) (number_in one other text.now) }
+// Returns the number that a text of digits alone writes, or None if it isn't from `least` to `most` or the text is another.
+fn number(text: &str, least: u64, most: u64) -> Option<u64>
+    ensures { result ≡ number_in least most text.now }
 {
-    match number(text, one, other) {
-        Some(number) if number == one || number == other => Some(number),
-        Some(_) => None,
-        None => None,
+    if !is_digits(text) {
+        return None;
     }
+    match text.parse::<u64>() {
+        Ok(number) if least <= number && number <= most => Some(number),
+        Ok(_) => None,
+        Err(_) => None,
+    }
+}
+
+// Tells whether each byte is a decimal digit.
+fn is_digits(text: &str) -> bool
+    ensures { result ≡ list_all is_ascii_digit text.now }
+{
+    text.bytes().all(|byte| byte.is_ascii_digit())
 }
 
 // Returns the size that a text writes, by digits alone or with `k` or `m` behind them, or None if it isn't from `least` to `most` or the
@@ -142,23 +118,47 @@ fn counted(text: &str, times: u64, least: u64, most: u64) -> Option<u64>
     }
 }
 
-// Returns the number that a text of digits alone writes, or None if it isn't from `least` to `most` or the text is another.
-fn number(text: &str, least: u64, most: u64) -> Option<u64>
-    ensures { result ≡ number_in least most text.now }
+// Returns which of two numbers a text writes.
+fn either(text: &str, one: u64, other: u64) -> Option<u64>
+    ensures { result ≡ option_and_then (either one other) (number_in one other text.now) }
 {
-    if !is_digits(text) {
-        return None;
-    }
-    match text.parse::<u64>() {
-        Ok(number) if least <= number && number <= most => Some(number),
-        Ok(_) => None,
-        Err(_) => None,
+    match number(text, one, other) {
+        Some(number) if number == one || number == other => Some(number),
+        Some(_) => None,
+        None => None,
     }
 }
 
-// Tells whether each byte is a decimal digit.
-fn is_digits(text: &str) -> bool
-    ensures { result ≡ list_all is_ascii_digit text.now }
+// Tells whether an option is given a value that it doesn't take, over a heap that is wide, or isn't.
+pub(crate) fn is_unfit(options: &ArgMatches<'_>, row: &OptionRow, wide: bool) -> bool
+    ensures { result ≡ is_unfit wide (rows_of (found_of options.now)) row.now }
 {
-    text.bytes().all(|byte| byte.is_ascii_digit())
+    has(options, row) && given(options, row, wide).is_none()
+}
+
+// Tells whether an option is given.
+pub(crate) fn has(options: &ArgMatches<'_>, row: &OptionRow) -> bool
+    ensures { result ≡ has row.now (rows_of (found_of options.now)) }
+{
+    options.get_str(row.name).is_some()
+}
+
+// Returns the port that the option of this name is given, or None if it is given none.
+pub(crate) fn port(options: &ArgMatches<'_>, name: &str) -> Option<u16>
+    ensures { result
+        ≡ option_and_then (number_in 1 port_limit)
+        (first_of name.now (rows_of (found_of options.now))) }
+{
+    match options.get_str(name) {
+        Some(text) => port_of(text),
+        None => None,
+    }
+}
+
+// Returns the port that a text writes.
+fn port_of(text: &str) -> Option<u16>
+    ensures { result ≡ number_in 1 port_limit text.now }
+{
+    let port = number(text, 1, PORT_LIMIT)?;
+    Some(port as u16)
 }

@@ -1,8 +1,7 @@
-use Rattle.std.proofs.Common.{◌∙◌, ap, map}
-use Rattle.heapdbg_options.specs.Parsers.{line_of_row, rule_of_row, with_rules}
+use Rattle.heapdbg_options.specs.Parsers.{line_of_row}
 use Rattle.heapdbg_options.proofs.MadeParsers.{adds_command}
 use Rattle.heapdbg_options.proofs.parsers.with_command.Goals as goal
 
 pub returns-in-Ok : goal.returns-in-Ok
 returns-in-Ok c =
-    adds_command (line_of_row c.args.row.now) c.args.parser c.in-Ok.command c.subcommand.result c.subcommand.ensures (c.in-Ok.ensures.0 ∙ ap (λ l. with_rules l (map rule_of_row c.args.row.now.options.now)) c.named_command.ensures.app) c.in-Ok.ensures.1
+    adds_command (line_of_row c.args.row.now) c.args.parser c.in-Ok.command c.subcommand.result c.subcommand.ensures c.in-Ok.ensures.0 c.in-Ok.ensures.1

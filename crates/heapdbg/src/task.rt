@@ -1,7 +1,7 @@
 //! The tasks, from the words of the command line on.
-ghost use Rattle.std.specs.Prelude.{◌≡◌, ◌⊎◌, ◌≤◌, IfOk, IfErr, map, string_bytes};
+ghost use Rattle.std.specs.Prelude.{◌≡◌, ◌⊎◌, ◌≤◌, Some, IfOk, IfErr, map, string_bytes};
 ghost use Rattle.std.specs.IoError.{error_kind};
-ghost use Rattle.heapdbg_options.specs.CommandLine.{AreSettingsWithin, IsHeapWithin, texts};
+ghost use Rattle.heapdbg_options.specs.CommandLine.{AreSettingsWithin, IsHeapWithin, settings_of, texts};
 ghost use Rattle.heapdbg_options.specs.Refusals.{IsBadWith, IsRefusalOf};
 ghost use Rattle.heapdbg_options.specs.declared.settings.Task.TheVariants.{Explore, Save};
 ghost use Rattle.heapdbg.specs.FetchOutcomes.{IsDumpFetched};
@@ -135,7 +135,7 @@ where
         (O.seen writer.old) (O.seen writer.new) result }
 {
     let line = line_of_words(rt.alloc(), words)?;
-    let request = request(rt.alloc(), line.as_slice())?;
+    let request = request_of_line(rt.alloc(), words, line.as_slice())?;
     work(rt, request, screen, reader, input, writer)?;
     Ok(())
 }
@@ -149,6 +149,21 @@ fn line_of_words<'a>(alloc: Global, words: &'a [String]) -> Result<Vec<&'a str>,
         Ok(line) => Ok(line),
         Err(_) => Err(LineFault::Memory),
     }
+}
+
+// Returns what the words ask for, of which `line` holds the texts. Its contract alone needs the words: it speaks of them as that of
+// `perform_words` does.
+fn request_of_line<'a>(
+    alloc: Global,
+    _words: &[String],
+    line: &'a [&'a str],
+) -> Result<Request<'a>, LineFault>
+    requires { texts line.now ≡ map string_bytes _words.now }
+    ensures ok { IfOk result (λ r. settings_of (map string_bytes _words.now) ≡ Some r.settings) }
+    ensures refused { IfErr result (IsRefusalOf (map string_bytes _words.now)) }
+    ensures limits { IfOk result (λ r. AreSettingsWithin r.settings) }
+{
+    request(alloc, line)
 }
 
 // Does the task of the settings, which the words ask for.

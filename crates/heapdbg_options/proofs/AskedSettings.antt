@@ -1,6 +1,6 @@
 -- What the settings are that a command line asks for.
-use Rattle.std.proofs.Common.{◌≡◌, ◌∙◌, ◌≤◌, ℕ, Bool, true, false, ◌||◌, cond, List, [], ◌∷◌, Option, Some, None, Result, Ok, Err, refl, sym, ap, subst}
-use Rattle.std.specs.Prelude.{◌==◌, option_map}
+use Rattle.std.proofs.Common.{◌≡◌, ◌∙◌, ◌≤◌, ℕ, Bool, true, false, ◌||◌, cond, List, Option, Some, None, Result, Ok, refl, sym, ap, subst}
+use Rattle.std.specs.Prelude.{option_map}
 use Rattle.std.specs.Option.{option_map_or}
 use Rattle.std.proofs.lemmas.Bool.{eqb-false, leb-true}
 use Rattle.clap.specs.Words.{Row, Text}
@@ -9,7 +9,6 @@ use Rattle.heapdbg_options.specs.Values.{given_in, has, is_on, port_limit, value
 use Rattle.heapdbg_options.specs.declared.option_rows.CommandRow.{CommandRow}
 use Rattle.heapdbg_options.specs.declared.option_rows.Kind.{Kind}
 use Rattle.heapdbg_options.specs.declared.option_rows.Kind.TheVariants.{Runs, Explores, Draws, Saves, Serves, Asks, Fetches}
-use Rattle.heapdbg_options.specs.declared.option_rows.OptionRow.{OptionRow}
 use Rattle.heapdbg_options.specs.declared.option_rows.TheConstants.{ASKED_PORT, DUMPS, FROM, IDLE, KEEP, KEEP_MOST, MUTATORS, PAGE, PORT, REGIONS, SECRET, SERVED_PAGE, SESSIONS, TO, WIDE, WORKERS}
 use Rattle.heapdbg_options.specs.declared.refusal.Mistake.{Mistake}
 use Rattle.heapdbg_options.specs.declared.refusal.Mistake.TheVariants.{Value}

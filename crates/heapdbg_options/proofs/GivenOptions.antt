@@ -1,5 +1,5 @@
 -- What the options tell, and the words.
-use Rattle.std.proofs.Common.{◌≡◌, Bool, List, None, Option, Result, Some, Ok, Err, IfOk, true, refl, sym, ap, ◌∙◌, subst}
+use Rattle.std.proofs.Common.{◌≡◌, List, None, Option, Result, Some, Ok, Err, IfOk, true, refl, sym, ap, ◌∙◌, subst}
 use Rattle.std.specs.Borrow.{Bor}
 use Rattle.std.specs.Prelude.{is_some, option_map}
 use Rattle.clap.proofs.WalkLemmas.{first_value-rows}

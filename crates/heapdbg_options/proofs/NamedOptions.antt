@@ -1,13 +1,13 @@
 -- An option that no word names is given no text.
-use Rattle.std.proofs.Common.{◌≡◌, ◌∙◌, Bool, true, false, ◌&&◌, ◌||◌, cond, List, [], ◌∷◌, Option, Some, None, Result, Ok, refl, sym, ap, subst}
-use Rattle.std.specs.Prelude.{drop, find, is_some, not, option_and_then, option_map}
+use Rattle.std.proofs.Common.{◌≡◌, ◌∙◌, Bool, true, false, ◌&&◌, ◌||◌, List, [], ◌∷◌, Option, Some, None, Ok, refl, sym, ap, subst}
+use Rattle.std.specs.Prelude.{drop, find, is_some, not, option_map}
 use Rattle.std.specs.List.{list_all, list_any}
 use Rattle.std.specs.Str.{bytes_eq}
 use Rattle.std.proofs.lemmas.Slice.Eq.{bytes_eq-Decides}
 use Rattle.clap.specs.Simple.{Shape, argument_words, built, entered, label_of, names_of, rows_at}
 use Rattle.clap.specs.Walk.{answers_to, stop_after}
 use Rattle.clap.specs.Words.{Row, Text, first_of, subcommand_of}
-use Rattle.heapdbg_options.specs.CommandLine.{AreGivenByName, command_of, is_given, is_option, settings_under, text_in}
+use Rattle.heapdbg_options.specs.CommandLine.{AreGivenByName, command_of, is_given, settings_under, text_in}
 use Rattle.heapdbg_options.specs.Parsers.{heapdbg_line}
 use Rattle.heapdbg_options.specs.declared.option_rows.CommandRow.{CommandRow}
 use Rattle.heapdbg_options.specs.declared.option_rows.OptionRow.{OptionRow}

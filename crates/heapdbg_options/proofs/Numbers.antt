@@ -1,5 +1,5 @@
 -- The numbers that texts write are within their bounds, and so are the values of options.
-use Rattle.std.proofs.Common.{◌≡◌, ◌<◌, ◌≤◌, ◌^◌, ◌*◌, ℕ, Bool, true, false, ◌&&◌, ◌||◌, cond, List, Option, Some, None, refl, sym, ap, subst, arith, codes, rules}
+use Rattle.std.proofs.Common.{◌≡◌, ◌<◌, ◌≤◌, ◌^◌, ◌*◌, ℕ, Bool, true, false, ◌&&◌, ◌||◌, cond, List, Option, Some, None, refl, arith, codes, rules}
 use Rattle.std.specs.Prelude.{◌==◌, Err, length, min, option_and_then, nat_le, nat_lt, unwrap_or}
 use Rattle.std.proofs.Math.Nat.{min-le_right}
 use Rattle.std.specs.List.{list_all}

@@ -1,6 +1,6 @@
 -- The command line: the settings that a list of words asks for, or the mistake in it.
-use Rattle.std.specs.Prelude.{◌≡◌, ◌≢◌, ◌≤◌, ◌==◌, ◌∷◌, [], ◌&&◌, ◌||◌, ℕ, List, Option, Some, None, Bool, ⊤, true, false, codes, find, Result, Ok, Err}
-use Rattle.std.specs.Prelude.{is_some, length, map, not, option_and_then, option_map, if◌then◌else◌}
+use Rattle.std.specs.Prelude.{◌≡◌, ◌≢◌, ◌≤◌, ◌==◌, ◌∷◌, [], ◌||◌, ℕ, List, Option, Some, None, Bool, ⊤, true, false, codes, find, Result, Ok, Err}
+use Rattle.std.specs.Prelude.{length, map, option_and_then, option_map, if◌then◌else◌}
 use Rattle.std.specs.List.{list_any}
 use Rattle.std.specs.Option.{option_map_or, option_or}
 use Rattle.std.specs.Borrow.{Bor}

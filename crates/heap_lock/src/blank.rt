@@ -34,9 +34,11 @@ impl Model for Blank {
 
     ghost Value = { Maker };
 
-    ghost view = { λ b. maker_of b.config b.rolls b.seat_tables.items b.ledger b.unnamed_seats.items };
+    ghost view = { λ b.
+        maker_of b.config b.rolls b.seat_tables.items b.ledger b.unnamed_seats.items };
 
-    ghost invariant = { λ b. IsBlank b.config b.machine b.seat_tables.items b.unnamed_seats.items b.ledger };
+    ghost invariant = { λ b.
+        IsBlank b.config b.machine b.seat_tables.items b.unnamed_seats.items b.ledger };
 }
 
 /// The seats that nobody has taken yet, the next one first.

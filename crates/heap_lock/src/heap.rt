@@ -47,7 +47,13 @@ impl Heap for Brand {
     ghost use Rattle.heap_world.specs.Limits.{narrow_limits};
     ghost use Rattle.heap_lock.specs.LockStates.{no_table};
 
-    ghost config = { record { regions = 1; mutators = 1; keep = 1; ids = Eight; limits = narrow_limits } };
+    ghost config = { record {
+      regions = 1;
+      mutators = 1;
+      keep = 1;
+      ids = Eight;
+      limits = narrow_limits;
+    } };
 
     ghost rolls = { false };
 

@@ -94,8 +94,10 @@ impl HomeTable<TableSide> {
     ) -> Badge<TableSide>
         requires seat_table { HasCopy self.old }
         requires share { IsShare (table_of self.old) (entries_in share.views) share }
-        ensures seat_table { CopiesAs self.old self.new (entries_with self.old (turn, entry.now.value)) }
-        ensures share { IsShare share.table_id (entries_with self.old (turn, entry.now.value)) result }
+        ensures seat_table { CopiesAs self.old self.new
+            (entries_with self.old (turn, entry.now.value)) }
+        ensures share { IsShare share.table_id (entries_with self.old (turn, entry.now.value))
+            result }
         ensures same { entries_in share.views ≡ entries_of self.old.own.me.0 }
     {
         self.note::<Brand>(share, turn, entry)

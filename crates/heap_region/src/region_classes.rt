@@ -28,7 +28,8 @@ impl Model for RegionClasses {
 
     ghost view = { λ f. f.classes.items };
 
-    ghost invariant = { λ f. (length f.classes.items ≤ region_limit) × AreLowest f.classes.items f.lowest };
+    ghost invariant = { λ f. (length f.classes.items ≤ region_limit)
+        × AreLowest f.classes.items f.lowest };
 }
 
 // Returns the lowest region from this one on that has a class, or the number of regions.

@@ -217,8 +217,8 @@ impl<'a, L: Heap, R: Wait> Actor<'a, L, R> {
     /// Returns whether all claims stand in the history of the heap, under the lock: Holds, or Dropped exactly if the entry of a
     /// claim was dropped or isn't kept whole. The witness has seen all calls then. Takes no memory. May wait.
     pub fn audit(&mut self, witness: &mut Witness<L>) -> Verdict
-        ensures audited { IsAudited L.config L.rolls self.old.seat witness.old self.old.claims result
-            witness.new }
+        ensures audited { IsAudited L.config L.rolls self.old.seat witness.old self.old.claims
+            result witness.new }
         ensures stands { result ≢ Fails }
         ensures same { self.new ≡ self.old }
     {

@@ -138,8 +138,8 @@ impl<'a, P: Outlets, G: Gauge> LastDump<'a, P, G> {
         writer: &mut O,
         limits: SessionLimits,
     ) -> Saved<P, P::Out>
-        ensures saved { IsSaved limits (P.makes self.entry.place) local.old.first_pin self.entry.time
-            local.old.machine local.new.machine (I.seen reader.old) (I.seen reader.new)
+        ensures saved { IsSaved limits (P.makes self.entry.place) local.old.first_pin
+            self.entry.time local.old.machine local.new.machine (I.seen reader.old) (I.seen reader.new)
             (O.seen writer.old) (O.seen writer.new) (option_map P.Out.seen result.outlet)
             result.ended result.pumped }
         ensures first { local.new.first_pin ≡ local.old.first_pin }

@@ -205,7 +205,8 @@ impl Machine {
     /// NoMemory if an allocation fails.
     pub fn new(alloc: Global, config: Config) -> Result<Machine, Refusal>
         ensures opened { IfOk result
-            (λ m. m ≡ opening_machine config.limits config.ids config.regions config.mutators config.keep) }
+            (λ m. m ≡ opening_machine config.limits config.ids config.regions config.mutators
+            config.keep) }
         ensures refused { IfErr result (λ e. e ≡ NoMemory) }
     {
         let keep = config.keep();

@@ -336,7 +336,8 @@ impl World {
     /// Creates a heap: no class, each region empty, each register null. Reserves room for the gray stack. Fails with NoMemory
     /// if an allocation fails.
     pub fn new(alloc: Global, config: Config) -> Result<World, Refusal>
-        ensures opened { IfOk result (λ w. w ≡ opening_state config.limits config.regions config.mutators) }
+        ensures opened { IfOk result
+            (λ w. w ≡ opening_state config.limits config.regions config.mutators) }
         ensures refused { IfErr result (λ e. e ≡ NoMemory) }
     {
         let count = config.regions();

@@ -83,7 +83,8 @@ fn other_name(
 
 // Appends the number between two full stops. Fails if an allocation fails.
 fn push_number(text: &mut Vec<u8>, number: u64) -> Result<(), AllocError>
-    ensures { OnOk result (text.new.items ≡ text.old.items ++ (codes "." ++ decimal number ++ codes ".")) }
+    ensures { OnOk result
+        (text.new.items ≡ text.old.items ++ (codes "." ++ decimal number ++ codes ".")) }
 {
     text.extend_from_slice(b".")?;
     text.extend_from_slice(itoa::Buffer::new().format(number).as_bytes())?;

@@ -64,7 +64,8 @@ fn push_class(
     sup: Option<ClassNo>,
     fields: &[Field],
 ) -> Result<(), AllocError>
-    ensures { Appends (codes "class" ++ and_words (name.now ∷ super_word sup ∷ map field_word fields.now))
+    ensures { Appends
+        (codes "class" ++ and_words (name.now ∷ super_word sup ∷ map field_word fields.now))
         text.old.items text.new.items result }
 {
     push_words(text, b"class ")?;
@@ -121,7 +122,8 @@ fn push_field(text: &mut Vec<u8>, field: &Field) -> Result<(), AllocError>
 
 // Appends the line of an array class. Fails if an allocation fails.
 fn push_array_class(text: &mut Vec<u8>, name: &[u8]) -> Result<(), AllocError>
-    ensures { Appends (codes "array" ++ and_words (name.now ∷ [])) text.old.items text.new.items result }
+    ensures { Appends (codes "array" ++ and_words (name.now ∷ [])) text.old.items
+        text.new.items result }
 {
     push_words(text, b"array ")?;
     push_words(text, name)
@@ -149,7 +151,8 @@ fn push_numbers(text: &mut Vec<u8>, numbers: &[u64]) -> Result<(), AllocError>
 
 // Appends the line of a new array of values. Fails if an allocation fails.
 fn push_new_prim(text: &mut Vec<u8>, m: u64, r: u64, kind: Kind, len: u64) -> Result<(), AllocError>
-    ensures { Appends (codes "newprim" ++ and_words (decimal m ∷ decimal r ∷ kind_word kind ∷ decimal len ∷ []))
+    ensures { Appends
+        (codes "newprim" ++ and_words (decimal m ∷ decimal r ∷ kind_word kind ∷ decimal len ∷ []))
         text.old.items text.new.items result }
 {
     push_line(text, b"newprim", &[m, r])?;

@@ -115,14 +115,16 @@ impl Buffer {
 // Moves a range of a buffer to the front and reads once behind it.
 fn read_behind<I: Inlet>(bytes: &mut Vec<u8>, start: usize, end: usize, inlet: &mut I) -> Take
     requires range { (start ≤ end) × (end ≤ length bytes.old.items) × (end - start ≤ LINE_LIMIT) }
-    requires room { (length bytes.old.items ≤ buffer_limit) × (buffer_limit ≤ vec_capacity bytes.old) }
+    requires room { (length bytes.old.items ≤ buffer_limit)
+        × (buffer_limit ≤ vec_capacity bytes.old) }
     ensures read { IsInletRead (take (end - start) (drop start bytes.old.items))
         (take (end - start + count_of result) bytes.new.items) (I.seen inlet.old)
         (I.seen inlet.new) result }
     ensures kept { take (end - start) bytes.new.items
         ≡ take (end - start) (drop start bytes.old.items) }
     ensures fits { end - start + count_of result ≤ length bytes.new.items }
-    ensures room { (length bytes.new.items ≤ buffer_limit) × (buffer_limit ≤ vec_capacity bytes.new) }
+    ensures room { (length bytes.new.items ≤ buffer_limit)
+        × (buffer_limit ≤ vec_capacity bytes.new) }
 {
     widen(bytes, start, end);
     refill(bytes, start, end, inlet)
@@ -131,7 +133,8 @@ fn read_behind<I: Inlet>(bytes: &mut Vec<u8>, start: usize, end: usize, inlet: &
 // Puts all memory to use, if a read has filled what was: then `end` is the end of what is in use. A range up to there stays.
 fn widen(bytes: &mut Vec<u8>, start: usize, end: usize)
     requires range { (start ≤ end) × (end ≤ length bytes.old.items) }
-    requires room { (length bytes.old.items ≤ buffer_limit) × (buffer_limit ≤ vec_capacity bytes.old) }
+    requires room { (length bytes.old.items ≤ buffer_limit)
+        × (buffer_limit ≤ vec_capacity bytes.old) }
     ensures kept { take (end - start) (drop start bytes.new.items)
         ≡ take (end - start) (drop start bytes.old.items) }
     ensures range { (end ≤ length bytes.new.items) × (length bytes.new.items ≤ buffer_limit) }

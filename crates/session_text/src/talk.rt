@@ -33,8 +33,8 @@ pub fn serve<I: Inlet, O: Outlet, C: Commands>(
 ) -> Ended
     ensures ends { EndsSession limits (I.seen reader.old) (I.seen reader.new) (O.seen writer.old)
         (O.seen writer.new) result }
-    ensures text { Serves limits (AnswersCommand C.acts C.unknown time) (Begins C.acts C.unknown time)
-        (I.seen reader.old) (I.seen reader.new) commands.old (O.seen writer.old) commands.new
+    ensures text { Serves limits (AnswersCommand C.acts C.unknown time)
+        (Begins C.acts C.unknown time) (I.seen reader.old) (I.seen reader.new) commands.old (O.seen writer.old) commands.new
         (O.seen writer.new) result }
 {
     let Ok(mut session) = Session::new(alloc) else {
@@ -119,8 +119,8 @@ pub fn serve_local<I: Inlet, O: Outlet>(
     ensures ends { EndsSession limits (I.seen reader.old) (I.seen reader.new) (O.seen writer.old)
         (O.seen writer.new) result }
     ensures first { local.new.first_pin ≡ local.old.first_pin }
-    ensures session { IsSession limits local.old.machine time (I.seen reader.old) (I.seen reader.new)
-        (O.seen writer.old) (O.seen writer.new) local.new.machine result }
+    ensures session { IsSession limits local.old.machine time (I.seen reader.old)
+        (I.seen reader.new) (O.seen writer.old) (O.seen writer.new) local.new.machine result }
 {
     serve(alloc, reader, writer, local, time, limits)
 }

@@ -38,7 +38,8 @@ pub(crate) fn past_pin(alloc: Global, machine: &Machine, ago: u64) -> Result<Pin
 
 // Returns what a slot of the object at `at` holds in the state that a pin shows, or None if the object has no such slot.
 pub(crate) fn slot_of(pin: &Pin, world: &World, at: ObjRef, slot: u64) -> Option<SeenSlot>
-    requires { (w : HeapState) × IsShownBeside world.now pin.now w × IsSome (object_at w.regions at) }
+    requires { (w : HeapState)
+        × IsShownBeside world.now pin.now w × IsSome (object_at w.regions at) }
     ensures { (w : HeapState) → IsShownBeside world.now pin.now w → IsSome (object_at w.regions at)
         → result ≡ seen_slot w at slot }
 {

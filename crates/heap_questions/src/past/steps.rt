@@ -77,7 +77,8 @@ pub fn history(
 // Returns the sizes of the cells of all regions in the state of `ago` steps ago. Fails with NoMemory.
 fn sizes_ago(alloc: Global, machine: &Machine, ago: u64) -> Result<Vec<u64>, Refusal>
     requires { ago ≤ retained machine.now.trail }
-    ensures sizes { IfOk result (λ sizes. AreCellSizes (state_ago ago machine.now.trail) sizes.items) }
+    ensures sizes { IfOk result
+        (λ sizes. AreCellSizes (state_ago ago machine.now.trail) sizes.items) }
     ensures refused { IfErr result (λ e. e ≡ NoMemory) }
 {
     let _place = machine.place();

@@ -57,7 +57,8 @@ fn newest_writes(
 ) -> Result<Vec<SlotWrite>, Refusal>
     requires { ago + count ≤ retained machine.now.trail }
     ensures writes { IfOk result
-        (λ writes. AreLastWrites (rewound ago machine.now.trail) class slot count (reverse writes.items)) }
+        (λ writes. AreLastWrites (rewound ago machine.now.trail) class slot count
+        (reverse writes.items)) }
     ensures refused { IfErr result (λ e. e ≡ NoMemory) }
 {
     let place = machine.place();

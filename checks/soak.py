@@ -65,7 +65,7 @@ ANSWERS = {
     "histogram": f"ok {NUMBER} {NUMBER}", "garbage": f"ok {NUMBER} {NUMBER}", "registers": f"ok {NUMBER}", "path": f"ok {NUMBER}",
     "history": f"ok {NUMBER}", "pins": f"ok {NUMBER}", "objects": f"ok {NUMBER}", "cells": f"ok {NUMBER}", "status": "ok 8",
     "dominators": f"ok {NUMBER}", "dominator": f"ok {NUMBER}",
-    "regions": f"ok {NUMBER}", "kept": f"ok {NUMBER} {NUMBER}",
+    "regions": f"ok {NUMBER}", "kept": f"ok {NUMBER} {NUMBER}", "diff": f"ok {NUMBER}",
     "retained": f"ok {NUMBER} {NUMBER}", "watch": f"ok {NUMBER}", "writes": f"ok {NUMBER}", "values": f"ok {NUMBER}",
     "collect": f"ok condemned {NUMBER} swept {NUMBER}",
 }
@@ -78,6 +78,7 @@ ROWS = {
     "dominators": f"{ID} {NUMBER} {NUMBER} {NAMED}", "dominator": f"{ID} {NAMED}",
     "retained": f"{NUMBER} {NUMBER} {NAMED}", "kept": f"{NUMBER} {NUMBER} {NAMED}", "watch": f"{NUMBER} ({NUMBER} {NUMBER}|(null|{ID}) (null|{ID}))",
     "writes": f"{NUMBER} {ID} ({NUMBER} {NUMBER}|(null|{ID}) (null|{ID}))",
+    "diff": f"{ID} (made|gone|{NUMBER} ({NUMBER} {NUMBER}|(null|{ID}) (null|{ID})))",
     "values": f"({NUMBER}|null|{ID}) {NUMBER}",
     "path": f"([0-3] [0-7] {ID}|{ID} {NUMBER} {ID})", "history": f"{NUMBER} [a-z]+.*", "pins": f"{NUMBER} {NUMBER} (held {NUMBER}|lost Rewound)",
 }
@@ -114,6 +115,7 @@ def line_by_lot(lot):
         (1, f"retained {lot.choice(['', '- '])}0x{0x10000000 + lot.randrange(1 << 12) * 8:08x}"),
         (1, f"dominators {lot.choice(['', '-', '5', '- 5'])}"),
         (1, f"dominators 0x{0x10000000 + lot.randrange(1 << 8) * 32:08x}{lot.choice(['', ' 5'])}"),
+        (0.3, f"diff @{lot.randrange(3000)}{lot.choice(['', ' -', f' @{lot.randrange(3000)}'])}"),
         (1, f"dominator {lot.choice(['', '- '])}0x{0x10000000 + lot.randrange(1 << 12) * 8:08x}"),
         (1, f"watch 0x{0x10000000 + lot.randrange(1 << 8) * 32:08x} {slot}{lot.choice(['', f' @{lot.randrange(3000)}'])}"),
         (0.3, f"writes {lot.randrange(3)} {slot}{lot.choice(['', f' @{lot.randrange(3000)}', f' @{lot.randrange(3000)} -'])}"),

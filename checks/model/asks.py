@@ -13,6 +13,7 @@ WANTED = {
     "garbage": ABOUT_A_MOMENT,
     "growth": ABOUT_A_MOMENT,
     "kept": ("ok nothing", "ok some", *ABOUT_A_MOMENT[1:]),
+    "diff": ("ok nothing", "ok some", *ABOUT_A_MOMENT[1:]),
     "path": (*ABOUT_A_MOMENT, "no 27", "no 28"),
     "retained": ("ok nothing", "ok itself", "ok more", "ok without AT", "no 22", "no 23", "no 24", "no 28"),
     "dominators": (
@@ -58,7 +59,7 @@ def sorts(word, form, words, left_out, last):
         yield "ok of class" if form == "ac" else "ok by value"
     elif word == b"values" and last[0] == "ok":
         yield "ok " + {"0": "nothing", "1": "some"}.get(last[1], "several")
-    elif word in (b"watch", b"writes", b"kept", b"dominators", b"dominator") and last[0] == "ok":
+    elif word in (b"watch", b"writes", b"kept", b"diff", b"dominators", b"dominator") and last[0] == "ok":
         below = " below" if word == b"dominators" and "i" in form else ""
         yield ("ok nothing" if last[1] == "0" else "ok some") + below
         if word == b"dominators" and form.endswith("n") and last[1] != "0":

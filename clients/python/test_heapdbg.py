@@ -181,6 +181,26 @@ class Replies(unittest.TestCase):
             self.assertEqual([(row.objects, row.class_name) for row in heap.kept("@1")], [(1, "Node")])
             self.assertEqual((heap.kept("@2"), heap.kept("@1", "@1")), ([], []))
 
+    def test_diff(self):
+        rows = "row 0x10000000 gone", "row 0x10000020 made", "row 0x10000040 1 7 8", "row 0x10000060 0 null 0x10000020"
+        heap = canned(*rows, "ok 4", "ok 0")
+        gone, made, value, reference = heap.diff(Place(7))
+        self.assertEqual((gone, made), ((0x10000000, "gone"), (0x10000020, "made")))
+        self.assertEqual((gone.id, made.change), (0x10000000, "made"))
+        self.assertEqual((value.id, value.slot, value.old, value.new), (0x10000040, 1, 7, 8))
+        self.assertEqual(reference, (0x10000060, 0, None, 0x10000020))
+        self.assertEqual(heap.diff(1, PinAt(2, 9)), [])
+        self.assertEqual(heap.writer.getvalue(), b"diff @7 -\ndiff 1 2\n")
+
+    def test_diff_of_a_heap(self):
+        with session("--questions", "1") as heap:
+            heap.define_class("Node", NODE)
+            first = heap.new(0, 0, 0)
+            second = heap.new(0, 1, 0)
+            heap.store(0, 0, 0, 1)
+            self.assertEqual(heap.diff("@2"), [(first, 0, None, second), (second, "made")])
+            self.assertEqual((heap.diff("@3", "@2"), heap.diff("@4", "@4")), ([(second, "gone")], []))
+
     def test_dominators_of_an_object(self):
         heap = canned("row 0x10000020 1 16 Node", "ok 1", "ok 0", "ok 0")
         self.assertEqual(heap.dominators(of=0x10000000), [(0x10000020, 1, 16, "Node")])

@@ -22,6 +22,7 @@ from .rows import (
     ListedObject,
     LostPin,
     NullRegister,
+    ObjectDifference,
     ObjectId,
     PastStep,
     Piece,
@@ -30,6 +31,7 @@ from .rows import (
     RegisterReference,
     RegisterStep,
     SlotChange,
+    SlotDifference,
     SlotReference,
     SlotRow,
     SlotStep,
@@ -45,5 +47,5 @@ __all__ += ["NotDoneFacts", "RegionFact", "TooFarFacts", "LostFact"]
 __all__ += ["Moment", "Now", "Place", "Pin", "PinAt", "ObjectId", "Swept", "Collected", "Piece"]
 __all__ += ["Cells", "ClassCount", "ClassGrowth", "ClassRow", "Dominator", "Field", "HeldPin", "Holding", "LostPin", "ListedObject"]
 __all__ += ["NullRegister", "Register", "PastStep", "RegisterReference", "RegisterStep", "SlotChange", "SlotReference", "SlotRow"]
-__all__ += ["RegionRow", "SlotStep", "SlotValue", "SlotWrite", "When"]
+__all__ += ["ObjectDifference", "RegionRow", "SlotDifference", "SlotStep", "SlotValue", "SlotWrite", "When"]
 __all__ += ["Recorder", "Call", "Cost", "UnknownName"]

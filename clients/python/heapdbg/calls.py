@@ -17,6 +17,7 @@ from .rows import (
     ListedObject,
     LostPin,
     NullRegister,
+    ObjectDifference,
     ObjectId,
     PastStep,
     Piece,
@@ -26,6 +27,7 @@ from .rows import (
     RegisterReference,
     RegisterStep,
     SlotChange,
+    SlotDifference,
     SlotReference,
     SlotRow,
     SlotStep,
@@ -39,6 +41,7 @@ from .rows import (
     collected,
     counted,
     defined,
+    difference,
     dominating,
     facts_by_name,
     grown,
@@ -220,6 +223,11 @@ class Calls:
         """Returns a `ClassCount` for each class of the objects that registers reach at the newer moment and that weren't there at
         the older one."""
         return self.send(f"kept {word_of_moment(older)} {word_of_moment(newer)}", rows_by(counted))
+
+    def diff(self, older: Moment, newer: Moment = None) -> list[Union[ObjectDifference, SlotDifference]]:
+        """Returns what differs between the objects of two moments, by id: an `ObjectDifference` for each object of one of them alone,
+        and a `SlotDifference` for each slot of an object of both that holds other values."""
+        return self.send(f"diff {word_of_moment(older)} {word_of_moment(newer)}", rows_by(difference))
 
     def path(self, moment: Moment, to: int) -> list[Union[RegisterStep, SlotStep]]:
         """Returns a shortest path to an object: a `RegisterStep`, then a `SlotStep` for each slot."""

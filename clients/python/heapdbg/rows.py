@@ -70,6 +70,22 @@ class ClassGrowth(NamedTuple):
     new_bytes: int
 
 
+class ObjectDifference(NamedTuple):
+    """An object of one of two moments alone: `change` is `"made"` if that is the newer, and `"gone"` if it is the older."""
+
+    id: ObjectId
+    change: str
+
+
+class SlotDifference(NamedTuple):
+    """A slot of an object that holds other values at two moments: its object, its number, and both values."""
+
+    id: ObjectId
+    slot: int
+    old: Union[ObjectId, int, None]
+    new: Union[ObjectId, int, None]
+
+
 class RegisterStep(NamedTuple):
     """The first row of a path: a register, and the object that it names."""
 
@@ -406,6 +422,13 @@ def changed(row: list) -> SlotChange:
 def written(row: list) -> SlotWrite:
     """Reads PLACE ID OLD NEW, of which OLD and NEW are numbers, ids and null."""
     return SlotWrite(int(row[0]), ObjectId(row[1], 16), number_or_id(row[2]), number_or_id(row[3]))
+
+
+def difference(row: list) -> Union[ObjectDifference, SlotDifference]:
+    """Reads ID made, ID gone, or ID SLOT OLD NEW, of which OLD and NEW are numbers, ids and null."""
+    if len(row) == 2:
+        return ObjectDifference(ObjectId(row[0], 16), row[1])
+    return SlotDifference(ObjectId(row[0], 16), int(row[1]), number_or_id(row[2]), number_or_id(row[3]))
 
 
 def past(row: list) -> PastStep:

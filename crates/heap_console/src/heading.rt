@@ -16,6 +16,7 @@ enum Rows {
     Mixed,
     Counts,
     Growth,
+    Differences,
     Dominators,
     Holders,
     Registers,
@@ -69,6 +70,7 @@ fn rows_of(keyword: &str) -> Rows {
     match keyword {
         "histogram" | "garbage" | "kept" | "retained" => Rows::Counts,
         "growth" => Rows::Growth,
+        "diff" => Rows::Differences,
         "dominators" => Rows::Dominators,
         "dominator" => Rows::Holders,
         "registers" => Rows::Registers,
@@ -92,6 +94,7 @@ fn names_of(rows: Rows) -> &'static str {
         Rows::Mixed => "",
         Rows::Counts => "OBJECTS BYTES CLASS",
         Rows::Growth => "CLASS OBJECTS BYTES OBJECTS BYTES",
+        Rows::Differences => "ID SLOT OLD NEW",
         Rows::Dominators => "ID OBJECTS BYTES CLASS",
         Rows::Holders => "ID CLASS",
         Rows::Registers => "M R ID CLASS",

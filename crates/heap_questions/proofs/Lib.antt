@@ -33,3 +33,4 @@ pub mod SeenSlots
 pub mod ListedObjects
 pub mod GrayMarks
 pub mod CountedCells
+pub mod DifferentObjects

@@ -17,24 +17,24 @@ use Rattle.heap_questions.specs.Referrers.{names_at, naming_slots}
 use Rattle.heap_questions.specs.declared.references.Referrer.{Referrer}
 
 -- the first n numbers that pass, each as f makes it
-abbrev pub passing : (ℕ → Bool) → (ℕ → Referrer) → ℕ → List Referrer
+abbrev pub passing : {X : Type 0} → (ℕ → Bool) → (ℕ → X) → ℕ → List X
 passing p f n = map f (filter p (range_with_len 0 n))
 
 pub one_more_number : (n : ℕ) → range_with_len 0 (n + 1) ≡ range_with_len 0 n ++ n ∷ []
 one_more_number n = sym (map-id (range_with_len 0 (n + 1))) ∙ map-range_with_len_more (λ k. k) 0 n n (omega arith) ∙ ap (λ l. l ++ n ∷ []) (map-id (range_with_len 0 n))
 
-passing_more : (p : ℕ → Bool) (f : ℕ → Referrer) (n : ℕ) → passing p f (n + 1) ≡ passing p f n ++ map f (cond (p n) (n ∷ []) [])
+passing_more : {X : Type 0} (p : ℕ → Bool) (f : ℕ → X) (n : ℕ) → passing p f (n + 1) ≡ passing p f n ++ map f (cond (p n) (n ∷ []) [])
 passing_more p f n =
     ap (λ l. map f (filter p l)) (one_more_number n)
     ∙ ap (map f) (filter-append p (range_with_len 0 n) (n ∷ []))
     ∙ map-append f (filter p (range_with_len 0 n)) (cond (p n) (n ∷ []) [])
 
-pub passes : (p : ℕ → Bool) (f : ℕ → Referrer) (n : ℕ) (old now new : List Referrer) → p n ≡ true → now ≡ old ++ passing p f n → new ≡ now ++ f n ∷ [] → new ≡ old ++ passing p f (n + 1)
+pub passes : {X : Type 0} (p : ℕ → Bool) (f : ℕ → X) (n : ℕ) (old now new : List X) → p n ≡ true → now ≡ old ++ passing p f n → new ≡ now ++ f n ∷ [] → new ≡ old ++ passing p f (n + 1)
 passes p f n old now new t h e =
     e ∙ ap (λ l. l ++ f n ∷ []) h ∙ append_assoc old (passing p f n) (f n ∷ [])
     ∙ ap (λ l. old ++ l) (sym (passing_more p f n ∙ ap (λ b. passing p f n ++ map f (cond b (n ∷ []) [])) t))
 
-pub fails : (p : ℕ → Bool) (f : ℕ → Referrer) (n : ℕ) (old now : List Referrer) → p n ≡ false → now ≡ old ++ passing p f n → now ≡ old ++ passing p f (n + 1)
+pub fails : {X : Type 0} (p : ℕ → Bool) (f : ℕ → X) (n : ℕ) (old now : List X) → p n ≡ false → now ≡ old ++ passing p f n → now ≡ old ++ passing p f (n + 1)
 fails p f n old now t h =
     h ∙ ap (λ l. old ++ l) (sym (passing_more p f n ∙ ap (λ b. passing p f n ++ map f (cond b (n ∷ []) [])) t ∙ append-nil (passing p f n)))
 

@@ -19,3 +19,4 @@ pub mod Losses
 pub mod Cells
 pub mod RegionCounts
 pub mod PastTrails
+pub mod Differences

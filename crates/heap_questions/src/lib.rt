@@ -2,6 +2,7 @@
 #![tactic(auto)]
 
 mod cells;
+mod differences;
 mod dominators;
 mod garbage;
 mod growth;
@@ -22,6 +23,7 @@ mod search;
 mod wanted;
 
 pub use cells::{CellState, CellStates};
+pub use differences::{Difference, object_differences};
 pub use dominators::{RetainedObjects, count_retained, retained_by_cut};
 pub use garbage::count_garbage;
 pub use growth::{Change, compare};

@@ -108,20 +108,6 @@ pub(crate) fn count_unmarked<V: View>(
     Ok(Histogram(rows))
 }
 
-// Returns the number of the row in which an object of this kind is counted.
-#[tactic(auto, unfolding(crate::specs::Histogram::row_number))]
-fn row_number(classes: &FirstClasses<'_>, kind: ObjKind, words: u64) -> usize
-    requires { IsKnown classes.now kind words }
-    ensures value { result ≡ row_number kind }
-    ensures within { result < class_rows + length classes.now }
-{
-    let _count = classes.len();
-    match kind {
-        ObjKind::Instance(class) | ObjKind::Array(class) => CLASS_ROWS + class as usize,
-        ObjKind::Prim(kind) => kind_row(kind),
-    }
-}
-
 // Counts an object of `bytes` bytes in its row, unless it is marked.
 fn count(rows: &mut Vec<Row>, index: usize, bytes: u64, marked: bool)
     requires within { index < length rows.old.items }
@@ -142,6 +128,20 @@ fn mark_at(marks: &[bool], index: usize) -> bool
     ensures { result ≡ slice_index_or marks.now index false }
 {
     index < marks.len() && marks[index]
+}
+
+// Returns the number of the row in which an object of this kind is counted.
+#[tactic(auto, unfolding(crate::specs::Histogram::row_number))]
+pub(crate) fn row_number(classes: &FirstClasses<'_>, kind: ObjKind, words: u64) -> usize
+    requires { IsKnown classes.now kind words }
+    ensures value { result ≡ row_number kind }
+    ensures within { result < class_rows + length classes.now }
+{
+    let _count = classes.len();
+    match kind {
+        ObjKind::Instance(class) | ObjKind::Array(class) => CLASS_ROWS + class as usize,
+        ObjKind::Prim(kind) => kind_row(kind),
+    }
 }
 
 /// Counts the objects of a view: those of class `k` in row `CLASS_ROWS + k`, and arrays of values in the row of their kind. Fails

@@ -8,10 +8,11 @@ use Rattle.hprof_text.specs.Image.{Image}
 use Rattle.question_text.specs.declared.answers.PairQuestion.{PairQuestion}
 use Rattle.question_text.specs.declared.answers.StateQuestion.{StateQuestion}
 use Rattle.question_text.specs.declared.question.Question.{Question}
-use Rattle.question_text.specs.declared.question.Question.TheVariants.{Histogram, Garbage, Growth, Kept, Registers, Classes, Objects, Values, Referrers, Path, Retained, Dominators, Dominated, Dominator, Show, Born, Wrote, Watch, Writes, Dropped, History, Pins, Cells, Regions, Status}
+use Rattle.question_text.specs.declared.question.Question.TheVariants.{Histogram, Garbage, Growth, Kept, Diff, Registers, Classes, Objects, Values, Referrers, Path, Retained, Dominators, Dominated, Dominator, Show, Born, Wrote, Watch, Writes, Dropped, History, Pins, Cells, Regions, Status}
 use Rattle.question_text.specs.Births.{IsBornText}
 use Rattle.question_text.specs.CellLists.{IsCellsText}
 use Rattle.question_text.specs.ClassLists.{IsClassesText}
+use Rattle.question_text.specs.Diffs.{IsDiffText}
 use Rattle.question_text.specs.DominatorRows.{IsDominatedText, IsDominatorText, IsDominatorsText}
 use Rattle.question_text.specs.Histograms.{IsGarbageText, IsHistogramText, IsRetainedText}
 use Rattle.question_text.specs.Moments.{IsAnswerAbout, IsAnswerBetween, image_at, refused_text}
@@ -55,6 +56,7 @@ IsStateText (StateQuestion.Show x marked) ids = IsShowText x marked
 abbrev pub IsPairText : PairQuestion → IdSize → Image → Image → List ℕ → Type 0
 IsPairText PairQuestion.Growth ids = IsGrowthText ids
 IsPairText PairQuestion.Kept ids = IsKeptText ids
+IsPairText PairQuestion.Diff ids = IsDiffText
 
 -- what is printed: the lines, or the refusal
 abbrev pub lines_text : Result (Vec ℕ) Refusal → List ℕ
@@ -69,6 +71,8 @@ IsAnswer (Growth older newer) m acts text =
     IsAnswerBetween (IsGrowthText m.ids) (image_at older m) (image_at newer m) text
 IsAnswer (Kept older newer) m acts text =
     IsAnswerBetween (IsKeptText m.ids) (image_at older m) (image_at newer m) text
+IsAnswer (Diff older newer) m acts text =
+    IsAnswerBetween IsDiffText (image_at older m) (image_at newer m) text
 IsAnswer (Registers at) m acts text = IsAnswerAbout IsRegistersText (image_at at m) text
 IsAnswer (Classes at) m acts text = IsAnswerAbout IsClassesText (image_at at m) text
 IsAnswer (Objects at wanted) m acts text =

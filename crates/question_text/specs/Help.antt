@@ -21,6 +21,7 @@ question_forms =
     ∷ form_of (codes "garbage") (codes "garbage [AT]") (codes "garbage 1")
     ∷ form_of (codes "growth") (codes "growth AT [AT]") (codes "growth @120 -")
     ∷ form_of (codes "kept") (codes "kept AT [AT]") (codes "kept @120 -")
+    ∷ form_of (codes "diff") (codes "diff AT [AT]") (codes "diff @120 -")
     ∷ form_of (codes "registers") (codes "registers [AT]") (codes "registers -")
     ∷ form_of (codes "classes") (codes "classes [AT]") (codes "classes -")
     ∷ form_of (codes "objects") (codes "objects [AT [CLASS [SLOT VALUE]]]") (codes "objects - 0 1 42")

@@ -5,7 +5,7 @@ use Rattle.session_grammar.specs.Grammar.{at_end, next_number, number_of_word, w
 use Rattle.question_text.specs.declared.question.At.{At}
 use Rattle.question_text.specs.declared.question.At.TheVariants.{Current, Pin, Place}
 use Rattle.question_text.specs.declared.question.Question.{Question}
-use Rattle.question_text.specs.declared.question.Question.TheVariants.{Histogram, Garbage, Growth, Kept, Registers, Classes, Objects, Values, Referrers, Path, Retained, Dominators, Dominated, Dominator, Show, Born, Wrote, Watch, Writes, Dropped, History, Pins, Cells, Regions, Status}
+use Rattle.question_text.specs.declared.question.Question.TheVariants.{Histogram, Garbage, Growth, Kept, Diff, Registers, Classes, Objects, Values, Referrers, Path, Retained, Dominators, Dominated, Dominator, Show, Born, Wrote, Watch, Writes, Dropped, History, Pins, Cells, Regions, Status}
 use Rattle.question_text.specs.declared.question.Span.{Span}
 use Rattle.question_text.specs.declared.question.Span.TheVariants.{AllSteps, Between}
 use Rattle.std.specs.Option.{option_or}
@@ -231,6 +231,7 @@ question_rules =
     ∷ (codes "objects", λ ws. option_map (λ a. Objects a.0 a.1) (at_and_wanted ws))
     ∷ (codes "values", λ ws. option_map (λ a. Values a.0 a.1.0 a.1.1) (at_and_slot ws))
     ∷ (codes "kept", λ ws. option_map (λ a. Kept a.0 a.1) (at_and_optional ws))
+    ∷ (codes "diff", λ ws. option_map (λ a. Diff a.0 a.1) (at_and_optional ws))
     ∷ (codes "referrers", λ ws. option_map (λ a. Referrers a.0 a.1) (optional_at_and_id ws))
     ∷ (codes "path", λ ws. option_map (λ a. Path a.0 a.1) (optional_at_and_id ws))
     ∷ (codes "retained", λ ws. option_map (λ a. Retained a.0 a.1) (optional_at_and_id ws))

@@ -10,6 +10,7 @@ use crate::birth::born_answer;
 use crate::cell_list::cells_answer;
 use crate::class_list::classes_answer;
 use crate::comment::unasked_answer;
+use crate::diff::diff_text;
 use crate::dominator_rows::{dominated_answer, dominator_answer, dominators_answer};
 use crate::growth::growth_answer;
 use crate::histogram::{garbage_text, histogram_text, retained_answer};
@@ -75,6 +76,8 @@ enum PairQuestion {
     Growth,
     // What is reached in the newer state and isn't in the older, as a histogram has it.
     Kept,
+    // What differs between their objects.
+    Diff,
 }
 
 /// Returns the answer of a question about a machine, which may have a chronicle of this length, or the refusal NoMemory if an
@@ -90,6 +93,9 @@ pub fn answer(alloc: Global, machine: &Machine, acts: Option<u64>, question: Que
         }
         Question::Kept { older, newer } => {
             pair_answer(alloc, machine, older, newer, PairQuestion::Kept)
+        }
+        Question::Diff { older, newer } => {
+            pair_answer(alloc, machine, older, newer, PairQuestion::Diff)
         }
         Question::Registers(at) => state_answer(alloc, machine, at, StateQuestion::Registers),
         Question::Classes(at) => state_answer(alloc, machine, at, StateQuestion::Classes),
@@ -260,6 +266,7 @@ fn pair_lines(
     match asked {
         PairQuestion::Growth => or_refused(growth_answer(alloc, older, newer)),
         PairQuestion::Kept => or_refused(kept_text(alloc, older, newer)),
+        PairQuestion::Diff => or_refused(diff_text(alloc, older, newer)),
     }
 }
 

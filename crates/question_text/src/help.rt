@@ -19,6 +19,7 @@ pub fn question_help(word: &[u8]) -> Option<&'static [u8]>
         b"garbage" => Some(b"row garbage [AT]\nrow garbage 1\nok\n"),
         b"growth" => Some(b"row growth AT [AT]\nrow growth @120 -\nok\n"),
         b"kept" => Some(b"row kept AT [AT]\nrow kept @120 -\nok\n"),
+        b"diff" => Some(b"row diff AT [AT]\nrow diff @120 -\nok\n"),
         b"registers" => Some(b"row registers [AT]\nrow registers -\nok\n"),
         b"classes" => Some(b"row classes [AT]\nrow classes -\nok\n"),
         b"objects" => Some(b"row objects [AT [CLASS [SLOT VALUE]]]\nrow objects - 0 1 42\nok\n"),
@@ -95,7 +96,7 @@ pub fn all_help() -> &'static [u8]
         row load M TO FROM SLOT\nrow store M TARGET SLOT SOURCE\nrow put M TARGET SLOT VALUE\nrow move M TO FROM_M FROM\nrow clear M R\n\
         row snap\nrow mark\nrow drain\nrow finish\nrow sweep REGION\n\
         row rewind N\nrow open AT\nrow piece PIN\nrow dump PIN\nrow close PIN\nrow end\n\
-        row histogram [AT]\nrow garbage [AT]\nrow growth AT [AT]\nrow kept AT [AT]\nrow registers [AT]\nrow classes [AT]\n\
+        row histogram [AT]\nrow garbage [AT]\nrow growth AT [AT]\nrow kept AT [AT]\nrow diff AT [AT]\nrow registers [AT]\nrow classes [AT]\n\
         row objects [AT [CLASS [SLOT VALUE]]]\nrow values [AT] CLASS SLOT\nrow referrers [AT] ID\nrow path [AT] ID\nrow retained [AT] ID\nrow dominators [AT] [ID] [N]\nrow dominator [AT] ID\nrow show [AT] ID\n\
         row born [@PLACE] ID\nrow wrote [@PLACE] ID SLOT\nrow watch ID SLOT [@PLACE]\nrow writes CLASS SLOT [@PLACE [@PLACE]]\nrow dropped [@PLACE] ID\nrow history [@PLACE] N\nrow pins\nrow cells\nrow regions\nrow status\nrow collect\n\
         row help WORD\nok\n"

@@ -26,6 +26,7 @@ mod class_list;
 mod class_slot;
 mod comment;
 mod cycle;
+mod diff;
 mod dominator_rows;
 mod growth;
 mod help;

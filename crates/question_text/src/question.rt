@@ -41,6 +41,8 @@ pub enum Question {
     Growth { older: At, newer: At },
     /// What is reached in the newer state and isn't in the older, as a histogram has it.
     Kept { older: At, newer: At },
+    /// What differs between the objects of two states.
+    Diff { older: At, newer: At },
     /// What each register names.
     Registers(At),
     /// The classes.
@@ -163,6 +165,10 @@ fn later_question(keyword: &[u8], words: Words) -> Option<Question>
     if is_word(keyword, b"kept") {
         let (older, newer) = at_and_optional(words)?;
         return Some(Question::Kept { older, newer });
+    }
+    if is_word(keyword, b"diff") {
+        let (older, newer) = at_and_optional(words)?;
+        return Some(Question::Diff { older, newer });
     }
     if is_word(keyword, b"referrers") {
         let (at, id) = optional_at_and_id(words)?;

@@ -14,7 +14,7 @@ use Rattle.heap_class.specs.Classes.{Class}
 use Rattle.hprof_text.specs.Image.{DumpedObject, Image, IsDumpable, IsKnown}
 use Rattle.hprof_text.proofs.Loops.{item_of_list_within}
 use Rattle.heap_questions.specs.Differences.{AreIdsOfBoth, IsKnownIf, differences_of}
-use Rattle.heap_questions.specs.Graph.{HasId, object_with}
+use Rattle.heap_questions.specs.Graph.{object_with}
 use Rattle.heap_questions.specs.declared.differences.Difference.{Difference}
 use Rattle.heap_questions.proofs.NodePlaces.{one_more}
 

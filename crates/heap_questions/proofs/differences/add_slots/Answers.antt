@@ -1,5 +1,5 @@
-use Rattle.std.proofs.Common.{◌≡◌, ◌∙◌, ◌++◌, ◌==◌, ◌∷◌, [], Bool, List, Vec, Global, ap, ap₂, arith, get_or, length, sym, ℕ}
-use Rattle.std.specs.Prelude.{not, slice_index}
+use Rattle.std.proofs.Common.{◌≡◌, ◌∙◌, ◌++◌, ◌==◌, ◌∷◌, [], Bool, List, Vec, Global, ap, ap₂, arith, length, sym, ℕ}
+use Rattle.std.specs.Prelude.{not}
 use Rattle.std.proofs.lemmas.Bool.{eq-eqb, ne_eqb}
 use Rattle.heap_questions.specs.Differences.{changes_of_slots, differs_at, slot_seen}
 use Rattle.heap_questions.specs.declared.differences.Difference.{Difference}

@@ -1,6 +1,6 @@
 -- The ids of the objects of two images, and what differs between the objects with each.
-use Rattle.std.proofs.Common.{◌≡◌, ℕ, zero, suc, ◌+◌, ◌<◌, ◌==◌, Bool, true, false, cond, List, [], ◌∷◌, ◌++◌, length, map, take, get_or, refl, sym, ap, ◌∙◌, subst, inl, inr, arith, append_assoc, eqb}
-use Rattle.std.specs.Prelude.{Contains, IfSome, IsSome, Option, Some, find, flat_map, slice_get}
+use Rattle.std.proofs.Common.{◌≡◌, ℕ, zero, suc, ◌+◌, ◌<◌, ◌==◌, Bool, true, false, cond, List, [], ◌∷◌, ◌++◌, length, map, take, get_or, refl, sym, ap, ◌∙◌, subst, inl, inr, arith, eqb}
+use Rattle.std.specs.Prelude.{Contains, IsSome, Some, find, flat_map}
 use Rattle.std.specs.List.{AllByRecursion, dedup}
 use Rattle.std.specs.List.Sorted.{IsPermutation, IsSorted, IsStrictlyIncreasing}
 use Rattle.std.specs.Ordering.{nat_cmp}
@@ -12,11 +12,9 @@ use Rattle.std.proofs.lemmas.List.Sorted.{Contains-permutation, IsPermutation-sy
 use Rattle.std.proofs.lemmas.Map.Keys.{IsStrictlyIncreasing-dedup}
 use Rattle.heap_class.specs.Classes.{Class}
 use Rattle.hprof_text.specs.Image.{DumpedObject, Image, IsDumpable, IsKnown}
-use Rattle.hprof_text.proofs.Loops.{item_of_list_within}
 use Rattle.heap_questions.specs.Differences.{AreIdsOfBoth, IsKnownIf, differences_of}
 use Rattle.heap_questions.specs.Graph.{object_with}
 use Rattle.heap_questions.specs.declared.differences.Difference.{Difference}
-use Rattle.heap_questions.proofs.NodePlaces.{one_more}
 
 -- ---- ids
 
@@ -39,15 +37,6 @@ listed_id_is_found x (o ∷ os) c = go (λ d. listed_id_is_found x os d) (o.id =
     go on true e k l g = refl
     go on false e zero l g = absurd (false≢true (sym e ∙ eq-eqb o.id x g))
     go on false e (suc k) l g = on (k, omega (arith, l), g)
-
-pub ids_with_one_object_more : (objects : List DumpedObject) (i x : ℕ) (old before after : List ℕ) → i < length objects → IfSome (slice_get objects i) (λ o. x ≡ o.id) → before ≡ old ++ ids_of (take i objects) → after ≡ before ++ x ∷ [] → after ≡ old ++ ids_of (take (i + 1) objects)
-ids_with_one_object_more objects i x old before after l d a e =
-    let o = item_of_list_within objects i l in
-    let same : x ≡ o.0.id = subst (λ (y : Option DumpedObject). IfSome y (λ o. x ≡ o.id)) o.1 d in
-    e ∙ ap (λ (xs : List ℕ). xs ++ x ∷ []) a
-    ∙ append_assoc old (ids_of (take i objects)) (x ∷ [])
-    ∙ ap (λ (y : ℕ). old ++ (ids_of (take i objects) ++ y ∷ [])) same
-    ∙ ap (λ (xs : List ℕ). old ++ xs) (sym (one_more (λ (o : DumpedObject). o.id) objects i o.0 o.1))
 
 -- the ids of both, sorted and without those that stand there twice
 pub sorted_ids_are_of_both : (older newer : Image) (ids sorted after : List ℕ) → ids ≡ ids_of older.objects ++ ids_of newer.objects → IsPermutation ids sorted → IsSorted nat_cmp sorted → after ≡ dedup eqb sorted → AreIdsOfBoth older newer after

@@ -81,7 +81,7 @@ node_place image places nodes j n h g = ap (λ l. slice_get l j) (sym h.placed) 
 
 -- ---- node by node
 
-pub one_more : {X : Type 0} (f : X → ℕ) (xs : List X) (i : ℕ) (x : X) → slice_get xs i ≡ Some x → map f (take (i + 1) xs) ≡ map f (take i xs) ++ f x ∷ []
+one_more : {X : Type 0} (f : X → ℕ) (xs : List X) (i : ℕ) (x : X) → slice_get xs i ≡ Some x → map f (take (i + 1) xs) ≡ map f (take i xs) ++ f x ∷ []
 one_more f xs i x h = map_more f xs i x (slice_get_within xs i x h) ∙ ap (λ y. map f (take i xs) ++ f y ∷ []) (get_or_from_slice_get xs i x x h)
 
 pub ids_more : (image : Image) (nodes new : List Node) (at : ObjRef) (x : ℕ) → length nodes < length image.objects → IfSome (slice_get image.objects (length nodes)) (λ o. x ≡ o.id) → map (λ n. n.id) nodes ≡ map (λ o. o.id) (take (length nodes) image.objects)

@@ -31,8 +31,8 @@ pub enum Difference {
 
 /// Lists what differs between the objects of an older view and a newer one, by id, and the slots of an object by number: the objects
 /// that one view alone shows, and the slots of objects of both that hold other words. An object that is of another class or length in
-/// the newer view is listed as gone, and then as made. Fails with NoMemory if an allocation fails. Reads each object at most three
-/// times, and compares n objects about n log n times.
+/// the newer view is listed as gone, and then as made. Fails with NoMemory if an allocation fails. Reads each object at most twice. If
+/// ids rise in both, as those of a heap do, both are walked once, side by side; else n ids are compared about n log n times.
 pub fn object_differences<V: View>(
     alloc: Global,
     older: &V,
@@ -42,52 +42,9 @@ pub fn object_differences<V: View>(
         AreDifferences (V.image older.now) (V.image newer.now) rows.items) }
     ensures refused { IfErr result (λ e. e ≡ NoMemory) }
 {
-    let ids = ids_of_both(alloc, older, newer)?;
-    compare_all(alloc, older, newer, ids.as_slice())
-}
-
-// Lists the ids of the objects of two views, each once, in order. Fails if an allocation fails. Reads each id once.
-fn ids_of_both<V: View>(alloc: Global, older: &V, newer: &V) -> Result<Vec<u64>, AllocError>
-    ensures { IfOk result (λ ids.
-        AreIdsOfBoth (V.image older.now) (V.image newer.now) ids.items) }
-{
-    let mut ids = Vec::new(alloc);
-    add_ids(older, &mut ids)?;
-    add_ids(newer, &mut ids)?;
-    ids.sort_unstable();
-    ids.dedup();
-    Ok(ids)
-}
-
-// Adds the ids of the objects of a view, in the order of a dump. Fails if an allocation fails.
-fn add_ids<V: View>(view: &V, ids: &mut Vec<u64>) -> Result<(), AllocError>
-    ensures { OnOk result (ids.new.items
-        ≡ ids.old.items ++ map (λ o. o.id) (V.image view.now).objects) }
-{
-    let _classes = view.classes();
-    let mut passed = 0usize;
-    let mut here = view.first();
-    while let Some(at) = here {
-        ids.push(view.id(at))?;
-        passed += 1;
-        here = view.next(at);
-    }
-    Ok(())
-}
-
-// Lists what differs between the objects with these ids. Fails with NoMemory.
-fn compare_all<V: View>(
-    alloc: Global,
-    older: &V,
-    newer: &V,
-    ids: &[u64],
-) -> Result<Vec<Difference>, Refusal>
-    ensures rows { IfOk result (λ rows. rows.items
-        ≡ flat_map (differences_of (V.image older.now) (V.image newer.now)) ids.now) }
-    ensures refused { IfErr result (λ e. e ≡ NoMemory) }
-{
     let before = ObjectIndex::new(alloc, older)?;
     let after = ObjectIndex::new(alloc, newer)?;
+    let ids = ids_of_both(alloc, &before, &after)?;
     let old_classes = older.classes();
     let new_classes = newer.classes();
     let mut rows = Vec::new(alloc);
@@ -98,6 +55,22 @@ fn compare_all<V: View>(
         add_differences(id, &old_classes, old, &new_classes, new, &mut rows)?;
     }
     Ok(rows)
+}
+
+// Lists the ids of the objects of two views, each once, in order. Fails if an allocation fails. If ids rise in both, reads them once.
+fn ids_of_both<V: View>(
+    alloc: Global,
+    before: &ObjectIndex<'_, V>,
+    after: &ObjectIndex<'_, V>,
+) -> Result<Vec<u64>, AllocError>
+    ensures { IfOk result (λ ids. AreIdsOfBoth before.now after.now ids.items) }
+{
+    let mut ids = Vec::new(alloc);
+    before.add_ids(&mut ids)?;
+    after.add_ids(&mut ids)?;
+    ids.sort()?;
+    ids.dedup();
+    Ok(ids)
 }
 
 // Adds what differs between two objects with this id, each of which may be missing. Their classes must be there. Fails with NoMemory.

@@ -1,5 +1,5 @@
 //! The objects of a view by their ids.
-ghost use Rattle.std.specs.Prelude.{◌≡◌, IfOk, IfErr};
+ghost use Rattle.std.specs.Prelude.{◌≡◌, ◌++◌, map, IfOk, IfErr, OnOk};
 ghost use Rattle.heap_class.specs.declared.Refusal.TheVariants.{NoMemory};
 ghost use Rattle.heap_questions.specs.Graph.{object_with};
 
@@ -7,7 +7,7 @@ use crate::nodes::NodeList;
 use crate::objects::{ShownObject, shown_with};
 use heap_class::Refusal;
 use hprof_text::View;
-use std::alloc::Global;
+use std::alloc::{AllocError, Global};
 use std::marker::Model;
 
 /// The objects that a view shows, found by their ids: in constant time if ids rise. Contracts see the image.
@@ -43,5 +43,13 @@ impl<'a, V: View> ObjectIndex<'a, V> {
         ensures { result ≡ object_with self.now id }
     {
         shown_with(self.view, &self.nodes, id)
+    }
+
+    // Adds the ids of the objects, in the order of a dump. Fails if an allocation fails.
+    pub(crate) fn add_ids(&self, ids: &mut Vec<u64>) -> Result<(), AllocError>
+        ensures { OnOk result (ids.new.items
+            ≡ ids.old.items ++ map (λ o. o.id) self.now.objects) }
+    {
+        self.nodes.add_ids(ids)
     }
 }

@@ -1,5 +1,5 @@
 //! The objects of a view with their places, and how one is found by its id.
-ghost use Rattle.std.specs.Prelude.{◌≡◌, ◌<◌, ◌≤◌, ◌^◌, length, Some, IsTrue, IfOk, IfErr, slice_get};
+ghost use Rattle.std.specs.Prelude.{◌≡◌, ◌<◌, ◌≤◌, ◌^◌, ◌++◌, length, map, Some, IsTrue, IfOk, IfErr, OnOk, slice_get};
 ghost use Rattle.heap_class.specs.declared.Refusal.TheVariants.{NoMemory};
 ghost use Rattle.hprof_text.specs.Image.{object_limit};
 ghost use Rattle.heap_questions.specs.declared.nodes.Node.{Node};
@@ -7,7 +7,7 @@ ghost use Rattle.heap_questions.specs.Search.{AreSmallerBefore, AreFrom, AreNode
 
 use heap_class::{ObjRef, Refusal};
 use hprof_text::View;
-use std::alloc::Global;
+use std::alloc::{AllocError, Global};
 use std::marker::Model;
 
 // The ids of two objects of a heap differ by a multiple of 8.
@@ -246,6 +246,16 @@ fn place_of(nodes: &[Node], node: usize) -> ObjRef
     nodes[node].at
 }
 
+// Adds the ids of nodes, in order. Fails if an allocation fails.
+fn add_ids(nodes: &[Node], ids: &mut Vec<u64>) -> Result<(), AllocError>
+    ensures { OnOk result (ids.new.items ≡ ids.old.items ++ map (λ n. n.id) nodes.now) }
+{
+    for node in nodes {
+        ids.push(node.id)?;
+    }
+    Ok(())
+}
+
 impl NodeList {
     // Lists the objects of a view. Fails with NoMemory. Reads each object's id once.
     pub(crate) fn new<V: View>(alloc: Global, view: &V) -> Result<NodeList, Refusal>
@@ -293,5 +303,12 @@ impl NodeList {
         ensures { (n : Node) → slice_get self.now node ≡ Some n → result ≡ n.id }
     {
         id_of(self.nodes.as_slice(), node)
+    }
+
+    // Adds the ids of the nodes, in order. Fails if an allocation fails.
+    pub(crate) fn add_ids(&self, ids: &mut Vec<u64>) -> Result<(), AllocError>
+        ensures { OnOk result (ids.new.items ≡ ids.old.items ++ map (λ n. n.id) self.now) }
+    {
+        add_ids(self.nodes.as_slice(), ids)
     }
 }

@@ -5,8 +5,8 @@ use Rattle.heap_questions.proofs.differences.ids_of_both.Goals as goal
 
 pub returns : goal.returns
 returns g c =
-    let older = g.V.View.image c.args.older.now in
-    let newer = g.V.View.image c.args.newer.now in
-    let sorted = c.sort_unstable.new.self.items in
+    let older = c.args.before.now in
+    let newer = c.args.after.now in
+    let sorted = c.sort.new.self.items in
     let listed = c.in_ok-add_ids-2.ensures ∙ ap (λ (xs : List ℕ). xs ++ ids_of newer.objects) (c.in_ok-add_ids.ensures ∙ ap (λ (xs : List ℕ). xs ++ ids_of older.objects) c.new-ids.ensures.items) in
-    sorted_ids_are_of_both older newer c.add_ids-2.new.ids.items sorted c.dedup.new.self.items listed c.sort_unstable.ensures.permutation c.sort_unstable.ensures.sorted (dedup_is eqb _ _ c.dedup.ensures.filtered)
+    sorted_ids_are_of_both older newer c.add_ids-2.new.ids.items sorted c.dedup.new.self.items listed c.sort.ensures.permutation c.in_ok-sort.ensures.sorted (dedup_is eqb _ _ c.dedup.ensures.filtered)

@@ -1,12 +1,48 @@
-use Rattle.std.proofs.Common.{◌≡◌, ◌∙◌, List, ℕ, ap}
+use Rattle.std.proofs.Common.{◌∙◌, ◌++◌, List, Option, ap, ap₂, arith, get_or, subst, sym}
 use Rattle.std.specs.Prelude.{flat_map}
-use Rattle.std.proofs.lemmas.Result.{IfOk-weaker}
-use Rattle.heap_questions.specs.Differences.{AreDifferences, differences_of}
+use Rattle.std.proofs.lemmas.List.{take_all}
+use Rattle.heap_class.specs.Classes.{Class}
+use Rattle.hprof_text.specs.Image.{DumpedObject, Image}
+use Rattle.heap_questions.specs.Differences.{AreIdsOfBoth, IsKnownIf, differences_between, differences_of}
+use Rattle.heap_questions.specs.Graph.{object_with}
+use Rattle.heap_questions.specs.declared.differences.Difference.{Difference}
+use Rattle.heap_questions.proofs.DifferentObjects.{found_object_is_known, rows_with_one_id_more}
 use Rattle.heap_questions.proofs.differences.object_differences.Goals as goal
+
+pub add_differences-requires-clause-old : goal.add_differences-requires-clause-old
+add_differences-requires-clause-old g c =
+    let image = g.V.View.image c.args.older.now in
+    let x = get_or c.in_ok-ids.ids.items c.loop-place.place 0 in
+    let found = c.object_with-old.ensures ∙ ap (λ (i : Image). object_with i x) c.in_ok-before.ensures.index in
+    subst (λ (o : Option DumpedObject). IsKnownIf c.classes-old_classes.result o) (sym found)
+    (subst (λ (cs : List Class). IsKnownIf cs (object_with image x)) (sym c.classes-old_classes.ensures.value) (found_object_is_known image x c.classes-old_classes.ensures.limits))
+
+pub add_differences-requires-clause-new : goal.add_differences-requires-clause-new
+add_differences-requires-clause-new g c =
+    let image = g.V.View.image c.args.newer.now in
+    let x = get_or c.in_ok-ids.ids.items c.loop-place.place 0 in
+    let found = c.object_with-new.ensures ∙ ap (λ (i : Image). object_with i x) c.in_ok-after.ensures.index in
+    subst (λ (o : Option DumpedObject). IsKnownIf c.classes-new_classes.result o) (sym found)
+    (subst (λ (cs : List Class). IsKnownIf cs (object_with image x)) (sym c.classes-new_classes.ensures.value) (found_object_is_known image x c.classes-new_classes.ensures.limits))
+
+pub loop-place-preserved : goal.loop-place-preserved
+loop-place-preserved g c =
+    let older = g.V.View.image c.args.older.now in
+    let newer = g.V.View.image c.args.newer.now in
+    let x = get_or c.in_ok-ids.ids.items c.loop-place.place 0 in
+    let old = c.object_with-old.ensures ∙ ap (λ (i : Image). object_with i x) c.in_ok-before.ensures.index in
+    let new = c.object_with-new.ensures ∙ ap (λ (i : Image). object_with i x) c.in_ok-after.ensures.index in
+    let first = ap₂ (λ (cs : List Class) (o : Option DumpedObject). differences_between x cs o c.classes-new_classes.result c.object_with-new.result) c.classes-old_classes.ensures.value old in
+    let second = ap₂ (λ (cs : List Class) (o : Option DumpedObject). differences_between x older.classes (object_with older x) cs o) c.classes-new_classes.ensures.value new in
+    rows_with_one_id_more older newer c.in_ok-ids.ids.items c.loop-place.place c.loop-place.rows.items c.add_differences.new.rows.items (omega (arith, c.loop-place-test.true)) c.loop-place.invariant
+    (c.in_ok-add_differences.ensures.added ∙ ap (λ (rs : List Difference). c.loop-place.rows.items ++ rs) (first ∙ second))
 
 pub returns-clause-rows : goal.returns-clause-rows
 returns-clause-rows g c =
     let older = g.V.View.image c.args.older.now in
     let newer = g.V.View.image c.args.newer.now in
-    IfOk-weaker c.compare_all.result (λ rows. rows.items ≡ flat_map (differences_of older newer) c.as_slice.result.now) (λ rows. AreDifferences older newer rows.items)
-    (λ rows h. (c.in_ok-ids.ids.items, c.in_ok-ids.ensures, h ∙ ap (λ (xs : List ℕ). flat_map (differences_of older newer) xs) c.as_slice.ensures.value)) c.compare_all.ensures.rows
+    let ids = c.in_ok-ids.ids.items in (
+      ids,
+      subst (λ (i : Image). AreIdsOfBoth i newer ids) c.in_ok-before.ensures.index (subst (λ (j : Image). AreIdsOfBoth c.in_ok-before.before j ids) c.in_ok-after.ensures.index c.in_ok-ids.ensures),
+      c.loop-place.invariant ∙ ap (flat_map (differences_of older newer)) (take_all c.loop-place.place ids (omega (arith, c.loop-place-test.false))),
+    )

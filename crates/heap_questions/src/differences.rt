@@ -3,6 +3,7 @@ ghost use Rattle.std.specs.Prelude.{◌≡◌, ◌++◌, ◌∷◌, ◌<◌, [],
 ghost use Rattle.heap_class.specs.declared.Refusal.TheVariants.{NoMemory};
 ghost use Rattle.hprof_text.specs.Image.{IsKnown};
 ghost use Rattle.heap_questions.specs.Differences.{AreDifferences, AreIdsOfBoth, IsKnownIf, changes_of_slots, differences_between, differences_of, differences_of_two, is_like, slot_seen};
+ghost use Rattle.heap_questions.specs.Graph.{object_with};
 
 use crate::index::ObjectIndex;
 use crate::objects::ShownObject;
@@ -50,9 +51,7 @@ pub fn object_differences<V: View>(
     let mut rows = Vec::new(alloc);
     for place in 0..ids.len() {
         let id = ids[place];
-        let old = before.object_with(id);
-        let new = after.object_with(id);
-        add_differences(id, &old_classes, old, &new_classes, new, &mut rows)?;
+        add_differences(id, &old_classes, &before, &new_classes, &after, &mut rows)?;
     }
     Ok(rows)
 }
@@ -73,23 +72,24 @@ fn ids_of_both<V: View>(
     Ok(ids)
 }
 
-// Adds what differs between two objects with this id, each of which may be missing. Their classes must be there. Fails with NoMemory.
+// Adds what differs between the objects with this id, whose classes must be there. Fails with NoMemory.
 #[tactic(auto, unfolding(crate::specs::Differences::differences_between))]
-fn add_differences(
+fn add_differences<V: View>(
     id: u64,
     old_classes: &FirstClasses<'_>,
-    old: Option<ShownObject<'_>>,
+    before: &ObjectIndex<'_, V>,
     new_classes: &FirstClasses<'_>,
-    new: Option<ShownObject<'_>>,
+    after: &ObjectIndex<'_, V>,
     rows: &mut Vec<Difference>,
 ) -> Result<(), Refusal>
-    requires old { IsKnownIf old_classes.now old }
-    requires new { IsKnownIf new_classes.now new }
+    requires old { IsKnownIf old_classes.now (object_with before.now id) }
+    requires new { IsKnownIf new_classes.now (object_with after.now id) }
     ensures added { OnOk result (rows.new.items ≡ rows.old.items
-        ++ differences_between id old_classes.now old new_classes.now new) }
+        ++ differences_between id
+        old_classes.now (object_with before.now id) new_classes.now (object_with after.now id)) }
     ensures refused { IfErr result (λ e. e ≡ NoMemory) }
 {
-    match (old, new) {
+    match (before.object_with(id), after.object_with(id)) {
         (Some(old), Some(new)) => add_changes(id, old_classes, &old, new_classes, &new, rows),
         (Some(_), None) => add_row(rows, Difference::Gone(id)),
         (None, Some(_)) => add_row(rows, Difference::Made(id)),

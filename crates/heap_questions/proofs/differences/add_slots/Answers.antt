@@ -33,7 +33,7 @@ unfolding changes_of_slots
 returns-clause-added c =
     let o = c.args.old.now in
     let n = c.args.new.now in
-    let many = ap (λ (ws : List ℕ). length ws) c.words.ensures in
+    let many = ap (λ (ws : List ℕ). length ws) c.words-slot-end.ensures in
     let e : c.loop-slot.slot ≡ length o.words = omega (arith, c.loop-slot-test.false, c.loop-slot.auto.slot-end, many) in
     c.loop-slot.invariant
     ∙ ap (λ (k : ℕ). c.args.rows.now.items ++ passing (differs_at o n) (λ s. Changed c.args.id s (slot_seen c.args.old_classes.now o s) (slot_seen c.args.new_classes.now n s)) k) e

@@ -8,7 +8,7 @@ TABLE, CLASS, NUMBER = "0x10002000", "server/Entry", 2
 # How wide the widest bar is, in points.
 WIDE = 44
 # An object names a and b, both name an object that it doesn't name itself, and b also names what a register names; an array names
-# more objects than are looked at together.
+# more objects than are listed at a time.
 SHAPE = b"""class Pair - a:object b:object
 array [Pair;
 new 0 0 0
@@ -26,7 +26,7 @@ clear 0 2
 clear 0 3
 newarray 0 5 1 30
 """ + b"".join(b"new 0 6 0\nstore 0 5 %d 6\n" % slot for slot in range(30)) + b"clear 0 6\n"
-# How many objects are looked at together.
+# How many objects are listed at a time.
 TOGETHER = 20
 LEVELS = "[...document.querySelectorAll('#tops tbody tr')].map((r) => [r.getAttribute('aria-level'), r.getAttribute('aria-expanded'), r.dataset.row])"
 FOCUS = "document.activeElement.dataset.row"
@@ -43,21 +43,14 @@ COUNT = """(() => {{ const own = window.fetch; window.counted = 0;
 
 
 def below(asked, node, at):
-    """Returns the rows that have to stand below an object: those that it names and dominates, by what `asked` answers to questions."""
-    rows, named = [], list(dict.fromkeys(words[3] for words in asked(f"show {at} {node}") if words[2] == "object" and words[3] != "null"))
-    for id in named:
-        above = asked(f"dominator {at} {id}")
-        if above and above[0][0] == node:
-            held = asked(f"retained {at} {id}")
-            counts = [sum(int(words[part]) for words in held) for part in (0, 1)]
-            rows.append((id, class_of(asked, at, id), *counts))
-    rows.sort(key=lambda found: (-found[3], -found[2], found[0]))
-    return [[id, name, f"{objects:,}", f"{size:,}"] for id, name, objects, size in rows]
+    """Returns the rows that have to stand below an object."""
+    return [[id, name, f"{int(objects):,}", f"{int(size):,}"] for id, objects, size, name in asked(f"dominators {at} {node}")]
 
 
-def class_of(asked, at, id):
-    """Returns the name of the class of an object."""
-    return next(words[1] for words in asked(f"objects {at}") if words[0] == id)
+def found_below(asked, node, at):
+    """Returns the objects that have to stand below an object, by the immediate dominator of each object of the heap."""
+    above = {words[0]: asked(f"dominator {at} {words[0]}") for words in asked(f"objects {at}")}
+    return {id for id, rows in above.items() if rows and rows[0][0] == node}
 
 
 def tree(tab, heap):
@@ -105,7 +98,7 @@ def keys(tab, asked, wanted):
 
 
 def shapes(program):
-    """Objects that are dominated and not named, named and not dominated, and many that are named."""
+    """Objects that are dominated and not named, named and not dominated, and many that hang below an object."""
     with Heap(program, SHAPE) as heap:
         tab = opened(heap)
         try:
@@ -113,17 +106,15 @@ def shapes(program):
             pair, array = (id for _, _, id, *_ in (heap.rows("registers -")[slot] for slot in (0, 5)))
             tab.wait("document.querySelectorAll('#tops tbody tr').length > 0")
             tab.click_on(row("tops", pair) + ".querySelector('.twist')")
-            wanted = [*below(heap.rows, pair, at), ["1 more that it dominates"]]
-            tab.wait(f"({LEVELS}).filter((r) => r[0] === '2').length === {len(wanted)}")
-            yield "what is dominated and not named", [words for words in tab.value(CELLS.format("tops")) if words in wanted], wanted
-            yield "how many those are", len(wanted), 3
+            tab.wait(f"({LEVELS}).filter((r) => r[0] === '2').length === 3")
+            yield "what is dominated and not named", {words[2] for words in tab.value(LEVELS) if words[0] == "2"}, found_below(heap.rows, pair, at)
             tab.click_on(row("tops", array) + ".querySelector('.twist')")
-            tab.wait(f"document.querySelector('#tops tbody').textContent.includes('… {30 - TOGETHER} more that it names')")
+            tab.wait(f"document.querySelector('#tops tbody').textContent.includes('… {30 - TOGETHER} more objects')")
             known = [words[0] for words in below(heap.rows, array, at)]
-            shown = [words[2] for words in tab.value(LEVELS) if words[2] in known]
-            yield "the first of many", shown, known[:TOGETHER]
+            yield "all that hang below the array", set(known), found_below(heap.rows, array, at)
+            yield "the first of many", [words[2] for words in tab.value(LEVELS) if words[2] in known], known[:TOGETHER]
             tab.click_on("[...document.querySelectorAll('#tops tbody tr')].find((r) => r.textContent.startsWith('…'))")
-            tab.wait("!document.querySelector('#tops tbody').textContent.includes('more that it names')")
+            tab.wait("!document.querySelector('#tops tbody').textContent.includes('more objects')")
             yield "all of them", [words[2] for words in tab.value(LEVELS) if words[2] in known], known
             yield "complaints of the browser", tab.faults(), []
         finally:

@@ -57,7 +57,7 @@ entries_seated_with_one_more : (n : ℕ) (es : List Entry) (e : Entry) → AllSe
 entries_seated_with_one_more n [] e h lt = (lt, tt)
 entries_seated_with_one_more n (x ∷ es) e h lt = (h.0, entries_seated_with_one_more n es e h.1 lt)
 
-numbered_entries_of_one_more : (n : ℕ) (es : List Entry) (e : Entry) → enumerate_from n (es ++ e ∷ []) ≡ enumerate_from n es ++ (n + length es, e) ∷ []
+pub numbered_entries_of_one_more : (n : ℕ) (es : List Entry) (e : Entry) → enumerate_from n (es ++ e ∷ []) ≡ enumerate_from n es ++ (n + length es, e) ∷ []
 numbered_entries_of_one_more n [] e = ap (λ k. (k, e) ∷ []) (omega arith)
 numbered_entries_of_one_more n (x ∷ es) e = ap (λ l. (n, x) ∷ l) (numbered_entries_of_one_more (n + 1) es e ∙ ap (λ k. enumerate_from (n + 1) es ++ (k, e) ∷ []) (omega arith))
 

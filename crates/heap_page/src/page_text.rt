@@ -2,7 +2,7 @@
 
 // The policy of the page.
 pub(crate) const POLICY: &str =
-    "default-src 'none'; script-src 'sha256-Eie6CGTmdcDINwPtFjPKxTAyKV2p4XOaFqdZPMVYHBY='; style-src 'sha256-vaxzXe171af2/w7CrYYRnR3aoQZskRfAKOsl5HfnCNI='; img-src data:; connect-src 'self'; base-uri 'none'; form-action 'none'; frame-ancestors 'none'";
+    "default-src 'none'; script-src 'sha256-ZYOHd1TcvdxTewCVngV36rRfIhhS4U5jYhhCN6d2Y3M='; style-src 'sha256-vaxzXe171af2/w7CrYYRnR3aoQZskRfAKOsl5HfnCNI='; img-src data:; connect-src 'self'; base-uri 'none'; form-action 'none'; frame-ancestors 'none'";
 
 // The page.
 pub(crate) const PAGE: &[u8] = b"<!doctype html>\n\
@@ -246,7 +246,7 @@ pub(crate) const PAGE: &[u8] = b"<!doctype html>\n\
     \x20\x20};\n\
     \x20\x20const COLORS = [...new Set(Object.values(EVENTS))];\n\
     \x20\x20// The most objects that are listed, the most requests at a time, the steps that are read before all are, the most that are read again while the heap goes on, the\n\
-    \x20\x20// objects that are listed through which most is reached, and the objects below one of them that are looked at together.\n\
+    \x20\x20// objects that are listed through which most is reached, and the objects below one of them that are listed at a time.\n\
     \x20\x20const LISTED = 200,\n\
     \x20\x20\x20\x20LANES = 6,\n\
     \x20\x20\x20\x20FEW = 400,\n\
@@ -1490,15 +1490,13 @@ pub(crate) const PAGE: &[u8] = b"<!doctype html>\n\
     \x20\x20\x20\x20return out;\n\
     \x20\x20}\n\
     \n\
-    \x20\x20// Returns the rows below an open object: those that it dominates and names, and how many more it dominates.\n\
+    \x20\x20// Returns the rows below an open object: objects that hang one below it, and how many other objects hang below it.\n\
     \x20\x20function rowsBelow([id, objects], level, seen) {\n\
     \x20\x20\x20\x20const kids = S.kids.get(id);\n\
     \x20\x20\x20\x20if (!kids) return [restRow(id, level, \"\xe2\x80\xa6\")];\n\
     \x20\x20\x20\x20const rest = kids.rows.reduce((sum, x) => sum - x[1], objects - 1),\n\
-    \x20\x20\x20\x20\x20\x20left = kids.named.length - kids.asked,\n\
     \x20\x20\x20\x20\x20\x20out = treeRows(kids.rows, level, kids.place === S.shown, seen);\n\
-    \x20\x20\x20\x20if (left > 0) out.push(restRow(id, level, `\xe2\x80\xa6 ${num(left)} more that it names`, \"Look at the next of the objects that it names\", () => loadKids(id, true).catch(() => {})));\n\
-    \x20\x20\x20\x20else if (rest > 0) out.push(restRow(id, level, `${num(rest)} more that it dominates`, \"It doesn't name them itself: several of the objects that it dominates lead to each\"));\n\
+    \x20\x20\x20\x20if (rest > 0) out.push(restRow(id, level, `\xe2\x80\xa6 ${num(rest)} more objects`, \"List the next objects that it dominates\", () => loadKids(id, true).catch(() => {})));\n\
     \x20\x20\x20\x20return out;\n\
     \x20\x20}\n\
     \x20\x20const indent = (level) => 12 + 14 * Math.min(level - 1, 10) + \"px\";\n\
@@ -1555,31 +1553,19 @@ pub(crate) const PAGE: &[u8] = b"<!doctype html>\n\
     \x20\x20\x20\x20drawInstances();\n\
     \x20\x20}\n\
     \n\
-    \x20\x20// Asks which of the objects that an object names it dominates, and what these retain: of the first few, or of the next ones.\n\
+    \x20\x20// Asks which objects hang one below an object in the tree, with what each retains: the first few, or the next ones too.\n\
     \x20\x20async function loadKids(id, more) {\n\
     \x20\x20\x20\x20const place = S.tops.place,\n\
-    \x20\x20\x20\x20\x20\x20at = \"@\" + place,\n\
     \x20\x20\x20\x20\x20\x20wanted = () => place === S.shown && S.open.has(id),\n\
     \x20\x20\x20\x20\x20\x20was = S.kids.get(id),\n\
     \x20\x20\x20\x20\x20\x20same = was && was.place === place;\n\
     \x20\x20\x20\x20if (!wanted() || (same && !more)) return;\n\
-    \x20\x20\x20\x20const named = same ? was.named : namedBy(id, await ask(`show ${at} ${id}`, true)),\n\
-    \x20\x20\x20\x20\x20\x20from = same ? was.asked : 0,\n\
-    \x20\x20\x20\x20\x20\x20rows = same ? [...was.rows] : [];\n\
-    \x20\x20\x20\x20await eachInTurn(named.slice(from, from + KIDS), wanted, async (kid) => {\n\
-    \x20\x20\x20\x20\x20\x20const above = await ask(`dominator ${at} ${kid}`, true);\n\
-    \x20\x20\x20\x20\x20\x20if (!above.ok || !above.rows.length || above.rows[0][0] !== id) return;\n\
-    \x20\x20\x20\x20\x20\x20const r = await ask(`retained ${at} ${kid}`, true);\n\
-    \x20\x20\x20\x20\x20\x20if (r.ok) rows.push([kid, r.words[1], r.words[2], objectAt(kid)?.name ?? \"\"]);\n\
-    \x20\x20\x20\x20});\n\
-    \x20\x20\x20\x20if (!wanted()) return;\n\
-    \x20\x20\x20\x20rows.sort((a, b) => b[2] - a[2] || b[1] - a[1] || wordOf(a[0]) - wordOf(b[0]));\n\
-    \x20\x20\x20\x20S.kids.set(id, { place, named, asked: from + KIDS, rows });\n\
+    \x20\x20\x20\x20const most = (was ? was.most : KIDS) + (same ? KIDS : 0),\n\
+    \x20\x20\x20\x20\x20\x20r = await ask(`dominators @${place} ${id} ${most}`, true);\n\
+    \x20\x20\x20\x20if (!r.ok || !wanted()) return;\n\
+    \x20\x20\x20\x20S.kids.set(id, { place, most, rows: r.rows });\n\
     \x20\x20\x20\x20drawInstances();\n\
     \x20\x20}\n\
-    \n\
-    \x20\x20// Returns the objects that an object names, each once.\n\
-    \x20\x20const namedBy = (id, r) => [...new Set(r.ok ? r.rows.filter((x) => x[2] === \"object\" && x[3] !== \"null\" && x[3] !== id).map((x) => x[3]) : [])];\n\
     \n\
     \x20\x20// The keys of a row of the tree: Right opens it, or goes to what is below; Left closes it, or goes to what is above.\n\
     \x20\x20function treeKey(row, key) {\n\

@@ -38,11 +38,11 @@ few_classes_after before (c ∷ cs) t few =
     let more : length (before ++ c ∷ []) + length cs ≤ class_limit = few_classes_after (before ++ c ∷ []) cs t.2 (omega (arith, under, e)) in
     omega (arith, more, e)
 
-known : (classes : List Class) (kind : ObjKind) (n : ℕ) → HasKind classes kind n → IsKnown classes kind n
+pub kind_of_slots_is_known : (classes : List Class) (kind : ObjKind) (n : ℕ) → HasKind classes kind n → IsKnown classes kind n
 unfolding is_instance_class is_array_class
-known classes (Instance k) n h = (class_found_is_in_table classes k (λ c. not c.is_array) h.0, h.1)
-known classes (Array k) n h = class_found_is_in_table classes k (λ c. c.is_array) h.0
-known classes (Prim kind) n h = tt
+kind_of_slots_is_known classes (Instance k) n h = (class_found_is_in_table classes k (λ c. not c.is_array) h.0, h.1)
+kind_of_slots_is_known classes (Array k) n h = class_found_is_in_table classes k (λ c. c.is_array) h.0
+kind_of_slots_is_known classes (Prim kind) n h = tt
 
 -- an object as a dump shows it
 abbrev object_as_dump_shows_it : List Region → ObjRef × Object → DumpedObject
@@ -56,7 +56,7 @@ legal_heap_is_dumpable w legal = record {
   few_registers = omega (arith, legal.sized.mutators.2, legal.sized.mutators.3);
   few_objects = omega (arith, few_live w.regions legal.regions.tables legal.sized.regions.1, length-map (live_objects w.regions) (object_as_dump_shows_it w.regions));
   known = All-map (λ (o : DumpedObject). IsKnown w.classes o.kind (length o.words)) (object_as_dump_shows_it w.regions) (live_objects w.regions)
-      (All-weaker (Stands w.regions) (λ p. IsKnown w.classes p.1.kind (length p.1.words)) (λ p there. known w.classes p.1.kind (length p.1.words) (legal.objects p.0 p.1 there).kind) (live_objects w.regions) (live_stand w.regions));
+      (All-weaker (Stands w.regions) (λ p. IsKnown w.classes p.1.kind (length p.1.words)) (λ p there. kind_of_slots_is_known w.classes p.1.kind (length p.1.words) (legal.objects p.0 p.1 there).kind) (live_objects w.regions) (live_stand w.regions));
   small = All-map (λ (o : DumpedObject). length o.words ≤ 1024) (object_as_dump_shows_it w.regions) (live_objects w.regions)
       (All-weaker (Stands w.regions) (λ p. length p.1.words ≤ 1024) (λ p there. small_object w.regions legal.regions.tables p.0 p.1 there) (live_objects w.regions) (live_stand w.regions));
 }

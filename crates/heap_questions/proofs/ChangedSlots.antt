@@ -1,23 +1,21 @@
 -- The changes of a slot, one retained step more at a time.
 use Rattle.std.proofs.Common.{◌≡◌, ℕ, ◌+◌, ◌-◌, ◌<◌, Bool, true, false, cond, List, [], ◌∷◌, ◌++◌, length, Option, Some, refl, sym, ap, ap₂, ◌∙◌, subst, inl, inr, arith, add-one}
-use Rattle.std.specs.Prelude.{IsSome, IfSome, not, reverse, ◌==◌, ◌&&◌}
+use Rattle.std.specs.Prelude.{IsSome, IfSome, reverse, ◌==◌, ◌&&◌}
 use Rattle.std.specs.Option.{option_map_or}
 use Rattle.std.proofs.lemmas.Bool.{cases_eq, eq-eqb, ne_eqb}
 use Rattle.std.proofs.lemmas.Bool.Decides.{when_true, when_false}
 use Rattle.std.proofs.lemmas.List.{reverse-append, reverse-reverse}
 use Rattle.heap_class.specs.declared.ObjKind.{ObjKind}
-use Rattle.heap_class.specs.declared.ObjKind.TheVariants.{Instance, Array, Prim}
 use Rattle.heap_class.specs.declared.ObjRef.{ObjRef}
-use Rattle.heap_class.specs.Classes.{Class, is_array_class, is_instance_class}
-use Rattle.heap_class.proofs.Slots.{class_found_is_in_table}
 use Rattle.heap_region.specs.Regions.{Object, object_at, with_word}
-use Rattle.heap_world.specs.Legal.{HasKind, IsLegal}
+use Rattle.heap_world.specs.Legal.{IsLegal}
 use Rattle.heap_world.specs.State.{HeapState}
 use Rattle.heap_step.specs.declared.Event.{Event}
 use Rattle.heap_step.specs.declared.Undo.{Undo}
 use Rattle.heap_step.specs.declared.Undo.TheVariants.{Put, Store, New}
 use Rattle.heap_step.specs.Laws.{IsStep}
 use Rattle.heap_step.proofs.Steps.{put_taken_back_is_before, store_is}
+use Rattle.heap_pins.proofs.DumpLimits.{kind_of_slots_is_known}
 use Rattle.heap_trail.specs.Trail.{Trail, retained, state_ago}
 use Rattle.heap_trail.proofs.RetainedRecords.{HasRecord}
 use Rattle.hprof_text.specs.Image.{IsKnown}
@@ -127,14 +125,6 @@ pub all_retained : (t : Trail) (at : ObjRef) (s n now : ℕ) (changes : List Slo
 all_retained t at s n now changes e a =
     (n, record { within = omega (arith, e); stood = a.stood; before = inl e }, reversed_back changes (last_changes t at s n) a.told)
 
--- ---- the kind of a slot
-
-pub kind_known : (classes : List Class) (kind : ObjKind) (n : ℕ) → HasKind classes kind n → IsKnown classes kind n
-unfolding is_instance_class is_array_class
-kind_known classes (Instance k) n h = (class_found_is_in_table classes k (λ c. not c.is_array) h.0, h.1)
-kind_known classes (Array k) n h = class_found_is_in_table classes k (λ c. c.is_array) h.0
-kind_known classes (Prim kind) n h = tt
-
 -- the slot of an object that is there: its kind is known, and it has the slot
 pub slot_here : (w : HeapState) (at : ObjRef) (s n : ℕ) (kind : ObjKind) → IsLegal w → IsSome (slot_word w at s) → IfSome (object_at w.regions at) (λ o. kind ≡ o.kind) → IfSome (object_at w.regions at) (λ o. n ≡ length o.words)
     → IsKnown w.classes kind n × (s < n) × (slot_refers w.classes kind s ≡ refers_at w at s)
@@ -143,7 +133,7 @@ slot_here w at s n kind legal h k l =
     let o = slot_there w at s h in
     let same_kind : kind ≡ o.0.kind = subst (λ (x : Option Object). IfSome x (λ o. kind ≡ o.kind)) o.1 k in
     let same_length : n ≡ length o.0.words = subst (λ (x : Option Object). IfSome x (λ o. n ≡ length o.words)) o.1 l in
-    let known = kind_known w.classes o.0.kind (length o.0.words) (legal.objects at o.0 o.1).kind in (
+    let known = kind_of_slots_is_known w.classes o.0.kind (length o.0.words) (legal.objects at o.0 o.1).kind in (
       subst (λ (q : ObjKind). IsKnown w.classes q n) (sym same_kind) (subst (IsKnown w.classes o.0.kind) (sym same_length) known),
       omega (arith, o.2, same_length),
       ap (λ (q : ObjKind). slot_refers w.classes q s) same_kind ∙ sym (ap (λ (x : Option Object). option_map_or (λ o. slot_refers w.classes o.kind s) x false) o.1),

@@ -1,5 +1,5 @@
 -- Which cells hold gray objects.
-use Rattle.std.proofs.Common.{◌≡◌, ◌≢◌, ◌∙◌, ℕ, zero, suc, ◌+◌, ◌*◌, ◌/◌, ◌<◌, ◌≤◌, Bool, true, false, List, [], ◌∷◌, ◌++◌, length, get_or, replicate, take, refl, sym, ap, subst, inl, inr, arith}
+use Rattle.std.proofs.Common.{◌≡◌, ◌≢◌, ◌∙◌, ℕ, zero, suc, ◌+◌, ◌*◌, ◌<◌, Bool, true, false, List, [], ◌∷◌, ◌++◌, length, get_or, replicate, take, refl, sym, ap, subst, inl, inr, arith}
 use Rattle.std.specs.Prelude.{IsSome, Option, Some, None, slice_index_or, slice_set, ◌==◌, ◌||◌, option_and_then, reverse}
 use Rattle.std.specs.List.{list_any}
 use Rattle.std.proofs.lemmas.Bool.{cases_eq, eq-eqb, ne_eqb, false≢true}
@@ -8,30 +8,17 @@ use Rattle.std.proofs.lemmas.List.Folds.{list_any-append}
 use Rattle.std.proofs.lemmas.List.Sorted.{IsPermutation-reverse, list_any-IsPermutation}
 use Rattle.std.proofs.lemmas.Option.{none-some, same_Some}
 use Rattle.heap_class.specs.declared.ObjRef.{ObjRef}
-use Rattle.heap_region.specs.Legal.{IsCellTable, IsRegionPool}
-use Rattle.heap_region.specs.Limits.{cell_sizes}
+use Rattle.heap_region.specs.Legal.{IsRegionPool}
 use Rattle.heap_region.specs.Pool.{RegionPool}
 use Rattle.heap_region.specs.Regions.{Object, Region, UsedRegion, id_of, object_at, object_of, ref_of, used_at}
 use Rattle.heap_region.proofs.Ids.{ref_back, ref_is}
 use Rattle.heap_region.proofs.Lookups.{used_region_is_listed}
 use Rattle.heap_region.proofs.ShownRegions.{object_here, used_by_object}
 use Rattle.heap_world.specs.State.{HeapState}
+use Rattle.heap_pins.proofs.LiveCounts.{cell_table_below_257_cells}
 use Rattle.heap_questions.specs.Cells.{AreMarksOf, cell_number, is_gray}
 
 -- ---- cells
-
-table_few : (u : UsedRegion) → IsCellTable u → length u.cells ≤ 256
-table_few u table =
-    let few : 1024 / u.cell_size ≤ 256 = subst (λ s. 1024 / s ≤ 256) table.size.2 (at_index table.size.0 table.size.1) in
-    omega (arith, few, table.cells)
-  where
-    at_index : (k : ℕ) → k < 5 → 1024 / get_or cell_sizes k u.cell_size ≤ 256
-    at_index zero h = omega arith
-    at_index (suc zero) h = omega arith
-    at_index (suc (suc zero)) h = omega arith
-    at_index (suc (suc (suc zero))) h = omega arith
-    at_index (suc (suc (suc (suc zero)))) h = omega arith
-    at_index (suc (suc (suc (suc (suc k))))) h = absurd (omega (arith, h))
 
 -- where an object's cell lies, and that its id leads back to it
 pub record IsPlaced (regions : List Region) (at : ObjRef) : Type 0 where
@@ -52,7 +39,7 @@ placed s at legal i = go (used_at s.regions at.region) refl (used_by_object s.re
     go (Some u) e h =
         let table = legal.tables at.region u e in
         let c : at.cell < length u.cells = cell_there u.cells at.cell (subst IsSome (object_here s.regions at u e) i) in
-        let few = table_few u table in
+        let few = cell_table_below_257_cells u table in
         record {
           region = used_region_is_listed s.regions at.region (subst IsSome (sym e) refl);
           cell = omega (arith, c, few);

@@ -1,5 +1,5 @@
 -- The trail up to a retained state, and where objects stood there.
-use Rattle.std.proofs.Common.{◌≡◌, ◌≢◌, ℕ, zero, suc, ◌+◌, ◌-◌, ◌*◌, ◌/◌, ◌%◌, ◌<◌, ◌≤◌, Bool, true, false, cond, List, [], ◌∷◌, drop, length, length-drop, get_or, Option, Some, None, IsSome, refl, sym, ap, ◌∙◌, subst, inl, inr, arith}
+use Rattle.std.proofs.Common.{◌≡◌, ◌≢◌, ℕ, zero, suc, ◌+◌, ◌-◌, ◌*◌, ◌/◌, ◌%◌, ◌<◌, ◌≤◌, Bool, true, false, cond, List, [], ◌∷◌, drop, length, get_or, Option, Some, None, IsSome, refl, sym, ap, ◌∙◌, subst, inl, inr, arith}
 use Rattle.std.specs.Prelude.{slice_get, is_some, not, ◌==◌, ◌&&◌, ◌||◌}
 use Rattle.std.specs.List.{list_any}
 use Rattle.std.specs.Option.{option_map_or}
@@ -31,6 +31,7 @@ use Rattle.heap_trail.specs.Machine.{Machine, Granted, acted_under, machine_afte
 use Rattle.heap_trail.specs.Trail.{Trail, retained, rewound, state_ago}
 use Rattle.heap_trail.proofs.KeptTrails.{trails_stay}
 use Rattle.heap_trail.proofs.RetainedRecords.{HasRecord, has_record}
+use Rattle.heap_trail.proofs.Rewinds.{retained_after_rewind}
 use Rattle.heap_trail.proofs.RewoundMachines.{rewind_done}
 use Rattle.heap_questions.specs.Changes.{made_by}
 use Rattle.heap_questions.specs.Newest.{storage_cell_size}
@@ -54,10 +55,6 @@ past_trail m n few s =
 
 pub is_past : (m : Machine) (n : ℕ) → n ≤ retained m.trail → IsTrail m.keep m.trail → IsPast (rewound n m.trail)
 is_past m n few s = (m.keep, past_trail m n few s)
-
-pub retained_past : (n : ℕ) (t : Trail) → retained (rewound n t) ≡ retained t - n
-unfolding rewound
-retained_past n t = omega (arith, length-drop n t.past)
 
 same_default : (xs : List HeapState) (n : ℕ) (d e : HeapState) → n < length xs → get_or xs n d ≡ get_or xs n e
 same_default [] n d e l = absurd (omega (arith, l))
@@ -90,7 +87,7 @@ pub has_past : (t : Trail) (n : ℕ) (left : Undo) → IsPast t → slice_get t.
 has_past t n left p there = has_record p.0 t n left p.1 there
 
 pub within_past : (t u : Trail) (a n : ℕ) → rewound a t ≡ u → n < retained u → a + n < retained t
-within_past t u a n e l = omega (arith, l, ap retained e, retained_past a t)
+within_past t u a n e l = omega (arith, l, ap retained e, retained_after_rewind a t)
 
 -- the record of a step to a state before the one that a rewind leads to
 pub has_record_past : (m : Machine) (a n : ℕ) (left : Undo) → a ≤ retained m.trail → IsTrail m.keep m.trail → slice_get m.trail.records (a + n) ≡ Some left → HasRecord (rewound a m.trail) n left

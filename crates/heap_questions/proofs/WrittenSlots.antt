@@ -34,6 +34,7 @@ use Rattle.heap_questions.specs.PastTrails.{IsPinAgo, IsShownBeside}
 use Rattle.heap_questions.specs.Wanted.{is_of_class}
 use Rattle.heap_questions.specs.SlotWrites.{AreLastWrites, AreWritesAgo, IsSlotWrite, SeesObject, SeesOverwritten, before_others, changing_write, overwritten, seen_object, write_by}
 use Rattle.heap_questions.proofs.ChangedSlots.{before_is}
+use Rattle.heap_questions.proofs.Retained.{and_true}
 use Rattle.heap_questions.proofs.Walk.{slot_there}
 use Rattle.heap_questions.proofs.Writes.{record_makes, same_place, written_here}
 
@@ -179,9 +180,6 @@ of_seen P p w at s h = go (object_seen p w.regions at) s.1 h
     go None s h = absurd (false≢true s)
     go (Some o) s h = h
 
-both_true : (a b : Bool) → a ≡ true → b ≡ true → (a && b) ≡ true
-both_true a b p q = ap₂ (λ (x y : Bool). x && y) p q
-
 -- the test of a write tells whether it is one
 tested : (t : Trail) (n k s : ℕ) (left : Undo) (at : ObjRef) (o : Object) (old place : ℕ) → place ≡ t.place - n → HasRecord t n left → overwritten left s ≡ Some (at, old) → object_at (state_ago n t).regions at ≡ Some o → s < length o.words
     → AreWritesAgo t k s n (changing_write k s place old (shown (state_ago n t).regions (at, o)))
@@ -213,7 +211,7 @@ tested t n k s left at o old place is r named here l = go (is_of_class o.kind k 
     passes b w i =
         let p = same b w i in
         let object : i.class.0 ≡ o = same_Some i.class.0 o (sym i.class.1 ∙ ap (object_at (state_ago n t).regions) p.0 ∙ here) in
-        both_true (is_of_class o.kind k) (not (x.old == x.new)) (ap (λ (q : Object). is_of_class q.kind k) (sym object) ∙ i.class.2)
+        and_true (is_of_class o.kind k) (not (x.old == x.new)) (ap (λ (q : Object). is_of_class q.kind k) (sym object) ∙ i.class.2)
         (ap not (ne_eqb x.old x.new (λ e. i.differ (p.1 ∙ e ∙ sym p.2))))
 
     differs : (a b : ℕ) → not (a == b) ≡ true → a ≢ b

@@ -23,6 +23,7 @@ use Rattle.heap_lock.specs.Outcome.TheVariants as outcome
 use Rattle.heap_lock.specs.Receipt.{Receipt}
 use Rattle.heap_lock.specs.History.{MayEnter, entry, reply_of, entries_by}
 use Rattle.heap_lock.specs.LockStates.{SeatModel, IsAct, IsNoEntry, IsRefused, LockState}
+use Rattle.heap_lock.proofs.Histories.{numbered_entries_of_one_more}
 use Rattle.heap_lock.proofs.StepReplies.{step_replies_no_place}
 use Rattle.question_text.specs.declared.cycle.CycleCounts.{CycleCounts}
 use Rattle.question_text.specs.Collections.{IsShortage, RunsCycle, TakenStep}
@@ -95,10 +96,6 @@ allowed_act_never_refused m n e o r free h enters is = go (short m e r free (ref
 
 -- ---- what chronicle, calls and share gain
 
-enumerate_push : (n : ℕ) (es : List Entry) (e : Entry) → enumerate_from n (es ++ e ∷ []) ≡ enumerate_from n es ++ (n + length es, e) ∷ []
-enumerate_push n [] e = ap (λ (k : ℕ). (k, e) ∷ []) (omega arith)
-enumerate_push n (x ∷ es) e = ap (λ l. (n, x) ∷ l) (enumerate_push (n + 1) es e ∙ ap (λ k. enumerate_from (n + 1) es ++ (k, e) ∷ []) (omega arith))
-
 pub lock_gains_no_entries : (k : LockState) (s : SeatModel) → Gains k s [] k s
 lock_gains_no_entries k s = record {
   chronicle = sym (append-nil k.chronicle);
@@ -112,7 +109,7 @@ lock_gains_one_entry_more : (k : LockState) (s : SeatModel) (es : List Entry) (e
 lock_gains_one_entry_more k s es e turn l t l' t' g chronicle ledger is share rolls =
     let first = length k.chronicle + 1 in
     let place : turn ≡ first + length es = omega (arith, is, ap length chronicle, length_push l.chronicle e, ap length g.chronicle, length-append k.chronicle es) in
-    let turns : enumerate_from first es ++ (turn, e) ∷ [] ≡ enumerate_from first (es ++ e ∷ []) = ap (λ (n : ℕ). enumerate_from first es ++ (n, e) ∷ []) place ∙ sym (enumerate_push first es e) in
+    let turns : enumerate_from first es ++ (turn, e) ∷ [] ≡ enumerate_from first (es ++ e ∷ []) = ap (λ (n : ℕ). enumerate_from first es ++ (n, e) ∷ []) place ∙ sym (numbered_entries_of_one_more first es e) in
     record {
       chronicle = chronicle ∙ ap (λ (x : List Entry). x ++ e ∷ []) g.chronicle ∙ append_assoc k.chronicle es (e ∷ []);
       calls = ledger ∙ ap (λ (x : List Call). x ++ call_of e ∷ []) g.calls ∙ append_assoc k.ledger (map call_of es) (call_of e ∷ []) ∙ ap (λ (x : List Call). k.ledger ++ x) (sym (map-append call_of es (e ∷ [])));

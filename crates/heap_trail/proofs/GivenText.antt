@@ -444,7 +444,7 @@ actions_on_unkept_are_silent pin m ((a, k) ∷ more) lt not =
 abbrev GivesFrom : ℕ → ℕ → Machine → List (Action × Allocation) → List (List ℕ) → ℕ → Type 0
 GivesFrom pin time m actions pieces g = (rest : List ℕ) × (bytes_given pin m actions ++ rest ≡ concat (drop g pieces)) × (gave_last pin m actions ≡ true → rest ≡ [])
 
-one_of_true_or : (b c : Bool) → (b || c) ≡ true → (b ≡ true) ⊎ (c ≡ true)
+pub one_of_true_or : (b c : Bool) → (b || c) ≡ true → (b ≡ true) ⊎ (c ≡ true)
 one_of_true_or true c e = inl refl
 one_of_true_or false c e = inr e
 

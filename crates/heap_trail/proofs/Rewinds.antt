@@ -81,15 +81,15 @@ rewinds_retained m n few = subst (IsRewound n m) (sym (rewind_done m n few)) rec
 
 -- ---- some and then the rest
 
-retained_after : (a : ℕ) (t : Trail) → retained (rewound a t) ≡ retained t - a
+pub retained_after_rewind : (a : ℕ) (t : Trail) → retained (rewound a t) ≡ retained t - a
 unfolding rewound
-retained_after a t = omega (arith, length-drop a t.past)
+retained_after_rewind a t = omega (arith, length-drop a t.past)
 
 rewound_parts : (a b : ℕ) (t : Trail) → a + b ≤ retained t → rewound b (rewound a t) ≡ rewound (a + b) t
 rewound_parts a zero t few = rewound_none (rewound a t) ∙ ap (λ n. rewound n t) (let e : a ≡ a + 0 = omega arith in e)
 rewound_parts a (suc b) t few =
     ap (λ n. rewound n (rewound a t)) (let e : suc b ≡ b + 1 = omega arith in e)
-    ∙ sym (rewound_more b (rewound a t) (omega (arith, few, retained_after a t)))
+    ∙ sym (rewound_more b (rewound a t) (omega (arith, few, retained_after_rewind a t)))
     ∙ ap (rewound 1) (rewound_parts a b t (omega (arith, few)))
     ∙ rewound_more (a + b) t (omega (arith, few))
     ∙ ap (λ n. rewound n t) (let e : a + b + 1 ≡ a + suc b = omega arith in e)
@@ -135,6 +135,6 @@ two_rewinds_are_one a b m few =
 pub rewinds_in_parts : (m : Machine) → RewindsInParts m
 rewinds_in_parts m a b few =
     ap (λ (r : Machine × Reply). acted r.0 (Rewind b)) (rewind_done m a (omega (arith, few)))
-    ∙ rewind_done (rewound_by a m).0 b (omega (arith, few, retained_after a m.trail))
+    ∙ rewind_done (rewound_by a m).0 b (omega (arith, few, retained_after_rewind a m.trail))
     ∙ two_rewinds_are_one a b m few
     ∙ sym (rewind_done m (a + b) few)

@@ -1,16 +1,11 @@
 -- Walks over all items, and what is left of them.
-use Rattle.std.proofs.Common.{◌≡◌, ◌<◌, Bool, true, false, true≢false, List, [], ◌∷◌, Option, Some, None, Result, Ok, Err, refl, ap, subst, arith}
+use Rattle.std.proofs.Common.{◌≡◌, Bool, true, false, true≢false, List, [], ◌∷◌, Option, Some, None, Result, Ok, Err, refl, ap, subst}
 use Rattle.hprof_reader.specs.Reading.{Gives}
 use Rattle.hprof_reader.specs.declared.fault.Fault.{Fault}
 use Rattle.hprof_session.specs.declared.walk.Item.{Item}
 use Rattle.hprof_session.specs.declared.walk.Walk.{Walk}
-use Rattle.hprof_session.specs.Surveys.{bytes_left}
 use Rattle.hprof_session.specs.Walks.{Left, ItemTold, IsNext, AreNext, left, item_told, next_told}
-use Rattle.hprof_session.proofs.Walked.{walk_of_no_items, walk_of_one_item_more}
 use Rattle.hprof_lines.specs.Passes.{IsWhole}
-
-pub bytes_shrink : (w : Left) (i : ItemTold) (v : Left) → IsNext w i v → bytes_left v < bytes_left w
-bytes_shrink w i v next = omega (arith, (walk_of_one_item_more w 0 0 w i v (walk_of_no_items w) next).shrunk)
 
 -- what `item_at` tells of each item that is next
 abbrev pub IsOnly : Left → Result (Option (Item × Walk)) Fault → Type 0

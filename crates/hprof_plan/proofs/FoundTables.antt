@@ -1,5 +1,5 @@
 -- The tables of a walk, item by item.
-use Rattle.std.proofs.Common.{◌≡◌, ℕ, ◌+◌, ◌-◌, ◌<◌, ◌≤◌, Bool, true, false, cond, eqb, ◌||◌, List, [], ◌∷◌, ◌++◌, length, map, Option, Some, None, refl, sym, ap, subst, ◌∙◌, arith}
+use Rattle.std.proofs.Common.{◌≡◌, ℕ, ◌+◌, ◌-◌, ◌≤◌, Bool, true, false, cond, List, [], ◌∷◌, ◌++◌, length, map, Option, Some, None, refl, sym, ap, subst, ◌∙◌, arith}
 use Rattle.std.specs.Prelude.{nat_eq}
 use Rattle.std.specs.Borrow.{Bor}
 use Rattle.std.specs.List.{filter_map, cons_option}
@@ -7,16 +7,14 @@ use Rattle.std.specs.Option.{option_to_list, option_map}
 use Rattle.std.proofs.lemmas.List.{length-append}
 use Rattle.std.proofs.lemmas.List.Sums.{fold-append}
 use Rattle.heap_class.specs.declared.IdSize.{IdSize}
-use Rattle.hprof_text.specs.Text.{u1, u4}
 use Rattle.indexmap.specs.IndexMap.{insert_entry, insert_all as insert_entries}
 use Rattle.indexmap.specs.IndexSet.{insert_key, insert_all as insert_keys}
 use Rattle.hprof_reader.specs.declared.class_dumps.ClassDump.{ClassDump}
 use Rattle.hprof_reader.specs.declared.fault.Fault.{Fault}
-use Rattle.hprof_reader.specs.Records.{Told, record_text}
-use Rattle.hprof_reader.specs.SubRecords.{Sub, ClassTold, class_told, root, class, instance, array, prim, sub_text}
+use Rattle.hprof_reader.specs.SubRecords.{ClassTold, class_told}
 use Rattle.hprof_session.specs.Surveys.{bytes_left, EndsAt}
-use Rattle.hprof_session.specs.Walks.{Left, ItemTold, record_told, sub_told, IsNext, IsAtEnd, AreNext}
-use Rattle.hprof_session.proofs.Walked.{walk_end_leaves_no_bytes, is_at_end}
+use Rattle.hprof_session.specs.Walks.{Left, ItemTold, IsNext, IsAtEnd, AreNext}
+use Rattle.hprof_session.proofs.Walked.{walk_end_leaves_no_bytes, is_at_end, items_next_with_one_more, next_item_leaves_fewer_bytes}
 use Rattle.hprof_plan.specs.Items.{array_class_of, class_of, class_entry, load_of, name_of, object_of, root_of}
 use Rattle.hprof_plan.specs.Tables.{classes_told, names_told}
 use Rattle.hprof_plan.specs.Finds.{HasTables, Finds, IsEmptyFound, Notes}
@@ -108,33 +106,6 @@ tables_and ids list i old new t n = record {
   roots = n.roots ∙ ap (λ l. l ++ option_to_list (root_of i)) t.roots ∙ sym (told_and root_of list i);
 }
 
--- ---- each item takes bytes
-
-sub_size : (ids : IdSize) (s : Sub) → 0 < length (sub_text ids s)
-sub_size ids (root tag x more) = omega arith
-sub_size ids (class c) = omega arith
-sub_size ids (instance x trace k values) = omega arith
-sub_size ids (array x trace count k elements) = omega arith
-sub_size ids (prim x trace count kind elements) = omega arith
-
-segment_size : (heap : Bool) (body : List ℕ) → length (cond heap body []) ≤ length body
-segment_size true body = omega arith
-segment_size false body = omega arith
-
-record_size : (r : Told) → length r.body < length (record_text r)
-record_size r = omega (arith, length-append (u1 r.tag ++ u4 r.time ++ u4 (length r.body)) r.body, length-append (u1 r.tag ++ u4 r.time) (u4 (length r.body)), length-append (u1 r.tag) (u4 r.time))
-
-shrinks : (w : Left) (i : ItemTold) (v : Left) → IsNext w i v → bytes_left v < bytes_left w
-shrinks w (record_told r) v next =
-    let body : length v.segment ≤ length r.body = omega (arith, ap length next.segment, segment_size (eqb r.tag 0x0c || eqb r.tag 0x1c) r.body) in
-    omega (arith, body, record_size r, ap length next.rest, length-append (record_text r) v.rest)
-shrinks w (sub_told s) v next =
-    omega (arith, sub_size w.ids s, ap length next.segment, length-append (sub_text w.ids s) v.segment, ap length next.rest)
-
-snoc : (w : Left) (list : List ItemTold) (u : Left) (i : ItemTold) (v : Left) → AreNext w list u → IsNext u i v → AreNext w (list ++ (i ∷ [])) v
-snoc w [] u i v same next = (v, subst (λ (x : Left). IsNext x i v) (sym same) next, refl)
-snoc w (j ∷ list) u i v are next = (are.0, are.1, snoc are.0 list u i v are.2 next)
-
 -- ---- a walk so far
 
 -- after this number of turns the walk came here, and found this
@@ -153,8 +124,8 @@ starts w f none = record { list = []; walked = refl; shrunk = omega arith; table
 pub goes_on : (w : Left) (turns : ℕ) (u : Left) (old : Found) (i : ItemTold) (v : Left) (new : Found) → IsSoFar w turns u old → IsNext u i v → Notes i old new → IsSoFar w (turns + 1) v new
 goes_on w turns u old i v new so_far next n = record {
   list = so_far.list ++ (i ∷ []);
-  walked = snoc w so_far.list u i v so_far.walked next;
-  shrunk = omega (arith, shrinks u i v next, so_far.shrunk);
+  walked = items_next_with_one_more w so_far.list u i v so_far.walked next;
+  shrunk = omega (arith, next_item_leaves_fewer_bytes u i v next, so_far.shrunk);
   tables = tables_and w.ids so_far.list i old new so_far.tables n;
   few = omega (arith, so_far.few, n.few);
   fault = n.fault ∙ so_far.fault;

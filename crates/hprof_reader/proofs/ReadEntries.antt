@@ -11,7 +11,7 @@ use Rattle.hprof_text.specs.Text.{u1, u2}
 use Rattle.hprof_reader.specs.Entries.{entry_fields, made_entry, entry_parts, after_entries, table_parts, fields_pair, made_entries, fields_table_parts}
 use Rattle.hprof_reader.specs.declared.fault.Fault.{Fault}
 use Rattle.hprof_reader.specs.Kinds.{kind_parts}
-use Rattle.hprof_reader.specs.Reading.{◌>>=◌, joined, number_at, taken_at}
+use Rattle.hprof_reader.specs.Reading.{◌>>=◌, read_in_turn, number_at, taken_at}
 use Rattle.hprof_reader.specs.SubRecords.{EntryTold, Entries, entry_text, entries_text, FitsEntry, AreEntries, AreFields}
 use Rattle.hprof_reader.proofs.Readers.{IsBytes, IsReader, two_byte_numbers_are_exact, number_reader, bytes_reader, reader_of_two_in_turn, reader_that_makes_value, bound_result_has_its_source, equal_reads_have_equal_values}
 use Rattle.hprof_reader.proofs.ReadKinds.{kind_reader}
@@ -29,7 +29,7 @@ EntryPartsFit ids key x = (length x.0 ≡ key) × (Unit {0} × (length x.1.1 ≡
 
 parts_reader : (ids : IdSize) (key : ℕ) → IsReader parts_text (EntryPartsFit ids key) (entry_fields ids key)
 parts_reader ids key =
-    reader_of_two_in_turn {A = List ℕ} {B = Kind × List ℕ} (λ b. b) (λ b. length b ≡ key) (taken_at key) (λ b x. u1 (type_code x.0) ++ x.1) (λ b x. Unit {0} × (length x.1 ≡ width_of ids x.0)) (λ b. joined kind_parts (λ kind. taken_at (width_of ids kind)))
+    reader_of_two_in_turn {A = List ℕ} {B = Kind × List ℕ} (λ b. b) (λ b. length b ≡ key) (taken_at key) (λ b x. u1 (type_code x.0) ++ x.1) (λ b x. Unit {0} × (length x.1 ≡ width_of ids x.0)) (λ b. read_in_turn kind_parts (λ kind. taken_at (width_of ids kind)))
     (bytes_reader key)
     (λ b _. reader_of_two_in_turn {A = Kind} {B = List ℕ} (λ k. u1 (type_code k)) (λ k. Unit {0}) kind_parts (λ k v. v) (λ k v. length v ≡ width_of ids k) (λ k. taken_at (width_of ids k)) kind_reader (λ k _. bytes_reader (width_of ids k)))
 

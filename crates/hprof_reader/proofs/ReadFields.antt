@@ -7,7 +7,7 @@ use Rattle.hprof_text.specs.Text.{u1, id}
 use Rattle.hprof_text.specs.Fits.{FitsId}
 use Rattle.hprof_reader.specs.Fields.{own_field_text, FitsOwnField, own_field_pair, made_own_field, own_field_parts, static_field_text, FitsStaticField, static_field_pair, made_static_field, static_field_parts}
 use Rattle.hprof_reader.specs.Kinds.{kind_parts}
-use Rattle.hprof_reader.specs.Reading.{joined, number_at, taken_at, id_width}
+use Rattle.hprof_reader.specs.Reading.{read_in_turn, number_at, taken_at, id_width}
 use Rattle.hprof_reader.proofs.Readers.{IsReader, bytes_reader, reader_of_two_in_turn, reader_that_makes_value}
 use Rattle.hprof_reader.proofs.ReadKinds.{id_reader, kind_reader}
 
@@ -39,7 +39,7 @@ StaticFieldFits ids x = FitsId ids x.0 × (Unit {0} × (length x.1.1 ≡ width_o
 
 static_reader : (ids : IdSize) → IsReader (static_text ids) (StaticFieldFits ids) (static_field_pair ids)
 static_reader ids =
-    reader_of_two_in_turn {A = ℕ} {B = Kind × List ℕ} (id ids) (FitsId ids) (number_at (id_width ids)) (λ n x. u1 (type_code x.0) ++ x.1) (λ n x. Unit {0} × (length x.1 ≡ width_of ids x.0)) (λ n. joined kind_parts (λ kind. taken_at (width_of ids kind)))
+    reader_of_two_in_turn {A = ℕ} {B = Kind × List ℕ} (id ids) (FitsId ids) (number_at (id_width ids)) (λ n x. u1 (type_code x.0) ++ x.1) (λ n x. Unit {0} × (length x.1 ≡ width_of ids x.0)) (λ n. read_in_turn kind_parts (λ kind. taken_at (width_of ids kind)))
     (id_reader ids)
     (λ n _. reader_of_two_in_turn {A = Kind} {B = List ℕ} (λ k. u1 (type_code k)) (λ k. Unit {0}) kind_parts (λ k v. v) (λ k v. length v ≡ width_of ids k) (λ k. taken_at (width_of ids k)) kind_reader (λ k _. bytes_reader (width_of ids k)))
 

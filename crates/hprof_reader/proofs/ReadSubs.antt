@@ -12,7 +12,7 @@ use Rattle.hprof_reader.specs.declared.fault.Fault.{Fault}
 use Rattle.hprof_reader.specs.declared.fault.Fault.TheVariants as faults
 use Rattle.hprof_reader.specs.Entries.{table_parts, fields_table_parts}
 use Rattle.hprof_reader.specs.Kinds.{kind_parts}
-use Rattle.hprof_reader.specs.Reading.{◌>>=◌, joined, made, number_at, taken_at}
+use Rattle.hprof_reader.specs.Reading.{◌>>=◌, read_in_turn, made, number_at, taken_at}
 use Rattle.hprof_reader.specs.SubRecords.{Sub, ClassTold, Entries, root, class, instance, array, prim, entries_text, head_text, class_text, sub_text, AreEntries, AreFields, FitsHead, FitsClass, FitsSub}
 use Rattle.hprof_reader.specs.SubSizes.{root_size}
 use Rattle.hprof_reader.specs.SubParts.{id_at, four_at, root_fields, made_root, root_parts, instance_fields, made_instance, instance_parts, array_fields, made_array, array_parts, prim_fields, made_prim, prim_parts, NineNumbers, class_numbers, made_head, class_head_parts, class_fields, made_class, class_parts, class_sub_parts, rootless_parts, tagged_parts, after_tag, sub_parts}
@@ -22,12 +22,12 @@ use Rattle.hprof_reader.proofs.ReadEntries.{table_reader, field_table_reader}
 
 -- an identifier, and what a reader reads after it
 id_then_reader : {B : Type 0} (ids : IdSize) (tb : ℕ → B → List ℕ) (fb : ℕ → B → Type 0) (rb : ℕ → List ℕ → Result (B × List ℕ) Fault) → ((n : ℕ) → IsReader (tb n) (fb n) (rb n))
-    → IsReader (λ (x : ℕ × B). id ids x.0 ++ tb x.0 x.1) (λ x. FitsId ids x.0 × fb x.0 x.1) (joined (id_at ids) rb)
+    → IsReader (λ (x : ℕ × B). id ids x.0 ++ tb x.0 x.1) (λ x. FitsId ids x.0 × fb x.0 x.1) (read_in_turn (id_at ids) rb)
 id_then_reader ids tb fb rb next = reader_of_two_in_turn (id ids) (FitsId ids) (id_at ids) tb fb rb (id_reader ids) (λ n _. next n)
 
 -- a number of 4 bytes, and what a reader reads after it
 four_byte_number_then_reader : {B : Type 0} (tb : ℕ → B → List ℕ) (fb : ℕ → B → Type 0) (rb : ℕ → List ℕ → Result (B × List ℕ) Fault) → ((n : ℕ) → IsReader (tb n) (fb n) (rb n))
-    → IsReader (λ (x : ℕ × B). u4 x.0 ++ tb x.0 x.1) (λ x. (x.0 < 2 ^ 32) × fb x.0 x.1) (joined four_at rb)
+    → IsReader (λ (x : ℕ × B). u4 x.0 ++ tb x.0 x.1) (λ x. (x.0 < 2 ^ 32) × fb x.0 x.1) (read_in_turn four_at rb)
 four_byte_number_then_reader tb fb rb next = reader_of_two_in_turn u4 (λ n. n < 2 ^ 32) four_at tb fb rb four_byte_number_reader (λ n _. next n)
 
 abbrev sub_record_read : Sub × List ℕ → Result (Sub × List ℕ) Fault
@@ -75,9 +75,9 @@ InstanceNumbersFit ids x = FitsId ids x.0 × ((x.1.0 < 2 ^ 32) × (FitsId ids x.
 instance_reader : (ids : IdSize) → IsReader (instance_text ids) (InstanceNumbersFit ids) (instance_fields ids)
 instance_reader ids =
     id_then_reader {B = ℕ × (ℕ × (ℕ × List ℕ))} ids (λ x p. u4 p.0 ++ (id ids p.1.0 ++ (u4 p.1.1.0 ++ p.1.1.1))) (λ x p. (p.0 < 2 ^ 32) × (FitsId ids p.1.0 × ((p.1.1.0 < 2 ^ 32) × (length p.1.1.1 ≡ p.1.1.0))))
-    (λ x. joined four_at (λ trace. joined (id_at ids) (λ k. joined four_at (λ size. taken_at size))))
-    (λ x. four_byte_number_then_reader {B = ℕ × (ℕ × List ℕ)} (λ t p. id ids p.0 ++ (u4 p.1.0 ++ p.1.1)) (λ t p. FitsId ids p.0 × ((p.1.0 < 2 ^ 32) × (length p.1.1 ≡ p.1.0))) (λ trace. joined (id_at ids) (λ k. joined four_at (λ size. taken_at size)))
-    (λ t. id_then_reader {B = ℕ × List ℕ} ids (λ c p. u4 p.0 ++ p.1) (λ c p. (p.0 < 2 ^ 32) × (length p.1 ≡ p.0)) (λ k. joined four_at (λ size. taken_at size))
+    (λ x. read_in_turn four_at (λ trace. read_in_turn (id_at ids) (λ k. read_in_turn four_at (λ size. taken_at size))))
+    (λ x. four_byte_number_then_reader {B = ℕ × (ℕ × List ℕ)} (λ t p. id ids p.0 ++ (u4 p.1.0 ++ p.1.1)) (λ t p. FitsId ids p.0 × ((p.1.0 < 2 ^ 32) × (length p.1.1 ≡ p.1.0))) (λ trace. read_in_turn (id_at ids) (λ k. read_in_turn four_at (λ size. taken_at size)))
+    (λ t. id_then_reader {B = ℕ × List ℕ} ids (λ c p. u4 p.0 ++ p.1) (λ c p. (p.0 < 2 ^ 32) × (length p.1 ≡ p.0)) (λ k. read_in_turn four_at (λ size. taken_at size))
     (λ c. four_byte_number_then_reader {B = List ℕ} (λ n b. b) (λ n b. length b ≡ n) (λ size. taken_at size) (λ n. bytes_reader n))))
 
 instance_taken : (ids : IdSize) (bytes rest : List ℕ) (x : Sub × List ℕ) → IsBytes rest → bytes ≡ u1 0x21 ++ rest → instance_parts ids rest ≡ Ok x → IsSubRecordTaken ids bytes x
@@ -109,9 +109,9 @@ ObjectArrayNumbersFit ids x = FitsId ids x.0 × ((x.1.0 < 2 ^ 32) × ((x.1.1.0 <
 array_reader : (ids : IdSize) → IsReader (array_text ids) (ObjectArrayNumbersFit ids) (array_fields ids)
 array_reader ids =
     id_then_reader {B = ℕ × (ℕ × (ℕ × List ℕ))} ids (λ x p. u4 p.0 ++ (u4 p.1.0 ++ (id ids p.1.1.0 ++ p.1.1.1))) (λ x p. (p.0 < 2 ^ 32) × ((p.1.0 < 2 ^ 32) × (FitsId ids p.1.1.0 × (length p.1.1.1 ≡ id_bytes ids * p.1.0))))
-    (λ x. joined four_at (λ trace. joined four_at (λ count. joined (id_at ids) (λ k. taken_at (id_bytes ids * count)))))
-    (λ x. four_byte_number_then_reader {B = ℕ × (ℕ × List ℕ)} (λ t p. u4 p.0 ++ (id ids p.1.0 ++ p.1.1)) (λ t p. (p.0 < 2 ^ 32) × (FitsId ids p.1.0 × (length p.1.1 ≡ id_bytes ids * p.0))) (λ trace. joined four_at (λ count. joined (id_at ids) (λ k. taken_at (id_bytes ids * count))))
-    (λ t. four_byte_number_then_reader {B = ℕ × List ℕ} (λ n p. id ids p.0 ++ p.1) (λ n p. FitsId ids p.0 × (length p.1 ≡ id_bytes ids * n)) (λ count. joined (id_at ids) (λ k. taken_at (id_bytes ids * count)))
+    (λ x. read_in_turn four_at (λ trace. read_in_turn four_at (λ count. read_in_turn (id_at ids) (λ k. taken_at (id_bytes ids * count)))))
+    (λ x. four_byte_number_then_reader {B = ℕ × (ℕ × List ℕ)} (λ t p. u4 p.0 ++ (id ids p.1.0 ++ p.1.1)) (λ t p. (p.0 < 2 ^ 32) × (FitsId ids p.1.0 × (length p.1.1 ≡ id_bytes ids * p.0))) (λ trace. read_in_turn four_at (λ count. read_in_turn (id_at ids) (λ k. taken_at (id_bytes ids * count))))
+    (λ t. four_byte_number_then_reader {B = ℕ × List ℕ} (λ n p. id ids p.0 ++ p.1) (λ n p. FitsId ids p.0 × (length p.1 ≡ id_bytes ids * n)) (λ count. read_in_turn (id_at ids) (λ k. taken_at (id_bytes ids * count)))
     (λ n. id_then_reader {B = List ℕ} ids (λ c b. b) (λ c b. length b ≡ id_bytes ids * n) (λ k. taken_at (id_bytes ids * n)) (λ c. bytes_reader (id_bytes ids * n)))))
 
 array_taken : (ids : IdSize) (bytes rest : List ℕ) (x : Sub × List ℕ) → IsBytes rest → bytes ≡ u1 0x22 ++ rest → array_parts ids rest ≡ Ok x → IsSubRecordTaken ids bytes x
@@ -142,9 +142,9 @@ PrimitiveArrayNumbersFit ids x = FitsId ids x.0 × ((x.1.0 < 2 ^ 32) × ((x.1.1.
 prim_reader : (ids : IdSize) → IsReader (prim_text ids) (PrimitiveArrayNumbersFit ids) (prim_fields ids)
 prim_reader ids =
     id_then_reader {B = ℕ × (ℕ × (Kind × List ℕ))} ids (λ x p. u4 p.0 ++ (u4 p.1.0 ++ (u1 (type_code p.1.1.0) ++ p.1.1.1))) (λ x p. (p.0 < 2 ^ 32) × ((p.1.0 < 2 ^ 32) × (Unit {0} × (length p.1.1.1 ≡ width_of ids p.1.1.0 * p.1.0))))
-    (λ x. joined four_at (λ trace. joined four_at (λ count. joined kind_parts (λ kind. taken_at (width_of ids kind * count)))))
-    (λ x. four_byte_number_then_reader {B = ℕ × (Kind × List ℕ)} (λ t p. u4 p.0 ++ (u1 (type_code p.1.0) ++ p.1.1)) (λ t p. (p.0 < 2 ^ 32) × (Unit {0} × (length p.1.1 ≡ width_of ids p.1.0 * p.0))) (λ trace. joined four_at (λ count. joined kind_parts (λ kind. taken_at (width_of ids kind * count))))
-    (λ t. four_byte_number_then_reader {B = Kind × List ℕ} (λ n p. u1 (type_code p.0) ++ p.1) (λ n p. Unit {0} × (length p.1 ≡ width_of ids p.0 * n)) (λ count. joined kind_parts (λ kind. taken_at (width_of ids kind * count)))
+    (λ x. read_in_turn four_at (λ trace. read_in_turn four_at (λ count. read_in_turn kind_parts (λ kind. taken_at (width_of ids kind * count)))))
+    (λ x. four_byte_number_then_reader {B = ℕ × (Kind × List ℕ)} (λ t p. u4 p.0 ++ (u1 (type_code p.1.0) ++ p.1.1)) (λ t p. (p.0 < 2 ^ 32) × (Unit {0} × (length p.1.1 ≡ width_of ids p.1.0 * p.0))) (λ trace. read_in_turn four_at (λ count. read_in_turn kind_parts (λ kind. taken_at (width_of ids kind * count))))
+    (λ t. four_byte_number_then_reader {B = Kind × List ℕ} (λ n p. u1 (type_code p.0) ++ p.1) (λ n p. Unit {0} × (length p.1 ≡ width_of ids p.0 * n)) (λ count. read_in_turn kind_parts (λ kind. taken_at (width_of ids kind * count)))
     (λ n. reader_of_two_in_turn {A = Kind} {B = List ℕ} (λ k. u1 (type_code k)) (λ k. Unit {0}) kind_parts (λ k b. b) (λ k b. length b ≡ width_of ids k * n) (λ kind. taken_at (width_of ids kind * n)) kind_reader (λ k _. bytes_reader (width_of ids k * n)))))
 
 prim_taken : (ids : IdSize) (bytes rest : List ℕ) (x : Sub × List ℕ) → IsBytes rest → bytes ≡ u1 0x23 ++ rest → prim_parts ids rest ≡ Ok x → IsSubRecordTaken ids bytes x
@@ -180,41 +180,41 @@ NineNumbersFit ids x =
 abbrev IdAndNumber : Type 0
 IdAndNumber = ℕ × ℕ
 
-one_id_and_number_reader : (ids : IdSize) → IsReader (λ (x : IdAndNumber). id ids x.0 ++ u4 x.1) (λ x. FitsId ids x.0 × (x.1 < 2 ^ 32)) (joined (id_at ids) (λ h. four_at))
+one_id_and_number_reader : (ids : IdSize) → IsReader (λ (x : IdAndNumber). id ids x.0 ++ u4 x.1) (λ x. FitsId ids x.0 × (x.1 < 2 ^ 32)) (read_in_turn (id_at ids) (λ h. four_at))
 one_id_and_number_reader ids = id_then_reader {B = ℕ} ids (λ h n. u4 n) (λ h n. n < 2 ^ 32) (λ h. four_at) (λ h. four_byte_number_reader)
 
-two_ids_and_number_reader : (ids : IdSize) → IsReader (λ (x : ℕ × IdAndNumber). id ids x.0 ++ (id ids x.1.0 ++ u4 x.1.1)) (λ x. FitsId ids x.0 × (FitsId ids x.1.0 × (x.1.1 < 2 ^ 32))) (joined (id_at ids) (λ g. joined (id_at ids) (λ h. four_at)))
-two_ids_and_number_reader ids = id_then_reader {B = IdAndNumber} ids (λ g x. id ids x.0 ++ u4 x.1) (λ g x. FitsId ids x.0 × (x.1 < 2 ^ 32)) (λ g. joined (id_at ids) (λ h. four_at)) (λ g. one_id_and_number_reader ids)
+two_ids_and_number_reader : (ids : IdSize) → IsReader (λ (x : ℕ × IdAndNumber). id ids x.0 ++ (id ids x.1.0 ++ u4 x.1.1)) (λ x. FitsId ids x.0 × (FitsId ids x.1.0 × (x.1.1 < 2 ^ 32))) (read_in_turn (id_at ids) (λ g. read_in_turn (id_at ids) (λ h. four_at)))
+two_ids_and_number_reader ids = id_then_reader {B = IdAndNumber} ids (λ g x. id ids x.0 ++ u4 x.1) (λ g x. FitsId ids x.0 × (x.1 < 2 ^ 32)) (λ g. read_in_turn (id_at ids) (λ h. four_at)) (λ g. one_id_and_number_reader ids)
 
 three_ids_and_number_reader : (ids : IdSize) → IsReader (λ (x : ℕ × (ℕ × IdAndNumber)). id ids x.0 ++ (id ids x.1.0 ++ (id ids x.1.1.0 ++ u4 x.1.1.1))) (λ x. FitsId ids x.0 × (FitsId ids x.1.0 × (FitsId ids x.1.1.0 × (x.1.1.1 < 2 ^ 32))))
-    (joined (id_at ids) (λ f. joined (id_at ids) (λ g. joined (id_at ids) (λ h. four_at))))
-three_ids_and_number_reader ids = id_then_reader {B = ℕ × IdAndNumber} ids (λ f x. id ids x.0 ++ (id ids x.1.0 ++ u4 x.1.1)) (λ f x. FitsId ids x.0 × (FitsId ids x.1.0 × (x.1.1 < 2 ^ 32))) (λ f. joined (id_at ids) (λ g. joined (id_at ids) (λ h. four_at))) (λ f. two_ids_and_number_reader ids)
+    (read_in_turn (id_at ids) (λ f. read_in_turn (id_at ids) (λ g. read_in_turn (id_at ids) (λ h. four_at))))
+three_ids_and_number_reader ids = id_then_reader {B = ℕ × IdAndNumber} ids (λ f x. id ids x.0 ++ (id ids x.1.0 ++ u4 x.1.1)) (λ f x. FitsId ids x.0 × (FitsId ids x.1.0 × (x.1.1 < 2 ^ 32))) (λ f. read_in_turn (id_at ids) (λ g. read_in_turn (id_at ids) (λ h. four_at))) (λ f. two_ids_and_number_reader ids)
 
 four_ids_and_number_reader : (ids : IdSize) → IsReader (λ (x : ℕ × (ℕ × (ℕ × IdAndNumber))). id ids x.0 ++ (id ids x.1.0 ++ (id ids x.1.1.0 ++ (id ids x.1.1.1.0 ++ u4 x.1.1.1.1)))) (λ x. FitsId ids x.0 × (FitsId ids x.1.0 × (FitsId ids x.1.1.0 × (FitsId ids x.1.1.1.0 × (x.1.1.1.1 < 2 ^ 32)))))
-    (joined (id_at ids) (λ e. joined (id_at ids) (λ f. joined (id_at ids) (λ g. joined (id_at ids) (λ h. four_at)))))
-four_ids_and_number_reader ids = id_then_reader {B = ℕ × (ℕ × IdAndNumber)} ids (λ e x. id ids x.0 ++ (id ids x.1.0 ++ (id ids x.1.1.0 ++ u4 x.1.1.1))) (λ e x. FitsId ids x.0 × (FitsId ids x.1.0 × (FitsId ids x.1.1.0 × (x.1.1.1 < 2 ^ 32)))) (λ e. joined (id_at ids) (λ f. joined (id_at ids) (λ g. joined (id_at ids) (λ h. four_at)))) (λ e. three_ids_and_number_reader ids)
+    (read_in_turn (id_at ids) (λ e. read_in_turn (id_at ids) (λ f. read_in_turn (id_at ids) (λ g. read_in_turn (id_at ids) (λ h. four_at)))))
+four_ids_and_number_reader ids = id_then_reader {B = ℕ × (ℕ × IdAndNumber)} ids (λ e x. id ids x.0 ++ (id ids x.1.0 ++ (id ids x.1.1.0 ++ u4 x.1.1.1))) (λ e x. FitsId ids x.0 × (FitsId ids x.1.0 × (FitsId ids x.1.1.0 × (x.1.1.1 < 2 ^ 32)))) (λ e. read_in_turn (id_at ids) (λ f. read_in_turn (id_at ids) (λ g. read_in_turn (id_at ids) (λ h. four_at)))) (λ e. three_ids_and_number_reader ids)
 
 five_ids_and_number_reader : (ids : IdSize) → IsReader (λ (x : ℕ × (ℕ × (ℕ × (ℕ × IdAndNumber)))). id ids x.0 ++ (id ids x.1.0 ++ (id ids x.1.1.0 ++ (id ids x.1.1.1.0 ++ (id ids x.1.1.1.1.0 ++ u4 x.1.1.1.1.1)))))
     (λ x. FitsId ids x.0 × (FitsId ids x.1.0 × (FitsId ids x.1.1.0 × (FitsId ids x.1.1.1.0 × (FitsId ids x.1.1.1.1.0 × (x.1.1.1.1.1 < 2 ^ 32))))))
-    (joined (id_at ids) (λ d. joined (id_at ids) (λ e. joined (id_at ids) (λ f. joined (id_at ids) (λ g. joined (id_at ids) (λ h. four_at))))))
+    (read_in_turn (id_at ids) (λ d. read_in_turn (id_at ids) (λ e. read_in_turn (id_at ids) (λ f. read_in_turn (id_at ids) (λ g. read_in_turn (id_at ids) (λ h. four_at))))))
 five_ids_and_number_reader ids =
     id_then_reader {B = ℕ × (ℕ × (ℕ × IdAndNumber))} ids (λ d x. id ids x.0 ++ (id ids x.1.0 ++ (id ids x.1.1.0 ++ (id ids x.1.1.1.0 ++ u4 x.1.1.1.1)))) (λ d x. FitsId ids x.0 × (FitsId ids x.1.0 × (FitsId ids x.1.1.0 × (FitsId ids x.1.1.1.0 × (x.1.1.1.1 < 2 ^ 32)))))
-    (λ d. joined (id_at ids) (λ e. joined (id_at ids) (λ f. joined (id_at ids) (λ g. joined (id_at ids) (λ h. four_at))))) (λ d. four_ids_and_number_reader ids)
+    (λ d. read_in_turn (id_at ids) (λ e. read_in_turn (id_at ids) (λ f. read_in_turn (id_at ids) (λ g. read_in_turn (id_at ids) (λ h. four_at))))) (λ d. four_ids_and_number_reader ids)
 
 six_ids_and_number_reader : (ids : IdSize) → IsReader (λ (x : ℕ × (ℕ × (ℕ × (ℕ × (ℕ × IdAndNumber))))). id ids x.0 ++ (id ids x.1.0 ++ (id ids x.1.1.0 ++ (id ids x.1.1.1.0 ++ (id ids x.1.1.1.1.0 ++ (id ids x.1.1.1.1.1.0 ++ u4 x.1.1.1.1.1.1))))))
     (λ x. FitsId ids x.0 × (FitsId ids x.1.0 × (FitsId ids x.1.1.0 × (FitsId ids x.1.1.1.0 × (FitsId ids x.1.1.1.1.0 × (FitsId ids x.1.1.1.1.1.0 × (x.1.1.1.1.1.1 < 2 ^ 32)))))))
-    (joined (id_at ids) (λ c. joined (id_at ids) (λ d. joined (id_at ids) (λ e. joined (id_at ids) (λ f. joined (id_at ids) (λ g. joined (id_at ids) (λ h. four_at)))))))
+    (read_in_turn (id_at ids) (λ c. read_in_turn (id_at ids) (λ d. read_in_turn (id_at ids) (λ e. read_in_turn (id_at ids) (λ f. read_in_turn (id_at ids) (λ g. read_in_turn (id_at ids) (λ h. four_at)))))))
 six_ids_and_number_reader ids =
     id_then_reader {B = ℕ × (ℕ × (ℕ × (ℕ × IdAndNumber)))} ids (λ c x. id ids x.0 ++ (id ids x.1.0 ++ (id ids x.1.1.0 ++ (id ids x.1.1.1.0 ++ (id ids x.1.1.1.1.0 ++ u4 x.1.1.1.1.1)))))
     (λ c x. FitsId ids x.0 × (FitsId ids x.1.0 × (FitsId ids x.1.1.0 × (FitsId ids x.1.1.1.0 × (FitsId ids x.1.1.1.1.0 × (x.1.1.1.1.1 < 2 ^ 32))))))
-    (λ c. joined (id_at ids) (λ d. joined (id_at ids) (λ e. joined (id_at ids) (λ f. joined (id_at ids) (λ g. joined (id_at ids) (λ h. four_at)))))) (λ c. five_ids_and_number_reader ids)
+    (λ c. read_in_turn (id_at ids) (λ d. read_in_turn (id_at ids) (λ e. read_in_turn (id_at ids) (λ f. read_in_turn (id_at ids) (λ g. read_in_turn (id_at ids) (λ h. four_at)))))) (λ c. five_ids_and_number_reader ids)
 
 numbers_reader : (ids : IdSize) → IsReader (numbers_text ids) (NineNumbersFit ids) (class_numbers ids)
 numbers_reader ids =
     let last : ℕ × (ℕ × (ℕ × (ℕ × (ℕ × IdAndNumber)))) → List ℕ = λ x. id ids x.0 ++ (id ids x.1.0 ++ (id ids x.1.1.0 ++ (id ids x.1.1.1.0 ++ (id ids x.1.1.1.1.0 ++ (id ids x.1.1.1.1.1.0 ++ u4 x.1.1.1.1.1.1))))) in
     let fits : ℕ × (ℕ × (ℕ × (ℕ × (ℕ × IdAndNumber)))) → Type 0 = λ x. FitsId ids x.0 × (FitsId ids x.1.0 × (FitsId ids x.1.1.0 × (FitsId ids x.1.1.1.0 × (FitsId ids x.1.1.1.1.0 × (FitsId ids x.1.1.1.1.1.0 × (x.1.1.1.1.1.1 < 2 ^ 32)))))) in
-    let read = joined (id_at ids) (λ c. joined (id_at ids) (λ d. joined (id_at ids) (λ e. joined (id_at ids) (λ f. joined (id_at ids) (λ g. joined (id_at ids) (λ h. four_at)))))) in
-    id_then_reader {B = ℕ × (ℕ × (ℕ × (ℕ × (ℕ × (ℕ × IdAndNumber)))))} ids (λ a x. u4 x.0 ++ last x.1) (λ a x. (x.0 < 2 ^ 32) × fits x.1) (λ a. joined four_at (λ b. read)) (λ a. four_byte_number_then_reader {B = ℕ × (ℕ × (ℕ × (ℕ × (ℕ × IdAndNumber))))} (λ b x. last x) (λ b x. fits x) (λ b. read) (λ b. six_ids_and_number_reader ids))
+    let read = read_in_turn (id_at ids) (λ c. read_in_turn (id_at ids) (λ d. read_in_turn (id_at ids) (λ e. read_in_turn (id_at ids) (λ f. read_in_turn (id_at ids) (λ g. read_in_turn (id_at ids) (λ h. four_at)))))) in
+    id_then_reader {B = ℕ × (ℕ × (ℕ × (ℕ × (ℕ × (ℕ × IdAndNumber)))))} ids (λ a x. u4 x.0 ++ last x.1) (λ a x. (x.0 < 2 ^ 32) × fits x.1) (λ a. read_in_turn four_at (λ b. read)) (λ a. four_byte_number_then_reader {B = ℕ × (ℕ × (ℕ × (ℕ × (ℕ × IdAndNumber))))} (λ b x. last x) (λ b x. fits x) (λ b. read) (λ b. six_ids_and_number_reader ids))
 
 regrouped_9 : (a b c d e f g h i : List ℕ) → a ++ (b ++ (c ++ (d ++ (e ++ (f ++ (g ++ (h ++ i))))))) ≡ a ++ b ++ c ++ d ++ e ++ f ++ g ++ h ++ i
 regrouped_9 a b c d e f g h i = simp append_assoc
@@ -245,9 +245,9 @@ ClassHeadAndTablesFit ids x = FitsHead ids x.0 × (AreEntries ids 2 x.1.0 × (Ar
 class_pair_reader : (ids : IdSize) → IsReader (class_pair_text ids) (ClassHeadAndTablesFit ids) (class_fields ids)
 class_pair_reader ids =
     reader_of_two_in_turn {B = Entries × (Entries × Entries)} (head_text ids) (FitsHead ids) (class_head_parts ids) (λ h x. entries_text x.0 ++ (entries_text x.1.0 ++ entries_text x.1.1)) (λ h x. AreEntries ids 2 x.0 × (AreEntries ids (id_bytes ids) x.1.0 × AreFields ids x.1.1))
-    (λ head. joined (table_parts ids 2) (λ constants. joined (table_parts ids (id_bytes ids)) (λ statics. fields_table_parts ids))) (head_reader ids)
+    (λ head. read_in_turn (table_parts ids 2) (λ constants. read_in_turn (table_parts ids (id_bytes ids)) (λ statics. fields_table_parts ids))) (head_reader ids)
     (λ h _. reader_of_two_in_turn {B = Entries × Entries} entries_text (AreEntries ids 2) (table_parts ids 2) (λ c x. entries_text x.0 ++ entries_text x.1) (λ c x. AreEntries ids (id_bytes ids) x.0 × AreFields ids x.1)
-    (λ constants. joined (table_parts ids (id_bytes ids)) (λ statics. fields_table_parts ids)) (table_reader ids 2)
+    (λ constants. read_in_turn (table_parts ids (id_bytes ids)) (λ statics. fields_table_parts ids)) (table_reader ids 2)
     (λ c _. reader_of_two_in_turn {B = Entries} entries_text (AreEntries ids (id_bytes ids)) (table_parts ids (id_bytes ids)) (λ s x. entries_text x) (λ s x. AreFields ids x) (λ statics. fields_table_parts ids) (table_reader ids (id_bytes ids)) (λ s _. field_table_reader ids)))
 
 regrouped_4 : (a b c d : List ℕ) → a ++ (b ++ (c ++ d)) ≡ a ++ b ++ c ++ d

@@ -7,7 +7,7 @@ use Rattle.std.proofs.lemmas.List.{take_at, drop_at, take-append-drop, length-ap
 use Rattle.std.proofs.lemmas.Nat.{be_bytes_2, be_bytes_4, be_bytes_8, from_be_bytes-to_be_bytes_2, from_be_bytes-to_be_bytes_4, from_be_bytes-to_be_bytes_8}
 use Rattle.hprof_reader.specs.declared.fault.Fault.{Fault}
 use Rattle.hprof_reader.specs.declared.fault.Fault.TheVariants.{Short}
-use Rattle.hprof_reader.specs.Reading.{◌>>=◌, Gives, IsRead, joined, made, number_at, taken_at}
+use Rattle.hprof_reader.specs.Reading.{◌>>=◌, Gives, IsRead, read_in_turn, made, number_at, taken_at}
 
 -- each is a byte
 abbrev pub IsBytes : List ℕ → Type 0
@@ -133,7 +133,7 @@ bytes_reader n = record { takes = bytes_taken n; again = bytes_again n }
 -- ---- a reader after a reader
 
 two_readers_take_in_turn : {A B : Type 0} (ta : A → List ℕ) (fa : A → Type 0) (ra : List ℕ → Result (A × List ℕ) Fault) (tb : A → B → List ℕ) (fb : A → B → Type 0) (rb : A → List ℕ → Result (B × List ℕ) Fault)
-    → IsReader ta fa ra → ((a : A) → fa a → IsReader (tb a) (fb a) (rb a)) → (bytes : List ℕ) (x : (A × B) × List ℕ) → IsBytes bytes → joined ra rb bytes ≡ Ok x
+    → IsReader ta fa ra → ((a : A) → fa a → IsReader (tb a) (fb a) (rb a)) → (bytes : List ℕ) (x : (A × B) × List ℕ) → IsBytes bytes → read_in_turn ra rb bytes ≡ Ok x
     → (bytes ≡ ta x.0.0 ++ tb x.0.0 x.0.1 ++ x.1) × IsBytes x.1 × (fa x.0.0 × fb x.0.0 x.0.1)
 two_readers_take_in_turn {A = A} {B = B} ta fa ra tb fb rb first second bytes x small e =
     let p = bound_result_has_its_source (ra bytes) (λ a. rb a.0 a.1 >>= λ b. Ok ((a.0, b.0), b.1)) x e in
@@ -145,12 +145,12 @@ two_readers_take_in_turn {A = A} {B = B} ta fa ra tb fb rb first second bytes x 
     subst (λ (y : (A × B) × List ℕ). (bytes ≡ ta y.0.0 ++ tb y.0.0 y.0.1 ++ y.1) × IsBytes y.1 × (fa y.0.0 × fb y.0.0 y.0.1)) (equal_reads_have_equal_values made x q.2) (parts, v.1, (u.2, v.2))
 
 two_readers_read_again : {A B : Type 0} (ta : A → List ℕ) (fa : A → Type 0) (ra : List ℕ → Result (A × List ℕ) Fault) (tb : A → B → List ℕ) (fb : A → B → Type 0) (rb : A → List ℕ → Result (B × List ℕ) Fault)
-    → IsReader ta fa ra → ((a : A) → fa a → IsReader (tb a) (fb a) (rb a)) → (x : A × B) (rest : List ℕ) → fa x.0 × fb x.0 x.1 → joined ra rb (ta x.0 ++ tb x.0 x.1 ++ rest) ≡ Ok (x, rest)
+    → IsReader ta fa ra → ((a : A) → fa a → IsReader (tb a) (fb a) (rb a)) → (x : A × B) (rest : List ℕ) → fa x.0 × fb x.0 x.1 → read_in_turn ra rb (ta x.0 ++ tb x.0 x.1 ++ rest) ≡ Ok (x, rest)
 two_readers_read_again ta fa ra tb fb rb first second x rest fits =
-    ap (joined ra rb) (append_assoc (ta x.0) (tb x.0 x.1) rest) ∙ rw (first.again x.0 (tb x.0 x.1 ++ rest) fits.0, (second x.0 fits.0).again x.1 rest fits.1) refl
+    ap (read_in_turn ra rb) (append_assoc (ta x.0) (tb x.0 x.1) rest) ∙ rw (first.again x.0 (tb x.0 x.1 ++ rest) fits.0, (second x.0 fits.0).again x.1 rest fits.1) refl
 
 pub reader_of_two_in_turn : {A B : Type 0} (ta : A → List ℕ) (fa : A → Type 0) (ra : List ℕ → Result (A × List ℕ) Fault) (tb : A → B → List ℕ) (fb : A → B → Type 0) (rb : A → List ℕ → Result (B × List ℕ) Fault)
-    → IsReader ta fa ra → ((a : A) → fa a → IsReader (tb a) (fb a) (rb a)) → IsReader (λ (x : A × B). ta x.0 ++ tb x.0 x.1) (λ x. fa x.0 × fb x.0 x.1) (joined ra rb)
+    → IsReader ta fa ra → ((a : A) → fa a → IsReader (tb a) (fb a) (rb a)) → IsReader (λ (x : A × B). ta x.0 ++ tb x.0 x.1) (λ x. fa x.0 × fb x.0 x.1) (read_in_turn ra rb)
 reader_of_two_in_turn ta fa ra tb fb rb first second = record { takes = two_readers_take_in_turn ta fa ra tb fb rb first second; again = two_readers_read_again ta fa ra tb fb rb first second }
 
 -- ---- a value that is made of what was read

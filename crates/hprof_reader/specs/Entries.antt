@@ -7,7 +7,7 @@ use Rattle.heap_class.specs.Kinds.{id_bytes, width_of}
 use Rattle.hprof_reader.specs.declared.class_dumps.Entry.{Entry}
 use Rattle.hprof_reader.specs.declared.fault.Fault.{Fault}
 use Rattle.hprof_reader.specs.Kinds.{kind_parts}
-use Rattle.hprof_reader.specs.Reading.{◌>>=◌, joined, made, number_at, taken_at}
+use Rattle.hprof_reader.specs.Reading.{◌>>=◌, read_in_turn, made, number_at, taken_at}
 use Rattle.hprof_reader.specs.SubRecords.{EntryTold, Entries}
 
 -- an entry that was read
@@ -17,7 +17,7 @@ entry e = record { key = e.key.now; kind = e.kind; value = e.value.now }
 -- the parts of a constant or static field: its key, its kind, and as many bytes as values of the kind have
 abbrev pub entry_fields : IdSize → ℕ → List ℕ → Result ((List ℕ × (Kind × List ℕ)) × List ℕ) Fault
 entry_fields ids key bytes =
-    joined (taken_at key) (λ k. joined kind_parts (λ kind. taken_at (width_of ids kind))) bytes
+    read_in_turn (taken_at key) (λ k. read_in_turn kind_parts (λ kind. taken_at (width_of ids kind))) bytes
 
 -- an entry of these parts
 abbrev pub made_entry : List ℕ × (Kind × List ℕ) → EntryTold
@@ -44,7 +44,7 @@ table_parts ids key bytes = do
 -- the number of fields and their bytes
 abbrev pub fields_pair : IdSize → List ℕ → Result ((ℕ × List ℕ) × List ℕ) Fault
 fields_pair ids bytes =
-    joined (number_at w16) (λ n. taken_at ((id_bytes ids + 1) * n)) bytes
+    read_in_turn (number_at w16) (λ n. taken_at ((id_bytes ids + 1) * n)) bytes
 
 abbrev pub made_entries : ℕ × List ℕ → Entries
 made_entries x = record { count = x.0; bytes = x.1 }

@@ -9,7 +9,7 @@ use Rattle.hprof_reader.specs.declared.fault.Fault.{Fault}
 use Rattle.hprof_reader.specs.declared.fields.OwnField.{OwnField}
 use Rattle.hprof_reader.specs.declared.fields.StaticField.{StaticField}
 use Rattle.hprof_reader.specs.Kinds.{kind_parts}
-use Rattle.hprof_reader.specs.Reading.{joined, made, number_at, taken_at, id_width}
+use Rattle.hprof_reader.specs.Reading.{read_in_turn, made, number_at, taken_at, id_width}
 
 -- ---- own fields
 
@@ -22,7 +22,7 @@ abbrev pub FitsOwnField : IdSize → OwnField → Type 0
 FitsOwnField ids f = FitsId ids f.name
 
 abbrev pub own_field_pair : IdSize → List ℕ → Result ((ℕ × Kind) × List ℕ) Fault
-own_field_pair ids bytes = joined (number_at (id_width ids)) (λ name. kind_parts) bytes
+own_field_pair ids bytes = read_in_turn (number_at (id_width ids)) (λ name. kind_parts) bytes
 
 abbrev pub made_own_field : ℕ × Kind → OwnField
 made_own_field x = record { name = x.0; kind = x.1 }
@@ -53,7 +53,7 @@ FitsStaticField ids f = FitsId ids f.name × (length f.value ≡ width_of ids f.
 
 abbrev pub static_field_pair : IdSize → List ℕ → Result ((ℕ × (Kind × List ℕ)) × List ℕ) Fault
 static_field_pair ids bytes =
-    joined (number_at (id_width ids)) (λ name. joined kind_parts (λ kind. taken_at (width_of ids kind))) bytes
+    read_in_turn (number_at (id_width ids)) (λ name. read_in_turn kind_parts (λ kind. taken_at (width_of ids kind))) bytes
 
 abbrev pub made_static_field : ℕ × (Kind × List ℕ) → StaticTold
 made_static_field x = record { name = x.0; kind = x.1.0; value = x.1.1 }

@@ -38,10 +38,10 @@ id_width Four = w32
 id_width Eight = w64
 
 -- what `first` reads, and then what `second` reads by it
-abbrev pub joined : {A B : Type 0} → (List ℕ → Result (A × List ℕ) Fault)
+abbrev pub read_in_turn : {A B : Type 0} → (List ℕ → Result (A × List ℕ) Fault)
     → (A → List ℕ → Result (B × List ℕ) Fault)
     → List ℕ → Result ((A × B) × List ℕ) Fault
-joined first second bytes = do
+read_in_turn first second bytes = do
   a ← first bytes
   b ← second a.0 a.1
   Ok ((a.0, b.0), b.1)
@@ -49,8 +49,8 @@ joined first second bytes = do
 -- the parts of a record: its tag, its time, the size of its body, and that many bytes
 abbrev pub record_fields : List ℕ → Result ((ℕ × (ℕ × (ℕ × List ℕ))) × List ℕ) Fault
 record_fields bytes =
-    joined (number_at w8)
-    (λ tag. joined (number_at w32) (λ time. joined (number_at w32) (λ size. taken_at size)))
+    read_in_turn (number_at w8)
+    (λ tag. read_in_turn (number_at w32) (λ time. read_in_turn (number_at w32) (λ size. taken_at size)))
     bytes
 
 -- a value made of what was read

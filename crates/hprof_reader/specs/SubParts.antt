@@ -9,7 +9,7 @@ use Rattle.hprof_reader.specs.declared.fault.Fault.{Fault}
 use Rattle.hprof_reader.specs.declared.fault.Fault.TheVariants as faults
 use Rattle.hprof_reader.specs.Entries.{table_parts, fields_table_parts}
 use Rattle.hprof_reader.specs.Kinds.{kind_parts}
-use Rattle.hprof_reader.specs.Reading.{◌>>=◌, joined, made, number_at, taken_at, id_width}
+use Rattle.hprof_reader.specs.Reading.{◌>>=◌, read_in_turn, made, number_at, taken_at, id_width}
 use Rattle.hprof_reader.specs.SubRecords.{Sub, ClassTold, Entries, root, class, instance, array, prim}
 use Rattle.hprof_reader.specs.SubSizes.{root_size}
 
@@ -24,7 +24,7 @@ four_at bytes = number_at w32 bytes
 -- ---- roots
 
 abbrev pub root_fields : IdSize → ℕ → List ℕ → Result ((ℕ × List ℕ) × List ℕ) Fault
-root_fields ids size bytes = joined (id_at ids) (λ x. taken_at size) bytes
+root_fields ids size bytes = read_in_turn (id_at ids) (λ x. taken_at size) bytes
 
 abbrev pub made_root : ℕ → ℕ × List ℕ → Sub
 made_root tag x = root tag x.0 x.1
@@ -37,8 +37,8 @@ root_parts ids tag size bytes = made (made_root tag) (root_fields ids size bytes
 
 abbrev pub instance_fields : IdSize → List ℕ → Result ((ℕ × (ℕ × (ℕ × (ℕ × List ℕ)))) × List ℕ) Fault
 instance_fields ids bytes =
-    joined (id_at ids)
-    (λ x. joined four_at (λ trace. joined (id_at ids) (λ k. joined four_at (λ size. taken_at size)))) bytes
+    read_in_turn (id_at ids)
+    (λ x. read_in_turn four_at (λ trace. read_in_turn (id_at ids) (λ k. read_in_turn four_at (λ size. taken_at size)))) bytes
 
 abbrev pub made_instance : ℕ × (ℕ × (ℕ × (ℕ × List ℕ))) → Sub
 made_instance x = instance x.0 x.1.0 x.1.1.0 x.1.1.1.1
@@ -51,9 +51,9 @@ instance_parts ids bytes = made made_instance (instance_fields ids bytes)
 
 abbrev pub array_fields : IdSize → List ℕ → Result ((ℕ × (ℕ × (ℕ × (ℕ × List ℕ)))) × List ℕ) Fault
 array_fields ids bytes =
-    joined (id_at ids)
-    (λ x. joined four_at
-    (λ trace. joined four_at (λ count. joined (id_at ids) (λ k. taken_at (id_bytes ids * count))))) bytes
+    read_in_turn (id_at ids)
+    (λ x. read_in_turn four_at
+    (λ trace. read_in_turn four_at (λ count. read_in_turn (id_at ids) (λ k. taken_at (id_bytes ids * count))))) bytes
 
 abbrev pub made_array : ℕ × (ℕ × (ℕ × (ℕ × List ℕ))) → Sub
 made_array x = array x.0 x.1.0 x.1.1.0 x.1.1.1.0 x.1.1.1.1
@@ -64,9 +64,9 @@ array_parts ids bytes = made made_array (array_fields ids bytes)
 
 abbrev pub prim_fields : IdSize → List ℕ → Result ((ℕ × (ℕ × (ℕ × (Kind × List ℕ)))) × List ℕ) Fault
 prim_fields ids bytes =
-    joined (id_at ids)
-    (λ x. joined four_at
-    (λ trace. joined four_at (λ count. joined kind_parts (λ kind. taken_at (width_of ids kind * count))))) bytes
+    read_in_turn (id_at ids)
+    (λ x. read_in_turn four_at
+    (λ trace. read_in_turn four_at (λ count. read_in_turn kind_parts (λ kind. taken_at (width_of ids kind * count))))) bytes
 
 abbrev pub made_prim : ℕ × (ℕ × (ℕ × (Kind × List ℕ))) → Sub
 made_prim x = prim x.0 x.1.0 x.1.1.0 x.1.1.1.0 x.1.1.1.1
@@ -83,8 +83,8 @@ NineNumbers = ℕ × (ℕ × (ℕ × (ℕ × (ℕ × (ℕ × (ℕ × (ℕ × ℕ
 
 abbrev pub class_numbers : IdSize → List ℕ → Result (NineNumbers × List ℕ) Fault
 class_numbers ids bytes =
-    joined (id_at ids) (λ a. joined four_at (λ b. joined (id_at ids) (λ c. joined (id_at ids)
-    (λ d. joined (id_at ids) (λ e. joined (id_at ids) (λ f. joined (id_at ids) (λ g. joined (id_at ids)
+    read_in_turn (id_at ids) (λ a. read_in_turn four_at (λ b. read_in_turn (id_at ids) (λ c. read_in_turn (id_at ids)
+    (λ d. read_in_turn (id_at ids) (λ e. read_in_turn (id_at ids) (λ f. read_in_turn (id_at ids) (λ g. read_in_turn (id_at ids)
     (λ h. four_at)))))))) bytes
 
 abbrev pub made_head : NineNumbers → ClassHead
@@ -106,9 +106,9 @@ class_head_parts ids bytes = made made_head (class_numbers ids bytes)
 
 abbrev pub class_fields : IdSize → List ℕ → Result ((ClassHead × (Entries × (Entries × Entries))) × List ℕ) Fault
 class_fields ids bytes =
-    joined (class_head_parts ids)
-    (λ head. joined (table_parts ids 2)
-    (λ constants. joined (table_parts ids (id_bytes ids)) (λ statics. fields_table_parts ids))) bytes
+    read_in_turn (class_head_parts ids)
+    (λ head. read_in_turn (table_parts ids 2)
+    (λ constants. read_in_turn (table_parts ids (id_bytes ids)) (λ statics. fields_table_parts ids))) bytes
 
 abbrev pub made_class : ClassHead × (Entries × (Entries × Entries)) → ClassTold
 made_class x = record { head = x.0; constants = x.1.0; statics = x.1.1.0; fields = x.1.1.1 }

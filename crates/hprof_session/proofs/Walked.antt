@@ -24,7 +24,7 @@ segment_size false body = omega arith
 record_size : (r : Told) → length r.body < length (record_text r)
 record_size r = omega (arith, length-append (u1 r.tag ++ u4 r.time ++ u4 (length r.body)) r.body, length-append (u1 r.tag ++ u4 r.time) (u4 (length r.body)), length-append (u1 r.tag) (u4 r.time))
 
-next_item_leaves_fewer_bytes : (w : Left) (i : ItemTold) (v : Left) → IsNext w i v → bytes_left v < bytes_left w
+pub next_item_leaves_fewer_bytes : (w : Left) (i : ItemTold) (v : Left) → IsNext w i v → bytes_left v < bytes_left w
 next_item_leaves_fewer_bytes w (record_told r) v next =
     let body : length v.segment ≤ length r.body = omega (arith, ap length next.segment, segment_size (eqb r.tag 0x0c || eqb r.tag 0x1c) r.body) in
     omega (arith, body, record_size r, ap length next.rest, length-append (record_text r) v.rest)
@@ -33,7 +33,7 @@ next_item_leaves_fewer_bytes w (sub_told s) v next =
 
 -- ---- several items
 
-items_next_with_one_more : (w : Left) (list : List ItemTold) (u : Left) (i : ItemTold) (v : Left) → AreNext w list u → IsNext u i v → AreNext w (list ++ (i ∷ [])) v
+pub items_next_with_one_more : (w : Left) (list : List ItemTold) (u : Left) (i : ItemTold) (v : Left) → AreNext w list u → IsNext u i v → AreNext w (list ++ (i ∷ [])) v
 items_next_with_one_more w [] u i v same next = (v, subst (λ (x : Left). IsNext x i v) (sym same) next, refl)
 items_next_with_one_more w (j ∷ list) u i v are next = (are.0, are.1, items_next_with_one_more are.0 list u i v are.2 next)
 

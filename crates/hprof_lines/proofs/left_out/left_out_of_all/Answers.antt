@@ -1,5 +1,6 @@
 use Rattle.hprof_session.specs.Walks.{item_told, left}
-use Rattle.hprof_lines.proofs.WholeWalks.{bytes_shrink, whole_next, whole_none, whole_fault}
+use Rattle.hprof_session.proofs.Walked.{next_item_leaves_fewer_bytes}
+use Rattle.hprof_lines.proofs.WholeWalks.{whole_next, whole_none, whole_fault}
 use Rattle.hprof_lines.proofs.Counting.{counting_none, counting_more, counting_all}
 use Rattle.hprof_lines.proofs.left_out.left_out_of_all.Goals as goal
 
@@ -8,7 +9,7 @@ items-init c = λ items whole. counting_none _ _ items whole
 
 pub items-smaller : goal.items-smaller
 items-smaller c =
-    bytes_shrink (left c.items.at) (item_told c.in-Ok-Some.next.0) (left c.in-Ok-Some.next.1) (rw c.in-Ok-Some.field-0-is at c.in-Ok-Some.ensures.found)
+    next_item_leaves_fewer_bytes (left c.items.at) (item_told c.in-Ok-Some.next.0) (left c.in-Ok-Some.next.1) (rw c.in-Ok-Some.field-0-is at c.in-Ok-Some.ensures.found)
 
 pub items-preserved : goal.items-preserved
 items-preserved c = λ items whole.

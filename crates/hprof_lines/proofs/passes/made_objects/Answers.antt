@@ -1,5 +1,6 @@
 use Rattle.hprof_session.specs.Walks.{item_told, left}
-use Rattle.hprof_lines.proofs.WholeWalks.{bytes_shrink, whole_next, whole_none, whole_fault}
+use Rattle.hprof_session.proofs.Walked.{next_item_leaves_fewer_bytes}
+use Rattle.hprof_lines.proofs.WholeWalks.{whole_next, whole_none, whole_fault}
 use Rattle.hprof_lines.proofs.Passing.{making_none, making_more, making_all}
 use Rattle.hprof_lines.proofs.passes.made_objects.Goals as goal
 
@@ -8,7 +9,7 @@ items-init c = rw c.new-made.ensures.items (λ items whole. making_none _ _ _ _ 
 
 pub items-smaller : goal.items-smaller
 items-smaller c =
-    bytes_shrink (left c.items.at) (item_told c.in-Ok-Some.next.0) (left c.in-Ok-Some.next.1) (rw c.in-Ok-Some.field-0-is at c.in-Ok-Some.ensures.found)
+    next_item_leaves_fewer_bytes (left c.items.at) (item_told c.in-Ok-Some.next.0) (left c.in-Ok-Some.next.1) (rw c.in-Ok-Some.field-0-is at c.in-Ok-Some.ensures.found)
 
 pub items-preserved : goal.items-preserved
 items-preserved c = λ items whole.

@@ -1,6 +1,7 @@
 use Rattle.std.proofs.lemmas.Result.{err_from_is_err_and}
 use Rattle.hprof_session.specs.Walks.{item_told, left}
-use Rattle.hprof_lines.proofs.WholeWalks.{bytes_shrink, whole_next, whole_none, whole_fault}
+use Rattle.hprof_session.proofs.Walked.{next_item_leaves_fewer_bytes}
+use Rattle.hprof_lines.proofs.WholeWalks.{whole_next, whole_none, whole_fault}
 use Rattle.hprof_lines.proofs.Passing.{passing_none, passing_more, passing_failed, passing_stopped, passing_ends}
 use Rattle.hprof_lines.proofs.passes.write_pass.Goals as goal
 
@@ -9,7 +10,7 @@ items-init g c = rw c.new-lines.ensures (λ items whole. passing_none _ _ _ _ it
 
 pub items-smaller : goal.items-smaller
 items-smaller g c =
-    bytes_shrink (left c.items.at) (item_told c.in-Ok-Some.next.0) (left c.in-Ok-Some.next.1) (rw c.in-Ok-Some.field-0-is at c.in-Ok-Some.ensures.found)
+    next_item_leaves_fewer_bytes (left c.items.at) (item_told c.in-Ok-Some.next.0) (left c.in-Ok-Some.next.1) (rw c.in-Ok-Some.field-0-is at c.in-Ok-Some.ensures.found)
 
 pub items-preserved : goal.items-preserved
 items-preserved g c = λ items whole.

@@ -7,19 +7,20 @@ use Rattle.heap_pins.specs.View.{PinShown}
 use Rattle.heap_trail.specs.Trail.{Trail, retained, state_ago}
 use Rattle.heap_questions.proofs.PastIds.{legal_ago}
 use Rattle.heap_questions.proofs.PastLosses.{told_by_path}
-use Rattle.heap_questions.proofs.PastTrails.{retained_past, state_past}
+use Rattle.heap_trail.proofs.Rewinds.{retained_after_rewind}
+use Rattle.heap_questions.proofs.PastTrails.{state_past}
 use Rattle.heap_questions.proofs.past.trail.PastTrail.was_reached.Goals as goal
 
 pub overflow_add-self-inside : goal.overflow_add-self-inside
 overflow_add-self-inside c =
     let ago = c.self.inside.ago in
-    omega (arith, c.requires, ap retained c.self.view_is, retained_past ago c.self.inside.machine.now.trail, c.self.invariant, c.retained_count-count.ensures, c.retained_count-count.type_inv)
+    omega (arith, c.requires, ap retained c.self.view_is, retained_after_rewind ago c.self.inside.machine.now.trail, c.self.invariant, c.retained_count-count.ensures, c.retained_count-count.type_inv)
 
 pub pin_ago-requires : goal.pin_ago-requires
 pin_ago-requires c =
     let t = c.self.inside.machine.now.trail in
     let ago = c.self.inside.ago in
-    omega (arith, c.requires, ap retained c.self.view_is, retained_past ago t, c.self.invariant)
+    omega (arith, c.requires, ap retained c.self.view_is, retained_after_rewind ago t, c.self.invariant)
 
 pub returns-clause-told : goal.returns-clause-told
 returns-clause-told c =
@@ -27,7 +28,7 @@ returns-clause-told c =
     let t = m.trail in
     let ago = c.self.inside.ago in
     let n = ago + c.args.n in
-    let few : n ≤ retained t = omega (arith, c.requires, ap retained c.self.view_is, retained_past ago t, c.self.invariant) in
+    let few : n ≤ retained t = omega (arith, c.requires, ap retained c.self.view_is, retained_after_rewind ago t, c.self.invariant) in
     let w = state_ago n t in
     let v = c.view.result in
     let image = pin_image v.pin v.state in

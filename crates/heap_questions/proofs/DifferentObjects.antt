@@ -78,11 +78,11 @@ pub found_object_is_known : (image : Image) (x : ℕ) → IsDumpable image → I
 unfolding object_with
 found_object_is_known image x d = known_if_found image.classes (λ o. o.id == x) image.objects (recursion_from_All (λ (o : DumpedObject). IsKnown image.classes o.kind (length o.words)) image.objects d.known)
 
-pub rows_with_one_id_more : (older newer : Image) (ids : List ℕ) (i : ℕ) (before after : List Difference) → i < length ids → before ≡ flat_map (differences_of older newer) (take i ids) → after ≡ before ++ differences_of older newer (get_or ids i 0)
+pub rows_with_one_id_more : (older newer : Image) (ids : List ℕ) (i x : ℕ) (before after : List Difference) → i < length ids → x ≡ get_or ids i x → before ≡ flat_map (differences_of older newer) (take i ids) → after ≡ before ++ differences_of older newer x
     → after ≡ flat_map (differences_of older newer) (take (i + 1) ids)
-rows_with_one_id_more older newer ids i before after l a e =
+rows_with_one_id_more older newer ids i x before after l at a e =
     let f : ℕ → List Difference = differences_of older newer in
-    let x = get_or ids i 0 in
     e ∙ ap (λ (rs : List Difference). rs ++ f x) a
     ∙ flat_map_more f [] (take i ids) x
-    ∙ ap (flat_map f) (sym (take_more ids i 0 l))
+    ∙ ap (λ (y : ℕ). flat_map f (take i ids ++ y ∷ [])) at
+    ∙ ap (flat_map f) (sym (take_more ids i x l))

@@ -4,28 +4,21 @@ use Rattle.hprof_text.specs.Image.{Image}
 use Rattle.heap_questions.specs.Differences.{AreDifferences}
 use Rattle.heap_questions.specs.declared.differences.Difference.{Difference}
 use Rattle.heap_questions.specs.declared.differences.Difference.TheVariants.{Made, Gone, Changed}
-use Rattle.heap_questions.specs.declared.past.seen.SeenSlot.{SeenSlot}
 use Rattle.session_text.specs.Replies.{and_number, line}
 use Rattle.question_text.specs.Ids.{and_id}
 use Rattle.question_text.specs.Referrers.{count_text}
 use Rattle.question_text.specs.SlotChanges.{and_word}
 
--- the line of an object that one state alone has: its id, and these words
-unfoldable pub end_line : ℕ → List ℕ → List ℕ
-end_line x words = line ((codes "row" ++ and_id x) ++ words)
-
--- the line of a slot that holds other words: the object, its number, and the words in the older and the newer state
-unfoldable pub changed_line : ℕ → ℕ → SeenSlot → SeenSlot → List ℕ
-changed_line x s old new =
-    line
-    ((((codes "row" ++ and_id x) ++ and_number s) ++ and_word old.refers old.word)
-    ++ and_word new.refers new.word)
+-- an object that one state alone has, or a slot and its words in the older and the newer state
+abbrev pub difference_words : Difference → List ℕ
+difference_words (Made x) = and_id x ++ codes " made"
+difference_words (Gone x) = and_id x ++ codes " gone"
+difference_words (Changed x s old new) =
+    ((and_id x ++ and_number s) ++ and_word old.refers old.word) ++ and_word new.refers new.word
 
 -- the line of a difference
 unfoldable pub difference_line : Difference → List ℕ
-difference_line (Made x) = end_line x (codes " made")
-difference_line (Gone x) = end_line x (codes " gone")
-difference_line (Changed x s old new) = changed_line x s old new
+difference_line d = line (codes "row" ++ difference_words d)
 
 -- the answer of `diff`: the lines of all that differs, and how many they are
 abbrev pub IsDiffText : Image → Image → List ℕ → Type 0

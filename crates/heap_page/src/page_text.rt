@@ -2,7 +2,7 @@
 
 // The policy of the page.
 pub(crate) const POLICY: &str =
-    "default-src 'none'; script-src 'sha256-ZYOHd1TcvdxTewCVngV36rRfIhhS4U5jYhhCN6d2Y3M='; style-src 'sha256-vaxzXe171af2/w7CrYYRnR3aoQZskRfAKOsl5HfnCNI='; img-src data:; connect-src 'self'; base-uri 'none'; form-action 'none'; frame-ancestors 'none'";
+    "default-src 'none'; script-src 'sha256-dNgvP01f+TZFc5UMkFKmo9+onTKZQ5g4pATDR7xfXCU='; style-src 'sha256-rwptB6V3j7C9RUYU45deu6HKvCkiW6lYFRte+Sm6CU4='; img-src data:; connect-src 'self'; base-uri 'none'; form-action 'none'; frame-ancestors 'none'";
 
 // The page.
 pub(crate) const PAGE: &[u8] = b"<!doctype html>\n\
@@ -99,7 +99,7 @@ pub(crate) const PAGE: &[u8] = b"<!doctype html>\n\
     .twist { all: unset; display: inline-block; width: 16px; margin-left: -4px; text-align: center; color: var(--ink3); cursor: pointer; } .twist:hover { color: var(--ink); }\n\
     .twist::before { content: \"\xe2\x96\xb8\"; } [aria-expanded=true] > td > .twist::before { content: \"\xe2\x96\xbe\"; } .twist[hidden] { display: inline-block; visibility: hidden; }\n\
     #writes .sub { flex-wrap: wrap; align-items: center; } #writes button { font-weight: 400; } #writes .sub::before { content: \"\"; width: 8px; height: 8px; background: var(--write); transform: rotate(45deg) scale(.8); }\n\
-    #writes td, #writes th { text-align: left; } #writes td:nth-last-child(-n+2) { max-width: 0; width: 38%; overflow: hidden; text-overflow: ellipsis; }\n\
+    #writes td, #writes th, #diffs td, #diffs th { text-align: left; } #writes td:nth-last-child(-n+2), #diffs td:nth-child(n+3) { max-width: 0; width: 38%; overflow: hidden; text-overflow: ellipsis; }\n\
     a.ref { color: var(--accent); text-decoration: none; cursor: pointer; } a.ref:hover { text-decoration: underline; }\n\
     tfoot td { border-top: 1px solid var(--line); color: var(--ink2); position: sticky; bottom: 0; background: var(--panel); }\n\
     .empty { padding: 14px 12px; color: var(--ink3); line-height: 1.6; } .empty b { color: var(--ink2); font-weight: 600; } .empty[hidden] { display: none; }\n\
@@ -169,7 +169,7 @@ pub(crate) const PAGE: &[u8] = b"<!doctype html>\n\
     <main>\n\
     \x20\x20<div class=\"col\">\n\
     \x20\x20\x20\x20<div class=\"panel\" id=\"classpanel\"><h2>Classes <small id=\"classnote\"></small></h2><div class=\"scroll\"><table id=\"classes\"><thead></thead><tbody></tbody><tfoot></tfoot></table></div></div>\n\
-    \x20\x20\x20\x20<div class=\"panel\" id=\"instpanel\"><h2>Instances <small id=\"instnote\"></small></h2><div class=\"scroll\"><table id=\"inst\"><thead></thead><tbody></tbody></table><table id=\"tops\" role=\"treegrid\" aria-label=\"Objects through which most is reached\"><thead><tr><th>Object</th><th class=\"left\">Class</th><th>Objects</th><th>Bytes</th></tr></thead><tbody></tbody></table><div class=\"empty\" id=\"instempty\">Click a class to list its objects, or compare two places to list those made between them.</div></div></div>\n\
+    \x20\x20\x20\x20<div class=\"panel\" id=\"instpanel\"><h2>Instances <small id=\"instnote\"></small></h2><div class=\"scroll\"><table id=\"inst\"><thead></thead><tbody></tbody></table><table id=\"tops\" role=\"treegrid\" aria-label=\"Objects through which most is reached\"><thead><tr><th>Object</th><th class=\"left\">Class</th><th>Objects</th><th>Bytes</th></tr></thead><tbody></tbody></table><div id=\"diffs\"></div><div class=\"empty\" id=\"instempty\">Click a class to list its objects, or compare two places to list those made between them.</div></div></div>\n\
     \x20\x20</div>\n\
     \x20\x20<div class=\"col\">\n\
     \x20\x20\x20\x20<div class=\"panel\" id=\"mappanel\"><h2>Regions <small id=\"mapnote\"></small><span class=\"grow\"></span><span class=\"seg\" role=\"group\" aria-label=\"Zoom\"><button id=\"zoomout\" title=\"Zoom out (-)\" aria-label=\"Zoom out\">\xe2\x88\x92</button><button id=\"zoomin\" title=\"Zoom in (+), or turn the wheel\" aria-label=\"Zoom in\">+</button><button id=\"zoomall\" title=\"Show all regions (0)\">all</button><button id=\"zoomcell\" title=\"Zoom to the cell of the object (Z)\">cell</button></span><span class=\"seg\" role=\"group\" aria-label=\"Colour\"><button id=\"byclass\" aria-pressed=\"true\" title=\"Colour cells by class (C)\">class</button><button id=\"byage\" aria-pressed=\"false\" title=\"Colour cells by age (A)\">age</button></span></h2>\n\
@@ -185,7 +185,7 @@ pub(crate) const PAGE: &[u8] = b"<!doctype html>\n\
     <h2>Find a leak</h2>\n\
     <ol>\n\
     <li><b>Growth between cycles</b> compares the heap at the ends of the two newest marking cycles, so with little garbage in it. Or drag the handle of the time line to a place, press <b>Compare from here</b> (or click the line with <kbd>Shift</kbd>), and drag it to a later one.</li>\n\
-    <li>The classes that grew most stand first. Click one: its objects are listed, the oldest first; those that were there before are faint. With no class picked, the list has the objects through which most is reached: \xe2\x96\xb8 shows which of the objects that one names are reached only through it.</li>\n\
+    <li>The classes that grew most stand first. Click one: its objects are listed, the oldest first; those that were there before are faint. Below stand the objects that are gone, and the slots that hold something else. With no class picked, the list has the objects through which most is reached: \xe2\x96\xb8 shows which of the objects that one names are reached only through it.</li>\n\
     <li>Click an object. <b>Why it is alive</b> is a shortest path from a register, and <b>Written at</b> the step that wrote each field. What it <b>retains</b> is what would go with it, itself counted; bars show how much of the heap that is. Click a field: all its writes are marked on the time line and listed.</li>\n\
     <li>Click a place, such as @1,507: everything now shows the heap there, and <b>Steps</b> what was done around it.</li>\n\
     </ol>\n\
@@ -273,6 +273,7 @@ pub(crate) const PAGE: &[u8] = b"<!doctype html>\n\
     \x20\x20\x20\x20sort: [\"bytes\", -1],\n\
     \x20\x20\x20\x20klass: null,\n\
     \x20\x20\x20\x20tops: { place: -1, rows: [] },\n\
+    \x20\x20\x20\x20diffs: { base: null, place: -1, rows: [] },\n\
     \x20\x20\x20\x20open: new Set(),\n\
     \x20\x20\x20\x20kids: new Map(),\n\
     \x20\x20\x20\x20sizes: { place: -1, of: new Map(), before: new Map() },\n\
@@ -1362,6 +1363,7 @@ pub(crate) const PAGE: &[u8] = b"<!doctype html>\n\
     \x20\x20\x20\x20note.textContent = \"\";\n\
     \x20\x20\x20\x20clearTimeout(sizesLater);\n\
     \x20\x20\x20\x20sizing++;\n\
+    \x20\x20\x20\x20drawDiffs();\n\
     \x20\x20\x20\x20if (!any) return drawTops();\n\
     \x20\x20\x20\x20const { count, before, some } = listed(name, at, since),\n\
     \x20\x20\x20\x20\x20\x20fresh = since === null ? \"\" : `, ${num(count - before)} made since @${num(since)}`;\n\
@@ -1441,6 +1443,56 @@ pub(crate) const PAGE: &[u8] = b"<!doctype html>\n\
     \x20\x20\x20\x20\x20\x20if (row) fillSize(row.cells[2], id, objectAt(id));\n\
     \x20\x20\x20\x20});\n\
     \x20\x20\x20\x20if (wanted() && S.order) drawInstances();\n\
+    \x20\x20}\n\
+    \n\
+    \x20\x20let diffsLater = 0;\n\
+    \n\
+    \x20\x20// Draws what differs from the place that is compared with: the objects that are gone, and the slots that hold something else, of all\n\
+    \x20\x20// objects or of those of a class. Those of the place that was shown before stay until it is known. What was made since is listed above.\n\
+    \x20\x20function drawDiffs() {\n\
+    \x20\x20\x20\x20const { base, shown, klass } = S,\n\
+    \x20\x20\x20\x20\x20\x20it = S.diffs,\n\
+    \x20\x20\x20\x20\x20\x20known = it.base === base && it.place === shown,\n\
+    \x20\x20\x20\x20\x20\x20box = $(\"diffs\");\n\
+    \x20\x20\x20\x20clearTimeout(diffsLater);\n\
+    \x20\x20\x20\x20if (base === null || base === shown) return box.replaceChildren();\n\
+    \x20\x20\x20\x20if (!known) diffsLater = setTimeout(() => loadDiffs(base, shown).catch(() => {}), 300);\n\
+    \x20\x20\x20\x20const rows = it.base === base ? it.rows.filter(([id, slot]) => slot !== \"made\" && (klass === null || objectAt(id)?.name === klass)) : [],\n\
+    \x20\x20\x20\x20\x20\x20sub = el(\"div\", \"sub\", `Differs from @${num(base)}`),\n\
+    \x20\x20\x20\x20\x20\x20out = [sub];\n\
+    \x20\x20\x20\x20sub.append(el(\"small\", \"\", known ? num(rows.length) : \"\xe2\x80\xa6\"));\n\
+    \x20\x20\x20\x20if (rows.length) out.push(diffTable(rows.slice(0, LISTED)));\n\
+    \x20\x20\x20\x20if (rows.length > LISTED) out.push(el(\"div\", \"empty\", `and ${num(rows.length - LISTED)} more`));\n\
+    \x20\x20\x20\x20keepFocus(box, () => box.replaceChildren(...out));\n\
+    \x20\x20}\n\
+    \n\
+    \x20\x20// Asks what differs from the place that is compared with, once both have been shown for a while.\n\
+    \x20\x20async function loadDiffs(base, place) {\n\
+    \x20\x20\x20\x20if (S.fast) return;\n\
+    \x20\x20\x20\x20const r = await ask(`diff @${base} @${place}`, true);\n\
+    \x20\x20\x20\x20if (!r.ok || base !== S.base || place !== S.shown) return;\n\
+    \x20\x20\x20\x20S.diffs = { base, place, rows: r.rows };\n\
+    \x20\x20\x20\x20drawDiffs();\n\
+    \x20\x20}\n\
+    \n\
+    \x20\x20function diffTable(rows) {\n\
+    \x20\x20\x20\x20const table = el(\"table\"),\n\
+    \x20\x20\x20\x20\x20\x20head = el(\"tr\");\n\
+    \x20\x20\x20\x20for (const x of [\"Object\", \"Slot\", \"Old\", \"New\"]) head.append(el(\"th\", \"\", x));\n\
+    \x20\x20\x20\x20table.createTHead().append(head);\n\
+    \x20\x20\x20\x20table.createTBody().append(...rows.map(diffRow));\n\
+    \x20\x20\x20\x20table.ariaLabel = \"What differs\";\n\
+    \x20\x20\x20\x20return table;\n\
+    \x20\x20}\n\
+    \n\
+    \x20\x20function diffRow([id, slot, ...words]) {\n\
+    \x20\x20\x20\x20const tr = rowOf(`${id} ${slot}`, \"pick\", () => pick(id)),\n\
+    \x20\x20\x20\x20\x20\x20first = el(\"td\"),\n\
+    \x20\x20\x20\x20\x20\x20o = objectAt(id);\n\
+    \x20\x20\x20\x20if (o) first.append(swatch(colorOf(o.name)));\n\
+    \x20\x20\x20\x20first.append(id);\n\
+    \x20\x20\x20\x20tr.append(first, el(\"td\", words.length ? \"\" : \"dim\", words.length ? nameOfSlot(id, slot) : slot), ...words.map(valueCell));\n\
+    \x20\x20\x20\x20return tr;\n\
     \x20\x20}\n\
     \n\
     \x20\x20// Asks through which objects most is reached, once a place has been shown for a while and no class is picked.\n\
@@ -2595,16 +2647,17 @@ pub(crate) const PAGE: &[u8] = b"<!doctype html>\n\
     \n\
     \x20\x20function writeRow({ p, id, old, now }) {\n\
     \x20\x20\x20\x20const tr = rowOf(`write ${p}`, \"pick\" + (p === S.shown ? \" on\" : \"\"), () => go(p)),\n\
-    \x20\x20\x20\x20\x20\x20place = el(\"td\", \"\", \"@\" + num(p)),\n\
-    \x20\x20\x20\x20\x20\x20value = (v) => {\n\
-    \x20\x20\x20\x20\x20\x20\x20\x20const td = el(\"td\", v === \"null\" || v === \"0\" ? \"dim\" : \"\");\n\
-    \x20\x20\x20\x20\x20\x20\x20\x20td.append(v.startsWith(\"0x\") ? idLink(v) : v);\n\
-    \x20\x20\x20\x20\x20\x20\x20\x20td.title = v;\n\
-    \x20\x20\x20\x20\x20\x20\x20\x20return td;\n\
-    \x20\x20\x20\x20\x20\x20};\n\
+    \x20\x20\x20\x20\x20\x20place = el(\"td\", \"\", \"@\" + num(p));\n\
     \x20\x20\x20\x20tr.title = \"Show the heap just after this write\";\n\
-    \x20\x20\x20\x20tr.append(place, ...(S.watch.all ? [value(id)] : []), value(old), value(now));\n\
+    \x20\x20\x20\x20tr.append(place, ...(S.watch.all ? [valueCell(id)] : []), valueCell(old), valueCell(now));\n\
     \x20\x20\x20\x20return tr;\n\
+    \x20\x20}\n\
+    \n\
+    \x20\x20function valueCell(v) {\n\
+    \x20\x20\x20\x20const td = el(\"td\", v === \"null\" || v === \"0\" ? \"dim\" : \"\");\n\
+    \x20\x20\x20\x20td.append(v.startsWith(\"0x\") ? idLink(v) : v);\n\
+    \x20\x20\x20\x20td.title = v;\n\
+    \x20\x20\x20\x20return td;\n\
     \x20\x20}\n\
     \n\
     \x20\x20// Shows the next write of the picked field before the shown place, or after it.\n\

@@ -17,6 +17,7 @@ sys.path[:0] = [str(TOP / part) for part in ("checks", "checks/page", "checks/mo
 import browser  # noqa: E402
 import clicks  # noqa: E402
 import colours  # noqa: E402
+import differences  # noqa: E402
 import loads  # noqa: E402
 import sizes  # noqa: E402
 import writes  # noqa: E402
@@ -226,7 +227,7 @@ def main(program, *pictures):
         for folder in pictures:
             with Heap(program, LEAK) as heap:
                 take(heap, pathlib.Path(folder))
-        for load in (loads.empty, loads.mixed, loads.few, loads.full, loads.busy, writes.all_of, sizes.all_of):
+        for load in (loads.empty, loads.mixed, loads.few, loads.full, loads.busy, writes.all_of, sizes.all_of, differences.all_of):
             cases += until_late(load(program))
     for name, found, wanted in cases:
         if found != wanted:

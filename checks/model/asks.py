@@ -3,11 +3,12 @@ from re import findall
 
 from draws import Draw
 from heap import FIRST_OBJECT, REGION_WORDS
-from questions import FORMS, QUESTIONS, Asking
+from questions import FORMS, QUESTIONS, Asking, field_names
 
 # What questions have to be answered, and how often at least: refusals by number, others by the words after `ok`.
 ABOUT_A_MOMENT = ("ok", "ok without AT", "no 22", "no 23", "no 24")
 UP_TO_A_PLACE = ("ok without AT", "ok up to a place", "no 24")
+BY_NAME = ("ok by name", "bad by name")
 WANTED = {
     "histogram": ABOUT_A_MOMENT,
     "garbage": ABOUT_A_MOMENT,
@@ -24,13 +25,13 @@ WANTED = {
     "referrers": (*ABOUT_A_MOMENT, "no 28"),
     "registers": ABOUT_A_MOMENT,
     "classes": ABOUT_A_MOMENT,
-    "objects": (*ABOUT_A_MOMENT, "ok of class", "ok by value", "no 2", "no 9"),
-    "values": ("ok nothing", "ok some", "ok several", "ok without AT", "no 2", "no 9", "no 22", "no 23", "no 24"),
+    "objects": (*ABOUT_A_MOMENT, "ok of class", "ok by value", *BY_NAME, "no 2", "no 9"),
+    "values": ("ok nothing", "ok some", "ok several", "ok without AT", *BY_NAME, "no 2", "no 9", "no 22", "no 23", "no 24"),
     "show": (*ABOUT_A_MOMENT, "no 28"),
     "born": ("ok place", "ok older", *UP_TO_A_PLACE, "no 28"),
-    "wrote": ("ok place", "ok older", *UP_TO_A_PLACE, "no 9", "no 28"),
-    "watch": ("ok nothing", "ok some", *UP_TO_A_PLACE, "no 9", "no 28"),
-    "writes": ("ok nothing", "ok some", *UP_TO_A_PLACE[1:], "no 2", "no 9"),
+    "wrote": ("ok place", "ok older", *UP_TO_A_PLACE, *BY_NAME, "no 9", "no 28"),
+    "watch": ("ok nothing", "ok some", *UP_TO_A_PLACE, *BY_NAME, "no 9", "no 28"),
+    "writes": ("ok nothing", "ok some", *UP_TO_A_PLACE[1:], *BY_NAME, "no 2", "no 9"),
     "dropped": ("ok place", "ok older", "ok reached", *UP_TO_A_PLACE, "no 28"),
     "history": ("ok", *UP_TO_A_PLACE),
     "pins": ("ok",),
@@ -53,10 +54,12 @@ def sorts(word, form, words, left_out, last):
         yield "ok without AT"
     if word in PAST and any(str(each).startswith("@") for each in words) and last[0] == "ok":
         yield "ok up to a place"
+    if any(sort in "cs" and not str(each).isdigit() for sort, each in zip(form, words)) and last[0] in ("ok", "bad"):
+        yield f"{last[0]} by name"
     if word == b"retained" and last[0] == "ok":
         yield "ok " + {"0": "nothing", "1": "itself"}.get(last[1], "more")
-    elif word == b"objects" and form in ("ac", "acnv") and last[0] == "ok" and last[1] != "0":
-        yield "ok of class" if form == "ac" else "ok by value"
+    elif word == b"objects" and "c" in form and last[0] == "ok" and last[1] != "0":
+        yield "ok by value" if "v" in form else "ok of class"
     elif word == b"values" and last[0] == "ok":
         yield "ok " + {"0": "nothing", "1": "some"}.get(last[1], "several")
     elif word in (b"watch", b"writes", b"kept", b"diff", b"dominators", b"dominator") and last[0] == "ok":
@@ -106,8 +109,18 @@ class AskingDraw(Draw):
         return f"0x{word:08x}" if lots.below(24) else lots.pick([word, f"0x{word:x}0", f"0x{word:08X}", f"{word:08x}"])
 
     def asked_class(self):
-        """Returns a word for the number of a class, mostly of one that is there."""
-        return self.lots.near(self.lots.below(len(self.state.classes) or 1), 70)
+        """Returns a word for a class, mostly for one that is there: its number, or its name."""
+        lots, classes = self.lots, self.state.classes
+        if classes and lots.once_in(3):
+            return lots.pick([*(each.name.decode() for each in classes), "absent"])
+        return lots.near(lots.below(len(classes) or 1), 70)
+
+    def asked_slot(self):
+        """Returns a word for a slot: its number, or the name of a field of some class."""
+        lots, classes = self.lots, self.state.classes
+        if lots.once_in(3):
+            return lots.pick([*(name for of in range(len(classes)) for name in field_names(classes, of)), "absent"])
+        return lots.near(lots.below(8), 70)
 
     def help_words(self):
         """Returns the words after `help`: none, the word of a line, or words that name no line."""
@@ -121,7 +134,7 @@ class AskingDraw(Draw):
     def ask(self):
         """Asks a question, or for help."""
         word = self.lots.pick([*QUESTIONS, b"help"])
-        draws = {"a": self.moment, "i": self.identifier, "c": self.asked_class, "v": self.held_word}
+        draws = {"a": self.moment, "i": self.identifier, "c": self.asked_class, "s": self.asked_slot, "v": self.held_word}
         draws["p"] = lambda: self.lots.pick(["-", self.retained_place()])
         draws["n"] = lambda: self.lots.near(self.lots.below(8), 70)
         form = "" if word == b"help" else self.lots.pick(QUESTIONS[word].split("|"))

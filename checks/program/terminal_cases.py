@@ -163,7 +163,7 @@ the form of this line is: classes [AT]
 %(forms)sheapdbg 3> |bad command
 the form of this line is: retained [AT] ID
 %(forms)sheapdbg 3> |bad command
-the form of this line is: objects [AT [CLASS [SLOT VALUE]]]
+the form of this line is: objects [AT] [CLASS [SLOT VALUE]]
 %(forms)sheapdbg 3> |no 24 NotRetained
 @PLACE is @P for the state at place P, or - for the current state
 the oldest retained place is @1

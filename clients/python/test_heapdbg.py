@@ -169,6 +169,16 @@ class Replies(unittest.TestCase):
         self.assertEqual(heap.values(PinAt(2, 9), 1, 63), [])
         self.assertEqual(heap.writer.getvalue(), b"values - 0 1\nvalues @7 2 0\nvalues 2 1 63\n")
 
+    def test_names(self):
+        heap = canned(*["ok 0"] * 4, "ok place 3", "row 5 0 7", "ok 1")
+        self.assertEqual((heap.objects(None, "a/B"), heap.objects(None, "a/B", "next", None)), ([], []))
+        self.assertEqual((heap.values(Place(3), "a/B", "next"), heap.writes("a/B", 1)), ([], []))
+        self.assertEqual((heap.wrote(16, "next"), heap.watch(16, "next")), (("place", 3), [(5, 0, 7)]))
+        lines = b"objects - a/B", b"objects - a/B next null", b"values @3 a/B next", b"writes a/B 1", b"wrote 0x00000010 next", b"watch 0x00000010 next"
+        self.assertEqual(heap.writer.getvalue(), b"".join(line + b"\n" for line in lines))
+        for call in (lambda: heap.values(None, "a b", 0), lambda: heap.writes(0, ""), lambda: heap.wrote(16, "x\n")):
+            self.assertRaises(BadCommand, call)
+
     def test_kept(self):
         heap = canned("row 3 48 Node", "ok 3 48", "ok 0 0")
         self.assertEqual((heap.kept(Place(7)), heap.kept(1, PinAt(2, 9))), ([(3, 48, "Node")], []))

@@ -73,6 +73,9 @@ def pinned(words: list, _lines: list) -> PinAt:
 # The name of a pin.
 PinName = Union[Pin, PinAt, int]
 
+# A class or a slot: its number, or the name of the class or the field.
+Name = Union[int, str]
+
 # More rows than any answer has: the number of a pin alone would be taken for a number of rows.
 MOST = (1 << 64) - 1
 
@@ -195,21 +198,20 @@ class Calls:
         return self.send(f"classes {word_of_moment(moment)}", rows_by(defined))
 
     def objects(
-        self, moment: Moment = None, of_class: Optional[int] = None, slot: Optional[int] = None, value: Union[ObjectId, int, None] = None
+        self, moment: Moment = None, of_class: Optional[Name] = None, slot: Optional[Name] = None, value: Union[ObjectId, int, None] = None
     ) -> list[ListedObject]:
-        """Returns a `ListedObject` for each live object, in the order of a dump: for those of a class, given its number; or for those of
-        them with this value in a slot, None for null."""
+        """Returns a `ListedObject` for each live object, in the order of a dump: for those of a class, or for those of them with this
+        value in a slot, None for null. A class and a slot are numbers or names; a text of digits is a number."""
         words = [word_of_moment(moment)]
         if of_class is not None:
-            words.append(str(of_class))
+            words.append(word_of(str(of_class)))
         if slot is not None:
-            words += [str(slot), "null" if value is None else str(value)]
+            words += [word_of(str(slot)), "null" if value is None else str(value)]
         return self.send(" ".join(["objects", *words]), rows_by(listed))
 
-    def values(self, moment: Moment, of_class: int, slot: int) -> list[SlotValue]:
-        """Returns a `SlotValue` for each value that a slot has in the objects of a class, given its number: those of most objects
-        first."""
-        return self.send(f"values {word_of_moment(moment)} {of_class} {slot}", rows_by(valued))
+    def values(self, moment: Moment, of_class: Name, slot: Name) -> list[SlotValue]:
+        """Returns a `SlotValue` for each value that a slot has in the objects of a class: those of most objects first."""
+        return self.send(f"values {word_of_moment(moment)} {word_of(str(of_class))} {word_of(str(slot))}", rows_by(valued))
 
     def histogram(self, moment: Moment = None) -> list[ClassCount]:
         """Returns a `ClassCount` for each class that has objects, the most bytes first."""
@@ -261,21 +263,21 @@ class Calls:
         """Returns a `ClassCount` for each class with live objects that no register reaches."""
         return self.send(f"garbage {word_of_moment(moment)}", rows_by(counted))
 
-    def wrote(self, of: int, slot: int, moment: Moment = None) -> When:
+    def wrote(self, of: int, slot: Name, moment: Moment = None) -> When:
         """Returns the `When` of the newest retained step that changed a slot: ("place", P), or ("older", P). With a `Place` it is
         about the object and the steps up to there."""
-        return self.send(f"wrote {up_to(moment)}{ObjectId(of)} {slot}", place_or_older)
+        return self.send(f"wrote {up_to(moment)}{ObjectId(of)} {word_of(str(slot))}", place_or_older)
 
-    def watch(self, of: int, slot: int, moment: Moment = None) -> list[SlotChange]:
+    def watch(self, of: int, slot: Name, moment: Moment = None) -> list[SlotChange]:
         """Returns a `SlotChange` for each retained step that changed a slot since its object was made, the oldest first. With a
         `Place` it is about the object and the steps up to there."""
-        return self.send(f"watch {ObjectId(of)} {slot} {up_to(moment)}".rstrip(), rows_by(changed))
+        return self.send(f"watch {ObjectId(of)} {word_of(str(slot))} {up_to(moment)}".rstrip(), rows_by(changed))
 
-    def writes(self, of_class: int, slot: int, after: Moment = None, to: Moment = None) -> list[SlotWrite]:
+    def writes(self, of_class: Name, slot: Name, after: Moment = None, to: Moment = None) -> list[SlotWrite]:
         """Returns a `SlotWrite` for each retained step that changed a slot of some object of a class, the oldest first. With a
         `Place` it is about the steps after it, up to a second one if there is one."""
         span = f" {word_of_moment(after)} {word_of_moment(to)}" if after is not None else ""
-        return self.send(f"writes {of_class} {slot}{span}", rows_by(written))
+        return self.send(f"writes {word_of(str(of_class))} {word_of(str(slot))}{span}", rows_by(written))
 
     def born(self, of: int, moment: Moment = None) -> When:
         """Returns the `When` of the step that made an object: ("place", P), or ("older", P). With a `Place` it is about the object

@@ -1,8 +1,10 @@
 -- A comment is no line of the grammar of sessions, no question and no line that asks for help.
 use Rattle.std.proofs.Common.{◌≡◌, ◌∙◌, ap, ap₂, ℕ, Bool, true, false, cond, List, [], ◌∷◌, None, refl, sym, subst}
 use Rattle.std.specs.Prelude.{Option, codes, slice_index, take}
+use Rattle.std.specs.Option.{option_or}
 use Rattle.std.specs.Str.{bytes_eq}
 use Rattle.std.proofs.lemmas.Slice.Eq.{bytes_eq-Decides}
+use Rattle.heap_world.specs.State.{HeapState}
 use Rattle.session_grammar.specs.declared.command.Command.TheVariants.{Bad}
 use Rattle.session_grammar.specs.Grammar.{access_rules, all_rules, by_rule, class_rules, command_of_text, command_of_words, making_rules, marking_rules, session_rules, words_of_line}
 use Rattle.session_text.specs.declared.commands.Local.{Local}
@@ -12,6 +14,7 @@ use Rattle.question_text.specs.Answers.{IsAnswerOf}
 use Rattle.question_text.specs.Collections.{is_collect, is_collect_words}
 use Rattle.question_text.specs.Comments.{is_comment, is_comment_words, unasked_text}
 use Rattle.question_text.specs.Help.{help_or_bad}
+use Rattle.question_text.specs.NamedLines.{named_question_of_words, named_rules, question_in}
 use Rattle.question_text.specs.Questions.{past_rules, question_of_words, question_rules}
 use Rattle.question_text.specs.Sessions.{AnswersLine, AskingAnswers}
 use Rattle.question_text.proofs.NewWords.{bad_words}
@@ -27,6 +30,10 @@ no_rule v ws = refl
 no_question : (v : List ℕ) (ws : List (List ℕ)) → question_of_words ((35 ∷ v) ∷ ws) ≡ None
 unfolding question_of_words question_rules past_rules
 no_question v ws = refl
+
+names_nothing : (state : HeapState) (v : List ℕ) (ws : List (List ℕ)) → named_question_of_words state ((35 ∷ v) ∷ ws) ≡ None
+unfolding named_question_of_words named_rules
+names_nothing state v ws = refl
 
 -- ---- the grammar of sessions
 
@@ -47,6 +54,16 @@ asks_none ([] ∷ ws) e = absurd (cc e)
 asks_none ((b ∷ v) ∷ ws) e =
     subst (λ (x : ℕ). question_of_words ((x ∷ v) ∷ ws) ≡ None) (sym (first_byte b v e)) (no_question v ws)
 
+asks_none_by_names : (state : HeapState) (ws : List (List ℕ)) → is_comment_words ws ≡ true → named_question_of_words state ws ≡ None
+asks_none_by_names state [] e = absurd (cc e)
+asks_none_by_names state ([] ∷ ws) e = absurd (cc e)
+asks_none_by_names state ((b ∷ v) ∷ ws) e =
+    subst (λ (x : ℕ). named_question_of_words state ((x ∷ v) ∷ ws) ≡ None) (sym (first_byte b v e)) (names_nothing state v ws)
+
+asks_none_in : (state : HeapState) (l : List ℕ) → is_comment l ≡ true → question_in state l ≡ None
+asks_none_in state l e =
+    ap₂ (λ (p q : Option Question). option_or p q) (asks_none (words_of_line l) e) (asks_none_by_names state (words_of_line l) e)
+
 collects_none : (ws : List (List ℕ)) → is_comment_words ws ≡ true → is_collect_words ws ≡ false
 collects_none [] e = absurd (cc e)
 collects_none ([] ∷ ws) e = absurd (cc e)
@@ -66,7 +83,7 @@ no_text l e = go (is_comment l) e
 local_silent : (b : Bool) (l text : List ℕ) (c d : Local) → b ≡ false → is_comment l ≡ true → AnswersLine b l c text d → (text ≡ []) × (d ≡ c)
 local_silent true l text c d h e a = absurd (cc h)
 local_silent false l text c d h e a =
-    (subst (λ (q : Option Question). IsAnswerOf q l c.machine None text) (asks_none (words_of_line l) e) a.0 ∙ no_text l e, a.1)
+    (subst (λ (q : Option Question). IsAnswerOf q l c.machine None text) (asks_none_in c.machine.trail.current l e) a.0 ∙ no_text l e, a.1)
 
 pub comment_silent : (l text : List ℕ) (c d : Asking) → is_comment l ≡ true → AskingAnswers l c text d → (text ≡ []) × (d ≡ c)
 comment_silent l text c d e a =

@@ -5,6 +5,7 @@ pub mod ChangedRows
 pub mod ClassRows
 pub mod PinImages
 pub mod NewWords
+pub mod NameWords
 pub mod Comments
 pub mod HelpForms
 pub mod Slots

@@ -1,9 +1,11 @@
 -- No line that asks a question is one of the grammar of sessions.
-use Rattle.std.proofs.Common.{◌≡◌, ◌∙◌, ap₂, ℕ, Bool, true, false, cond, List, [], ◌∷◌, Some, None, refl, sym, subst}
-use Rattle.std.specs.Prelude.{codes, find, option_and_then}
+use Rattle.std.proofs.Common.{◌≡◌, ◌∙◌, ap, ap₂, ℕ, Bool, true, false, cond, List, [], ◌∷◌, Some, None, refl, sym, subst}
+use Rattle.std.specs.Prelude.{Option, codes, find, option_and_then}
 use Rattle.std.specs.List.{AllByRecursion}
+use Rattle.std.specs.Option.{option_or}
 use Rattle.std.specs.Str.{bytes_eq}
 use Rattle.std.proofs.lemmas.Slice.Eq.{bytes_eq-Decides}
+use Rattle.heap_world.specs.State.{HeapState}
 use Rattle.session_grammar.specs.declared.command.Command.TheVariants.{Bad}
 use Rattle.session_grammar.specs.Grammar.{access_rules, all_rules, by_rule, class_rules, command_of_text, command_of_words, is_plain, making_rules, marking_rules, session_rules, words_of_line}
 use Rattle.session_text.specs.declared.commands.Local.{Local}
@@ -11,6 +13,7 @@ use Rattle.question_text.specs.declared.asking.Asking.{Asking}
 use Rattle.question_text.specs.declared.question.Question.{Question}
 use Rattle.question_text.specs.Collections.{is_collect, is_collect_words}
 use Rattle.question_text.specs.Help.{help_about, help_of, help_of_words}
+use Rattle.question_text.specs.NamedLines.{named_question_of_words, named_rules, question_in}
 use Rattle.question_text.specs.Questions.{QuestionRule, past_rules, question_by, question_of, question_of_words, question_rules}
 use Rattle.question_text.specs.Sessions.{AnswersLine, AskingAnswers}
 
@@ -44,6 +47,28 @@ by_words : (ws : List (List ℕ)) (q : Question) → question_of_words ws ≡ So
 unfolding question_of_words
 by_words [] q e = cc
 by_words (w ∷ ws) q e = let none = found_new w ws question_rules q all_new e ws in rw none refl
+
+-- ---- questions with names
+
+named_new : (state : HeapState) → AllByRecursion (λ (r : QuestionRule). IsNew r.0) (named_rules state)
+unfolding named_rules by_rule class_rules making_rules access_rules marking_rules session_rules
+named_new state = (λ ws. refl, (λ ws. refl, (λ ws. refl, (λ ws. refl, (λ ws. refl, tt)))))
+
+by_named_words : (state : HeapState) (ws : List (List ℕ)) (q : Question) → named_question_of_words state ws ≡ Some q → command_of_words ws ≡ Bad
+unfolding named_question_of_words
+by_named_words state [] q e = cc
+by_named_words state (w ∷ ws) q e = let none = found_new w ws (named_rules state) q (named_new state) e ws in rw none refl
+
+by_either : (state : HeapState) (ws : List (List ℕ)) (q : Question) (numbers : Option Question) → question_of_words ws ≡ numbers → option_or numbers (named_question_of_words state ws) ≡ Some q → command_of_words ws ≡ Bad
+by_either state ws q None h e = by_named_words state ws q e
+by_either state ws q (Some p) h e = by_words ws p h
+
+pub same_by_numbers : (state : HeapState) (l : List ℕ) (q : Question) → question_of l ≡ Some q → question_in state l ≡ Some q
+same_by_numbers state l q e =
+    ap (λ (o : Option Question). option_or o (named_question_of_words state (words_of_line l))) e
+
+pub names_no_command : (state : HeapState) (l : List ℕ) (q : Question) → question_in state l ≡ Some q → command_of_text l ≡ Bad
+names_no_command state l q e = bad_words l (by_either state (words_of_line l) q (question_of_words (words_of_line l)) refl e)
 
 -- ---- help
 
@@ -111,6 +136,9 @@ unchanged l text c d h a =
 pub question_changes_nothing : (l text : List ℕ) (q : Question) (c d : Asking) → question_of l ≡ Some q → AskingAnswers l c text d → d ≡ c
 question_changes_nothing l text q c d e a =
     unchanged l text c d (λ t. let clash : None ≡ Some q = sym (no_question (words_of_line l) t) ∙ e in absurd (cc clash)) a
+
+pub others_change_nothing : (l text : List ℕ) (c d : Asking) → is_collect l ≡ false → AskingAnswers l c text d → d ≡ c
+others_change_nothing l text c d e a = unchanged l text c d (λ t. absurd (cc (t, e))) a
 
 pub help_changes_nothing : (l text answer : List ℕ) (c d : Asking) → help_of l ≡ Some answer → AskingAnswers l c text d → d ≡ c
 help_changes_nothing l text answer c d e a =

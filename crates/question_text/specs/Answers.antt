@@ -21,6 +21,7 @@ use Rattle.question_text.specs.Comments.{unasked_text}
 use Rattle.question_text.specs.Histories.{IsHistoryText}
 use Rattle.question_text.specs.Kept.{IsKeptText}
 use Rattle.question_text.specs.Losses.{IsDroppedText}
+use Rattle.question_text.specs.NamedLines.{question_in}
 use Rattle.question_text.specs.ObjectLists.{IsObjectsText}
 use Rattle.question_text.specs.Objects.{IsShowText, shows_mark}
 use Rattle.question_text.specs.PastAnswers.{IsAnswerSeen, IsAnswerUpTo}
@@ -29,7 +30,6 @@ use Rattle.question_text.specs.PinLists.{IsPinsText}
 use Rattle.question_text.specs.RegionLists.{IsRegionsText}
 use Rattle.question_text.specs.Registers.{IsRegistersText}
 use Rattle.question_text.specs.Referrers.{IsReferrersText}
-use Rattle.question_text.specs.Questions.{question_of}
 use Rattle.question_text.specs.SlotChanges.{IsWatchText}
 use Rattle.question_text.specs.SlotWrites.{IsWritesText}
 use Rattle.question_text.specs.Statuses.{IsStatusText}
@@ -104,6 +104,6 @@ abbrev pub IsAnswerOf : Option Question → List ℕ → Machine → Option ℕ 
 IsAnswerOf None l m acts text = text ≡ unasked_text l
 IsAnswerOf (Some q) l m acts text = IsAnswer q m acts text
 
--- the answer of a line that the grammar of sessions doesn't know
+-- the answer of a line that the grammar of sessions doesn't know; names in it are those of the current state
 abbrev pub IsAnswerOfLine : List ℕ → Machine → Option ℕ → List ℕ → Type 0
-IsAnswerOfLine l m acts text = IsAnswerOf (question_of l) l m acts text
+IsAnswerOfLine l m acts text = IsAnswerOf (question_in m.trail.current l) l m acts text

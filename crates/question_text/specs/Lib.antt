@@ -31,6 +31,8 @@ pub mod Histories
 pub mod Help
 pub mod Comments
 pub mod Collections
+pub mod NameWords
+pub mod NamedLines
 pub mod Answers
 pub mod Sessions
 pub mod StateDumps

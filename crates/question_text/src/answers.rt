@@ -17,10 +17,11 @@ use crate::histogram::{garbage_text, histogram_text, retained_answer};
 use crate::history::history_answer;
 use crate::kept::kept_text;
 use crate::loss::dropped_answer;
+use crate::named_line::question_in;
 use crate::object_list::objects_answer;
 use crate::path::path_answer;
 use crate::pin_list::pins_answer;
-use crate::question::{At, Question, question_of};
+use crate::question::{At, Question};
 use crate::referrers::referrers_answer;
 use crate::region_list::regions_answer;
 use crate::registers::registers_answer;
@@ -271,12 +272,12 @@ fn pair_lines(
 }
 
 /// Returns the answer of a line that the grammar of sessions doesn't know: that of a question about a machine, which may have
-/// a chronicle of this length, or of `help`; and `bad command`, if it is neither. Answers NoMemory if an allocation fails. The
-/// line `collect` is no question.
+/// a chronicle of this length, or of `help`; and `bad command`, if it is neither. A question may name classes and fields of the
+/// current state where their numbers may stand. Answers NoMemory if an allocation fails. The line `collect` is no question.
 pub fn answer_line(alloc: Global, machine: &Machine, acts: Option<u64>, line: &[u8]) -> LineAnswer
     ensures { IsAnswerOfLine line.now machine.now acts (line_answer_text result) }
 {
-    match question_of(line) {
+    match question_in(machine.world(), line) {
         Some(question) => answer(alloc, machine, acts, question),
         None => unasked_answer(line),
     }

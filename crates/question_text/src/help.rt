@@ -22,8 +22,8 @@ pub fn question_help(word: &[u8]) -> Option<&'static [u8]>
         b"diff" => Some(b"row diff AT [AT]\nrow diff @120 -\nok\n"),
         b"registers" => Some(b"row registers [AT]\nrow registers -\nok\n"),
         b"classes" => Some(b"row classes [AT]\nrow classes -\nok\n"),
-        b"objects" => Some(b"row objects [AT [CLASS [SLOT VALUE]]]\nrow objects - 0 1 42\nok\n"),
-        b"values" => Some(b"row values [AT] CLASS SLOT\nrow values - 0 1\nok\n"),
+        b"objects" => Some(b"row objects [AT] [CLASS [SLOT VALUE]]\nrow objects server/Entry state 42\nok\n"),
+        b"values" => Some(b"row values [AT] CLASS SLOT\nrow values server/Entry state\nok\n"),
         b"referrers" => Some(b"row referrers [AT] ID\nrow referrers - 0x10000020\nok\n"),
         b"path" => Some(b"row path [AT] ID\nrow path @120 0x10000020\nok\n"),
         b"retained" => Some(b"row retained [AT] ID\nrow retained 0x10000020\nok\n"),
@@ -31,9 +31,9 @@ pub fn question_help(word: &[u8]) -> Option<&'static [u8]>
         b"dominator" => Some(b"row dominator [AT] ID\nrow dominator 0x10000020\nok\n"),
         b"show" => Some(b"row show [AT] ID\nrow show - 0x10000020\nok\n"),
         b"born" => Some(b"row born [@PLACE] ID\nrow born 0x10000020\nok\n"),
-        b"wrote" => Some(b"row wrote [@PLACE] ID SLOT\nrow wrote 0x10000020 1\nok\n"),
-        b"watch" => Some(b"row watch ID SLOT [@PLACE]\nrow watch 0x10000020 1\nok\n"),
-        b"writes" => Some(b"row writes CLASS SLOT [@PLACE [@PLACE]]\nrow writes 0 1\nok\n"),
+        b"wrote" => Some(b"row wrote [@PLACE] ID SLOT\nrow wrote 0x10000020 next\nok\n"),
+        b"watch" => Some(b"row watch ID SLOT [@PLACE]\nrow watch 0x10000020 next\nok\n"),
+        b"writes" => Some(b"row writes CLASS SLOT [@PLACE [@PLACE]]\nrow writes server/Entry state\nok\n"),
         b"dropped" => Some(b"row dropped [@PLACE] ID\nrow dropped 0x10000020\nok\n"),
         b"history" => Some(b"row history [@PLACE] N\nrow history 10\nok\n"),
         b"pins" => Some(b"row pins\nrow pins\nok\n"),
@@ -97,7 +97,7 @@ pub fn all_help() -> &'static [u8]
         row snap\nrow mark\nrow drain\nrow finish\nrow sweep REGION\n\
         row rewind N\nrow open AT\nrow piece PIN\nrow dump PIN\nrow close PIN\nrow end\n\
         row histogram [AT]\nrow garbage [AT]\nrow growth AT [AT]\nrow kept AT [AT]\nrow diff AT [AT]\nrow registers [AT]\nrow classes [AT]\n\
-        row objects [AT [CLASS [SLOT VALUE]]]\nrow values [AT] CLASS SLOT\nrow referrers [AT] ID\nrow path [AT] ID\nrow retained [AT] ID\nrow dominators [AT] [ID] [N]\nrow dominator [AT] ID\nrow show [AT] ID\n\
+        row objects [AT] [CLASS [SLOT VALUE]]\nrow values [AT] CLASS SLOT\nrow referrers [AT] ID\nrow path [AT] ID\nrow retained [AT] ID\nrow dominators [AT] [ID] [N]\nrow dominator [AT] ID\nrow show [AT] ID\n\
         row born [@PLACE] ID\nrow wrote [@PLACE] ID SLOT\nrow watch ID SLOT [@PLACE]\nrow writes CLASS SLOT [@PLACE [@PLACE]]\nrow dropped [@PLACE] ID\nrow history [@PLACE] N\nrow pins\nrow cells\nrow regions\nrow status\nrow collect\n\
         row help WORD\nok\n"
 }

@@ -1,8 +1,9 @@
 //! Questions as lines, and their answers.
 #![tactic(auto)]
 
-ghost use Rattle.std.specs.Prelude.{◌≡◌, ℕ, List, [], Some, codes, true};
+ghost use Rattle.std.specs.Prelude.{◌≡◌, ℕ, List, [], Some, codes, false, true};
 ghost use Rattle.heap_trail.specs.Machine.{Machine};
+ghost use Rattle.heap_world.specs.State.{HeapState};
 ghost use Rattle.session_grammar.specs.declared.command.Command.TheVariants.{Bad};
 ghost use Rattle.std.specs.List.{AllByRecursion};
 ghost use Rattle.session_grammar.specs.Grammar.{Rule, all_rules, command_of_text};
@@ -11,6 +12,7 @@ ghost use Rattle.question_text.specs.declared.asking.Asking.{Asking};
 ghost use Rattle.question_text.specs.Collections.{IsWholeCycle, TakenStep, is_collect};
 ghost use Rattle.question_text.specs.Comments.{is_comment};
 ghost use Rattle.question_text.specs.Help.{HasForm, help_of};
+ghost use Rattle.question_text.specs.NamedLines.{question_in};
 ghost use Rattle.question_text.specs.Questions.{QuestionRule, question_of, question_rules};
 ghost use Rattle.question_text.specs.Sessions.{AnswersAlone, AskingActs, AskingAnswers, IsDriven, NoneCollects};
 ghost use Rattle.session_text.specs.Answers.{AnswersCommand};
@@ -35,6 +37,8 @@ mod history;
 mod id;
 mod kept;
 mod loss;
+mod name_words;
+mod named_line;
 mod names;
 mod object_list;
 mod path;
@@ -67,9 +71,19 @@ pub use state_dump::dump_at;
 pub use steps::Steps;
 pub use watch::{BAD_COMMAND, Watch};
 
-/// States that no line that asks a question is one of the grammar of sessions, so that each of these keeps its meaning.
+/// States that no line that asks a question, by numbers alone or by names of classes and fields, is one of the grammar of
+/// sessions, so that each of these keeps its meaning.
 pub fn questions_are_new()
-    ensures { (l : List ℕ) (q : Question) → question_of l ≡ Some q → command_of_text l ≡ Bad }
+    ensures numbers { (l : List ℕ) (q : Question)
+        → question_of l ≡ Some q → command_of_text l ≡ Bad }
+    ensures names { (w : HeapState) (l : List ℕ) (q : Question)
+        → question_in w l ≡ Some q → command_of_text l ≡ Bad }
+{}
+
+/// States that a line that asks a question by numbers alone asks the same one whatever names a heap has.
+pub fn numbers_keep_their_meaning()
+    ensures { (w : HeapState) (l : List ℕ) (q : Question)
+        → question_of l ≡ Some q → question_in w l ≡ Some q }
 {}
 
 /// States the same of a line that asks for help.
@@ -93,12 +107,15 @@ pub fn comments_are_silent()
         → (text ≡ []) × (d ≡ c) }
 {}
 
-/// States that a question and a line that asks for help change nothing. Only `collect` does.
+/// States that a question and a line that asks for help change nothing, nor does any other line that the grammar of sessions
+/// doesn't know, but `collect`.
 pub fn questions_change_nothing()
     ensures questions { (l text : List ℕ) (q : Question) (c d : Asking)
         → question_of l ≡ Some q → AskingAnswers l c text d → d ≡ c }
     ensures help { (l text answer : List ℕ) (c d : Asking)
         → help_of l ≡ Some answer → AskingAnswers l c text d → d ≡ c }
+    ensures others { (l text : List ℕ) (c d : Asking)
+        → is_collect l ≡ false → AskingAnswers l c text d → d ≡ c }
 {}
 
 /// States that the state determines the steps of `collect`: from one state two whole cycles take the same steps with the same

@@ -224,20 +224,6 @@ fn wanted_of(mut words: Words) -> Option<Wanted>
     at_end(Wanted::Holding { class, slot, word }, words)
 }
 
-// Returns the word that a word tells: an id, `null` or a number. Returns None if it tells none.
-#[tactic(auto, unfolding(crate::specs::Questions::value_of_word))]
-fn value_of(word: &[u8]) -> Option<u64>
-    ensures { result ≡ value_of_word word.now }
-{
-    if is_word(word, b"null") {
-        return Some(0);
-    }
-    match id_of(word) {
-        Some(id) => Some(id),
-        None => number_of(word),
-    }
-}
-
 // Returns the state, and the class and the slot, that the words name. If they name no state, it is the current one.
 fn at_and_slot(mut words: Words) -> Option<(At, (u64, u64))>
     ensures { result ≡ at_and_slot (words_of_line words.entry) }
@@ -375,24 +361,6 @@ fn place_and_id(mut words: Words) -> Option<(Option<u64>, u64)>
     at_end((place_of_word(word)?, id_of(second)?), words)
 }
 
-// Returns the place of the state that a word names.
-fn place_of_word(word: &[u8]) -> Option<Option<u64>>
-    ensures { result ≡ place_of_word word.now }
-{
-    place_of(at_of(word)?)
-}
-
-// Returns the place of a state, or None of a pin: it may keep a state that the retained steps don't lead to.
-fn place_of(at: At) -> Option<Option<u64>>
-    ensures { result ≡ place_of at }
-{
-    match at {
-        At::Current => Some(None),
-        At::Place(place) => Some(Some(place)),
-        At::Pin(_) => None,
-    }
-}
-
 // Returns the place and the number that the words name. If they are only a number, there is no place.
 fn place_and_number(mut words: Words) -> Option<(Option<u64>, u64)>
     ensures { result ≡ place_and_number (words_of_line words.entry) }
@@ -444,8 +412,40 @@ fn slot_and_span(mut words: Words) -> Option<((u64, u64), Span)>
     Some(((class, slot), span_of(words)?))
 }
 
+// Returns the word that a word tells: an id, `null` or a number. Returns None if it tells none.
+#[tactic(auto, unfolding(crate::specs::Questions::value_of_word))]
+pub(crate) fn value_of(word: &[u8]) -> Option<u64>
+    ensures { result ≡ value_of_word word.now }
+{
+    if is_word(word, b"null") {
+        return Some(0);
+    }
+    match id_of(word) {
+        Some(id) => Some(id),
+        None => number_of(word),
+    }
+}
+
+// Returns the place of the state that a word names.
+pub(crate) fn place_of_word(word: &[u8]) -> Option<Option<u64>>
+    ensures { result ≡ place_of_word word.now }
+{
+    place_of(at_of(word)?)
+}
+
+// Returns the place of a state, or None of a pin: it may keep a state that the retained steps don't lead to.
+fn place_of(at: At) -> Option<Option<u64>>
+    ensures { result ≡ place_of at }
+{
+    match at {
+        At::Current => Some(None),
+        At::Place(place) => Some(Some(place)),
+        At::Pin(_) => None,
+    }
+}
+
 // Returns the steps that the words name: all if there are no words.
-fn span_of(mut words: Words) -> Option<Span>
+pub(crate) fn span_of(mut words: Words) -> Option<Span>
     ensures { result ≡ span_of (words_of_line words.entry) }
 {
     let Some(word) = words.next_word() else {

@@ -45,7 +45,6 @@ pub(crate) fn load_dump<R: AllocGlobal + Clock + Eprint + Files, C: Commands + D
 }
 
 // Runs the lines of the session of a dump by these commands, which are those that `B` says.
-#[tactic(auto, using(crate::proofs::RunDumps::converted_dump_is_run))]
 fn run_dump<R: AllocGlobal + Clock + Eprint, C: Commands + Drop, B: LoadStart<C>>(
     rt: &R,
     request: Request<'_>,

@@ -1,10 +1,12 @@
 #!/usr/bin/env python3
 """Converts heap dumps to sessions, and compares the heaps that these make with the dumps: `importing.py PROGRAM IMPORT`.
 
-PROGRAM is heapdbg, IMPORT heapdbg-import. The dumps are those of example sessions, which heapdbg saves, and that of a program in
-Java, where `javac` and `java` are installed. A reader of HPROF of its own reads both dumps. From the roots on, each object must
-have the class, the values and the references of its like, but for arrays of more than 1,024 elements, which are cut. Bad files
-and bad words must be refused. Prints a line for each thing that is otherwise than it must be, and ends with status 1 then."""
+PROGRAM is heapdbg, IMPORT heapdbg-import. The dumps are those of example sessions, which heapdbg saves, and that of a program
+in Java, where `javac` and `java` are installed. A reader of HPROF of its own reads both dumps. From the roots on, each object
+must have the class, the values and the references of its like, but for arrays of more than 1,024 elements, which are cut. Bad
+files and bad words must be refused; what is left out must be told. `explore --hprof` must answer, and report, just as `explore
+--from` does with the session of the dump, also of dumps that are cut or have a byte changed. Prints a line for each thing that
+is otherwise than it must be, and ends with status 1 then."""
 import pathlib
 import shutil
 import subprocess
@@ -20,6 +22,11 @@ OBJECT = 2
 # The tag of each kind of root, the bytes behind its id (an identifier, if negative), and the class of the arrays that keep them.
 ROOTS = {0x01: (-1, "JNI_global"), 0x02: (8, "JNI_local"), 0x03: (8, "Java_frame"), 0x04: (4, "native_stack"), 0x05: (0, "sticky_class"),
          0x06: (4, "thread_block"), 0x07: (0, "monitor_used"), 0x08: (8, "thread_object"), 0xFF: (0, "unknown_root")}
+
+
+# What is asked of a heap that `explore --hprof` makes: the whole heap too, as a dump.
+QUESTIONS = b"status\nclasses\nregions\nregisters\nhistogram\ndump -\ncollect\nhistogram\ndominators 20\n"
+WIDE = ("--wide", "--regions", "2048", "--keep", "16")
 
 
 class Dump:
@@ -183,6 +190,18 @@ def difference(old, new):
     return None if seen else "nothing is reached"
 
 
+def left_out(dump):
+    """Returns what is told of what a session leaves out of a dump that has no fault and keeps within all other limits."""
+    made = {number for number in [*dump.objects, *dump.classes] if dump.is_made(number)}
+    slots = [slot for number in dump.objects for slot in dump.parts(number)[1]]
+    kept = sum(len(dump.statics_of(number)) for number in dump.classes if number in made)
+    counts = ((sum(tag != 0x21 and len(values) > MOST_ELEMENTS for tag, _, values in dump.objects.values()), "arrays cut to 1,024 elements"),
+              (sum(kind == OBJECT and value != 0 and value not in made for _, kind, value in slots), "references to what isn't made"),
+              (sum(root not in made for _, root in dump.roots), "roots of what isn't made"),
+              (sum(len(statics) for _, _, statics in dump.classes.values()) - kept, "static fields that no object has"))
+    return ", ".join(f"{count} {words}" for count, words in counts if count)
+
+
 def saved(program, words, session, dump):
     """Saves the dump of the heap that a session makes. Returns the replies."""
     with open(session, "rb") as lines:
@@ -196,6 +215,9 @@ def imported(program, importer, dump, folder):
     if ran.returncode:
         yield f"{dump.name}: heapdbg-import ends with status {ran.returncode}: {ran.stderr.decode()}"
         return
+    told_of, wanted = ran.stderr.decode(), left_out(Dump(dump))
+    if told_of != (f"heapdbg-import: {dump}: {wanted}\n" if wanted else ""):
+        yield f"{dump.name}: heapdbg-import says {told_of!r} of what it leaves out, and must say {wanted!r}"
     replies = saved(program, ["--wide", "1", "--regions", "65536", "--keep", "1"], session, again)
     refused = [line for line in replies.decode().splitlines() if not line.startswith(("ok", "saved "))]
     if refused:
@@ -214,6 +236,47 @@ def java_dump(folder):
     dump = folder / "cache.hprof"
     subprocess.run(["java", "-cp", str(folder), "Cache", str(dump)], check=True, capture_output=True, timeout=LIMIT)
     return dump
+
+
+def told(program, option, path, words, name=None):
+    """Returns what `explore` does with a file and the questions: its status, its answers and its reports, with another name for the
+    file in these."""
+    ran = subprocess.run([program, "explore", *words, option, str(path)], input=QUESTIONS, capture_output=True, timeout=LIMIT)
+    return ran.returncode, ran.stdout, ran.stderr.replace(bytes(path), bytes(name or path))
+
+
+def explored(program, importer, dump, folder, *words):
+    """Yields how `explore --hprof` differs from `explore --from` with the session that heapdbg-import writes."""
+    session = folder / "explored.session"
+    ran = subprocess.run([importer, str(dump), str(session)], capture_output=True, timeout=LIMIT)
+    said = ran.stderr.replace(b"heapdbg-import:", b"heapdbg:")
+    status, answers, reports = told(program, "--from", session, words, dump)
+    wanted = (1, b"", said + b"heapdbg: hprof\n") if ran.returncode else (status, answers, reports + said)
+    for name, got, want in zip(("status", "answers", "reports"), told(program, "--hprof", dump, words), wanted):
+        if got != want:
+            yield f"{dump.name} {' '.join(words)}: explore --hprof has another {name}: {got[-200:] if name != 'status' else got!r}"
+
+
+def changed(program, importer, dump, folder):
+    """Yields how `explore --hprof` differs from `explore --from` for a dump that is cut, or has one byte changed, at some places."""
+    whole, bad = dump.read_bytes(), folder / "changed.hprof"
+    for place in range(0, len(whole), max(len(whole) // 40, 1)):
+        bad.write_bytes(whole[:place])
+        yield from explored(program, importer, bad, folder, *WIDE)
+        bad.write_bytes(whole[:place] + bytes([whole[place] ^ 0xFF]) + whole[place + 1:])
+        yield from explored(program, importer, bad, folder, *WIDE)
+
+
+def unread(program, dump, folder):
+    """Yields what is wrong with how `explore --hprof` refuses files that can't be read, and words."""
+    for path in folder / "missing", folder:
+        ran = told(program, "--hprof", path, ())
+        if ran != (1, b"", b"heapdbg: hprof\n"):
+            yield f"explore --hprof {path.name}: {ran}"
+    for words in ["--from", str(dump)], ["--port", "7000"]:
+        status, answers, reports = told(program, "--hprof", dump, words)
+        if status != 2 or answers or words[0].encode() not in reports:
+            yield f"explore --hprof with {words[0]}: status {status}, {answers!r}, {reports!r}"
 
 
 def refusals(importer, dump, folder):
@@ -247,11 +310,16 @@ def differences(program, importer):
                 dump = folder / f"{session}-{ids}.hprof"
                 saved(program, ["--ids", ids], TOP / f"examples/{session}.session", dump)
                 yield from imported(program, importer, dump, folder)
+                yield from explored(program, importer, dump, folder, *WIDE)
+                yield from explored(program, importer, dump, folder)
+        yield from changed(program, importer, folder / "leak-8.hprof", folder)
+        yield from unread(program, folder / "leak-8.hprof", folder)
         yield from refusals(importer, folder / "leak-8.hprof", folder)
         yield from cut_dumps(importer, folder / "leak-4.hprof", folder)
         java = java_dump(folder)
         if java:
             yield from imported(program, importer, java, folder)
+            yield from explored(program, importer, java, folder, *WIDE)
 
 
 def main(program, importer):

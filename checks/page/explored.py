@@ -91,11 +91,13 @@ def ends(program):
         yield "a port that is taken", ran(program, words, b"snap\n"), (1, b"", b"heapdbg: listen\n", 0)
     missing = ["explore", "--page", str(free_port()), "--from", str(TOP / "no/such/file")]
     yield "a page and no file", ran(program, missing, b"snap\n"), (1, b"", b"heapdbg: from\n", 1)
+    missing = ["explore", "--page", str(free_port()), "--hprof", str(TOP / "no/such/file")]
+    yield "a page and no dump", ran(program, missing, b"snap\n"), (1, b"", b"heapdbg: hprof\n", 1)
     yield "a cut line beside a page", ran(program, ["explore", "--page", str(free_port())], b"snap"), (1, b"bad cut\n", b"heapdbg: cut\n", 1)
 
 
 def lines_first(program):
-    """Yields a session after a file of lines."""
+    """Yields a session after a file of lines, and one after a dump."""
     with tempfile.TemporaryDirectory() as folder:
         path = pathlib.Path(folder, "first")
         path.write_bytes(b"class A - x:int\nput 0 0 0 7\nnew 0 0 0\nfrobnicate\n")
@@ -103,6 +105,12 @@ def lines_first(program):
         words = ["explore", "--page", str(free_port()), "--from", str(path)]
         answers = b"row 0 x int 0\nok object A 1\n"
         yield "lines first, beside a page", ran(program, words, b"show - 0x10000000\n"), (0, answers, said, 1)
+        saved = pathlib.Path(folder, "heap.hprof")
+        ran(program, ["save", "--out", str(saved)], b"class A - x:int\nnew 0 0 0\n")
+        words = ["explore", "--wide", "1", "--regions", "64", "--hprof", str(saved)]
+        alone = ran(program, words, b"classes -\nregisters -\n")
+        shown = ran(program, [*words, "--page", str(free_port())], b"classes -\nregisters -\n")
+        yield "a dump first, beside a page", shown, (*alone[:3], 1)
 
 
 def same_answers(program):

@@ -349,6 +349,19 @@ class Explored(unittest.TestCase):
                 self.assertEqual((dump[19:23], dump[23:31]), (b"\0\0\0\4", b"\0" * 7 + b"\5"))
             self.assertEqual((heap.status, heap.text), (0, f"heapdbg: {path}:4: no 7 BadRegister: new 9 9 9"))
 
+    def test_a_heap_dump(self):
+        with tempfile.TemporaryDirectory() as folder:
+            path = pathlib.Path(folder, "heap.hprof")
+            with Session.explore(PROGRAM, ids=4) as heap:
+                heap.define_array("Kept")
+                heap.new_array(0, 0, 0, 3)
+                path.write_bytes(heap.dump())
+            with Session.explore(PROGRAM, wide=True, regions=64, hprof=path) as heap:
+                names = [row.name for row in heap.classes()]
+                self.assertIn("Kept", names)
+                self.assertEqual(len(heap.objects(of_class=names.index("Kept"))), 1)
+            self.assertEqual((heap.status, heap.text), (0, ""))
+
     def test_a_wide_heap(self):
         for wide in (False, True):
             with Session.explore(PROGRAM, wide=wide) as heap:

@@ -1,4 +1,5 @@
 //! The bytes that an inlet gave.
+ghost use Rattle.std.specs.Prelude.{◌≡◌, [], None};
 ghost use Rattle.dump_pump.specs.Inlets.{IsTake};
 ghost use Rattle.heap_console.specs.Lines.{IsLineGiven};
 
@@ -35,7 +36,9 @@ impl Model for Given {
 
 impl Given {
     // Creates what an inlet gave that was not read yet: nothing.
-    pub(crate) fn new() -> Given {
+    pub(crate) fn new() -> Given
+        ensures { result ≡ record { taken = []; left = None; reads = []; failures = 0 } }
+    {
         Given {
             taken: Log::new(),
             asked: Log::new(),

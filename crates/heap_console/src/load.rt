@@ -5,6 +5,7 @@ ghost use Rattle.heap_console.specs.Loads.{IsLoaded};
 
 use crate::discard::Discard;
 use crate::line_inlet::LineInlet;
+use crate::line_reports::LineReports;
 use crate::newest::{NewestLine, NotingOutlet};
 use session_text::{Commands, Ended, SessionLimits, serve};
 use std::alloc::{AllocError, Global};
@@ -32,18 +33,18 @@ pub fn load_lines<F: Read + Drop, R: Clock + Eprint, C: Commands>(
     let newest = NewestLine::new(alloc);
     let mut lines = LineInlet::new(rt, alloc, &newest, name, file)?;
     if is_terminal {
-        lines.begin_count();
+        lines.reports.begin_count();
     }
     let mut answers = NotingOutlet::new(Discard::new(), &newest);
     let ended = serve(alloc, &mut lines, &mut answers, commands, time, limits);
-    lines.end_count();
-    report_ending(&lines, ended, limits);
+    lines.reports.end_count();
+    report_ending(&lines.reports, ended, limits);
     Ok(ended)
 }
 
 // Reports why no line was read after the newest, unless the file was read to its end or to a line `end`.
-fn report_ending<F: Read + Drop, R: Clock + Eprint>(
-    lines: &LineInlet<'_, F, R>,
+pub(crate) fn report_ending<R: Clock + Eprint>(
+    lines: &LineReports<'_, R>,
     ended: Ended,
     limits: SessionLimits,
 ) {

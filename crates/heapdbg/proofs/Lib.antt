@@ -1,2 +1,3 @@
 pub mod SavedRuns
 pub mod PageHindrances
+pub mod RunDumps

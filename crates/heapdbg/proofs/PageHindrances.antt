@@ -1,10 +1,19 @@
--- Why a session beside a page doesn't begin.
-use Rattle.std.proofs.Common.{◌≡◌, ◌⊎◌, Bool, inl, inr}
+-- Why a session doesn't begin.
+use Rattle.std.proofs.Common.{◌≡◌, ◌⊎◌, inl, inr}
+use Rattle.heapdbg_options.specs.declared.settings.Origin.{Origin}
+use Rattle.heapdbg_options.specs.declared.settings.Origin.TheVariants.{Fresh, Lines, Dump}
 use Rattle.heapdbg.specs.declared.failure.Fault.{Fault}
 use Rattle.heapdbg.specs.declared.failure.Fault.TheVariants.{Listen, Memory}
+use Rattle.heapdbg.specs.Explorations.{IsHindrance}
 use Rattle.heapdbg.specs.PageExplorations.{IsPageHindrance}
 
+-- there is no memory, whatever is run first
+pub no_memory_hinders : (origin : Origin) (f : Fault) → f ≡ Memory → IsHindrance origin f
+no_memory_hinders Fresh f none = none
+no_memory_hinders Lines f none = inl none
+no_memory_hinders Dump f none = inl none
+
 -- there is no memory, or the port of the page can't be listened on
-pub page_hinders : (from : Bool) (f : Fault) → (f ≡ Memory) ⊎ (f ≡ Listen) → IsPageHindrance from f
-page_hinders from f (inl none) = inl (inl none)
-page_hinders from f (inr taken) = inr taken
+pub page_hinders : (origin : Origin) (f : Fault) → (f ≡ Memory) ⊎ (f ≡ Listen) → IsPageHindrance origin f
+page_hinders origin f (inl none) = inl (no_memory_hinders origin f none)
+page_hinders origin f (inr taken) = inr taken

@@ -33,6 +33,7 @@ word_of_fault fault.Accept = codes "accept"
 word_of_fault fault.Connect = codes "connect"
 word_of_fault fault.Out = codes "out"
 word_of_fault fault.From = codes "from"
+word_of_fault fault.Hprof = codes "hprof"
 word_of_fault fault.Lost = codes "lost"
 word_of_fault fault.Secret = codes "secret"
 

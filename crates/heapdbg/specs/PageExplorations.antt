@@ -1,5 +1,5 @@
 -- A session with questions over a heap that a page shows.
-use Rattle.std.specs.Prelude.{◌≡◌, ◌⊎◌, ◌∷◌, ℕ, Bool, true, false, [], None, length, Result, Err}
+use Rattle.std.specs.Prelude.{◌≡◌, ◌⊎◌, ◌∷◌, ℕ, true, false, [], None, length, Result, Err}
 use Rattle.dump_pump.specs.Inlets.{Incoming}
 use Rattle.dump_pump.specs.Outlets.{Outgoing}
 use Rattle.session_text.specs.Limits.{session_limits}
@@ -12,6 +12,7 @@ use Rattle.heap_server.specs.SessionSeats.{AreUsers}
 use Rattle.heap_server.specs.Stations.{Station, seat_acts, seat_answers, seat_begins, seat_says}
 use Rattle.heap_server.specs.declared.sessions.Terms.{Terms}
 use Rattle.heapdbg_options.specs.HeapLimits.{HeapSettings}
+use Rattle.heapdbg_options.specs.declared.settings.Origin.{Origin}
 use Rattle.heapdbg_options.specs.declared.settings.Settings.{Settings}
 use Rattle.heapdbg.specs.declared.failure.Fault.{Fault}
 use Rattle.heapdbg.specs.declared.failure.Fault.TheVariants.{Listen}
@@ -38,30 +39,29 @@ abbrev pub own_terms : SessionLimits → ℕ → Terms
 own_terms limits time =
     record { time = time; questions = true; secret = None; idle = 0; stays = false; limits = limits }
 
--- a session as it begins: at such a seat, or as the lines of a file left it, which were run first in a session that may have at
--- most this
-abbrev pub IsSeatBegun : SessionLimits → HeapSettings → Bool → ℕ → Station → Type 0
-IsSeatBegun limits config from time c =
+-- a session as it begins: at such a seat, or as lines left it, which were run first in a session that may have at most this
+abbrev pub IsSeatBegun : SessionLimits → HeapSettings → Origin → ℕ → Station → Type 0
+IsSeatBegun limits config origin time c =
     (b : Station) × IsSeated config b
-    × IsRunFirst limits from (seat_says config (own_terms limits time))
+    × IsRunFirst limits origin (seat_says config (own_terms limits time))
     (seat_begins config (own_terms limits time)) b c
 
 -- why a session doesn't begin: as without a page, or its port can't be listened on
-abbrev pub IsPageHindrance : Bool → Fault → Type 0
-IsPageHindrance from f = IsHindrance from f ⊎ (f ≡ Listen)
+abbrev pub IsPageHindrance : Origin → Fault → Type 0
+IsPageHindrance origin f = IsHindrance origin f ⊎ (f ≡ Listen)
 
 -- a session with questions from the only seat of a heap of these settings, and how it ended; or it didn't begin, and then nothing
--- is read or written; the session and the lines of the file may each have at most this
-abbrev pub IsPageExploredOver : SessionLimits → HeapSettings → Bool → ℕ → Incoming → Incoming
+-- is read or written; the session and the lines before it may each have at most this
+abbrev pub IsPageExploredOver : SessionLimits → HeapSettings → Origin → ℕ → Incoming → Incoming
     → Outgoing → Outgoing → Result (Unit {0}) Fault → Type 0
-IsPageExploredOver limits config from time a b w w' result =
-    ((ended : Ended) × (c : Station) × (left : Station) × IsSeatBegun limits config from time c
+IsPageExploredOver limits config origin time a b w w' result =
+    ((ended : Ended) × (c : Station) × (left : Station) × IsSeatBegun limits config origin time c
     × IsServedBeside limits (seat_acts config) (seat_answers config true) time a b c w left w'
     ended × (result ≡ outcome_of ended))
-    ⊎ ((f : Fault) × IsPageHindrance from f × (result ≡ Err f) × (b ≡ a) × (w' ≡ w))
+    ⊎ ((f : Fault) × IsPageHindrance origin f × (result ≡ Err f) × (b ≡ a) × (w' ≡ w))
 
 -- the same of a heap with the settings of a command line
-abbrev pub IsPageExplored : Bool → Settings → Incoming → Incoming → Outgoing → Outgoing
+abbrev pub IsPageExplored : Origin → Settings → Incoming → Incoming → Outgoing → Outgoing
     → Result (Unit {0}) Fault → Type 0
-IsPageExplored from s a b w w' result =
-    IsPageExploredOver (session_limits s.wide) (config_of s) from s.time a b w w' result
+IsPageExplored origin s a b w w' result =
+    IsPageExploredOver (session_limits s.wide) (config_of s) origin s.time a b w w' result

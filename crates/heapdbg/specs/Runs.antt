@@ -14,6 +14,7 @@ use Rattle.heapdbg.specs.declared.failure.Fault.TheVariants.{Memory}
 use Rattle.heapdbg.specs.declared.failure.Failure.{Failure}
 use Rattle.heapdbg.specs.declared.serve.HeapServed.{HeapServed}
 use Rattle.heapdbg_options.specs.declared.settings.LineFault.{LineFault}
+use Rattle.heapdbg_options.specs.declared.settings.Origin.TheVariants.{Fresh}
 use Rattle.heapdbg_options.specs.declared.settings.Service.{Service}
 use Rattle.heapdbg_options.specs.declared.settings.Settings.{Settings}
 use Rattle.heapdbg_options.specs.declared.settings.Task.{Task}
@@ -43,7 +44,7 @@ IsRun s a b w w' result =
 -- a session with questions or without
 abbrev pub IsRunWith : Bool → Settings → Incoming → Incoming → Outgoing → Outgoing
     → Result (Unit {0}) Fault → Type 0
-IsRunWith true s a b w w' result = IsExplored false s a b w w' result
+IsRunWith true s a b w w' result = IsExplored Fresh s a b w w' result
 IsRunWith false s a b w w' result = IsRun s a b w w' result
 
 -- the outcome of a session that was drawn: its own if that is a fault, or that of the picture
@@ -94,8 +95,8 @@ IsFetchDone is_secret w w' result =
 abbrev pub IsTaskDone : Task → Settings → Incoming → Incoming → Outgoing → Outgoing
     → Result (Unit {0}) Fault → Type 0
 IsTaskDone Run s a b w w' result = IsRunWith s.questions s a b w w' result
-IsTaskDone (Explore from None) s a b w w' result = IsExplored from s a b w w' result
-IsTaskDone (Explore from (Some page)) s a b w w' result = IsPageExplored from s a b w w' result
+IsTaskDone (Explore origin None) s a b w w' result = IsExplored origin s a b w w' result
+IsTaskDone (Explore origin (Some page)) s a b w w' result = IsPageExplored origin s a b w w' result
 IsTaskDone Draw s a b w w' result = IsSessionDrawn s a b w w' result
 IsTaskDone (Save Out) s a b w w' result = IsSavedOut s a b w w' result
 IsTaskDone (Save (To port)) s a b w w' result = IsSavedTo fault.Connect s a b w w' result

@@ -9,54 +9,54 @@ use crate::opening::open_local;
 use crate::request::Request;
 use crate::terminals::Screen;
 use dump_pump::Outlet;
-use heapdbg_options::settings::Settings;
+use heapdbg_options::settings::{Origin, Settings};
 use question_text::{Asking, Watch, serve_asking};
 use session_text::{Inlet, session_limits};
 use std::alloc::Global;
 use std::fs::Files;
 use std::time::Clock;
 
-/// Runs one session, in which questions are answered, over a heap of its own. If `from` says so, the lines of the file of the
-/// path are run first; their answers are not shown, and each line that is refused is reported on standard error. Fails as a
-/// session does, with Memory if the heap can't be allocated, and with From if the file can't be opened or is a folder; why, it
-/// says on standard error, if that is a terminal.
+/// Runs one session, in which questions are answered, over a heap of its own. If `origin` says so, the lines of the file of the
+/// path, or of the session of the dump in it, are run first; their answers are not shown, and each line that is refused is reported
+/// on standard error. Fails as a session does, with Memory if the heap can't be allocated, and as `run_first` does.
+#[tactic(auto, using(crate::proofs::PageHindrances::no_memory_hinders))]
 pub fn explore<R: AllocGlobal + Clock + Eprint + Files, I: Inlet, O: Outlet>(
     rt: &R,
     request: Request<'_>,
-    from: bool,
+    origin: Origin,
     screen: Screen<'_>,
     reader: &mut I,
     writer: &mut O,
 ) -> Result<(), Fault>
     requires { IsHeapWithin request.settings }
-    ensures { IsExplored from request.entry.settings (I.seen reader.old) (I.seen reader.new)
+    ensures { IsExplored origin request.entry.settings (I.seen reader.old) (I.seen reader.new)
         (O.seen writer.old) (O.seen writer.new) result }
 {
     let is_terminal = screen.is_terminal;
     match open(rt.alloc(), &request.settings, &screen.console.watch) {
-        Ok(mut asking) => explore_on(rt, request, from, is_terminal, &mut asking, reader, writer),
+        Ok(asking) => explore_on(rt, request, origin, is_terminal, asking, reader, writer),
         Err(fault) => Err(fault),
     }
 }
 
-// Runs one session over a heap as it begins, after the lines of the file of the path if `from` says so.
+// Runs one session over a heap as it begins, after what `origin` says.
 fn explore_on<R: AllocGlobal + Clock + Eprint + Files, I: Inlet, O: Outlet>(
     rt: &R,
     request: Request<'_>,
-    from: bool,
+    origin: Origin,
     is_terminal: bool,
-    asking: &mut Asking<'_>,
+    asking: Asking<'_>,
     reader: &mut I,
     writer: &mut O,
 ) -> Result<(), Fault>
-    requires { IsOpening request.settings asking.old }
-    ensures { IsExplored from request.entry.settings (I.seen reader.old) (I.seen reader.new)
+    requires { IsOpening request.settings asking }
+    ensures { IsExplored origin request.entry.settings (I.seen reader.old) (I.seen reader.new)
         (O.seen writer.old) (O.seen writer.new) result }
 {
-    run_first(rt, request, from, is_terminal, asking)?;
+    let mut asking = run_first(rt, request, origin, is_terminal, asking)?;
     let Settings { time, wide, .. } = request.settings;
     let limits = session_limits(wide);
-    let ended = serve_asking(rt.alloc(), reader, writer, asking, time, limits);
+    let ended = serve_asking(rt.alloc(), reader, writer, &mut asking, time, limits);
     outcome(ended)
 }
 

@@ -35,6 +35,8 @@ pub enum Fault {
     Out,
     /// The file of lines that are run first can't be opened.
     From,
+    /// The file of the heap dump whose heap is made first can't be read, or is none; or its lines end a session.
+    Hprof,
     /// The dump is lost.
     Lost,
     /// The file of the secret can't be read, is for others than its owner too, or has no secret.
@@ -71,6 +73,7 @@ impl Fault {
             Fault::Connect => "connect",
             Fault::Out => "out",
             Fault::From => "from",
+            Fault::Hprof => "hprof",
             Fault::Lost => "lost",
             Fault::Secret => "secret",
         }

@@ -1,54 +1,59 @@
-//! The file of lines that are run before a session.
-ghost use Rattle.std.specs.Prelude.{true, IfErr, IfOk};
+//! What is run before a session.
+ghost use Rattle.std.specs.Prelude.{IfErr, IfOk};
 ghost use Rattle.session_text.specs.Answers.{AnswersCommand, Begins};
 ghost use Rattle.session_text.specs.Limits.{session_limits};
+ghost use Rattle.heapdbg_options.specs.declared.settings.Origin.TheVariants.{Lines};
 ghost use Rattle.heapdbg.specs.Explorations.{IsHindrance, IsRunFirst};
 
 use crate::failure::Fault;
+use crate::first_dump::load_dump;
 use crate::folder::is_folder;
 use crate::reasons::tell_path;
 use crate::request::Request;
 use heap_console::load_lines;
+use heapdbg_options::settings::Origin;
 use session_text::{Commands, session_limits};
 use std::fs;
 use std::fs::Files;
 use std::io::Error;
 use std::time::Clock;
 
-/// Runs the lines of the file of the path by these commands, if `from` says so. Their answers are not shown, and each line that
-/// is refused is reported on standard error, and if that is a terminal, about once a second how many lines were read. Fails with
-/// Memory, and with From if the file can't be opened or is a folder; why, it says on standard error, if that is a terminal.
-pub(crate) fn run_first<R: AllocGlobal + Clock + Eprint + Files, C: Commands>(
+/// Runs by these commands the lines of the file of the path, or of the session of the dump in it, if `origin` says so, and returns
+/// them as the lines left them. Answers are not shown, and each line that is refused is reported on standard error, and if that is
+/// a terminal, about once a second how many lines were read. Fails with Memory, with From if a file of lines can't be opened or is
+/// a folder, and with Hprof as `load_dump` does; why, it says on standard error, if that is a terminal.
+pub(crate) fn run_first<R: AllocGlobal + Clock + Eprint + Files, C: Commands + Drop>(
     rt: &R,
     request: Request<'_>,
-    from: bool,
+    origin: Origin,
     is_terminal: bool,
-    commands: &mut C,
-) -> Result<(), Fault>
-    ensures run { IfOk result (λ u. IsRunFirst
-        (session_limits request.entry.settings.wide) from
+    commands: C,
+) -> Result<C, Fault>
+    ensures run { IfOk result (IsRunFirst
+        (session_limits request.entry.settings.wide) origin
         (AnswersCommand C.acts C.unknown request.entry.settings.time)
-        (Begins C.acts C.unknown request.entry.settings.time) commands.old commands.new) }
-    ensures hindrance { IfErr result (IsHindrance from) }
+        (Begins C.acts C.unknown request.entry.settings.time) commands) }
+    ensures hindrance { IfErr result (IsHindrance origin) }
 {
-    if from {
-        return load(rt, request, is_terminal, commands);
+    match origin {
+        Origin::Fresh => Ok(commands),
+        Origin::Lines => load(rt, request, is_terminal, commands),
+        Origin::Dump => load_dump(rt, request, is_terminal, commands),
     }
-    Ok(())
 }
 
 // Runs the lines of the file of the path.
-fn load<R: AllocGlobal + Clock + Eprint + Files, C: Commands>(
+fn load<R: AllocGlobal + Clock + Eprint + Files, C: Commands + Drop>(
     rt: &R,
     request: Request<'_>,
     is_terminal: bool,
-    commands: &mut C,
-) -> Result<(), Fault>
-    ensures run { IfOk result (λ u. IsRunFirst
-        (session_limits request.entry.settings.wide) true
+    commands: C,
+) -> Result<C, Fault>
+    ensures run { IfOk result (IsRunFirst
+        (session_limits request.entry.settings.wide) Lines
         (AnswersCommand C.acts C.unknown request.entry.settings.time)
-        (Begins C.acts C.unknown request.entry.settings.time) commands.old commands.new) }
-    ensures hindrance { IfErr result (IsHindrance true) }
+        (Begins C.acts C.unknown request.entry.settings.time) commands) }
+    ensures hindrance { IfErr result (IsHindrance Lines) }
 {
     let Some(path) = request.path else {
         return Err(Fault::Memory);
@@ -62,8 +67,19 @@ fn load<R: AllocGlobal + Clock + Eprint + Files, C: Commands>(
     };
     let (alloc, time) = (rt.alloc(), request.settings.time);
     let limits = session_limits(request.settings.wide);
-    match load_lines(rt, alloc, path, file, commands, time, limits, is_terminal) {
-        Ok(_) => Ok(()),
+    let mut commands = commands;
+    let loaded = load_lines(
+        rt,
+        alloc,
+        path,
+        file,
+        &mut commands,
+        time,
+        limits,
+        is_terminal,
+    );
+    match loaded {
+        Ok(_) => Ok(commands),
         Err(_) => Err(Fault::Memory),
     }
 }

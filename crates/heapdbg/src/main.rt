@@ -8,6 +8,7 @@ mod draw;
 mod explore;
 mod failure;
 mod fetch;
+mod first_dump;
 mod first_lines;
 mod folder;
 mod opening;

@@ -17,7 +17,7 @@ use crate::terminals::Screen;
 use crate::watched_seat::WatchedSeat;
 use dump_pump::Outlet;
 use heap_server::{Blank, Heap, PagePort, Seat, Seats, serve_beside_page, users};
-use heapdbg_options::settings::{Settings, config};
+use heapdbg_options::settings::{Origin, Settings, config};
 use session_text::{Inlet, session_limits};
 use std::alloc::Global;
 use std::fs::Files;
@@ -30,13 +30,14 @@ use std::time::Clock;
 
 /// Runs one session as `explore` does, from the only seat of a shared heap that drops its oldest entries, while a thread
 /// answers the clients of a page on a port, whose address is said on standard error. The port is listened on before the lines
-/// of the file are run, and its clients are answered from then until the session has ended. Fails as `explore` does, with
+/// that `origin` says are run, and its clients are answered from then until the session has ended. Fails as `explore` does, with
 /// Listen, before anything is run, if the port can't be listened on, and with Memory if no thread or no random bytes for the
 /// key can be had. May wait.
+#[tactic(auto, using(crate::proofs::PageHindrances::no_memory_hinders))]
 pub fn explore_with_page<R, I: Inlet, O: Outlet>(
     rt: &R,
     request: Request<'_>,
-    from: bool,
+    origin: Origin,
     page: u16,
     screen: Screen<'_>,
     reader: &mut I,
@@ -46,13 +47,13 @@ where
     R: Net<Listener = TcpListener, Stream = TcpStream> + Threads + Wait + RandomSource + Sync,
     R: AllocGlobal + Clock + Eprint + Files,
     requires { IsHeapWithin request.settings }
-    ensures { IsPageExplored from request.entry.settings (I.seen reader.old) (I.seen reader.new)
+    ensures { IsPageExplored origin request.entry.settings (I.seen reader.old) (I.seen reader.new)
         (O.seen writer.old) (O.seen writer.new) result }
 {
     let alloc = rt.alloc();
     let blank = blank_for(alloc, &request.settings)?;
     let page = page_port(rt, alloc, page, request.settings.time, screen.is_terminal)?;
-    explore_opened::<Brand, R, I, O>(rt, request, from, blank, page, screen, reader, writer)
+    explore_opened::<Brand, R, I, O>(rt, request, origin, blank, page, screen, reader, writer)
 }
 
 // Creates a heap of the settings that drops its oldest entries, with one user's seat. Fails with Memory.
@@ -69,10 +70,11 @@ fn blank_for(alloc: Global, settings: &Settings) -> Result<Blank, Fault>
 }
 
 // Runs the session over a heap that a type names.
+#[tactic(auto, using(crate::proofs::PageHindrances::no_memory_hinders))]
 fn explore_opened<L: Heap + Send + Sync, R, I: Inlet, O: Outlet>(
     rt: &R,
     request: Request<'_>,
-    from: bool,
+    origin: Origin,
     blank: Blank,
     page: PagePort,
     screen: Screen<'_>,
@@ -83,13 +85,13 @@ where
     R: AllocGlobal + Clock + Eprint + Files + Threads + Wait + Sync,
     requires named { IsNamed L.config L.tables L.ledger L.rolls blank }
     requires made { IsMadeFor L.config blank }
-    ensures { IsPageExploredOver (session_limits request.entry.settings.wide) L.config from
+    ensures { IsPageExploredOver (session_limits request.entry.settings.wide) L.config origin
         request.entry.settings.time (I.seen reader.old) (I.seen reader.new) (O.seen writer.old)
         (O.seen writer.new) result }
 {
     let (shared, seats) = blank.open::<L>();
-    let mut seat = WatchedSeat::new(rt, &shared, only_seat(seats), &screen.console.watch);
-    run_first(rt, request, from, screen.is_terminal, &mut seat)?;
+    let seat = WatchedSeat::new(rt, &shared, only_seat(seats), &screen.console.watch);
+    let mut seat = run_first(rt, request, origin, screen.is_terminal, seat)?;
     let (alloc, time) = (rt.alloc(), request.settings.time);
     let limits = session_limits(request.settings.wide);
     let served = serve_beside_page(

@@ -28,7 +28,7 @@ use heap_console::{ColumnOutlet, Console, LineInlet, NewestLine, NotingOutlet, P
 use heapdbg_options::command_line::{path_option, settings};
 use heapdbg_options::line_words::borrow_words;
 use heapdbg_options::refusal::bad;
-use heapdbg_options::settings::{LineFault, Service, Settings, Target, Task};
+use heapdbg_options::settings::{LineFault, Origin, Service, Settings, Target, Task};
 use secret_word::Secret;
 use session_text::{Inlet, ReadInlet, serve_local, session_limits};
 use std::alloc::Global;
@@ -174,7 +174,14 @@ fn line_of_words<'a>(alloc: Global, words: &'a [String]) -> Result<Vec<&'a str>,
 // Returns the path of the task's file, or None if the task has no file or an allocation fails.
 fn path_of_task<'a>(alloc: Global, line: &'a [&'a str], task: Task) -> Option<&'a str> {
     match task {
-        Task::Explore { from: true, .. } => path_option(alloc, line, "from"),
+        Task::Explore {
+            origin: Origin::Lines,
+            ..
+        } => path_option(alloc, line, "from"),
+        Task::Explore {
+            origin: Origin::Dump,
+            ..
+        } => path_option(alloc, line, "hprof"),
         Task::Draw | Task::Save(Target::Out) | Task::Fetch { .. } => {
             path_option(alloc, line, "out")
         }
@@ -201,8 +208,8 @@ where
     let is_terminal = screen.is_terminal;
     match request.settings.task {
         Task::Run => run(rt, request, screen, reader, writer),
-        Task::Explore { from, page } => {
-            explore_at(rt, request, from, page, screen, reader, writer)
+        Task::Explore { origin, page } => {
+            explore_at(rt, request, origin, page, screen, reader, writer)
         }
         Task::Draw => draw(rt, request, screen, reader, writer),
         Task::Save(target) => save_at(rt, request, target, is_terminal, reader, writer),
@@ -225,7 +232,7 @@ fn run<R: AllocGlobal + Clock + Eprint + Files, I: Inlet, O: Outlet>(
         (I.seen reader.new) (O.seen writer.old) (O.seen writer.new) result }
 {
     if request.settings.questions {
-        explore(rt, request, false, screen, reader, writer)
+        explore(rt, request, Origin::Fresh, screen, reader, writer)
     } else {
         session(rt.alloc(), &request.settings, reader, writer)
     }
@@ -256,7 +263,7 @@ fn session<I: Inlet, O: Outlet>(
 fn explore_at<R, I: Inlet, O: Outlet>(
     rt: &R,
     request: Request<'_>,
-    from: bool,
+    origin: Origin,
     page: Option<u16>,
     screen: Screen<'_>,
     reader: &mut I,
@@ -266,12 +273,12 @@ where
     R: Net<Listener = TcpListener, Stream = TcpStream> + Threads + Wait + RandomSource + Sync,
     R: AllocGlobal + Clock + Eprint + Files,
     requires { IsHeapWithin request.settings }
-    ensures { IsTaskDone (Explore from page) request.entry.settings (I.seen reader.old)
+    ensures { IsTaskDone (Explore origin page) request.entry.settings (I.seen reader.old)
         (I.seen reader.new) (O.seen writer.old) (O.seen writer.new) result }
 {
     match page {
-        Some(port) => explore_with_page(rt, request, from, port, screen, reader, writer),
-        None => explore(rt, request, from, screen, reader, writer),
+        Some(port) => explore_with_page(rt, request, origin, port, screen, reader, writer),
+        None => explore(rt, request, origin, screen, reader, writer),
     }
 }
 

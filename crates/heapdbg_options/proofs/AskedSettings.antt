@@ -14,8 +14,10 @@ use Rattle.clap.specs.Words.{Row, Text, first_of, subcommand_of}
 use Rattle.heap_class.specs.declared.IdSize.{IdSize}
 use Rattle.heap_class.specs.declared.IdSize.TheVariants.{Eight}
 use Rattle.heap_world.specs.Limits.{mutator_limit}
-use Rattle.heapdbg_options.specs.CommandLine.{AreNumbersOf, AreSettingsWithin, HasDefaults, IsTask, ask_in, idle_in, idle_limit, idle_of, is_guarded, has_secret, stays_in, stays_of, dumps_in, dumps_of, dumps_with, page_beside, page_in, page_of, page_with, explore_in, explore_with, own_page, flag_in, fetch_in, heapdbg_line, id_size_in, id_size_of, is_given, is_task, IsOther, IsThird, keep_default, keep_in, most_kept, most_regions, most_sessions, number_in, number_or, other_port, port_in, port_limit, questions_in, regions_in, rolls_in, reads_file, save_in, serve_in, serve_with, sessions_in, sessions_of, settings_in, settings_over, settings_under, settings_with, target_in, task_in, third_port, time_limit, option_value, wide_in, workers_in, workers_of, counted_in, option_size, size_or, size_with, text_before, times_in}
+use Rattle.heapdbg_options.specs.CommandLine.{AreNumbersOf, AreSettingsWithin, HasDefaults, IsTask, ask_in, idle_in, idle_limit, idle_of, is_guarded, has_secret, stays_in, stays_of, dumps_in, dumps_of, dumps_with, page_beside, page_in, page_of, page_with, explore_in, explore_with, is_dump, is_lines, origin_in, own_page, own_task, runs_dump, runs_lines, flag_in, fetch_in, heapdbg_line, id_size_in, id_size_of, is_given, is_task, IsOther, IsThird, keep_default, keep_in, most_kept, most_regions, most_sessions, number_in, number_or, other_port, port_in, port_limit, questions_in, regions_in, rolls_in, save_in, serve_in, serve_with, sessions_in, sessions_of, settings_in, settings_over, settings_under, settings_with, target_in, task_in, third_port, time_limit, option_value, wide_in, workers_in, workers_of, counted_in, option_size, size_or, size_with, text_before, times_in}
 use Rattle.heapdbg_options.specs.declared.settings.Settings.{Settings}
+use Rattle.heapdbg_options.specs.declared.settings.Origin.{Origin}
+use Rattle.heapdbg_options.specs.declared.settings.Origin.TheVariants.{Fresh, Lines, Dump}
 use Rattle.heapdbg_options.specs.declared.settings.Service.{Service}
 use Rattle.heapdbg_options.specs.declared.settings.Task.{Task}
 use Rattle.heapdbg_options.specs.declared.settings.Task.TheVariants.{Run, Explore, Draw, Save, Serve, Ask, Fetch}
@@ -173,8 +175,8 @@ found_settings_are_asked (Some f) s e = go (task_in f.0 f.1) refl e
 
 -- as many steps as can be undone by default may be undone
 default_within : (task : Task) (w : Bool) → (1 ≤ keep_default task w) × (keep_default task w ≤ most_kept w)
-default_within (Explore from page) false = (omega arith, omega arith)
-default_within (Explore from page) true = (omega arith, omega arith)
+default_within (Explore origin page) false = (omega arith, omega arith)
+default_within (Explore origin page) true = (omega arith, omega arith)
 default_within Run false = (omega arith, omega arith)
 default_within Run true = (omega arith, omega arith)
 default_within Draw false = (omega arith, omega arith)
@@ -350,22 +352,27 @@ save_within None (Some text) task e = go (number_in 1 port_limit text) refl e
         let same : Save (To port) ≡ task = cc in
         subst IsTask same (number_setting_within_bounds 1 port_limit text port at)
 
-own_page_task_is_legal : (from : Bool) (page : Option Text) (task : Task) → option_map (λ p. Explore from p) (own_page page) ≡ Some task → IsTask task
-own_page_task_is_legal from None task e = let same : Explore from None ≡ task = cc in subst IsTask same tt
-own_page_task_is_legal from (Some text) task e = go (number_in 1 port_limit text) refl e
+own_page_task_is_legal : (origin : Origin) (page : Option Text) (task : Task) → option_map (λ p. Explore origin p) (own_page page) ≡ Some task → IsTask task
+own_page_task_is_legal origin None task e = let same : Explore origin None ≡ task = cc in subst IsTask same tt
+own_page_task_is_legal origin (Some text) task e = go (number_in 1 port_limit text) refl e
   where
-    go : (n : Option ℕ) → number_in 1 port_limit text ≡ n → option_map (λ p. Explore from p) (option_map (λ page. Some page) n) ≡ Some task → IsTask task
+    go : (n : Option ℕ) → number_in 1 port_limit text ≡ n → option_map (λ p. Explore origin p) (option_map (λ page. Some page) n) ≡ Some task → IsTask task
     go None at h = cc
     go (Some page) at h =
-        let same : Explore from (Some page) ≡ task = cc in
+        let same : Explore origin (Some page) ≡ task = cc in
         subst IsTask same (number_setting_within_bounds 1 port_limit text page at)
 
-explore_within : (from page port : Option Text) (secret : Bool) (task : Task) → explore_with from page port secret ≡ Some task → IsTask task
-explore_within from page None false task e = own_page_task_is_legal (is_some from) page task e
-explore_within from page None true task e = cc
-explore_within (Some path) page (Some text) secret task e = cc
-explore_within None (Some shown) (Some text) secret task e = cc
-explore_within None None (Some text) secret task e = go (number_in 1 port_limit text) refl e
+own_task_is_legal : (first : Option Origin) (page : Option Text) (task : Task) → own_task page first ≡ Some task → IsTask task
+own_task_is_legal None page task e = cc
+own_task_is_legal (Some origin) page task e = own_page_task_is_legal origin page task e
+
+explore_within : (from hprof page port : Option Text) (secret : Bool) (task : Task) → explore_with from hprof page port secret ≡ Some task → IsTask task
+explore_within from hprof page None false task e = own_task_is_legal (origin_in (is_some from) (is_some hprof)) page task e
+explore_within from hprof page None true task e = cc
+explore_within (Some path) hprof page (Some text) secret task e = cc
+explore_within None (Some path) page (Some text) secret task e = cc
+explore_within None None (Some shown) (Some text) secret task e = cc
+explore_within None None None (Some text) secret task e = go (number_in 1 port_limit text) refl e
   where
     go : (n : Option ℕ) → number_in 1 port_limit text ≡ n → option_map (λ port. Ask port secret) n ≡ Some task → IsTask task
     go None at h = cc
@@ -375,7 +382,7 @@ explore_within None None (Some text) secret task e = go (number_in 1 port_limit 
 
 task_within : (runs explores draws saves serves asks fetches : Bool) (rows : List Row) (task : Task) → task_by_flags_and_rows runs explores draws saves serves asks fetches rows ≡ Some task → IsTask task
 task_within true explores draws saves serves asks fetches rows task e = let same : Run ≡ task = cc in subst IsTask same tt
-task_within false true draws saves serves asks fetches rows task e = explore_within (first_of (codes "from") rows) (first_of (codes "page") rows) (first_of (codes "port") rows) (has_secret rows) task e
+task_within false true draws saves serves asks fetches rows task e = explore_within (first_of (codes "from") rows) (first_of (codes "hprof") rows) (first_of (codes "page") rows) (first_of (codes "port") rows) (has_secret rows) task e
 task_within false false true saves serves asks fetches rows task e = let same : Draw ≡ task = cc in subst IsTask same tt
 task_within false false false true serves asks fetches rows task e = save_within (first_of (codes "out") rows) (first_of (codes "to") rows) task e
 task_within false false false false true asks fetches rows task e = serve_within rows task e
@@ -446,16 +453,19 @@ ungiven_size_is_default name default least most words f n all is named read othe
     cc
 
 -- what sessions with questions have, of a private heap and of a served one, is what the task of `explore` has
-explore_has : (P : Task → Type 0) (from page port : Option Text) (secret : Bool) (task : Task) → ((p : Option ℕ) → own_page page ≡ Some p → P (Explore (is_some from) p)) → ((n : ℕ) → P (Ask n secret)) → explore_with from page port secret ≡ Some task → P task
-explore_has P from page None true task one other e = cc
-explore_has P from page None false task one other e = go (own_page page) refl e
+explore_has : (P : Task → Type 0) (from hprof page port : Option Text) (secret : Bool) (task : Task)
+    → ((origin : Origin) (p : Option ℕ) → origin_in (is_some from) (is_some hprof) ≡ Some origin → own_page page ≡ Some p → P (Explore origin p)) → ((n : ℕ) → P (Ask n secret)) → explore_with from hprof page port secret ≡ Some task → P task
+explore_has P from hprof page None true task one other e = cc
+explore_has P from hprof page None false task one other e = go (origin_in (is_some from) (is_some hprof)) (own_page page) refl refl e
   where
-    go : (o : Option (Option ℕ)) → own_page page ≡ o → option_map (λ p. Explore (is_some from) p) o ≡ Some task → P task
-    go None at h = cc
-    go (Some p) at h = let same : Explore (is_some from) p ≡ task = cc in subst P same (one p at)
-explore_has P (Some path) page (Some text) secret task one other e = cc
-explore_has P None (Some shown) (Some text) secret task one other e = cc
-explore_has P None None (Some text) secret task one other e = go (number_in 1 port_limit text) e
+    go : (first : Option Origin) (o : Option (Option ℕ)) → origin_in (is_some from) (is_some hprof) ≡ first → own_page page ≡ o → option_and_then (λ origin. option_map (λ p. Explore origin p) o) first ≡ Some task → P task
+    go None o is at h = cc
+    go (Some origin) None is at h = cc
+    go (Some origin) (Some p) is at h = let same : Explore origin p ≡ task = cc in subst P same (one origin p is at)
+explore_has P (Some path) hprof page (Some text) secret task one other e = cc
+explore_has P None (Some path) page (Some text) secret task one other e = cc
+explore_has P None None (Some shown) (Some text) secret task one other e = cc
+explore_has P None None None (Some text) secret task one other e = go (number_in 1 port_limit text) e
   where
     go : (n : Option ℕ) → option_map (λ port. Ask port secret) n ≡ Some task → P task
     go None h = cc
@@ -463,10 +473,10 @@ explore_has P None None (Some text) secret task one other e = go (number_in 1 po
 
 -- what a task of no served heap has, and what a served heap has, is what each task has
 each_task_has_property : (P : Task → Type 0) (runs explores draws saves serves asks fetches : Bool) (rows : List Row) (task : Task) → P Run
-    → ((p : Option ℕ) → own_page (first_of (codes "page") rows) ≡ Some p → P (Explore (is_some (first_of (codes "from") rows)) p)) → P Draw → ((target : Target) → P (Save target))
+    → ((origin : Origin) (p : Option ℕ) → origin_in (is_some (first_of (codes "from") rows)) (is_some (first_of (codes "hprof") rows)) ≡ Some origin → own_page (first_of (codes "page") rows) ≡ Some p → P (Explore origin p)) → P Draw → ((target : Target) → P (Save target))
     → ((port : ℕ) → P (Ask port (has_secret rows))) → ((port : ℕ) → P (Fetch port (has_secret rows))) → (serve_in rows ≡ Some task → P task) → task_by_flags_and_rows runs explores draws saves serves asks fetches rows ≡ Some task → P task
 each_task_has_property P true explores draws saves serves asks fetches rows task run explore draw save ask fetch serve e = let same : Run ≡ task = cc in subst P same run
-each_task_has_property P false true draws saves serves asks fetches rows task run explore draw save ask fetch serve e = explore_has P (first_of (codes "from") rows) (first_of (codes "page") rows) (first_of (codes "port") rows) (has_secret rows) task explore ask e
+each_task_has_property P false true draws saves serves asks fetches rows task run explore draw save ask fetch serve e = explore_has P (first_of (codes "from") rows) (first_of (codes "hprof") rows) (first_of (codes "page") rows) (first_of (codes "port") rows) (has_secret rows) task explore ask e
 each_task_has_property P false false true saves serves asks fetches rows task run explore draw save ask fetch serve e = let same : Draw ≡ task = cc in subst P same draw
 each_task_has_property P false false false true serves asks fetches rows task run explore draw save ask fetch serve e = go (target_in (first_of (codes "out") rows) (first_of (codes "to") rows)) e
   where
@@ -508,6 +518,18 @@ default_page rows task missing e =
 default_own : (given : Option Text) (p : Option ℕ) → given ≡ None → own_page given ≡ Some p → p ≡ None
 default_own None p none e = cc
 default_own (Some text) p none e = cc
+
+-- where no file of lines is given, its lines are not run first
+ungiven_lines_are_unread : (from hprof : Bool) (origin : Origin) → from ≡ false → origin_in from hprof ≡ Some origin → is_lines origin ≡ false
+ungiven_lines_are_unread false false origin none e = let same : Fresh ≡ origin = cc in subst (λ o. is_lines o ≡ false) same refl
+ungiven_lines_are_unread false true origin none e = let same : Dump ≡ origin = cc in subst (λ o. is_lines o ≡ false) same refl
+ungiven_lines_are_unread true hprof origin none e = cc
+
+-- where no dump is given, its session is not run first
+ungiven_dump_is_unread : (from hprof : Bool) (origin : Origin) → hprof ≡ false → origin_in from hprof ≡ Some origin → is_dump origin ≡ false
+ungiven_dump_is_unread false false origin none e = let same : Fresh ≡ origin = cc in subst (λ o. is_dump o ≡ false) same refl
+ungiven_dump_is_unread true false origin none e = let same : Lines ≡ origin = cc in subst (λ o. is_dump o ≡ false) same refl
+ungiven_dump_is_unread from true origin none e = cc
 
 -- a file of lines that no word tells is none
 ungiven_file_is_unread : (given : Option Text) → given ≡ None → is_some given ≡ false
@@ -557,27 +579,30 @@ defaults_of words s e =
       rolls = default_flag (codes "roll") words asked.found s.rolls refl asked.is asked.named asked.read.rolls;
       wide = default_flag (codes "wide") words asked.found s.wide refl asked.is asked.named asked.read.wide;
       sessions = λ other. each_task_has_property (λ t. sessions_of t ≡ 1) (bytes_eq name (codes "run")) (bytes_eq name (codes "explore")) (bytes_eq name (codes "draw")) (bytes_eq name (codes "save")) (bytes_eq name (codes "serve")) (bytes_eq name (codes "ask")) (bytes_eq name (codes "fetch")) rows s.task
-          refl (λ p at. refl) refl (λ target. refl) (λ port. refl) (λ port. refl)
+          refl (λ origin p is at. refl) refl (λ target. refl) (λ port. refl) (λ port. refl)
           (λ is. let served = serve_rows_make_task rows s.task is in by_service sessions_of rows s.task served 1 (ungiven_number_is_default (codes "sessions") 1 1 most_sessions words asked.found served.service.sessions refl asked.is asked.named served.sessions other)) asked.task;
       workers = λ other. each_task_has_property (λ t. workers_of t ≡ 0) (bytes_eq name (codes "run")) (bytes_eq name (codes "explore")) (bytes_eq name (codes "draw")) (bytes_eq name (codes "save")) (bytes_eq name (codes "serve")) (bytes_eq name (codes "ask")) (bytes_eq name (codes "fetch")) rows s.task
-          refl (λ p at. refl) refl (λ target. refl) (λ port. refl) (λ port. refl)
+          refl (λ origin p is at. refl) refl (λ target. refl) (λ port. refl) (λ port. refl)
           (λ is. let served = serve_rows_make_task rows s.task is in by_service workers_of rows s.task served 0 (ungiven_number_is_default (codes "workers") 0 0 1 words asked.found served.service.workers refl asked.is asked.named served.workers other)) asked.task;
       dumps = λ other. each_task_has_property (λ t. dumps_of t ≡ None) (bytes_eq name (codes "run")) (bytes_eq name (codes "explore")) (bytes_eq name (codes "draw")) (bytes_eq name (codes "save")) (bytes_eq name (codes "serve")) (bytes_eq name (codes "ask")) (bytes_eq name (codes "fetch")) rows s.task
-          refl (λ p at. refl) refl (λ target. refl) (λ port. refl) (λ port. refl)
+          refl (λ origin p is at. refl) refl (λ target. refl) (λ port. refl) (λ port. refl)
           (λ is. default_dumps rows s.task (unnamed_option_has_no_row (codes "dumps") words asked.found refl asked.is asked.named other) is) asked.task;
       page = λ other. each_task_has_property (λ t. page_of t ≡ None) (bytes_eq name (codes "run")) (bytes_eq name (codes "explore")) (bytes_eq name (codes "draw")) (bytes_eq name (codes "save")) (bytes_eq name (codes "serve")) (bytes_eq name (codes "ask")) (bytes_eq name (codes "fetch")) rows s.task
-          refl (λ p at. default_own (first_of (codes "page") rows) p (unnamed_option_has_no_row (codes "page") words asked.found refl asked.is asked.named other) at) refl (λ target. refl) (λ port. refl) (λ port. refl)
+          refl (λ origin p is at. default_own (first_of (codes "page") rows) p (unnamed_option_has_no_row (codes "page") words asked.found refl asked.is asked.named other) at) refl (λ target. refl) (λ port. refl) (λ port. refl)
           (λ is. default_page rows s.task (unnamed_option_has_no_row (codes "page") words asked.found refl asked.is asked.named other) is) asked.task;
-      from = λ other. each_task_has_property (λ t. reads_file t ≡ false) (bytes_eq name (codes "run")) (bytes_eq name (codes "explore")) (bytes_eq name (codes "draw")) (bytes_eq name (codes "save")) (bytes_eq name (codes "serve")) (bytes_eq name (codes "ask")) (bytes_eq name (codes "fetch")) rows s.task
-          refl (λ p at. ungiven_file_is_unread (first_of (codes "from") rows) (unnamed_option_has_no_row (codes "from") words asked.found refl asked.is asked.named other)) refl (λ target. refl) (λ port. refl) (λ port. refl)
-          (λ is. let served = serve_rows_make_task rows s.task is in by_service reads_file rows s.task served false (refl)) asked.task;
+      from = λ other. each_task_has_property (λ t. runs_lines t ≡ false) (bytes_eq name (codes "run")) (bytes_eq name (codes "explore")) (bytes_eq name (codes "draw")) (bytes_eq name (codes "save")) (bytes_eq name (codes "serve")) (bytes_eq name (codes "ask")) (bytes_eq name (codes "fetch")) rows s.task
+          refl (λ origin p is at. ungiven_lines_are_unread (is_some (first_of (codes "from") rows)) (is_some (first_of (codes "hprof") rows)) origin (ungiven_file_is_unread (first_of (codes "from") rows) (unnamed_option_has_no_row (codes "from") words asked.found refl asked.is asked.named other)) is) refl (λ target. refl) (λ port. refl) (λ port. refl)
+          (λ is. let served = serve_rows_make_task rows s.task is in by_service runs_lines rows s.task served false (refl)) asked.task;
+      hprof = λ other. each_task_has_property (λ t. runs_dump t ≡ false) (bytes_eq name (codes "run")) (bytes_eq name (codes "explore")) (bytes_eq name (codes "draw")) (bytes_eq name (codes "save")) (bytes_eq name (codes "serve")) (bytes_eq name (codes "ask")) (bytes_eq name (codes "fetch")) rows s.task
+          refl (λ origin p is at. ungiven_dump_is_unread (is_some (first_of (codes "from") rows)) (is_some (first_of (codes "hprof") rows)) origin (ungiven_file_is_unread (first_of (codes "hprof") rows) (unnamed_option_has_no_row (codes "hprof") words asked.found refl asked.is asked.named other)) is) refl (λ target. refl) (λ port. refl) (λ port. refl)
+          (λ is. let served = serve_rows_make_task rows s.task is in by_service runs_dump rows s.task served false (refl)) asked.task;
       idle = λ other. each_task_has_property (λ t. idle_of t ≡ 0) (bytes_eq name (codes "run")) (bytes_eq name (codes "explore")) (bytes_eq name (codes "draw")) (bytes_eq name (codes "save")) (bytes_eq name (codes "serve")) (bytes_eq name (codes "ask")) (bytes_eq name (codes "fetch")) rows s.task
-          refl (λ p at. refl) refl (λ target. refl) (λ port. refl) (λ port. refl)
+          refl (λ origin p is at. refl) refl (λ target. refl) (λ port. refl) (λ port. refl)
           (λ is. let served = serve_rows_make_task rows s.task is in by_service idle_of rows s.task served 0 (ungiven_number_is_default (codes "idle") 0 1 idle_limit words asked.found served.service.idle refl asked.is asked.named served.idle other)) asked.task;
       stays = λ other. each_task_has_property (λ t. stays_of t ≡ false) (bytes_eq name (codes "run")) (bytes_eq name (codes "explore")) (bytes_eq name (codes "draw")) (bytes_eq name (codes "save")) (bytes_eq name (codes "serve")) (bytes_eq name (codes "ask")) (bytes_eq name (codes "fetch")) rows s.task
-          refl (λ p at. refl) refl (λ target. refl) (λ port. refl) (λ port. refl)
+          refl (λ origin p is at. refl) refl (λ target. refl) (λ port. refl) (λ port. refl)
           (λ is. let served = serve_rows_make_task rows s.task is in by_service stays_of rows s.task served false (default_flag (codes "stay") words asked.found served.service.stays refl asked.is asked.named served.stays other)) asked.task;
       secret = λ other. each_task_has_property (λ t. is_guarded t ≡ false) (bytes_eq name (codes "run")) (bytes_eq name (codes "explore")) (bytes_eq name (codes "draw")) (bytes_eq name (codes "save")) (bytes_eq name (codes "serve")) (bytes_eq name (codes "ask")) (bytes_eq name (codes "fetch")) rows s.task
-          refl (λ p at. refl) refl (λ target. refl) (λ port. no_secret_given_unguarded rows (unnamed_option_has_no_row (codes "secret") words asked.found refl asked.is asked.named other)) (λ port. no_secret_given_unguarded rows (unnamed_option_has_no_row (codes "secret") words asked.found refl asked.is asked.named other))
+          refl (λ origin p is at. refl) refl (λ target. refl) (λ port. no_secret_given_unguarded rows (unnamed_option_has_no_row (codes "secret") words asked.found refl asked.is asked.named other)) (λ port. no_secret_given_unguarded rows (unnamed_option_has_no_row (codes "secret") words asked.found refl asked.is asked.named other))
           (λ is. let served = serve_rows_make_task rows s.task is in by_service is_guarded rows s.task served false (sym served.secret ∙ no_secret_given_unguarded rows (unnamed_option_has_no_row (codes "secret") words asked.found refl asked.is asked.named other))) asked.task;
     }

@@ -47,28 +47,30 @@ pub option_given_as_its_row : (found : Found) (name : Text) (given : Option (Bor
 option_given_as_its_row found name None e = ap is_some (e ∙ first_value-rows found name)
 option_given_as_its_row found name (Some text) e = ap is_some (e ∙ first_value-rows found name)
 
-source_mistake_is_in_rows : (m : Mistake) (rows : List Row) → IsExploreMistake m (first_of (codes "from") rows) (first_of (codes "page") rows) (first_of (codes "port") rows) (has_secret rows) → IsMistakeIn m rows
+source_mistake_is_in_rows : (m : Mistake) (rows : List Row) → IsExploreMistake m (first_of (codes "from") rows) (first_of (codes "hprof") rows) (first_of (codes "page") rows) (first_of (codes "port") rows) (has_secret rows) → IsMistakeIn m rows
 source_mistake_is_in_rows m rows (inl h) = subst (λ x. IsMistakeIn x rows) (sym h.0) (inl (refl, h.1, h.2))
 source_mistake_is_in_rows m rows (inr (inl h)) = subst (λ x. IsMistakeIn x rows) (sym h.0) (outside_number_is_none 1 port_limit (first_of (codes "port") rows) h.1)
 source_mistake_is_in_rows m rows (inr (inr (inl h))) = subst (λ x. IsMistakeIn x rows) (sym h.0) h.1
-source_mistake_is_in_rows m rows (inr (inr (inr h))) = subst (λ x. IsMistakeIn x rows) (sym h.0) (inr (inr (inr (refl, h.1, h.2))))
+source_mistake_is_in_rows m rows (inr (inr (inr (inl h)))) = subst (λ x. IsMistakeIn x rows) (sym h.0) (inr (inr (inr (inl (refl, h.1, h.2)))))
+source_mistake_is_in_rows m rows (inr (inr (inr (inr h)))) = subst (λ x. IsMistakeIn x rows) (sym h.0) (h.1, h.2)
 
 -- the texts of the options of `explore` are those of their rows
-abbrev pub AreExploreTexts : Found → Option Text → Option Text → Option Text → Type 0
-AreExploreTexts found from page port =
-    (from ≡ first_value found (codes "from")) × (page ≡ first_value found (codes "page")) × (port ≡ first_value found (codes "port"))
+abbrev pub AreExploreTexts : Found → Option Text → Option Text → Option Text → Option Text → Type 0
+AreExploreTexts found from hprof page port =
+    (from ≡ first_value found (codes "from")) × (hprof ≡ first_value found (codes "hprof")) × (page ≡ first_value found (codes "page")) × (port ≡ first_value found (codes "port"))
 
 -- its task, or a mistake in them, is that of the rows
-pub explore_task_from_rows : (found : Found) (from page port : Option Text) (secret : Bool) (result : Result Task Mistake) → AreExploreTexts found from page port → secret ≡ has_secret (rows_of found) → IsExploreOrMistake from page port secret result
+pub explore_task_from_rows : (found : Found) (from hprof page port : Option Text) (secret : Bool) (result : Result Task Mistake) → AreExploreTexts found from hprof page port → secret ≡ has_secret (rows_of found) → IsExploreOrMistake from hprof page port secret result
     → IsTaskOrMistake explore_in (rows_of found) result
-explore_task_from_rows found from page port secret result texts guarded h =
+explore_task_from_rows found from hprof page port secret result texts guarded h =
     of_rows result
-    (subst (λ b. IsExploreOrMistake (first_of (codes "from") (rows_of found)) (first_of (codes "page") (rows_of found)) (first_of (codes "port") (rows_of found)) b result) guarded
-    (subst (λ o. IsExploreOrMistake o (first_of (codes "page") (rows_of found)) (first_of (codes "port") (rows_of found)) secret result) (texts.0 ∙ first_value-rows found (codes "from"))
-    (subst (λ o. IsExploreOrMistake from o (first_of (codes "port") (rows_of found)) secret result) (texts.1 ∙ first_value-rows found (codes "page"))
-    (subst (λ o. IsExploreOrMistake from page o secret result) (texts.2 ∙ first_value-rows found (codes "port")) h))))
+    (subst (λ b. IsExploreOrMistake (first_of (codes "from") (rows_of found)) (first_of (codes "hprof") (rows_of found)) (first_of (codes "page") (rows_of found)) (first_of (codes "port") (rows_of found)) b result) guarded
+    (subst (λ o. IsExploreOrMistake o (first_of (codes "hprof") (rows_of found)) (first_of (codes "page") (rows_of found)) (first_of (codes "port") (rows_of found)) secret result) (texts.0 ∙ first_value-rows found (codes "from"))
+    (subst (λ o. IsExploreOrMistake from o (first_of (codes "page") (rows_of found)) (first_of (codes "port") (rows_of found)) secret result) (texts.1 ∙ first_value-rows found (codes "hprof"))
+    (subst (λ o. IsExploreOrMistake from hprof o (first_of (codes "port") (rows_of found)) secret result) (texts.2 ∙ first_value-rows found (codes "page"))
+    (subst (λ o. IsExploreOrMistake from hprof page o secret result) (texts.3 ∙ first_value-rows found (codes "port")) h)))))
   where
-    of_rows : (r : Result Task Mistake) → IsExploreOrMistake (first_of (codes "from") (rows_of found)) (first_of (codes "page") (rows_of found)) (first_of (codes "port") (rows_of found)) (has_secret (rows_of found)) r
+    of_rows : (r : Result Task Mistake) → IsExploreOrMistake (first_of (codes "from") (rows_of found)) (first_of (codes "hprof") (rows_of found)) (first_of (codes "page") (rows_of found)) (first_of (codes "port") (rows_of found)) (has_secret (rows_of found)) r
         → IsTaskOrMistake explore_in (rows_of found) r
     of_rows (Ok task) made = (made.0, tt)
     of_rows (Err m) made = (tt, (made.1.0, source_mistake_is_in_rows m (rows_of found) made.1.1))

@@ -15,6 +15,8 @@ use Rattle.heap_class.specs.declared.IdSize.TheVariants.{Four, Eight}
 use Rattle.heap_world.specs.RegionLimits.{region_limit}
 use Rattle.heap_world.specs.Limits.{AreHeapSettings, AreNarrowSettings, keep_limit, mutator_limit, narrow_keep, narrow_limits, narrow_regions, wide_limits}
 use Rattle.heap_world.specs.declared.Limits.{Limits}
+use Rattle.heapdbg_options.specs.declared.settings.Origin.{Origin}
+use Rattle.heapdbg_options.specs.declared.settings.Origin.TheVariants.{Fresh, Lines, Dump}
 use Rattle.heapdbg_options.specs.declared.settings.Service.{Service}
 use Rattle.heapdbg_options.specs.declared.settings.Task.{Task}
 use Rattle.heapdbg_options.specs.declared.settings.Task.TheVariants.{Run, Explore, Draw, Save, Serve, Ask, Fetch}
@@ -77,7 +79,9 @@ abbrev pub explore_line : App
 explore_line =
     with_rule
     (with_rule
+    (with_rule
     (with_rule (with_rule (session_line (codes "explore")) (value_option (codes "from")))
+    (value_option (codes "hprof")))
     (value_option (codes "port")))
     (value_option (codes "page")))
     secret_option
@@ -258,7 +262,7 @@ most_kept wide = if wide then keep_limit else narrow_keep
 
 -- the number of steps that can be undone, if the option is not given: for `explore` the most that there may be
 abbrev pub keep_default : Task → Bool → ℕ
-keep_default (Explore from page) wide = most_kept wide
+keep_default (Explore origin page) wide = most_kept wide
 keep_default _ wide = 1024
 
 -- the regions of a heap that is wide, or isn't
@@ -310,20 +314,35 @@ own_page (Some text) = option_map (λ page. Some page) (number_in 1 port_limit t
 abbrev pub has_secret : List Row → Bool
 has_secret rows = is_some (first_of (codes "secret") rows)
 
--- the task of `explore`, to which this file of lines and this page are given, or this port, and a secret or none, or none of them
-abbrev pub explore_with : Option Text → Option Text → Option Text → Bool → Option Task
-explore_with from page None false = option_map (λ p. Explore (is_some from) p) (own_page page)
-explore_with from page None true = None
-explore_with None None (Some text) secret =
+-- what is run first, if a file of lines is given or not, and a dump or not: one of them, or nothing
+abbrev pub origin_in : Bool → Bool → Option Origin
+origin_in false false = Some Fresh
+origin_in true false = Some Lines
+origin_in false true = Some Dump
+origin_in true true = None
+
+-- the task of a session over a heap of its own, where this may be run first, to which this page is given
+abbrev pub own_task : Option Text → Option Origin → Option Task
+own_task page first =
+    option_and_then (λ origin. option_map (λ p. Explore origin p) (own_page page)) first
+
+-- the task of `explore`, to which this file of lines or this dump, and this page are given, or this port, and a secret or none, or
+-- none of them
+abbrev pub explore_with : Option Text → Option Text → Option Text → Option Text → Bool → Option Task
+explore_with from hprof page None false =
+    own_task page (origin_in (is_some from) (is_some hprof))
+explore_with from hprof page None true = None
+explore_with None None None (Some text) secret =
     option_map (λ port. Ask port secret) (number_in 1 port_limit text)
-explore_with (Some path) page (Some text) secret = None
-explore_with None (Some page) (Some text) secret = None
+explore_with (Some path) hprof page (Some text) secret = None
+explore_with None (Some path) page (Some text) secret = None
+explore_with None None (Some page) (Some text) secret = None
 
 -- the task of the options of `explore`
 abbrev pub explore_in : List Row → Option Task
 explore_in rows =
-    explore_with (first_of (codes "from") rows) (first_of (codes "page") rows)
-    (first_of (codes "port") rows) (has_secret rows)
+    explore_with (first_of (codes "from") rows) (first_of (codes "hprof") rows)
+    (first_of (codes "page") rows) (first_of (codes "port") rows) (has_secret rows)
 
 -- the target of a dump: one of the two options is given, and a port has to be one
 abbrev pub target_in : Option Text → Option Text → Option Target
@@ -481,8 +500,8 @@ IsService s =
 -- the ports and numbers of a task are within their limits
 abbrev pub IsTask : Task → Type 0
 IsTask Run = ⊤
-IsTask (Explore from None) = ⊤
-IsTask (Explore from (Some page)) = (1 ≤ page) × (page ≤ port_limit)
+IsTask (Explore origin None) = ⊤
+IsTask (Explore origin (Some page)) = (1 ≤ page) × (page ≤ port_limit)
 IsTask Draw = ⊤
 IsTask (Save Out) = ⊤
 IsTask (Save (To port)) = (1 ≤ port) × (port ≤ port_limit)
@@ -525,7 +544,7 @@ dumps_of _ = None
 -- the port of the page
 abbrev pub page_of : Task → Option ℕ
 page_of (Serve service) = service.page
-page_of (Explore from page) = page
+page_of (Explore origin page) = page
 page_of _ = None
 
 -- after how many seconds without input a session is ended: 0, if none is
@@ -545,15 +564,30 @@ is_guarded (Ask port secret) = secret
 is_guarded (Fetch port secret) = secret
 is_guarded _ = false
 
--- the lines of a file are read first
-abbrev pub reads_file : Task → Bool
-reads_file Run = false
-reads_file (Explore from page) = from
-reads_file Draw = false
-reads_file (Save target) = false
-reads_file (Serve service) = false
-reads_file (Ask port secret) = false
-reads_file (Fetch port secret) = false
+-- these are the lines of a file
+abbrev pub is_lines : Origin → Bool
+is_lines Fresh = false
+is_lines Lines = true
+is_lines Dump = false
+
+-- this is the session of a dump
+abbrev pub is_dump : Origin → Bool
+is_dump Fresh = false
+is_dump Lines = false
+is_dump Dump = true
+
+-- what is run before the session of a task
+abbrev pub origin_of : Task → Origin
+origin_of (Explore origin page) = origin
+origin_of _ = Fresh
+
+-- the lines of a file are run first
+abbrev pub runs_lines : Task → Bool
+runs_lines task = is_lines (origin_of task)
+
+-- the session of a dump is run first
+abbrev pub runs_dump : Task → Bool
+runs_dump task = is_dump (origin_of task)
 
 -- an option that no word names has its default
 pub record HasDefaults (words : List Text) (s : Settings) : Type 0 where
@@ -567,7 +601,8 @@ pub record HasDefaults (words : List Text) (s : Settings) : Type 0 where
   pub wide : is_given (codes "wide") words ≡ false → s.wide ≡ false
   pub sessions : is_given (codes "sessions") words ≡ false → sessions_of s.task ≡ 1
   pub workers : is_given (codes "workers") words ≡ false → workers_of s.task ≡ 0
-  pub from : is_given (codes "from") words ≡ false → reads_file s.task ≡ false
+  pub from : is_given (codes "from") words ≡ false → runs_lines s.task ≡ false
+  pub hprof : is_given (codes "hprof") words ≡ false → runs_dump s.task ≡ false
   pub dumps : is_given (codes "dumps") words ≡ false → dumps_of s.task ≡ None
   pub page : is_given (codes "page") words ≡ false → page_of s.task ≡ None
   pub idle : is_given (codes "idle") words ≡ false → idle_of s.task ≡ 0

@@ -8,7 +8,7 @@ use Rattle.clap.specs.declared.error.kind.ErrorKind.TheVariants.{DisplayHelp, Di
 use Rattle.heap_world.specs.Limits.{mutator_limit}
 use Rattle.heapdbg_options.specs.CommandLine.{dumps_with, explore_with, has_secret, heapdbg_line, id_size_in, idle_in, is_task, most_kept, number_in, page_with, port_in, port_limit, questions_in, regions_in, rolls_in, sessions_in, settings_of, stays_in, option_value, size_in, time_limit, wide_in, workers_in}
 use Rattle.heapdbg_options.specs.declared.refusal.Mistake.{Mistake}
-use Rattle.heapdbg_options.specs.declared.refusal.Mistake.TheVariants.{Command, Wide, Regions, WideRegions, Mutators, Keep, WideKeep, Time, Ids, Port, Sessions, Workers, Questions, Roll, Dumps, Page, Idle, Stay, To, Place, Source, OwnPage, Secret}
+use Rattle.heapdbg_options.specs.declared.refusal.Mistake.TheVariants.{Command, Wide, Regions, WideRegions, Mutators, Keep, WideKeep, Time, Ids, Port, Sessions, Workers, Questions, Roll, Dumps, Page, Idle, Stay, To, Place, Origin, Source, OwnPage, Secret}
 use Rattle.heapdbg_options.specs.declared.settings.LineFault.{LineFault}
 use Rattle.heapdbg_options.specs.declared.settings.LineFault.TheVariants.{Bad, CommandText, Memory, OptionText}
 use Rattle.heapdbg_options.specs.declared.settings.Task.{Task}
@@ -28,14 +28,16 @@ abbrev pub IsTargetMistake : Mistake → Option Text → Option Text → Type 0
 IsTargetMistake m path port =
     ((m ≡ Place) × (is_some path ≡ is_some port)) ⊎ ((m ≡ To) × IsOutside 1 port_limit port)
 
--- a file of lines, a page, a port, and a secret or none have this mistake: the port may only be given without the two before it, and
--- a secret only with the port
-abbrev pub IsExploreMistake : Mistake → Option Text → Option Text → Option Text → Bool → Type 0
-IsExploreMistake m from page port secret =
-    ((m ≡ Source) × (is_some from || is_some page ≡ true) × (is_some port ≡ true))
+-- a file of lines, a dump, a page, a port, and a secret or none have this mistake: the dump may only be given without the file, the
+-- port without the three before it, and a secret only with the port
+abbrev pub IsExploreMistake : Mistake → Option Text → Option Text → Option Text → Option Text → Bool
+    → Type 0
+IsExploreMistake m from hprof page port secret =
+    ((m ≡ Source) × (is_some from || (is_some hprof || is_some page) ≡ true) × (is_some port ≡ true))
     ⊎ (((m ≡ Port) × IsOutside 1 port_limit port)
     ⊎ (((m ≡ OwnPage) × IsOutside 1 port_limit page)
-    ⊎ ((m ≡ Secret) × (secret ≡ true) × (is_some port ≡ false))))
+    ⊎ (((m ≡ Secret) × (secret ≡ true) × (is_some port ≡ false))
+    ⊎ ((m ≡ Origin) × (is_some from ≡ true) × (is_some hprof ≡ true)))))
 
 -- the options of a command have this mistake
 abbrev pub IsMistakeIn : Mistake → List Row → Type 0
@@ -62,12 +64,14 @@ IsMistakeIn Page rows =
     (port : ℕ) × (dumps : Option ℕ) × (port_in rows ≡ Some port)
     × (dumps_with port (first_of (codes "dumps") rows) ≡ Some dumps)
     × (page_with port dumps (first_of (codes "page") rows) ≡ None)
+IsMistakeIn Origin rows =
+    (is_some (first_of (codes "from") rows) ≡ true) × (is_some (first_of (codes "hprof") rows) ≡ true)
 IsMistakeIn Source rows =
-    IsExploreMistake Source (first_of (codes "from") rows) (first_of (codes "page") rows)
-    (first_of (codes "port") rows) (has_secret rows)
+    IsExploreMistake Source (first_of (codes "from") rows) (first_of (codes "hprof") rows)
+    (first_of (codes "page") rows) (first_of (codes "port") rows) (has_secret rows)
 IsMistakeIn Secret rows =
-    IsExploreMistake Secret (first_of (codes "from") rows) (first_of (codes "page") rows)
-    (first_of (codes "port") rows) (has_secret rows)
+    IsExploreMistake Secret (first_of (codes "from") rows) (first_of (codes "hprof") rows)
+    (first_of (codes "page") rows) (first_of (codes "port") rows) (has_secret rows)
 IsMistakeIn OwnPage rows = IsOutside 1 port_limit (first_of (codes "page") rows)
 IsMistakeIn Idle rows = idle_in rows ≡ None
 IsMistakeIn Stay rows = stays_in rows ≡ None
@@ -101,11 +105,11 @@ IsChoiceOrMistake choose IsMade one other result =
     IsValueOrMistake (choose one other) (λ m. IsMade m one other) result
 
 -- the task of `explore` to which these are given, or the mistake in them
-abbrev pub IsExploreOrMistake : Option Text → Option Text → Option Text → Bool
+abbrev pub IsExploreOrMistake : Option Text → Option Text → Option Text → Option Text → Bool
     → Result Task Mistake → Type 0
-IsExploreOrMistake from page port secret result =
-    IsValueOrMistake (explore_with from page port secret)
-    (λ m. IsExploreMistake m from page port secret) result
+IsExploreOrMistake from hprof page port secret result =
+    IsValueOrMistake (explore_with from hprof page port secret)
+    (λ m. IsExploreMistake m from hprof page port secret) result
 
 -- no command of the program is there
 abbrev pub IsNoTask : Option (Text × List Row) → Type 0
@@ -139,7 +143,8 @@ mistake_of Idle = codes "--idle takes 1 to 86400"
 mistake_of Stay = codes "--stay takes 0 or 1"
 mistake_of To = codes "--to takes 1 to 65535"
 mistake_of Place = codes "save takes one of --out and --to"
-mistake_of Source = codes "explore takes --port without --from and --page"
+mistake_of Origin = codes "explore takes --from without --hprof"
+mistake_of Source = codes "explore takes --port without --from, --hprof and --page"
 mistake_of OwnPage = codes "--page takes 1 to 65535"
 mistake_of Secret = codes "explore takes --secret with --port alone"
 

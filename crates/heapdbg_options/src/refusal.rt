@@ -55,7 +55,9 @@ pub enum Mistake {
     To,
     /// Both of `--out` and `--to` are given, or neither.
     Place,
-    /// `--port` of `explore` is given with `--from` or `--page`.
+    /// Both of `--from` and `--hprof` are given.
+    Origin,
+    /// `--port` of `explore` is given with `--from`, `--hprof` or `--page`.
     Source,
     /// `--page` of `explore` is out of its range.
     OwnPage,
@@ -90,7 +92,8 @@ impl Mistake {
             Mistake::Stay => "--stay takes 0 or 1",
             Mistake::To => "--to takes 1 to 65535",
             Mistake::Place => "save takes one of --out and --to",
-            Mistake::Source => "explore takes --port without --from and --page",
+            Mistake::Origin => "explore takes --from without --hprof",
+            Mistake::Source => "explore takes --port without --from, --hprof and --page",
             Mistake::OwnPage => "--page takes 1 to 65535",
             Mistake::Secret => "explore takes --secret with --port alone",
         }

@@ -1,7 +1,7 @@
 //! The command lines of the tasks between standard input and standard output.
 ghost use Rattle.std.specs.Prelude.{◌≡◌, option_map};
 ghost use Rattle.clap.specs.Words.{found_of, rows_of};
-ghost use Rattle.heapdbg_options.specs.CommandLine.{explore_in, own_page, port_limit};
+ghost use Rattle.heapdbg_options.specs.CommandLine.{explore_in, origin_in, own_page, port_limit};
 ghost use Rattle.heapdbg_options.specs.Refusals.{IsExploreOrMistake, IsOutside, IsTaskOrMistake, IsValueOrMistake};
 ghost use Rattle.heapdbg_options.specs.declared.refusal.Mistake.TheVariants.{OwnPage};
 ghost use Rattle.heapdbg_options.specs.declared.settings.Task.TheVariants.{Explore};
@@ -10,7 +10,7 @@ use crate::option_rows::{
     CommandRow, IDS, KEEP, KEEP_MOST, MUTATORS, OptionRow, PAGE, QUESTIONS, REGIONS, TIME, WIDE,
 };
 use crate::refusal::Mistake;
-use crate::settings::Task;
+use crate::settings::{Origin, Task};
 use crate::socket_options::{has_secret, port_of};
 use clap::ArgMatches;
 
@@ -42,9 +42,16 @@ pub(crate) const EXPLORE: CommandRow = CommandRow {
             is_flag: false,
         },
         OptionRow {
+            name: "hprof",
+            value: "PATH",
+            help: "File of a heap dump in HPROF, whose heap is made first; not with --from",
+            is_required: false,
+            is_flag: false,
+        },
+        OptionRow {
             name: "port",
             value: "N",
-            help: "Port on 127.0.0.1 of a heap that is served, to ask about that, 1 to 65535; not with --from or --page",
+            help: "Port on 127.0.0.1 of a heap that is served, to ask about that, 1 to 65535; not with --from, --hprof or --page",
             is_required: false,
             is_flag: false,
         },
@@ -87,32 +94,37 @@ pub(crate) fn explore_task(options: &ArgMatches<'_>) -> Result<Task, Mistake>
     ensures { IsTaskOrMistake explore_in (rows_of (found_of options.now)) result }
 {
     let from = options.get_str("from");
+    let hprof = options.get_str("hprof");
     let page = options.get_str("page");
     let port = options.get_str("port");
     let secret = has_secret(options);
-    match choose_task(from, page, port, secret) {
+    match choose_task(from, hprof, page, port, secret) {
         Ok(task) => Ok(task),
         Err(mistake) => Err(mistake),
     }
 }
 
-// Returns the task of `explore` to which this file, this page or this port is given, and a secret or none.
+// Returns the task of `explore` to which this file of lines or this dump, this page or this port is given, and a secret or none.
 fn choose_task(
     from: Option<&str>,
+    hprof: Option<&str>,
     page: Option<&str>,
     port: Option<&str>,
     secret: bool,
 ) -> Result<Task, Mistake>
     ensures { IsExploreOrMistake (option_map (λ s. s.now) from.entry)
-        (option_map (λ s. s.now) page.entry) (option_map (λ s. s.now) port.entry) secret result }
+        (option_map (λ s. s.now) hprof.entry) (option_map (λ s. s.now) page.entry) (option_map (λ s. s.now) port.entry) secret result }
 {
     let Some(text) = port else {
         if secret {
             return Err(Mistake::Secret);
         }
-        return own_task(from.is_some(), page);
+        let Some(origin) = origin_in(from.is_some(), hprof.is_some()) else {
+            return Err(Mistake::Origin);
+        };
+        return own_task(origin, page);
     };
-    if from.is_some() || page.is_some() {
+    if from.is_some() || hprof.is_some() || page.is_some() {
         return Err(Mistake::Source);
     }
     match port_of(text) {
@@ -121,19 +133,31 @@ fn choose_task(
     }
 }
 
+// Returns what is run first, if a file of lines is given or not, and a dump or not; or None if both are.
+fn origin_in(from: bool, hprof: bool) -> Option<Origin>
+    ensures { result ≡ origin_in from hprof }
+{
+    match (from, hprof) {
+        (false, false) => Some(Origin::Fresh),
+        (true, false) => Some(Origin::Lines),
+        (false, true) => Some(Origin::Dump),
+        (true, true) => None,
+    }
+}
+
 // Returns the task of `explore` over a heap of its own, to which this page is given.
-fn own_task(from: bool, page: Option<&str>) -> Result<Task, Mistake>
+fn own_task(origin: Origin, page: Option<&str>) -> Result<Task, Mistake>
     ensures { IsValueOrMistake
-        (option_map (λ p. Explore from p) (own_page (option_map (λ s. s.now) page.entry)))
+        (option_map (λ p. Explore origin p) (own_page (option_map (λ s. s.now) page.entry)))
         (λ m. (m ≡ OwnPage) × IsOutside 1 port_limit (option_map (λ s. s.now) page.entry)) result }
 {
     let Some(text) = page else {
-        return Ok(Task::Explore { from, page: None });
+        return Ok(Task::Explore { origin, page: None });
     };
     match port_of(text) {
         Some(port) => {
             let page = Some(port);
-            Ok(Task::Explore { from, page })
+            Ok(Task::Explore { origin, page })
         }
         None => Err(Mistake::OwnPage),
     }

@@ -38,6 +38,17 @@ pub struct Service {
     pub secret: bool,
 }
 
+/// What is run before a session with questions over a heap of its own.
+#[derive(Clone, Copy)]
+pub enum Origin {
+    /// Nothing.
+    Fresh,
+    /// The lines of a file that the command line names.
+    Lines,
+    /// The lines of the session of a dump, in a file that the command line names.
+    Dump,
+}
+
 /// A task of the program.
 #[derive(Clone, Copy)]
 pub enum Task {
@@ -45,8 +56,8 @@ pub enum Task {
     Run,
     /// Runs one session likewise, in which questions are answered.
     Explore {
-        /// Whether the lines of a file that the command line names are read first.
-        from: bool,
+        /// What is run first.
+        origin: Origin,
         /// The port of the page, 1 to 65,535, or None if there is none.
         page: Option<u16>,
     },

@@ -2,16 +2,18 @@
 //! OUT is the file of the lines of the session, for a wide heap.
 #![tactic(auto)]
 
-mod convert;
 mod report;
 
-use convert::{Converted, Failure, convert};
 use dump_pump::WriteOutlet;
-use report::{tell_left_out, tell_path, usage};
+use hprof_convert::{Converted, Failure, convert, tell_left_out};
+use report::{tell_path, usage};
 use std::env::Env;
 use std::fs::Files;
 use std::process::ExitCode;
 use std::{env, fs};
+
+// The name by which the program tells of a dump.
+const PROGRAM: &str = "heapdbg-import";
 
 // Runs the program.
 fn main(rt: HostRuntime) -> ExitCode {
@@ -55,7 +57,7 @@ fn import<R: AllocGlobal + Eprint + Files>(rt: &R, dump: &str, out: &str) -> u8 
 fn told<R: Eprint>(rt: &R, dump: &str, out: &str, done: Result<Converted, Failure>) -> u8 {
     match done {
         Ok(converted) => {
-            tell_left_out(rt, dump, &converted);
+            tell_left_out(rt, PROGRAM, dump, &converted);
             0
         }
         Err(Failure::Header) => {

@@ -1,6 +1,4 @@
 //! What the program tells on standard error. A write there that fails changes nothing.
-use crate::convert::Converted;
-use hprof_reader::Fault;
 
 /// Tells how the program is called.
 pub(crate) fn usage<R: Eprint>(rt: &R) {
@@ -10,53 +8,4 @@ pub(crate) fn usage<R: Eprint>(rt: &R) {
 /// Tells why a file can't be used.
 pub(crate) fn tell_path<R: Eprint>(rt: &R, path: &str, reason: &str) {
     let _ = eprintln!(rt; "heapdbg-import: {path}: {reason}");
-}
-
-/// Tells what of a dump is left out, in one line, if anything is.
-pub(crate) fn tell_left_out<R: Eprint>(rt: &R, path: &str, left: &Converted) {
-    let counts = [
-        (left.arrays, "arrays cut to 1,024 elements"),
-        (left.classes, "classes over 4,096"),
-        (left.again, "objects with the id of another"),
-        (left.objects, "objects of classes without a number"),
-        (left.references, "references to what isn't made"),
-    ];
-    if left.fault.is_none() && counts.iter().all(|it| it.0 == 0) {
-        return;
-    }
-    let _ = eprint!(rt; "heapdbg-import: {path}: ");
-    let mut is_first = true;
-    for (count, words) in counts {
-        is_first = tell_count(rt, is_first, count, words);
-    }
-    if let Some((fault, place)) = left.fault {
-        if !is_first {
-            let _ = eprint!(rt; ", ");
-        }
-        let words = fault_words(fault);
-        let _ = eprint!(rt; "{words} at byte {place}");
-    }
-    let _ = eprintln!(rt; "");
-}
-
-// Tells one count, unless it is 0.
-fn tell_count<R: Eprint>(rt: &R, is_first: bool, count: u64, words: &str) -> bool {
-    if count == 0 {
-        return is_first;
-    }
-    if !is_first {
-        let _ = eprint!(rt; ", ");
-    }
-    let _ = eprint!(rt; "{count} {words}");
-    false
-}
-
-// Returns the words for a fault.
-fn fault_words(fault: Fault) -> &'static str {
-    match fault {
-        Fault::Short => "a record is cut",
-        Fault::Header => "no header of a dump",
-        Fault::Tag => "no sub-record has this tag",
-        Fault::Type => "no kind has this code",
-    }
 }

@@ -1,8 +1,10 @@
 -- What is left out, item by item.
-use Rattle.std.proofs.Common.{◌≡◌, ℕ, List, [], refl, sym, ap, ◌∙◌}
+use Rattle.std.proofs.Common.{◌≡◌, ℕ, List, [], length, refl, sym, ap, ◌∙◌}
+use Rattle.std.specs.Prelude.{count_by}
 use Rattle.hprof_session.specs.Walks.{Left, ItemTold}
+use Rattle.hprof_plan.specs.declared.items.RootFound.{RootFound}
 use Rattle.hprof_lines.specs.declared.left_out.LeftOut.{LeftOut}
-use Rattle.hprof_lines.specs.LeftOut.{both_left_out, left_out_from, left_out_in, none_left_out}
+use Rattle.hprof_lines.specs.LeftOut.{both_left_out, is_root_lost, left_out_from, left_out_in, left_out_of_dump, lost_fields, none_left_out}
 use Rattle.hprof_lines.specs.Objects.{ObjectsTold}
 use Rattle.hprof_lines.specs.Passes.{IsWhole, next_place}
 use Rattle.hprof_lines.proofs.WholeWalks.{HasFirst}
@@ -32,3 +34,9 @@ pub counting_all : (o : ObjectsTold) (so_far : LeftOut) (i : ℕ) (w : Left) (it
     → m.rest ≡ [] → so_far ≡ left_out_from o none_left_out 0 items
 unfolding left_out_from
 counting_all o so_far i w items m none = sym (ap (λ (its : List ItemTold). left_out_from o so_far i its) none) ∙ m.left
+
+-- what is left out of the objects, of the roots and of the classes is all that is left out
+pub all_left_out : (o : ObjectsTold) (items : List ItemTold) (roots : List RootFound) (left : LeftOut) (n k : ℕ)
+    → left ≡ left_out_from o none_left_out 0 items → n ≡ count_by (is_root_lost o) roots → k ≡ lost_fields o.plan (length o.plan.kinds.entries)
+    → record { arrays = left.arrays; objects = left.objects; references = left.references; roots = n; fields = k } ≡ left_out_of_dump o items roots
+all_left_out o items roots left n k first second third = rw (first, second, third) refl

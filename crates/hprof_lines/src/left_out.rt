@@ -1,9 +1,9 @@
-//! What of the objects of a dump a session leaves out.
-ghost use Rattle.std.specs.Prelude.{◌≡◌, ◌≤◌, List, count_by, false, length, slice_index_or, IfOk};
+//! What of a dump a session leaves out.
+ghost use Rattle.std.specs.Prelude.{◌≡◌, ◌≤◌, ◌<◌, List, count_by, false, length, slice_index_or, IfOk};
 ghost use Rattle.indexmap.specs.IndexMap.{index_map_len};
 ghost use Rattle.hprof_reader.specs.SubRecords.{sub_record};
 ghost use Rattle.hprof_session.specs.Walks.{ItemTold, item_told, left};
-ghost use Rattle.hprof_lines.specs.LeftOut.{both_left_out, count_of, cuts_of, is_lost, left_out_from, left_out_if, left_out_in, none_left_out};
+ghost use Rattle.hprof_lines.specs.LeftOut.{both_left_out, count_of, cuts_of, is_lost, is_root_lost, left_out_from, left_out_if, left_out_in, left_out_of_dump, lost_fields, lost_fields_of, none_left_out};
 ghost use Rattle.hprof_lines.specs.Objects.{objects_told};
 ghost use Rattle.hprof_lines.specs.Passes.{IsWhole, next_place};
 ghost use Rattle.hprof_lines.specs.Sessions.{told_objects};
@@ -11,15 +11,15 @@ ghost use Rattle.hprof_lines.specs.Sessions.{told_objects};
 use crate::objects::{Objects, made_at, names_object, number_of};
 use crate::passes::{is_turn, made_objects};
 use crate::session::static_ids;
-use crate::slots::{ELEMENT_LIMIT, read_object};
+use crate::slots::{ELEMENT_LIMIT, kinds_of, read_object};
 use crate::values::SlotValue;
-use hprof_plan::Plan;
+use hprof_plan::{Plan, RootFound};
 use hprof_reader::SubRecord;
 use hprof_session::{Item, Walk, item_at};
 use indexmap::IndexSet;
 use std::alloc::{AllocError, Global};
 
-/// How much of the objects of a dump its session leaves out.
+/// How much of a dump its session leaves out.
 #[derive(Clone, Copy, PartialEq, Eq, Debug)]
 pub struct LeftOut {
     /// Arrays that are cut to 1,024 elements.
@@ -28,6 +28,10 @@ pub struct LeftOut {
     pub objects: u64,
     /// References of objects to what isn't made.
     pub references: u64,
+    /// Roots that name what isn't made.
+    pub roots: u64,
+    /// Own fields of classes that have no slot, because an object has as many slots without them as it may have.
+    pub fields: u64,
 }
 
 // Nothing.
@@ -35,21 +39,24 @@ const NONE: LeftOut = LeftOut {
     arrays: 0,
     objects: 0,
     references: 0,
+    roots: 0,
+    fields: 0,
 };
 
-/// Counts what of the objects of a dump the session that `write_session` puts out leaves out. Counts stay at 2^64 - 1 if they
+/// Counts what of a dump the session that `write_session` puts out leaves out. Counts stay at 2^64 - 1 if they
 /// come so far. Fails if an allocation fails. Walks over the dump twice.
 pub fn count_left_out(
     alloc: Global,
     walk: Walk<'_>,
     plan: &Plan<'_>,
     objects: &IndexSet<u64>,
+    roots: &[RootFound],
 ) -> Result<LeftOut, AllocError>
     requires { index_map_len plan.now.kinds ≤ length plan.now.classes }
     ensures { (items : List ItemTold) → IsWhole (left walk.entry) items
         → IfOk result (λ r. r
-        ≡ left_out_from (told_objects plan.now walk.entry.ids objects.now.keys items)
-        none_left_out 0 items) }
+        ≡ left_out_of_dump (told_objects plan.now walk.entry.ids objects.now.keys items) items
+        roots.now) }
 {
     let planned = plan.statics.as_slice();
     let statics = static_ids(alloc, planned)?;
@@ -63,7 +70,14 @@ pub fn count_left_out(
         made: kept,
         statics: &statics,
     };
-    left_out_of_all(alloc, walk, &all)
+    let left = left_out_of_all(alloc, walk, &all)?;
+    Ok(LeftOut {
+        arrays: left.arrays,
+        objects: left.objects,
+        references: left.references,
+        roots: lost_roots(&all, roots),
+        fields: lost_fields(plan),
+    })
 }
 
 // Returns how much of the objects of a dump is left out.
@@ -135,6 +149,8 @@ fn left_out_of(
             arrays: 0,
             objects: 1,
             references: 0,
+            roots: 0,
+            fields: 0,
         });
     }
     read_object(values, all.ids, all.plan, sub)?;
@@ -142,6 +158,8 @@ fn left_out_of(
         arrays: cuts_of(sub),
         objects: 0,
         references: lost_in(all, values.as_slice()),
+        roots: 0,
+        fields: 0,
     })
 }
 
@@ -196,5 +214,48 @@ fn both_left_out(a: LeftOut, b: LeftOut) -> LeftOut
         arrays: a.arrays.saturating_add(b.arrays),
         objects: a.objects.saturating_add(b.objects),
         references: a.references.saturating_add(b.references),
+        roots: a.roots.saturating_add(b.roots),
+        fields: a.fields.saturating_add(b.fields),
     }
+}
+
+// Counts the roots that name what isn't made.
+fn lost_roots(all: &Objects<'_, '_>, roots: &[RootFound]) -> u64
+    ensures { result ≡ count_by (is_root_lost (objects_told all.now)) roots.now }
+{
+    let mut count = 0;
+    for root in roots {
+        if is_root_lost(all, *root) {
+            count += 1;
+        }
+    }
+    count
+}
+
+// Tells whether a root names what isn't made.
+fn is_root_lost(all: &Objects<'_, '_>, root: RootFound) -> bool
+    ensures { result ≡ is_root_lost (objects_told all.now) root }
+{
+    number_of(all, root.id).is_none()
+}
+
+// Counts the own fields of classes that have no slot, as far as 64 bits go.
+#[tactic(auto, unfolding(crate::specs::LeftOut::lost_fields))]
+fn lost_fields(plan: &Plan<'_>) -> u64
+    requires { index_map_len plan.now.kinds ≤ length plan.now.classes }
+    ensures { result ≡ lost_fields plan.now (index_map_len plan.now.kinds) }
+{
+    let mut count: u64 = 0;
+    for k in 0..plan.kinds.len() as u64 {
+        count = count.saturating_add(lost_fields_of(plan, k));
+    }
+    count
+}
+
+// Returns how many own fields of class k have no slot.
+fn lost_fields_of(plan: &Plan<'_>, k: u64) -> u64
+    requires { k < length plan.now.classes }
+    ensures { result ≡ lost_fields_of plan.now k }
+{
+    (kinds_of(plan, k).len() as u64).saturating_sub(plan.classes.field_count(k))
 }

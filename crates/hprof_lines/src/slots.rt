@@ -83,7 +83,7 @@ fn base_of(plan: &Plan<'_>, instance: u64, class: u64) -> u64
 }
 
 // Returns the kinds of the own fields of a class in its record.
-fn kinds_of<'p>(plan: &'p Plan<'_>, class: u64) -> &'p [Kind]
+pub(crate) fn kinds_of<'p>(plan: &'p Plan<'_>, class: u64) -> &'p [Kind]
     ensures { result.now ≡ kinds_of plan.now class }
 {
     match plan.kinds.get_index(class as usize) {

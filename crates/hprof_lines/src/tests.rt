@@ -104,16 +104,18 @@ fn session_of_a_small_dump(rt: HostRuntime) -> Result<(), Fail> {
     let is_out = write_session(alloc, &mut outlet, walk, &plan, &objects, &roots);
     assert_eq!(rt; is_out.ok(), Some(true));
     assert_eq!(rt; outlet.into_writer().as_slice(), SESSION);
-    let left = count_left_out(alloc, walk, &plan, &objects)
+    let left = count_left_out(alloc, walk, &plan, &objects, &roots)
         .ok()
         .ok_or("memory")?;
-    let (arrays, objects, references) = (0, 0, 0);
+    let (arrays, objects, references, roots, fields) = (0, 0, 0, 0, 0);
     assert_eq!(rt;
         left,
         LeftOut {
             arrays,
             objects,
-            references
+            references,
+            roots,
+            fields
         }
     );
     Ok(())

@@ -5,9 +5,9 @@ pub returns : goal.returns
 returns g c =
     inl (
       c.serve_asking-ended.result,
-      c.run_first.new.commands,
+      c.in_ok-asking.asking,
       c.serve_asking-ended.new.asking,
-      (c.args.asking.now, c.requires, c.in_ok-run_first.ensures.run),
+      (c.args.asking, c.requires, c.in_ok-asking.ensures.run),
       rw c.session_limits-limits.ensures at c.serve_asking-ended.ensures.session,
       rw c.session_limits-limits.ensures at c.serve_asking-ended.ensures.ends,
       c.outcome.ensures,

@@ -5,16 +5,16 @@ pub returns-in-Ok : goal.returns-in-Ok
 returns-in-Ok g c =
     inl (
       c.in-Ok.ended,
-      c.run_first.new.commands,
+      c.in_ok-seat.seat,
       c.serve_beside_page-served.new.commands,
       (
         c.new-seat.result,
         record { made = c.args.blank; is = c.requires.made; only = search rules; legal = c.new-seat.ensures.legal },
-        c.in_ok-run_first.ensures.run,
+        c.in_ok-seat.ensures.run,
       ),
       rw c.session_limits-limits.ensures at c.in-Ok.ensures.served,
       c.outcome.ensures,
     )
 
-pub returns-in_err-run_first : goal.returns-in_err-run_first
-returns-in_err-run_first g c = inr (_, inl c.in_err-run_first.ensures.hindrance, search rules, refl, refl)
+pub returns-in_err-seat : goal.returns-in_err-seat
+returns-in_err-seat g c = inr (_, inl c.in_err-seat.ensures.hindrance, search rules, refl, refl)

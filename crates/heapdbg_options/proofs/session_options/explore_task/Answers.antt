@@ -6,10 +6,10 @@ use Rattle.heapdbg_options.proofs.session_options.explore_task.Goals as goal
 
 pub returns-in-Ok : goal.returns-in-Ok
 returns-in-Ok c =
-    explore_task_from_rows (found_of c.args.options.now) (option_map (λ s. s.now) c.get_str-from.result) (option_map (λ s. s.now) c.get_str-page.result) (option_map (λ s. s.now) c.get_str-port.result) c.has_secret-secret.result (Ok c.in-Ok.task)
-    (c.get_str-from.ensures, c.get_str-page.ensures, c.get_str-port.ensures) c.has_secret-secret.ensures (c.in-Ok.ensures)
+    explore_task_from_rows (found_of c.args.options.now) (option_map (λ s. s.now) c.get_str-from.result) (option_map (λ s. s.now) c.get_str-hprof.result) (option_map (λ s. s.now) c.get_str-page.result) (option_map (λ s. s.now) c.get_str-port.result) c.has_secret-secret.result (Ok c.in-Ok.task)
+    (c.get_str-from.ensures, c.get_str-hprof.ensures, c.get_str-page.ensures, c.get_str-port.ensures) c.has_secret-secret.ensures (c.in-Ok.ensures)
 
 pub returns-in-Err : goal.returns-in-Err
 returns-in-Err c =
-    explore_task_from_rows (found_of c.args.options.now) (option_map (λ s. s.now) c.get_str-from.result) (option_map (λ s. s.now) c.get_str-page.result) (option_map (λ s. s.now) c.get_str-port.result) c.has_secret-secret.result (Err c.in-Err.mistake)
-    (c.get_str-from.ensures, c.get_str-page.ensures, c.get_str-port.ensures) c.has_secret-secret.ensures (c.in-Err.ensures)
+    explore_task_from_rows (found_of c.args.options.now) (option_map (λ s. s.now) c.get_str-from.result) (option_map (λ s. s.now) c.get_str-hprof.result) (option_map (λ s. s.now) c.get_str-page.result) (option_map (λ s. s.now) c.get_str-port.result) c.has_secret-secret.result (Err c.in-Err.mistake)
+    (c.get_str-from.ensures, c.get_str-hprof.ensures, c.get_str-page.ensures, c.get_str-port.ensures) c.has_secret-secret.ensures (c.in-Err.ensures)

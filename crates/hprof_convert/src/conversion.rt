@@ -1,14 +1,11 @@
 //! The session of a dump.
-ghost use Rattle.std.specs.Prelude.{◌≡◌, ◌++◌, ℕ, List, [], OnOk};
-ghost use Rattle.hprof_reader.specs.Headers.{header_text};
-ghost use Rattle.hprof_reader.specs.declared.header.Header.{Header};
 ghost use Rattle.hprof_session.specs.Walks.{left};
-ghost use Rattle.hprof_import.specs.Conversions.{IsConverted};
+ghost use Rattle.hprof_convert.specs.Conversions.{IsConversion, IsConverted};
 
 use dump_pump::Outlet;
 use heap_class::WIDEST_CLASSES;
 use hprof_lines::{LeftOut, count_left_out, write_session};
-use hprof_plan::{Found, Plan, find, plan_classes};
+use hprof_plan::{Found, Plan, Statics, find, plan_classes};
 use hprof_reader::{Fault, header_at};
 use hprof_session::Walk;
 use std::alloc::{AllocError, Global};
@@ -26,6 +23,12 @@ pub struct Converted {
     pub objects: u64,
     /// References to what isn't made.
     pub references: u64,
+    /// Roots that name what isn't made.
+    pub roots: u64,
+    /// Own fields of classes that have no slot.
+    pub fields: u64,
+    /// Static fields that no object has.
+    pub statics: u64,
     /// The first fault and its place, if the dump has one.
     pub fault: Option<(Fault, u64)>,
 }
@@ -43,7 +46,7 @@ pub enum Failure {
 
 impl From<AllocError> for Failure {
     ghost use Rattle.std.specs.Prelude.{◌≡◌};
-    ghost use Rattle.hprof_import.specs.declared.convert.Failure.TheVariants.{Memory};
+    ghost use Rattle.hprof_convert.specs.declared.conversion.Failure.TheVariants.{Memory};
 
     ghost from_gives = { λ _ e. e ≡ Memory };
 
@@ -52,12 +55,11 @@ impl From<AllocError> for Failure {
     }
 }
 
-/// Puts out the session of a dump, and counts what is left out. Fails with Header if the bytes don't begin as a dump does, with
-/// Memory if an allocation fails, or with Write if a put fails.
+/// Puts out the session of a dump, and counts what is left out. Fails with Header if the bytes don't begin as a dump does; nothing
+/// is out then. Fails with Memory if an allocation fails, and with Write if a put fails; a part of the session may be out then, from
+/// the front.
 pub fn convert<O: Outlet>(alloc: Global, outlet: &mut O, bytes: &[u8]) -> Result<Converted, Failure>
-    ensures { OnOk result ((h : Header) × (rest : List ℕ) × (bytes.now ≡ header_text h ++ rest)
-        × IsConverted (record { ids = h.ids; segment = []; rest = rest }) (O.seen outlet.old)
-        (O.seen outlet.new)) }
+    ensures { IsConverted bytes.now (O.seen outlet.old) (O.seen outlet.new) result }
 {
     match header_at(bytes) {
         Ok(read) => {
@@ -79,7 +81,7 @@ fn convert_walk<O: Outlet>(
     walk: Walk<'_>,
     size: u64,
 ) -> Result<Converted, Failure>
-    ensures { OnOk result (IsConverted (left walk.entry) (O.seen outlet.old) (O.seen outlet.new)) }
+    ensures { IsConversion (left walk.entry) (O.seen outlet.old) (O.seen outlet.new) result }
 {
     let found = find(alloc, walk)?;
     let plan = plan_classes(alloc, WIDEST_CLASSES, &found)?;
@@ -88,7 +90,7 @@ fn convert_walk<O: Outlet>(
     if !write_session(alloc, outlet, walk, &plan, &found.objects, roots)? {
         return Err(Failure::Write);
     }
-    let left = count_left_out(alloc, walk, &plan, &found.objects)?;
+    let left = count_left_out(alloc, walk, &plan, &found.objects, roots)?;
     Ok(left_out_of(&found, &plan, left, size))
 }
 
@@ -100,9 +102,32 @@ fn left_out_of(found: &Found<'_>, plan: &Plan<'_>, left: LeftOut, size: u64) -> 
         again: found.again,
         objects: left.objects,
         references: left.references,
+        roots: left.roots,
+        fields: left.fields,
+        statics: statics_found(found).saturating_sub(statics_kept(&plan.statics)),
         fault: match found.fault {
             Some(fault) => Some((fault, size.saturating_sub(found.left))),
             None => None,
         },
     }
+}
+
+// Counts the static fields of the classes of a dump, as far as 64 bits go.
+fn statics_found(found: &Found<'_>) -> u64 {
+    let mut count: u64 = 0;
+    for i in 0..found.classes.len() {
+        if let Some((_, class)) = found.classes.get_index(i) {
+            count = count.saturating_add(class.statics.count as u64);
+        }
+    }
+    count
+}
+
+// Counts the static fields that an object has, as far as 64 bits go.
+fn statics_kept(statics: &[Statics<'_>]) -> u64 {
+    let mut count: u64 = 0;
+    for it in statics {
+        count = count.saturating_add(it.fields.len() as u64);
+    }
+    count
 }

@@ -1,0 +1,61 @@
+-- Sessions of dumps.
+use Rattle.std.specs.Prelude.{◌≡◌, ◌⊎◌, ◌++◌, ◌<◌, ◌^◌, ℕ, List, [], Result, Ok, Err}
+use Rattle.heap_class.specs.Limits.{widest_classes}
+use Rattle.dump_pump.specs.Outlets.{Outgoing}
+use Rattle.hprof_reader.specs.Headers.{header_text}
+use Rattle.hprof_reader.specs.declared.header.Header.{Header}
+use Rattle.hprof_session.specs.Walks.{Left, ItemTold}
+use Rattle.hprof_plan.specs.Finds.{Finds}
+use Rattle.hprof_plan.specs.Plans.{IsPlan}
+use Rattle.hprof_plan.specs.declared.dump.Found.{Found}
+use Rattle.hprof_plan.specs.declared.planning.Plan.{Plan}
+use Rattle.hprof_lines.specs.Outputs.{Puts, PutsPart}
+use Rattle.hprof_lines.specs.Passes.{IsWhole}
+use Rattle.hprof_lines.specs.Sessions.{session_text}
+use Rattle.hprof_convert.specs.declared.conversion.Converted.{Converted}
+use Rattle.hprof_convert.specs.declared.conversion.Failure.{Failure}
+use Rattle.hprof_convert.specs.declared.conversion.Failure.TheVariants as failure
+
+-- this text is the session of all items that this walk comes to, by what is found in them and by the plan of its classes for a
+-- wide heap
+pub record IsWalkSession (w : Left) (text : List ℕ) : Type 0 where
+  pub items : List ItemTold
+  pub whole : IsWhole w items
+  pub found : Found
+  pub finds : Finds w found
+  pub plan : Plan
+  pub planned : IsPlan widest_classes found plan
+  pub is : text ≡ session_text plan w.ids found.objects.keys items found.roots.items
+
+-- the walk over these bytes, which follow a header
+abbrev pub walk_after : Header → List ℕ → Left
+walk_after h rest = record { ids = h.ids; segment = []; rest = rest }
+
+-- this text is the session of this dump: its bytes are a header, and the walk goes over the others
+abbrev pub IsDumpSession : List ℕ → List ℕ → Type 0
+IsDumpSession dump text =
+    (h : Header) × (rest : List ℕ) × (dump ≡ header_text h ++ rest)
+    × IsWalkSession (walk_after h rest) text
+
+-- how the session of what this walk comes to was put out: all of it was; or memory ran out, and nothing was, or some of it, from
+-- the front, and no put failed; or a put failed, and only a part of it was
+abbrev pub IsConversion : Left → Outgoing → Outgoing → Result Converted Failure → Type 0
+IsConversion w old new (Ok left) = (text : List ℕ) × IsWalkSession w text × Puts old new text
+IsConversion w old new (Err failure.Header) = ⊥
+IsConversion w old new (Err failure.Memory) =
+    (new ≡ old) ⊎ ((text : List ℕ) × IsWalkSession w text × PutsPart 0 old new text)
+IsConversion w old new (Err failure.Write) =
+    (text : List ℕ) × IsWalkSession w text × PutsPart 1 old new text
+
+-- these bytes don't begin with a header
+abbrev pub HasNoHeader : List ℕ → Type 0
+HasNoHeader dump =
+    (h : Header) (rest : List ℕ) → h.time < 2 ^ 64 → ¬ (dump ≡ header_text h ++ rest)
+
+-- a dump was converted: its bytes are a header, and the session of what the walk over the others comes to was put out so; or they
+-- don't begin with a header, and nothing was put out
+abbrev pub IsConverted : List ℕ → Outgoing → Outgoing → Result Converted Failure → Type 0
+IsConverted dump old new result =
+    ((h : Header) × (rest : List ℕ) × (dump ≡ header_text h ++ rest)
+    × IsConversion (walk_after h rest) old new result)
+    ⊎ (HasNoHeader dump × (result ≡ Err failure.Header) × (new ≡ old))

@@ -1,0 +1,10 @@
+//! The session of a heap dump: from the bytes of the dump to its lines, and what of it is left out.
+#![tactic(auto)]
+
+mod conversion;
+mod report;
+#[cfg(test)]
+mod tests;
+
+pub use conversion::{Converted, Failure, convert};
+pub use report::tell_left_out;

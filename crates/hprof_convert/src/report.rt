@@ -1,0 +1,55 @@
+//! What is told of a dump that was converted. A write that fails changes nothing.
+use crate::conversion::Converted;
+use hprof_reader::Fault;
+
+/// Tells on standard error, as the program of this name, what of a dump is left out, in one line, if anything is.
+pub fn tell_left_out<R: Eprint>(rt: &R, program: &str, path: &str, left: &Converted) {
+    let counts = [
+        (left.arrays, "arrays cut to 1,024 elements"),
+        (left.classes, "classes over 4,096"),
+        (left.again, "objects with the id of another"),
+        (left.objects, "objects of classes without a number"),
+        (left.references, "references to what isn't made"),
+        (left.roots, "roots of what isn't made"),
+        (left.fields, "fields behind 64 slots"),
+        (left.statics, "static fields that no object has"),
+    ];
+    if left.fault.is_none() && counts.iter().all(|it| it.0 == 0) {
+        return;
+    }
+    let _ = eprint!(rt; "{program}: {path}: ");
+    let mut is_first = true;
+    for (count, words) in counts {
+        is_first = tell_count(rt, is_first, count, words);
+    }
+    if let Some((fault, place)) = left.fault {
+        if !is_first {
+            let _ = eprint!(rt; ", ");
+        }
+        let words = fault_words(fault);
+        let _ = eprint!(rt; "{words} at byte {place}");
+    }
+    let _ = eprintln!(rt; "");
+}
+
+// Tells one count, unless it is 0.
+fn tell_count<R: Eprint>(rt: &R, is_first: bool, count: u64, words: &str) -> bool {
+    if count == 0 {
+        return is_first;
+    }
+    if !is_first {
+        let _ = eprint!(rt; ", ");
+    }
+    let _ = eprint!(rt; "{count} {words}");
+    false
+}
+
+// Returns the words for a fault.
+fn fault_words(fault: Fault) -> &'static str {
+    match fault {
+        Fault::Short => "a record is cut",
+        Fault::Header => "no header of a dump",
+        Fault::Tag => "no sub-record has this tag",
+        Fault::Type => "no kind has this code",
+    }
+}

@@ -1,12 +1,13 @@
 #!/usr/bin/env python3
 """Hunts in a heap of five million objects: `millions.py [PROGRAM [CHAINS]]`.
 
-PROGRAM is `bin/heapdbg` if it isn't given. Writes a session of a wide heap that makes CHAINS lists (1,000 if it isn't given) of 5,000
-nodes, whose heads stand in a table that a register names; of each fifth list the head is dropped at once. Saves the session's heap,
-and reads the file back record by record by what HPROF says, without the program's code: each object, its values and its reference
-must be those that the session wrote. Then loads the session by `explore --from`, asks what a hunter asks, runs a cycle, asks again,
-and rewinds. Prints how long each took on the clock, and the memory that the program has taken at most. Status 1 if a file or an answer
-is wrong."""
+PROGRAM is `bin/heapdbg` if it isn't given. Writes a session of a wide heap that makes CHAINS lists (1,000 if it isn't given) of
+5,000 nodes, whose heads stand in a table that a register names; of each fifth list the head is dropped at once. Saves the
+session's heap, and reads the file back record by record by what HPROF says, without the program's code: each object, its values
+and its reference must be those that the session wrote. Opens that file by `explore --hprof`, if it has no more objects than
+that takes (CHAINS up to 838). Then loads the session by `explore --from`, asks what a hunter asks, runs a cycle, asks again,
+and rewinds. Prints how long each took on the clock, and the memory that the program has taken at most. Status 1 if a file or an
+answer is wrong."""
 import mmap
 import os
 import pathlib
@@ -20,6 +21,8 @@ import time
 TOP = pathlib.Path(__file__).resolve().parent.parent
 LENGTH, GAP = 5_000, 5
 REGIONS, KEEP = 20_000, 1 << 24
+# The objects of a dump of which `explore --hprof` makes a heap.
+MOST_OF_A_DUMP = 4_194_304
 OPENING = b"class Node - next:object key:int\narray [Node;\nnewarray 0 0 1 %d\n"
 # Steps before the first node, and how many make a node and end a list.
 FIRST, EACH, LAST = 3, 4, 1
@@ -132,8 +135,19 @@ def saved(program, session, chains):
         dump = Dump(text)
         found = list(faults_of(dump, chains))
     told("read back", begun)
+    if chains * LENGTH < MOST_OF_A_DUMP:
+        found += opened(program, path, chains * LENGTH)
     path.unlink()
     return found, dump.nodes[0][0], dump.nodes[(chains // GAP * GAP - 1) * LENGTH][0]
+
+
+def opened(program, path, nodes):
+    """Opens a dump, and returns what is wrong with the number of its nodes."""
+    hunt = Hunt(program, "--hprof", path)
+    counts = hunt.ask("histogram")
+    print(f"memory at most: {hunt.end():,} MB")
+    wanted = f"row {nodes} {12 * nodes} Node"
+    return [] if wanted in counts else [f"the dump has another histogram than {wanted!r}"]
 
 
 def told(name, begun):
@@ -142,15 +156,15 @@ def told(name, begun):
 
 
 class Hunt:
-    """A session of `explore` behind the file's lines."""
+    """A session of `explore` behind the lines of a file, or of a dump's session."""
 
-    def __init__(self, program, session):
-        words = [program, "explore", "--wide", "1", "--regions", str(REGIONS), "--keep", str(KEEP), "--from", str(session)]
+    def __init__(self, program, option, path):
+        words = [program, "explore", "--wide", "1", "--regions", str(REGIONS), "--keep", str(KEEP), option, str(path)]
         begun = time.monotonic()
         self.ran = subprocess.Popen(words, stdin=subprocess.PIPE, stdout=subprocess.PIPE, stderr=subprocess.DEVNULL)
         self.faults = []
         self.ask("status", 7)
-        told("explore --from", begun)
+        told(f"explore {option}", begun)
 
     def ask(self, line, wanted=None):
         """Asks, and returns the answer's lines; `wanted` is its last line, or the number of its rows."""
@@ -177,7 +191,7 @@ class Hunt:
 
 def hunted(program, session, chains, reached, lost):
     """Asks what a hunter asks. Returns what is wrong."""
-    hunt = Hunt(program, session)
+    hunt = Hunt(program, "--from", session)
     kept = sum(map(is_kept, range(chains)))
     nodes, garbage, place = chains * LENGTH, (chains - kept) * LENGTH, steps(chains)
     table = 8 * chains

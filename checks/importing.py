@@ -8,6 +8,7 @@ files and bad words must be refused; what is left out must be told. `explore --h
 --from` does with the session of the dump, also of dumps that are cut or have a byte changed. Prints a line for each thing that
 is otherwise than it must be, and ends with status 1 then."""
 import pathlib
+import re
 import shutil
 import subprocess
 import sys
@@ -27,6 +28,12 @@ ROOTS = {0x01: (-1, "JNI_global"), 0x02: (8, "JNI_local"), 0x03: (8, "Java_frame
 # What is asked of a heap that `explore --hprof` makes: the whole heap too, as a dump.
 QUESTIONS = b"status\nclasses\nregions\nregisters\nhistogram\ndump -\ncollect\nhistogram\ndominators 20\n"
 WIDE = ("--wide", "--regions", "2048", "--keep", "16")
+SMALL = ("--wide", "0", "--regions", "16", "--keep", "16")
+# What `--hprof` stands for, beside the dump.
+USUAL = ("--wide", "--regions", "65536", "--keep", "65536")
+# How many refused lines of a dump's session are reported.
+REPORTED = 8
+REFUSED = re.compile(rb":\d+: (no \d|bad command)")
 
 
 class Dump:
@@ -245,13 +252,23 @@ def told(program, option, path, words, name=None):
     return ran.returncode, ran.stdout, ran.stderr.replace(bytes(path), bytes(name or path))
 
 
+def limited(reports, dump):
+    """Returns the reports of a session's lines as they are of the session of a dump: of the refused ones only the first, and a count."""
+    lines = reports.splitlines(keepends=True)
+    refused = [line for line in lines if REFUSED.search(line)]
+    others = [line for line in lines if line not in refused]
+    more = len(refused) - REPORTED
+    count = [b"heapdbg: %s: %d more lines refused\n" % (bytes(dump), more)] if more > 0 else []
+    return b"".join(refused[:REPORTED] + count + others)
+
+
 def explored(program, importer, dump, folder, *words):
     """Yields how `explore --hprof` differs from `explore --from` with the session that heapdbg-import writes."""
     session = folder / "explored.session"
     ran = subprocess.run([importer, str(dump), str(session)], capture_output=True, timeout=LIMIT)
     said = ran.stderr.replace(b"heapdbg-import:", b"heapdbg:")
-    status, answers, reports = told(program, "--from", session, words, dump)
-    wanted = (1, b"", said + b"heapdbg: hprof\n") if ran.returncode else (status, answers, reports + said)
+    status, answers, reports = told(program, "--from", session, words or USUAL, dump)
+    wanted = (1, b"", said + b"heapdbg: hprof\n") if ran.returncode else (status, answers, limited(reports, dump) + said)
     for name, got, want in zip(("status", "answers", "reports"), told(program, "--hprof", dump, words), wanted):
         if got != want:
             yield f"{dump.name} {' '.join(words)}: explore --hprof has another {name}: {got[-200:] if name != 'status' else got!r}"
@@ -312,6 +329,7 @@ def differences(program, importer):
                 yield from imported(program, importer, dump, folder)
                 yield from explored(program, importer, dump, folder, *WIDE)
                 yield from explored(program, importer, dump, folder)
+                yield from explored(program, importer, dump, folder, *SMALL)
         yield from changed(program, importer, folder / "leak-8.hprof", folder)
         yield from unread(program, folder / "leak-8.hprof", folder)
         yield from refusals(importer, folder / "leak-8.hprof", folder)

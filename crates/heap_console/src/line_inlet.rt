@@ -50,7 +50,7 @@ impl<'a, F: Read + Drop, R> LineInlet<'a, F, R> {
             return Err(AllocError);
         };
         Ok(LineInlet {
-            reports: LineReports::new(rt, alloc, answers, name),
+            reports: LineReports::new(rt, alloc, answers, name, u64::MAX),
             reader,
             given: Given::new(),
         })

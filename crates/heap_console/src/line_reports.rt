@@ -18,6 +18,9 @@ pub struct LineReports<'a, R> {
     name: &'a str,
     line: Vec<u8>,
     number: u64,
+    // How many more refused lines may be reported, and how many are not reported.
+    left: u64,
+    unreported: u64,
     count: LineCount<'a, R>,
 }
 
@@ -27,13 +30,14 @@ fn text_of(line: &[u8]) -> &str {
 }
 
 impl<'a, R> LineReports<'a, R> {
-    /// Creates the reports of a file of which no line was read, which they call by this name. `answers` has the newest line that
-    /// the session wrote. Takes no memory yet.
+    /// Creates the reports of a file of which no line was read, which they call by this name: at most this many lines are reported.
+    /// `answers` has the newest line that the session wrote. Takes no memory yet.
     pub fn new(
         rt: &'a R,
         alloc: Global,
         answers: &'a NewestLine,
         name: &'a str,
+        most: u64,
     ) -> LineReports<'a, R> {
         LineReports {
             rt,
@@ -41,6 +45,8 @@ impl<'a, R> LineReports<'a, R> {
             name,
             line: Vec::new(alloc),
             number: 0,
+            left: most,
+            unreported: 0,
             count: LineCount::new(rt),
         }
     }
@@ -57,9 +63,13 @@ impl<R: Clock + Eprint> LineReports<'_, R> {
         self.count.begin();
     }
 
-    /// Ends what shows how many lines were read.
+    /// Ends what shows how many lines were read, and tells how many refused lines weren't reported.
     pub fn end_count(&mut self) {
         self.count.end(self.number);
+        let (name, unreported) = (self.name, self.unreported);
+        if unreported > 0 {
+            let _ = eprintln!(self.rt; "heapdbg: {name}: {unreported} more lines refused");
+        }
     }
 
     // Reports the newest line, if it was refused or no command, and shows how many lines were read, if it is time.
@@ -68,13 +78,18 @@ impl<R: Clock + Eprint> LineReports<'_, R> {
         self.count.show(self.number);
     }
 
-    // Reports the newest line, with its answer, if it was refused or no command.
+    // Reports the newest line, with its answer, if it was refused or no command and may be reported.
     fn report_newest(&mut self) {
         let answers = self.answers.take();
         let answer = text_of(answers.as_slice());
         if !answer.starts_with("no ") && answer != "bad command" {
             return;
         }
+        if self.left == 0 {
+            self.unreported = self.unreported.saturating_add(1);
+            return;
+        }
+        self.left = self.left.saturating_sub(1);
         self.count.leave();
         let (name, number) = (self.name, self.number);
         let text = text_of(self.line.as_slice());

@@ -16,8 +16,11 @@ use std::fs::Files;
 use std::marker::Brand;
 use std::time::Clock;
 
+// How many refused lines of the session of a dump are reported: of a heap that is too small there may be millions.
+const REPORTED_LINES: u64 = 8;
+
 /// Runs by these commands the lines of the session of the dump in the file of the path, and returns them as the lines left them.
-/// Reports lines as `run_first` does, and on standard error what of the dump is left out, and its first fault. Fails with Memory,
+/// Reports the first refused lines as `run_first` does, and how many more were refused, and on standard error what of the dump is left out, and its first fault. Fails with Memory,
 /// and with Hprof if the file can't be read, if it has no header of a dump, or if a line ends the session.
 #[tactic(auto, using(crate::proofs::RunDumps::dump_is_run_first))]
 pub(crate) fn load_dump<R: AllocGlobal + Clock + Eprint + Files, C: Commands + Drop>(
@@ -63,7 +66,7 @@ fn run_dump<R: AllocGlobal + Clock + Eprint, C: Commands + Drop, B: LoadStart<C>
     let (alloc, time) = (rt.alloc(), request.settings.time);
     let limits = session_limits(request.settings.wide);
     let answers = NewestLine::new(alloc);
-    let mut reports = LineReports::new(rt, alloc, &answers, path);
+    let mut reports = LineReports::new(rt, alloc, &answers, path, REPORTED_LINES);
     if is_terminal {
         reports.begin_count();
     }

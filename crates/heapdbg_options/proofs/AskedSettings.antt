@@ -14,7 +14,7 @@ use Rattle.clap.specs.Words.{Row, Text, first_of, subcommand_of}
 use Rattle.heap_class.specs.declared.IdSize.{IdSize}
 use Rattle.heap_class.specs.declared.IdSize.TheVariants.{Eight}
 use Rattle.heap_world.specs.Limits.{mutator_limit}
-use Rattle.heapdbg_options.specs.CommandLine.{AreNumbersOf, AreSettingsWithin, HasDefaults, IsTask, ask_in, idle_in, idle_limit, idle_of, is_guarded, has_secret, stays_in, stays_of, dumps_in, dumps_of, dumps_with, page_beside, page_in, page_of, page_with, explore_in, explore_with, is_dump, is_lines, origin_in, own_page, own_task, runs_dump, runs_lines, flag_in, fetch_in, heapdbg_line, id_size_in, id_size_of, is_given, is_task, IsOther, IsThird, keep_default, keep_in, most_kept, most_regions, most_sessions, number_in, number_or, other_port, port_in, port_limit, questions_in, regions_in, rolls_in, save_in, serve_in, serve_with, sessions_in, sessions_of, settings_in, settings_over, settings_under, settings_with, target_in, task_in, third_port, time_limit, option_value, wide_in, workers_in, workers_of, counted_in, option_size, size_or, size_with, text_before, times_in}
+use Rattle.heapdbg_options.specs.CommandLine.{AreNumbersOf, AreSettingsWithin, HasDefaults, IsTask, ask_in, idle_in, idle_limit, idle_of, is_guarded, has_secret, stays_in, stays_of, dumps_in, dumps_of, dumps_with, page_beside, page_in, page_of, page_with, explore_in, explore_with, is_dump, is_lines, origin_in, own_page, own_task, runs_dump, runs_lines, flag_in, fetch_in, heapdbg_line, id_size_in, id_size_of, is_given, is_task, IsOther, IsThird, keep_default, keep_in, most_kept, most_regions, most_sessions, number_in, number_or, other_port, port_in, port_limit, questions_in, regions_in, rolls_in, save_in, serve_in, serve_with, sessions_in, sessions_of, settings_in, settings_over, settings_under, settings_with, target_in, task_in, third_port, time_limit, option_value, wide_in, workers_in, workers_of, counted_in, option_size, size_or, size_with, text_before, times_in, regions_default, wide_default}
 use Rattle.heapdbg_options.specs.declared.settings.Settings.{Settings}
 use Rattle.heapdbg_options.specs.declared.settings.Origin.{Origin}
 use Rattle.heapdbg_options.specs.declared.settings.Origin.TheVariants.{Fresh, Lines, Dump}
@@ -96,7 +96,7 @@ number_or_default_within_bounds default least most (Some text) n low high e = nu
 -- the rows have the settings' values
 pub record AreRead (rows : List Row) (s : Settings) : Type 0 where
   pub wide : wide_in rows ≡ Some s.wide
-  pub regions : regions_in s.wide rows ≡ Some s.regions
+  pub regions : regions_in s.task s.wide rows ≡ Some s.regions
   pub mutators : option_value (codes "mutators") 2 1 mutator_limit rows ≡ Some s.mutators
   pub keep : keep_in s.task s.wide rows ≡ Some s.keep
   pub time : option_value (codes "time") 0 0 time_limit rows ≡ Some s.time
@@ -118,12 +118,12 @@ settings_keep_all_given task w (Some r) (Some m) (Some k) (Some t) (Some i) (Som
 -- the settings over a heap that is wide, or isn't, are those of the rows
 settings_are_read_from_rows : (task : Task) (rows : List Row) (w : Bool) (s : Settings) → wide_in rows ≡ Some w → settings_over task rows w ≡ Some s → (s.task ≡ task) × AreRead rows s
 settings_are_read_from_rows task rows w s wide found =
-    let there = settings_keep_all_given task w (regions_in w rows) (option_value (codes "mutators") 2 1 mutator_limit rows) (keep_in task w rows) (option_value (codes "time") 0 0 time_limit rows) (id_size_in rows) (questions_in rows) (rolls_in rows) s found in
+    let there = settings_keep_all_given task w (regions_in task w rows) (option_value (codes "mutators") 2 1 mutator_limit rows) (keep_in task w rows) (option_value (codes "time") 0 0 time_limit rows) (id_size_in rows) (questions_in rows) (rolls_in rows) s found in
     let same : w ≡ s.wide = there.1 in (
       there.0,
       record {
         wide = wide ∙ ap (λ b. Some b) same;
-        regions = ap (λ b. regions_in b rows) (sym same) ∙ there.2;
+        regions = ap (λ t. regions_in t s.wide rows) there.0 ∙ (ap (λ b. regions_in task b rows) (sym same) ∙ there.2);
         mutators = there.3;
         keep = ap (λ t. keep_in t s.wide rows) there.0 ∙ (ap (λ b. keep_in task b rows) (sym same) ∙ there.4);
         time = there.5;
@@ -175,8 +175,12 @@ found_settings_are_asked (Some f) s e = go (task_in f.0 f.1) refl e
 
 -- as many steps as can be undone by default may be undone
 default_within : (task : Task) (w : Bool) → (1 ≤ keep_default task w) × (keep_default task w ≤ most_kept w)
-default_within (Explore origin page) false = (omega arith, omega arith)
-default_within (Explore origin page) true = (omega arith, omega arith)
+default_within (Explore Fresh page) false = (omega arith, omega arith)
+default_within (Explore Fresh page) true = (omega arith, omega arith)
+default_within (Explore Lines page) false = (omega arith, omega arith)
+default_within (Explore Lines page) true = (omega arith, omega arith)
+default_within (Explore Dump page) false = (omega arith, omega arith)
+default_within (Explore Dump page) true = (omega arith, omega arith)
 default_within Run false = (omega arith, omega arith)
 default_within Run true = (omega arith, omega arith)
 default_within Draw false = (omega arith, omega arith)
@@ -190,16 +194,37 @@ default_within (Ask port secret) true = (omega arith, omega arith)
 default_within (Fetch port secret) false = (omega arith, omega arith)
 default_within (Fetch port secret) true = (omega arith, omega arith)
 
-numbers_of_heap_within_bounds : (task : Task) (w : Bool) (rows : List Row) (r m k : ℕ) → regions_in w rows ≡ Some r → option_value (codes "mutators") 2 1 mutator_limit rows ≡ Some m → keep_in task w rows ≡ Some k → AreNumbersOf w r m k
+-- as many regions as there are by default may be there
+default_regions_within : (task : Task) (w : Bool) → (1 ≤ regions_default task w) × (regions_default task w ≤ most_regions w)
+default_regions_within (Explore Fresh page) false = (omega arith, omega arith)
+default_regions_within (Explore Fresh page) true = (omega arith, omega arith)
+default_regions_within (Explore Lines page) false = (omega arith, omega arith)
+default_regions_within (Explore Lines page) true = (omega arith, omega arith)
+default_regions_within (Explore Dump page) false = (omega arith, omega arith)
+default_regions_within (Explore Dump page) true = (omega arith, omega arith)
+default_regions_within Run false = (omega arith, omega arith)
+default_regions_within Run true = (omega arith, omega arith)
+default_regions_within Draw false = (omega arith, omega arith)
+default_regions_within Draw true = (omega arith, omega arith)
+default_regions_within (Save target) false = (omega arith, omega arith)
+default_regions_within (Save target) true = (omega arith, omega arith)
+default_regions_within (Serve service) false = (omega arith, omega arith)
+default_regions_within (Serve service) true = (omega arith, omega arith)
+default_regions_within (Ask port secret) false = (omega arith, omega arith)
+default_regions_within (Ask port secret) true = (omega arith, omega arith)
+default_regions_within (Fetch port secret) false = (omega arith, omega arith)
+default_regions_within (Fetch port secret) true = (omega arith, omega arith)
+
+numbers_of_heap_within_bounds : (task : Task) (w : Bool) (rows : List Row) (r m k : ℕ) → regions_in task w rows ≡ Some r → option_value (codes "mutators") 2 1 mutator_limit rows ≡ Some m → keep_in task w rows ≡ Some k → AreNumbersOf w r m k
 numbers_of_heap_within_bounds task false rows r m k regions mutators keep =
     record {
-      regions_within = size_or_default_within_bounds 16 1 (most_regions false) (first_of (codes "regions") rows) r (omega arith) (omega arith) regions;
+      regions_within = size_or_default_within_bounds (regions_default task false) 1 (most_regions false) (first_of (codes "regions") rows) r (default_regions_within task false).0 (default_regions_within task false).1 regions;
       mutators_within = number_or_default_within_bounds 2 1 mutator_limit (first_of (codes "mutators") rows) m (omega arith) (omega arith) mutators;
       keep_within = size_or_default_within_bounds (keep_default task false) 1 (most_kept false) (first_of (codes "keep") rows) k (default_within task false).0 (default_within task false).1 keep;
     }
 numbers_of_heap_within_bounds task true rows r m k regions mutators keep =
     record {
-      regions_within = size_or_default_within_bounds 16 1 (most_regions true) (first_of (codes "regions") rows) r (omega arith) (omega arith) regions;
+      regions_within = size_or_default_within_bounds (regions_default task true) 1 (most_regions true) (first_of (codes "regions") rows) r (default_regions_within task true).0 (default_regions_within task true).1 regions;
       mutators_within = number_or_default_within_bounds 2 1 mutator_limit (first_of (codes "mutators") rows) m (omega arith) (omega arith) mutators;
       keep_within = size_or_default_within_bounds (keep_default task true) 1 (most_kept true) (first_of (codes "keep") rows) k (default_within task true).0 (default_within task true).1 keep;
     }
@@ -564,20 +589,27 @@ default_flag flag words f x free is named read other = go (option_value flag 0 0
         let same : Some false ≡ Some x = subst (λ k. option_map (λ number. number == 1) (Some k) ≡ Some x) zero_is h in
         cc
 
+-- a heap of which no word tells that it is wide, or of which dump it is, isn't wide
+default_wide : (words : List Text) (f : Text × List Row) (x : Bool) → subcommand_of heapdbg_line words ≡ Some f → is_task f.0 ≡ true
+    → wide_in f.1 ≡ Some x → is_given (codes "wide") words ≡ false → is_given (codes "hprof") words ≡ false → x ≡ false
+default_wide words f x is named read other undumped =
+    let none : first_of (codes "hprof") f.1 ≡ None = unnamed_option_has_no_row (codes "hprof") words f refl is named undumped in
+    default_flag (codes "wide") words f x refl is named (subst (λ (o : Option Text). option_map (λ number. number == 1) (option_value (codes "wide") (wide_default (is_some o)) 0 1 f.1) ≡ Some x) none read) other
+
 pub defaults_of : (words : List Text) (s : Settings) → option_and_then settings_under (subcommand_of heapdbg_line words) ≡ Some s → HasDefaults words s
 defaults_of words s e =
     let asked = found_settings_are_asked (subcommand_of heapdbg_line words) s e in
     let name = asked.found.0 in
     let rows = asked.found.1 in
     record {
-      regions = ungiven_size_is_default (codes "regions") 16 1 (most_regions s.wide) words asked.found s.regions refl asked.is asked.named asked.read.regions;
+      regions = ungiven_size_is_default (codes "regions") (regions_default s.task s.wide) 1 (most_regions s.wide) words asked.found s.regions refl asked.is asked.named asked.read.regions;
       mutators = ungiven_number_is_default (codes "mutators") 2 1 mutator_limit words asked.found s.mutators refl asked.is asked.named asked.read.mutators;
       keep = ungiven_size_is_default (codes "keep") (keep_default s.task s.wide) 1 (most_kept s.wide) words asked.found s.keep refl asked.is asked.named asked.read.keep;
       time = ungiven_number_is_default (codes "time") 0 0 time_limit words asked.found s.time refl asked.is asked.named asked.read.time;
       ids = default_size words asked.found s.ids asked.is asked.named asked.read.ids;
       questions = default_flag (codes "questions") words asked.found s.questions refl asked.is asked.named asked.read.questions;
       rolls = default_flag (codes "roll") words asked.found s.rolls refl asked.is asked.named asked.read.rolls;
-      wide = default_flag (codes "wide") words asked.found s.wide refl asked.is asked.named asked.read.wide;
+      wide = λ other undumped. default_wide words asked.found s.wide asked.is asked.named asked.read.wide other undumped;
       sessions = λ other. each_task_has_property (λ t. sessions_of t ≡ 1) (bytes_eq name (codes "run")) (bytes_eq name (codes "explore")) (bytes_eq name (codes "draw")) (bytes_eq name (codes "save")) (bytes_eq name (codes "serve")) (bytes_eq name (codes "ask")) (bytes_eq name (codes "fetch")) rows s.task
           refl (λ origin p is at. refl) refl (λ target. refl) (λ port. refl) (λ port. refl)
           (λ is. let served = serve_rows_make_task rows s.task is in by_service sessions_of rows s.task served 1 (ungiven_number_is_default (codes "sessions") 1 1 most_sessions words asked.found served.service.sessions refl asked.is asked.named served.sessions other)) asked.task;

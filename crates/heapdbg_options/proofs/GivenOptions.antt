@@ -119,6 +119,6 @@ mistake_of_keep true rows wide h = (wide, h)
 -- an option `--keep` that is out of its range is the mistake of its command
 pub keep_mistake_is_in_rows : (task : Task) (w : Bool) (rows : List Row) → wide_in rows ≡ Some w → keep_in task w rows ≡ None → (settings_over task rows w ≡ None) × IsMistakeIn (keep_mistake w) rows
 keep_mistake_is_in_rows task w rows wide e = (
-  rw e (no_settings_without_keep task w (regions_in w rows) (option_value (codes "mutators") 2 1 mutator_limit rows) (option_value (codes "time") 0 0 time_limit rows) (id_size_in rows) (questions_in rows) (rolls_in rows)),
+  rw e (no_settings_without_keep task w (regions_in task w rows) (option_value (codes "mutators") 2 1 mutator_limit rows) (option_value (codes "time") 0 0 time_limit rows) (id_size_in rows) (questions_in rows) (rolls_in rows)),
   mistake_of_keep w rows wide (no_size_within_bounds (keep_default task w) 1 (most_kept w) (first_of (codes "keep") rows) e),
 )

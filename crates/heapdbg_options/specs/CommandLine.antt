@@ -248,9 +248,19 @@ questions_in rows = flag_in (codes "questions") rows
 abbrev pub rolls_in : List Row → Option Bool
 rolls_in rows = flag_in (codes "roll") rows
 
+-- a dump is given
+abbrev pub has_dump : List Row → Bool
+has_dump rows = is_some (first_of (codes "hprof") rows)
+
+-- whether a heap is wide, 1 or 0, if the option is not given: that of a dump is
+abbrev pub wide_default : Bool → ℕ
+wide_default dump = if dump then 1 else 0
+
 -- whether the heap is wide
 abbrev pub wide_in : List Row → Option Bool
-wide_in rows = flag_in (codes "wide") rows
+wide_in rows =
+    option_map (λ number. number == 1)
+    (option_value (codes "wide") (wide_default (has_dump rows)) 0 1 rows)
 
 -- the largest number of regions of a heap that is wide, or isn't
 abbrev pub most_regions : Bool → ℕ
@@ -260,14 +270,33 @@ most_regions wide = if wide then region_limit else narrow_regions
 abbrev pub most_kept : Bool → ℕ
 most_kept wide = if wide then keep_limit else narrow_keep
 
--- the number of steps that can be undone, if the option is not given: for `explore` the most that there may be
+-- the number of steps of `explore` that can be undone, if the option is not given: the most that there may be, but those of a dump's
+-- session as many as in a heap that isn't wide
+abbrev pub keep_after : Origin → Bool → ℕ
+keep_after Fresh wide = most_kept wide
+keep_after Lines wide = most_kept wide
+keep_after Dump wide = narrow_keep
+
+-- the number of steps that can be undone, if the option is not given
 abbrev pub keep_default : Task → Bool → ℕ
-keep_default (Explore origin page) wide = most_kept wide
+keep_default (Explore origin page) wide = keep_after origin wide
 keep_default _ wide = 1024
 
--- the regions of a heap that is wide, or isn't
-abbrev pub regions_in : Bool → List Row → Option ℕ
-regions_in wide rows = option_size (codes "regions") 16 1 (most_regions wide) rows
+-- the number of regions of `explore`, if the option is not given: for a dump the most that there may be
+abbrev pub regions_after : Origin → Bool → ℕ
+regions_after Fresh wide = 16
+regions_after Lines wide = 16
+regions_after Dump wide = most_regions wide
+
+-- the number of regions, if the option is not given
+abbrev pub regions_default : Task → Bool → ℕ
+regions_default (Explore origin page) wide = regions_after origin wide
+regions_default _ wide = 16
+
+-- the regions of a task's heap that is wide, or isn't
+abbrev pub regions_in : Task → Bool → List Row → Option ℕ
+regions_in task wide rows =
+    option_size (codes "regions") (regions_default task wide) 1 (most_regions wide) rows
 
 -- the steps of a task that can be undone in a heap that is wide, or isn't
 abbrev pub keep_in : Task → Bool → List Row → Option ℕ
@@ -276,7 +305,7 @@ keep_in task wide rows =
 
 -- the settings of a task and its options over a heap that is wide, or isn't
 abbrev pub settings_over : Task → List Row → Bool → Option Settings
-settings_over task rows wide = settings_with task wide (regions_in wide rows)
+settings_over task rows wide = settings_with task wide (regions_in task wide rows)
     (option_value (codes "mutators") 2 1 mutator_limit rows) (keep_in task wide rows)
     (option_value (codes "time") 0 0 time_limit rows)
     (id_size_in rows) (questions_in rows) (rolls_in rows)
@@ -591,14 +620,14 @@ runs_dump task = is_dump (origin_of task)
 
 -- an option that no word names has its default
 pub record HasDefaults (words : List Text) (s : Settings) : Type 0 where
-  pub regions : is_given (codes "regions") words ≡ false → s.regions ≡ 16
+  pub regions : is_given (codes "regions") words ≡ false → s.regions ≡ regions_default s.task s.wide
   pub mutators : is_given (codes "mutators") words ≡ false → s.mutators ≡ 2
   pub keep : is_given (codes "keep") words ≡ false → s.keep ≡ keep_default s.task s.wide
   pub time : is_given (codes "time") words ≡ false → s.time ≡ 0
   pub ids : is_given (codes "ids") words ≡ false → s.ids ≡ Eight
   pub questions : is_given (codes "questions") words ≡ false → s.questions ≡ false
   pub rolls : is_given (codes "roll") words ≡ false → s.rolls ≡ false
-  pub wide : is_given (codes "wide") words ≡ false → s.wide ≡ false
+  pub wide : is_given (codes "wide") words ≡ false → is_given (codes "hprof") words ≡ false → s.wide ≡ false
   pub sessions : is_given (codes "sessions") words ≡ false → sessions_of s.task ≡ 1
   pub workers : is_given (codes "workers") words ≡ false → workers_of s.task ≡ 0
   pub from : is_given (codes "from") words ≡ false → runs_lines s.task ≡ false

@@ -6,7 +6,7 @@ use Rattle.clap.specs.Words.{IsAmong, Row, Text, fault_of, first_of, subcommand_
 use Rattle.clap.specs.declared.error.kind.ErrorKind.{ErrorKind}
 use Rattle.clap.specs.declared.error.kind.ErrorKind.TheVariants.{DisplayHelp, DisplayVersion, OutOfMemory}
 use Rattle.heap_world.specs.Limits.{mutator_limit}
-use Rattle.heapdbg_options.specs.CommandLine.{dumps_with, explore_with, has_secret, heapdbg_line, id_size_in, idle_in, is_task, most_kept, number_in, page_with, port_in, port_limit, questions_in, regions_in, rolls_in, sessions_in, settings_of, stays_in, option_value, size_in, time_limit, wide_in, workers_in}
+use Rattle.heapdbg_options.specs.CommandLine.{dumps_with, explore_with, has_secret, heapdbg_line, id_size_in, idle_in, is_task, most_kept, most_regions, number_in, page_with, port_in, port_limit, questions_in, rolls_in, sessions_in, settings_of, stays_in, option_value, size_in, time_limit, wide_in, workers_in}
 use Rattle.heapdbg_options.specs.declared.refusal.Mistake.{Mistake}
 use Rattle.heapdbg_options.specs.declared.refusal.Mistake.TheVariants.{Command, Wide, Regions, WideRegions, Mutators, Keep, WideKeep, Time, Ids, Port, Sessions, Workers, Questions, Roll, Dumps, Page, Idle, Stay, To, Place, Origin, Source, OwnPage, Secret}
 use Rattle.heapdbg_options.specs.declared.settings.LineFault.{LineFault}
@@ -43,8 +43,10 @@ IsExploreMistake m from hprof page port secret =
 abbrev pub IsMistakeIn : Mistake → List Row → Type 0
 IsMistakeIn Command rows = ⊥
 IsMistakeIn Wide rows = wide_in rows ≡ None
-IsMistakeIn Regions rows = (wide_in rows ≡ Some false) × (regions_in false rows ≡ None)
-IsMistakeIn WideRegions rows = (wide_in rows ≡ Some true) × (regions_in true rows ≡ None)
+IsMistakeIn Regions rows =
+    (wide_in rows ≡ Some false) × IsNoSize 1 (most_regions false) (first_of (codes "regions") rows)
+IsMistakeIn WideRegions rows =
+    (wide_in rows ≡ Some true) × IsNoSize 1 (most_regions true) (first_of (codes "regions") rows)
 IsMistakeIn Mutators rows = option_value (codes "mutators") 2 1 mutator_limit rows ≡ None
 IsMistakeIn Keep rows =
     (wide_in rows ≡ Some false) × IsNoSize 1 (most_kept false) (first_of (codes "keep") rows)

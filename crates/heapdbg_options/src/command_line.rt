@@ -8,7 +8,7 @@ ghost use Rattle.clap.specs.declared.builder.Command.TheViews.{out-Command};
 ghost use Rattle.heapdbg_options.specs.Parsers.{IsParserOf};
 ghost use Rattle.heapdbg_options.specs.CommandLine.{AreSettingsWithin, HasDefaults, heapdbg_line, named_line, number_in};
 ghost use Rattle.heapdbg_options.specs.CommandLine.{settings_in, settings_of, settings_over, settings_under, texts, option_size, option_value, counted_in, size_in, text_before};
-ghost use Rattle.heapdbg_options.specs.CommandLine.{id_size_in, id_size_of, flag_in, keep_default, most_kept, most_regions, path_of, task_in, wide_in};
+ghost use Rattle.heapdbg_options.specs.CommandLine.{id_size_in, id_size_of, flag_in, has_dump, keep_after, keep_default, most_kept, most_regions, path_of, regions_after, regions_default, task_in, wide_default, wide_in};
 ghost use Rattle.heapdbg_options.specs.Refusals.{IsMistake, IsMistakeIn, IsRefusalOf, keep_mistake, regions_mistake, IsSaidOf, IsValueOrMistake, is_help};
 
 use crate::line_words::{is_help, is_version};
@@ -16,7 +16,7 @@ use crate::option_rows::{CommandRow, with_commands};
 use crate::refusal::{Mistake, VERSION, version_by_command, version_by_option};
 use crate::save_options::{SAVE, save_task};
 use crate::session_options::{DRAW, EXPLORE, RUN, explore_task};
-use crate::settings::{LineFault, Settings, Task};
+use crate::settings::{LineFault, Origin, Settings, Task};
 use crate::socket_options::{ASK, FETCH, SERVE, ask_task, fetch_task, serve_task};
 use crate::tip::with_tip;
 use clap::error::ErrorKind;
@@ -160,10 +160,32 @@ fn settings_from(task: Task, options: &ArgMatches<'_>) -> Result<Settings, Mista
     ensures { IsValueOrMistake (settings_in task (rows_of (found_of options.now)))
         (λ m. IsMistakeIn m (rows_of (found_of options.now))) result }
 {
-    match flag_from(options, "wide") {
+    match wide_from(options) {
         Some(wide) => settings_over(task, options, wide),
         None => Err(Mistake::Wide),
     }
+}
+
+// Returns whether the heap is wide, or None if the option is out of its range. If it isn't given, the heap of a dump is.
+fn wide_from(options: &ArgMatches<'_>) -> Option<bool>
+    ensures { result ≡ wide_in (rows_of (found_of options.now)) }
+{
+    let number = option_value(options, "wide", wide_default(has_dump(options)), 0, 1)?;
+    Some(number == 1)
+}
+
+// Returns whether a heap is wide if the option isn't given, 1 or 0: that of a dump is.
+fn wide_default(dump: bool) -> u64
+    ensures { result ≡ wide_default dump }
+{
+    if dump { 1 } else { 0 }
+}
+
+// Tells whether a dump is given.
+fn has_dump(options: &ArgMatches<'_>) -> bool
+    ensures { result ≡ has_dump (rows_of (found_of options.now)) }
+{
+    options.get_str("hprof").is_some()
 }
 
 // Returns the settings of a task's options over a heap that is wide, or isn't, or the option whose value is out of its range.
@@ -172,7 +194,8 @@ fn settings_over(task: Task, options: &ArgMatches<'_>, wide: bool) -> Result<Set
     ensures { IsValueOrMistake (settings_over task (rows_of (found_of options.now)) wide)
         (λ m. IsMistakeIn m (rows_of (found_of options.now))) result }
 {
-    let Some(regions) = option_size(options, "regions", 16, 1, most_regions(wide)) else {
+    let usual = regions_default(task, wide);
+    let Some(regions) = option_size(options, "regions", usual, 1, most_regions(wide)) else {
         return Err(regions_mistake(wide));
     };
     let Some(mutators) = option_value(options, "mutators", 2, 1, MUTATOR_LIMIT) else {
@@ -205,6 +228,33 @@ fn settings_over(task: Task, options: &ArgMatches<'_>, wide: bool) -> Result<Set
         questions,
         rolls,
     })
+}
+
+// Returns the number of regions if the option isn't given.
+fn regions_default(task: Task, wide: bool) -> u64
+    ensures { result ≡ regions_default task wide }
+{
+    match task {
+        Task::Explore { origin, .. } => regions_after(origin, wide),
+        _ => 16,
+    }
+}
+
+// Returns the number of regions of `explore` if the option isn't given: for a dump the most that there may be.
+fn regions_after(origin: Origin, wide: bool) -> u64
+    ensures { result ≡ regions_after origin wide }
+{
+    match origin {
+        Origin::Fresh | Origin::Lines => 16,
+        Origin::Dump => most_regions(wide),
+    }
+}
+
+// Returns the largest number of regions of a heap that is wide, or isn't.
+fn most_regions(wide: bool) -> u64
+    ensures { result ≡ most_regions wide }
+{
+    if wide { REGION_LIMIT } else { NARROW_REGIONS }
 }
 
 // Returns the size that an option is given, `default` if it isn't given, or None if it isn't from `least` to `most`.
@@ -258,13 +308,6 @@ fn counted(text: &str, times: u64, least: u64, most: u64) -> Option<u64>
     }
 }
 
-// Returns the largest number of regions of a heap that is wide, or isn't.
-fn most_regions(wide: bool) -> u64
-    ensures { result ≡ most_regions wide }
-{
-    if wide { REGION_LIMIT } else { NARROW_REGIONS }
-}
-
 // Returns the mistake of regions that are out of the range of a heap that is wide, or isn't.
 fn regions_mistake(wide: bool) -> Mistake
     ensures { result ≡ regions_mistake wide }
@@ -276,13 +319,24 @@ fn regions_mistake(wide: bool) -> Mistake
     }
 }
 
-// Returns how many steps can be undone if the option isn't given: for `explore` the most that there may be.
+// Returns how many steps can be undone if the option isn't given.
 fn keep_default(task: Task, wide: bool) -> u64
     ensures { result ≡ keep_default task wide }
 {
     match task {
-        Task::Explore { .. } => most_kept(wide),
+        Task::Explore { origin, .. } => keep_after(origin, wide),
         _ => 1024,
+    }
+}
+
+// Returns how many steps of `explore` can be undone if the option isn't given: the most that there may be, but of a dump's session as
+// many as in a heap that isn't wide.
+fn keep_after(origin: Origin, wide: bool) -> u64
+    ensures { result ≡ keep_after origin wide }
+{
+    match origin {
+        Origin::Fresh | Origin::Lines => most_kept(wide),
+        Origin::Dump => NARROW_KEEP,
     }
 }
 

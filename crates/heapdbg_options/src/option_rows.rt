@@ -54,15 +54,6 @@ pub(crate) const KEEP: OptionRow = OptionRow {
     is_flag: false,
 };
 
-// The option `--keep N` of a command that keeps the most by default.
-pub(crate) const KEEP_MOST: OptionRow = OptionRow {
-    name: "keep",
-    value: "N",
-    help: "Steps that can be undone, 1 to 65536, or to 16777216 with --wide 1 [default: the most]",
-    is_required: false,
-    is_flag: false,
-};
-
 // The option `--wide [N]`.
 pub(crate) const WIDE: OptionRow = OptionRow {
     name: "wide",

@@ -7,7 +7,7 @@ ghost use Rattle.heapdbg_options.specs.declared.refusal.Mistake.TheVariants.{Own
 ghost use Rattle.heapdbg_options.specs.declared.settings.Task.TheVariants.{Explore};
 
 use crate::option_rows::{
-    CommandRow, IDS, KEEP, KEEP_MOST, MUTATORS, OptionRow, PAGE, QUESTIONS, REGIONS, TIME, WIDE,
+    CommandRow, IDS, KEEP, MUTATORS, OptionRow, PAGE, QUESTIONS, REGIONS, TIME, WIDE,
 };
 use crate::refusal::Mistake;
 use crate::settings::{Origin, Task};
@@ -28,10 +28,19 @@ pub(crate) const EXPLORE: CommandRow = CommandRow {
     about: "Reads commands and questions from standard input and writes answers to standard output",
     usage: None,
     options: &[
-        REGIONS,
+        OptionRow {
+            help: "Regions of the heap, 1 to 256, or to 65536 with --wide 1 [default: 16, or with --hprof the most]",
+            ..REGIONS
+        },
         MUTATORS,
-        KEEP_MOST,
-        WIDE,
+        OptionRow {
+            help: "Steps that can be undone, 1 to 65536, or to 16777216 with --wide 1 [default: the most, or with --hprof 65536]",
+            ..KEEP
+        },
+        OptionRow {
+            help: "Whether the heap has wider limits, of classes, names and pins too, 0 or 1 [default: 0, or with --hprof 1]",
+            ..WIDE
+        },
         TIME,
         IDS,
         OptionRow {

@@ -206,7 +206,12 @@ def left_out(dump):
               (sum(kind == OBJECT and value != 0 and value not in made for _, kind, value in slots), "references to what isn't made"),
               (sum(root not in made for _, root in dump.roots), "roots of what isn't made"),
               (sum(len(statics) for _, _, statics in dump.classes.values()) - kept, "static fields that no object has"))
-    return ", ".join(f"{count} {words}" for count, words in counts if count)
+    return ", ".join(f"{count} {words if count > 1 else one_of(words)}" for count, words in counts if count)
+
+
+def one_of(words):
+    """Returns these words of one thing."""
+    return re.sub(r"^(static field|array|reference|root)s", r"\1", words)
 
 
 def saved(program, words, session, dump):

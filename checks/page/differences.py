@@ -45,6 +45,7 @@ def between(tab, told):
     tab.wait(f"{NOTE} === '{len(rows):,}'")
     tab.key("b")
     at_place(tab, TO)
+    tab.wait("document.getElementById('diffs').childElementCount === 0")
     yield "no list any longer", tab.value("document.getElementById('diffs').childElementCount"), 0
 
 

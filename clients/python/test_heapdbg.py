@@ -356,11 +356,11 @@ class Explored(unittest.TestCase):
                 heap.define_array("Kept")
                 heap.new_array(0, 0, 0, 3)
                 path.write_bytes(heap.dump())
-            with Session.explore(PROGRAM, wide=True, regions=64, hprof=path) as heap:
+            with Session.explore(PROGRAM, hprof=path) as heap:
                 names = [row.name for row in heap.classes()]
                 self.assertIn("Kept", names)
                 self.assertEqual(len(heap.objects(of_class=names.index("Kept"))), 1)
-            self.assertEqual((heap.status, heap.text), (0, ""))
+            self.assertEqual((heap.status, heap.text), (0, f"heapdbg: {path}: 1 root of what isn't made"))
 
     def test_a_wide_heap(self):
         for wide in (False, True):

@@ -5,22 +5,38 @@ use hprof_reader::Fault;
 /// Tells on standard error, as the program of this name, what of a dump is left out, in one line, if anything is.
 pub fn tell_left_out<R: Eprint>(rt: &R, program: &str, path: &str, left: &Converted) {
     let counts = [
-        (left.arrays, "arrays cut to 1,024 elements"),
-        (left.classes, "classes over 4,096"),
-        (left.again, "objects with the id of another"),
-        (left.objects, "objects of classes without a number"),
-        (left.references, "references to what isn't made"),
-        (left.roots, "roots of what isn't made"),
-        (left.fields, "fields behind 64 slots"),
-        (left.statics, "static fields that no object has"),
+        (left.arrays, "array", "arrays", "cut to 1,024 elements"),
+        (left.classes, "class", "classes", "over 4,096"),
+        (left.again, "object", "objects", "with the id of another"),
+        (
+            left.objects,
+            "object",
+            "objects",
+            "of classes without a number",
+        ),
+        (
+            left.references,
+            "reference",
+            "references",
+            "to what isn't made",
+        ),
+        (left.roots, "root", "roots", "of what isn't made"),
+        (left.fields, "field", "fields", "behind 64 slots"),
+        (
+            left.statics,
+            "static field",
+            "static fields",
+            "that no object has",
+        ),
     ];
     if left.fault.is_none() && counts.iter().all(|it| it.0 == 0) {
         return;
     }
     let _ = eprint!(rt; "{program}: {path}: ");
     let mut is_first = true;
-    for (count, words) in counts {
-        is_first = tell_count(rt, is_first, count, words);
+    for (count, one, many, which) in counts {
+        let words = if count == 1 { one } else { many };
+        is_first = tell_count(rt, is_first, count, words, which);
     }
     if let Some((fault, place)) = left.fault {
         if !is_first {
@@ -33,14 +49,14 @@ pub fn tell_left_out<R: Eprint>(rt: &R, program: &str, path: &str, left: &Conver
 }
 
 // Tells one count, unless it is 0.
-fn tell_count<R: Eprint>(rt: &R, is_first: bool, count: u64, words: &str) -> bool {
+fn tell_count<R: Eprint>(rt: &R, is_first: bool, count: u64, words: &str, which: &str) -> bool {
     if count == 0 {
         return is_first;
     }
     if !is_first {
         let _ = eprint!(rt; ", ");
     }
-    let _ = eprint!(rt; "{count} {words}");
+    let _ = eprint!(rt; "{count} {words} {which}");
     false
 }
 

@@ -158,8 +158,8 @@ def told(name, begun):
 class Hunt:
     """A session of `explore` behind the lines of a file, or of a dump's session."""
 
-    def __init__(self, program, option, path):
-        words = [program, "explore", "--wide", "1", "--regions", str(REGIONS), "--keep", str(KEEP), option, str(path)]
+    def __init__(self, program, option, path, *words):
+        words = [program, "explore", *words, option, str(path)]
         begun = time.monotonic()
         self.ran = subprocess.Popen(words, stdin=subprocess.PIPE, stdout=subprocess.PIPE, stderr=subprocess.DEVNULL)
         self.faults = []
@@ -191,7 +191,7 @@ class Hunt:
 
 def hunted(program, session, chains, reached, lost):
     """Asks what a hunter asks. Returns what is wrong."""
-    hunt = Hunt(program, "--from", session)
+    hunt = Hunt(program, "--from", session, "--wide", "1", "--regions", str(REGIONS), "--keep", str(KEEP))
     kept = sum(map(is_kept, range(chains)))
     nodes, garbage, place = chains * LENGTH, (chains - kept) * LENGTH, steps(chains)
     table = 8 * chains

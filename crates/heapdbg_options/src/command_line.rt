@@ -294,7 +294,7 @@ fn text_before<'a>(text: &'a str, ending: &str) -> Option<&'a str>
     text.strip_suffix(ending)
 }
 
-// Returns so many times the number that a text of digits alone writes, or None if that isn't from `least` to `most` or the text is
+// Returns `times` times the number that a text of digits alone writes, or None if that isn't from `least` to `most` or the text is
 // another.
 fn counted(text: &str, times: u64, least: u64, most: u64) -> Option<u64>
     requires { 0 < times }

@@ -122,7 +122,8 @@ fn choose_task(
     secret: bool,
 ) -> Result<Task, Mistake>
     ensures { IsExploreOrMistake (option_map (λ s. s.now) from.entry)
-        (option_map (λ s. s.now) hprof.entry) (option_map (λ s. s.now) page.entry) (option_map (λ s. s.now) port.entry) secret result }
+        (option_map (λ s. s.now) hprof.entry) (option_map (λ s. s.now) page.entry)
+        (option_map (λ s. s.now) port.entry) secret result }
 {
     let Some(text) = port else {
         if secret {

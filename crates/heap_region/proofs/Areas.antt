@@ -1,9 +1,8 @@
 -- The area: the runs of regions that no object takes, and how objects come and go in it.
-use Rattle.std.proofs.Common.{◌≡◌, ◌≢◌, ◌⊎◌, ◌↔◌, ℕ, zero, suc, ◌+◌, ◌-◌, ◌*◌, ◌<◌, ◌≤◌, Bool, true, false, not, cond, ◌&&◌, ◌||◌, List, length, [], ◌∷◌, set, replicate, Option, Some, None, refl, sym, ap, subst, ◌∙◌, inl, inr, arith, length-set}
+use Rattle.std.proofs.Common.{◌≡◌, ◌≢◌, ◌⊎◌, ◌↔◌, ℕ, zero, suc, ◌+◌, ◌-◌, ◌<◌, ◌≤◌, Bool, true, false, not, cond, ◌&&◌, List, length, [], ◌∷◌, set, replicate, Option, Some, None, refl, sym, ap, ◌∙◌, inl, inr, arith, length-set}
 use Rattle.std.specs.Prelude.{find, nat_le, nat_lt, slice_get, option_and_then}
-use Rattle.std.specs.Option.{option_map_or}
 use Rattle.std.specs.List.{enumerate_from, list_any, range_with_len}
-use Rattle.std.proofs.lemmas.Bool.{and_cases, and_from, and_parts, both_ways, cases_Bool, cases_eq, cases_lt, le-leb, le-ltb, lt-leb, lt-ltb, or_cases, or_from, or_left, or_parts, or_right}
+use Rattle.std.proofs.lemmas.Bool.{and_from, and_parts, both_ways, cases_Bool, cases_eq, cases_lt, le-leb, le-ltb, lt-leb, lt-ltb, or_from, or_left, or_parts, or_right}
 use Rattle.std.proofs.lemmas.List.{length-replicate}
 use Rattle.heap_class.proofs.Lists.{got_set_elsewhere}
 use Rattle.heap_region.specs.Regions.{UsedRegion, Region, Empty, InUse, used_part, used_at, regions_for}

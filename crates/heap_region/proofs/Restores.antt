@@ -1,9 +1,9 @@
 -- Regions that come back into use, and what a call must know of them.
-use Rattle.std.proofs.Common.{◌≡◌, ℕ, ◌<◌, ◌≤◌, true, set, ◌∷◌, Option, Some, None, refl, sym, ap, inl, inr, arith}
-use Rattle.std.specs.Prelude.{nat_lt, slice_get, if◌then◌else◌}
+use Rattle.std.proofs.Common.{◌≡◌, ℕ, ◌<◌, ◌∷◌, Some, ap, inl, inr, arith}
+use Rattle.std.specs.Prelude.{slice_get, if◌then◌else◌}
 use Rattle.std.proofs.lemmas.Bool.{cases_lt, lt-ltb}
 use Rattle.heap_region.specs.Regions.{UsedRegion, Empty, used_at, cell_size_for, regions_for}
-use Rattle.heap_region.specs.Pool.{RegionPool, is_run, released}
+use Rattle.heap_region.specs.Pool.{RegionPool, released}
 use Rattle.heap_region.specs.Legal.{IsRegionPool, MayRestore}
 use Rattle.heap_region.proofs.Areas.{below_area_is_small, first_run_lies_in_area, run_where_object_left}
 use Rattle.heap_region.proofs.BlockSizes.{cell_size_at_most_1024, regions_for_size, regions_for_some, regions_hold_words, size_for_large, size_for_small}

@@ -1,5 +1,5 @@
 -- The search for the lowest run of the area, region by region.
-use Rattle.std.proofs.Common.{◌≡◌, ◌⊎◌, ℕ, ◌+◌, ◌-◌, ◌<◌, ◌≤◌, false, true, List, length, map, Option, Some, None, get_or, refl, sym, ap, ◌∙◌, inl, inr, arith}
+use Rattle.std.proofs.Common.{◌≡◌, ℕ, ◌+◌, ◌-◌, ◌<◌, ◌≤◌, false, List, length, map, Option, Some, None, get_or, sym, ap, ◌∙◌, inl, inr, arith}
 use Rattle.std.specs.Prelude.{find}
 use Rattle.std.specs.List.{range_with_len}
 use Rattle.std.proofs.lemmas.Bool.{cases_eq, cases_lt}
@@ -46,9 +46,9 @@ module _ (slots : List (Option UsedRegion)) (start count first region : ℕ) (ar
         low = omega (arith, from);
         clear = λ q v lt there. elim (cases_eq q region) [
           | inl e ↦ (
-            let same : v ≡ u = (let both : Some v ≡ Some u = sym there ∙ (ap (λ k. get_or slots k None) e ∙ here) in cc) in
-            let spans : regions_for v.cell_size ≡ span = ap (λ (w : UsedRegion). regions_for w.cell_size) same ∙ sym is in
-            omega (arith, e, spans))
+              let same : v ≡ u = (let both : Some v ≡ Some u = sym there ∙ (ap (λ k. get_or slots k None) e ∙ here) in cc) in
+              let spans : regions_for v.cell_size ≡ span = ap (λ (w : UsedRegion). regions_for w.cell_size) same ∙ sym is in
+              omega (arith, e, spans))
           | inr ne ↦ omega (arith, area.apart q v (slot_in_use slots q v there) region u used (omega (arith, lt, ne)))
         ];
         blocked = λ r le lt. elim (cases_lt r first) [

@@ -1,5 +1,5 @@
 -- The pool and the area, as regions come into use, become empty and change.
-use Rattle.std.proofs.Common.{◌≡◌, ◌≢◌, ◌⊎◌, ◌↔◌, ℕ, ◌<◌, ◌≤◌, Bool, List, length, drop, ◌∷◌, set, Option, Some, None, Contains, refl, sym, ap, subst, ◌∙◌, inl, inr, arith}
+use Rattle.std.proofs.Common.{◌≡◌, ◌⊎◌, ◌↔◌, ℕ, ◌<◌, ◌≤◌, List, length, drop, ◌∷◌, set, Option, Some, None, Contains, refl, sym, ap, subst, ◌∙◌, inl, inr, arith}
 use Rattle.std.specs.Prelude.{nat_eq, nat_lt, option_map, slice_get, if◌then◌else◌}
 use Rattle.std.specs.List.{IsDistinct}
 use Rattle.std.proofs.lemmas.Bool.{cases_eq, cases_lt, cond-true, cond-false, le-ltb, lt-ltb}
@@ -74,11 +74,11 @@ pub spare_after_arrival : (s : RegionPool) (r : ℕ) (u : UsedRegion) → IsRegi
 spare_after_arrival s r u legal may =
     elim (cases_lt r s.area_start) [
       | inl lt ↦ (
-        let taken : (if nat_lt r s.area_start then drop 1 s.pool else s.pool) ≡ drop 1 s.pool = cond-true (nat_lt r s.area_start) _ _ (lt-ltb r s.area_start lt) in
-        subst (λ l. NamesSpare s.area_start l (set s.regions r (InUse u))) (sym taken) (spare_without_head s r u legal (get_within s.regions r Empty (restorable_is_empty s r u legal may)) (may.head lt)))
+          let taken : (if nat_lt r s.area_start then drop 1 s.pool else s.pool) ≡ drop 1 s.pool = cond-true (nat_lt r s.area_start) _ _ (lt-ltb r s.area_start lt) in
+          subst (λ l. NamesSpare s.area_start l (set s.regions r (InUse u))) (sym taken) (spare_without_head s r u legal (get_within s.regions r Empty (restorable_is_empty s r u legal may)) (may.head lt)))
       | inr le ↦ (
-        let left : (if nat_lt r s.area_start then drop 1 s.pool else s.pool) ≡ s.pool = cond-false (nat_lt r s.area_start) _ _ (le-ltb r s.area_start le) in
-        subst (λ l. NamesSpare s.area_start l (set s.regions r (InUse u))) (sym left) (spare_where_other_was_set s.area_start s.pool s.regions r (InUse u) le legal.pool))
+          let left : (if nat_lt r s.area_start then drop 1 s.pool else s.pool) ≡ s.pool = cond-false (nat_lt r s.area_start) _ _ (le-ltb r s.area_start le) in
+          subst (λ l. NamesSpare s.area_start l (set s.regions r (InUse u))) (sym left) (spare_where_other_was_set s.area_start s.pool s.regions r (InUse u) le legal.pool))
     ]
 
 -- ---- a region becomes empty
@@ -110,11 +110,11 @@ pub spare_after_removal : (start : ℕ) (pool : List ℕ) (regions : List Region
 spare_after_removal start pool regions r u used p =
     elim (cases_lt r start) [
       | inl lt ↦ (
-        let given : (if nat_lt r start then r ∷ pool else pool) ≡ r ∷ pool = cond-true (nat_lt r start) _ _ (lt-ltb r start lt) in
-        subst (λ l. NamesSpare start l (set regions r Empty)) (sym given) (spare_with_head start pool regions r u lt used p))
+          let given : (if nat_lt r start then r ∷ pool else pool) ≡ r ∷ pool = cond-true (nat_lt r start) _ _ (lt-ltb r start lt) in
+          subst (λ l. NamesSpare start l (set regions r Empty)) (sym given) (spare_with_head start pool regions r u lt used p))
       | inr le ↦ (
-        let left : (if nat_lt r start then r ∷ pool else pool) ≡ pool = cond-false (nat_lt r start) _ _ (le-ltb r start le) in
-        subst (λ l. NamesSpare start l (set regions r Empty)) (sym left) (spare_where_other_was_set start pool regions r Empty le p))
+          let left : (if nat_lt r start then r ∷ pool else pool) ≡ pool = cond-false (nat_lt r start) _ _ (le-ltb r start le) in
+          subst (λ l. NamesSpare start l (set regions r Empty)) (sym left) (spare_where_other_was_set start pool regions r Empty le p))
     ]
 
 -- ---- a region in use changes
@@ -132,8 +132,8 @@ area_with_region f keeps r regions start area = area_kept regions (with_region r
     sizes q v used =
         elim (cases_eq r q) [
           | inl e ↦ (
-            let here : option_map f (used_at regions r) ≡ Some v = sym (used_region_after_its_change r f regions) ∙ (ap (used_at (with_region r f regions)) e ∙ used) in
-            let was = changed (used_at regions r) v here in
-            (was.0, ap (used_at regions) (sym e) ∙ was.1, was.2))
+              let here : option_map f (used_at regions r) ≡ Some v = sym (used_region_after_its_change r f regions) ∙ (ap (used_at (with_region r f regions)) e ∙ used) in
+              let was = changed (used_at regions r) v here in
+              (was.0, ap (used_at regions) (sym e) ∙ was.1, was.2))
           | inr ne ↦ (v, sym (used_region_after_other_change r q f regions ne) ∙ used, refl)
         ]

@@ -71,7 +71,11 @@ impl FrozenRegion {
         ensures { IfSome (frozen_object self.now cell) (λ o. result.now ≡ o.words) }
     {
         let len = header_at(self.block.headers(), cell as usize).len;
-        part(self.block.words(), cell as usize * self.cell_size as usize, len)
+        part(
+            self.block.words(),
+            cell as usize * self.cell_size as usize,
+            len,
+        )
     }
 
     /// Writes a word of the object in the cell, which must have the slot. Takes no memory.

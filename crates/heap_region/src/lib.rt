@@ -39,8 +39,9 @@ use region_classes::RegionClasses;
 pub use sizes::{OBJECT_BASE, REGION_WORDS};
 use sizes::{LARGE_LIMIT, cell_size_for, regions_for};
 use slots::{
-    WAITING, empty_slots, first_free_in, first_run_in, free_class, free_in, full_pool, give_head, pool_head, set_bit_in, set_pending_in,
-    set_word_in, size_class, slot_at, take_head, take_in, turn_back_in, turn_in, unfree_in, wait_class,
+    WAITING, empty_slots, first_free_in, first_run_in, free_class, free_in, full_pool, give_head,
+    pool_head, set_bit_in, set_pending_in, set_word_in, size_class, slot_at, take_head, take_in,
+    turn_back_in, turn_in, unfree_in, wait_class,
 };
 use std::alloc::{AllocError, Global};
 use std::marker::Model;

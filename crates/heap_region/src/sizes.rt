@@ -52,5 +52,9 @@ pub(crate) fn cell_count(cell_size: usize) -> usize
     ensures value { result ≡ cell_count cell_size }
     ensures limit { result ≤ cell_limit }
 {
-    if cell_size <= 1024 { 1024 / cell_size } else { 1 }
+    if cell_size <= 1024 {
+        1024 / cell_size
+    } else {
+        1
+    }
 }

@@ -2,17 +2,17 @@
 use Rattle.std.proofs.Common.{Bool, List, None, Option, Some, [], ap, false, not, refl, subst, suc, sym, true, zero, ℕ, ◌∙◌, ◌∷◌, ◌≡◌, ◌||◌}
 use Rattle.std.specs.List.{list_any}
 use Rattle.std.specs.Option.{option_map_or}
-use Rattle.std.specs.Prelude.{if◌then◌else◌, slice_get, slice_index_or, unwrap_or}
+use Rattle.std.specs.Prelude.{if◌then◌else◌, slice_index_or, unwrap_or}
 use mathlib.Core.Logic.{inl, inr}
 use Rattle.heap_class.proofs.Refusals.{no_refusal_test_holds}
-use Rattle.heap_region.specs.Pool.{RegionPool, fresh_region, released, restored}
+use Rattle.heap_region.specs.Pool.{RegionPool, fresh_region, restored}
 use Rattle.heap_region.specs.Live.{is_live}
-use Rattle.heap_region.specs.Regions.{Object, UsedRegion, used_at, with_region}
+use Rattle.heap_region.specs.Regions.{Object, UsedRegion, used_at}
 use Rattle.heap_region.specs.Legal.{MayRestore}
 use Rattle.heap_region.proofs.Restores.{released_may_be_restored}
 use Rattle.heap_sweep.proofs.Ready.{swept_whole}
 use Rattle.heap_sweep.proofs.SweepUndo.{sweep_that_left_none_undone, pending_is, sweep_that_left_objects_undone}
-use Rattle.heap_sweep.specs.Sweep.{dead_at, dead_cells, has_live, is_emptied, sweep_refusal, swept, swept_region, unswept}
+use Rattle.heap_sweep.specs.Sweep.{dead_at, dead_cells, has_live, is_emptied, sweep_refusal, swept, unswept}
 use Rattle.heap_world.proofs.Clauses.{HasClauses}
 use Rattle.heap_world.proofs.Finish.{marked_object_live}
 use Rattle.heap_world.proofs.Shapes.{same_object_keeps_shape}

@@ -1,14 +1,12 @@
 -- Legality after a new object.
-use Rattle.std.proofs.Common.{◌≡◌, ◌≢◌, ◌⊎◌, ℕ, ◌-◌, zero, suc, ◌+◌, ◌/◌, ◌<◌, ◌≤◌, Bool, true, false, List, [], ◌∷◌, length, drop, set, zip, replicate, refl, sym, ap, subst, ◌∙◌, Option, Some, None, IfSome, All, Contains, arith}
+use Rattle.std.proofs.Common.{◌≡◌, ◌≢◌, ◌⊎◌, ℕ, ◌-◌, zero, suc, ◌<◌, ◌≤◌, Bool, true, false, List, [], ◌∷◌, length, drop, set, zip, replicate, refl, sym, ap, subst, ◌∙◌, Option, Some, None, IfSome, All, Contains, arith}
 use mathlib.Core.Logic.{inl, inr}
 use Rattle.std.specs.Prelude.{slice_get, option_and_then, is_none, nat_lt, if◌then◌else◌}
 use Rattle.std.specs.Option.{option_map_or}
 use Rattle.std.specs.List.{range_with_len}
-use Rattle.std.proofs.lemmas.Bool.{eqb-true}
 use Rattle.std.proofs.lemmas.List.{length-replicate}
 use Rattle.std.proofs.lemmas.List.FromFn.{length-range_with_len}
 use Rattle.std.proofs.lemmas.List.Elements.{All-cons}
-use Rattle.heap_region.proofs.Lookups.{listed_region_is_in_use}
 use Rattle.heap_class.specs.declared.Kind.{Kind}
 use Rattle.heap_class.specs.declared.Kind.TheVariants.{Boolean, Char, Float, Double, Byte, Short, Int, Long}
 use Rattle.heap_class.specs.declared.ObjKind.{ObjKind}
@@ -21,10 +19,9 @@ use Rattle.heap_region.specs.Pool.{RegionPool, fresh_region, new_place, taken, r
 use Rattle.heap_region.proofs.ChangedLookups.{same_or_not, ref_same, number_of, region_of_ref}
 use Rattle.heap_region.proofs.PriorObjects.{places_equal_or_different}
 use Rattle.heap_region.proofs.RoundTrip.{size_for, some_cell}
-use Rattle.heap_region.proofs.References.{list_has_its_head, list_has_items_of_tail, member_is_head_or_later, set_item_is_got, get_set_other, length_set, get_within, member_stands_at_reference_slot, references_by_slots}
+use Rattle.heap_region.proofs.References.{set_item_is_got, get_set_other, length_set, get_within, member_stands_at_reference_slot, references_by_slots}
 use Rattle.heap_mark.specs.declared.Phase.TheVariants.{Marking}
 use Rattle.heap_mark.specs.MarkSteps.{is_marking}
-use Rattle.heap_region.proofs.Distinct.{rest_of_distinct_is_distinct, first_of_distinct_differs}
 use Rattle.heap_world.specs.State.{HeapState, pool_of, with_pool, with_register}
 use Rattle.heap_world.specs.Reach.{Names}
 use Rattle.heap_world.specs.Legal.{IsObjectOf, HasKind, IsMarked, IsUnmarked, IsLive, Sheltered}
@@ -40,7 +37,7 @@ use Rattle.heap_world.proofs.OpeningState.{range_distinct, range_index}
 use Rattle.heap_world.proofs.Shelter.{sheltered_unmarked}
 use Rattle.heap_world.proofs.Tricolour.{Spares, spares_tricolour, spares_sheltered}
 use Rattle.heap_world.proofs.Registers.{IsSafe, naming_id_names_an_object, names_of, write_legal}
-use Rattle.heap_world.proofs.TakenCells.{HasRoom, IsTaken, object_put_into_free_cell, filled, list_from_its_first, object_at_same, object_at_used, same_region_has_same_size}
+use Rattle.heap_world.proofs.TakenCells.{HasRoom, IsTaken, object_put_into_free_cell, filled, object_at_same, object_at_used, same_region_has_same_size}
 use Rattle.heap_region.proofs.FoundObjects.{bare_cells}
 use Rattle.heap_region.proofs.ShownRegions.{unused_region_has_no_object}
 

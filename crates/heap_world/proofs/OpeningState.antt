@@ -65,8 +65,8 @@ pool_names n start le = record {
   distinct = range_distinct 0 start;
   each = λ r. (
     λ c. (
-      let lt : r < start = omega (arith, c.1, length-range_with_len 0 start, range_index 0 start c.0 r (omega (arith, c.1, length-range_with_len 0 start)), c.2) in
-      (lt, opening_region_is_empty n r (omega (arith, lt, le)))),
+        let lt : r < start = omega (arith, c.1, length-range_with_len 0 start, range_index 0 start c.0 r (omega (arith, c.1, length-range_with_len 0 start)), c.2) in
+        (lt, opening_region_is_empty n r (omega (arith, lt, le)))),
     λ e. (r, omega (arith, e.0, length-range_with_len 0 start), range_index 0 start r r e.0 ∙ omega arith),
   );
 }

@@ -1,10 +1,10 @@
 -- The part of legality that speaks of places: objects in cells, regions and the pool.
 use Rattle.std.proofs.Common.{◌≡◌, ◌≢◌, ◌⊎◌, ℕ, true, false, List, [], ◌∷◌, length, refl, sym, ap, subst, ◌∙◌, Option, Some, None, IfSome, Contains, fold, Bool}
 use mathlib.Core.Logic.{inl, inr}
-use Rattle.std.specs.Prelude.{slice_get, option_map}
+use Rattle.std.specs.Prelude.{option_map}
 use Rattle.heap_class.specs.declared.ObjRef.{ObjRef}
 use Rattle.heap_class.specs.Classes.{Class}
-use Rattle.heap_region.specs.Regions.{Object, UsedRegion, Region, Empty, used_at, object_at, object_of, updated, with_object, with_region, cell_size_for}
+use Rattle.heap_region.specs.Regions.{Object, UsedRegion, Region, used_at, object_at, object_of, updated, with_object, with_region, cell_size_for}
 use Rattle.heap_region.proofs.UpdatedLists.{length_updated}
 use Rattle.heap_region.proofs.PriorObjects.{object_was, used_was_region, part_with_object, empty_with_region, free_with_object, inhabited_with_object}
 use Rattle.std.specs.Prelude.{if◌then◌else◌}

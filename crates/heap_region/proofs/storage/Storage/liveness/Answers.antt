@@ -1,4 +1,4 @@
-use Rattle.std.proofs.Common.{sym, ◌∙◌, ap}
+use Rattle.std.proofs.Common.{sym, ◌∙◌}
 use Rattle.heap_region.proofs.Cells.{liveness_shown}
 use Rattle.heap_region.proofs.storage.Storage.liveness.Goals as goal
 

@@ -9,9 +9,9 @@ use Rattle.std.proofs.lemmas.List.Sorted.{IsPermutation-reverse, list_any-IsPerm
 use Rattle.std.proofs.lemmas.Option.{none-some, same_Some}
 use Rattle.heap_class.specs.declared.ObjRef.{ObjRef}
 use Rattle.heap_region.specs.Legal.{IsCellTable, IsRegionPool}
-use Rattle.heap_region.specs.Limits.{cell_sizes}
 use Rattle.heap_region.specs.Pool.{RegionPool}
 use Rattle.heap_region.specs.Regions.{Object, Region, UsedRegion, id_of, object_at, object_of, ref_of, used_at}
+use Rattle.heap_region.proofs.BlockSizes.{listed_size_bounds}
 use Rattle.heap_region.proofs.Ids.{ref_back, ref_is}
 use Rattle.heap_region.proofs.Lookups.{used_region_is_listed}
 use Rattle.heap_region.proofs.ShownRegions.{object_here, used_by_object}
@@ -21,17 +21,7 @@ use Rattle.heap_questions.specs.Cells.{AreMarksOf, cell_number, is_gray}
 -- ---- cells
 
 table_few : (u : UsedRegion) → IsCellTable u → length u.cells ≤ 256
-table_few u table =
-    let few : 1024 / u.cell_size ≤ 256 = subst (λ s. 1024 / s ≤ 256) table.size.2 (at_index table.size.0 table.size.1) in
-    omega (arith, few, table.cells)
-  where
-    at_index : (k : ℕ) → k < 5 → 1024 / get_or cell_sizes k u.cell_size ≤ 256
-    at_index zero h = omega arith
-    at_index (suc zero) h = omega arith
-    at_index (suc (suc zero)) h = omega arith
-    at_index (suc (suc (suc zero))) h = omega arith
-    at_index (suc (suc (suc (suc zero)))) h = omega arith
-    at_index (suc (suc (suc (suc (suc k))))) h = absurd (omega (arith, h))
+table_few u table = omega (arith, table.cells, (listed_size_bounds u.cell_size table.size).1)
 
 -- where an object's cell lies, and that its id leads back to it
 pub record IsPlaced (regions : List Region) (at : ObjRef) : Type 0 where

@@ -12,6 +12,7 @@ pub mod Registers
 pub mod Ranking
 pub mod SlotValues
 pub mod Changes
+pub mod Cycles
 pub mod SlotChanges
 pub mod SlotWrites
 pub mod Newest

@@ -1,5 +1,6 @@
 //! Exact answers about the past that a machine retains. Most are a walk over its records, the newest first.
 mod changes;
+mod cycles;
 mod events;
 mod losses;
 mod seen;
@@ -11,6 +12,7 @@ mod trail;
 mod writes;
 
 pub use changes::{birth, last_write};
+pub use cycles::{EndedCycle, ended_cycles};
 pub use events::PastEvent;
 pub use losses::{Loss, loss_of, path_is_reach, unreached_stays};
 pub use seen::{SeenSlot, slot_now};

@@ -17,7 +17,7 @@ import time
 import unittest
 
 import heapdbg
-from heapdbg import BadCommand, Cells, Collected, Ended, Field, Now, ObjectId, Piece, Pin, PinAt, Place, Refused, RegionRow, Session, Swept, fetch
+from heapdbg import BadCommand, Cells, Collected, Ended, EndedCycle, Field, Now, ObjectId, Piece, Pin, PinAt, Place, Refused, RegionRow, Session, Swept, fetch
 
 PROGRAM = os.path.abspath(sys.argv[1]) if len(sys.argv) > 1 else "heapdbg"
 NODE = [("next", "object"), ("v", "long")]
@@ -223,6 +223,25 @@ class Replies(unittest.TestCase):
         self.assertEqual(rows, [RegionRow(0, 4, 5, 3, 2, True), RegionRow(7, 64, 1, 1, 0, False)])
         self.assertEqual((rows[0].dead, rows[1].waits, heap.regions()), (2, False, []))
         self.assertEqual(heap.writer.getvalue(), b"regions\nregions\n")
+
+    def test_cycles(self):
+        heap = canned("row 9 2 2", "row 17 3 0", "ok 2", "ok 0")
+        rows = heap.cycles()
+        self.assertEqual(rows, [(9, 2, 2), (17, 3, 0)])
+        self.assertEqual((rows[1].place, rows[1].condemned, rows[1].swept, heap.cycles()), (17, 3, 0, []))
+        self.assertEqual(heap.writer.getvalue(), b"cycles\ncycles\n")
+
+    def test_cycles_of_a_heap(self):
+        with session("--questions", "1") as heap:
+            heap.define_class("Node", NODE)
+            heap.new(0, 0, 0)
+            heap.new(0, 0, 0)
+            heap.collect()
+            heap.snap()
+            heap.mark()
+            self.assertEqual(heap.cycles(), [EndedCycle(6, 1, 1)])
+            heap.finish()
+            self.assertEqual(heap.cycles(), [EndedCycle(6, 1, 1), EndedCycle(10, 0, 0)])
 
     def test_regions_of_a_heap(self):
         with session("--questions", "1") as heap:

@@ -16,6 +16,7 @@ from .rows import (
     ClassRow,
     Collected,
     Dominator,
+    EndedCycle,
     Field,
     HeldPin,
     Holding,
@@ -47,5 +48,5 @@ __all__ += ["NotDoneFacts", "RegionFact", "TooFarFacts", "LostFact"]
 __all__ += ["Moment", "Now", "Place", "Pin", "PinAt", "ObjectId", "Swept", "Collected", "Piece"]
 __all__ += ["Cells", "ClassCount", "ClassGrowth", "ClassRow", "Dominator", "Field", "HeldPin", "Holding", "LostPin", "ListedObject"]
 __all__ += ["NullRegister", "Register", "PastStep", "RegisterReference", "RegisterStep", "SlotChange", "SlotReference", "SlotRow"]
-__all__ += ["ObjectDifference", "RegionRow", "SlotDifference", "SlotStep", "SlotValue", "SlotWrite", "When"]
+__all__ += ["EndedCycle", "ObjectDifference", "RegionRow", "SlotDifference", "SlotStep", "SlotValue", "SlotWrite", "When"]
 __all__ += ["Recorder", "Call", "Cost", "UnknownName"]

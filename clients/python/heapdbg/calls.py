@@ -12,6 +12,7 @@ from .rows import (
     ClassRow,
     Collected,
     Dominator,
+    EndedCycle,
     HeldPin,
     Holding,
     ListedObject,
@@ -43,6 +44,7 @@ from .rows import (
     defined,
     difference,
     dominating,
+    ended,
     facts_by_name,
     grown,
     holding,
@@ -293,6 +295,10 @@ class Calls:
         """Returns a `PastStep` for each of the newest retained steps, or of those that led to a `Place`, the newest first. A pin has
         no history."""
         return self.send(f"history {word_of_moment(moment)} {count}", rows_by(past))
+
+    def cycles(self) -> list[EndedCycle]:
+        """Returns an `EndedCycle` for each retained step that ended a cycle, the oldest first."""
+        return self.send("cycles", rows_by(ended))
 
     def pins(self) -> list[Union[HeldPin, LostPin]]:
         """Returns a `HeldPin` or a `LostPin` for each open pin."""

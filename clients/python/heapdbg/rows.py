@@ -271,6 +271,14 @@ class Cells(NamedTuple):
     letters: str
 
 
+class EndedCycle(NamedTuple):
+    """A cycle that a step ended: the place of the step, how many objects it condemned, and how many of these sweeps removed."""
+
+    place: int
+    condemned: int
+    swept: int
+
+
 class RegionRow(NamedTuple):
     """A region in use: its number, the words of a cell, its objects, those that are live, those that aren't, and whether it waits
     to be swept."""
@@ -395,6 +403,11 @@ def cells_of(row: list) -> Cells:
     """Reads REGION SIZE - LETTERS, or REGION SIZE sweep LETTERS."""
     region, size, waits, letters = row
     return Cells(int(region), int(size), waits == "sweep", letters)
+
+
+def ended(row: list) -> EndedCycle:
+    """Reads PLACE CONDEMNED SWEPT."""
+    return EndedCycle(*map(int, row))
 
 
 def region_of(row: list) -> RegionRow:

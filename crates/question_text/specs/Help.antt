@@ -40,6 +40,7 @@ question_forms =
     (codes "writes server/Entry state")
     ∷ form_of (codes "dropped") (codes "dropped [@PLACE] ID") (codes "dropped 0x10000020")
     ∷ form_of (codes "history") (codes "history [@PLACE] N") (codes "history 10")
+    ∷ form_of (codes "cycles") (codes "cycles") (codes "cycles")
     ∷ form_of (codes "pins") (codes "pins") (codes "pins")
     ∷ form_of (codes "cells") (codes "cells") (codes "cells")
     ∷ form_of (codes "regions") (codes "regions") (codes "regions")

@@ -7,6 +7,7 @@ pub mod Histograms
 pub mod Referrers
 pub mod Registers
 pub mod ClassLists
+pub mod CycleLists
 pub mod ClassSlots
 pub mod Diffs
 pub mod DominatorRows

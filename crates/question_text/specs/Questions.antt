@@ -5,7 +5,7 @@ use Rattle.session_grammar.specs.Grammar.{at_end, next_number, number_of_word, w
 use Rattle.question_text.specs.declared.question.At.{At}
 use Rattle.question_text.specs.declared.question.At.TheVariants.{Current, Pin, Place}
 use Rattle.question_text.specs.declared.question.Question.{Question}
-use Rattle.question_text.specs.declared.question.Question.TheVariants.{Histogram, Garbage, Growth, Kept, Diff, Registers, Classes, Objects, Values, Referrers, Path, Retained, Dominators, Dominated, Dominator, Show, Born, Wrote, Watch, Writes, Dropped, History, Pins, Cells, Regions, Status}
+use Rattle.question_text.specs.declared.question.Question.TheVariants.{Histogram, Garbage, Growth, Kept, Diff, Registers, Classes, Objects, Values, Referrers, Path, Retained, Dominators, Dominated, Dominator, Show, Born, Wrote, Watch, Writes, Dropped, History, Cycles, Pins, Cells, Regions, Status}
 use Rattle.question_text.specs.declared.question.Span.{Span}
 use Rattle.question_text.specs.declared.question.Span.TheVariants.{AllSteps, Between}
 use Rattle.std.specs.Option.{option_or}
@@ -210,6 +210,7 @@ unfoldable pub past_rules : List QuestionRule
 past_rules =
     (codes "born", λ ws. option_map (λ a. Born a.0 a.1) (place_and_id ws))
     ∷ (codes "dropped", λ ws. option_map (λ a. Dropped a.0 a.1) (place_and_id ws))
+    ∷ (codes "cycles", λ ws. at_end Cycles ws)
     ∷ (codes "pins", λ ws. at_end Pins ws)
     ∷ (codes "cells", λ ws. at_end Cells ws)
     ∷ (codes "regions", λ ws. at_end Regions ws)

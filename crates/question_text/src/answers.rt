@@ -10,6 +10,7 @@ use crate::birth::born_answer;
 use crate::cell_list::cells_answer;
 use crate::class_list::classes_answer;
 use crate::comment::unasked_answer;
+use crate::cycle_list::cycles_answer;
 use crate::diff::diff_text;
 use crate::dominator_rows::{dominated_answer, dominator_answer, dominators_answer};
 use crate::growth::growth_answer;
@@ -134,6 +135,7 @@ pub fn answer(alloc: Global, machine: &Machine, acts: Option<u64>, question: Que
         }
         Question::Dropped { to, id } => dropped_answer(alloc, machine, to, id),
         Question::History { to, count } => line_answer(history_answer(alloc, machine, to, count)),
+        Question::Cycles => line_answer(cycles_answer(alloc, machine)),
         Question::Pins => line_answer(pins_answer(alloc, machine)),
         Question::Cells => line_answer(cells_answer(alloc, machine)),
         Question::Regions => line_answer(regions_answer(alloc, machine)),

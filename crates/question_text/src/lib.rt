@@ -28,6 +28,7 @@ mod class_list;
 mod class_slot;
 mod comment;
 mod cycle;
+mod cycle_list;
 mod diff;
 mod dominator_rows;
 mod growth;

@@ -77,6 +77,8 @@ pub enum Question {
     Dropped { to: Option<u64>, id: u64 },
     /// What the newest retained steps did, of those that led to a place, or to the current state: how many of them.
     History { to: Option<u64>, count: u64 },
+    /// The cycles that the retained steps ended.
+    Cycles,
     /// The open pins.
     Pins,
     /// What each cell of the regions in use holds.
@@ -318,6 +320,9 @@ fn past_question(keyword: &[u8], words: Words) -> Option<Question>
     if is_word(keyword, b"dropped") {
         let (to, id) = place_and_id(words)?;
         return Some(Question::Dropped { to, id });
+    }
+    if is_word(keyword, b"cycles") {
+        return at_end(Question::Cycles, words);
     }
     if is_word(keyword, b"pins") {
         return at_end(Question::Pins, words);

@@ -36,3 +36,4 @@ pub mod CountedCells
 pub mod DifferentObjects
 pub mod DeadObjects
 pub mod EndedCycles
+pub mod PastLives

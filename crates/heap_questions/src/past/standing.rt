@@ -30,7 +30,7 @@ pub(crate) fn stood_ago(machine: &Machine, ago: u64, at: ObjRef) -> bool
 }
 
 // Tells whether an object stood at a place before the step that left this record. `now` says whether one stands there after it.
-fn stood_before(left: &Undo, at: ObjRef, now: bool) -> bool
+pub(crate) fn stood_before(left: &Undo, at: ObjRef, now: bool) -> bool
     ensures { result ≡ stood_before left.now at now }
 {
     match left {
@@ -79,7 +79,7 @@ pub(crate) fn cell_with(machine: &Machine, ago: u64, id: u64) -> Option<ObjRef>
 }
 
 // Returns the cell of this size that an id names, of a region that has the id's word, or None if the id is that of no such cell.
-fn cell_by(size: u64, region: u16, id: u64) -> Option<ObjRef>
+pub(crate) fn cell_by(size: u64, region: u16, id: u64) -> Option<ObjRef>
     requires small { size ≤ region_words }
     ensures cell { IsCellOf size region id result }
 {
@@ -114,7 +114,7 @@ fn cell_size_ago(machine: &Machine, ago: u64, region: u64) -> u64
 }
 
 // Returns the size of the cells of a region before the step with this record, from that after it.
-fn size_before(left: &Undo, region: u64, now: u64) -> u64
+pub(crate) fn size_before(left: &Undo, region: u64, now: u64) -> u64
     requires cells { (r : ℕ) (u : UsedRegion) → left.now ≡ Reclaim r u → 0 < length u.cells }
     requires small { now ≤ region_words }
     ensures value { result ≡ size_before left.now region now }

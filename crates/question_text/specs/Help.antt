@@ -39,6 +39,7 @@ question_forms =
     ∷ form_of (codes "writes") (codes "writes CLASS SLOT [@PLACE [@PLACE]]")
     (codes "writes server/Entry state")
     ∷ form_of (codes "dropped") (codes "dropped [@PLACE] ID") (codes "dropped 0x10000020")
+    ∷ form_of (codes "life") (codes "life ID") (codes "life 0x10000020")
     ∷ form_of (codes "history") (codes "history [@PLACE] N") (codes "history 10")
     ∷ form_of (codes "cycles") (codes "cycles") (codes "cycles")
     ∷ form_of (codes "pins") (codes "pins") (codes "pins")

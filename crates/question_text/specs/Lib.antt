@@ -8,6 +8,7 @@ pub mod Referrers
 pub mod Registers
 pub mod ClassLists
 pub mod CycleLists
+pub mod Lives
 pub mod ClassSlots
 pub mod Diffs
 pub mod DominatorRows

@@ -17,6 +17,7 @@ use crate::growth::growth_answer;
 use crate::histogram::{garbage_text, histogram_text, retained_answer};
 use crate::history::history_answer;
 use crate::kept::kept_text;
+use crate::life::life_answer;
 use crate::loss::dropped_answer;
 use crate::named_line::question_in;
 use crate::object_list::objects_answer;
@@ -134,6 +135,7 @@ pub fn answer(alloc: Global, machine: &Machine, acts: Option<u64>, question: Que
             line_answer(writes_answer(alloc, machine, class, slot, span))
         }
         Question::Dropped { to, id } => dropped_answer(alloc, machine, to, id),
+        Question::Life(id) => line_answer(life_answer(alloc, machine, id)),
         Question::History { to, count } => line_answer(history_answer(alloc, machine, to, count)),
         Question::Cycles => line_answer(cycles_answer(alloc, machine)),
         Question::Pins => line_answer(pins_answer(alloc, machine)),

@@ -37,6 +37,7 @@ mod histogram;
 mod history;
 mod id;
 mod kept;
+mod life;
 mod loss;
 mod name_words;
 mod named_line;

@@ -224,6 +224,23 @@ class Replies(unittest.TestCase):
         self.assertEqual((rows[0].dead, rows[1].waits, heap.regions()), (2, False, []))
         self.assertEqual(heap.writer.getvalue(), b"regions\nregions\n")
 
+    def test_life(self):
+        heap = canned("row Node older 7 9", "row long[] 12 - -", "row Node older older -", "ok 3", "ok 0")
+        rows = heap.life(0x10000000)
+        self.assertEqual(rows, [("Node", "older", 7, 9), ("long[]", 12, None, None), ("Node", "older", "older", None)])
+        self.assertEqual((rows[0].class_name, rows[1].born, rows[0].lost, rows[0].swept), ("Node", 12, 7, 9))
+        self.assertEqual((heap.life(16), heap.writer.getvalue()), ([], b"life 0x10000000\nlife 0x00000010\n"))
+
+    def test_life_of_a_heap(self):
+        with session("--questions", "1") as heap:
+            heap.define_class("Node", NODE)
+            heap.new(0, 0, 0)
+            lost = heap.new(0, 1, 0)
+            heap.clear(0, 1)
+            heap.collect()
+            self.assertEqual(heap.life(heap.new(0, 1, 0)), [("Node", 3, 4, 8), ("Node", 9, None, None)])
+            self.assertEqual([row.born for row in heap.life(lost)], [3, 9])
+
     def test_cycles(self):
         heap = canned("row 9 2 2", "row 17 3 0", "ok 2", "ok 0")
         rows = heap.cycles()

@@ -20,6 +20,7 @@ from .rows import (
     Field,
     HeldPin,
     Holding,
+    Life,
     ListedObject,
     LostPin,
     NullRegister,
@@ -48,5 +49,5 @@ __all__ += ["NotDoneFacts", "RegionFact", "TooFarFacts", "LostFact"]
 __all__ += ["Moment", "Now", "Place", "Pin", "PinAt", "ObjectId", "Swept", "Collected", "Piece"]
 __all__ += ["Cells", "ClassCount", "ClassGrowth", "ClassRow", "Dominator", "Field", "HeldPin", "Holding", "LostPin", "ListedObject"]
 __all__ += ["NullRegister", "Register", "PastStep", "RegisterReference", "RegisterStep", "SlotChange", "SlotReference", "SlotRow"]
-__all__ += ["EndedCycle", "ObjectDifference", "RegionRow", "SlotDifference", "SlotStep", "SlotValue", "SlotWrite", "When"]
+__all__ += ["EndedCycle", "Life", "ObjectDifference", "RegionRow", "SlotDifference", "SlotStep", "SlotValue", "SlotWrite", "When"]
 __all__ += ["Recorder", "Call", "Cost", "UnknownName"]

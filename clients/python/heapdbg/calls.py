@@ -15,6 +15,7 @@ from .rows import (
     EndedCycle,
     HeldPin,
     Holding,
+    Life,
     ListedObject,
     LostPin,
     NullRegister,
@@ -49,6 +50,7 @@ from .rows import (
     grown,
     holding,
     listed,
+    lived,
     loaded,
     number,
     open_pin,
@@ -295,6 +297,10 @@ class Calls:
         """Returns a `PastStep` for each of the newest retained steps, or of those that led to a `Place`, the newest first. A pin has
         no history."""
         return self.send(f"history {word_of_moment(moment)} {count}", rows_by(past))
+
+    def life(self, of: int) -> list[Life]:
+        """Returns a `Life` for each object that had an id in a retained state, the oldest first."""
+        return self.send(f"life {ObjectId(of)}", rows_by(lived))
 
     def cycles(self) -> list[EndedCycle]:
         """Returns an `EndedCycle` for each retained step that ended a cycle, the oldest first."""

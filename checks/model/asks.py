@@ -135,7 +135,7 @@ class AskingDraw(Draw):
 
     def ask(self):
         """Asks a question, or for help."""
-        word = self.lots.pick([*QUESTIONS, b"help"])
+        word = self.lots.pick([*QUESTIONS, b"writes", b"help"])
         draws = {"a": self.moment, "i": self.identifier, "c": self.asked_class, "s": self.asked_slot, "v": self.held_word}
         draws["p"] = lambda: self.lots.pick(["-", self.retained_place()])
         draws["n"] = lambda: self.lots.near(self.lots.below(8), 70)

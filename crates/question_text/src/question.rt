@@ -310,14 +310,6 @@ fn dominators_by(at: At, word: &[u8], words: Words) -> Option<Question>
     at_end(Question::Dominators { at, most }, words)
 }
 
-// Returns the id that the words are.
-fn one_id(mut words: Words) -> Option<u64>
-    ensures { result ≡ one_id (words_of_line words.entry) }
-{
-    let word = words.next_word()?;
-    at_end(id_of(word)?, words)
-}
-
 // Reads the words behind a keyword of a question about what retained steps did, about pins, or about the current state.
 #[tactic(auto, unfolding(crate::specs::Questions::past_rules))]
 fn past_question(keyword: &[u8], words: Words) -> Option<Question>
@@ -377,6 +369,14 @@ fn place_and_id(mut words: Words) -> Option<(Option<u64>, u64)>
         return Some((None, id_of(word)?));
     };
     at_end((place_of_word(word)?, id_of(second)?), words)
+}
+
+// Returns the id that the words are.
+fn one_id(mut words: Words) -> Option<u64>
+    ensures { result ≡ one_id (words_of_line words.entry) }
+{
+    let word = words.next_word()?;
+    at_end(id_of(word)?, words)
 }
 
 // Returns the place and the number that the words name. If they are only a number, there is no place.

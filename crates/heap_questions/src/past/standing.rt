@@ -78,6 +78,21 @@ pub(crate) fn cell_with(machine: &Machine, ago: u64, id: u64) -> Option<ObjRef>
     cell_by(cell_size_ago(machine, ago, region), region as u16, id)
 }
 
+// Returns the size of the cells of a region in the state of `ago` steps ago, if it was in use there.
+fn cell_size_ago(machine: &Machine, ago: u64, region: u64) -> u64
+    requires { ago ≤ retained machine.now.trail }
+    ensures value { HasCellSize (state_ago ago machine.now.trail) region result }
+    ensures limit { result ≤ region_words }
+{
+    // Its contract says that each retained state came from the one before it.
+    let _place = machine.place();
+    let mut size = size_at(machine.world(), region);
+    for n in 0..ago {
+        size = size_before(machine.record_ago(n), region, size);
+    }
+    size
+}
+
 // Returns the cell of this size that an id names, of a region that has the id's word, or None if the id is that of no such cell.
 pub(crate) fn cell_by(size: u64, region: u16, id: u64) -> Option<ObjRef>
     requires small { size ≤ region_words }
@@ -96,21 +111,6 @@ pub(crate) fn cell_by(size: u64, region: u16, id: u64) -> Option<ObjRef>
     } else {
         None
     }
-}
-
-// Returns the size of the cells of a region in the state of `ago` steps ago, if it was in use there.
-fn cell_size_ago(machine: &Machine, ago: u64, region: u64) -> u64
-    requires { ago ≤ retained machine.now.trail }
-    ensures value { HasCellSize (state_ago ago machine.now.trail) region result }
-    ensures limit { result ≤ region_words }
-{
-    // Its contract says that each retained state came from the one before it.
-    let _place = machine.place();
-    let mut size = size_at(machine.world(), region);
-    for n in 0..ago {
-        size = size_before(machine.record_ago(n), region, size);
-    }
-    size
 }
 
 // Returns the size of the cells of a region before the step with this record, from that after it.

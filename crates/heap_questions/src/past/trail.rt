@@ -109,8 +109,8 @@ impl<'a> PastTrail<'a> {
     {
         // Its contract says that the retained states are legal.
         let _place = self.machine.place();
-        let pin = past_pin(alloc, self.machine, self.ago)?;
-        Ok(kind_of(&pin, self.machine.world(), at))
+        let shown = past_pin(alloc, self.machine, self.ago)?;
+        Ok(kind_of(&shown, self.machine.world(), at))
     }
 
     // Tells whether a register reached the object with this id in the state `n` steps before this one. Fails with NoMemory.

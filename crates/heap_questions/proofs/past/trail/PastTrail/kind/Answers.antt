@@ -13,7 +13,7 @@ kind_of-requires c =
     let ago = c.self.inside.ago in
     let e : c.args.self.now.current ≡ state_ago ago t = sym (ap (λ (u : Trail). u.current) c.self.view_is) ∙ current_past t ago in (
       state_ago ago t,
-      shown_beside t ago c.world.result.now c.in_ok-pin.pin c.world.ensures.value c.in_ok-pin.ensures.shown,
+      shown_beside t ago c.world.result.now c.in_ok-shown.shown c.world.ensures.value c.in_ok-shown.ensures.shown,
       subst (λ (w : HeapState). IsSome (object_at w.regions c.args.at)) e c.requires,
     )
 
@@ -24,5 +24,5 @@ returns-clause-kind c =
     let e : c.args.self.now.current ≡ state_ago ago t = sym (ap (λ (u : Trail). u.current) c.self.view_is) ∙ current_past t ago in
     subst (λ (w : HeapState). IfSome (object_at w.regions c.args.at) (λ o. c.kind_of.result ≡ o.kind)) (sym e)
     (c.kind_of.ensures (state_ago ago t)
-    (shown_beside t ago c.world.result.now c.in_ok-pin.pin c.world.ensures.value c.in_ok-pin.ensures.shown)
+    (shown_beside t ago c.world.result.now c.in_ok-shown.shown c.world.ensures.value c.in_ok-shown.ensures.shown)
     (subst (λ (w : HeapState). IsSome (object_at w.regions c.args.at)) e c.requires))

@@ -62,7 +62,7 @@ loop-n-preserved c =
     let begins = begins_here t x n newest stood was within i.stands stands i.since in
     let asked : c.if-stood.life_if ≡ (stood && not was) = elim c.if-stood.branch [
       | then-stood w ↦ w.life_if-is ∙ sym (ap (λ b. b && not was) w.if-stood.true)
-      | else-stood w ↦ w.life_if-is ∙ sym (ap (λ b. b && not was) w.if-stood.false)
+      | else-stood w ↦ w.life_if-is ∙ w.if-stood.false ∙ sym (ap (λ b. b && not was) w.if-stood.false)
     ] in
     let first = c.in_ok-life_if.field-0 in
     let told : IsLifeAgo t x n first = life_told t x n newest (stood && not was) first begins.0 begins.1 (subst (λ b. IsLifeIf t x n newest b first) asked c.in_ok-life_if.ensures.life) in

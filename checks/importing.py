@@ -3,8 +3,8 @@
 
 PROGRAM is heapdbg, IMPORT heapdbg-import. The dumps are those of example sessions, which heapdbg saves, and that of a program
 in Java, where `javac` and `java` are installed. A reader of HPROF of its own reads both dumps. From the roots on, each object
-must have the class, the values and the references of its like, but for arrays of more than 1,024 elements, which are cut. Bad
-files and bad words must be refused; what is left out must be told. `explore --hprof` must answer, and report, just as `explore
+must have the class, the values and the references of its like, but for arrays of more than 1,024 elements, which are cut unless
+the heap has an area. Bad files and bad words must be refused; what is left out must be told. `explore --hprof` must answer, and report, just as `explore
 --from` does with the session of the dump, also of dumps that are cut or have a byte changed. Prints a line for each thing that
 is otherwise than it must be, and ends with status 1 then."""
 import pathlib
@@ -17,7 +17,7 @@ import tempfile
 TOP = pathlib.Path(__file__).resolve().parent.parent
 LIMIT = 120
 SESSIONS = ("leak", "orders", "services", "point")
-MOST_ELEMENTS, MOST_FIELDS = 1024, 64
+MOST_ELEMENTS, MOST_WITH_AREA, MOST_FIELDS = 1024, 2_097_147, 64
 WIDTHS = {4: 1, 5: 2, 6: 4, 7: 8, 8: 1, 9: 2, 10: 4, 11: 8}
 OBJECT = 2
 # The tag of each kind of root, the bytes behind its id (an identifier, if negative), and the class of the arrays that keep them.
@@ -27,10 +27,28 @@ ROOTS = {0x01: (-1, "JNI_global"), 0x02: (8, "JNI_local"), 0x03: (8, "Java_frame
 
 # What is asked of a heap that `explore --hprof` makes: the whole heap too, as a dump.
 QUESTIONS = b"status\nclasses\nregions\nregisters\nhistogram\ndump -\ncollect\nhistogram\ndominators 20\n"
-WIDE = ("--wide", "--regions", "2048", "--keep", "16")
+WIDE = ("--wide", "--regions", "2048", "--area", "600", "--keep", "16")
 SMALL = ("--wide", "0", "--regions", "16", "--keep", "16")
 # What `--hprof` stands for, beside the dump.
-USUAL = ("--wide", "--regions", "65536", "--keep", "65536")
+USUAL = ("--wide", "--regions", "65536", "--area", "16384", "--keep", "65536")
+# A session of large arrays, and the heap that it is for.
+LARGE = b"""class Node - next:object v:long
+array [Node;
+new 0 0 0
+put 0 0 1 7
+newprim 0 1 long 3000
+put 0 1 2999 5
+put 0 1 1024 18446744073709551615
+newarray 0 2 1 1025
+store 0 2 1024 0
+store 0 2 0 2
+newprim 0 3 boolean 1024
+put 0 3 1023 1
+newprim 0 4 char 70000
+put 0 4 69999 65
+store 0 0 0 2
+"""
+LARGE_HEAP = ("--wide", "--regions", "128", "--area", "100")
 # How many refused lines of a dump's session are reported.
 REPORTED = 8
 REFUSED = re.compile(rb":\d+: (no \d|bad command)")
@@ -39,8 +57,9 @@ REFUSED = re.compile(rb":\d+: (no \d|bad command)")
 class Dump:
     """A heap dump: classes by their ids, with their names, supers, fields and static fields; objects by theirs; and roots."""
 
-    def __init__(self, path):
+    def __init__(self, path, has_area=False):
         self.bytes = pathlib.Path(path).read_bytes()
+        self.most = MOST_WITH_AREA if has_area else MOST_ELEMENTS
         self.at = self.bytes.index(0) + 1
         self.id_size = self.number(4)
         self.widths = {**WIDTHS, OBJECT: self.id_size}
@@ -141,7 +160,7 @@ class Dump:
         if tag == 0x21:
             return self.class_name(of), list(self.fields_of(number))
         name, kind = (self.class_name(of), OBJECT) if tag == 0x22 else (of, of)
-        return name, [(index, kind, value) for index, value in enumerate(values[:MOST_ELEMENTS])]
+        return name, [(index, kind, value) for index, value in enumerate(values[:self.most])]
 
     def is_made(self, number):
         """Tells whether a heap has this object: an object of the dump, or a class with a static field that names one."""
@@ -202,7 +221,7 @@ def left_out(dump):
     made = {number for number in [*dump.objects, *dump.classes] if dump.is_made(number)}
     slots = [slot for number in dump.objects for slot in dump.parts(number)[1]]
     kept = sum(len(dump.statics_of(number)) for number in dump.classes if number in made)
-    counts = ((sum(tag != 0x21 and len(values) > MOST_ELEMENTS for tag, _, values in dump.objects.values()), "arrays cut to 1,024 elements"),
+    counts = ((sum(tag != 0x21 and len(values) > dump.most for tag, _, values in dump.objects.values()), f"arrays cut to {dump.most:,} elements"),
               (sum(kind == OBJECT and value != 0 and value not in made for _, kind, value in slots), "references to what isn't made"),
               (sum(root not in made for _, root in dump.roots), "roots of what isn't made"),
               (sum(len(statics) for _, _, statics in dump.classes.values()) - kept, "static fields that no object has"))
@@ -220,22 +239,23 @@ def saved(program, words, session, dump):
         return subprocess.run([program, "save", *words, "--out", str(dump)], stdin=lines, capture_output=True, check=True, timeout=LIMIT).stdout
 
 
-def imported(program, importer, dump, folder):
-    """Yields what is wrong with the session of a dump."""
+def imported(program, importer, dump, folder, *area):
+    """Yields what is wrong with the session of a dump, for a heap without an area or, by the word `--area`, for one with an area."""
     session, again = folder / "imported.session", folder / "again.hprof"
-    ran = subprocess.run([importer, str(dump), str(session)], capture_output=True, timeout=LIMIT)
+    ran = subprocess.run([importer, *area, str(dump), str(session)], capture_output=True, timeout=LIMIT)
     if ran.returncode:
         yield f"{dump.name}: heapdbg-import ends with status {ran.returncode}: {ran.stderr.decode()}"
         return
-    told_of, wanted = ran.stderr.decode(), left_out(Dump(dump))
+    told_of, wanted = ran.stderr.decode(), left_out(Dump(dump, area))
     if told_of != (f"heapdbg-import: {dump}: {wanted}\n" if wanted else ""):
         yield f"{dump.name}: heapdbg-import says {told_of!r} of what it leaves out, and must say {wanted!r}"
-    replies = saved(program, ["--wide", "1", "--regions", "65536", "--keep", "1"], session, again)
+    words = ["--wide", "1", "--regions", "65536", "--keep", "1", *area, *["16384"] * len(area)]
+    replies = saved(program, words, session, again)
     refused = [line for line in replies.decode().splitlines() if not line.startswith(("ok", "saved "))]
     if refused:
         yield f"{dump.name}: the heap refuses {len(refused)} lines of its session, the first with {refused[0]}"
         return
-    different = difference(Dump(dump), Dump(again))
+    different = difference(Dump(dump, area), Dump(again, area))
     if different:
         yield f"{dump.name}: {different}"
 
@@ -270,7 +290,8 @@ def limited(reports, dump):
 def explored(program, importer, dump, folder, *words):
     """Yields how `explore --hprof` differs from `explore --from` with the session that heapdbg-import writes."""
     session = folder / "explored.session"
-    ran = subprocess.run([importer, str(dump), str(session)], capture_output=True, timeout=LIMIT)
+    area = [] if words == SMALL else ["--area"]
+    ran = subprocess.run([importer, *area, str(dump), str(session)], capture_output=True, timeout=LIMIT)
     said = ran.stderr.replace(b"heapdbg-import:", b"heapdbg:")
     status, answers, reports = told(program, "--from", session, words or USUAL, dump)
     wanted = (1, b"", said + b"heapdbg: hprof\n") if ran.returncode else (status, answers, limited(reports, dump) + said)
@@ -305,7 +326,8 @@ def refusals(importer, dump, folder):
     """Yields what is wrong with how bad files and bad words are refused."""
     bad, out = folder / "bad.hprof", folder / "bad.session"
     bad.write_bytes(b"no dump at all")
-    cases = [([], 2), ([str(dump)], 2), ([str(dump), str(out), "more"], 2), ([str(folder / "missing"), str(out)], 1),
+    cases = [([], 2), ([str(dump)], 2), ([str(dump), str(out), "more"], 2), (["--area", str(dump)], 1), (["--wide", str(dump), str(out)], 2),
+             ([str(dump), str(out), "--area"], 2), (["--area", str(dump), str(out), "more"], 2), (["--area", str(bad), str(out)], 1), ([str(folder / "missing"), str(out)], 1),
              ([str(folder), str(out)], 1), ([str(bad), str(out)], 1), ([str(dump), str(folder / "missing/out")], 1)]
     for words, status in cases:
         ran = subprocess.run([importer, *words], capture_output=True, timeout=LIMIT)
@@ -323,6 +345,21 @@ def cut_dumps(importer, dump, folder):
             yield f"the first {size} bytes: status {ran.returncode}, {ran.stderr!r}"
 
 
+def large_arrays(program, importer, folder):
+    """Yields what is wrong with dumps that have arrays of more than 1,024 elements."""
+    session, dump = folder / "large.session", folder / "large.hprof"
+    session.write_bytes(LARGE)
+    for ids in "4", "8":
+        saved(program, ["--ids", ids, *LARGE_HEAP], session, dump)
+        for area in [], ["--area"]:
+            yield from imported(program, importer, dump, folder, *area)
+        for words in (), WIDE, SMALL:
+            yield from explored(program, importer, dump, folder, *words)
+        few = told(program, "--hprof", dump, ("--regions", "64", "--area", "8"))[2]
+        if few.count(b" no 13 HeapFull: newprim 0 5 char 70000\n") != 1:
+            yield f"a dump whose large arrays the area has no room for: {few!r}"
+
+
 def differences(program, importer):
     """Yields what is wrong."""
     with tempfile.TemporaryDirectory(prefix="importing-") as name:
@@ -332,9 +369,11 @@ def differences(program, importer):
                 dump = folder / f"{session}-{ids}.hprof"
                 saved(program, ["--ids", ids], TOP / f"examples/{session}.session", dump)
                 yield from imported(program, importer, dump, folder)
+                yield from imported(program, importer, dump, folder, "--area")
                 yield from explored(program, importer, dump, folder, *WIDE)
                 yield from explored(program, importer, dump, folder)
                 yield from explored(program, importer, dump, folder, *SMALL)
+        yield from large_arrays(program, importer, folder)
         yield from changed(program, importer, folder / "leak-8.hprof", folder)
         yield from unread(program, folder / "leak-8.hprof", folder)
         yield from refusals(importer, folder / "leak-8.hprof", folder)

@@ -65,7 +65,7 @@ ANSWERS = {
     "histogram": f"ok {NUMBER} {NUMBER}", "garbage": f"ok {NUMBER} {NUMBER}", "registers": f"ok {NUMBER}", "path": f"ok {NUMBER}",
     "history": f"ok {NUMBER}", "pins": f"ok {NUMBER}", "objects": f"ok {NUMBER}", "cells": f"ok {NUMBER}", "status": "ok 8",
     "dominators": f"ok {NUMBER}", "dominator": f"ok {NUMBER}",
-    "regions": f"ok {NUMBER}", "kept": f"ok {NUMBER} {NUMBER}", "diff": f"ok {NUMBER}",
+    "regions": f"ok {NUMBER}", "cycles": f"ok {NUMBER}", "life": f"ok {NUMBER}", "kept": f"ok {NUMBER} {NUMBER}", "diff": f"ok {NUMBER}",
     "retained": f"ok {NUMBER} {NUMBER}", "watch": f"ok {NUMBER}", "writes": f"ok {NUMBER}", "values": f"ok {NUMBER}",
     "collect": f"ok condemned {NUMBER} swept {NUMBER}",
 }
@@ -73,7 +73,7 @@ ANSWERS = {
 ROWS = {
     "histogram": f"{NUMBER} {NUMBER} {NAMED}", "garbage": f"{NUMBER} {NUMBER} {NAMED}", "registers": f"[0-3] [0-7] (null|{ID} {NAMED})",
     "objects": f"{ID} {NAMED} {NUMBER}( unreached)?", "cells": f"{NUMBER} (4|16|64|256|1024) (-|sweep) [.omgx]+",
-    "regions": f"{NUMBER} (4|16|64|256|1024) {NUMBER} {NUMBER} {NUMBER} (-|waits)",
+    "life": f"{NAMED} ({NUMBER}|older) (-|{NUMBER}|older) (-|{NUMBER})", "cycles": f"{NUMBER} {NUMBER} {NUMBER}", "regions": f"{NUMBER} (4|16|64|256|1024) {NUMBER} {NUMBER} {NUMBER} (-|waits)",
     "status": f"(phase (idle|marking)|(place|retained|gray|undrained|unswept|regions|acts) {NUMBER})",
     "dominators": f"{ID} {NUMBER} {NUMBER} {NAMED}", "dominator": f"{ID} {NAMED}",
     "retained": f"{NUMBER} {NUMBER} {NAMED}", "kept": f"{NUMBER} {NUMBER} {NAMED}", "watch": f"{NUMBER} ({NUMBER} {NUMBER}|(null|{ID}) (null|{ID}))",
@@ -110,7 +110,7 @@ def line_by_lot(lot):
         (3, "snap"), (12, "mark"), (8, "drain"), (3, "finish"), (6, f"sweep {lot.randrange(16)}"),
         (1, f"rewind {lot.randrange(1, 30) if lot.randrange(4) == 0 else 2000}"),
         (1, "what is this"), (0.1, "collect"), (1, "histogram -"), (1, "garbage -"), (1, f"kept @{lot.randrange(3000)}"), (1, "registers -"), (1, "pins"),
-        (1, "objects -"), (1, "cells"), (1, "regions"), (1, "status"),
+        (1, "objects -"), (1, "cells"), (1, "regions"), (1, "cycles"), (1, "status"),
         (1, f"path - 0x{0x10000000 + lot.randrange(1 << 12) * 8:08x}"),
         (1, f"retained {lot.choice(['', '- '])}0x{0x10000000 + lot.randrange(1 << 12) * 8:08x}"),
         (1, f"dominators {lot.choice(['', '-', '5', '- 5'])}"),
@@ -121,6 +121,7 @@ def line_by_lot(lot):
         (0.3, f"writes {lot.randrange(3)} {slot}{lot.choice(['', f' @{lot.randrange(3000)}', f' @{lot.randrange(3000)} -'])}"),
         (1, f"values {lot.choice(['', '- '])}{lot.randrange(3)} {slot}"),
         (1, f"history {lot.randrange(30)}"),
+        (0.3, f"life 0x{0x10000000 + lot.randrange(1 << 8) * 32:08x}"),
     )
     return lot.choices([text for _, text in lines], [weight for weight, _ in lines])[0]
 

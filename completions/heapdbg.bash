@@ -2,7 +2,7 @@
 
 _heapdbg() {
     local word=${COMP_WORDS[COMP_CWORD]} before=${COMP_WORDS[COMP_CWORD - 1]}
-    local heap="--regions --mutators --keep --wide --time --ids" commands="run explore draw save serve ask fetch" options
+    local heap="--regions --mutators --keep --wide --area --time --ids" commands="run explore draw save serve ask fetch" options
     COMPREPLY=()
     case $before in
         --ids)
@@ -20,7 +20,7 @@ _heapdbg() {
                 return
             }
             ;;
-        --regions | --mutators | --keep | --time | --port | --to | --sessions | --dumps | --page | --idle)
+        --regions | --mutators | --keep | --area | --time | --port | --to | --sessions | --dumps | --page | --idle)
             return
             ;;
     esac

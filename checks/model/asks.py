@@ -34,6 +34,8 @@ WANTED = {
     "writes": ("ok nothing", "ok some", *UP_TO_A_PLACE[1:], *BY_NAME, "no 2", "no 9"),
     "dropped": ("ok place", "ok older", "ok reached", *UP_TO_A_PLACE, "no 28"),
     "history": ("ok", *UP_TO_A_PLACE),
+    "life": ("ok nothing", "ok some", "ok several"),
+    "cycles": ("ok nothing", "ok some", "ok several"),
     "pins": ("ok",),
     "cells": ("ok",),
     "regions": ("ok",),
@@ -60,7 +62,7 @@ def sorts(word, form, words, left_out, last):
         yield "ok " + {"0": "nothing", "1": "itself"}.get(last[1], "more")
     elif word == b"objects" and "c" in form and last[0] == "ok" and last[1] != "0":
         yield "ok by value" if "v" in form else "ok of class"
-    elif word == b"values" and last[0] == "ok":
+    elif word in (b"values", b"life", b"cycles") and last[0] == "ok":
         yield "ok " + {"0": "nothing", "1": "some"}.get(last[1], "several")
     elif word in (b"watch", b"writes", b"kept", b"diff", b"dominators", b"dominator") and last[0] == "ok":
         below = " below" if word == b"dominators" and "i" in form else ""
@@ -133,7 +135,7 @@ class AskingDraw(Draw):
 
     def ask(self):
         """Asks a question, or for help."""
-        word = self.lots.pick([*QUESTIONS, b"help"])
+        word = self.lots.pick([*QUESTIONS, b"watch", b"writes", b"help"])
         draws = {"a": self.moment, "i": self.identifier, "c": self.asked_class, "s": self.asked_slot, "v": self.held_word}
         draws["p"] = lambda: self.lots.pick(["-", self.retained_place()])
         draws["n"] = lambda: self.lots.near(self.lots.below(8), 70)

@@ -1,5 +1,5 @@
 """Sessions at random, each line drawn with an eye on the state that the model is in."""
-from heap import KINDS, MOST_ELEMENTS, REGISTERS
+from heap import KINDS, MOST_ELEMENTS, MOST_ELEMENTS_WITH_AREA, REGION_WORDS, REGISTERS
 from lots import Lots
 from session import FORMS, Bad, Session, command_of
 from sights import WatchedMachine
@@ -133,7 +133,15 @@ class Draw:
         return min(lots.pick([lots.next() % limit, lots.next() % limit, lots.below(2), limit - 1, limit]), 2**64 - 1)
 
     def length(self):
+        if self.state.area and self.lots.once_in(6):
+            return self.large_length()
         return self.lots.below(self.lots.pick([4, 6, 6, 20, 20, 70, 300, MOST_ELEMENTS + 60, MOST_ELEMENTS + 60]))
+
+    def large_length(self):
+        """Returns a length of more than 1,024, mostly of so few regions that the area has them, or a limit."""
+        lots = self.lots
+        regions = 1 + lots.below(len(self.state.area))
+        return lots.near(REGION_WORDS * regions + lots.pick([-1, 0, 1, 1 + lots.below(900)]), 9000)
 
     def class_number(self, is_array):
         """Returns the number of a class, mostly one of arrays or one of instances."""
@@ -307,7 +315,8 @@ class Draw:
                 self.say("finish")
             for number in numbers if self.lots.once_in(2) else reversed(numbers):
                 self.say("sweep", number)
-        for length in self.lots.pick([(1024, 256, 64, 16, 4), (5, 17, 65, 257, 0), (17, 1024, 3, 9, 65)]):
+        large = self.lots.pick([(3000, 1025), (1030, 2049), (2048,)]) if self.state.area else ()
+        for length in (*large, *self.lots.pick([(1024, 256, 64, 16, 4), (5, 17, 65, 257, 0), (17, 1024, 3, 9, 65)])):
             while self.say("newprim", 0, 7, "long", length):
                 pass
         self.say("rewind", self.machine.place - before)
@@ -416,3 +425,33 @@ class Draw:
         for pin in range(1, pins + 1):
             self.say("close", pin)
         self.say("dump", "-")
+
+    def reach_largest(self):
+        """Makes arrays of as many elements as there may be, where the area has room for one of them and a few regions more."""
+        self.begin()
+        for length in (MOST_ELEMENTS_WITH_AREA + 1, MOST_ELEMENTS_WITH_AREA, MOST_ELEMENTS_WITH_AREA - 1):
+            self.say("newprim", 0, 0, "byte", length)
+        self.say("put", 0, 0, MOST_ELEMENTS_WITH_AREA - 1, 255)
+        self.say("put", 0, 0, MOST_ELEMENTS_WITH_AREA, 1)
+        for length in (1025, 1024, 2049, 1025):
+            self.say("newarray", 0, 1, 1, length)
+        self.say("dump", "-")
+        self.say("rewind", 4)
+        self.say("newarray", 0, 1, 1, MOST_ELEMENTS_WITH_AREA)
+        self.say("clear", 0, 0)
+        for _ in range(2):
+            self.collect_all()
+        self.say("newarray", 0, 1, 1, MOST_ELEMENTS_WITH_AREA)
+        self.say("store", 0, 1, MOST_ELEMENTS_WITH_AREA - 1, 1)
+        self.collect_all()
+        self.say("rewind", self.machine.place)
+
+    def collect_all(self):
+        """Takes a whole cycle, and sweeps what waits."""
+        self.say("snap")
+        while self.state.gray:
+            self.say("mark")
+        self.say("finish")
+        for number, region in enumerate(self.state.regions):
+            if region:
+                self.say("sweep", number)

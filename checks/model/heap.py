@@ -20,6 +20,7 @@ REGION_WORDS = 1024
 REGISTERS = 8
 MOST_SLOTS = 64
 MOST_ELEMENTS = 1024
+MOST_ELEMENTS_WITH_AREA = 2_097_147
 NAME_BYTES = b"ABCDEFGHIJKLMNOPQRSTUVWXYZabcdefghijklmnopqrstuvwxyz0123456789_$/[;."
 SIGNS = bytes(byte for byte in range(0x21, 0x7F) if byte != ord(":"))
 FIRST_OBJECT = 0x10000000
@@ -99,7 +100,8 @@ class Object(NamedTuple):
 
 
 class Region(NamedTuple):
-    """A region in use: its objects by cell, and its free cells, the head of the list first."""
+    """A region in use: its objects by cell, and its free cells, the head of the list first. An object of more than 1,024 slots takes
+    this region and those that follow it, which stay None: the cell is as large as all of them."""
 
     cell_size: int
     pending: bool
@@ -108,13 +110,16 @@ class Region(NamedTuple):
 
 
 class State:
-    """The whole heap. Empty regions are None, and their numbers stand in the pool, its head first."""
+    """The whole heap. Empty regions are None, and their numbers stand in the pool, its head first; but those of the area, the last
+    regions, never do."""
 
-    def __init__(self, regions, mutators, limits=NARROW):
+    def __init__(self, regions, mutators, limits=NARROW, area=0):
         self.limits = limits
+        self.most_elements = MOST_ELEMENTS_WITH_AREA if area else MOST_ELEMENTS
+        self.area = range(regions - area, regions)
         self.classes = ()
         self.regions = [None] * regions
-        self.pool = tuple(range(regions))
+        self.pool = tuple(range(regions - area))
         self.registers = [0] * (REGISTERS * mutators)
         # The ids of gray objects, the last one pushed last.
         self.gray = []
@@ -188,8 +193,24 @@ class State:
 
     # ---- allocation and marking
 
+    def new_large_object(self, what, slots):
+        """Makes an object of more than 1,024 slots in the lowest regions of the area, one after another, that no other takes, and
+        returns its id."""
+        count = -(-slots // REGION_WORDS)
+        untaken = set(self.area)
+        for number in self.area:
+            if self.regions[number]:
+                untaken -= set(range(number, number + self.regions[number].cell_size // REGION_WORDS))
+        fitting = [number for number in self.area if untaken.issuperset(range(number, number + count))]
+        refuse_if(not fitting, 13)
+        thing = Object(what, (0,) * slots, True, self.marking)
+        self.regions[fitting[0]] = Region(REGION_WORDS * count, False, {0: thing}, ())
+        return self.id_of(fitting[0], 0)
+
     def new_object(self, what, slots):
         """Makes an object whose slots are 0, and returns its id."""
+        if slots > REGION_WORDS:
+            return self.new_large_object(what, slots)
         size = next(size for size in CELL_SIZES if slots <= size)
         fitting = [n for n, region in enumerate(self.regions) if region and region.cell_size == size and region.free]
         refuse_if(not fitting and not self.pool, 13)
@@ -270,7 +291,7 @@ def new_array(state, m, r, number, length):
     at = state.register(m, r)
     refuse_if(number >= len(state.classes), 2)
     refuse_if(not state.classes[number].is_array, 10)
-    refuse_if(length > MOST_ELEMENTS, 12)
+    refuse_if(length > state.most_elements, 12)
     state.registers[at] = state.new_object(("array", number), length)
     return "object", state.registers[at]
 
@@ -279,7 +300,7 @@ def new_prim(state, m, r, kind, length):
     """Makes an array of values."""
     at = state.register(m, r)
     refuse_if(kind == "object", 10)
-    refuse_if(length > MOST_ELEMENTS, 12)
+    refuse_if(length > state.most_elements, 12)
     state.registers[at] = state.new_object(("prim", kind), length)
     return "object", state.registers[at]
 
@@ -380,7 +401,7 @@ def sweep(state, number):
         state.regions[number] = Region(region.cell_size, False, kept, (*reversed(dead), *region.free))
     else:
         state.regions[number] = None
-        state.pool = (number, *state.pool)
+        state.pool = state.pool if number in state.area else (number, *state.pool)
     return "swept", len(dead), not kept
 
 

@@ -17,13 +17,13 @@ class Pin:
 class Machine:
     """The retained states, the current one last, and the open pins by their numbers."""
 
-    def __init__(self, regions=16, mutators=2, keep=1024, time=0, ids=8, wide=0):
+    def __init__(self, regions=16, mutators=2, keep=1024, time=0, ids=8, wide=0, area=0):
         self.keep = keep
         self.time = time
         self.ids = ids
         self.place = 0
         self.limits = WIDE if wide else NARROW
-        self.states = [State(regions, mutators, self.limits)]
+        self.states = [State(regions, mutators, self.limits, area)]
         # The events that led to all states but the oldest.
         self.events = []
         self.pins = {}

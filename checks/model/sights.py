@@ -11,6 +11,7 @@ STEPS = {
     "an object in a fresh region": (150, 30),
     "an object in a region in use": (1500, 300),
     "an object beyond region 32, in use": (50, 10),
+    "an object of more than 1,024 slots": (50, 10),
     "a register written or a value read": (1500, 300),
     "a value written": (500, 100),
     "a reference written, nothing logged": (500, 100),
@@ -30,6 +31,7 @@ STEPS = {
     "a region swept of some": (100, 20),
     "a region swept of none": (50, 10),
     "a region swept of all": (60, 10),
+    "a large object swept": (15, 3),
     "a region made again with cells of another size": (20, 0),
 }
 # How often each has to be met at least.
@@ -62,6 +64,7 @@ PINS = {
     "a reference written": 50,
     "a region swept of some": 20,
     "a region swept of all": 20,
+    "a large object swept": 3,
     "a region made again": 10,
     "an object in a cell of its image": 10,
     "a rewind to its place": 8,
@@ -73,7 +76,7 @@ PINS = {
     "lost after a piece": 5,
 }
 # The steps after which a pin has to keep something, and what is noted of it then.
-OVERWRITING = ("a value written", "a reference written", "a region swept of some", "a region swept of all")
+OVERWRITING = ("a value written", "a reference written", "a region swept of some", "a region swept of all", "a large object swept")
 OVERWRITTEN = "something overwritten"
 WORDS = (
     "class array new newarray newprim load store put move clear snap mark drain finish sweep rewind open piece dump close"
@@ -92,6 +95,8 @@ def sight_of_store(before, event):
 def sight_of_object(before, after, word):
     """Returns what a new object comes to."""
     number, _ = after.place_of(word)
+    if number in after.area:
+        return "an object of more than 1,024 slots"
     if before.regions[number] is None:
         return "an object in a fresh region"
     return "an object beyond region 32, in use" if number >= 32 else "an object in a region in use"
@@ -117,6 +122,8 @@ def sight_of(event, answer, before, after):
         return f"an entry drained, {answer[1]} pushed"
     if word == "finish":
         return "a cycle ended, " + ("something logged" if before.log else "nothing logged")
+    if word == "sweep" and event[1] in before.area and answer[2]:
+        return "a large object swept"
     if word == "sweep":
         return "a region swept of " + ("all" if answer[2] else "some" if answer[1] else "none")
     return "a register written or a value read"

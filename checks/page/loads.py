@@ -46,6 +46,14 @@ MANY = """(() => {
   heapdbg.M.fresh = true;
   return rows.length;
 })()"""
+# Draws an object in a cell of three regions, and returns the regions that the map has, and what it says of the last.
+LARGE = """(() => {
+  const { S, M } = heapdbg, rows = ["row 0x10000000 A 4", "row 0x1000a000 B 3000 unreached"];
+  S.regions = heapdbg.regionsOf(new TextEncoder().encode(rows.join("\\n") + "\\nok 2\\n")).regions;
+  M.fresh = true;
+  heapdbg.drawMap();
+  return [M.list.map((g) => g.number), heapdbg.cellText({ g: M.list[3], cell: 0 }).split("\\n")];
+})()"""
 # Draws the map at a zoom, and returns how many regions were drawn, and how long that took.
 DRAW = """(() => {{
   const {{ M }} = heapdbg;
@@ -140,6 +148,7 @@ def few(program):
             yield from small(tab)
             yield from scrolled(tab, heap)
             yield from many(tab)
+            yield from large(tab)
             yield "complaints of the browser", tab.faults(), []
         finally:
             tab.close()
@@ -183,6 +192,14 @@ def many(tab):
         yield f"drawn soon at zoom {zoom}", took < 250 or took, True
     yield from zoomed(tab, 4000, 10, ["region 4000", "cell 10 of 16 words", "0x%x" % (0x10000000 + 4000 * 8192 + 10 * 16 * 8)], picked=False)
     tab.key("0")
+
+
+def large(tab):
+    """The map of an object that takes three regions."""
+    numbers, said = tab.value(LARGE)
+    yield "the regions of a large object", numbers, [0, 5, 6, 7]
+    yield "where it is", said[:2], ["regions 5 to 7, one cell of 3072 words", "B"]
+    yield "its id and slots", said[2].startswith("0x1000a000, 3,000 slots") or said, True
 
 
 def full(program):

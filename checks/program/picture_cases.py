@@ -43,6 +43,20 @@ LIMIT = 2_000_000
 LARGE = b"class Node - next:object\n" + b"newprim 0 0 long 1024\n" * 1_025 + b"new 0 0 0\n"
 LARGE_STROKES = {("#4269d0", "9"): 1_024 + 1, ("#efb118", "9"): 1, ("#9498a0", "9"): 2 + 1, ("#eeeeee", "9"): 1, ("url(#dead)", "9"): 1}
 LARGE_BARS = [(1_025, 0, 14), (1_025, 16, 17)]
+# A node, an array in three regions and one in two, all of them gray: of the arrays each region has a stroke.
+AREA = b"class Node - next:object\nnew 0 0 0\nnewprim 0 1 long 3000\nnewprim 0 2 byte 2000\nsnap\n"
+AREA_STROKES = {
+    ("#4269d0", "9"): 3 + 1,
+    ("#efb118", "9"): 2 + 1,
+    ("#ff725c", "9"): 1 + 1,
+    ("#9498a0", "9"): 1,
+    ("#eeeeee", "9"): 255 + 1,
+    ("url(#dead)", "9"): 1,
+    ("#000000", "2"): 6 + 1,
+    ("#e00000", "2"): 6 + 1,
+}
+# A node, and an array in 1,025 regions, of which 1,024 have a row, and the last has a bar of 14 points.
+AREA_LARGE = b"class Node - next:object\nnew 0 0 0\nnewprim 0 1 long 1049600\n"
 # Where a stroke for each cell of four words of 256 regions runs: in which row, from which pixel to which.
 ROWS = [(region, 4 * cell, 4 * cell + 3) for region in range(256) for cell in range(256)]
 # Lines with a comment, a question and `collect`, of which three are reported, what they are answered, and what is said of them.
@@ -144,10 +158,23 @@ def large_pictures(program):
     yield "a large full heap", seen, (0, True, True, 1_100)
 
 
+def area_pictures(program):
+    """Yields pictures of objects that take several regions, in the same form."""
+    status, root, _, _, error = drawn(program, AREA, "--wide", "1", "--regions", "8", "--area", "6")
+    yield "objects of several regions", (status, error, strokes_of(root)), (0, b"", AREA_STROKES)
+    rows = [(2, 0, 1023), (3, 0, 1023), (4, 0, 1023)]
+    path = next(path.get("d") for path in root.iter(PATH) if path.get("stroke") == "#4269d0")
+    yield "the rows of one", ([((height - 40) // 12, x - 40, end - 40) for height, x, end in strokes_in(path)],), (rows,)
+    status, root, _, _, error = drawn(program, AREA_LARGE, "--wide", "1", "--regions", "1030", "--area", "1028")
+    seen = status, error, strokes_of(root)[("#4269d0", "9")], bars_of(root)
+    yield "an object with more regions than have a row", seen, (0, b"", 1_024 + 1, [(1_025, 0, 1), (1_025, 32, 46)])
+
+
 def pictures(program):
     """Yields pictures as (name, what happened, what must happen)."""
     yield from small_pictures(program)
     yield from large_pictures(program)
+    yield from area_pictures(program)
 
 
 def small_pictures(program):

@@ -17,7 +17,7 @@ import time
 import unittest
 
 import heapdbg
-from heapdbg import BadCommand, Cells, Collected, Ended, Field, Now, ObjectId, Piece, Pin, PinAt, Place, Refused, RegionRow, Session, Swept, fetch
+from heapdbg import BadCommand, Cells, Collected, Ended, EndedCycle, Field, Now, ObjectId, Piece, Pin, PinAt, Place, Refused, RegionRow, Session, Swept, fetch
 
 PROGRAM = os.path.abspath(sys.argv[1]) if len(sys.argv) > 1 else "heapdbg"
 NODE = [("next", "object"), ("v", "long")]
@@ -223,6 +223,44 @@ class Replies(unittest.TestCase):
         self.assertEqual(rows, [RegionRow(0, 4, 5, 3, 2, True), RegionRow(7, 64, 1, 1, 0, False)])
         self.assertEqual((rows[0].dead, rows[1].waits, heap.regions()), (2, False, []))
         self.assertEqual(heap.writer.getvalue(), b"regions\nregions\n")
+        self.assertEqual([row.taken for row in rows], [range(0, 1), range(7, 8)])
+        self.assertEqual(RegionRow(12, 3072, 1, 1, 0, False).taken, range(12, 15))
+
+    def test_life(self):
+        heap = canned("row Node older 7 9", "row long[] 12 - -", "row Node older older -", "ok 3", "ok 0")
+        rows = heap.life(0x10000000)
+        self.assertEqual(rows, [("Node", "older", 7, 9), ("long[]", 12, None, None), ("Node", "older", "older", None)])
+        self.assertEqual((rows[0].class_name, rows[1].born, rows[0].lost, rows[0].swept), ("Node", 12, 7, 9))
+        self.assertEqual((heap.life(16), heap.writer.getvalue()), ([], b"life 0x10000000\nlife 0x00000010\n"))
+
+    def test_life_of_a_heap(self):
+        with session("--questions", "1") as heap:
+            heap.define_class("Node", NODE)
+            heap.new(0, 0, 0)
+            lost = heap.new(0, 1, 0)
+            heap.clear(0, 1)
+            heap.collect()
+            self.assertEqual(heap.life(heap.new(0, 1, 0)), [("Node", 3, 4, 8), ("Node", 9, None, None)])
+            self.assertEqual([row.born for row in heap.life(lost)], [3, 9])
+
+    def test_cycles(self):
+        heap = canned("row 9 2 2", "row 17 3 0", "ok 2", "ok 0")
+        rows = heap.cycles()
+        self.assertEqual(rows, [(9, 2, 2), (17, 3, 0)])
+        self.assertEqual((rows[1].place, rows[1].condemned, rows[1].swept, heap.cycles()), (17, 3, 0, []))
+        self.assertEqual(heap.writer.getvalue(), b"cycles\ncycles\n")
+
+    def test_cycles_of_a_heap(self):
+        with session("--questions", "1") as heap:
+            heap.define_class("Node", NODE)
+            heap.new(0, 0, 0)
+            heap.new(0, 0, 0)
+            heap.collect()
+            heap.snap()
+            heap.mark()
+            self.assertEqual(heap.cycles(), [EndedCycle(6, 1, 1)])
+            heap.finish()
+            self.assertEqual(heap.cycles(), [EndedCycle(6, 1, 1), EndedCycle(10, 0, 0)])
 
     def test_regions_of_a_heap(self):
         with session("--questions", "1") as heap:
@@ -373,6 +411,13 @@ class Explored(unittest.TestCase):
                     with self.assertRaises(Refused) as caught:
                         heap.define_array("A256")
                     self.assertEqual(caught.exception.number, 3)
+
+    def test_an_area(self):
+        with Session.explore(PROGRAM, wide=True, regions=4, area=3) as heap:
+            self.assertEqual(heap.new_values(0, 0, "byte", 3000), 0x10002000)
+            with self.assertRaises(Refused) as caught:
+                heap.new_values(0, 1, "byte", 1025)
+            self.assertEqual(caught.exception.number, 13)
 
     def test_a_page(self):
         port = free_port()

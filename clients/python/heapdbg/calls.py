@@ -12,8 +12,10 @@ from .rows import (
     ClassRow,
     Collected,
     Dominator,
+    EndedCycle,
     HeldPin,
     Holding,
+    Life,
     ListedObject,
     LostPin,
     NullRegister,
@@ -43,10 +45,12 @@ from .rows import (
     defined,
     difference,
     dominating,
+    ended,
     facts_by_name,
     grown,
     holding,
     listed,
+    lived,
     loaded,
     number,
     open_pin,
@@ -293,6 +297,14 @@ class Calls:
         """Returns a `PastStep` for each of the newest retained steps, or of those that led to a `Place`, the newest first. A pin has
         no history."""
         return self.send(f"history {word_of_moment(moment)} {count}", rows_by(past))
+
+    def life(self, of: int) -> list[Life]:
+        """Returns a `Life` for each object that had an id in a retained state, the oldest first."""
+        return self.send(f"life {ObjectId(of)}", rows_by(lived))
+
+    def cycles(self) -> list[EndedCycle]:
+        """Returns an `EndedCycle` for each retained step that ended a cycle, the oldest first."""
+        return self.send("cycles", rows_by(ended))
 
     def pins(self) -> list[Union[HeldPin, LostPin]]:
         """Returns a `HeldPin` or a `LostPin` for each open pin."""

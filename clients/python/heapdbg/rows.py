@@ -271,6 +271,25 @@ class Cells(NamedTuple):
     letters: str
 
 
+class Life(NamedTuple):
+    """An object that had an id: its class, the place of the step that made it, `"older"` if none of the retained steps did; the place
+    since which no register reached it, `"older"` if none did in any retained state, or None if one did to the last; and the place of
+    the step that removed it, or None if it is still there."""
+
+    class_name: str
+    born: Union[int, str]
+    lost: Union[int, str, None]
+    swept: Optional[int]
+
+
+class EndedCycle(NamedTuple):
+    """A cycle that a step ended: the place of the step, how many objects it condemned, and how many of these sweeps removed."""
+
+    place: int
+    condemned: int
+    swept: int
+
+
 class RegionRow(NamedTuple):
     """A region in use: its number, the words of a cell, its objects, those that are live, those that aren't, and whether it waits
     to be swept."""
@@ -281,6 +300,11 @@ class RegionRow(NamedTuple):
     live: int
     dead: int
     waits: bool
+
+    @property
+    def taken(self) -> range:
+        """The regions that are taken: this one alone, or those that its one object takes, from this one on."""
+        return range(self.region, self.region + max(1, self.size // 1024))
 
 
 # What turns the words after `ok` and the lines before them into a value, and the words of a row into its values.
@@ -395,6 +419,17 @@ def cells_of(row: list) -> Cells:
     """Reads REGION SIZE - LETTERS, or REGION SIZE sweep LETTERS."""
     region, size, waits, letters = row
     return Cells(int(region), int(size), waits == "sweep", letters)
+
+
+def lived(row: list) -> Life:
+    """Reads CLASS BORN LOST SWEPT, of which BORN and LOST are places or `older`, and LOST and SWEPT may be `-`."""
+    born, lost, swept = (None if word == "-" else word if word == "older" else int(word) for word in row[1:])
+    return Life(row[0], born, lost, swept)
+
+
+def ended(row: list) -> EndedCycle:
+    """Reads PLACE CONDEMNED SWEPT."""
+    return EndedCycle(*map(int, row))
 
 
 def region_of(row: list) -> RegionRow:

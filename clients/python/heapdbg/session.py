@@ -175,6 +175,7 @@ class Session(Calls):
         mutators: Optional[int] = None,
         keep: Optional[int] = None,
         wide: bool = False,
+        area: Optional[int] = None,
         time: Optional[int] = None,
         ids: Optional[int] = None,
         load: Optional[str] = None,
@@ -186,7 +187,7 @@ class Session(Calls):
         """Starts `heapdbg explore` on a heap of its own, with these options; `load` is the path of a file of lines that run first
         (`--from`), `hprof` that of a heap dump whose heap is made first (`--hprof`), and the address of a `page` is in `text`
         after the first reply. As nobody else acts on this heap, the session is batched unless `batched` is False."""
-        options = dict(regions=regions, mutators=mutators, keep=keep, time=time, ids=ids, page=page)
+        options = dict(regions=regions, area=area, mutators=mutators, keep=keep, time=time, ids=ids, page=page)
         words = [word for name, value in options.items() if value is not None for word in (f"--{name}", str(value))]
         words += ["--wide", "1"] if wide else []
         words += [] if load is None else ["--from", str(load)]

@@ -45,6 +45,7 @@ pub record IsUndoing (s : MarkState) (n : ℕ) (before now : RegionPool) (first 
   pub left : unshaded n (at_work now.regions m) ≡ s
   pub room : m.room ≡ first.room
   pub pool : now.pool ≡ before.pool
+  pub area : now.area_start ≡ before.area_start
   pub within : n ≤ length m.gray
   pub names : (x : ℕ) → Contains m.gray x → IsSome (object_of now.regions x)
 
@@ -60,6 +61,7 @@ one_more_shade_undone s n before now after first m r h is pool = subst (λ (v : 
       left = sym (unshaded_more n (at_work now.regions m)) ∙ h.left;
       room = h.room;
       pool = h.pool;
+      area = h.area;
       within = omega (arith, ap length e, h.within, ap (λ (u : MarkState). length u.gray) (unshaded_top (at_work now.regions m) x rest e));
       names = λ y c. subst (λ (u : MarkState). IsSome (object_of u.regions y)) (sym (unshaded_top (at_work now.regions m) x rest e))
           (id_still_names_object_shaded (with_mark_of false x now.regions) now.regions y (only_marked false x now.regions)
@@ -70,7 +72,7 @@ pub all_shades_undone : (s : MarkState) (n : ℕ) (before now : RegionPool) (fir
 all_shades_undone s n before now first m none h =
     let left : at_work now.regions m ≡ s = sym (unshaded_none (at_work now.regions m)) ∙ ap (λ (k : ℕ). unshaded k (at_work now.regions m)) (sym none) ∙ h.left in (
       λ i. record { gray = (left i).gray; room = h.room i; log = (left i).log; drained = (left i).drained; phase = (left i).phase },
-      λ i. record { regions = (left i).regions; pool = h.pool i },
+      λ i. record { regions = (left i).regions; pool = h.pool i; area_start = h.area i },
     )
 
 -- the top is on the stack

@@ -1,5 +1,5 @@
 -- The room of the gray stack: there are no more ids of objects than cells.
-use Rattle.std.proofs.Common.{◌≡◌, ℕ, zero, suc, ◌+◌, ◌*◌, ◌/◌, ◌<◌, ◌≤◌, Bool, true, false, List, [], ◌∷◌, length, map, refl, sym, ap, subst, ◌∙◌, Option, Some, None, IsSome, Contains, arith, get_or}
+use Rattle.std.proofs.Common.{◌≡◌, ℕ, ◌+◌, ◌*◌, ◌<◌, ◌≤◌, Bool, true, false, List, [], ◌∷◌, length, map, refl, sym, ap, subst, ◌∙◌, Option, Some, None, IsSome, Contains, arith}
 use Rattle.std.specs.Prelude.{nat_eq, ◌||◌}
 use Rattle.std.specs.Option.{option_map_or}
 use Rattle.std.specs.List.{IsDistinct, AllByRecursion, list_any}
@@ -7,10 +7,10 @@ use Rattle.std.proofs.lemmas.Bool.{eqb-true, eq-eqb, ne_eqb}
 use Rattle.std.proofs.lemmas.Option.{slice_get_within}
 use Rattle.std.proofs.lemmas.Map.Steps.{length-le_from_distinct_below}
 use Rattle.heap_class.specs.declared.ObjRef.{ObjRef}
-use Rattle.heap_region.specs.Limits.{cell_sizes}
 use Rattle.heap_region.specs.Regions.{Object, UsedRegion, Region, used_at, object_at, object_of, ref_of}
 use Rattle.heap_region.specs.Pool.{RegionPool}
 use Rattle.heap_region.specs.Legal.{IsCellTable, IsRegionPool}
+use Rattle.heap_region.proofs.BlockSizes.{listed_size_bounds}
 use Rattle.heap_region.proofs.ChangedLookups.{place_of_object_of_id, ref_injective}
 use Rattle.heap_region.proofs.Lookups.{used_region_stands_in_list}
 use Rattle.heap_region.proofs.References.{list_has_its_head, list_has_items_of_tail}
@@ -53,17 +53,6 @@ distinct_items_fit_their_numbers f n xs below same d = let h : length (map f xs)
 abbrev own_number_of_each_place : List Region → ℕ → ℕ
 own_number_of_each_place regions x = option_map_or (λ (at : ObjRef). 256 * at.region + at.cell) (ref_of regions x) 0
 
-cells_of_listed_size_few : (size : ℕ) → Contains cell_sizes size → 1024 / size ≤ 256
-cells_of_listed_size_few size c = subst (λ s. 1024 / s ≤ 256) c.2 (at_index c.0 c.1)
-  where
-    at_index : (k : ℕ) → k < 5 → 1024 / get_or cell_sizes k size ≤ 256
-    at_index zero h = omega arith
-    at_index (suc zero) h = omega arith
-    at_index (suc (suc zero)) h = omega arith
-    at_index (suc (suc (suc zero))) h = omega arith
-    at_index (suc (suc (suc (suc zero)))) h = omega arith
-    at_index (suc (suc (suc (suc (suc k))))) h = absurd (omega (arith, h))
-
 cell_below : (p : RegionPool) (at : ObjRef) → IsRegionPool p → IsSome (object_at p.regions at) → (at.cell < 256) × (at.region < length p.regions)
 cell_below p at legal there = go (used_at p.regions at.region) refl (used_by_object p.regions at there)
   where
@@ -72,7 +61,7 @@ cell_below p at legal there = go (used_at p.regions at.region) refl (used_by_obj
     go (Some u) e h =
         let table : IsCellTable u = legal.tables at.region u e in
         let cell : at.cell < length u.cells = in_use_within u.cells at.cell (rw (object_here p.regions at u e) at there) in
-        (omega (arith, cell, table.cells, cells_of_listed_size_few u.cell_size table.size), slice_get_within p.regions at.region _ (used_region_stands_in_list p.regions at.region u e))
+        (omega (arith, cell, table.cells, (listed_size_bounds u.cell_size table.size).1), slice_get_within p.regions at.region _ (used_region_stands_in_list p.regions at.region u e))
 
 -- where an id that names an object is placed
 pub place_of_named_object : (regions : List Region) (x : ℕ) → IsSome (object_of regions x) → (at : ObjRef) × (ref_of regions x ≡ Some at) × IsSome (object_at regions at)

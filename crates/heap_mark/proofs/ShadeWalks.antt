@@ -67,24 +67,25 @@ pub record IsUnderWay (s : MarkState) (rest : List ℕ) (before now : RegionPool
   pub left : fold shaded (at_work now.regions m) rest ≡ s
   pub room : m.room ≡ first.room
   pub pool : now.pool ≡ before.pool
+  pub area : now.area_start ≡ before.area_start
   pub sound : IsGraySound now.regions m
   pub same : without_marks now.regions ≡ without_marks before.regions
 
 pub shade_walk_begins : (ids : List ℕ) (before : RegionPool) (first : MarkerState) → IsGraySound before.regions first → IsUnderWay (fold shaded (at_work before.regions first) ids) ids before before first first
-shade_walk_begins ids before first h = record { left = refl; room = refl; pool = refl; sound = h; same = refl }
+shade_walk_begins ids before first h = record { left = refl; room = refl; pool = refl; area = refl; sound = h; same = refl }
 
 -- one id less
 pub shade_walk_past_one_id : (s : MarkState) (x : ℕ) (rest : List ℕ) (before now after : RegionPool) (first m n : MarkerState) → IsUnderWay s (x ∷ rest) before now first m → n ≡ after_work (shaded (at_work now.regions m) x) m → after ≡ record now { regions = (shaded (at_work now.regions m) x).regions } → IsUnderWay s rest before after first n
 shade_walk_past_one_id s x rest before now after first m n h is pool = subst (λ (v : RegionPool). IsUnderWay s rest before v first n) (sym pool) (subst (λ (v : MarkerState). IsUnderWay s rest before (record now { regions = (shaded (at_work now.regions m) x).regions }) first v) (sym is) done)
   where
     done : IsUnderWay s rest before (record now { regions = (shaded (at_work now.regions m) x).regions }) first (after_work (shaded (at_work now.regions m) x) m)
-    done = record { left = h.left; room = h.room; pool = h.pool; sound = sound_shaded now.regions m x h.sound; same = same_shaded (at_work now.regions m) x ∙ h.same }
+    done = record { left = h.left; room = h.room; pool = h.pool; area = h.area; sound = sound_shaded now.regions m x h.sound; same = same_shaded (at_work now.regions m) x ∙ h.same }
 
 -- none left
 pub shade_walk_without_ids_left : (s : MarkState) (before now : RegionPool) (first m : MarkerState) → IsUnderWay s [] before now first m → (m ≡ after_work s first) × (now ≡ record before { regions = s.regions })
 shade_walk_without_ids_left s before now first m h = (
   λ i. record { gray = (h.left i).gray; room = h.room i; log = (h.left i).log; drained = (h.left i).drained; phase = (h.left i).phase },
-  λ i. record { regions = (h.left i).regions; pool = h.pool i },
+  λ i. record { regions = (h.left i).regions; pool = h.pool i; area_start = h.area i },
 )
 
 -- ---- slots
@@ -149,7 +150,7 @@ slots_at ks ws i k w kin win kind word =
     λ j. references_among (ks_at j) (ws_at j)
 
 pub field_shaded : (s : MarkState) (ks : List Kind) (ws : List ℕ) (i : ℕ) (k : Kind) (w : ℕ) (before now after : RegionPool) (first m n : MarkerState) → i < length ks → i < length ws → k ≡ get_or ks i Kind.Object → w ≡ get_or ws i 0 → is_reference k ≡ true → IsUnderWay s (references_among (drop i ks) (drop i ws)) before now first m → n ≡ after_work (shaded (at_work now.regions m) w) m → after ≡ record now { regions = (shaded (at_work now.regions m) w).regions } → IsUnderWay s (references_among (drop (i + 1) ks) (drop (i + 1) ws)) before after first n
-field_shaded s ks ws i k w before now after first m n kin win kind word refers h = shade_walk_past_one_id s w (references_among (drop (i + 1) ks) (drop (i + 1) ws)) before now after first m n (record { left = sym (slot_shaded (at_work now.regions m) k (drop (i + 1) ks) w (drop (i + 1) ws) refers) ∙ ap (fold shaded (at_work now.regions m)) (sym (slots_at ks ws i k w kin win kind word)) ∙ h.left; room = h.room; pool = h.pool; sound = h.sound; same = h.same })
+field_shaded s ks ws i k w before now after first m n kin win kind word refers h = shade_walk_past_one_id s w (references_among (drop (i + 1) ks) (drop (i + 1) ws)) before now after first m n (record { left = sym (slot_shaded (at_work now.regions m) k (drop (i + 1) ks) w (drop (i + 1) ws) refers) ∙ ap (fold shaded (at_work now.regions m)) (sym (slots_at ks ws i k w kin win kind word)) ∙ h.left; room = h.room; pool = h.pool; area = h.area; sound = h.sound; same = h.same })
 
 pub field_passed : (s : MarkState) (ks : List Kind) (ws : List ℕ) (i : ℕ) (k : Kind) (before now : RegionPool) (first m : MarkerState) → i < length ks → i < length ws → k ≡ get_or ks i Kind.Object → is_reference k ≡ false → IsUnderWay s (references_among (drop i ks) (drop i ws)) before now first m → IsUnderWay s (references_among (drop (i + 1) ks) (drop (i + 1) ws)) before now first m
 field_passed s ks ws i k before now first m kin win kind other h = subst (λ (rest : List ℕ). IsUnderWay s rest before now first m) (slots_at ks ws i k (get_or ws i 0) kin win kind refl ∙ slot_passed k (drop (i + 1) ks) (get_or ws i 0) (drop (i + 1) ws) other) h

@@ -2,7 +2,7 @@
 
 // The policy of the page.
 pub(crate) const POLICY: &str =
-    "default-src 'none'; script-src 'sha256-dNgvP01f+TZFc5UMkFKmo9+onTKZQ5g4pATDR7xfXCU='; style-src 'sha256-rwptB6V3j7C9RUYU45deu6HKvCkiW6lYFRte+Sm6CU4='; img-src data:; connect-src 'self'; base-uri 'none'; form-action 'none'; frame-ancestors 'none'";
+    "default-src 'none'; script-src 'sha256-66MXV/Bz87MN1mQqdakWsZGh6fEeaYkhHCrCPqVY/c8='; style-src 'sha256-rwptB6V3j7C9RUYU45deu6HKvCkiW6lYFRte+Sm6CU4='; img-src data:; connect-src 'self'; base-uri 'none'; form-action 'none'; frame-ancestors 'none'";
 
 // The page.
 pub(crate) const PAGE: &[u8] = b"<!doctype html>\n\
@@ -410,7 +410,7 @@ pub(crate) const PAGE: &[u8] = b"<!doctype html>\n\
     \x20\x20const idOf = (word) => \"0x\" + (BASE + word * 8).toString(16).padStart(8, \"0\");\n\
     \x20\x20const wordOf = (id) => (parseInt(id, 16) - BASE) / 8;\n\
     \x20\x20// Of each cell its object, as a number: that of its class's name among `names`, then its slots and whether no register reaches it. 0 if\n\
-    \x20\x20// there is none.\n\
+    \x20\x20// there is none. The one object of a region whose cell takes several regions may have more slots: `slots` are its.\n\
     \x20\x20const regionOf = (size, number, names) => ({\n\
     \x20\x20\x20\x20number,\n\
     \x20\x20\x20\x20size,\n\
@@ -418,14 +418,20 @@ pub(crate) const PAGE: &[u8] = b"<!doctype html>\n\
     \x20\x20\x20\x20sweep: false,\n\
     \x20\x20\x20\x20letters: \"\",\n\
     \x20\x20\x20\x20names,\n\
-    \x20\x20\x20\x20cells: new Uint32Array(WORDS / size)\n\
+    \x20\x20\x20\x20slots: 0,\n\
+    \x20\x20\x20\x20cells: new Uint32Array(Math.max(1, WORDS / size))\n\
     \x20\x20});\n\
     \x20\x20const NAME = 4096;\n\
+    \x20\x20const sizeFor = (slots) => SIZES.find((size) => size >= slots) || WORDS * Math.ceil(slots / WORDS);\n\
+    \n\
+    \x20\x20// Returns what the map shows of a region: itself, or if its cell takes several regions, a part for each of these, with one cell.\n\
+    \x20\x20const partsOf = (g) => g.size <= WORDS ? [g] : Array.from({ length: g.size / WORDS }, (_, k) => ({ ...g, number: g.number + k, size: WORDS, whole: g }));\n\
     \n\
     \x20\x20// Returns the object in a cell, if there is one.\n\
     \x20\x20function objectIn(g, cell) {\n\
-    \x20\x20\x20\x20const of = g.cells[cell];\n\
-    \x20\x20\x20\x20return of ? { w: g.number * WORDS + cell * g.size, name: g.names[Math.floor(of / NAME)], slots: of % NAME >> 1, lost: of % 2 === 1 } : undefined;\n\
+    \x20\x20\x20\x20const of = g.cells[cell],\n\
+    \x20\x20\x20\x20\x20\x20first = (g.whole || g).number;\n\
+    \x20\x20\x20\x20return of ? { w: first * WORDS + cell * g.size, name: g.names[Math.floor(of / NAME)], slots: g.slots || of % NAME >> 1, lost: of % 2 === 1 } : undefined;\n\
     \x20\x20}\n\
     \x20\x20const ID = \"row 0x\".length,\n\
     \x20\x20\x20\x20END = ID + 8,\n\
@@ -455,7 +461,7 @@ pub(crate) const PAGE: &[u8] = b"<!doctype html>\n\
     \x20\x20\x20\x20\x20\x20if (same && same.size === size && isSame(bytes, same.at, at, size)) return same;\n\
     \x20\x20\x20\x20\x20\x20const [, name, slots, lost] = textOf(bytes, at, to).split(\" \");\n\
     \x20\x20\x20\x20\x20\x20if (!names.includes(name)) names.push(name);\n\
-    \x20\x20\x20\x20\x20\x20const end = { at, size, of: names.indexOf(name) * NAME + slots * 2 + (lost ? 1 : 0) };\n\
+    \x20\x20\x20\x20\x20\x20const end = { at, size, slots: +slots, of: names.indexOf(name) * NAME + (slots > WORDS ? 0 : slots * 2) + (lost ? 1 : 0) };\n\
     \x20\x20\x20\x20\x20\x20known.set(sum, end);\n\
     \x20\x20\x20\x20\x20\x20return end;\n\
     \x20\x20\x20\x20};\n\
@@ -468,7 +474,7 @@ pub(crate) const PAGE: &[u8] = b"<!doctype html>\n\
     \x20\x20\x20\x20\x20\x20names = [\"\"],\n\
     \x20\x20\x20\x20\x20\x20endAt = numbering(bytes, names),\n\
     \x20\x20\x20\x20\x20\x20tally = new Map();\n\
-    \x20\x20\x20\x20let end = { at: 0, size: 0, of: 0 },\n\
+    \x20\x20\x20\x20let end = { at: 0, size: 0, slots: 0, of: 0 },\n\
     \x20\x20\x20\x20\x20\x20count = 0,\n\
     \x20\x20\x20\x20\x20\x20g = null,\n\
     \x20\x20\x20\x20\x20\x20i = 0;\n\
@@ -476,7 +482,7 @@ pub(crate) const PAGE: &[u8] = b"<!doctype html>\n\
     \x20\x20\x20\x20\x20\x20let k = 0;\n\
     \x20\x20\x20\x20\x20\x20while (k < end.size && bytes[end.at + k] === bytes[i + END + k]) k++;\n\
     \x20\x20\x20\x20\x20\x20if (k < end.size || k === 0) {\n\
-    \x20\x20\x20\x20\x20\x20\x20\x20addTo(tally, names, end.of, count);\n\
+    \x20\x20\x20\x20\x20\x20\x20\x20addTo(tally, names, end, count);\n\
     \x20\x20\x20\x20\x20\x20\x20\x20count = 0;\n\
     \x20\x20\x20\x20\x20\x20\x20\x20end = endAt(i + END);\n\
     \x20\x20\x20\x20\x20\x20}\n\
@@ -488,23 +494,24 @@ pub(crate) const PAGE: &[u8] = b"<!doctype html>\n\
     \x20\x20\x20\x20\x20\x20if (!g || word >>> 10 !== g.number) {\n\
     \x20\x20\x20\x20\x20\x20\x20\x20const number = word >>> 10;\n\
     \x20\x20\x20\x20\x20\x20\x20\x20g = regions.get(number);\n\
-    \x20\x20\x20\x20\x20\x20\x20\x20if (!g) regions.set(number, g = regionOf(SIZES.find((s) => s >= end.of % NAME >> 1), number, names));\n\
+    \x20\x20\x20\x20\x20\x20\x20\x20if (!g) regions.set(number, g = regionOf(sizeFor(end.slots), number, names));\n\
+    \x20\x20\x20\x20\x20\x20\x20\x20if (end.slots > WORDS) g.slots = end.slots;\n\
     \x20\x20\x20\x20\x20\x20}\n\
     \x20\x20\x20\x20\x20\x20g.cells[word % WORDS >> g.shift] = end.of;\n\
     \x20\x20\x20\x20}\n\
-    \x20\x20\x20\x20addTo(tally, names, end.of, count);\n\
+    \x20\x20\x20\x20addTo(tally, names, end, count);\n\
     \x20\x20\x20\x20return { ok: bytes[i] === O, regions, tally };\n\
     \x20\x20}\n\
     \n\
     \x20\x20// Adds objects of one class and size to those that were counted.\n\
-    \x20\x20function addTo(tally, names, of, count) {\n\
+    \x20\x20function addTo(tally, names, end, count) {\n\
     \x20\x20\x20\x20if (!count) return;\n\
-    \x20\x20\x20\x20const name = names[Math.floor(of / NAME)],\n\
-    \x20\x20\x20\x20\x20\x20slots = (of % NAME >> 1) * count;\n\
+    \x20\x20\x20\x20const name = names[Math.floor(end.of / NAME)],\n\
+    \x20\x20\x20\x20\x20\x20slots = end.slots * count;\n\
     \x20\x20\x20\x20let t = tally.get(name);\n\
     \x20\x20\x20\x20if (!t) tally.set(name, t = { slots: 0, lost: 0, lostSlots: 0 });\n\
     \x20\x20\x20\x20t.slots += slots;\n\
-    \x20\x20\x20\x20if (of % 2 === 0) return;\n\
+    \x20\x20\x20\x20if (end.of % 2 === 0) return;\n\
     \x20\x20\x20\x20t.lost += count;\n\
     \x20\x20\x20\x20t.lostSlots += slots;\n\
     \x20\x20}\n\
@@ -1716,7 +1723,7 @@ pub(crate) const PAGE: &[u8] = b"<!doctype html>\n\
     \x20\x20// Takes the regions of the shown state, and keeps the cell in the middle there.\n\
     \x20\x20function takeRegions(w, h) {\n\
     \x20\x20\x20\x20const middle = M.zoom > 1 && M.w ? cellAt(M.w / 2, M.h / 2) : null;\n\
-    \x20\x20\x20\x20M.list = [...S.regions.values()].sort((a, b) => a.number - b.number);\n\
+    \x20\x20\x20\x20M.list = [...S.regions.values()].flatMap(partsOf).sort((a, b) => a.number - b.number);\n\
     \x20\x20\x20\x20M.spot = new Map(M.list.map((g, i) => [g.number, i]));\n\
     \x20\x20\x20\x20if (M.fresh) M.atlas = null;\n\
     \x20\x20\x20\x20M.ink = { free: css(\"--free\"), ink: css(\"--ink\"), ink3: css(\"--ink3\"), panel: css(\"--panel\"), red: css(\"--red\"), mono: css(\"--mono\") };\n\
@@ -2033,10 +2040,11 @@ pub(crate) const PAGE: &[u8] = b"<!doctype html>\n\
     \x20\x20function drawRings(c) {\n\
     \x20\x20\x20\x20const ring = (id, color, width, dash) => {\n\
     \x20\x20\x20\x20\x20\x20const o = objectAt(id),\n\
-    \x20\x20\x20\x20\x20\x20\x20\x20i = o && M.spot.get(Math.floor(o.w / WORDS));\n\
-    \x20\x20\x20\x20\x20\x20if (i === undefined || i === null) return;\n\
-    \x20\x20\x20\x20\x20\x20const [x0, y0] = originOf(i), g = M.list[i], from = o.w % WORDS;\n\
-    \x20\x20\x20\x20\x20\x20ringCell(c, x0, y0, g.size, from, color, width, dash);\n\
+    \x20\x20\x20\x20\x20\x20\x20\x20g = o && S.regions.get(Math.floor(o.w / WORDS));\n\
+    \x20\x20\x20\x20\x20\x20for (const part of g ? partsOf(g) : []) {\n\
+    \x20\x20\x20\x20\x20\x20\x20\x20const i = M.spot.get(part.number);\n\
+    \x20\x20\x20\x20\x20\x20\x20\x20if (i !== undefined) ringCell(c, ...originOf(i), part.size, o.w % WORDS, color, width, dash);\n\
+    \x20\x20\x20\x20\x20\x20}\n\
     \x20\x20\x20\x20};\n\
     \x20\x20\x20\x20for (const id of S.refs) ring(id, M.ink.ink, 1.2, [2, 2]);\n\
     \x20\x20\x20\x20for (const id of S.path) ring(id, M.ink.ink, 1.6);\n\
@@ -2096,8 +2104,9 @@ pub(crate) const PAGE: &[u8] = b"<!doctype html>\n\
     \x20\x20// Says what is in a cell.\n\
     \x20\x20function cellText({ g, cell }) {\n\
     \x20\x20\x20\x20const { o, dead, marked, gray } = cellOf(g, cell),\n\
-    \x20\x20\x20\x20\x20\x20id = idOf(g.number * WORDS + cell * g.size),\n\
-    \x20\x20\x20\x20\x20\x20where = `region ${g.number}, cell ${cell} of ${g.size} words`;\n\
+    \x20\x20\x20\x20\x20\x20{ number, size } = g.whole || g,\n\
+    \x20\x20\x20\x20\x20\x20id = idOf(number * WORDS + cell * size),\n\
+    \x20\x20\x20\x20\x20\x20where = size > WORDS ? `regions ${number} to ${number + size / WORDS - 1}, one cell of ${size} words` : `region ${number}, cell ${cell} of ${size} words`;\n\
     \x20\x20\x20\x20if (!o) return `${where}\\n${id}: ${dead ? \"dead, waits to be swept\" : \"free\"}`;\n\
     \x20\x20\x20\x20const p = bornAt(o, S.shown),\n\
     \x20\x20\x20\x20\x20\x20made = p === null ? \"\" : `\\nmade @${num(p)}, ${num(S.shown - p)} steps ago`;\n\

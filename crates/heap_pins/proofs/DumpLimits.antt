@@ -8,14 +8,15 @@ use Rattle.heap_class.specs.declared.ObjKind.{ObjKind}
 use Rattle.heap_class.specs.declared.ObjKind.TheVariants.{Instance, Array, Prim}
 use Rattle.heap_class.specs.declared.Refusal.{Refusal}
 use Rattle.heap_class.specs.Refusals.{first_refusal}
-use Rattle.heap_class.specs.Limits.{class_limit, widest_classes}
+use Rattle.heap_class.specs.Limits.{class_limit, large_array_limit, widest_classes}
 use Rattle.heap_class.specs.Classes.{Class, IsClassTable, class_refusal, is_instance_class, is_array_class}
 use Rattle.heap_region.specs.Regions.{Object, Region, object_at, id_of, live_objects, live_places}
 use Rattle.heap_world.specs.State.{HeapState}
 use Rattle.heap_world.specs.Legal.{IsLegal, HasKind}
 use Rattle.hprof_text.specs.Image.{DumpedObject, IsDumpable, IsKnown}
 use Rattle.heap_pins.specs.Images.{dumped_objects, image_of}
-use Rattle.heap_pins.proofs.LiveCounts.{Stands, live_stand, few_live, small_object}
+use Rattle.heap_pins.proofs.LiveCounts.{Stands, live_stand, few_live}
+use Rattle.heap_class.proofs.FewSlots.{slots_few}
 use Rattle.heap_class.proofs.Slots.{class_found_is_in_table}
 
 -- ---- limits
@@ -44,6 +45,12 @@ kind_of_slots_is_known classes (Instance k) n h = (class_found_is_in_table class
 kind_of_slots_is_known classes (Array k) n h = class_found_is_in_table classes k (λ c. c.is_array) h.0
 kind_of_slots_is_known classes (Prim kind) n h = tt
 
+-- an object of the heap has no more words than a dump shows
+few_words : (classes : List Class) → IsClassTable [] classes → (kind : ObjKind) (n : ℕ) → HasKind classes kind n → n ≤ large_array_limit
+few_words classes t (Instance k) n h = omega (arith, h.1, slots_few classes t k)
+few_words classes t (Array k) n h = h.1
+few_words classes t (Prim kind) n h = h.1
+
 -- an object as a dump shows it
 abbrev object_as_dump_shows_it : List Region → ObjRef × Object → DumpedObject
 object_as_dump_shows_it regions p = record { id = id_of regions p.0; kind = p.1.kind; words = p.1.words }
@@ -57,8 +64,8 @@ legal_heap_is_dumpable w legal = record {
   few_objects = omega (arith, few_live w.regions legal.regions.tables legal.sized.regions.1, length-map (live_objects w.regions) (object_as_dump_shows_it w.regions));
   known = All-map (λ (o : DumpedObject). IsKnown w.classes o.kind (length o.words)) (object_as_dump_shows_it w.regions) (live_objects w.regions)
       (All-weaker (Stands w.regions) (λ p. IsKnown w.classes p.1.kind (length p.1.words)) (λ p there. kind_of_slots_is_known w.classes p.1.kind (length p.1.words) (legal.objects p.0 p.1 there).kind) (live_objects w.regions) (live_stand w.regions));
-  small = All-map (λ (o : DumpedObject). length o.words ≤ 1024) (object_as_dump_shows_it w.regions) (live_objects w.regions)
-      (All-weaker (Stands w.regions) (λ p. length p.1.words ≤ 1024) (λ p there. small_object w.regions legal.regions.tables p.0 p.1 there) (live_objects w.regions) (live_stand w.regions));
+  small = All-map (λ (o : DumpedObject). length o.words ≤ large_array_limit) (object_as_dump_shows_it w.regions) (live_objects w.regions)
+      (All-weaker (Stands w.regions) (λ p. length p.1.words ≤ large_array_limit) (λ p there. few_words w.classes legal.classes p.1.kind (length p.1.words) (legal.objects p.0 p.1 there).kind) (live_objects w.regions) (live_stand w.regions));
 }
 
 -- each place has one object

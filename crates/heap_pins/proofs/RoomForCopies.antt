@@ -19,10 +19,8 @@ use Rattle.heap_world.specs.Events.{after_sweep}
 use Rattle.heap_step.specs.declared.Event.{Event}
 use Rattle.heap_step.specs.declared.Undo.{Undo}
 use Rattle.heap_step.specs.Laws.{IsStep}
-use Rattle.heap_step.proofs.CreationUndo.{pool_empty}
-use Rattle.heap_step.proofs.EventLaws.{keeps_legal}
 use Rattle.heap_step.proofs.Fits.{IsSwept}
-use Rattle.heap_step.proofs.Steps.{put_record_names_an_object, store_there, sweep_before, reclaim_head}
+use Rattle.heap_step.proofs.Steps.{put_record_names_an_object, store_there, sweep_before, reclaim_empty}
 use Rattle.heap_pins.specs.KeptCopies.{touched}
 use Rattle.heap_pins.proofs.RecordCases.{by_region, equal_options_name_same_region, record_that_touches_no_region}
 use Rattle.heap_pins.specs.Shows.{AreFit, FitIn}
@@ -88,8 +86,7 @@ sweep_fit e before after left s region dead is f there =
 
 pub reclaim_within : (e : Event) (before after : HeapState) (left : Undo) → IsStep e before after left → (region : ℕ) (storage : UsedRegion) → left ≡ Undo.Reclaim region storage → region < length after.regions
 reclaim_within e before after left s region storage is =
-    let legal : IsLegal after = subst IsLegal (sym s.gave) (keeps_legal e before s.legal s.accepted) in
-    slice_get_within after.regions region Empty (pool_empty after legal (record { region = region; cell = 0 }) (reclaim_head e before after left s region storage is))
+    slice_get_within after.regions region Empty (reclaim_empty e before after left s region storage is)
 
 -- ---- the region that a step touched
 

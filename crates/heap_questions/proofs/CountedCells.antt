@@ -2,9 +2,8 @@
 use Rattle.std.proofs.Common.{◌≡◌, ℕ, ◌+◌, ◌<◌, Bool, true, false, List, Option, Some, None, get_or, length, refl, take}
 use Rattle.std.specs.Prelude.{count_by, not, option_map}
 use Rattle.std.proofs.lemmas.List.Sums.{count_by_more_no, count_by_more_yes}
-use Rattle.heap_region.specs.Live.{is_live}
+use Rattle.heap_region.specs.Live.{is_dead, is_live}
 use Rattle.heap_region.specs.Regions.{Object}
-use Rattle.heap_questions.specs.RegionCounts.{is_dead}
 
 -- what the bit of a cell's object tells
 live_told : (c : Option Object) (b : Bool) → option_map (λ (o : Object). o.live) c ≡ Some b → is_live c ≡ b

@@ -34,3 +34,6 @@ pub mod ListedObjects
 pub mod GrayMarks
 pub mod CountedCells
 pub mod DifferentObjects
+pub mod DeadObjects
+pub mod EndedCycles
+pub mod PastLives

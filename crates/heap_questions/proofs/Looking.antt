@@ -1,12 +1,12 @@
 -- Looking at the slots of what was found, and at the registers.
-use Rattle.std.proofs.Common.{◌≡◌, ℕ, ◌+◌, ◌<◌, ◌≤◌, ◌++◌, ◌∷◌, [], Bool, true, false, cond, List, length, map, get_or, refl, sym, ap, ◌∙◌, subst, inl, inr, arith}
+use Rattle.std.proofs.Common.{◌≡◌, ℕ, ◌+◌, ◌<◌, ◌≤◌, ◌++◌, ◌∷◌, [], Bool, true, false, cond, List, length, get_or, refl, sym, ap, ◌∙◌, subst, inl, inr, arith}
 use Rattle.std.specs.Prelude.{slice_get, Option, Some, None, IfSome, option_and_then, option_map}
 use Rattle.std.proofs.lemmas.List.{length-map, map_push}
 use Rattle.std.proofs.lemmas.Option.{none-some, same_Some, slice_get_within, slice_get-get_or, slice_get-map}
 use Rattle.std.proofs.lemmas.Bool.{cases_eq, cases_Bool}
 use Rattle.heap_class.specs.declared.ObjRef.{ObjRef}
 use Rattle.heap_class.specs.Classes.{Class}
-use Rattle.heap_class.specs.Limits.{array_limit}
+use Rattle.heap_class.specs.Limits.{large_array_limit}
 use Rattle.heap_class.specs.declared.ObjKind.{ObjKind}
 use Rattle.hprof_text.specs.Image.{Image, DumpedObject, IsDumpable, IsKnown}
 use Rattle.hprof_text.proofs.ViewedObjects.{here}
@@ -63,7 +63,7 @@ pub record IsRead (image : Image) (f : Found) (kind : ObjKind) (words : List ℕ
   pub same_words : words ≡ object.words
   pub many : length words ≡ length object.words
   pub known : IsKnown image.classes kind (length words)
-  pub small : length words ≤ array_limit
+  pub small : length words ≤ large_array_limit
 
 pub read : (image : Image) (places : List ObjRef) (nodes : List Node) (f : Found) (at : ObjRef) (kind : ObjKind) (words : List ℕ) → AreNodes image places nodes → node_with nodes f.id ≡ Some f.node → ((n : Node) → slice_get nodes f.node ≡ Some n → at ≡ n.at)
     → IsDumpable image → length places ≡ length image.objects → ((i : ℕ) → slice_get places i ≡ Some at → IfSome (slice_get image.objects i) (λ o. kind ≡ o.kind)) → ((i : ℕ) → slice_get places i ≡ Some at → IfSome (slice_get image.objects i) (λ o. words ≡ o.words))

@@ -1,5 +1,5 @@
 -- The trail up to a retained state, and where objects stood there.
-use Rattle.std.proofs.Common.{◌≡◌, ◌≢◌, ℕ, zero, suc, ◌+◌, ◌-◌, ◌*◌, ◌/◌, ◌%◌, ◌<◌, ◌≤◌, Bool, true, false, cond, List, [], ◌∷◌, drop, length, get_or, Option, Some, None, IsSome, refl, sym, ap, ◌∙◌, subst, inl, inr, arith}
+use Rattle.std.proofs.Common.{◌≡◌, ℕ, zero, suc, ◌+◌, ◌-◌, ◌*◌, ◌/◌, ◌%◌, ◌<◌, ◌≤◌, Bool, true, false, cond, List, [], ◌∷◌, drop, length, get_or, Option, Some, None, IsSome, refl, sym, ap, ◌∙◌, subst, inl, inr, arith}
 use Rattle.std.specs.Prelude.{slice_get, is_some, not, ◌==◌, ◌&&◌, ◌||◌}
 use Rattle.std.specs.List.{list_any}
 use Rattle.std.specs.Option.{option_map_or}
@@ -176,7 +176,7 @@ unfolding touched walked_copy region_frozen
 reclaimed_cells region storage e before after r u s q used =
     let t = told e before after (Reclaim region storage) s in
     let c = t.touched_region r (region_frozen after.regions r) (ap Some q) (same_copy_covers _ _ refl) in
-    ap (λ n. region_words / n) (reclaimed_size (used_at before.regions r) storage u c used) ∙ whole_size u (table_of before r u s.legal used)
+    reclaimed_size (used_at before.regions r) storage u c used ∙ whole_size u (table_of before r u s.legal used)
 
 pub size_step : (left : Undo) (e : Event) (before after : HeapState) (r n : ℕ) → IsStep e before after left → HasCellSize after r n → HasCellSize before r (size_before left r n)
 size_step (Reclaim region storage) e before after r n s h u used = elim (cases_eq region r) [

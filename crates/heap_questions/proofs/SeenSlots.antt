@@ -93,6 +93,12 @@ slot_shown u w p at s words kind classes shown there ws k cs l =
     let same : words ≡ o.0.words = d.3 ∙ d.2 in
     slot_seen u at s (length words) (get_or words s 0) o.0 classes kind shown.0.legal o.1 (f.3 ∙ f.1) (ap length same) l (ap (λ (xs : List ℕ). get_or xs s 0) same) (cs ∙ classes_beside u w p shown)
 
+pub kind_shown : (u w : HeapState) (p : PinContents) (at : ObjRef) (kind : ObjKind) → IsShownBeside w p u → IsSome (object_at u.regions at) → IfSome (object_seen p w.regions at) (λ o. kind ≡ o.kind) → IfSome (object_at u.regions at) (λ o. kind ≡ o.kind)
+kind_shown u w p at kind shown there k =
+    let o = object_here u at there in
+    let d = of_shown (λ (d : DumpedObject). kind ≡ d.kind) u w p at o.0 shown o.1 k in
+    subst (λ (x : Option Object). IfSome x (λ o. kind ≡ o.kind)) (sym o.1) (d.3 ∙ d.1)
+
 pub none_shown : (u w : HeapState) (p : PinContents) (at : ObjRef) (s : ℕ) (words : List ℕ) → IsShownBeside w p u → IsSome (object_at u.regions at) → IfSome (object_seen p w.regions at) (λ o. words ≡ o.words) → length words ≤ s → None ≡ seen_slot u at s
 none_shown u w p at s words shown there ws l =
     let o = object_here u at there in

@@ -1,8 +1,7 @@
 -- The sizes of cells in the past.
-use Rattle.std.proofs.Common.{◌≡◌, ◌≢◌, ℕ, ◌+◌, ◌*◌, ◌/◌, ◌<◌, ◌≤◌, List, [], ◌∷◌, ◌++◌, length, get_or, set, Option, Some, None, refl, sym, ap, ap₂, ◌∙◌, subst, inl, inr, arith}
+use Rattle.std.proofs.Common.{◌≡◌, ◌≢◌, ◌⊎◌, ℕ, zero, suc, ◌+◌, ◌*◌, ◌/◌, ◌<◌, ◌≤◌, List, [], ◌∷◌, ◌++◌, length, get_or, set, Option, Some, None, refl, sym, ap, ap₂, ◌∙◌, subst, inl, inr, arith}
 use Rattle.std.specs.Prelude.{All, Contains, IsSome, option_and_then, option_map, slice_get}
 use Rattle.std.specs.Option.{option_map_or}
-use Rattle.std.proofs.Math.Nat.{div-le_self}
 use Rattle.std.proofs.Math.ListN.{get_or-append}
 use Rattle.std.proofs.lemmas.Bool.{cases_eq, false≢true}
 use Rattle.std.proofs.lemmas.List.{length-set, length_push, get_or_push, get_or-set_same, get_or-set_other}
@@ -12,11 +11,13 @@ use Rattle.heap_class.specs.declared.ObjRef.{ObjRef}
 use Rattle.heap_region.proofs.Lookups.{used_region_is_listed}
 use Rattle.heap_region.specs.RegionCopies.{Frozen, frozen, frozen_word_set, region_frozen}
 use Rattle.heap_region.specs.Legal.{IsCellTable}
-use Rattle.heap_region.specs.Limits.{cell_sizes, region_words}
-use Rattle.heap_region.specs.Regions.{Object, Region, UsedRegion, id_of, object_at, object_base, used_at}
+use Rattle.heap_region.specs.Limits.{cell_sizes, heap_words, region_words}
+use Rattle.heap_region.specs.Regions.{Empty, IsRunSize, Object, Region, UsedRegion, block_words, id_of, object_at, object_base, used_at}
 use Rattle.heap_region.proofs.Lookups.{used_region_is_listed}
+use Rattle.heap_region.proofs.BlockSizes.{block_of_region, block_of_run, run_size_is_larger_than_region}
+use Rattle.heap_region.proofs.FoundObjects.{restored_there}
 use Rattle.heap_region.proofs.References.{member_is_head_or_later, empty_list_has_no_member}
-use Rattle.heap_world.specs.State.{HeapState}
+use Rattle.heap_world.specs.State.{HeapState, pool_of}
 use Rattle.heap_world.specs.Legal.{IsLegal}
 use Rattle.heap_step.specs.declared.Event.{Event}
 use Rattle.heap_step.specs.declared.Undo.{Undo}
@@ -24,7 +25,7 @@ use Rattle.heap_step.specs.declared.Undo.TheVariants.{Put, Store, New, Sweep, Re
 use Rattle.heap_step.specs.Laws.{IsStep}
 use Rattle.heap_step.specs.Records.{undone}
 use Rattle.heap_step.proofs.EventLaws.{undo_takes_back}
-use Rattle.heap_step.proofs.Steps.{new_record_names_an_object, put_record_names_an_object, reclaim_inhabited, store_there}
+use Rattle.heap_step.proofs.Steps.{new_record_names_an_object, put_record_names_an_object, reclaim_empty, reclaim_inhabited, reclaim_is, store_there}
 use Rattle.heap_pins.specs.Covers.{Covers}
 use Rattle.heap_pins.specs.KeptCopies.{patched, touched, with_dead}
 use Rattle.heap_pins.specs.Walk.{TellsBefore, walked_copy}
@@ -55,8 +56,35 @@ size_is n c m e = elim (member_is_head_or_later 4 (16 ∷ 64 ∷ 256 ∷ 1024 �
   ]
 ]
 
+listed_size_at_most_region : (n : ℕ) → Contains cell_sizes n → n ≤ region_words
+listed_size_at_most_region n c = at_index c.0 c.1 c.2
+  where
+    at_index : (k : ℕ) → k < 5 → get_or cell_sizes k n ≡ n → n ≤ region_words
+    at_index zero h e = omega (arith, e)
+    at_index (suc zero) h e = omega (arith, e)
+    at_index (suc (suc zero)) h e = omega (arith, e)
+    at_index (suc (suc (suc zero))) h e = omega (arith, e)
+    at_index (suc (suc (suc (suc zero)))) h e = omega (arith, e)
+    at_index (suc (suc (suc (suc (suc k))))) h e = absurd (omega (arith, h))
+
 pub whole_size : (u : UsedRegion) → IsCellTable u → storage_cell_size u ≡ u.cell_size
-whole_size u t = size_is u.cell_size (length u.cells) t.size t.cells
+whole_size u t = go t.size
+  where
+    go : Contains cell_sizes u.cell_size ⊎ IsRunSize u.cell_size → storage_cell_size u ≡ u.cell_size
+    go (inl c) =
+        let b = block_of_region u.cell_size (listed_size_at_most_region u.cell_size c) in
+        ap (λ n. n / length u.cells) b.0 ∙ size_is u.cell_size (length u.cells) c (t.cells ∙ b.1)
+    go (inr r) =
+        let b = block_of_run u.cell_size (run_size_is_larger_than_region u.cell_size r) in
+        let one : u.cell_size / 1 ≡ u.cell_size = omega arith in
+        ap₂ (λ a n. a / n) b.0 (t.cells ∙ b.1) ∙ one
+
+whole_size_within_heap : (u : UsedRegion) → IsCellTable u → storage_cell_size u ≤ heap_words
+whole_size_within_heap u t = omega (arith, whole_size u t, small t.size)
+  where
+    small : Contains cell_sizes u.cell_size ⊎ IsRunSize u.cell_size → u.cell_size ≤ heap_words
+    small (inl c) = omega (arith, listed_size_at_most_region u.cell_size c)
+    small (inr r) = omega (arith, r.2, r.3)
 
 -- ---- one step back
 
@@ -85,10 +113,11 @@ unfolding frozen_word_set
 word_size cell slot word f = refl
 
 -- the regions of a record that took all of one
-pub reclaimed_size : (before : Option UsedRegion) (storage u : UsedRegion) → Covers (option_map frozen before) (Some (frozen storage)) → before ≡ Some u → length storage.cells ≡ length u.cells
+pub reclaimed_size : (before : Option UsedRegion) (storage u : UsedRegion) → Covers (option_map frozen before) (Some (frozen storage)) → before ≡ Some u → storage_cell_size storage ≡ storage_cell_size u
 reclaimed_size before storage u c e =
     let g = c (frozen u) (ap (option_map frozen) e) in
-    ap (λ (f : Frozen). length f.cells) (same_Some (frozen storage) g.0 g.1) ∙ g.2.count
+    let same : frozen storage ≡ g.0 = same_Some (frozen storage) g.0 g.1 in
+    ap₂ (λ size n. block_words size / n) (ap (λ (f : Frozen). f.cell_size) same ∙ g.2.size) (ap (λ (f : Frozen). length f.cells) same ∙ g.2.count)
 
 -- the region in use before had cells of the size that is told
 abbrev Tells : Undo → List ℕ → ℕ → UsedRegion → Type 0
@@ -115,7 +144,7 @@ reclaim_tells region storage before after sizes r u t s l whole e = elim (cases_
       let m = reclaimed_size (used_at before.regions r) storage u c e in
       ap (λ k. get_or (set sizes region (storage_cell_size storage)) k 0) q
       ∙ get_or-set_same sizes region (storage_cell_size storage) 0 l
-      ∙ ap (λ n. region_words / n) m
+      ∙ m
       ∙ whole_size u whole
   | inr q ↦ get_or-set_other sizes region r (storage_cell_size storage) 0 q ∙ others_tell (Reclaim region storage) before after sizes r u t s (λ z. q (sym (same_Some region r z))) e
 ]
@@ -160,10 +189,10 @@ same_many left sizes = by_reclaim (λ k. length (sizes_before k sizes) ≡ lengt
     (λ k same. ap length (same sizes))
     left
 
-still_small : (left : Undo) (sizes : List ℕ) → All (λ s. s ≤ region_words) sizes → ((region : ℕ) (storage : UsedRegion) → left ≡ Reclaim region storage → storage_cell_size storage ≤ region_words) → All (λ s. s ≤ region_words) (sizes_before left sizes)
-still_small left sizes a b = by_reclaim (λ k. left ≡ k → All (λ s. s ≤ region_words) (sizes_before k sizes))
-    (λ region storage is. All-set (λ s. s ≤ region_words) sizes region (storage_cell_size storage) (b region storage is) a)
-    (λ k same is. subst (All (λ s. s ≤ region_words)) (sym (same sizes)) a)
+still_small : (left : Undo) (sizes : List ℕ) → All (λ s. s ≤ heap_words) sizes → ((region : ℕ) (storage : UsedRegion) → left ≡ Reclaim region storage → storage_cell_size storage ≤ heap_words) → All (λ s. s ≤ heap_words) (sizes_before left sizes)
+still_small left sizes a b = by_reclaim (λ k. left ≡ k → All (λ s. s ≤ heap_words) (sizes_before k sizes))
+    (λ region storage is. All-set (λ s. s ≤ heap_words) sizes region (storage_cell_size storage) (b region storage is) a)
+    (λ k same is. subst (All (λ s. s ≤ heap_words)) (sym (same sizes)) a)
     left refl
 
 -- ---- regions of a legal heap
@@ -182,7 +211,7 @@ cells_there w r u legal e = let i = (table_of w r u legal e).inhabited in cells_
 -- the sizes of the first n regions
 pub record AreSizesTo (w : HeapState) (sizes : List ℕ) (n : ℕ) : Type 0 where
   pub many : length sizes ≡ n
-  pub small : All (λ s. s ≤ region_words) sizes
+  pub small : All (λ s. s ≤ heap_words) sizes
   pub used : (r : ℕ) (u : UsedRegion) → r < n → used_at w.regions r ≡ Some u → get_or sizes r 0 ≡ u.cell_size
 
 pub sizes_begin : (w : HeapState) (sizes : List ℕ) → sizes ≡ [] → AreSizesTo w sizes 0
@@ -192,10 +221,10 @@ sizes_begin w sizes e = record {
   used = λ r u l h. absurd (omega (arith, l));
 }
 
-pub sizes_push : (w : HeapState) (sizes new : List ℕ) (n s : ℕ) → new ≡ sizes ++ s ∷ [] → AreSizesTo w sizes n → s ≤ region_words → ((u : UsedRegion) → used_at w.regions n ≡ Some u → s ≡ u.cell_size) → AreSizesTo w new (n + 1)
+pub sizes_push : (w : HeapState) (sizes new : List ℕ) (n s : ℕ) → new ≡ sizes ++ s ∷ [] → AreSizesTo w sizes n → s ≤ heap_words → ((u : UsedRegion) → used_at w.regions n ≡ Some u → s ≡ u.cell_size) → AreSizesTo w new (n + 1)
 sizes_push w sizes new n s e a small told = record {
   many = ap length e ∙ length_push sizes s ∙ ap (λ k. k + 1) a.many;
-  small = subst (All (λ s. s ≤ region_words)) (sym e) (All-push (λ s. s ≤ region_words) sizes s a.small small);
+  small = subst (All (λ s. s ≤ heap_words)) (sym e) (All-push (λ s. s ≤ heap_words) sizes s a.small small);
   used = λ r u l h. elim (cases_eq r n) [
     | inl q ↦ ap (λ xs. get_or xs r 0) e ∙ get_or_push sizes s 0 r (a.many ∙ sym q) ∙ told u (ap (used_at w.regions) (sym q) ∙ h)
     | inr q ↦ ap (λ xs. get_or xs r 0) e ∙ get_or-append sizes (s ∷ []) 0 r (omega (arith, l, q, a.many)) ∙ a.used r u (omega (arith, l, q)) h
@@ -249,8 +278,9 @@ reclaimed_within left e before after sizes s a r u h = (
   let i = reclaim_inhabited e before after left s r u h in cells_some u i.0 i.1 i.2,
 )
 
-less_words : (n : ℕ) → 0 < n → region_words / n ≤ region_words
-less_words n l = div-le_self region_words n
+reclaimed_table : (left : Undo) (e : Event) (before after : HeapState) → IsStep e before after left → (r : ℕ) (u : UsedRegion) → left ≡ Reclaim r u → IsCellTable u
+reclaimed_table left e before after s r u h =
+    s.legal.regions.tables r u (ap (λ (w : HeapState). used_at w.regions r) (sym (reclaim_is e before after left s r u h)) ∙ restored_there r u (pool_of after) Empty (reclaim_empty e before after left s r u h))
 
 pub same_regions : (left : Undo) (e : Event) (before after : HeapState) → IsStep e before after left → length before.regions ≡ length after.regions
 same_regions left e before after s =
@@ -263,6 +293,6 @@ sizes_step left e before after sizes s a =
     let t = told e before after left s in
     record {
       many = same_many left sizes ∙ a.many ∙ sym (same_regions left e before after s);
-      small = still_small left sizes a.small (λ r u h. less_words (length u.cells) (reclaimed_within left e before after sizes s a r u h).1);
+      small = still_small left sizes a.small (λ r u h. whole_size_within_heap u (reclaimed_table left e before after s r u h));
       used = λ r u h. tells left before after sizes r u t a (λ k v g. (reclaimed_within left e before after sizes s a k v g).0) (table_of before r u s.legal h) h;
     }

@@ -1,5 +1,5 @@
 -- What no register reaches isn't reached after an event either.
-use Rattle.std.proofs.Common.{◌≡◌, ◌≢◌, ◌⊎◌, ℕ, zero, suc, ◌+◌, ◌*◌, ◌/◌, ◌<◌, Bool, true, false, List, [], ◌∷◌, ◌++◌, length, drop, set, replicate, Option, Some, None, IsSome, Contains, refl, sym, ap, subst, ◌∙◌, inl, inr, arith}
+use Rattle.std.proofs.Common.{◌≡◌, ◌≢◌, ◌⊎◌, ℕ, zero, suc, ◌+◌, ◌*◌, ◌<◌, Bool, true, false, List, [], ◌∷◌, ◌++◌, length, drop, set, replicate, Option, Some, None, IsSome, Contains, refl, sym, ap, subst, ◌∙◌, inl, inr, arith}
 use Rattle.std.specs.Prelude.{slice_get, slice_index, option_map, option_and_then, if◌then◌else◌}
 use Rattle.std.specs.Option.{option_map_or}
 use Rattle.std.proofs.lemmas.Bool.{false≢true}
@@ -11,7 +11,7 @@ use Rattle.heap_class.specs.declared.ObjKind.TheVariants.{Array, Instance, Prim}
 use Rattle.heap_class.specs.declared.ObjRef.{ObjRef}
 use Rattle.heap_class.specs.Classes.{Class, array_class, instance_class, slots_of}
 use Rattle.heap_class.proofs.Refusals.{no_refusal_test_holds}
-use Rattle.heap_region.specs.Regions.{Object, Region, UsedRegion, id_of, object_at, object_of, ref_of, references_of, slot_kinds, used_at, with_object, with_word}
+use Rattle.heap_region.specs.Regions.{Object, Region, UsedRegion, cell_count, id_of, object_at, object_of, ref_of, references_of, slot_kinds, used_at, with_object, with_word}
 use Rattle.heap_region.specs.Pool.{RegionPool, allocated, new_place, taken}
 use Rattle.heap_region.proofs.AllocatedRegions.{IsNewCell, new_cell}
 use Rattle.heap_region.proofs.ChangedLookups.{place_of_object_of_id, same_or_not}
@@ -222,7 +222,7 @@ is_new w legal at fresh o place = subst (IsNew w at o) (sym c.is_taken) (record 
       | inr n ↦ inl (ap (option_and_then (object_at after)) (ref_taken at o c.before x ∙ e) ∙ object_in_other_than_taken_cell at b o c.before n ∙ sym (ap (option_and_then (object_at before)) e) ∙ c.found x)
     ]
 
-    whole : (u : UsedRegion) → (used_at w.regions at.region ≡ Some u) ⊎ (length u.cells ≡ 1024 / u.cell_size) → length u.cells ≡ 1024 / u.cell_size
+    whole : (u : UsedRegion) → (used_at w.regions at.region ≡ Some u) ⊎ (length u.cells ≡ cell_count u.cell_size) → length u.cells ≡ cell_count u.cell_size
     whole u (inl e) = (legal.regions.tables at.region u e).cells
     whole u (inr e) = e
 
@@ -231,7 +231,7 @@ is_new w legal at fresh o place = subst (IsNew w at o) (sym c.is_taken) (record 
 
     back : ref_of after (id_of after at) ≡ Some at
     back =
-        let within : at.cell < 1024 / c.region.cell_size = omega (arith, slice_get_within c.region.cells at.cell None c.empty, whole c.region c.cells) in
+        let within : at.cell < cell_count c.region.cell_size = omega (arith, slice_get_within c.region.cells at.cell None c.empty, whole c.region c.cells) in
         ref_back after at (change c.region) (used_region_after_its_change at.region change before ∙ ap (option_map change) c.used) within
 
     none : object_of w.regions (id_of after at) ≡ None

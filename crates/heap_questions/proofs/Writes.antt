@@ -162,11 +162,11 @@ old_state a at false m r old f e =
 
 -- ---- a sweep
 
-sweep_state : (region : ℕ) (dead : List (ℕ × Object)) (at : ObjRef) (f : ObjRef → ℕ) → at.region ≢ region → states_before (Sweep region dead) f at ≡ f at
+pub sweep_state : (region : ℕ) (dead : List (ℕ × Object)) (at : ObjRef) (f : ObjRef → ℕ) → at.region ≢ region → states_before (Sweep region dead) f at ≡ f at
 unfolding states_before
 sweep_state region dead at f n = ap (λ (b : Bool). cond b (dead_state dead at.cell (f at)) (f at)) (ne_eqb at.region region n)
 
-reclaim_state : (region : ℕ) (storage : UsedRegion) (at : ObjRef) (f : ObjRef → ℕ) → at.region ≢ region → states_before (Reclaim region storage) f at ≡ f at
+pub reclaim_state : (region : ℕ) (storage : UsedRegion) (at : ObjRef) (f : ObjRef → ℕ) → at.region ≢ region → states_before (Reclaim region storage) f at ≡ f at
 unfolding states_before
 reclaim_state region storage at f n = ap (λ (b : Bool). cond b (cell_state (cell_object storage at.cell)) (f at)) (ne_eqb at.region region n)
 

@@ -39,9 +39,9 @@ value_size ids classes (Instance k) n = instance_size ids classes k
 value_size ids classes (Array k) n = id_bytes ids * n
 value_size ids classes (Prim kind) n = width_of ids kind * n
 
--- the most bytes that the values of one object have: an array has up to 1,024 of 8 bytes, and an instance fewer
+-- the most bytes that the values of one object have: an array has up to 2,097,147 of 8 bytes, and an instance fewer
 abbrev pub values_limit : ℕ
-values_limit = 8192
+values_limit = 16777176
 
 -- the size of an object's values in bytes
 abbrev pub object_bytes : IdSize → List Class → DumpedObject → ℕ

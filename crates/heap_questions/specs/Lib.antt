@@ -12,6 +12,8 @@ pub mod Registers
 pub mod Ranking
 pub mod SlotValues
 pub mod Changes
+pub mod Cycles
+pub mod Lives
 pub mod SlotChanges
 pub mod SlotWrites
 pub mod Newest

@@ -2,8 +2,8 @@
 use Rattle.std.specs.Prelude.{◌≡◌, ℕ, ◌+◌, ◌-◌, ◌*◌, ◌/◌, ◌≤◌, List, drop, length, map, zip, Option, Some, None, option_map, slice_set, slice_index_or, unwrap_or, All}
 use Rattle.std.specs.List.{range_with_len}
 use Rattle.heap_class.specs.declared.ObjRef.{ObjRef}
-use Rattle.heap_region.specs.Limits.{region_words}
-use Rattle.heap_region.specs.Regions.{Region, UsedRegion, id_of, object_base, used_at}
+use Rattle.heap_region.specs.Limits.{heap_words, region_words}
+use Rattle.heap_region.specs.Regions.{Region, UsedRegion, block_words, id_of, object_base, used_at}
 use Rattle.heap_world.specs.State.{HeapState}
 use Rattle.heap_step.specs.declared.Undo.{Undo}
 use Rattle.heap_step.specs.declared.Undo.TheVariants.{Put, Store, Reg, New, Class, Snap, Mark, Drain, Finish, Sweep, Reclaim}
@@ -55,13 +55,13 @@ steps_back t ago count =
 -- the sizes of the cells of regions in use
 pub record AreCellSizes (w : HeapState) (sizes : List ℕ) : Type 0 where
   pub many : length sizes ≡ length w.regions
-  pub small : All (λ s. s ≤ region_words) sizes
+  pub small : All (λ s. s ≤ heap_words) sizes
   pub used : (r : ℕ) (u : UsedRegion) → used_at w.regions r ≡ Some u
       → slice_index_or sizes r 0 ≡ u.cell_size
 
--- the size of the cells of a region, which fill it
+-- the size of the cells of a region, or of the cell of a large object, which fill their regions
 abbrev pub storage_cell_size : UsedRegion → ℕ
-storage_cell_size u = region_words / length u.cells
+storage_cell_size u = block_words u.cell_size / length u.cells
 
 -- the sizes before a step with this record, from those after it
 abbrev pub sizes_before : Undo → List ℕ → List ℕ

@@ -34,8 +34,9 @@ pub use object_list::{ListedObject, list_objects, list_wanted};
 pub use objects::{ShownObject, object_with, slot_kind};
 pub use order::ranking;
 pub use past::{
-    Loss, PastEvent, PastStep, PastTrail, SeenSlot, SlotChange, SlotWrite, birth, history,
-    last_write, loss_of, path_is_reach, slot_changes, slot_now, slot_writes, unreached_stays,
+    EndedCycle, Life, Loss, PastEvent, PastStep, PastTrail, SeenSlot, SlotChange, SlotWrite, birth,
+    ended_cycles, history, last_write, lives_of, loss_of, path_is_reach, slot_changes, slot_now,
+    slot_writes, unreached_stays,
 };
 pub use paths::{Path, shortest_path};
 pub use references::{Referrer, referrers};

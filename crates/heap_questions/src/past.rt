@@ -1,6 +1,8 @@
 //! Exact answers about the past that a machine retains. Most are a walk over its records, the newest first.
 mod changes;
+mod cycles;
 mod events;
+mod lives;
 mod losses;
 mod seen;
 mod slots;
@@ -11,7 +13,9 @@ mod trail;
 mod writes;
 
 pub use changes::{birth, last_write};
+pub use cycles::{EndedCycle, ended_cycles};
 pub use events::PastEvent;
+pub use lives::{Life, lives_of};
 pub use losses::{Loss, loss_of, path_is_reach, unreached_stays};
 pub use seen::{SeenSlot, slot_now};
 pub use slots::{SlotChange, slot_changes};

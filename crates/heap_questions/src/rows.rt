@@ -1,6 +1,6 @@
 //! How many objects there are of each class.
 ghost use Rattle.std.specs.Prelude.{◌≡◌, ◌+◌, ◌<◌, ◌≤◌, ◌^◌, length, slice_index_or, false, IfOk, IfErr};
-ghost use Rattle.heap_class.specs.Limits.{array_limit};
+ghost use Rattle.heap_class.specs.Limits.{large_array_limit};
 ghost use Rattle.heap_class.specs.declared.Refusal.TheVariants.{NoMemory};
 ghost use Rattle.hprof_text.specs.Image.{IsKnown};
 ghost use Rattle.heap_questions.specs.Histogram.{class_rows, counted_unless, histogram_of, kind_row, row_at, row_number, rows_of, without_marked, value_size, values_limit};
@@ -63,7 +63,7 @@ pub fn kind_row(kind: Kind) -> usize
 #[tactic(auto, unfolding(crate::specs::Histogram::value_size))]
 pub fn value_size(ids: IdSize, classes: &FirstClasses<'_>, kind: ObjKind, words: u64) -> u64
     requires known { IsKnown classes.now kind words }
-    requires small { words ≤ array_limit }
+    requires small { words ≤ large_array_limit }
     ensures value { result ≡ value_size ids classes.now kind words }
     ensures limit { result ≤ values_limit }
 {

@@ -1,25 +1,13 @@
 -- What is found after an allocation.
-use Rattle.std.proofs.Common.{◌≡◌, ℕ, zero, suc, ◌/◌, ◌<◌, Bool, true, false, cond, length, replicate, Option, Some, None, inl, inr, refl, ap, ◌∙◌, arith}
-use Rattle.std.specs.Prelude.{◌⊎◌, nat_le, slice_get, option_and_then, unwrap_or}
+use Rattle.std.proofs.Common.{◌≡◌, ℕ, zero, suc, ◌<◌, Bool, true, false, length, replicate, Option, Some, None, inl, inr, refl, ap, ◌∙◌, arith}
+use Rattle.std.specs.Prelude.{◌⊎◌, slice_get, option_and_then}
 use Rattle.std.proofs.lemmas.List.{length-replicate}
 use Rattle.heap_class.specs.declared.ObjRef.{ObjRef}
-use Rattle.heap_region.specs.Regions.{Object, UsedRegion, Empty, used_at, object_at, object_of, cell_size_for}
+use Rattle.heap_region.specs.Regions.{Object, UsedRegion, Empty, used_at, object_at, object_of, cell_count, cell_size_for}
 use Rattle.heap_region.specs.Pool.{RegionPool, fresh_region, new_place, taken, restored, allocated}
+use Rattle.heap_region.proofs.BlockSizes.{has_cell}
 use Rattle.heap_region.proofs.FoundObjects.{named_object_stays_after_taking, restored_there, fresh_region_brings_no_object}
 use Rattle.heap_region.proofs.Places.{IsNextFree, IsNextFresh, new_place_is, HeadIsEmpty, PoolIsEmpty}
-
--- a region has a cell of each size
-pub has_cell : (n : ℕ) → 0 < 1024 / cell_size_for n
-unfolding cell_size_for
-has_cell n = go (nat_le n 4) (nat_le n 16) (nat_le n 64) (nat_le n 256) (nat_le n 1024)
-  where
-    go : (a b c d e : Bool) → 0 < 1024 / unwrap_or (cond a (Some 4) (cond b (Some 16) (cond c (Some 64) (cond d (Some 256) (cond e (Some 1024) None))))) 1024
-    go true b c d e = omega arith
-    go false true c d e = omega arith
-    go false false true d e = omega arith
-    go false false false true e = omega arith
-    go false false false false true = omega arith
-    go false false false false false = omega arith
 
 first_cell : (n : ℕ) → 0 < n → slice_get (replicate {A = Option Object} n None) 0 ≡ Some None
 first_cell zero h = absurd (omega arith)
@@ -34,7 +22,7 @@ pub record IsNewCell (at : ObjRef) (fresh : Bool) (o : Object) (s : RegionPool) 
   pub empty : slice_get region.cells at.cell ≡ Some None
   pub size : region.cell_size ≡ cell_size_for (length o.words)
   pub found : (x : ℕ) → object_of before.regions x ≡ object_of s.regions x
-  pub cells : (used_at s.regions at.region ≡ Some region) ⊎ (length region.cells ≡ 1024 / region.cell_size)
+  pub cells : (used_at s.regions at.region ≡ Some region) ⊎ (length region.cells ≡ cell_count region.cell_size)
 
 -- each accepted allocation has one
 pub new_cell : (at : ObjRef) (fresh : Bool) (o : Object) (s : RegionPool) → new_place (length o.words) s ≡ Some (at, fresh) → HeadIsEmpty s at → PoolIsEmpty s at → IsNewCell at fresh o s
@@ -44,17 +32,17 @@ new_cell at fresh o s place head pool = go fresh (new_place_is (length o.words) 
     size : ℕ
     size = cell_size_for (length o.words)
 
-    go : (b : Bool) → ((b ≡ false) × IsNextFree (length o.words) s.regions at) ⊎ ((b ≡ true) × IsNextFresh s.pool at) → IsNewCell at b o s
+    go : (b : Bool) → ((b ≡ false) × IsNextFree (length o.words) s.regions at) ⊎ ((b ≡ true) × IsNextFresh (length o.words) s at) → IsNewCell at b o s
     go true (inl e) = cc
     go true (inr e) = record {
       before = restored at.region (fresh_region size) s;
       region = fresh_region size;
       is_taken = refl;
-      used = restored_there at.region (fresh_region size) s Empty (pool e.1.0);
-      empty = ap (slice_get (replicate {A = Option Object} (1024 / size) None)) e.1.1 ∙ first_cell (1024 / size) (has_cell (length o.words));
+      used = restored_there at.region (fresh_region size) s Empty (pool (length o.words) e.1.0);
+      empty = ap (slice_get (replicate {A = Option Object} (cell_count size) None)) e.1.1 ∙ first_cell (cell_count size) (has_cell (length o.words));
       size = refl;
-      found = λ x. fresh_region_brings_no_object at.region size x s (pool e.1.0);
-      cells = inr (length-replicate (1024 / size) None);
+      found = λ x. fresh_region_brings_no_object at.region size x s (pool (length o.words) e.1.0);
+      cells = inr (length-replicate (cell_count size) None);
     }
     go false (inl e) = record { before = s; region = e.1.0; is_taken = refl; used = e.1.1; empty = head e.1.0 e.1.1 e.1.3; size = e.1.2; found = λ x. refl; cells = inl e.1.1 }
     go false (inr e) = cc

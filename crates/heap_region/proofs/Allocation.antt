@@ -1,6 +1,6 @@
 -- Where a new object goes, what refuses it, and the state afterwards.
 use Rattle.std.proofs.Common.{◌≡◌, ◌≢◌, ℕ, zero, suc, ◌+◌, ◌-◌, ◌*◌, ◌%◌, ◌/◌, ◌<◌, ◌≤◌, Bool, true, false, cond, List, length, set, replicate, Option, Some, None, IsSome, IsSomeAnd, is_some, get_or, eq-eqb, inl, inr, refl, sym, ap, subst, ◌∙◌, arith, rules}
-use Rattle.std.specs.Prelude.{◌⊎◌, ◌==◌, nat_le, unwrap_or, is_none, slice_get, option_and_then, drop}
+use Rattle.std.specs.Prelude.{◌⊎◌, ◌==◌, nat_lt, is_none, slice_get, option_and_then, drop, if◌then◌else◌}
 use Rattle.std.specs.List.{filter_map, enumerate_from, range_with_len}
 use Rattle.std.specs.Option.{option_map_or}
 use Rattle.std.proofs.lemmas.Bool.{lt-ltb, le-ltb, both_ways}
@@ -9,46 +9,33 @@ use Rattle.std.proofs.lemmas.Option.{cond_some}
 use Rattle.heap_class.specs.declared.ObjRef.{ObjRef}
 use Rattle.heap_class.specs.declared.ObjKind.{ObjKind}
 use Rattle.heap_class.specs.declared.Refusal.TheVariants.{TooLarge, HeapFull}
+use Rattle.heap_class.specs.Limits.{large_array_limit}
 use Rattle.heap_class.specs.Refusals.{first_refusal}
-use Rattle.heap_region.specs.Regions.{Object, UsedRegion, Region, InUse, used_at, object_at, object_base, id_of, cell_around, ref_of, object_of, in_used, with_region, cell_size_for, FitsWords}
-use Rattle.heap_region.specs.Pool.{RegionPool, fresh_region, free_place, place_or_fresh, new_place, alloc_refusal, is_fresh, blank_object, taken, restored, allocated}
-use Rattle.heap_region.specs.Layout.{IsCellSize, Heads, cell_filled}
+use Rattle.heap_region.specs.Regions.{Object, UsedRegion, Region, InUse, used_at, object_at, object_base, id_of, cell_around, ref_of, object_of, in_used, with_region, cell_count, cell_size_for, regions_for, FitsWords}
+use Rattle.heap_region.specs.Pool.{RegionPool, fresh_region, free_place, first_run, place_or_fresh, new_place, alloc_refusal, is_fresh, blank_object, taken, restored, allocated}
+use Rattle.heap_region.specs.Layout.{Heads, cell_filled}
 use Rattle.heap_region.specs.Table.{HasObject}
 use Rattle.heap_region.proofs.UpdatedLists.{updated_set}
-use Rattle.heap_region.proofs.Places.{IsNextFree, IsNextFresh, new_place_is}
-use Rattle.heap_region.proofs.AllocatedRegions.{has_cell}
-use Rattle.heap_region.proofs.Clauses.{cell_size_holds_words}
+use Rattle.heap_region.proofs.Places.{IsNextFree, IsNextFresh, new_place_is, place_of_large, place_of_small}
+use Rattle.heap_region.proofs.BlockSizes.{cell_size_holds_words, has_cell}
 use Rattle.heap_region.proofs.Ids.{ref_is, id_is_at_least_base}
 use Rattle.heap_region.proofs.FoundObjects.{region_around, ref_region}
 use Rattle.heap_region.proofs.ShownRegions.{used_by_object}
 
--- the least cell size is one of the five
-pub sized_for : (n : ℕ) → IsCellSize (cell_size_for n)
-unfolding cell_size_for
-sized_for n = go (nat_le n 4) (nat_le n 16) (nat_le n 64) (nat_le n 256) (nat_le n 1024)
-  where
-    go : (a b c d e : Bool) → IsCellSize (unwrap_or (cond a (Some 4) (cond b (Some 16) (cond c (Some 64) (cond d (Some 256) (cond e (Some 1024) None))))) 1024)
-    go true b c d e = inl refl
-    go false true c d e = inr (inl refl)
-    go false false true d e = inr (inr (inl refl))
-    go false false false true e = inr (inr (inr (inl refl)))
-    go false false false false true = inr (inr (inr (inr refl)))
-    go false false false false false = inr (inr (inr (inr refl)))
-
 -- ---- refusals
 
-pub object_too_large_is_refused : (n : ℕ) (s : RegionPool) → 1024 < n → alloc_refusal n s ≡ Some TooLarge
+pub object_too_large_is_refused : (n : ℕ) (s : RegionPool) → large_array_limit < n → alloc_refusal n s ≡ Some TooLarge
 unfolding alloc_refusal first_refusal
-object_too_large_is_refused n s lt = ap (λ b. cond b (Some TooLarge) (cond (is_none (new_place n s)) (Some HeapFull) None)) (lt-ltb 1024 n lt)
+object_too_large_is_refused n s lt = ap (λ b. cond b (Some TooLarge) (cond (is_none (new_place n s)) (Some HeapFull) None)) (lt-ltb large_array_limit n lt)
 
-refusal_of_object_not_large : (n : ℕ) (s : RegionPool) → n ≤ 1024 → alloc_refusal n s ≡ cond (is_none (new_place n s)) (Some HeapFull) None
+refusal_of_object_not_large : (n : ℕ) (s : RegionPool) → n ≤ large_array_limit → alloc_refusal n s ≡ cond (is_none (new_place n s)) (Some HeapFull) None
 unfolding alloc_refusal first_refusal
-refusal_of_object_not_large n s le = ap (λ b. cond b (Some TooLarge) (cond (is_none (new_place n s)) (Some HeapFull) None)) (le-ltb 1024 n le)
+refusal_of_object_not_large n s le = ap (λ b. cond b (Some TooLarge) (cond (is_none (new_place n s)) (Some HeapFull) None)) (le-ltb large_array_limit n le)
 
-pub full_heap_refuses_object : (n : ℕ) (s : RegionPool) → n ≤ 1024 → new_place n s ≡ None → alloc_refusal n s ≡ Some HeapFull
+pub full_heap_refuses_object : (n : ℕ) (s : RegionPool) → n ≤ large_array_limit → new_place n s ≡ None → alloc_refusal n s ≡ Some HeapFull
 full_heap_refuses_object n s le none = refusal_of_object_not_large n s le ∙ ap (λ p. cond (is_none p) (Some HeapFull) None) none
 
-pub object_with_place_not_refused : (n : ℕ) (s : RegionPool) (p : ObjRef × Bool) → n ≤ 1024 → new_place n s ≡ Some p → alloc_refusal n s ≡ None
+pub object_with_place_not_refused : (n : ℕ) (s : RegionPool) (p : ObjRef × Bool) → n ≤ large_array_limit → new_place n s ≡ Some p → alloc_refusal n s ≡ None
 object_with_place_not_refused n s p le some = refusal_of_object_not_large n s le ∙ ap (λ p. cond (is_none p) (Some HeapFull) None) some
 
 -- ---- places
@@ -56,17 +43,26 @@ object_with_place_not_refused n s p le some = refusal_of_object_not_large n s le
 abbrev pub first_free : ℕ → RegionPool → Option ObjRef
 first_free n s = slice_get (filter_map (free_place (cell_size_for n)) (enumerate_from 0 s.regions)) 0
 
-pub new_object_takes_free_cell : (n : ℕ) (s : RegionPool) (at : ObjRef) → first_free n s ≡ Some at → new_place n s ≡ Some (at, false)
-unfolding new_place place_or_fresh
-new_object_takes_free_cell n s at some = ap (λ x. place_or_fresh x (slice_get s.pool 0)) some
+pub new_object_takes_free_cell : (n : ℕ) (s : RegionPool) (at : ObjRef) → n ≤ 1024 → first_free n s ≡ Some at → new_place n s ≡ Some (at, false)
+unfolding place_or_fresh
+new_object_takes_free_cell n s at le some = place_of_small n s le ∙ ap (λ x. place_or_fresh x (slice_get s.pool 0)) some
 
-pub new_object_takes_fresh_region : (n : ℕ) (s : RegionPool) (r : ℕ) → first_free n s ≡ None → slice_get s.pool 0 ≡ Some r → new_place n s ≡ Some (record { region = r; cell = 0 }, true)
-unfolding new_place place_or_fresh
-new_object_takes_fresh_region n s r none some = ap (λ x. place_or_fresh x (slice_get s.pool 0)) none ∙ ap (place_or_fresh None) some
+pub new_object_takes_fresh_region : (n : ℕ) (s : RegionPool) (r : ℕ) → n ≤ 1024 → first_free n s ≡ None → slice_get s.pool 0 ≡ Some r → new_place n s ≡ Some (record { region = r; cell = 0 }, true)
+unfolding place_or_fresh
+new_object_takes_fresh_region n s r le none some = place_of_small n s le ∙ (ap (λ x. place_or_fresh x (slice_get s.pool 0)) none ∙ ap (place_or_fresh None) some)
 
-pub new_object_has_no_place : (n : ℕ) (s : RegionPool) → first_free n s ≡ None → slice_get s.pool 0 ≡ None → new_place n s ≡ None
-unfolding new_place place_or_fresh
-new_object_has_no_place n s none empty = ap (λ x. place_or_fresh x (slice_get s.pool 0)) none ∙ ap (place_or_fresh None) empty
+pub new_object_has_no_place : (n : ℕ) (s : RegionPool) → n ≤ 1024 → first_free n s ≡ None → slice_get s.pool 0 ≡ None → new_place n s ≡ None
+unfolding place_or_fresh
+new_object_has_no_place n s le none empty = place_of_small n s le ∙ (ap (λ x. place_or_fresh x (slice_get s.pool 0)) none ∙ ap (place_or_fresh None) empty)
+
+-- a large object takes the first run, if there is one
+pub large_object_takes_run : (n : ℕ) (s : RegionPool) (r : ℕ) → 1024 < n → first_run (regions_for n) s ≡ Some r → new_place n s ≡ Some (record { region = r; cell = 0 }, true)
+unfolding place_or_fresh
+large_object_takes_run n s r lt some = place_of_large n s lt ∙ ap (place_or_fresh None) some
+
+pub large_object_has_no_place : (n : ℕ) (s : RegionPool) → 1024 < n → first_run (regions_for n) s ≡ None → new_place n s ≡ None
+unfolding place_or_fresh
+large_object_has_no_place n s lt none = place_of_large n s lt ∙ ap (place_or_fresh None) none
 
 pub fresh_by_place : (n : ℕ) (s : RegionPool) (at : ObjRef) → new_place n s ≡ Some (at, true) → is_fresh n s ≡ true
 unfolding is_fresh
@@ -76,8 +72,8 @@ fresh_by_place n s at some = ap (λ x. option_map_or (λ p. p.1) x false) some
 pub place_ready : (n : ℕ) (s : RegionPool) (at : ObjRef) → n ≤ 1024 → new_place n s ≡ Some (at, false) → IsSomeAnd (used_at s.regions at.region) (λ u. (slice_get u.free 0 ≡ Some at.cell) × FitsWords u.cell_size n)
 place_ready n s at le place = go (new_place_is n s at false place)
   where
-    go : ((false ≡ false) × IsNextFree n s.regions at) ⊎ ((false ≡ true) × IsNextFresh s.pool at) → IsSomeAnd (used_at s.regions at.region) (λ u. (slice_get u.free 0 ≡ Some at.cell) × FitsWords u.cell_size n)
-    go (inl e) = subst (λ s. IsSomeAnd s (λ u. (slice_get u.free 0 ≡ Some at.cell) × FitsWords u.cell_size n)) (sym e.1.1) (e.1.3, (subst (λ k. n ≤ k) (sym e.1.2) (cell_size_holds_words n le), e.1.2))
+    go : ((false ≡ false) × IsNextFree n s.regions at) ⊎ ((false ≡ true) × IsNextFresh n s at) → IsSomeAnd (used_at s.regions at.region) (λ u. (slice_get u.free 0 ≡ Some at.cell) × FitsWords u.cell_size n)
+    go (inl e) = subst (λ s. IsSomeAnd s (λ u. (slice_get u.free 0 ≡ Some at.cell) × FitsWords u.cell_size n)) (sym e.1.1) (e.1.3, (subst (λ k. n ≤ k) (sym e.1.2) (cell_size_holds_words n), e.1.2))
     go (inr e) = cc
 
 -- ---- the state
@@ -89,8 +85,8 @@ allocated_free at o s = refl
 pub allocated_fresh : (r n : ℕ) (o : Object) (s : RegionPool) → length o.words ≡ n → restored r (cell_filled (fresh_region (cell_size_for n)) 0 o) s ≡ allocated (record { region = r; cell = 0 }) true o s
 unfolding allocated taken restored with_region in_used
 allocated_fresh r n o s long =
-    ap (λ (k : ℕ). let t : RegionPool = record { regions = set s.regions r (InUse (cell_filled (fresh_region (cell_size_for k)) 0 o)); pool = drop 1 s.pool } in t) (sym long)
-    ∙ ap (λ (rs : List Region). let t : RegionPool = record { regions = rs; pool = drop 1 s.pool } in t) (sym (updated_set r (in_used (λ u. cell_filled u 0 o)) s.regions (InUse (fresh_region (cell_size_for (length o.words))))))
+    ap (λ (k : ℕ). let t : RegionPool = record { regions = set s.regions r (InUse (cell_filled (fresh_region (cell_size_for k)) 0 o)); pool = if nat_lt r s.area_start then drop 1 s.pool else s.pool; area_start = s.area_start } in t) (sym long)
+    ∙ ap (λ (rs : List Region). let t : RegionPool = record { regions = rs; pool = if nat_lt r s.area_start then drop 1 s.pool else s.pool; area_start = s.area_start } in t) (sym (updated_set r (in_used (λ u. cell_filled u 0 o)) s.regions (InUse (fresh_region (cell_size_for (length o.words))))))
 
 pub blank_length : (kind : ObjKind) (n : ℕ) (mark : Bool) → length (blank_object kind n mark).words ≡ n
 unfolding blank_object
@@ -99,7 +95,7 @@ blank_length kind n mark = length-replicate n 0
 -- the first cell of a fresh region
 pub fresh_heads : (n : ℕ) → Heads 0 (fresh_region (cell_size_for n)).free
 unfolding fresh_region
-fresh_heads n = go (1024 / cell_size_for n) (has_cell n)
+fresh_heads n = go (cell_count (cell_size_for n)) (has_cell n)
   where
     go : (k : ℕ) → 0 < k → Heads 0 (range_with_len 0 k)
     go zero lt = absurd (omega arith)
@@ -107,7 +103,7 @@ fresh_heads n = go (1024 / cell_size_for n) (has_cell n)
 
 pub fresh_region_has_first_object : (n : ℕ) (o : Object) → HasObject (cell_filled (fresh_region (cell_size_for n)) 0 o)
 unfolding fresh_region
-fresh_region_has_first_object n o = go (1024 / cell_size_for n) (has_cell n)
+fresh_region_has_first_object n o = go (cell_count (cell_size_for n)) (has_cell n)
   where
     go : (k : ℕ) → 0 < k → (cell : ℕ) × IsSome (get_or (set (replicate {A = Option Object} k None) 0 (Some o)) cell None)
     go zero lt = absurd (omega arith)

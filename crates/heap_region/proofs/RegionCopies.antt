@@ -5,7 +5,7 @@ use Rattle.std.specs.Prelude.{option_map}
 use Rattle.std.proofs.lemmas.List.{get_or-set_same, get_or-set_other, set-get_or, drop-set-add}
 use Rattle.heap_region.specs.declared.cell.Header.{Header}
 use Rattle.heap_region.specs.Layout.{words_of, word_set, header_object, header_of, cells_from, CellHeaderFits, IsLocal, overwritten}
-use Rattle.heap_region.specs.Regions.{Object, FitsWords}
+use Rattle.heap_region.specs.Regions.{Object, FitsWords, block_words}
 use Rattle.heap_region.specs.RegionCopies.{Frozen, IsLaid, frozen_with, frozen_word_set}
 use Rattle.heap_region.proofs.Cells.{length-cells_from, cell_shows, header_shows, header_within, cell_lies, cells_changed}
 use Rattle.heap_region.proofs.CellChanges.{local_set, local_overwritten, overwritten_here, take_of_set}
@@ -52,7 +52,7 @@ module _ (size : ℕ) (ws : List ℕ) (hs : List (Option Header)) (l : IsLaid si
       → IsLaid size (overwritten ws (cell * size) ys) (set hs cell (Some h)) × (laid size (overwritten ws (cell * size) ys) (set hs cell (Some h)) ≡ frozen_with cell (Some (record { kind = h.kind; words = ys; live = h.live; mark = h.mark })) (laid size ws hs))
   laid_put cell ys h within fit len =
       let new : List ℕ = overwritten ws (cell * size) ys in
-      let lies : cell * size + size ≤ 1024 = cell_lies size cell hs within l.covers in
+      let lies : cell * size + size ≤ block_words size = cell_lies size cell hs within l.covers in
       let local : IsLocal size cell ws new = local_overwritten size cell ws ys (omega (arith, fit, len)) (omega (arith, lies, l.words)) in
       let words : take h.len (drop (cell * size) new) ≡ ys = ap (λ n. take n (drop (cell * size) new)) len ∙ overwritten_here (cell * size) ws ys (omega (arith, lies, l.words, fit, len)) in
       let after : cells_from size new 0 (set hs cell (Some h)) ≡ set (cells_from size ws 0 hs) cell (header_object (drop (cell * size) new) (Some h)) = cells_changed size cell ws new hs (Some h) within l.fits local in (

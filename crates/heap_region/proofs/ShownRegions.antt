@@ -1,6 +1,6 @@
 -- What is found in the regions that a table shows, and how a change of the table changes them.
-use Rattle.std.proofs.Common.{◌≡◌, ℕ, zero, suc, ◌<◌, Bool, List, length, [], ◌∷◌, map, Option, Some, None, IsSome, IfSome, option_map, get_or, set, refl, sym, ap, subst, ◌∙◌}
-use Rattle.std.specs.Prelude.{slice_get, option_and_then, drop}
+use Rattle.std.proofs.Common.{◌≡◌, ℕ, zero, suc, ◌<◌, Bool, List, length, [], ◌∷◌, map, Option, Some, None, IsSome, IfSome, option_map, get_or, set, refl, sym, ap, subst, ◌∙◌, rules}
+use Rattle.std.specs.Prelude.{nat_lt, slice_get, option_and_then, drop, if◌then◌else◌}
 use Rattle.std.proofs.lemmas.List.{map-set}
 use Rattle.heap_class.specs.declared.ObjRef.{ObjRef}
 use Rattle.heap_region.specs.Regions.{Object, UsedRegion, Region, used_part, used_at, object_at, updated, in_used, with_region, with_object, cell_object, slot_object}
@@ -9,7 +9,6 @@ use Rattle.heap_region.specs.Pool.{RegionPool, taken, freed, released, restored,
 use Rattle.heap_region.specs.Layout.{words_of, changed_at, cell_filled, pending_set}
 use Rattle.heap_region.specs.Live.{cells_of}
 use Rattle.heap_region.specs.Table.{shown_region}
-use Rattle.heap_region.proofs.Tables.{slot_of_object_is_used}
 
 -- an item of a list, by either word
 pub joined_option_is_get_or : {X : Type 0} (xs : List (Option X)) (i : ℕ) → option_and_then (λ (x : Option X). x) (slice_get xs i) ≡ get_or xs i None
@@ -32,6 +31,10 @@ unfolding used_at
 used_region_is_slot [] r = refl
 used_region_is_slot (s ∷ slots) zero = used_part_of_shown_region s
 used_region_is_slot (s ∷ slots) (suc r) = used_region_is_slot slots r
+
+pub slot_of_object_is_used : (s : Option UsedRegion) (cell : ℕ) → IsSome (slot_object s cell) → IsSome s
+slot_of_object_is_used None cell some = some
+slot_of_object_is_used (Some r) cell some = search rules
 
 -- an object of a region that is in use or not
 pub object_of_used : (regions : List Region) (at : ObjRef) → object_at regions at ≡ slot_object (used_at regions at.region) at.cell
@@ -99,21 +102,29 @@ pub ruleset object_lookups = (used_by_object, object_here, length_of_known_words
 
 -- ---- a change of one region
 
-pub shown_regions_with_taken_cell : (slots : List (Option UsedRegion)) (pool : List ℕ) (at : ObjRef) (o : Object) → taken at o (record { regions = map shown_region slots; pool = pool }) ≡ record { regions = map shown_region (set slots at.region (option_map (λ u. cell_filled u at.cell o) (get_or slots at.region None))); pool = pool }
+-- the regions with this pool and this area
+abbrev pub with_regions : List ℕ → ℕ → List Region → RegionPool
+with_regions pool start regions = record { regions = regions; pool = pool; area_start = start }
+
+-- the regions that these slots show, with their pool and their area
+abbrev pub seen : List (Option UsedRegion) → List ℕ → ℕ → RegionPool
+seen slots pool start = with_regions pool start (map shown_region slots)
+
+pub shown_regions_with_taken_cell : (slots : List (Option UsedRegion)) (pool : List ℕ) (start : ℕ) (at : ObjRef) (o : Object) → taken at o (seen slots pool start) ≡ seen (set slots at.region (option_map (λ u. cell_filled u at.cell o) (get_or slots at.region None))) pool start
 unfolding taken
-shown_regions_with_taken_cell slots pool at o = ap (λ (rs : List Region). let s : RegionPool = record { regions = rs; pool = pool } in s) (shown_regions_with_one_changed slots at.region (λ u. cell_filled u at.cell o))
+shown_regions_with_taken_cell slots pool start at o = ap (with_regions pool start) (shown_regions_with_one_changed slots at.region (λ u. cell_filled u at.cell o))
 
-pub freed_shown : (slots : List (Option UsedRegion)) (pool : List ℕ) (at : ObjRef) → freed at (record { regions = map shown_region slots; pool = pool }) ≡ record { regions = map shown_region (set slots at.region (option_map (λ u. cell_freed u at.cell) (get_or slots at.region None))); pool = pool }
+pub freed_shown : (slots : List (Option UsedRegion)) (pool : List ℕ) (start : ℕ) (at : ObjRef) → freed at (seen slots pool start) ≡ seen (set slots at.region (option_map (λ u. cell_freed u at.cell) (get_or slots at.region None))) pool start
 unfolding freed
-freed_shown slots pool at = ap (λ (rs : List Region). let s : RegionPool = record { regions = rs; pool = pool } in s) (shown_regions_with_one_changed slots at.region (λ u. cell_freed u at.cell))
+freed_shown slots pool start at = ap (with_regions pool start) (shown_regions_with_one_changed slots at.region (λ u. cell_freed u at.cell))
 
-pub released_shown : (slots : List (Option UsedRegion)) (pool : List ℕ) (r : ℕ) → released r (record { regions = map shown_region slots; pool = pool }) ≡ record { regions = map shown_region (set slots r None); pool = r ∷ pool }
+pub released_shown : (slots : List (Option UsedRegion)) (pool : List ℕ) (start r : ℕ) → released r (seen slots pool start) ≡ seen (set slots r None) (if nat_lt r start then r ∷ pool else pool) start
 unfolding released
-released_shown slots pool r = ap (λ (rs : List Region). let s : RegionPool = record { regions = rs; pool = r ∷ pool } in s) (sym (map-set shown_region slots r None))
+released_shown slots pool start r = ap (with_regions (if nat_lt r start then r ∷ pool else pool) start) (sym (map-set shown_region slots r None))
 
-pub restored_shown : (slots : List (Option UsedRegion)) (pool : List ℕ) (r : ℕ) (u : UsedRegion) → restored r u (record { regions = map shown_region slots; pool = pool }) ≡ record { regions = map shown_region (set slots r (Some u)); pool = drop 1 pool }
+pub restored_shown : (slots : List (Option UsedRegion)) (pool : List ℕ) (start r : ℕ) (u : UsedRegion) → restored r u (seen slots pool start) ≡ seen (set slots r (Some u)) (if nat_lt r start then drop 1 pool else pool) start
 unfolding restored
-restored_shown slots pool r u = ap (λ (rs : List Region). let s : RegionPool = record { regions = rs; pool = drop 1 pool } in s) (sym (map-set shown_region slots r (Some u)))
+restored_shown slots pool start r u = ap (with_regions (if nat_lt r start then drop 1 pool else pool) start) (sym (map-set shown_region slots r (Some u)))
 
 pub shown_regions_with_changed_object : (slots : List (Option UsedRegion)) (at : ObjRef) (f : Object → Object) → with_object at f (map shown_region slots) ≡ map shown_region (set slots at.region (option_map (λ u. changed_at u at.cell f) (get_or slots at.region None)))
 unfolding with_object

@@ -8,12 +8,13 @@ use Rattle.heap_region.specs.Changes.{with_pending}
 use Rattle.heap_region.specs.Pool.{RegionPool, taken, freed, cell_freed}
 use Rattle.heap_region.specs.Layout.{IsWholeRegion, changed_at, cell_filled, pending_set}
 use Rattle.heap_region.specs.Table.{shown_region, free_class_of, IsRegionTable, IsGood}
-use Rattle.heap_region.proofs.ShownRegions.{used_region_is_slot, object_shown, shown_regions_with_taken_cell, freed_shown, shown_regions_with_changed_object, pending_shown, shown_regions_with_one_changed}
-use Rattle.heap_region.proofs.Tables.{table_changed, table_with_region_of_same_room, in_use_within, slot_with_property_is_used, slot_of_object_is_used, take_ready, good_region_with_taken_cell, good_region_with_freed_cell, good_region_with_changed_object, mapped_some, room_kept, pending_kept}
+use Rattle.heap_region.proofs.ShownRegions.{object_shown, pending_shown, seen, shown_regions_with_changed_object, shown_regions_with_one_changed, shown_regions_with_taken_cell, slot_of_object_is_used, freed_shown, used_region_is_slot, with_regions}
+use Rattle.heap_region.proofs.Tables.{table_changed, table_with_region_of_same_room, in_use_within, size_in, slot_with_property_is_used, take_ready, good_region_with_taken_cell, good_region_with_freed_cell, good_region_with_changed_object, mapped_some, room_kept, pending_kept}
 
--- the regions that these slots show, with their pool
-abbrev pub seen : List (Option UsedRegion) → List ℕ → RegionPool
-seen slots pool = record { regions = map shown_region slots; pool = pool }
+-- a change that keeps the size of cells
+pub size_kept : (f : UsedRegion → UsedRegion) → ((u : UsedRegion) → (f u).cell_size ≡ u.cell_size) → (s : Option UsedRegion) → size_in (option_map f s) ≡ size_in s
+size_kept f keeps None = refl
+size_kept f keeps (Some u) = ap Some (keeps u)
 
 -- the slot of a region in use
 pub slot_used : (slots : List (Option UsedRegion)) (r : ℕ) → IsSome (used_at (map shown_region slots) r) → (used_at (map shown_region slots) r ≡ get_or slots r None) × (r < length slots)
@@ -45,40 +46,40 @@ pub ruleset object_slots = (slot_of_object, place_read_with_any_default, length_
 pub changed_slot : (slots : List (Option UsedRegion)) (r : ℕ) (f : UsedRegion → UsedRegion) (found new : Option UsedRegion) → r < length slots → found ≡ get_or slots r found → new ≡ option_map f found → new ≡ option_map f (get_or slots r None)
 changed_slot slots r f found new lt read is = is ∙ ap (option_map f) (read ∙ place_read_with_any_default slots r found lt)
 
-module _ (slots : List (Option UsedRegion)) (free_classes pool : List ℕ) (capacity : ℕ) (table : IsRegionTable slots free_classes pool capacity) (s : RegionPool) (view : seen slots pool ≡ s) where
+module _ (slots : List (Option UsedRegion)) (free_classes pool : List ℕ) (capacity start : ℕ) (table : IsRegionTable slots free_classes pool capacity start) (s : RegionPool) (view : seen slots pool start ≡ s) where
   -- an object is changed in its place
-  pub object_changed : (at : ObjRef) (f : Object → Object) → IsSome (object_at s.regions at) → (found new : Option UsedRegion) → found ≡ get_or slots at.region found → new ≡ option_map (λ u. changed_at u at.cell f) found → IfSome new (λ u. IsWholeRegion u) → IsRegionTable (set slots at.region new) free_classes pool capacity × (seen (set slots at.region new) pool ≡ record s { regions = with_object at f s.regions })
+  pub object_changed : (at : ObjRef) (f : Object → Object) → IsSome (object_at s.regions at) → (found new : Option UsedRegion) → found ≡ get_or slots at.region found → new ≡ option_map (λ u. changed_at u at.cell f) found → IfSome new (λ u. IsWholeRegion u) → IsRegionTable (set slots at.region new) free_classes pool capacity start × (seen (set slots at.region new) pool start ≡ record s { regions = with_object at f s.regions })
   object_changed at f there found new read is whole =
       let old : Option UsedRegion = get_or slots at.region None in
       let slot : (object_at (map shown_region slots) at ≡ slot_object old at.cell) × IsSome old × (at.region < length slots) = slot_of_object slots at (rw (← view) at there) in
       let now : new ≡ option_map (λ u. changed_at u at.cell f) old = changed_slot slots at.region (λ u. changed_at u at.cell f) found new slot.2 read is in
       let kept = room_kept old at.cell f slot.1 in (
-        rw now (table_with_region_of_same_room slots free_classes pool capacity at.region _ table slot.1 kept.0 (good_region_with_changed_object old at.cell f (table.good at.region) (rw now at whole)) kept.1),
-        rw (← view, now) (ap (λ rs. let p : RegionPool = record { regions = rs; pool = pool } in p) (sym (shown_regions_with_changed_object slots at f))),
+        rw now (table_with_region_of_same_room slots free_classes pool capacity start at.region _ table slot.1 kept.0 (good_region_with_changed_object old at.cell f (table.good at.region) (rw now at whole)) (size_kept (λ u. changed_at u at.cell f) (λ u. refl) old) kept.1),
+        rw (← view, now) (ap (with_regions pool start) (sym (shown_regions_with_changed_object slots at f))),
       )
 
   -- the `pending` bit of a region is written
-  pub pending_changed : (r : ℕ) (pending : Bool) → IsSome (used_at s.regions r) → (found new : Option UsedRegion) → found ≡ get_or slots r found → new ≡ option_map (pending_set pending) found → IsRegionTable (set slots r new) free_classes pool capacity × (seen (set slots r new) pool ≡ record s { regions = with_pending pending r s.regions })
+  pub pending_changed : (r : ℕ) (pending : Bool) → IsSome (used_at s.regions r) → (found new : Option UsedRegion) → found ≡ get_or slots r found → new ≡ option_map (pending_set pending) found → IsRegionTable (set slots r new) free_classes pool capacity start × (seen (set slots r new) pool start ≡ record s { regions = with_pending pending r s.regions })
   pending_changed r pending some found new read is =
       let old : Option UsedRegion = get_or slots r None in
       let slot : (used_at (map shown_region slots) r ≡ old) × (r < length slots) = slot_used slots r (rw (← view) at some) in
       let used : IsSome old = rw (← view, slot.0) at some in
       let now : new ≡ option_map (pending_set pending) old = changed_slot slots r (pending_set pending) found new slot.1 read is in
       let kept = pending_kept old pending used (table.good r) in (
-        rw now (table_with_region_of_same_room slots free_classes pool capacity r _ table used kept.0 kept.1 kept.2),
-        rw (← view, now) (ap (λ rs. let p : RegionPool = record { regions = rs; pool = pool } in p) (sym (pending_shown slots r pending))),
+        rw now (table_with_region_of_same_room slots free_classes pool capacity start r _ table used kept.0 kept.1 (size_kept (pending_set pending) (λ u. refl) old) kept.2),
+        rw (← view, now) (ap (with_regions pool start) (sym (pending_shown slots r pending))),
       )
 
   -- a region in use is changed, but neither its free list nor which of its cells have an object
-  pub region_changed : (r : ℕ) (f : UsedRegion → UsedRegion) → ((x : Option UsedRegion) → IsSome x → IsGood x → IsSome (option_map f x) × IsGood (option_map f x) × (free_class_of (option_map f x) ≡ free_class_of x)) → IsSome (used_at s.regions r) → (found new : Option UsedRegion) → found ≡ get_or slots r found → new ≡ option_map f found → IsRegionTable (set slots r new) free_classes pool capacity × (seen (set slots r new) pool ≡ record s { regions = with_region r f s.regions })
-  region_changed r f keeps some found new read is =
+  pub region_changed : (r : ℕ) (f : UsedRegion → UsedRegion) → ((u : UsedRegion) → (f u).cell_size ≡ u.cell_size) → ((x : Option UsedRegion) → IsSome x → IsGood x → IsSome (option_map f x) × IsGood (option_map f x) × (free_class_of (option_map f x) ≡ free_class_of x)) → IsSome (used_at s.regions r) → (found new : Option UsedRegion) → found ≡ get_or slots r found → new ≡ option_map f found → IsRegionTable (set slots r new) free_classes pool capacity start × (seen (set slots r new) pool start ≡ record s { regions = with_region r f s.regions })
+  region_changed r f sizes keeps some found new read is =
       let old : Option UsedRegion = get_or slots r None in
       let slot : (used_at (map shown_region slots) r ≡ old) × (r < length slots) = slot_used slots r (rw (← view) at some) in
       let used : IsSome old = rw (← view, slot.0) at some in
       let now : new ≡ option_map f old = changed_slot slots r f found new slot.1 read is in
       let kept = keeps old used (table.good r) in (
-        rw now (table_with_region_of_same_room slots free_classes pool capacity r _ table used kept.0 kept.1 kept.2),
-        rw (← view, now) (ap (λ rs. let p : RegionPool = record { regions = rs; pool = pool } in p) (sym (shown_regions_with_one_changed slots r f))),
+        rw now (table_with_region_of_same_room slots free_classes pool capacity start r _ table used kept.0 kept.1 (size_kept f sizes old) kept.2),
+        rw (← view, now) (ap (with_regions pool start) (sym (shown_regions_with_one_changed slots r f))),
       )
 
   -- what a call found of a region in use
@@ -88,33 +89,33 @@ module _ (slots : List (Option UsedRegion)) (free_classes pool : List ℕ) (capa
       rw (← view) (ap g (read ∙ place_read_with_any_default slots r found slot.1 ∙ sym slot.0))
 
   -- what the table and the free classes keep once the changed region was read again
-  reread : (r : ℕ) (f : UsedRegion → UsedRegion) → IsSome (get_or slots r None) → (found new now : Option UsedRegion) → found ≡ get_or slots r found → new ≡ option_map f found → now ≡ get_or (set slots r new) r now → IfSome now (λ u. IsWholeRegion u) → (IfSome (option_map f (get_or slots r None)) (λ u. IsWholeRegion u) → IsGood (option_map f (get_or slots r None))) → IsRegionTable (set slots r new) (set free_classes r (free_class_of now)) pool capacity
-  reread r f used found new now read is again whole good =
+  reread : (r : ℕ) (f : UsedRegion → UsedRegion) → ((u : UsedRegion) → (f u).cell_size ≡ u.cell_size) → IsSome (get_or slots r None) → (found new now : Option UsedRegion) → found ≡ get_or slots r found → new ≡ option_map f found → now ≡ get_or (set slots r new) r now → IfSome now (λ u. IsWholeRegion u) → (IfSome (option_map f (get_or slots r None)) (λ u. IsWholeRegion u) → IsGood (option_map f (get_or slots r None))) → IsRegionTable (set slots r new) (set free_classes r (free_class_of now)) pool capacity start
+  reread r f sizes used found new now read is again whole good =
       let lt : r < length slots = in_use_within slots r used in
       let old : Option UsedRegion = get_or slots r None in
       let next : new ≡ option_map f old = changed_slot slots r f found new lt read is in
       let same : now ≡ option_map f old = again ∙ (get_or-set_same slots r new now lt ∙ next) in
-      rw (same, next) (table_changed slots free_classes pool capacity table r _ used (mapped_some old f used) (good (rw same at whole)))
+      rw (same, next) (table_changed slots free_classes pool capacity start table r _ used (mapped_some old f used) (good (rw same at whole)) (size_kept f sizes old))
 
   -- an object is put into the cell that heads its region's free list
-  pub object_taken : (at : ObjRef) (o : Object) (n : ℕ) → IsSomeAnd (used_at s.regions at.region) (λ u. (slice_get u.free 0 ≡ Some at.cell) × FitsWords u.cell_size n) → (found new now : Option UsedRegion) → found ≡ get_or slots at.region found → new ≡ option_map (λ u. cell_filled u at.cell o) found → now ≡ get_or (set slots at.region new) at.region now → IfSome now (λ u. IsWholeRegion u) → IsRegionTable (set slots at.region new) (set free_classes at.region (free_class_of now)) pool capacity × (seen (set slots at.region new) pool ≡ taken at o s)
+  pub object_taken : (at : ObjRef) (o : Object) (n : ℕ) → IsSomeAnd (used_at s.regions at.region) (λ u. (slice_get u.free 0 ≡ Some at.cell) × FitsWords u.cell_size n) → (found new now : Option UsedRegion) → found ≡ get_or slots at.region found → new ≡ option_map (λ u. cell_filled u at.cell o) found → now ≡ get_or (set slots at.region new) at.region now → IfSome now (λ u. IsWholeRegion u) → IsRegionTable (set slots at.region new) (set free_classes at.region (free_class_of now)) pool capacity start × (seen (set slots at.region new) pool start ≡ taken at o s)
   object_taken at o n ready found new now read is again whole =
       let old : Option UsedRegion = get_or slots at.region None in
       let need = rw (← view, used_region_is_slot slots at.region) at ready in
       let used : IsSome old = slot_with_property_is_used _ _ need in
       let next : new ≡ option_map (λ u. cell_filled u at.cell o) old = changed_slot slots at.region (λ u. cell_filled u at.cell o) found new (in_use_within slots at.region used) read is in (
-        reread at.region (λ u. cell_filled u at.cell o) used found new now read is again whole (λ w. good_region_with_taken_cell old at.cell n o (table.good at.region) (take_ready old at.cell n need) w),
-        rw (← view, next) (sym (shown_regions_with_taken_cell slots pool at o)),
+        reread at.region (λ u. cell_filled u at.cell o) (λ u. refl) used found new now read is again whole (λ w. good_region_with_taken_cell old at.cell n o (table.good at.region) (take_ready old at.cell n need) w),
+        rw (← view, next) (sym (shown_regions_with_taken_cell slots pool start at o)),
       )
 
   -- an object leaves its cell, and another stays in the region
-  pub object_freed : (at b : ObjRef) → IsSome (object_at s.regions at) → b.region ≡ at.region → b ≢ at → IsSome (object_at s.regions b) → (found new now : Option UsedRegion) → found ≡ get_or slots at.region found → new ≡ option_map (λ u. cell_freed u at.cell) found → now ≡ get_or (set slots at.region new) at.region now → IfSome now (λ u. IsWholeRegion u) → IsRegionTable (set slots at.region new) (set free_classes at.region (free_class_of now)) pool capacity × (seen (set slots at.region new) pool ≡ freed at s)
+  pub object_freed : (at b : ObjRef) → IsSome (object_at s.regions at) → b.region ≡ at.region → b ≢ at → IsSome (object_at s.regions b) → (found new now : Option UsedRegion) → found ≡ get_or slots at.region found → new ≡ option_map (λ u. cell_freed u at.cell) found → now ≡ get_or (set slots at.region new) at.region now → IfSome now (λ u. IsWholeRegion u) → IsRegionTable (set slots at.region new) (set free_classes at.region (free_class_of now)) pool capacity start × (seen (set slots at.region new) pool start ≡ freed at s)
   object_freed at b there beside other stays found new now read is again whole =
       let old : Option UsedRegion = get_or slots at.region None in
       let slot : (object_at (map shown_region slots) at ≡ slot_object old at.cell) × IsSome old × (at.region < length slots) = slot_of_object slots at (rw (← view) at there) in
       let next : new ≡ option_map (λ u. cell_freed u at.cell) old = changed_slot slots at.region (λ u. cell_freed u at.cell) found new slot.2 read is in
       let there_too : IsSome (slot_object (get_or slots b.region None) b.cell) = rw (← view, object_shown slots b) at stays in
       let kept : IsSome (slot_object old b.cell) = subst (λ k. IsSome (slot_object (get_or slots k None) b.cell)) beside there_too in (
-        reread at.region (λ u. cell_freed u at.cell) slot.1 found new now read is again whole (λ w. good_region_with_freed_cell old at.cell b.cell (λ e. other (λ k. record { region = beside k; cell = e k })) kept w),
-        rw (← view, next) (sym (freed_shown slots pool at)),
+        reread at.region (λ u. cell_freed u at.cell) (λ u. refl) slot.1 found new now read is again whole (λ w. good_region_with_freed_cell old at.cell b.cell (λ e. other (λ k. record { region = beside k; cell = e k })) kept w),
+        rw (← view, next) (sym (freed_shown slots pool start at)),
       )

@@ -53,3 +53,12 @@ turned_region_stays_good = mapped_objects_keep_region_good turned_object (λ o. 
 pub turned_back_good : (x : Option UsedRegion) → IsSome x → IsGood x → IsSome (option_map turned_back_region x) × IsGood (option_map turned_back_region x) × (free_class_of (option_map turned_back_region x) ≡ free_class_of x)
 unfolding turned_back_region
 turned_back_good = mapped_objects_keep_region_good turned_back_object (λ o. refl)
+
+-- nor does a turn change the size of cells
+pub turned_region_keeps_size : (u : UsedRegion) → (turned_region u).cell_size ≡ u.cell_size
+unfolding turned_region
+turned_region_keeps_size u = refl
+
+pub turned_back_region_keeps_size : (u : UsedRegion) → (turned_back_region u).cell_size ≡ u.cell_size
+unfolding turned_back_region
+turned_back_region_keeps_size u = refl

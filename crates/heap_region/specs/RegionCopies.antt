@@ -1,7 +1,7 @@
 -- A copy of a region: its cells with the objects in them, and no free list.
 use Rattle.std.specs.Prelude.{◌≡◌, ℕ, ◌*◌, List, length, Option, None, option_map, slice_index_or, slice_set}
-use Rattle.heap_region.specs.Regions.{Object, UsedRegion, Region, used_at}
-use Rattle.heap_region.specs.Layout.{IsCellSize, CellHeaderFits, words_of, word_set}
+use Rattle.heap_region.specs.Regions.{Object, UsedRegion, Region, block_words, used_at}
+use Rattle.heap_region.specs.Layout.{IsBlockSize, CellHeaderFits, words_of, word_set}
 use Rattle.heap_region.specs.declared.cell.Header.{Header}
 
 -- a copy of a region: the size of its cells in words, and the objects in them
@@ -36,7 +36,7 @@ region_frozen regions r = option_map frozen (used_at regions r)
 
 -- these words and headers are those of cells of this size
 pub record IsLaid (size : ℕ) (ws : List ℕ) (hs : List (Option Header)) : Type 0 where
-  pub sized : IsCellSize size
-  pub words : length ws ≡ 1024
-  pub covers : length hs * size ≡ 1024
+  pub sized : IsBlockSize size
+  pub words : length ws ≡ block_words size
+  pub covers : length hs * size ≡ block_words size
   pub fits : (cell : ℕ) → CellHeaderFits size (slice_index_or hs cell None)

@@ -1,7 +1,7 @@
 //! Headers of cells, in sixteen bytes each.
 ghost use Rattle.std.specs.Prelude.{◌≡◌, ◌≤◌, Some, None, IsSome, option_map};
 ghost use Rattle.heap_region.specs.Layout.{header_live, with_bit};
-ghost use Rattle.heap_region.specs.Limits.{region_words};
+ghost use Rattle.heap_region.specs.Limits.{heap_words};
 
 use heap_class::{ClassNo, Kind, ObjKind};
 use std::marker::Model;
@@ -43,7 +43,7 @@ pub(crate) enum Sort {
 pub(crate) struct Cell {
     // The class of an instance or of an array of references, else 0.
     class: ClassNo,
-    len: u16,
+    len: u32,
     sort: Sort,
     // The kind of an array's values, else Object.
     kind: Kind,
@@ -91,7 +91,7 @@ impl Cell {
     // Returns a cell with an object of this header.
     #[inline(always)]
     pub(crate) fn with_header(header: Header) -> Cell
-        requires { header.len ≤ region_words }
+        requires { header.len ≤ heap_words }
         ensures { result ≡ Some header }
     {
         let (sort, class, kind) = match header.kind {
@@ -101,7 +101,7 @@ impl Cell {
         };
         Cell {
             class,
-            len: header.len as u16,
+            len: header.len as u32,
             sort,
             kind,
             live: header.live,

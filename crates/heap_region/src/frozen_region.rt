@@ -2,9 +2,10 @@
 ghost use Rattle.std.specs.Prelude.{◌≡◌, ◌*◌, ◌+◌, ◌<◌, ◌≤◌, length, IfOk, IsSome, IfSome, Some};
 ghost use Rattle.heap_region.specs.Regions.{FitsWords};
 ghost use Rattle.heap_region.specs.RegionCopies.{frozen, frozen_object, frozen_with, frozen_word_set, frozen_words};
-ghost use Rattle.heap_region.specs.Limits.{region_words};
+ghost use Rattle.heap_region.specs.Limits.{heap_words};
 
-use crate::storage::{Block, ObjectCopy, Storage, header_at, part};
+use crate::block::Block;
+use crate::storage::{ObjectCopy, Storage, header_at, part, put_object};
 use heap_class::ObjKind;
 use std::alloc::{AllocError, Global};
 use std::marker::Model;
@@ -13,8 +14,8 @@ use std::marker::Model;
 /// had when it was made.
 #[derive(Drop)]
 pub struct FrozenRegion {
-    block: Box<Block>,
-    cell_size: u16,
+    block: Block,
+    cell_size: u32,
 }
 
 impl Model for FrozenRegion {
@@ -27,26 +28,10 @@ impl Model for FrozenRegion {
     ghost view = { λ f.
         record {
           cell_size = f.cell_size;
-          cells = cells_from f.cell_size f.block.value.words 0 f.block.value.headers;
+          cells = cells_from f.cell_size f.block.words 0 f.block.headers;
         } };
 
-    ghost invariant = { λ f. IsLaid f.cell_size f.block.value.words f.block.value.headers };
-}
-
-impl Block {
-    // Copies the words and the headers. It is never inlined, so that no other function has a block on its stack.
-    #[inline(never)]
-    fn copy_block(&self, alloc: Global) -> Result<Box<Block>, AllocError>
-        ensures { IfOk result
-            (λ b. (b.value.words ≡ self.now.words)
-            × (b.value.headers ≡ self.now.headers)) }
-    {
-        let copy = Block {
-            words: self.words,
-            headers: self.headers.copied(),
-        };
-        Ok(Box::new(alloc, copy)?)
-    }
+    ghost invariant = { λ f. IsLaid f.cell_size f.block.words f.block.headers };
 }
 
 impl Storage {
@@ -55,17 +40,17 @@ impl Storage {
         ensures { IfOk result (λ f. f ≡ frozen self.now) }
     {
         Ok(FrozenRegion {
-            block: self.block.copy_block(alloc)?,
+            block: self.block.copied(alloc)?,
             cell_size: self.cell_size,
         })
     }
 }
 
 impl FrozenRegion {
-    /// Returns the size of each cell in words: at most 1,024.
+    /// Returns the size of each cell in words.
     pub fn cell_size(&self) -> u64
         ensures value { result ≡ self.now.cell_size }
-        ensures limit { result ≤ region_words }
+        ensures limit { result ≤ heap_words }
     {
         self.cell_size as u64
     }
@@ -76,7 +61,7 @@ impl FrozenRegion {
         requires { IsSome (frozen_object self.now cell) }
         ensures { IfSome (frozen_object self.now cell) (λ o. result ≡ o.kind) }
     {
-        header_at(&self.block.headers, cell as usize).kind
+        header_at(self.block.headers(), cell as usize).kind
     }
 
     /// Returns the words of the object in the cell, in slot order. The cell must have one.
@@ -85,9 +70,12 @@ impl FrozenRegion {
         requires { IsSome (frozen_object self.now cell) }
         ensures { IfSome (frozen_object self.now cell) (λ o. result.now ≡ o.words) }
     {
-        let block = &*self.block;
-        let len = header_at(&block.headers, cell as usize).len;
-        part(&block.words, cell as usize * self.cell_size as usize, len)
+        let len = header_at(self.block.headers(), cell as usize).len;
+        part(
+            self.block.words(),
+            cell as usize * self.cell_size as usize,
+            len,
+        )
     }
 
     /// Writes a word of the object in the cell, which must have the slot. Takes no memory.
@@ -97,7 +85,7 @@ impl FrozenRegion {
         ensures { self.new ≡ frozen_word_set cell slot value self.old }
     {
         let at = cell as usize * self.cell_size as usize + slot as usize;
-        self.block.words[at] = value;
+        self.block.set_word(at, value);
     }
 
     /// Puts an object into the cell, whether or not the cell had one. The cells must have the least size that holds it. Takes
@@ -109,6 +97,6 @@ impl FrozenRegion {
         ensures { self.new ≡ frozen_with cell (Some object.now) self.old }
     {
         let start = cell as usize * self.cell_size as usize;
-        self.block.put(start, cell as usize, object);
+        put_object(&mut self.block, start, cell as usize, object);
     }
 }

@@ -1,7 +1,7 @@
 //! The headers of a region's cells, whose bits are read by turns.
 ghost use Rattle.std.specs.Prelude.{◌≡◌, ◌<◌, ◌≤◌, [], length, map, Some, None, IsSome, option_map, count_by, replicate, slice_index_or, slice_set};
 ghost use Rattle.heap_region.specs.Layout.{with_bit, header_live};
-ghost use Rattle.heap_region.specs.Limits.{region_words, cell_limit};
+ghost use Rattle.heap_region.specs.Limits.{cell_limit, heap_words};
 ghost use Rattle.heap_region.specs.TurnedHeaders.{header_dead, header_unmarked, turned_header, turned_back_header};
 
 use crate::cell::{Bit, Cell, Header};
@@ -49,7 +49,7 @@ fn header_with(header: Option<Header>, bit: Bit, on: bool) -> Header
 #[inline(always)]
 fn set_header(kept: &mut ArrayVec<Cell, 256>, cell: usize, header: Header)
     requires within { cell < length kept.old.items }
-    requires fits { header.len ≤ region_words }
+    requires fits { header.len ≤ heap_words }
     ensures { kept.new.items ≡ slice_set kept.old.items cell (Some header) }
 {
     kept[cell] = Cell::with_header(header);
@@ -157,7 +157,7 @@ impl Headers {
     pub(crate) fn fill(&mut self, cell: usize, header: Header)
         requires within { cell < length self.old }
         requires vacant { slice_index_or self.old cell None ≡ None }
-        requires fits { header.len ≤ region_words }
+        requires fits { header.len ≤ heap_words }
         ensures { self.new ≡ slice_set self.old cell (Some header) }
     {
         self.counts = self.counts.with(header);
@@ -167,7 +167,7 @@ impl Headers {
     // Writes the header of the object in a cell.
     pub(crate) fn set(&mut self, cell: usize, header: Header)
         requires within { cell < length self.old }
-        requires fits { header.len ≤ region_words }
+        requires fits { header.len ≤ heap_words }
         ensures { self.new ≡ slice_set self.old cell (Some header) }
     {
         let was = self.at(cell);

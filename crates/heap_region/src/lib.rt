@@ -7,16 +7,18 @@ ghost use Rattle.std.specs.Option.{option_map_or};
 ghost use Rattle.heap_class.specs.Refusals.{IsAnswered};
 ghost use Rattle.heap_class.specs.declared.ObjRef.{ObjRef};
 ghost use Rattle.heap_class.specs.declared.Refusal.TheVariants.{NoMemory};
-ghost use Rattle.heap_region.specs.Limits.{region_limit, region_words, cell_limit};
+ghost use Rattle.heap_class.specs.Limits.{large_array_limit};
+ghost use Rattle.heap_region.specs.Limits.{region_limit, region_words, cell_limit, heap_words};
 ghost use Rattle.heap_region.specs.RegionCopies.{region_frozen};
 ghost use Rattle.heap_region.specs.Regions.{FitsWords, Object, UsedRegion, object_at, object_of, used_at, id_of, ref_of, with_object, with_region, with_word};
-ghost use Rattle.heap_region.specs.Pool.{RegionPool, opening_pool, alloc_refusal, is_fresh, free_place, pending_place, new_place, taken, freed, released, restored, allocated, unallocated, blank_object};
-ghost use Rattle.heap_region.specs.Legal.{IsCellTable, IsRegionPool};
+ghost use Rattle.heap_region.specs.Pool.{RegionPool, opening_pool, alloc_refusal, is_fresh, free_place, pending_place, first_run, new_place, taken, freed, released, restored, allocated, unallocated, blank_object};
+ghost use Rattle.heap_region.specs.Legal.{IsCellTable, IsRegionPool, MayRestore};
 ghost use Rattle.heap_region.specs.Layout.{IsCellSize, bit_set};
 ghost use Rattle.heap_region.specs.Changes.{WritesLive, WritesMark, WritesPending};
 ghost use Rattle.heap_region.specs.Live.{cells_of, is_dead, is_live};
 ghost use Rattle.heap_region.specs.Turns.{turned_region, turned_back_region, unmarked_in};
 
+mod block;
 mod cell;
 mod counts;
 mod frozen_region;
@@ -34,10 +36,12 @@ pub use frozen_region::FrozenRegion;
 use heap_class::{ObjKind, ObjRef, Refusal};
 pub use lists::{FreeCells, PoolRegions};
 use region_classes::RegionClasses;
-pub use sizes::{OBJECT_BASE, REGION_WORDS, cell_size_for};
+pub use sizes::{OBJECT_BASE, REGION_WORDS};
+use sizes::{LARGE_LIMIT, cell_size_for, regions_for};
 use slots::{
-    WAITING, first_free_in, free_class, free_in, pool_head, set_bit_in, set_pending_in,
-    set_word_in, size_class, slot_at, take_in, turn_back_in, turn_in, unfree_in, wait_class,
+    WAITING, empty_slots, first_free_in, first_run_in, free_class, free_in, full_pool, give_head,
+    pool_head, set_bit_in, set_pending_in, set_word_in, size_class, slot_at, take_head, take_in,
+    turn_back_in, turn_in, unfree_in, wait_class,
 };
 use std::alloc::{AllocError, Global};
 use std::marker::Model;
@@ -52,8 +56,10 @@ pub struct Regions {
     free_classes: RegionClasses,
     // For each region 1 if it waits to be swept, else 0.
     waits: RegionClasses,
-    // The empty regions, the head last. It has room for all regions.
+    // The empty regions below the area, the head last. It has room for all regions below the area.
     pool: Vec<usize>,
+    // The first region of the area.
+    area_start: usize,
 }
 
 impl Model for Regions {
@@ -65,22 +71,28 @@ impl Model for Regions {
     ghost use Rattle.heap_region.specs.Table.{AreWaiting, IsRegionTable, shown_region};
 
     ghost view = { λ h.
-        record { regions = map shown_region h.slots.items; pool = reverse h.pool.items } };
+        record {
+          regions = map shown_region h.slots.items;
+          pool = reverse h.pool.items;
+          area_start = h.area_start;
+        } };
 
     ghost invariant = { λ h. IsRegionTable h.slots.items h.free_classes (reverse h.pool.items)
-        (vec_capacity h.pool)
+        (vec_capacity h.pool) h.area_start
         × AreWaiting h.slots.items h.waits };
 }
 
 impl Regions {
-    /// Creates `count` empty regions: 1 to 256, in a wide heap 1 to 65,536. Fails with NoMemory if one of its four allocations
-    /// fails. One of these is the pool, which has room for all regions.
-    pub fn new(alloc: Global, count: u64) -> Result<Regions, Refusal>
-        requires { (1 ≤ count) × (count ≤ region_limit) }
-        ensures opened { IfOk result (λ s. s ≡ opening_pool count) }
+    /// Creates `count` empty regions: 1 to 256, in a wide heap 1 to 65,536. The last `area` of them are the area, in which objects
+    /// of more than 1,024 slots lie. Fails with NoMemory if one of its four allocations fails. One of these is the pool, which
+    /// has room for all regions below the area.
+    pub fn new(alloc: Global, count: u64, area: u64) -> Result<Regions, Refusal>
+        requires sized { (1 ≤ count) × (count ≤ region_limit) }
+        requires within { area ≤ count }
+        ensures opened { IfOk result (λ s. s ≡ opening_pool count area) }
         ensures refused { IfErr result (λ e. e ≡ NoMemory) }
     {
-        match Regions::open(alloc, count as usize) {
+        match Regions::open(alloc, count as usize, area as usize) {
             Ok(regions) => Ok(regions),
             Err(_) => Err(Refusal::NoMemory),
         }
@@ -102,9 +114,10 @@ impl Regions {
         self.alloc
     }
 
-    /// Makes an object of `len` slots, each 0, and returns its place and whether its region was taken from the pool. Fails with
-    /// TooLarge if `len` is more than 1,024, with HeapFull if no region has a free cell of its size and the pool is empty, and
-    /// with NoMemory if a region's storage can't be allocated.
+    /// Makes an object of `len` slots, each 0, and returns its place and whether its region was empty. Fails with TooLarge if
+    /// `len` is more than 2,097,147, and with NoMemory if a region's storage can't be allocated. Fails with HeapFull if no region
+    /// has a free cell of its size and the pool is empty; for more than 1,024 slots, if the area has no empty regions in a row
+    /// that hold it.
     #[inline(always)]
     pub fn alloc(&mut self, kind: ObjKind, len: u64, mark: bool) -> Result<(ObjRef, bool), Refusal>
         ensures answered { IsAnswered (alloc_refusal len self.old) (is_fresh len self.old) result }
@@ -114,26 +127,17 @@ impl Regions {
         ensures unchanged { OnErr result (self.new ≡ self.old) }
     {
         if len > REGION_WORDS {
-            return Err(Refusal::TooLarge);
+            return self.alloc_large(kind, len, mark);
         }
-        let size = cell_size_for(len) as usize;
-        if let Some(at) = self.place_for(size) {
-            self.take_at(at, kind, len as usize, mark);
+        let len = len as usize;
+        if let Some(at) = self.place_for(cell_size_for(len)) {
+            self.take_at(at, kind, len, mark);
             return Ok((at, false));
         }
         let Some(region) = self.spare() else {
             return Err(Refusal::HeapFull);
         };
-        let Ok(mut storage) = Storage::new(self.alloc, size) else {
-            return Err(Refusal::NoMemory);
-        };
-        storage.take(0, kind, len as usize, mark);
-        self.restore(region as u64, storage);
-        let at = ObjRef {
-            region: region as u16,
-            cell: 0,
-        };
-        Ok((at, true))
+        self.alloc_fresh(region, kind, len, mark)
     }
 
     /// Undoes `alloc`, given the place and the flag that it returned. If the flag is false, another object must be in the
@@ -176,19 +180,20 @@ impl Regions {
         self.storage(at.region as usize).kind(at.cell as usize)
     }
 
-    /// Returns the number of slots of the object in the cell, which must have one: at most 1,024.
+    /// Returns the number of slots of the object in the cell, which must have one.
     #[tactic(auto, using(crate::proofs::ShownRegions::object_lookups))]
     #[inline(always)]
     pub fn len(&self, at: ObjRef) -> u64
         requires { IsSome (object_at self.now.regions at) }
         ensures value { IfSome (object_at self.now.regions at) (λ o. result ≡ length o.words) }
-        ensures limit { result ≤ region_words }
+        ensures limit { result ≤ heap_words }
     {
         self.storage(at.region as usize).len(at.cell as usize) as u64
     }
 
     /// Returns the two bits of the object in the cell, `live` and `mark`. The cell must have one.
     #[tactic(auto, using(crate::proofs::ShownRegions::object_lookups))]
+    #[inline(always)]
     pub fn bits(&self, at: ObjRef) -> (bool, bool)
         requires { IsSome (object_at self.now.regions at) }
         ensures { IfSome (object_at self.now.regions at)
@@ -363,6 +368,7 @@ impl Regions {
     }
 
     /// Writes the `mark` bit of an object, which must be there. A call with the old bit undoes it. Takes no memory.
+    #[inline(always)]
     pub fn set_mark(&mut self, at: ObjRef, mark: bool)
         requires { IsSome (object_at self.old.regions at) }
         ensures { WritesMark at mark self.old self.new }
@@ -469,7 +475,8 @@ impl Regions {
             .set(region, free_class(&self.slots[region]));
     }
 
-    /// Moves the storage out of a region in use, which is then empty and heads the pool. Undoes `restore`. Takes no memory.
+    /// Moves the storage out of a region in use, which is then empty, and heads the pool if it is below the area. Undoes
+    /// `restore`. Takes no memory.
     #[tactic(auto, using(crate::proofs::SlotChanges::used_slots))]
     pub fn release(&mut self, region: u64) -> Storage
         requires { IsSome (used_at self.old.regions region) }
@@ -477,24 +484,24 @@ impl Regions {
         ensures table { IsCellTable result }
         ensures state { self.new ≡ released region self.old }
         ensures back { (before : RegionPool) (u : UsedRegion) → IsRegionPool before
-            → slice_get before.pool 0 ≡ Some region → self.old ≡ restored region u before
+            → MayRestore before region u → self.old ≡ restored region u before
             → self.new ≡ before }
     {
         let region = region as usize;
         let slot = self.slots[region].take();
         self.free_classes.set(region, 0);
         self.waits.set(region, 0);
-        self.pool.push_reserved(region);
+        give_head(&mut self.pool, region, self.area_start);
         match slot {
             Some(storage) => storage,
             None => unreachable!(),
         }
     }
 
-    /// Moves a storage into the region that heads the pool. The storage must have an object; `Storage::has_object` checks.
-    /// Undoes `release`. Takes no memory.
+    /// Moves a storage into the region that heads the pool, or into a region of the area from which enough regions are empty. The
+    /// storage must have an object; `Storage::has_object` checks. Undoes `release`. Takes no memory.
     pub fn restore(&mut self, region: u64, storage: Storage)
-        requires head { slice_get self.old.pool 0 ≡ Some region }
+        requires ready { MayRestore self.old region storage }
         requires inhabited { (cell : ℕ) × (o : Object)
             × (slice_get storage.cells cell ≡ Some (Some o)) }
         ensures state { self.new ≡ restored region storage self.old }
@@ -502,7 +509,7 @@ impl Regions {
             → self.old ≡ released region before → self.new ≡ before }
     {
         let region = region as usize;
-        self.pool.pop();
+        take_head(&mut self.pool, region, self.area_start);
         self.slots[region] = Some(storage);
         self.free_classes
             .set(region, free_class(&self.slots[region]));
@@ -538,26 +545,90 @@ impl Regions {
         }
     }
 
-    // Creates `count` empty regions. Fails if an allocation fails.
-    fn open(alloc: Global, count: usize) -> Result<Regions, AllocError>
-        requires { (1 ≤ count) × (count ≤ region_limit) }
-        ensures { IfOk result (λ s. s ≡ opening_pool count) }
+    // Creates `count` empty regions, the last of which are an area. Fails if an allocation fails.
+    fn open(alloc: Global, count: usize, area: usize) -> Result<Regions, AllocError>
+        requires sized { (1 ≤ count) × (count ≤ region_limit) }
+        requires within { area ≤ count }
+        ensures { IfOk result (λ s. s ≡ opening_pool count area) }
     {
         let free_classes = RegionClasses::new(alloc, count)?;
         let waits = RegionClasses::new(alloc, count)?;
-        let mut slots = Vec::with_capacity(alloc, count)?;
-        let mut pool = Vec::with_capacity(alloc, count)?;
-        for i in 0..count {
-            slots.push_reserved(None);
-            pool.push_reserved(count - 1 - i);
-        }
+        let slots = empty_slots(alloc, count)?;
+        let area_start = count - area;
+        let pool = full_pool(alloc, area_start)?;
         Ok(Regions {
             alloc,
             slots,
             free_classes,
             waits,
             pool,
+            area_start,
         })
+    }
+
+    // Makes an object of more slots than a region has words.
+    #[inline(never)]
+    fn alloc_large(
+        &mut self,
+        kind: ObjKind,
+        len: u64,
+        mark: bool,
+    ) -> Result<(ObjRef, bool), Refusal>
+        requires { region_words < len }
+        ensures answered { IsAnswered (alloc_refusal len self.old) (is_fresh len self.old) result }
+        ensures placed { IfOk result (λ p. new_place len self.old ≡ Some p) }
+        ensures allocated { IfOk result
+            (λ p. self.new ≡ allocated p.0 p.1 (blank_object kind len mark) self.old) }
+        ensures unchanged { OnErr result (self.new ≡ self.old) }
+    {
+        if len > LARGE_LIMIT {
+            return Err(Refusal::TooLarge);
+        }
+        let len = len as usize;
+        let Some(region) = self.first_run(regions_for(len)) else {
+            return Err(Refusal::HeapFull);
+        };
+        self.alloc_fresh(region, kind, len, mark)
+    }
+
+    // Makes an object in an empty region.
+    #[inline(never)]
+    fn alloc_fresh(
+        &mut self,
+        region: usize,
+        kind: ObjKind,
+        len: usize,
+        mark: bool,
+    ) -> Result<(ObjRef, bool), Refusal>
+        requires few { len ≤ large_array_limit }
+        requires limit { region < region_limit }
+        requires place { new_place len self.old
+            ≡ Some (record { region = region; cell = 0 }, true) }
+        ensures answered { IsAnswered (alloc_refusal len self.old) (is_fresh len self.old) result }
+        ensures placed { IfOk result (λ p. new_place len self.old ≡ Some p) }
+        ensures allocated { IfOk result
+            (λ p. self.new ≡ allocated p.0 p.1 (blank_object kind len mark) self.old) }
+        ensures unchanged { OnErr result (self.new ≡ self.old) }
+    {
+        let Ok(mut storage) = Storage::new(self.alloc, cell_size_for(len)) else {
+            return Err(Refusal::NoMemory);
+        };
+        storage.take(0, kind, len, mark);
+        self.restore(region as u64, storage);
+        let at = ObjRef {
+            region: region as u16,
+            cell: 0,
+        };
+        Ok((at, true))
+    }
+
+    // Returns the lowest region of the area from which `count` regions are there that no object takes.
+    fn first_run(&self, count: usize) -> Option<usize>
+        requires { (1 ≤ count) × (count ≤ region_limit) }
+        ensures value { result ≡ first_run count self.now }
+        ensures limit { IfSome result (λ region. region < region_limit) }
+    {
+        first_run_in(&self.slots, self.area_start, count)
     }
 
     // Writes a bit of an object, which must be there.
@@ -603,7 +674,7 @@ impl Regions {
     fn size_of(&self, region: usize) -> u64
         ensures value { result
             ≡ option_map_or (λ u. u.cell_size) (used_at self.now.regions region) 0 }
-        ensures limit { result ≤ region_words }
+        ensures limit { result ≤ heap_words }
     {
         match self.storage_at(region) {
             Some(storage) => storage.cell_size() as u64,

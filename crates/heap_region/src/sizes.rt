@@ -1,7 +1,8 @@
 //! Sizes of regions and cells.
 
-ghost use Rattle.std.specs.Prelude.{◌≡◌};
-ghost use Rattle.heap_region.specs.Regions.{cell_size_for};
+ghost use Rattle.std.specs.Prelude.{◌≡◌, ◌≤◌};
+ghost use Rattle.heap_region.specs.Limits.{cell_limit, heap_words, region_limit};
+ghost use Rattle.heap_region.specs.Regions.{cell_count, cell_size_for, regions_for};
 
 /// The number of words of a region.
 pub const REGION_WORDS: u64 = 1024;
@@ -9,10 +10,24 @@ pub const REGION_WORDS: u64 = 1024;
 /// The address of the first word of region 0.
 pub const OBJECT_BASE: u64 = 0x1000_0000;
 
-/// Returns the cell size for an object of `slots` slots: the least of 4, 16, 64, 256 and 1,024 words that holds them. It is
-/// 1,024 too for more than 1,024 slots, of which `alloc` makes no object.
+// The largest number of slots of an object.
+pub(crate) const LARGE_LIMIT: u64 = 2_097_147;
+
+// Returns the number of regions that have `words` words together.
+#[tactic(auto, unfolding(crate::specs::Regions::regions_for))]
+pub(crate) fn regions_for(words: usize) -> usize
+    requires { words ≤ heap_words }
+    ensures value { result ≡ regions_for words }
+    ensures limit { result ≤ region_limit }
+{
+    (words + 1023) / 1024
+}
+
+// Returns the cell size for an object of `slots` slots: the least of 4, 16, 64, 256 and 1,024 words that holds them, or the
+// words of the regions that hold them.
 #[tactic(auto, unfolding(crate::specs::Regions::cell_size_for))]
-pub fn cell_size_for(slots: u64) -> u64
+pub(crate) fn cell_size_for(slots: usize) -> usize
+    requires { slots ≤ heap_words }
     ensures { result ≡ cell_size_for slots }
 {
     if slots <= 4 {
@@ -23,7 +38,23 @@ pub fn cell_size_for(slots: u64) -> u64
         64
     } else if slots <= 256 {
         256
-    } else {
+    } else if slots <= 1024 {
         1024
+    } else {
+        1024 * regions_for(slots)
+    }
+}
+
+// Returns the number of cells of this size in a region; a cell that takes several regions is the only one.
+#[tactic(auto, unfolding(crate::specs::Regions::cell_count))]
+pub(crate) fn cell_count(cell_size: usize) -> usize
+    requires { 4 ≤ cell_size }
+    ensures value { result ≡ cell_count cell_size }
+    ensures limit { result ≤ cell_limit }
+{
+    if cell_size <= 1024 {
+        1024 / cell_size
+    } else {
+        1
     }
 }

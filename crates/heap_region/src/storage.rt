@@ -1,33 +1,28 @@
-//! A region in use: 1,024 words, cut into cells of one size, with a free list that lies in the free cells.
+//! A region in use: 1,024 words, cut into cells of one size, with a free list that lies in the free cells; or the words of
+//! several regions in one cell.
 ghost use Rattle.std.specs.Prelude.{◌≡◌, ℕ, ◌+◌, ◌-◌, ◌*◌, ◌/◌, ◌<◌, ◌≤◌, [], length, IfOk, IsSome, IfSome, slice_index, slice_index_or, replicate, take, drop, count_by, Some, None, is_some, option_map, slice_get, slice_set};
-ghost use Rattle.heap_region.specs.Regions.{FitsWords, cell_object};
+ghost use Rattle.heap_region.specs.Regions.{FitsWords, block_words, cell_object};
 ghost use Rattle.heap_region.specs.Pool.{blank_object, cell_freed, fresh_region};
-ghost use Rattle.heap_region.specs.Layout.{next_link, IsCellSize, IsWholeRegion, words_at, changed_at, word_set, bit_set, with_bit, cell_filled, Heads, overwritten, header_live, header_of};
+ghost use Rattle.heap_region.specs.Layout.{IsBlockSize, IsWholeRegion, words_at, changed_at, word_set, bit_set, with_bit, cell_filled, Heads, overwritten, header_live, header_of};
 ghost use Rattle.heap_region.specs.Live.{IsNextLive, is_dead, is_live};
 ghost use Rattle.heap_region.specs.Turns.{is_unmarked, turned_region, turned_back_region};
-ghost use Rattle.heap_region.specs.Limits.{region_words, cell_limit};
+ghost use Rattle.heap_region.specs.Limits.{cell_limit, heap_words};
 
+use crate::block::Block;
 use crate::cell::{Bit, Header};
 use crate::headers::Headers;
 use crate::lists::FreeCells;
+use crate::sizes::cell_count;
 use heap_class::ObjKind;
 use smallvec::SmallVec;
 use std::alloc::{AllocError, Global};
 use std::marker::Model;
 
-// The words and the headers of one region, allocated together.
-#[derive(Drop)]
-pub(crate) struct Block {
-    pub(crate) words: [u64; 1024],
-    // The headers of the cells.
-    pub(crate) headers: Headers,
-}
-
-/// A region in use.
+/// A region in use, or the regions that a large object takes.
 #[derive(Drop)]
 pub struct Storage {
-    pub(crate) block: Box<Block>,
-    pub(crate) cell_size: u16,
+    pub(crate) block: Block,
+    pub(crate) cell_size: u32,
     // The number of the cell that heads the free list plus one, or 0 if there is none.
     // The first word of each free cell has the next such number.
     head: u16,
@@ -45,12 +40,12 @@ impl Model for Storage {
     ghost view = { λ s. record {
       cell_size = s.cell_size;
       pending = s.pending;
-      cells = cells_from s.cell_size s.block.value.words 0 s.block.value.headers;
-      free = walk (length s.block.value.headers) s.cell_size s.block.value.words s.head;
+      cells = cells_from s.cell_size s.block.words 0 s.block.headers;
+      free = walk (length s.block.headers) s.cell_size s.block.words s.head;
     } };
 
-    ghost invariant = { λ s. IsSound s.cell_size s.block.value.words s.block.value.headers
-        s.head (walk (length s.block.value.headers) s.cell_size s.block.value.words s.head) };
+    ghost invariant = { λ s. IsSound s.cell_size s.block.words s.block.headers
+        s.head (walk (length s.block.headers) s.cell_size s.block.words s.head) };
 }
 
 /// A copy of an object: its kind, its slots and its two bits.
@@ -159,89 +154,38 @@ pub(crate) fn part(words: &[u64], start: usize, len: usize) -> &[u64]
     &words[start..start + len]
 }
 
-// Sets the `len` words from `start` on to 0. A known number of words is written without a call.
-#[inline(always)]
-fn clear(words: &mut [u64], start: usize, len: usize)
-    requires { start + len ≤ length words.old }
-    ensures { words.new ≡ overwritten words.old start (replicate len 0) }
+// Writes an object into a cell: its words from `start` on, and its header.
+pub(crate) fn put_object(block: &mut Block, start: usize, cell: usize, object: &ObjectCopy)
+    requires lies { start + length object.now.words ≤ length block.old.words }
+    requires within { cell < length block.old.headers }
+    requires fits { length object.now.words ≤ heap_words }
+    ensures words { block.new.words ≡ overwritten block.old.words start object.now.words }
+    ensures headers { block.new.headers
+        ≡ slice_set block.old.headers cell (Some (header_of object.now)) }
 {
-    match len {
-        1 => words[start..start + 1].fill(0),
-        2 => words[start..start + 2].fill(0),
-        3 => words[start..start + 3].fill(0),
-        4 => words[start..start + 4].fill(0),
-        _ => words[start..start + len].fill(0),
-    }
-}
-
-// Copies words over those from `start` on.
-pub(crate) fn overwrite(words: &mut [u64], start: usize, from: &[u64])
-    requires { start + length from.now ≤ length words.old }
-    ensures { words.new ≡ overwritten words.old start from.now }
-{
-    words[start..start + from.len()].copy_from_slice(from);
-}
-
-// Links the first `count` cells, each to the next.
-fn link_cells(words: &mut [u64], cell_size: usize, count: usize)
-    requires sized { 0 < cell_size }
-    requires within { count * cell_size ≤ length words.old }
-    ensures { (cell : ℕ) → cell < count
-        → slice_index words.new (cell * cell_size) ≡ next_link count cell }
-{
-    for cell in 0..count {
-        let link = if cell + 1 < count { cell as u64 + 2 } else { 0 };
-        words[cell * cell_size] = link;
-    }
-}
-
-impl Block {
-    // Returns words that are all 0, and no cells. It is never inlined, so that no other function has a block on its stack.
-    #[inline(never)]
-    fn blank(alloc: Global) -> Result<Box<Block>, AllocError>
-        ensures { IfOk result
-            (λ b. (b.value.words ≡ replicate region_words 0) × (b.value.headers ≡ [])) }
-    {
-        let blank = Block {
-            words: [0; 1024],
-            headers: Headers::new(),
-        };
-        Ok(Box::new(alloc, blank)?)
-    }
-
-    // Writes an object into a cell: its words from `start` on, and its header.
-    pub(crate) fn put(&mut self, start: usize, cell: usize, object: &ObjectCopy)
-        requires lies { start + length object.now.words ≤ length self.old.words }
-        requires within { cell < length self.old.headers }
-        requires fits { length object.now.words ≤ region_words }
-        ensures words { self.new.words ≡ overwritten self.old.words start object.now.words }
-        ensures headers { self.new.headers
-            ≡ slice_set self.old.headers cell (Some (header_of object.now)) }
-    {
-        overwrite(&mut self.words, start, &object.words);
-        let header = Header {
-            kind: object.kind,
-            len: object.words.len(),
-            live: object.live,
-            mark: object.mark,
-        };
-        self.headers.set(cell, header);
-    }
+    block.overwrite(start, &object.words);
+    let header = Header {
+        kind: object.kind,
+        len: object.words.len(),
+        live: object.live,
+        mark: object.mark,
+    };
+    block.set(cell, header);
 }
 
 impl Storage {
-    // Creates a region with cells of this size, all of them free. Fails if the allocation fails.
+    // Creates a region with cells of this size, all of them free. Fails if an allocation fails.
     pub(crate) fn new(alloc: Global, cell_size: usize) -> Result<Storage, AllocError>
-        requires { IsCellSize cell_size }
+        requires { IsBlockSize cell_size }
         ensures { IfOk result (λ s. s ≡ fresh_region cell_size) }
     {
-        let count = 1024 / cell_size;
-        let mut block = Block::blank(alloc)?;
-        block.headers.add_vacant(count);
-        link_cells(&mut block.words, cell_size, count);
+        let count = cell_count(cell_size);
+        let mut block = Block::blank(alloc, cell_size)?;
+        block.add_vacant(count);
+        block.link(cell_size, count);
         Ok(Storage {
             block,
-            cell_size: cell_size as u16,
+            cell_size: cell_size as u32,
             head: 1,
             pending: false,
         })
@@ -252,7 +196,15 @@ impl Storage {
         ensures value { result ≡ length self.now.cells }
         ensures limit { result ≤ cell_limit }
     {
-        self.block.headers.len() as u64
+        self.block.headers().len() as u64
+    }
+
+    /// Returns the number of words of the regions that the storage takes.
+    pub fn word_count(&self) -> u64
+        ensures value { result ≡ block_words self.now.cell_size }
+        ensures limit { result ≤ heap_words }
+    {
+        self.block.words().len() as u64
     }
 
     // Returns the size of each cell in words.
@@ -283,7 +235,7 @@ impl Storage {
     pub(crate) fn turn(&mut self)
         ensures { self.new ≡ turned_region self.old }
     {
-        self.block.headers.turn();
+        self.block.turn();
         self.pending = !self.pending;
     }
 
@@ -291,7 +243,7 @@ impl Storage {
     pub(crate) fn turn_back(&mut self)
         ensures { self.new ≡ turned_back_region self.old }
     {
-        self.block.headers.turn_back();
+        self.block.turn_back();
         self.pending = !self.pending;
     }
 
@@ -300,7 +252,7 @@ impl Storage {
         ensures value { result ≡ count_by is_unmarked self.now.cells }
         ensures limit { result ≤ cell_limit }
     {
-        self.block.headers.unmarked()
+        self.block.headers().unmarked()
     }
 
     // Returns the number of objects that are live.
@@ -308,7 +260,7 @@ impl Storage {
         ensures value { result ≡ count_by is_live self.now.cells }
         ensures limit { result ≤ cell_limit }
     {
-        self.block.headers.live()
+        self.block.headers().live()
     }
 
     // Returns the number of objects that aren't live.
@@ -316,7 +268,7 @@ impl Storage {
         ensures value { result ≡ count_by is_dead self.now.cells }
         ensures limit { result ≤ cell_limit }
     {
-        self.block.headers.dead()
+        self.block.headers().dead()
     }
 
     // Returns the cell that heads the free list.
@@ -335,11 +287,10 @@ impl Storage {
     pub(crate) fn free_list(&self) -> FreeCells<'_>
         ensures { result ≡ self.now.free }
     {
-        let block = &*self.block;
         FreeCells {
-            words: &block.words,
+            words: self.block.words(),
             cell_size: self.cell_size as usize,
-            count: block.headers.len(),
+            count: self.block.headers().len(),
             link: self.head as u64,
         }
     }
@@ -350,9 +301,9 @@ impl Storage {
     pub(crate) fn len(&self, cell: usize) -> usize
         requires { IsSome (cell_object self.now cell) }
         ensures value { result ≡ length (words_at self.now cell) }
-        ensures limit { result ≤ region_words }
+        ensures limit { result ≤ heap_words }
     {
-        header_at(&self.block.headers, cell).len
+        header_at(self.block.headers(), cell).len
     }
 
     // Returns the kind of the object in the cell.
@@ -362,17 +313,18 @@ impl Storage {
         requires { IsSome (cell_object self.now cell) }
         ensures { IfSome (cell_object self.now cell) (λ o. result ≡ o.kind) }
     {
-        header_at(&self.block.headers, cell).kind
+        header_at(self.block.headers(), cell).kind
     }
 
     // Returns the two bits of the object in the cell, `live` and `mark`.
     #[tactic(auto, using(crate::proofs::Cells::shown_headers))]
+    #[inline(always)]
     pub(crate) fn bits(&self, cell: usize) -> (bool, bool)
         requires { IsSome (cell_object self.now cell) }
         ensures { IfSome (cell_object self.now cell)
             (λ o. (result.0 ≡ o.live) × (result.1 ≡ o.mark)) }
     {
-        let header = header_at(&self.block.headers, cell);
+        let header = header_at(self.block.headers(), cell);
         (header.live, header.mark)
     }
 
@@ -380,7 +332,7 @@ impl Storage {
     pub fn has_object(&self, cell: u64) -> bool
         ensures { result ≡ is_some (slice_index_or self.now.cells cell None) }
     {
-        is_taken(&self.block.headers, cell as usize)
+        is_taken(self.block.headers(), cell as usize)
     }
 
     /// Tells whether the object in the cell is live. None if there is no object in it or the region doesn't have the cell.
@@ -388,7 +340,7 @@ impl Storage {
     pub fn liveness(&self, cell: u64) -> Option<bool>
         ensures { result ≡ option_map (λ o. o.live) (cell_object self.now cell) }
     {
-        liveness_at(&self.block.headers, cell as usize)
+        liveness_at(self.block.headers(), cell as usize)
     }
 
     // Returns the first cell from this one on that has a live object.
@@ -396,7 +348,7 @@ impl Storage {
         ensures value { IsNextLive self.now from result }
         ensures limit { IfSome result (λ cell. cell < cell_limit) }
     {
-        let headers = &self.block.headers;
+        let headers = self.block.headers();
         for cell in from..headers.len() {
             if is_live_at(headers, cell) {
                 return Some(cell);
@@ -412,7 +364,7 @@ impl Storage {
         requires { slot < length (words_at self.now cell) }
         ensures { result ≡ slice_index (words_at self.now cell) slot }
     {
-        self.block.words[cell * self.cell_size as usize + slot]
+        self.block.word(cell * self.cell_size as usize + slot)
     }
 
     // Returns the words of the object in the cell, in slot order.
@@ -421,9 +373,8 @@ impl Storage {
         requires { IsSome (cell_object self.now cell) }
         ensures { IfSome (cell_object self.now cell) (λ o. result.now ≡ o.words) }
     {
-        let block = &*self.block;
-        let len = header_at(&block.headers, cell).len;
-        part(&block.words, cell * self.cell_size as usize, len)
+        let len = header_at(self.block.headers(), cell).len;
+        part(self.block.words(), cell * self.cell_size as usize, len)
     }
 
     // Writes a word of the object in the cell.
@@ -435,7 +386,7 @@ impl Storage {
         ensures whole { IsWholeRegion self.new }
     {
         let at = cell * self.cell_size as usize + slot;
-        self.block.words[at] = value;
+        self.block.set_word(at, value);
     }
 
     // Writes a bit of the object in the cell.
@@ -446,7 +397,7 @@ impl Storage {
         ensures value { self.new ≡ changed_at self.old cell (bit_set bit on) }
         ensures whole { IsWholeRegion self.new }
     {
-        self.block.headers.set_bit(cell, bit, on);
+        self.block.set_bit(cell, bit, on);
     }
 
     // Returns a copy of the object in the cell. Fails if the allocation fails.
@@ -455,10 +406,9 @@ impl Storage {
         requires { IsSome (cell_object self.now cell) }
         ensures { IfOk result (λ o. cell_object self.now cell ≡ Some o) }
     {
-        let block = &*self.block;
-        let header = header_at(&block.headers, cell);
+        let header = header_at(self.block.headers(), cell);
         let start = cell * self.cell_size as usize;
-        let words = SmallVec::from_slice(alloc, part(&block.words, start, header.len))?;
+        let words = SmallVec::from_slice(alloc, part(self.block.words(), start, header.len))?;
         Ok(ObjectCopy {
             kind: header.kind,
             words,
@@ -474,30 +424,29 @@ impl Storage {
         ensures { self.new ≡ cell_freed self.old cell }
     {
         let start = cell * self.cell_size as usize;
-        let block = &mut *self.block;
-        block.words[start] = self.head as u64;
-        block.headers.free(cell);
+        self.block.set_word(start, self.head as u64);
+        self.block.free(cell);
         self.head = (cell + 1) as u16;
     }
 
     // Puts a new object into the cell, which heads the free list.
     #[tactic(auto, using(crate::proofs::CellChanges::free_head_lies_within_region))]
+    #[inline(always)]
     pub(crate) fn take(&mut self, cell: usize, kind: ObjKind, len: usize, mark: bool)
         requires head { Heads cell self.old.free }
         requires fits { FitsWords self.old.cell_size len }
         ensures { self.new ≡ cell_filled self.old cell (blank_object kind len mark) }
     {
         let start = cell * self.cell_size as usize;
-        let block = &mut *self.block;
-        self.head = block.words[start] as u16;
-        clear(&mut block.words, start, len);
+        self.head = self.block.word(start) as u16;
+        self.block.clear(start, len);
         let header = Header {
             kind,
             len,
             live: true,
             mark,
         };
-        block.headers.fill(cell, header);
+        self.block.fill(cell, header);
     }
 
     // Puts an object back into the cell, which heads the free list.
@@ -508,8 +457,7 @@ impl Storage {
         ensures { self.new ≡ cell_filled self.old cell object.now }
     {
         let start = cell * self.cell_size as usize;
-        let block = &mut *self.block;
-        self.head = block.words[start] as u16;
-        block.put(start, cell, object);
+        self.head = self.block.word(start) as u16;
+        put_object(&mut self.block, start, cell, object);
     }
 }

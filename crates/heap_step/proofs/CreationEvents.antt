@@ -17,6 +17,7 @@ use Rattle.heap_world.specs.Events.{after_new, is_full, new_array_refusal, new_o
 use Rattle.heap_world.proofs.Clauses.{HasClauses}
 use Rattle.heap_world.proofs.Shapes.{KeepsShape}
 use Rattle.heap_world.specs.Legal.{IsLegal, MayHold}
+use Rattle.heap_world.specs.Limits.{AreLimits}
 use Rattle.heap_world.specs.State.{HeapState, is_register, pool_of, register}
 use Rattle.heap_step.specs.Apply.{refusal_of, state_after, new_record, reg_record}
 use Rattle.heap_step.specs.Laws.{StaysFound}
@@ -28,8 +29,8 @@ use Rattle.heap_step.proofs.Fits.{Fits, true_if_not_is_false}
 use Rattle.heap_step.proofs.Places.{new_registers, new_object_stands_at_place}
 use Rattle.heap_step.proofs.Soundness.{IsSound}
 
-not_above_limit_of_words : (n : ℕ) → nat_lt 1024 n ≡ false → n ≤ 1024
-not_above_limit_of_words n h = grind arith
+allowed_by_refusal : (most n : ℕ) → nat_lt most n ≡ false → n ≤ most
+allowed_by_refusal most n h = grind arith
 
 nonreference_kind_is_not_object : (k : Kind) → is_reference k ≡ false → k ≢ Kind.Object
 nonreference_kind_is_not_object k h e = let a : true ≡ false = sym (ap is_reference e) ∙ h in clash a
@@ -41,17 +42,23 @@ nonreference_kind_is_not_object k h e = let a : true ≡ false = sym (ap is_refe
 abbrev MayMake : HeapState → ℕ → ℕ → ObjKind → ℕ → Type 0
 MayMake w m r kind n = MayHold w m r kind n × (is_full n w ≡ false)
 
-may_make_instance : (w : HeapState) (m r class : ℕ) → new_refusal m r class w ≡ None → MayMake w m r (Instance class) (length (slots_of w.classes class))
+may_make_instance : (w : HeapState) (m r class : ℕ) → AreLimits w.limits → new_refusal m r class w ≡ None → MayMake w m r (Instance class) (length (slots_of w.classes class))
 unfolding new_refusal
-may_make_instance w m r class accepted = let h = no_refusal_test_holds _ accepted in (record { there = true_if_not_is_false _ h.0; of_kind = (true_if_not_is_false _ h.1.1.0, refl) }, h.1.1.1.0)
+may_make_instance w m r class limits accepted = let h = no_refusal_test_holds _ accepted in (record { there = true_if_not_is_false _ h.0; of_kind = (true_if_not_is_false _ h.1.1.0, refl); allowed = tt }, h.1.1.1.0)
 
-may_make_array : (w : HeapState) (m r class len : ℕ) → new_array_refusal m r class len w ≡ None → MayMake w m r (Array class) len
+may_make_array : (w : HeapState) (m r class len : ℕ) → AreLimits w.limits → new_array_refusal m r class len w ≡ None → MayMake w m r (Array class) len
 unfolding new_array_refusal
-may_make_array w m r class len accepted = let h = no_refusal_test_holds _ accepted in (record { there = true_if_not_is_false _ h.0; of_kind = (true_if_not_is_false _ h.1.1.0, not_above_limit_of_words len h.1.1.1.0) }, h.1.1.1.1.0)
+may_make_array w m r class len limits accepted =
+    let h = no_refusal_test_holds _ accepted in
+    let few : len ≤ w.limits.elements = allowed_by_refusal w.limits.elements len h.1.1.1.0 in
+    (record { there = true_if_not_is_false _ h.0; of_kind = (true_if_not_is_false _ h.1.1.0, omega (arith, few, limits.elements)); allowed = few }, h.1.1.1.1.0)
 
-may_make_prim : (w : HeapState) (m r : ℕ) (kind : Kind) (len : ℕ) → new_prim_refusal m r kind len w ≡ None → MayMake w m r (Prim kind) len
+may_make_prim : (w : HeapState) (m r : ℕ) (kind : Kind) (len : ℕ) → AreLimits w.limits → new_prim_refusal m r kind len w ≡ None → MayMake w m r (Prim kind) len
 unfolding new_prim_refusal
-may_make_prim w m r kind len accepted = let h = no_refusal_test_holds _ accepted in (record { there = true_if_not_is_false _ h.0; of_kind = (nonreference_kind_is_not_object kind h.1.0, not_above_limit_of_words len h.1.1.0) }, h.1.1.1.0)
+may_make_prim w m r kind len limits accepted =
+    let h = no_refusal_test_holds _ accepted in
+    let few : len ≤ w.limits.elements = allowed_by_refusal w.limits.elements len h.1.1.0 in
+    (record { there = true_if_not_is_false _ h.0; of_kind = (nonreference_kind_is_not_object kind h.1.0, omega (arith, few, limits.elements)); allowed = few }, h.1.1.1.0)
 
 -- a new object in a register that is there
 created_fits : (w : HeapState) (m r n : ℕ) (kind : ObjKind) → IsLegal w → is_register w m r ≡ true → is_full n w ≡ false → Fits (new_record m r n w) (after_new m r kind n w)
@@ -66,12 +73,12 @@ created_fits w m r n kind legal there room = go (new_place n (pool_of w)) refl r
     )
 
 -- an event that makes an object is sound
-created_sound : (e : Event) (m r : ℕ) (kind : ObjKind) (len : HeapState → ℕ) → ((w : HeapState) → refusal_of e w ≡ None → MayMake w m r kind (len w)) → ((w : HeapState) → state_after e w ≡ after_new m r kind (len w) w) → ((w : HeapState) → undo_record e w ≡ new_record m r (len w) w) → IsSound e
+created_sound : (e : Event) (m r : ℕ) (kind : ObjKind) (len : HeapState → ℕ) → ((w : HeapState) → AreLimits w.limits → refusal_of e w ≡ None → MayMake w m r kind (len w)) → ((w : HeapState) → state_after e w ≡ after_new m r kind (len w) w) → ((w : HeapState) → undo_record e w ≡ new_record m r (len w) w) → IsSound e
 created_sound e m r kind len may after left = record {
-  legal = λ w l accepted. let h = may w accepted in subst HasClauses (sym (after w)) (clauses_after_new_object w m r kind (len w) l h.0.of_kind h.1);
-  back = λ w legal accepted. (λ i. undone (left w i) (after w i)) ∙ created_back w m r (len w) kind legal (may w accepted).1;
-  fits = λ w legal accepted. let h = may w accepted in subst (Fits (undo_record e w)) (sym (after w)) (subst (λ (u : Undo). Fits u (after_new m r kind (len w) w)) (sym (left w)) (created_fits w m r (len w) kind legal h.0.there h.1));
-  found = λ w l accepted. let h = may w accepted in subst (StaysFound w) (sym (after w)) (λ i j x h'. found_objects_after_new_object w m r kind (len w) l h.0.of_kind h.1 i x h');
+  legal = λ w l accepted. let h = may w l.sized.limits accepted in subst HasClauses (sym (after w)) (clauses_after_new_object w m r kind (len w) l h.0.of_kind h.1);
+  back = λ w legal accepted. (λ i. undone (left w i) (after w i)) ∙ created_back w m r (len w) kind legal (may w legal.sized.limits accepted).1;
+  fits = λ w legal accepted. let h = may w legal.sized.limits accepted in subst (Fits (undo_record e w)) (sym (after w)) (subst (λ (u : Undo). Fits u (after_new m r kind (len w) w)) (sym (left w)) (created_fits w m r (len w) kind legal h.0.there h.1));
+  found = λ w l accepted. let h = may w l.sized.limits accepted in subst (StaysFound w) (sym (after w)) (λ i j x h'. found_objects_after_new_object w m r kind (len w) l h.0.of_kind h.1 i x h');
   shape = λ w l accepted x live. subst (λ (v : HeapState). KeepsShape w v x) (sym (after w)) (new_object_keeps_shapes w m r kind (len w) x l);
   run = λ w i. inr (sym (new_phase w m r kind (len w)) ∙ sym (ap (λ (v : HeapState). v.phase) (after w)) ∙ i);
 }

@@ -6,6 +6,7 @@ use Rattle.std.specs.Prelude.{is_none}
 use Rattle.heap_class.proofs.Lists.{got_is_in}
 use Rattle.heap_class.specs.declared.ObjKind.{ObjKind}
 use Rattle.heap_class.specs.declared.ObjRef.{ObjRef}
+use Rattle.heap_region.proofs.Good.{pool_is_empty}
 use Rattle.heap_region.proofs.Places.{HeadIsEmpty, PoolIsEmpty, allocated_back}
 use Rattle.heap_region.specs.Pool.{RegionPool, allocated, new_place, unallocated}
 use Rattle.heap_region.specs.Regions.{Object, id_of}
@@ -20,9 +21,9 @@ use Rattle.heap_step.specs.declared.Undo.{Undo}
 pub free_list_head_is_empty : (w : HeapState) → IsLegal w → (at : ObjRef) → HeadIsEmpty (pool_of w) at
 free_list_head_is_empty w legal at = λ u used head. ((legal.regions.tables at.region u used).free.each at.cell).0 (got_is_in u.free 0 at.cell head)
 
--- the region at the head of the pool of a legal heap is empty
+-- the region that a new object of a legal heap gets is empty
 pub pool_empty : (w : HeapState) → IsLegal w → (at : ObjRef) → PoolIsEmpty (pool_of w) at
-pool_empty w legal at = λ head. (legal.regions.pool.each at.region).0 (got_is_in w.pool 0 at.region head)
+pool_empty w legal at = pool_is_empty (pool_of w) at legal.regions
 
 -- of a legal heap, the allocation of a new object is taken back
 pool_back : (w : HeapState) → IsLegal w → (n : ℕ) (at : ObjRef) (fresh : Bool) (o : Object) → new_place n (pool_of w) ≡ Some (at, fresh) → unallocated at fresh (allocated at fresh o (pool_of w)) ≡ pool_of w
@@ -38,4 +39,4 @@ created_back w m r n kind legal room = go (new_place n (pool_of w)) (pool_back w
     go None back h = cc
     go (Some p) back h =
         let e : unallocated p.0 p.1 (allocated p.0 p.1 (new_object kind n w) (pool_of w)) ≡ pool_of w = back p.0 p.1 (new_object kind n w) refl in
-        λ i. record w { regions = (e i).regions; pool = (e i).pool; registers = (set-set w.registers (8 * m + r) (id_of (allocated p.0 p.1 (new_object kind n w) (pool_of w)).regions p.0) (register w m r) ∙ set-get_or w.registers (8 * m + r) 0) i }
+        λ i. record w { regions = (e i).regions; pool = (e i).pool; area_start = (e i).area_start; registers = (set-set w.registers (8 * m + r) (id_of (allocated p.0 p.1 (new_object kind n w) (pool_of w)).regions p.0) (register w m r) ∙ set-get_or w.registers (8 * m + r) 0) i }

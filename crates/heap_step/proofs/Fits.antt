@@ -2,6 +2,7 @@
 use Rattle.std.proofs.Common.{Bool, List, None, Some, false, length, not, refl, true, ℕ, ◌<◌, ◌≡◌, ◌≤◌}
 use Rattle.std.specs.Prelude.{slice_get}
 use Rattle.heap_class.specs.declared.ObjRef.{ObjRef}
+use Rattle.heap_region.specs.Legal.{MayRestore}
 use Rattle.heap_region.specs.Live.{is_live}
 use Rattle.heap_region.specs.Regions.{Object, UsedRegion, cell_object, object_at}
 use Rattle.heap_mark.specs.MarkSteps.{finish_refusal, logged, snap_refusal}
@@ -51,7 +52,7 @@ Fits (Undo.Mark parent pushed) w = pushed ≤ length w.gray
 Fits (Undo.Drain pushed) w = (pushed ≤ length w.gray) × (0 < w.drained)
 Fits (Undo.Finish log) w = IsFinished w
 Fits (Undo.Sweep region dead) w = IsSwept region dead w
-Fits (Undo.Reclaim region storage) w = (slice_get w.pool 0 ≡ Some region) × IsInhabited storage × IsLifeless storage
+Fits (Undo.Reclaim region storage) w = MayRestore (pool_of w) region storage × IsInhabited storage × IsLifeless storage
 
 pub true_if_not_is_false : (b : Bool) → not b ≡ false → b ≡ true
 true_if_not_is_false true h = refl

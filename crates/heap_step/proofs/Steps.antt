@@ -2,8 +2,10 @@
 use Rattle.std.proofs.Common.{◌≡◌, ℕ, List, Some, ◌-◌, ◌<◌, ◌≤◌, Bool, true, length, take, refl, sym, subst, ◌∙◌}
 use Rattle.std.specs.Prelude.{IsSome, IfSome, slice_get, if◌then◌else◌}
 use Rattle.heap_class.specs.declared.ObjRef.{ObjRef}
-use Rattle.heap_region.specs.Regions.{Object, UsedRegion, object_at, with_word}
+use Rattle.heap_region.specs.Legal.{MayRestore}
+use Rattle.heap_region.specs.Regions.{Empty, Object, UsedRegion, object_at, with_word}
 use Rattle.heap_region.specs.Pool.{unallocated, restored}
+use Rattle.heap_region.proofs.Restores.{restorable_is_empty}
 use Rattle.heap_mark.specs.MarkSteps.{unsnapped, unmarked, undrained, unfinished}
 use Rattle.heap_sweep.specs.Sweep.{unswept}
 use Rattle.heap_world.specs.State.{HeapState, pool_of, with_pool, marking_of, with_marking, with_register, is_register}
@@ -13,7 +15,7 @@ use Rattle.heap_step.specs.declared.Event.{Event}
 use Rattle.heap_step.specs.declared.Undo.{Undo}
 use Rattle.heap_step.specs.Records.{undone, undo_record}
 use Rattle.heap_step.specs.Laws.{IsStep}
-use Rattle.heap_step.proofs.EventLaws.{each_event_is_sound, undo_takes_back}
+use Rattle.heap_step.proofs.EventLaws.{each_event_is_sound, keeps_legal, undo_takes_back}
 use Rattle.heap_step.proofs.Fits.{HasSlot, IsHeld, IsSnapped, IsFinished, IsSwept, IsInhabited, IsLifeless, Fits}
 
 -- ---- what holds of the state that a step gave, where the record is `was`
@@ -170,8 +172,14 @@ pub sweep_is : (e : Event) (before after : HeapState) (left : Undo) → IsStep e
 unfolding undone
 sweep_is e before after left s region dead is = record_of_step_leads_back e before after left (Undo.Sweep region dead) s is
 
-pub reclaim_head : (e : Event) (before after : HeapState) (left : Undo) → IsStep e before after left → (region : ℕ) (storage : UsedRegion) → left ≡ Undo.Reclaim region storage → slice_get after.pool 0 ≡ Some region
-reclaim_head e before after left s region storage is = (record_of_step_fits e before after left (Undo.Reclaim region storage) s is).0
+pub reclaim_ready : (e : Event) (before after : HeapState) (left : Undo) → IsStep e before after left → (region : ℕ) (storage : UsedRegion) → left ≡ Undo.Reclaim region storage → MayRestore (pool_of after) region storage
+reclaim_ready e before after left s region storage is = (record_of_step_fits e before after left (Undo.Reclaim region storage) s is).0
+
+-- the region is empty after the step
+pub reclaim_empty : (e : Event) (before after : HeapState) (left : Undo) → IsStep e before after left → (region : ℕ) (storage : UsedRegion) → left ≡ Undo.Reclaim region storage → slice_get after.regions region ≡ Some Empty
+reclaim_empty e before after left s region storage is =
+    let legal : IsLegal after = subst IsLegal (sym s.gave) (keeps_legal e before s.legal s.accepted) in
+    restorable_is_empty (pool_of after) region storage legal.regions (reclaim_ready e before after left s region storage is)
 
 pub reclaim_inhabited : (e : Event) (before after : HeapState) (left : Undo) → IsStep e before after left → (region : ℕ) (storage : UsedRegion) → left ≡ Undo.Reclaim region storage → IsInhabited storage
 reclaim_inhabited e before after left s region storage is = (record_of_step_fits e before after left (Undo.Reclaim region storage) s is).1
@@ -187,4 +195,4 @@ pub reclaim_is : (e : Event) (before after : HeapState) (left : Undo) → IsStep
 unfolding undone
 reclaim_is e before after left s region storage is = record_of_step_leads_back e before after left (Undo.Reclaim region storage) s is
 
-pub ruleset taken_back = (put_record_names_an_object, put_taken_back_is_legal, put_taken_back_is_before, store_there, store_is, reg_register, reg_legal, reg_is, new_record_names_an_object, new_register, new_taken_back_is_before, class_record_has_a_class, class_taken_back_is_legal, class_is, snap_is, mark_record_pushes_within_gray, mark_is, drain_within, drain_is, finish_is, sweep_is, reclaim_head, reclaim_is)
+pub ruleset taken_back = (put_record_names_an_object, put_taken_back_is_legal, put_taken_back_is_before, store_there, store_is, reg_register, reg_legal, reg_is, new_record_names_an_object, new_register, new_taken_back_is_before, class_record_has_a_class, class_taken_back_is_legal, class_is, snap_is, mark_record_pushes_within_gray, mark_is, drain_within, drain_is, finish_is, sweep_is, reclaim_ready, reclaim_is)

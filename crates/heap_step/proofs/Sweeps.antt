@@ -2,14 +2,17 @@
 use Rattle.std.proofs.Common.{Bool, List, None, Option, Some, [], ap, false, not, refl, subst, suc, sym, true, zero, ℕ, ◌∙◌, ◌∷◌, ◌≡◌, ◌||◌}
 use Rattle.std.specs.List.{list_any}
 use Rattle.std.specs.Option.{option_map_or}
-use Rattle.std.specs.Prelude.{if◌then◌else◌, slice_get, slice_index_or, unwrap_or}
+use Rattle.std.specs.Prelude.{if◌then◌else◌, slice_index_or, unwrap_or}
 use mathlib.Core.Logic.{inl, inr}
 use Rattle.heap_class.proofs.Refusals.{no_refusal_test_holds}
-use Rattle.heap_region.specs.Pool.{RegionPool, fresh_region, released, restored}
+use Rattle.heap_region.specs.Pool.{RegionPool, fresh_region, restored}
 use Rattle.heap_region.specs.Live.{is_live}
-use Rattle.heap_region.specs.Regions.{Object, UsedRegion, used_at, with_region}
+use Rattle.heap_region.specs.Regions.{Object, UsedRegion, used_at}
+use Rattle.heap_region.specs.Legal.{MayRestore}
+use Rattle.heap_region.proofs.Restores.{released_may_be_restored}
+use Rattle.heap_sweep.proofs.Ready.{swept_whole}
 use Rattle.heap_sweep.proofs.SweepUndo.{sweep_that_left_none_undone, pending_is, sweep_that_left_objects_undone}
-use Rattle.heap_sweep.specs.Sweep.{dead_at, dead_cells, has_live, is_emptied, sweep_refusal, swept, swept_region, unswept}
+use Rattle.heap_sweep.specs.Sweep.{dead_at, dead_cells, has_live, is_emptied, sweep_refusal, swept, unswept}
 use Rattle.heap_world.proofs.Clauses.{HasClauses}
 use Rattle.heap_world.proofs.Finish.{marked_object_live}
 use Rattle.heap_world.proofs.Shapes.{same_object_keeps_shape}
@@ -62,10 +65,10 @@ emptied_lifeless : (w : HeapState) (region : ℕ) (u : UsedRegion) → used_at w
 unfolding is_emptied has_live
 emptied_lifeless w region u used emptied = no_cell_is_live u.cells (false_if_not_is_true _ (ap (λ (x : Option UsedRegion). option_map_or (λ u. not (has_live u)) x false) (sym used) ∙ emptied))
 
--- a region without live objects heads the pool
-emptied_heads : (w : HeapState) (region : ℕ) → is_emptied region (pool_of w) ≡ true → slice_get (after_sweep region w).pool 0 ≡ Some region
-unfolding after_sweep swept released
-emptied_heads w region emptied = ap (λ (b : Bool). slice_get (if b then released region (pool_of w) else record (pool_of w) { regions = with_region region swept_region w.regions }).pool 0) emptied
+-- a region without live objects may come back
+emptied_ready : (w : HeapState) (region : ℕ) (u : UsedRegion) → IsLegal w → used_at w.regions region ≡ Some u → is_emptied region (pool_of w) ≡ true → MayRestore (pool_of (after_sweep region w)) region u
+unfolding after_sweep
+emptied_ready w region u legal used emptied = subst (λ (s : RegionPool). MayRestore s region u) (sym (swept_whole region (pool_of w) emptied)) (released_may_be_restored (pool_of w) region u legal.regions used)
 
 sweep_fits : (w : HeapState) (region : ℕ) → IsLegal w → sweep_refusal region (pool_of w) ≡ None → Fits (sweep_record region w) (after_sweep region w)
 unfolding sweep_record sweep_refusal
@@ -76,7 +79,7 @@ sweep_fits w region legal accepted = go (is_emptied region (pool_of w)) refl
 
     go : (b : Bool) → is_emptied region (pool_of w) ≡ b → Fits (if b then Undo.Reclaim region (unwrap_or (used_at w.regions region) (fresh_region 4)) else Undo.Sweep region (dead_at region (pool_of w))) (after_sweep region w)
     go true e = (
-      emptied_heads w region e,
+      subst (λ (p : Option UsedRegion). MayRestore (pool_of (after_sweep region w)) region (unwrap_or p (fresh_region 4))) (sym found.1) (emptied_ready w region found.0 legal found.1 e),
       subst (λ (p : Option UsedRegion). IsInhabited (unwrap_or p (fresh_region 4))) (sym found.1) (legal.regions.tables region found.0 found.1).inhabited,
       subst (λ (p : Option UsedRegion). IsLifeless (unwrap_or p (fresh_region 4))) (sym found.1) (emptied_lifeless w region found.0 found.1 e),
     )

@@ -1,7 +1,8 @@
 -- The laws of applying and undoing.
-use Rattle.std.specs.Prelude.{◌≡◌, ◌<◌, ◌≤◌, ◌^◌, ◌⊎◌, ⊤, ℕ, None, Result, Contains, IfOk, OnErr}
+use Rattle.std.specs.Prelude.{◌≡◌, ◌+◌, ◌<◌, ◌≤◌, ◌^◌, ◌⊎◌, ⊤, ℕ, None, Result, Contains, IfOk, OnErr}
 use Rattle.heap_class.specs.declared.Refusal.{Refusal}
 use Rattle.heap_class.specs.Refusals.{IsAnswered}
+use Rattle.heap_region.specs.Limits.{cell_limit, heap_words}
 use Rattle.heap_region.specs.Regions.{object_of}
 use Rattle.heap_mark.specs.declared.Phase.TheVariants.{Marking}
 use Rattle.heap_world.specs.State.{HeapState}
@@ -11,7 +12,7 @@ use Rattle.heap_step.specs.declared.Answer.{Answer}
 use Rattle.heap_step.specs.declared.Event.{Event}
 use Rattle.heap_step.specs.declared.Event.TheVariants.{Finish, Sweep}
 use Rattle.heap_step.specs.declared.Undo.{Undo}
-use Rattle.heap_step.specs.declared.Undo.TheVariants.{Finish as Log}
+use Rattle.heap_step.specs.declared.Undo.TheVariants.{Finish as Log, Reclaim}
 use Rattle.heap_step.specs.Apply.{refusal_of, state_after, answer_of, event_may_grow}
 use Rattle.heap_step.specs.Records.{undo_record, undone}
 
@@ -70,7 +71,8 @@ pub record IsApplied (e : Event) (before after : HeapState)
   pub recorded : IfOk result (λ p. p.1 ≡ undo_record e before)
   pub unchanged : OnErr result (after ≡ before)
 
--- n is at most 2,048, unless the record is that of a Finish
+-- n is at most 2,048, unless the record is that of a Finish, or of a sweep that emptied its regions
 abbrev pub IsLight : Undo → ℕ → Type 0
 IsLight (Log log) n = ⊤
+IsLight (Reclaim region storage) n = n ≤ heap_words + cell_limit
 IsLight left n = n ≤ 2048

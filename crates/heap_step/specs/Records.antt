@@ -1,7 +1,6 @@
 -- The record that an event leaves, its weight, and its undoing.
 use Rattle.std.specs.Prelude.{ℕ, ◌+◌, ◌-◌, length, take, sum_by, if◌then◌else◌}
-use Rattle.heap_region.specs.Limits.{region_words}
-use Rattle.heap_region.specs.Regions.{with_word}
+use Rattle.heap_region.specs.Regions.{block_words, with_word}
 use Rattle.heap_region.specs.Pool.{unallocated, restored}
 use Rattle.heap_mark.specs.MarkSteps.{unsnapped, unmarked, undrained, unfinished}
 use Rattle.heap_sweep.specs.Sweep.{unswept}
@@ -28,7 +27,7 @@ weight (Mark parent pushed) = 0
 weight (Drain pushed) = 0
 weight (Finish log) = length log
 weight (Sweep region dead) = sum_by (λ d. 1 + length d.1.words) dead
-weight (Reclaim region storage) = region_words + length storage.cells
+weight (Reclaim region storage) = block_words storage.cell_size + length storage.cells
 
 -- the state before the step that left this record and this state
 unfoldable pub undone : Undo → HeapState → HeapState

@@ -248,7 +248,7 @@ pub(crate) fn store(world: &mut World, m: u64, target: u64, slot: u64, source: u
     let replaced = world.store(m, target, slot, source)?;
     let record = Undo::Store {
         at: replaced.at,
-        slot: slot as u16,
+        slot: slot as u32,
         old: replaced.old,
         logged: replaced.logged,
     };
@@ -261,7 +261,7 @@ pub(crate) fn put(world: &mut World, m: u64, target: u64, slot: u64, value: u64)
     ensures { IsApplied (Event.Put m target slot value) world.old world.new result }
 {
     let overwritten = world.put(m, target, slot, value)?;
-    let (at, slot, old) = (overwritten.at, slot as u16, overwritten.old);
+    let (at, slot, old) = (overwritten.at, slot as u32, overwritten.old);
     Ok((Answer::Done, Undo::Put { at, slot, old }))
 }
 

@@ -134,13 +134,13 @@ pub enum Undo {
     /// A value was written: the place of the object, the slot, and its old word.
     Put {
         at: ObjRef,
-        slot: u16,
+        slot: u32,
         old: u64,
     },
     /// A reference was written: the place of the object, the slot, its old word, and whether that was logged.
     Store {
         at: ObjRef,
-        slot: u16,
+        slot: u32,
         old: u64,
         logged: bool,
     },

@@ -88,8 +88,8 @@ pub fn undo(world: &mut World, left: Undo)
     }
 }
 
-/// Returns the weight of a record, the entries and words that it keeps besides its fixed fields: at most 2,048, or the number
-/// of entries of the log for a Finish.
+/// Returns the weight of a record, the entries and words that it keeps besides its fixed fields: at most 2,048, or for a
+/// Finish the number of entries of the log, and for a Reclaim the words and the cells of its regions.
 #[tactic(auto, unfolding(crate::specs::Records::weight))]
 pub fn weight(left: &Undo) -> u64
     ensures value { result ≡ weight left.now }
@@ -101,6 +101,6 @@ pub fn weight(left: &Undo) -> u64
         Undo::Snap | Undo::Mark { .. } | Undo::Drain { .. } => 0,
         Undo::Finish { log } => log.len(),
         Undo::Sweep { dead, .. } => dead.weight(),
-        Undo::Reclaim { storage, .. } => 1024 + storage.cells(),
+        Undo::Reclaim { storage, .. } => storage.word_count() + storage.cells(),
     }
 }

@@ -1,7 +1,7 @@
 -- The worked examples of pins, arrays and failed allocations, by computation.
 use Rattle.std.proofs.Common.{refl}
 use Rattle.heap_class.specs.Functions.{class_functions as open_heap_class}
-use Rattle.heap_world.specs.Regions.{used_at, object_at, objects_of_region, objects_in, id_of, cell_around, ref_of, object_of, slot_kinds, references_of, updated, in_used, with_region, with_object, with_word, with_mark, cell_size_for, live_objects}
+use Rattle.heap_world.specs.Regions.{block_words, cell_count, used_at, object_at, objects_of_region, objects_in, id_of, cell_around, ref_of, object_of, slot_kinds, references_of, updated, in_used, with_region, with_object, with_word, with_mark, cell_size_for, live_objects}
 use Rattle.heap_world.specs.Pool.{fresh_region, opening_pool, blank_object, free_place, place_or_fresh, new_place, is_fresh, taken, restored, allocated, freed, released, unallocated}
 use Rattle.heap_world.specs.MarkFunctions.{mark_functions as open_heap_mark}
 use Rattle.heap_world.specs.SweepFunctions.{sweep_functions as open_heap_sweep}
@@ -14,7 +14,7 @@ use Rattle.heap_trail.specs.DumpExamples.{PinGivesItsDump, DumpIsOf301, RewindLo
 
 -- all functions of heap_region, opened at once
 unfoldable open_heap_region : Unit {0}
-unfolding used_at object_at objects_of_region objects_in id_of cell_around ref_of object_of slot_kinds references_of updated in_used with_region with_object with_word with_mark cell_size_for live_objects fresh_region opening_pool blank_object free_place place_or_fresh new_place is_fresh taken restored allocated freed released unallocated
+unfolding block_words cell_count used_at object_at objects_of_region objects_in id_of cell_around ref_of object_of slot_kinds references_of updated in_used with_region with_object with_word with_mark cell_size_for live_objects fresh_region opening_pool blank_object free_place place_or_fresh new_place is_fresh taken restored allocated freed released unallocated
 open_heap_region = tt
 
 -- all functions of hprof_text that pieces need, opened at once

@@ -287,6 +287,7 @@ node_condemned = record {
       })
       ∷ [];
   pool = [];
+  area_start = 2;
   registers = 0 ∷ 0x10002000 ∷ replicate 14 0;
   gray = [];
   log = [];

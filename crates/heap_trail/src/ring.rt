@@ -91,7 +91,7 @@ impl RecordRing {
 
     // Adds the record of a `put`.
     #[inline(never)]
-    fn push_put(&mut self, at: ObjRef, slot: u16, old: u64)
+    fn push_put(&mut self, at: ObjRef, slot: u32, old: u64)
         ensures { self.new ≡ with_record (Put at slot old) self.old }
     {
         self.push(Undo::Put { at, slot, old });
@@ -99,7 +99,7 @@ impl RecordRing {
 
     // Adds the record of a `store`.
     #[inline(never)]
-    fn push_store(&mut self, at: ObjRef, slot: u16, old: u64, logged: bool)
+    fn push_store(&mut self, at: ObjRef, slot: u32, old: u64, logged: bool)
         ensures { self.new ≡ with_record (Store at slot old logged) self.old }
     {
         self.push(Undo::Store {

@@ -82,7 +82,7 @@ with_log w room old false = refl
 -- the fields after a store
 pub store_made : (w v : HeapState) (m target slot source old word room : ℕ) (at : ObjRef) (b : Bool) (s : RegionPool) (k : MarkerState) → w ≡ v → ref_of v.regions (register v m target) ≡ Some at
     → old ≡ word_of v (register v m target) slot → word ≡ register v m source → b ≡ is_logged v (register v m target) slot → k ≡ (if b then record (marker_of w room) { log = w.log ++ old ∷ [] } else marker_of w room)
-    → s ≡ record { regions = with_word at slot word w.regions; pool = w.pool } → with_marker k (with_pool s w) ≡ after_store m target slot source v
+    → s ≡ record { regions = with_word at slot word w.regions; pool = w.pool; area_start = w.area_start } → with_marker k (with_pool s w) ≡ after_store m target slot source v
 store_made w v m target slot source old word room at b s k e r o a l f g =
     ap (λ (t : RegionPool). with_marker k (with_pool t w)) g
     ∙ ap (λ (j : MarkerState). record (with_marker j w) { regions = with_word at slot word w.regions }) f
@@ -101,7 +101,7 @@ store_holds v m target slot source room at h accepted r = legal_state_of_room_is
 pub store_held : (w v : HeapState) (m target slot source old word room : ℕ) (at : ObjRef) (b : Bool) (s : RegionPool) (k : MarkerState) → IsSoundHeap w room → w ≡ v → store_refusal m target slot source v ≡ None
     → ref_of v.regions (register v m target) ≡ Some at → old ≡ word_of v (register v m target) slot → word ≡ register v m source → b ≡ is_logged v (register v m target) slot
     → k ≡ (if b then record (marker_of w room) { log = w.log ++ old ∷ [] } else marker_of w room)
-    → s ≡ record { regions = with_word at slot word w.regions; pool = w.pool } → IsSoundHeap (with_marker k (with_pool s w)) k.room
+    → s ≡ record { regions = with_word at slot word w.regions; pool = w.pool; area_start = w.area_start } → IsSoundHeap (with_marker k (with_pool s w)) k.room
 store_held w v m target slot source old word room at b s k h e accepted r o a l f g =
     subst (λ n. IsSoundHeap (with_marker k (with_pool s w)) n) (sym (ap (λ (j : MarkerState). j.room) f ∙ go b))
     (subst (λ (u : HeapState). IsSoundHeap u room) (sym (store_made w v m target slot source old word room at b s k e r o a l f g))
@@ -128,19 +128,19 @@ log_entry_is_not_drained w v slot word at b e some l t = subst (λ (u : HeapStat
     go false h more within = cc
 
 parts_after_store_undone : (w : HeapState) (slot word room : ℕ) (at : ObjRef) (b : Bool) (s : RegionPool) (k : MarkerState) → k ≡ (if b then record (marker_of w room) { log = take (length w.log - 1) w.log } else marker_of w room)
-    → s ≡ record { regions = with_word at slot word w.regions; pool = w.pool } → with_marker k (with_pool s w) ≡ record w { regions = with_word at slot word w.regions; log = if b then without_last w.log else w.log }
+    → s ≡ record { regions = with_word at slot word w.regions; pool = w.pool; area_start = w.area_start } → with_marker k (with_pool s w) ≡ record w { regions = with_word at slot word w.regions; log = if b then without_last w.log else w.log }
 parts_after_store_undone w slot word room at b s k f g =
     ap (λ (t : RegionPool). with_marker k (with_pool t w)) g
     ∙ ap (λ (j : MarkerState). record (with_marker j w) { regions = with_word at slot word w.regions }) f
     ∙ ap (λ (u : HeapState). record u { regions = with_word at slot word w.regions }) (without_log w room b)
 
 pub store_undone_makes_state : (w v : HeapState) (slot word room : ℕ) (at : ObjRef) (b : Bool) (s : RegionPool) (k : MarkerState) → w ≡ v → k ≡ (if b then record (marker_of w room) { log = take (length w.log - 1) w.log } else marker_of w room)
-    → s ≡ record { regions = with_word at slot word w.regions; pool = w.pool } → with_marker k (with_pool s w) ≡ record v { regions = with_word at slot word v.regions; log = if b then without_last v.log else v.log }
+    → s ≡ record { regions = with_word at slot word w.regions; pool = w.pool; area_start = w.area_start } → with_marker k (with_pool s w) ≡ record v { regions = with_word at slot word v.regions; log = if b then without_last v.log else v.log }
 store_undone_makes_state w v slot word room at b s k e f g = parts_after_store_undone w slot word room at b s k f g
     ∙ ap (λ (u : HeapState). record u { regions = with_word at slot word u.regions; log = if b then without_last u.log else u.log }) e
 
 pub store_undone_keeps_heap_sound : (w v : HeapState) (slot word room : ℕ) (at : ObjRef) (b : Bool) (s : RegionPool) (k : MarkerState) → IsSoundHeap w room → w ≡ v → k ≡ (if b then record (marker_of w room) { log = take (length w.log - 1) w.log } else marker_of w room)
-    → s ≡ record { regions = with_word at slot word w.regions; pool = w.pool } → IsLegal (record v { regions = with_word at slot word v.regions; log = if b then without_last v.log else v.log })
+    → s ≡ record { regions = with_word at slot word w.regions; pool = w.pool; area_start = w.area_start } → IsLegal (record v { regions = with_word at slot word v.regions; log = if b then without_last v.log else v.log })
     → IsSoundHeap (with_marker k (with_pool s w)) k.room
 store_undone_keeps_heap_sound w v slot word room at b s k h e f g l =
     subst (λ n. IsSoundHeap (with_marker k (with_pool s w)) n) (sym (ap (λ (j : MarkerState). j.room) f ∙ go b))

@@ -84,7 +84,7 @@ pub clauses_after_new_class : (w : HeapState) (c : Class) → (c.is_array ≡ tr
 unfolding after_class
 clauses_after_new_class w c bare l accepted =
     let now : HeapState = with_class c w in
-    let sized : IsSized now = record { limits = l.sized.limits; regions = l.sized.regions; mutators = l.sized.mutators } in
+    let sized : IsSized now = record { limits = l.sized.limits; regions = l.sized.regions; area = l.sized.area; mutators = l.sized.mutators } in
     let classes : IsClassTable [] now.classes = classes_more [] w.classes c l.classes (not_refused_at_widest_limits w.limits.classes w.classes c l.sized.limits.classes accepted) bare in
     let objects : EachObject w.regions (λ at o. IsObjectOf now.classes o) = (λ at o e. object_fits_one_class_more w.classes c o (l.objects at o e)) in
     let slots_live : (x y : ℕ) → IsLive now x → Names now x y → IsLive now y = (λ x y a n. l.slots_live x y a (names_before_new_class w c l x y n)) in

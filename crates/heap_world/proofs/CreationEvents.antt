@@ -11,7 +11,6 @@ use Rattle.heap_class.specs.Classes.{is_instance_class, slots_of, Class, is_arra
 use Rattle.heap_class.specs.Refusals.{first_refusal, IsAnswered}
 use Rattle.heap_class.proofs.Slots.{instance_class_is_in_table}
 use Rattle.heap_region.specs.Pool.{alloc_refusal, is_fresh, new_place, RegionPool, freed, allocated, unallocated, blank_object}
-use Rattle.heap_region.specs.Limits.{region_words}
 use Rattle.heap_world.specs.State.{HeapState, is_register, register, pool_of, with_pool, register_index, with_register}
 use Rattle.heap_world.specs.declared.Created.{Created}
 use Rattle.heap_world.specs.Events.{is_full, new_refusal, after_new, IsNewObject, new_object, new_array_refusal, new_prim_refusal}
@@ -23,13 +22,15 @@ use Rattle.heap_class.specs.declared.ObjKind.{ObjKind}
 use Rattle.heap_region.specs.Regions.{Object, UsedRegion, used_at, object_at, id_of}
 use Rattle.heap_region.proofs.Lookups.{used_region_after_its_change, object_found_in_used_cell}
 use Rattle.heap_mark.specs.MarkSteps.{is_marking, marked}
-use Rattle.heap_world.specs.Legal.{IsLegal, HasKind}
+use Rattle.heap_world.specs.Legal.{IsLegal, HasKind, MayHold}
+use Rattle.heap_region.proofs.Good.{pool_is_empty}
+use Rattle.std.proofs.lemmas.Bool.{le-ltb}
 use Rattle.heap_world.specs.HeapParts.{IsSoundHeap}
 use Rattle.heap_world.proofs.Clauses.{legal_heap_has_clauses, clauses_make_heap_legal, HasClauses}
 use Rattle.heap_world.proofs.New.{clauses_after_new_object}
 use Rattle.heap_world.proofs.Words.{few_words}
 use Rattle.heap_class.specs.declared.ObjKind.TheVariants.{Array, Prim}
-use Rattle.heap_class.specs.Limits.{array_limit}
+use Rattle.heap_class.specs.Limits.{large_array_limit}
 use Rattle.heap_world.proofs.FirstRefusals.{refusal_of_test_that_holds, refusal_of_later_tests, no_refusal_without_tests}
 use Rattle.heap_class.proofs.ReferenceKinds.{kind_is_not_a_reference}
 use Rattle.std.proofs.lemmas.List.{length-replicate}
@@ -55,16 +56,16 @@ IsRefusedRoom n w e = ((e ≡ HeapFull) × (is_full n w ≡ true)) ⊎ ((e ≡ N
 same_refusal : (a b : Refusal) → Some a ≡ Some b → b ≡ a
 same_refusal a b h = cc
 
-room_refused : (n : ℕ) (w : HeapState) (e : Refusal) → n ≤ region_words → alloc_refusal n (pool_of w) ≡ Some e → (e ≡ HeapFull) × (is_full n w ≡ true)
+room_refused : (n : ℕ) (w : HeapState) (e : Refusal) → n ≤ large_array_limit → alloc_refusal n (pool_of w) ≡ Some e → (e ≡ HeapFull) × (is_full n w ≡ true)
 unfolding alloc_refusal first_refusal is_full
-room_refused n w e few = go (nat_lt region_words n) (is_none (new_place n (pool_of w))) (grind arith)
+room_refused n w e few = go (nat_lt large_array_limit n) (is_none (new_place n (pool_of w))) (grind arith)
   where
     go : (a b : Bool) → a ≡ false → cond a (Some TooLarge) (cond b (Some HeapFull) None) ≡ Some e → (e ≡ HeapFull) × (b ≡ true)
     go true b f h = cc
     go false true f h = (same_refusal HeapFull e h, refl)
     go false false f h = cc
 
-pub alloc_answered : (n : ℕ) (w : HeapState) (e : Refusal) → n ≤ region_words → (alloc_refusal n (pool_of w) ≡ Some e) ⊎ ((alloc_refusal n (pool_of w) ≡ None) × (is_fresh n (pool_of w) ≡ true) × (e ≡ NoMemory)) → IsRefusedRoom n w e
+pub alloc_answered : (n : ℕ) (w : HeapState) (e : Refusal) → n ≤ large_array_limit → (alloc_refusal n (pool_of w) ≡ Some e) ⊎ ((alloc_refusal n (pool_of w) ≡ None) × (is_fresh n (pool_of w) ≡ true) × (e ≡ NoMemory)) → IsRefusedRoom n w e
 alloc_answered n w e few (inl h) = inl (room_refused n w e few h)
 alloc_answered n w e few (inr h) = inr (h.2, h.1)
 
@@ -142,7 +143,7 @@ unfolding new_array_refusal
 array_wrong_kind m r class len w e h k = refusal_of_later_tests _ _ _ _ (ap not e) (refusal_of_later_tests _ _ _ _ (grind arith) (refusal_of_test_that_holds _ _ _ (ap not k)))
 
 array_by_size : (m r class len : ℕ) (w : HeapState) (x : Option Refusal) → is_register w m r ≡ true → is_array_class w.classes class ≡ true
-    → first_refusal ((nat_lt array_limit len, TooLarge) ∷ (is_full len w, HeapFull) ∷ []) ≡ x → new_array_refusal m r class len w ≡ x
+    → first_refusal ((nat_lt w.limits.elements len, TooLarge) ∷ (is_full len w, HeapFull) ∷ []) ≡ x → new_array_refusal m r class len w ≡ x
 unfolding new_array_refusal
 array_by_size m r class len w x e k f = let h : class < length w.classes = array_class_is_among_classes w.classes class k in
     refusal_of_later_tests _ _ _ _ (ap not e) (refusal_of_later_tests _ _ _ _ (there class (length w.classes) h) (refusal_of_later_tests _ _ _ _ (ap not k) f))
@@ -150,14 +151,11 @@ array_by_size m r class len w x e k f = let h : class < length w.classes = array
     there : (a b : ℕ) → a < b → nat_le b a ≡ false
     there a b h = grind arith
 
-pub array_too_large : (m r class len : ℕ) (w : HeapState) → is_register w m r ≡ true → is_array_class w.classes class ≡ true → array_limit < len → new_array_refusal m r class len w ≡ Some TooLarge
+pub array_too_large : (m r class len : ℕ) (w : HeapState) → is_register w m r ≡ true → is_array_class w.classes class ≡ true → w.limits.elements < len → new_array_refusal m r class len w ≡ Some TooLarge
 array_too_large m r class len w e k h = array_by_size m r class len w (Some TooLarge) e k (refusal_of_test_that_holds _ _ _ (grind arith))
 
-array_by_room : (m r class len : ℕ) (w : HeapState) → is_register w m r ≡ true → HasKind w.classes (Array class) len → (x : Option Refusal) → first_refusal ((is_full len w, HeapFull) ∷ []) ≡ x → new_array_refusal m r class len w ≡ x
-array_by_room m r class len w e k x f = array_by_size m r class len w x e k.0 (refusal_of_later_tests _ _ _ _ (within len k.1) f)
-  where
-    within : (n : ℕ) → n ≤ array_limit → nat_lt array_limit n ≡ false
-    within n h = grind arith
+array_by_room : (m r class len : ℕ) (w : HeapState) → is_register w m r ≡ true → HasKind w.classes (Array class) len → len ≤ w.limits.elements → (x : Option Refusal) → first_refusal ((is_full len w, HeapFull) ∷ []) ≡ x → new_array_refusal m r class len w ≡ x
+array_by_room m r class len w e k few x f = array_by_size m r class len w x e k.0 (refusal_of_later_tests _ _ _ _ (le-ltb w.limits.elements len few) f)
 
 -- ---- an array of values
 
@@ -170,18 +168,34 @@ unfolding new_prim_refusal
 prim_reference m r kind len w e k = refusal_of_later_tests _ _ _ _ (ap not e) (refusal_of_test_that_holds _ _ _ k)
 
 prim_by_size : (m r : ℕ) (kind : Kind) (len : ℕ) (w : HeapState) (x : Option Refusal) → is_register w m r ≡ true → is_reference kind ≡ false
-    → first_refusal ((nat_lt array_limit len, TooLarge) ∷ (is_full len w, HeapFull) ∷ []) ≡ x → new_prim_refusal m r kind len w ≡ x
+    → first_refusal ((nat_lt w.limits.elements len, TooLarge) ∷ (is_full len w, HeapFull) ∷ []) ≡ x → new_prim_refusal m r kind len w ≡ x
 unfolding new_prim_refusal
 prim_by_size m r kind len w x e k f = refusal_of_later_tests _ _ _ _ (ap not e) (refusal_of_later_tests _ _ _ _ k f)
 
-pub prim_too_large : (m r : ℕ) (kind : Kind) (len : ℕ) (w : HeapState) → is_register w m r ≡ true → is_reference kind ≡ false → array_limit < len → new_prim_refusal m r kind len w ≡ Some TooLarge
+pub prim_too_large : (m r : ℕ) (kind : Kind) (len : ℕ) (w : HeapState) → is_register w m r ≡ true → is_reference kind ≡ false → w.limits.elements < len → new_prim_refusal m r kind len w ≡ Some TooLarge
 prim_too_large m r kind len w e k h = prim_by_size m r kind len w (Some TooLarge) e k (refusal_of_test_that_holds _ _ _ (grind arith))
 
-prim_by_room : (m r : ℕ) (kind : Kind) (len : ℕ) (w : HeapState) → is_register w m r ≡ true → HasKind w.classes (Prim kind) len → (x : Option Refusal) → first_refusal ((is_full len w, HeapFull) ∷ []) ≡ x → new_prim_refusal m r kind len w ≡ x
-prim_by_room m r kind len w e k x f = prim_by_size m r kind len w x e (kind_is_not_a_reference kind k.0) (refusal_of_later_tests _ _ _ _ (within len k.1) f)
+prim_by_room : (m r : ℕ) (kind : Kind) (len : ℕ) (w : HeapState) → is_register w m r ≡ true → HasKind w.classes (Prim kind) len → len ≤ w.limits.elements → (x : Option Refusal) → first_refusal ((is_full len w, HeapFull) ∷ []) ≡ x → new_prim_refusal m r kind len w ≡ x
+prim_by_room m r kind len w e k few x f = prim_by_size m r kind len w x e (kind_is_not_a_reference kind k.0) (refusal_of_later_tests _ _ _ _ (le-ltb w.limits.elements len few) f)
+
+-- ---- what is allowed
+
+pub array_allowed : (w v : HeapState) (m r class len room : ℕ) → IsSoundHeap w room → w ≡ v → is_register v m r ≡ true → is_array_class v.classes class ≡ true → len ≤ w.limits.elements → MayHold v m r (Array class) len
+array_allowed w v m r class len room h same e k few = record {
+  there = e;
+  of_kind = (k, omega (arith, few, h.legal.sized.limits.elements));
+  allowed = subst (λ (u : HeapState). len ≤ u.limits.elements) same few;
+}
+
+pub prim_allowed : (w v : HeapState) (m r : ℕ) (kind : Kind) (len room : ℕ) → IsSoundHeap w room → w ≡ v → is_register v m r ≡ true → is_reference kind ≡ false → len ≤ w.limits.elements → MayHold v m r (Prim kind) len
+prim_allowed w v m r kind len room h same e k few = record {
+  there = e;
+  of_kind = (not_object kind k, omega (arith, few, h.legal.sized.limits.elements));
+  allowed = subst (λ (u : HeapState). len ≤ u.limits.elements) same few;
+}
   where
-    within : (n : ℕ) → n ≤ array_limit → nat_lt array_limit n ≡ false
-    within n h = grind arith
+    not_object : (k : Kind) → is_reference k ≡ false → k ≢ Kind.Object
+    not_object k e same = let yes : is_reference k ≡ true = ap is_reference same in cc
 
 -- ---- what is answered where only room is left to ask for
 
@@ -191,13 +205,13 @@ room_answered len w refusal (Ok a) by room refused = by None (refusal_of_later_t
 room_answered len w refusal (Err e) by room (inl p) = inl (by (Some e) (refusal_of_test_that_holds _ _ _ p.1 ∙ ap (λ y. Some y) (sym p.0)))
 room_answered len w refusal (Err e) by room (inr p) = inr (by None (refusal_of_later_tests _ _ _ _ (fresh_room len w p.1) no_refusal_without_tests), p.1, p.0)
 
-pub array_answered : {A : Type 0} (m r class len : ℕ) (w : HeapState) (result : Result A Refusal) → is_register w m r ≡ true → HasKind w.classes (Array class) len
+pub array_answered : {A : Type 0} (m r class len : ℕ) (w : HeapState) (result : Result A Refusal) → is_register w m r ≡ true → HasKind w.classes (Array class) len → len ≤ w.limits.elements
     → OnOk result (is_full len w ≡ false) → IfErr result (IsRefusedRoom len w) → IsAnswered (new_array_refusal m r class len w) (is_fresh len (pool_of w)) result
-array_answered m r class len w result e k room refused = room_answered len w _ result (array_by_room m r class len w e k) room refused
+array_answered m r class len w result e k few room refused = room_answered len w _ result (array_by_room m r class len w e k few) room refused
 
-pub prim_answered : {A : Type 0} (m r : ℕ) (kind : Kind) (len : ℕ) (w : HeapState) (result : Result A Refusal) → is_register w m r ≡ true → HasKind w.classes (Prim kind) len
+pub prim_answered : {A : Type 0} (m r : ℕ) (kind : Kind) (len : ℕ) (w : HeapState) (result : Result A Refusal) → is_register w m r ≡ true → HasKind w.classes (Prim kind) len → len ≤ w.limits.elements
     → OnOk result (is_full len w ≡ false) → IfErr result (IsRefusedRoom len w) → IsAnswered (new_prim_refusal m r kind len w) (is_fresh len (pool_of w)) result
-prim_answered m r kind len w result e k room refused = room_answered len w _ result (prim_by_room m r kind len w e k) room refused
+prim_answered m r kind len w result e k few room refused = room_answered len w _ result (prim_by_room m r kind len w e k few) room refused
 
 -- ---- what a new object leaves
 
@@ -220,7 +234,7 @@ new_object_keeps_shapes w m r kind n x l o e = go (new_place n (pool_of w)) refl
       o,
       allocated_keeps p.0 p.1 (new_object kind n w) (pool_of w) (ap (λ k. new_place k (pool_of w)) (length-replicate n 0) ∙ f)
           (λ u used head. ((l.cells p.0.region u used).free.each p.0.cell).0 (got_is_in u.free 0 p.0.cell head))
-          (λ head. (l.pool.each p.0.region).0 (got_is_in w.pool 0 p.0.region head)) x o e,
+          (pool_is_empty (pool_of w) p.0 (clauses_make_heap_legal w l).regions) x o e,
       refl,
       refl,
     )

@@ -7,7 +7,9 @@ use Rattle.std.proofs.lemmas.Option.{slice_get-map}
 use Rattle.std.proofs.lemmas.List.{length-map}
 use Rattle.heap_mark.proofs.Each.{used_region_after_each_change}
 use Rattle.heap_mark.proofs.Finishes.{none_pending, pending_in}
-use Rattle.heap_region.specs.Legal.{EachObject}
+use Rattle.heap_region.specs.Legal.{EachObject, IsArea}
+use Rattle.heap_region.proofs.Areas.{KeepsSizes, area_kept}
+use Rattle.heap_region.proofs.Spares.{spare_kept}
 use Rattle.heap_class.proofs.Refusals.{no_refusal_test_holds}
 use Rattle.heap_class.specs.declared.ObjRef.{ObjRef}
 use Rattle.heap_class.specs.Classes.{Class}
@@ -127,6 +129,18 @@ pub finish_keeps_region_count : (rs : List Region) → length (each_region finis
 unfolding each_region
 finish_keeps_region_count rs = length-map rs (in_used finished_region)
 
+-- the area stays as it was
+area_after_finish : (rs : List Region) (start : ℕ) → IsArea rs start → IsArea (each_region finished_region rs) start
+unfolding finished_region each_object
+area_after_finish rs start area = area_kept rs (each_region finished_region rs) start (finish_keeps_region_count rs) sizes area
+  where
+    sizes : KeepsSizes rs (each_region finished_region rs)
+    sizes r v e = go (used_at rs r) refl (sym (used_region_after_each_change finished_region rs r) ∙ e)
+      where
+        go : (p : Option UsedRegion) → used_at rs r ≡ p → option_map finished_region p ≡ Some v → (u : UsedRegion) × (used_at rs r ≡ Some u) × (u.cell_size ≡ v.cell_size)
+        go None f g = cc
+        go (Some u) f g = let s : finished_region u ≡ v = cc in (u, f, ap (λ (z : UsedRegion). z.cell_size) s)
+
 -- ---- nothing shelters at a finish
 
 pub nothing_gray_and_log_drained : (gray log drained : ℕ) → nat_lt 0 (gray + (log - drained)) ≡ false → (gray ≡ 0) × (log ≤ drained)
@@ -159,12 +173,13 @@ marked_object_live w l x o e m = let p = place_of_object_of_id w.regions x o e i
 pub clauses_after_finish : (w : HeapState) → HasClauses w → finish_refusal (marking_of w) ≡ None → HasClauses (after_finish w)
 unfolding finish_refusal after_finish finished
 clauses_after_finish w l accepted = record {
-  sized = record { limits = l.sized.limits; regions = subst (λ n. (1 ≤ n) × (n ≤ region_limit)) (sym (finish_keeps_region_count w.regions)) l.sized.regions; mutators = l.sized.mutators };
+  sized = record { limits = l.sized.limits; regions = subst (λ n. (1 ≤ n) × (n ≤ region_limit)) (sym (finish_keeps_region_count w.regions)) l.sized.regions; area = subst (λ n. w.area_start ≡ n - w.limits.area) (sym (finish_keeps_region_count w.regions)) l.sized.area; mutators = l.sized.mutators };
   classes = l.classes;
   objects = λ at o' e. (let q = was at o' e in subst (IsObjectOf w.classes) (sym q.2) (settled_object_fits_classes w.classes q.0 (l.objects at q.0 q.1)));
   least_cells = λ at o' e. (let q = was at o' e in subst (λ (o : Object). IfSome (used_at (each_region finished_region w.regions) at.region) (λ u. u.cell_size ≡ cell_size_for (length o.words))) (sym q.2) (least_size_after_finish w.regions at.region (cell_size_for (length q.0.words)) (l.least_cells at q.0 q.1)));
   cells = table_each w.regions l.cells;
-  pool = record { distinct = l.pool.distinct; each = λ r. (λ m. (regions_empty_after_finish w.regions r).1 ((l.pool.each r).0 m), λ e. (l.pool.each r).1 ((regions_empty_after_finish w.regions r).0 e)) };
+  pool = spare_kept w.area_start w.pool w.regions (each_region finished_region w.regions) (regions_empty_after_finish w.regions) l.pool;
+  area = area_after_finish w.regions w.area_start l.area;
   registers_live = λ x c n. (let a = l.registers_live x c n in found x a.0 a.1 (λ u. (l.tricolour phase).registers x c u));
   slots_live = λ x y a n. slots x y a n;
   gray_live = λ x c. absurd (nobody x c);

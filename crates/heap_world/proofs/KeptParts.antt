@@ -38,7 +38,7 @@ legal_state_of_room_is_sound v w room h l e = record { legal = l; ids = same_roo
 
 -- ---- what was done is taken back
 
-pub word_held : (w v : HeapState) (slot word room : ℕ) (at : ObjRef) (s : RegionPool) → IsSoundHeap w room → w ≡ v → s ≡ record { regions = with_word at slot word w.regions; pool = w.pool } → IsLegal (record v { regions = with_word at slot word v.regions }) → IsSoundHeap (with_pool s w) room
+pub word_held : (w v : HeapState) (slot word room : ℕ) (at : ObjRef) (s : RegionPool) → IsSoundHeap w room → w ≡ v → s ≡ record { regions = with_word at slot word w.regions; pool = w.pool; area_start = w.area_start } → IsLegal (record v { regions = with_word at slot word v.regions }) → IsSoundHeap (with_pool s w) room
 word_held w v slot word room at s h e f l = subst (λ (t : RegionPool). IsSoundHeap (with_pool t w) room) (sym f)
     (legal_state_of_room_is_sound (record w { regions = with_word at slot word w.regions }) w room h
     (subst (λ (u : HeapState). IsLegal (record u { regions = with_word at slot word u.regions })) (sym e) l) (word_write_keeps_region_count w.regions at slot word))

@@ -1,14 +1,12 @@
 -- Legality after a new object.
-use Rattle.std.proofs.Common.{◌≡◌, ◌≢◌, ◌⊎◌, ℕ, zero, suc, ◌+◌, ◌/◌, ◌<◌, ◌≤◌, Bool, true, false, List, [], ◌∷◌, length, drop, set, zip, replicate, refl, sym, ap, subst, ◌∙◌, Option, Some, None, IfSome, All, Contains, arith}
+use Rattle.std.proofs.Common.{◌≡◌, ◌≢◌, ◌⊎◌, ℕ, ◌-◌, zero, suc, ◌<◌, ◌≤◌, Bool, true, false, List, [], ◌∷◌, length, drop, set, zip, replicate, refl, sym, ap, subst, ◌∙◌, Option, Some, None, IfSome, All, Contains, arith}
 use mathlib.Core.Logic.{inl, inr}
-use Rattle.std.specs.Prelude.{slice_get, option_map, option_and_then, nat_eq, is_none, ◌==◌, if◌then◌else◌}
+use Rattle.std.specs.Prelude.{slice_get, option_and_then, is_none, nat_lt, if◌then◌else◌}
 use Rattle.std.specs.Option.{option_map_or}
-use Rattle.std.specs.List.{filter_map, cons_option, enumerate_from, range_with_len, IsDistinct}
-use Rattle.std.proofs.lemmas.Bool.{eqb-true}
+use Rattle.std.specs.List.{range_with_len}
 use Rattle.std.proofs.lemmas.List.{length-replicate}
 use Rattle.std.proofs.lemmas.List.FromFn.{length-range_with_len}
 use Rattle.std.proofs.lemmas.List.Elements.{All-cons}
-use Rattle.heap_region.proofs.Lookups.{listed_region_is_in_use}
 use Rattle.heap_class.specs.declared.Kind.{Kind}
 use Rattle.heap_class.specs.declared.Kind.TheVariants.{Boolean, Char, Float, Double, Byte, Short, Int, Long}
 use Rattle.heap_class.specs.declared.ObjKind.{ObjKind}
@@ -16,93 +14,59 @@ use Rattle.heap_class.specs.declared.ObjRef.{ObjRef}
 use Rattle.heap_class.specs.Classes.{Class}
 use Rattle.heap_class.specs.Kinds.{value_limit}
 use Rattle.heap_region.specs.Limits.{region_limit}
-use Rattle.heap_region.specs.Regions.{Object, UsedRegion, Region, Empty, InUse, used_part, used_at, object_of, object_at, id_of, ref_of, with_region, references_of, slot_kinds, cell_size_for}
-use Rattle.heap_region.specs.Pool.{RegionPool, fresh_region, free_place, place_or_fresh, new_place, taken, restored, allocated}
+use Rattle.heap_region.specs.Regions.{Object, UsedRegion, Region, Empty, InUse, cell_count, used_part, used_at, object_of, object_at, id_of, ref_of, with_region, references_of, slot_kinds, cell_size_for}
+use Rattle.heap_region.specs.Pool.{RegionPool, fresh_region, new_place, taken, restored, allocated}
 use Rattle.heap_region.proofs.ChangedLookups.{same_or_not, ref_same, number_of, region_of_ref}
 use Rattle.heap_region.proofs.PriorObjects.{places_equal_or_different}
 use Rattle.heap_region.proofs.RoundTrip.{size_for, some_cell}
-use Rattle.heap_region.proofs.References.{list_has_its_head, list_has_items_of_tail, member_is_head_or_later, set_item_is_got, get_set_other, length_set, get_within, member_stands_at_reference_slot, references_by_slots}
+use Rattle.heap_region.proofs.References.{set_item_is_got, get_set_other, length_set, get_within, member_stands_at_reference_slot, references_by_slots}
 use Rattle.heap_mark.specs.declared.Phase.TheVariants.{Marking}
 use Rattle.heap_mark.specs.MarkSteps.{is_marking}
-use Rattle.heap_region.proofs.Distinct.{rest_of_distinct_is_distinct, first_of_distinct_differs}
 use Rattle.heap_world.specs.State.{HeapState, pool_of, with_pool, with_register}
 use Rattle.heap_world.specs.Reach.{Names}
 use Rattle.heap_world.specs.Legal.{IsObjectOf, HasKind, IsMarked, IsUnmarked, IsLive, Sheltered}
-use Rattle.heap_world.proofs.Clauses.{HasClauses}
+use Rattle.heap_world.proofs.Clauses.{HasClauses, clauses_make_heap_legal}
 use Rattle.heap_region.proofs.Clauses.{IsPartition}
-use Rattle.heap_region.specs.Legal.{NamesEach}
+use Rattle.heap_region.specs.Legal.{IsArea, IsRegionPool, MayRestore, NamesEach}
+use Rattle.heap_region.proofs.Areas.{area_after_arrival}
+use Rattle.heap_region.proofs.Places.{IsNextFree, IsSpare, new_place_is}
+use Rattle.heap_region.proofs.Restores.{restorable_is_empty, spare_may_be_restored}
+use Rattle.heap_region.proofs.Spares.{NamesSpare, spare_after_arrival, spare_kept}
 use Rattle.heap_world.specs.Events.{new_object, after_new, is_full}
 use Rattle.heap_world.proofs.OpeningState.{range_distinct, range_index}
 use Rattle.heap_world.proofs.Shelter.{sheltered_unmarked}
 use Rattle.heap_world.proofs.Tricolour.{Spares, spares_tricolour, spares_sheltered}
 use Rattle.heap_world.proofs.Registers.{IsSafe, naming_id_names_an_object, names_of, write_legal}
-use Rattle.heap_world.proofs.TakenCells.{HasRoom, IsTaken, object_put_into_free_cell, filled, list_from_its_first, object_at_same, object_at_used, same_region_has_same_size}
+use Rattle.heap_world.proofs.TakenCells.{HasRoom, IsTaken, object_put_into_free_cell, filled, object_at_same, object_at_used, same_region_has_same_size}
 use Rattle.heap_region.proofs.FoundObjects.{bare_cells}
 use Rattle.heap_region.proofs.ShownRegions.{unused_region_has_no_object}
 
 -- ---- a region with room
 
 -- rs1 and ps1 are rs and ps, perhaps with a region taken from the pool, and have room at a place
-record IsOpened (rs rs1 : List Region) (ps ps1 : List ℕ) (at : ObjRef) (s : ℕ) : Type 0 where
+record IsOpened (start : ℕ) (rs rs1 : List Region) (ps ps1 : List ℕ) (at : ObjRef) (s : ℕ) : Type 0 where
   count : length rs1 ≡ length rs
   places : (b : ObjRef) → object_at rs1 b ≡ object_at rs b
   names : (x : ℕ) → object_of rs1 x ≡ object_of rs x
   used_still : (k : ℕ) (u : UsedRegion) → used_at rs k ≡ Some u → used_at rs1 k ≡ Some u
   used_before : (k : ℕ) (u : UsedRegion) → k ≢ at.region → used_at rs1 k ≡ Some u → used_at rs k ≡ Some u
-  pools : NamesEach ps1 (λ k. slice_get rs1 k ≡ Some Empty)
+  pools : NamesSpare start ps1 rs1
+  area : IsArea rs1 start
   room : HasRoom rs1 at s
 
--- the first region with a free cell of a size
-first_region_with_free_cell : (size k : ℕ) (rs : List Region) (at : ObjRef) → slice_get (filter_map (free_place size) (enumerate_from k rs)) 0 ≡ Some at
-    → (i : ℕ) × (at.region ≡ k + i) × ((u : UsedRegion) × (slice_get rs i ≡ Some (InUse u)) × (u.cell_size ≡ size) × (slice_get u.free 0 ≡ Some at.cell))
-unfolding free_place
-first_region_with_free_cell size k [] at h = cc
-first_region_with_free_cell size k (Empty ∷ rs) at h = let r = first_region_with_free_cell size (k + 1) rs at h in (suc r.0, omega (arith, r.1), r.2)
-first_region_with_free_cell size k (InUse u ∷ rs) at h = go (u.cell_size == size) refl (slice_get u.free 0) refl h (λ e. first_region_with_free_cell size (k + 1) rs at e)
-  where
-    go : (b : Bool) → (u.cell_size == size) ≡ b → (f : Option ℕ) → slice_get u.free 0 ≡ f
-        → slice_get (cons_option (if b then option_map (λ c. record { region = k; cell = c }) f else None) (filter_map (free_place size) (enumerate_from (k + 1) rs))) 0 ≡ Some at
-        → (slice_get (filter_map (free_place size) (enumerate_from (k + 1) rs)) 0 ≡ Some at → (i : ℕ) × (at.region ≡ k + 1 + i) × ((u : UsedRegion) × (slice_get rs i ≡ Some (InUse u)) × (u.cell_size ≡ size) × (slice_get u.free 0 ≡ Some at.cell)))
-        → (i : ℕ) × (at.region ≡ k + i) × ((v : UsedRegion) × (slice_get (InUse u ∷ rs) i ≡ Some (InUse v)) × (v.cell_size ≡ size) × (slice_get v.free 0 ≡ Some at.cell))
-    go false e f g h rest = let r = rest h in (suc r.0, omega (arith, r.1), r.2)
-    go true e None g h rest = let r = rest h in (suc r.0, omega (arith, r.1), r.2)
-    go true e (Some c) g h rest =
-        let q : record { region = k; cell = c } ≡ at = some_same _ _ h in
-        (0, (let z : at.region ≡ k = ap (λ (z : ObjRef). z.region) (sym q) in omega (arith, z)), (u, refl, eqb-true u.cell_size size e, g ∙ ap (λ (z : ObjRef). Some z.cell) q))
-      where
-        some_same : (a b : ObjRef) → Some a ≡ Some b → a ≡ b
-        some_same a b e = cc
-
-place_found_free_or_fresh : (p : Option ObjRef) (r : Option ℕ) (q : ObjRef × Bool) → place_or_fresh p r ≡ Some q → ((p ≡ Some q.0) × (q.1 ≡ false)) ⊎ ((r ≡ Some q.0.region) × (q.0.cell ≡ 0) × (q.1 ≡ true))
-unfolding place_or_fresh
-place_found_free_or_fresh (Some at) r q h = let e : (at, false) ≡ q = pair_same _ _ h in inl (ap (λ (z : ObjRef × Bool). Some z.0) e, ap (λ (z : ObjRef × Bool). z.1) (sym e))
-  where
-    pair_same : (a b : ObjRef × Bool) → Some a ≡ Some b → a ≡ b
-    pair_same a b e = cc
-place_found_free_or_fresh None (Some r) q h = let e : (record { region = r; cell = 0 }, true) ≡ q = pair_same _ _ h in inr (ap (λ (z : ObjRef × Bool). Some z.0.region) e, ap (λ (z : ObjRef × Bool). z.0.cell) (sym e), ap (λ (z : ObjRef × Bool). z.1) (sym e))
-  where
-    pair_same : (a b : ObjRef × Bool) → Some a ≡ Some b → a ≡ b
-    pair_same a b e = cc
-place_found_free_or_fresh None None q h = cc
-
 -- a region in use has room where its free list isn't empty
-opened_in_use : (rs : List Region) (ps : List ℕ) (n : ℕ) (at : ObjRef) → ((k : ℕ) (u : UsedRegion) → used_at rs k ≡ Some u → IsPartition u) → NamesEach ps (λ k. slice_get rs k ≡ Some Empty)
-    → slice_get (filter_map (free_place (cell_size_for n)) (enumerate_from 0 rs)) 0 ≡ Some at → IsOpened rs rs ps ps at (cell_size_for n)
-opened_in_use rs ps n at tables pools h = record {
+opened_in_use : (start : ℕ) (rs : List Region) (ps : List ℕ) (n : ℕ) (at : ObjRef) → ((k : ℕ) (u : UsedRegion) → used_at rs k ≡ Some u → IsPartition u) → NamesSpare start ps rs → IsArea rs start
+    → IsNextFree n rs at → IsOpened start rs rs ps ps at (cell_size_for n)
+opened_in_use start rs ps n at tables pools area h = record {
   count = refl;
   places = λ b. refl;
   names = λ x. refl;
   used_still = λ k u e. e;
   used_before = λ k u m e. e;
   pools = pools;
-  room = record { region = f.2.0; used = used; size = f.2.2; is_size = size_for n; cells = (tables at.region f.2.0 used).cells; free = (tables at.region f.2.0 used).free; first = f.2.3 };
+  area = area;
+  room = record { region = h.0; used = h.1; size = h.2; is_size = size_for n; cells = (tables at.region h.0 h.1).cells; free = (tables at.region h.0 h.1).free; first = h.3 };
 }
-  where
-    f : (i : ℕ) × (at.region ≡ 0 + i) × ((u : UsedRegion) × (slice_get rs i ≡ Some (InUse u)) × (u.cell_size ≡ cell_size_for n) × (slice_get u.free 0 ≡ Some at.cell))
-    f = first_region_with_free_cell (cell_size_for n) 0 rs at h
-
-    used : used_at rs at.region ≡ Some f.2.0
-    used = listed_region_is_in_use rs at.region f.2.0 (ap (slice_get rs) (omega (arith, f.1)) ∙ f.2.1)
 
 -- ---- a region from the pool
 
@@ -159,30 +123,31 @@ names_by rs ts x e h = ap (option_and_then (object_at ts)) e ∙ go (ref_of rs x
     go None = refl
     go (Some b) = h b
 
-fresh_region_opens_room : (rs : List Region) (ps : List ℕ) (n r : ℕ) → NamesEach ps (λ k. slice_get rs k ≡ Some Empty) → slice_get ps 0 ≡ Some r
-    → IsOpened rs (set rs r (InUse (fresh_region (cell_size_for n)))) ps (drop 1 ps) (record { region = r; cell = 0 }) (cell_size_for n)
+fresh_region_opens_room : (s : RegionPool) (n r : ℕ) → IsRegionPool s → IsSpare n s r
+    → IsOpened s.area_start s.regions (set s.regions r (InUse (fresh_region (cell_size_for n)))) s.pool (if nat_lt r s.area_start then drop 1 s.pool else s.pool) (record { region = r; cell = 0 }) (cell_size_for n)
 unfolding fresh_region
-fresh_region_opens_room rs ps n r pools h = record {
+fresh_region_opens_room s n r legal spare = record {
   count = length_set rs r (InUse fresh);
   places = places;
   names = λ x. names x (same_or_not (number_of x) r);
   used_still = λ k u e. still k u e (same_or_not k r);
   used_before = λ k u m e. sym (used_set_other rs r k fresh m) ∙ e;
-  pools = record { distinct = rest_of_distinct_is_distinct r (drop 1 ps) distinct; each = λ k. (λ m. to k m, λ e. from k e (same_or_not k r)) };
-  room = record { region = fresh; used = used; size = refl; is_size = size_for n; cells = length-replicate (1024 / cell_size_for n) None; free = range_names None (1024 / cell_size_for n); first = range_first (1024 / cell_size_for n) (some_cell (cell_size_for n) (size_for n)) };
+  pools = spare_after_arrival s r fresh legal may;
+  area = area_after_arrival s r fresh legal.area may;
+  room = record { region = fresh; used = used; size = refl; is_size = size_for n; cells = length-replicate (cell_count (cell_size_for n)) None; free = range_names None (cell_count (cell_size_for n)); first = range_first (cell_count (cell_size_for n)) (some_cell (cell_size_for n) (size_for n)) };
 }
   where
+    rs : List Region
+    rs = s.regions
+
     fresh : UsedRegion
-    fresh = record { cell_size = cell_size_for n; pending = false; cells = replicate (1024 / cell_size_for n) None; free = range_with_len 0 (1024 / cell_size_for n) }
+    fresh = record { cell_size = cell_size_for n; pending = false; cells = replicate (cell_count (cell_size_for n)) None; free = range_with_len 0 (cell_count (cell_size_for n)) }
 
-    list : ps ≡ r ∷ drop 1 ps
-    list = list_from_its_first ps r h
-
-    distinct : IsDistinct nat_eq (r ∷ drop 1 ps)
-    distinct = subst (IsDistinct nat_eq) list pools.distinct
+    may : MayRestore s r fresh
+    may = spare_may_be_restored n s r fresh legal spare refl
 
     empty : slice_get rs r ≡ Some Empty
-    empty = (pools.each r).0 (subst (λ l. Contains l r) (sym list) (list_has_its_head r (drop 1 ps)))
+    empty = restorable_is_empty s r fresh legal may
 
     within : r < length rs
     within = get_within rs r Empty empty
@@ -195,7 +160,7 @@ fresh_region_opens_room rs ps n r pools h = record {
     still k u e (inr m) = used_set_other rs r k fresh m ∙ e
 
     none_there : (b : ObjRef) → b.region ≡ r → object_at (set rs r (InUse fresh)) b ≡ None
-    none_there b e = object_at_used (set rs r (InUse fresh)) b fresh (ap (used_at (set rs r (InUse fresh))) e ∙ used) ∙ bare_cells (1024 / cell_size_for n) b.cell
+    none_there b e = object_at_used (set rs r (InUse fresh)) b fresh (ap (used_at (set rs r (InUse fresh))) e ∙ used) ∙ bare_cells (cell_count (cell_size_for n)) b.cell
 
     none_before : (b : ObjRef) → b.region ≡ r → object_at rs b ≡ None
     none_before b e = unused_region_has_no_object rs b (ap (used_at rs) e ∙ empty_region_is_not_used rs r empty)
@@ -209,13 +174,6 @@ fresh_region_opens_room rs ps n r pools h = record {
     names : (x : ℕ) → (number_of x ≡ r) ⊎ (number_of x ≢ r) → object_of (set rs r (InUse fresh)) x ≡ object_of rs x
     names x (inl e) = id_of_empty_region_names_none (set rs r (InUse fresh)) r x none_there e ∙ sym (id_of_empty_region_names_none rs r x none_before e)
     names x (inr m) = names_by rs (set rs r (InUse fresh)) x (ref_same (set rs r (InUse fresh)) rs x (λ d. same_region_has_same_size rs (set rs r (InUse fresh)) (number_of x) d (used_set_other rs r (number_of x) fresh m))) places
-
-    to : (k : ℕ) → Contains (drop 1 ps) k → slice_get (set rs r (InUse fresh)) k ≡ Some Empty
-    to k m = get_set_other rs r k (InUse fresh) (λ e. first_of_distinct_differs r (drop 1 ps) distinct k m (sym e)) ∙ (pools.each k).0 (subst (λ l. Contains l k) (sym list) (list_has_items_of_tail r (drop 1 ps) k m))
-
-    from : (k : ℕ) → slice_get (set rs r (InUse fresh)) k ≡ Some Empty → (k ≡ r) ⊎ (k ≢ r) → Contains (drop 1 ps) k
-    from k e (inl s) = let a : Some (InUse fresh) ≡ Some Empty = sym (ap (slice_get (set rs r (InUse fresh))) s ∙ set_item_is_got rs r (InUse fresh) within) ∙ e in cc
-    from k e (inr m) = elim (member_is_head_or_later r (drop 1 ps) k (subst (λ l. Contains l k) list ((pools.each k).1 (sym (get_set_other rs r k (InUse fresh) m) ∙ e)))) [ inl s ↦ absurd (m s) | inr c ↦ c ]
 
 -- ---- the new object
 
@@ -269,17 +227,17 @@ abbrev heap_with_regions_and_pool : HeapState → List Region → List ℕ → H
 heap_with_regions_and_pool w ts qs = record w { regions = ts; pool = qs }
 
 -- each id but the new object's names what it did
-other_ids_name_as_before : (w : HeapState) (rs1 ts : List Region) (qs : List ℕ) (at : ObjRef) (o : Object) (s : ℕ) → IsOpened w.regions rs1 w.pool qs at s → IsTaken rs1 ts at o s → (x : ℕ) → x ≢ id_of ts at → object_of ts x ≡ object_of w.regions x
+other_ids_name_as_before : (w : HeapState) (rs1 ts : List Region) (qs : List ℕ) (at : ObjRef) (o : Object) (s : ℕ) → IsOpened w.area_start w.regions rs1 w.pool qs at s → IsTaken rs1 ts at o s → (x : ℕ) → x ≢ id_of ts at → object_of ts x ≡ object_of w.regions x
 other_ids_name_as_before w rs1 ts qs at o s a t x n = t.still_named x n ∙ a.names x
 
 -- what an id named before it is not the new object's
-older_id_is_not_new : (w : HeapState) (rs1 ts : List Region) (qs : List ℕ) (at : ObjRef) (o : Object) (s : ℕ) → IsOpened w.regions rs1 w.pool qs at s → IsTaken rs1 ts at o s → (x : ℕ) (p : Object) → object_of w.regions x ≡ Some p → x ≢ id_of ts at
+older_id_is_not_new : (w : HeapState) (rs1 ts : List Region) (qs : List ℕ) (at : ObjRef) (o : Object) (s : ℕ) → IsOpened w.area_start w.regions rs1 w.pool qs at s → IsTaken rs1 ts at o s → (x : ℕ) (p : Object) → object_of w.regions x ≡ Some p → x ≢ id_of ts at
 older_id_is_not_new w rs1 ts qs at o s a t x p e q = let z : None ≡ Some p = sym t.was_none ∙ a.names (id_of ts at) ∙ ap (object_of w.regions) (sym q) ∙ e in clash p z
   where
     clash : (p : Object) → None ≡ Some p → ⊥
     clash p z = cc
 
-grown_spares : (w : HeapState) (rs1 ts : List Region) (qs : List ℕ) (at : ObjRef) (o : Object) (s n : ℕ) → w.phase ≡ Marking → IsOpened w.regions rs1 w.pool qs at s → IsTaken rs1 ts at o s → IsFresh w o n → Spares w (heap_with_regions_and_pool w ts qs)
+grown_spares : (w : HeapState) (rs1 ts : List Region) (qs : List ℕ) (at : ObjRef) (o : Object) (s n : ℕ) → w.phase ≡ Marking → IsOpened w.area_start w.regions rs1 w.pool qs at s → IsTaken rs1 ts at o s → IsFresh w o n → Spares w (heap_with_regions_and_pool w ts qs)
 grown_spares w rs1 ts qs at o s n phase a t f = record {
   unmarked = λ x u. unmarked x u (same_or_not x (id_of ts at));
   marked = λ x y m k. marked x y m k (same_or_not x (id_of ts at));
@@ -304,9 +262,9 @@ grown_spares w rs1 ts qs at o s n phase a t f = record {
     marked x y m k (inl e) = let b = naming_id_names_an_object (heap_with_regions_and_pool w ts qs) x y k in absurd (zero_words_name_nothing w.classes o n f.words y (subst (λ (z : Object). Contains (references_of w.classes z) y) (new_is x b.0 e b.1) b.2))
     marked x y m k (inr d) = let b = naming_id_names_an_object (heap_with_regions_and_pool w ts qs) x y k in ((m.0, sym (still x d) ∙ m.1, m.2), names_of w x y b.0 (sym (still x d) ∙ b.1) b.2)
 
-grown_legal : (w : HeapState) (rs1 ts : List Region) (qs : List ℕ) (at : ObjRef) (o : Object) (n : ℕ) → HasClauses w → IsOpened w.regions rs1 w.pool qs at (cell_size_for n) → IsTaken rs1 ts at o (cell_size_for n) → IsFresh w o n → HasClauses (heap_with_regions_and_pool w ts qs)
+grown_legal : (w : HeapState) (rs1 ts : List Region) (qs : List ℕ) (at : ObjRef) (o : Object) (n : ℕ) → HasClauses w → IsOpened w.area_start w.regions rs1 w.pool qs at (cell_size_for n) → IsTaken rs1 ts at o (cell_size_for n) → IsFresh w o n → HasClauses (heap_with_regions_and_pool w ts qs)
 grown_legal w rs1 ts qs at o n l a t f = record {
-  sized = record { limits = l.sized.limits; regions = subst (λ k. (1 ≤ k) × (k ≤ region_limit)) (sym (t.count ∙ a.count)) l.sized.regions; mutators = l.sized.mutators };
+  sized = record { limits = l.sized.limits; regions = subst (λ k. (1 ≤ k) × (k ≤ region_limit)) (sym (t.count ∙ a.count)) l.sized.regions; area = subst (λ n. w.area_start ≡ n - w.limits.area) (sym (t.count ∙ a.count)) l.sized.area; mutators = l.sized.mutators };
   classes = l.classes;
   objects = λ b p e. elim (which b p e) [ inl q ↦ subst (IsObjectOf w.classes) (sym q.1) f.fits | inr q ↦ l.objects b p q ];
   least_cells = λ b p e. elim (which b p e) [
@@ -316,7 +274,8 @@ grown_legal w rs1 ts qs at o n l a t f = record {
         subst (λ (z : Option UsedRegion). IfSome z (λ u. u.cell_size ≡ cell_size_for (length p.words))) (sym v.1) (v.2 ∙ subst (λ (z : Option UsedRegion). IfSome z (λ u. u.cell_size ≡ cell_size_for (length p.words))) u.1 (l.least_cells b p q)))
   ];
   cells = t.tables (λ k u e m. l.cells k u (a.used_before k u m e));
-  pool = record { distinct = a.pools.distinct; each = λ k. (λ m. (t.empties k).1 ((a.pools.each k).0 m), λ e. (a.pools.each k).1 ((t.empties k).0 e)) };
+  pool = spare_kept w.area_start qs rs1 ts t.empties a.pools;
+  area = t.area w.area_start a.area;
   registers_live = λ x c m. live_still x (l.registers_live x c m);
   slots_live = λ x y d k. slots x y d k (same_or_not x (id_of ts at));
   gray_live = λ x c. live_still x (l.gray_live x c);
@@ -377,7 +336,7 @@ new_is_fresh : (w : HeapState) (kind : ObjKind) (n : ℕ) → HasKind w.classes 
 unfolding new_object
 new_is_fresh w kind n h = record { fits = new_object_fits_classes w kind n h; words = refl; live = refl; mark = refl }
 
-object_in_room_keeps_clauses : (w : HeapState) (m r n : ℕ) (kind : ObjKind) (rs1 : List Region) (qs : List ℕ) (at : ObjRef) → HasClauses w → HasKind w.classes kind n → IsOpened w.regions rs1 w.pool qs at (cell_size_for n)
+object_in_room_keeps_clauses : (w : HeapState) (m r n : ℕ) (kind : ObjKind) (rs1 : List Region) (qs : List ℕ) (at : ObjRef) → HasClauses w → HasKind w.classes kind n → IsOpened w.area_start w.regions rs1 w.pool qs at (cell_size_for n)
     → let ts : List Region = with_region at.region (filled at.cell (new_object kind n w)) rs1 in HasClauses (with_register m r (id_of ts at) (heap_with_regions_and_pool w ts qs))
 object_in_room_keeps_clauses w m r n kind rs1 qs at l h a = write_legal (heap_with_regions_and_pool w ts qs) m r (id_of ts at) (inr (inr (inr safe))) (grown_legal w rs1 ts qs at (new_object kind n w) n l a t f)
   where
@@ -395,31 +354,38 @@ object_in_room_keeps_clauses w m r n kind rs1 qs at l h a = write_legal (heap_wi
 
 -- the form of a heap after a new object: the regions with room, the pool, and the object's place
 abbrev NewForm : HeapState → ℕ → ℕ → ObjKind → ℕ → HeapState → Type 0
-NewForm w m r kind n v = (rs1 : List Region) × (qs : List ℕ) × (at : ObjRef) × IsOpened w.regions rs1 w.pool qs at (cell_size_for n)
+NewForm w m r kind n v = (rs1 : List Region) × (qs : List ℕ) × (at : ObjRef) × IsOpened w.area_start w.regions rs1 w.pool qs at (cell_size_for n)
     × (v ≡ with_register m r (id_of (with_region at.region (filled at.cell (new_object kind n w)) rs1) at) (heap_with_regions_and_pool w (with_region at.region (filled at.cell (new_object kind n w)) rs1) qs))
 
 form_after_new_object : (w : HeapState) (m r : ℕ) (kind : ObjKind) (n : ℕ) → HasClauses w → is_full n w ≡ false → NewForm w m r kind n (after_new m r kind n w)
-unfolding after_new is_full new_place allocated taken restored new_object
-form_after_new_object w m r kind n l room = go (place_or_fresh (slice_get (filter_map (free_place (cell_size_for n)) (enumerate_from 0 w.regions)) 0) (slice_get w.pool 0)) refl room
+unfolding after_new is_full allocated taken restored new_object
+form_after_new_object w m r kind n l room = go (new_place n (pool_of w)) refl room
   where
-    o : Object
-    o = new_object kind n w
+    legal : IsRegionPool (pool_of w)
+    legal = (clauses_make_heap_legal w l).regions
 
-    fresh_at : (at : ObjRef) → slice_get w.pool 0 ≡ Some at.region → at.cell ≡ 0 → IsOpened w.regions (set w.regions at.region (InUse (fresh_region (cell_size_for (length {A = ℕ} (replicate n 0)))))) w.pool (drop 1 w.pool) at (cell_size_for n)
-    fresh_at at e c = subst (λ k. IsOpened w.regions (set w.regions at.region (InUse (fresh_region (cell_size_for k)))) w.pool (drop 1 w.pool) at (cell_size_for n)) (sym (length-replicate n 0))
-        (subst (λ k. IsOpened w.regions (set w.regions at.region (InUse (fresh_region (cell_size_for n)))) w.pool (drop 1 w.pool) (record { region = at.region; cell = k }) (cell_size_for n)) (sym c)
-        (fresh_region_opens_room w.regions w.pool n at.region l.pool e))
+    pool_left : ℕ → List ℕ
+    pool_left k = if nat_lt k w.area_start then drop 1 w.pool else w.pool
 
-    go : (q : Option (ObjRef × Bool)) → place_or_fresh (slice_get (filter_map (free_place (cell_size_for n)) (enumerate_from 0 w.regions)) 0) (slice_get w.pool 0) ≡ q → is_none q ≡ false
+    fresh_at : (at : ObjRef) → IsSpare n (pool_of w) at.region → at.cell ≡ 0 → IsOpened w.area_start w.regions (set w.regions at.region (InUse (fresh_region (cell_size_for (length {A = ℕ} (replicate n 0)))))) w.pool (pool_left at.region) at (cell_size_for n)
+    fresh_at at e c = subst (λ k. IsOpened w.area_start w.regions (set w.regions at.region (InUse (fresh_region (cell_size_for k)))) w.pool (pool_left at.region) at (cell_size_for n)) (sym (length-replicate n 0))
+        (subst (λ k. IsOpened w.area_start w.regions (set w.regions at.region (InUse (fresh_region (cell_size_for n)))) w.pool (pool_left at.region) (record { region = at.region; cell = k }) (cell_size_for n)) (sym c)
+        (fresh_region_opens_room (pool_of w) n at.region legal e))
+
+    -- the head of the free list of a region in use is where `free_place` finds it
+    opened_at : (at : ObjRef) → IsNextFree n w.regions at → IsOpened w.area_start w.regions w.regions w.pool w.pool at (cell_size_for n)
+    opened_at at f = opened_in_use w.area_start w.regions w.pool n at l.cells l.pool l.area f
+
+    go : (q : Option (ObjRef × Bool)) → new_place n (pool_of w) ≡ q → is_none q ≡ false
         → NewForm w m r kind n (option_map_or (λ p. let s : RegionPool = allocated p.0 p.1 (new_object kind n w) (pool_of w) in with_register m r (id_of s.regions p.0) (with_pool s w)) q w)
     go None e f = cc
-    go (Some (at, true)) e f = elim (place_found_free_or_fresh _ _ (at, true) e) [
-      | inl p ↦ (let z : true ≡ false = p.1 in cc)
-      | inr p ↦ (set w.regions at.region (InUse (fresh_region (cell_size_for (length {A = ℕ} (replicate n 0))))), drop 1 w.pool, at, fresh_at at p.0 p.1, refl)
+    go (Some (at, true)) e f = elim (new_place_is n (pool_of w) at true e) [
+      | inl p ↦ (let z : true ≡ false = p.0 in cc)
+      | inr p ↦ (set w.regions at.region (InUse (fresh_region (cell_size_for (length {A = ℕ} (replicate n 0))))), pool_left at.region, at, fresh_at at p.1.0 p.1.1, refl)
     ]
-    go (Some (at, false)) e f = elim (place_found_free_or_fresh _ _ (at, false) e) [
-      | inl p ↦ (w.regions, w.pool, at, opened_in_use w.regions w.pool n at l.cells l.pool p.0, refl)
-      | inr p ↦ (let z : false ≡ true = p.2 in cc)
+    go (Some (at, false)) e f = elim (new_place_is n (pool_of w) at false e) [
+      | inl p ↦ (w.regions, w.pool, at, opened_at at p.1, refl)
+      | inr p ↦ (let z : false ≡ true = p.0 in cc)
     ]
 
 pub clauses_after_new_object : (w : HeapState) (m r : ℕ) (kind : ObjKind) (n : ℕ) → HasClauses w → HasKind w.classes kind n → is_full n w ≡ false → HasClauses (after_new m r kind n w)
@@ -430,7 +396,7 @@ pub found_objects_after_new_object : (w : HeapState) (m r : ℕ) (kind : ObjKind
 found_objects_after_new_object w m r kind n l h room phase x q = let f = form_after_new_object w m r kind n l room in
     subst (λ v. IsMarked v x ⊎ Sheltered v x) (sym f.4) (found f.0 f.1 f.2 f.3 q)
   where
-    found : (rs1 : List Region) (qs : List ℕ) (at : ObjRef) → IsOpened w.regions rs1 w.pool qs at (cell_size_for n) → IsMarked w x ⊎ Sheltered w x
+    found : (rs1 : List Region) (qs : List ℕ) (at : ObjRef) → IsOpened w.area_start w.regions rs1 w.pool qs at (cell_size_for n) → IsMarked w x ⊎ Sheltered w x
         → let v : HeapState = heap_with_regions_and_pool w (with_region at.region (filled at.cell (new_object kind n w)) rs1) qs in IsMarked v x ⊎ Sheltered v x
     found rs1 qs at a (inl k) = inl (
       k.0,

@@ -1,5 +1,5 @@
 -- A heap is legal as it begins.
-use Rattle.std.proofs.Common.{◌≡◌, ℕ, zero, suc, ◌+◌, ◌*◌, ◌≤◌, ◌<◌, false, List, [], replicate, refl, sym, ap, subst, ◌∙◌, Option, Some, None, arith}
+use Rattle.std.proofs.Common.{◌≡◌, ℕ, zero, suc, ◌+◌, ◌-◌, ◌*◌, ◌≤◌, ◌<◌, false, List, [], replicate, refl, sym, ap, subst, ◌∙◌, Option, Some, None, arith}
 use Rattle.std.specs.Prelude.{slice_get, slice_index_or, option_and_then, nat_eq}
 use Rattle.std.specs.List.{range_with_len, IsDistinct, AllByRecursion}
 use Rattle.heap_class.specs.declared.ObjRef.{ObjRef}
@@ -12,7 +12,8 @@ use Rattle.heap_world.specs.declared.Limits.{Limits}
 use Rattle.heap_world.specs.Limits.{AreHeapSettings, AreLimits}
 use Rattle.heap_world.specs.HeapParts.{heap_of_parts, IsSoundHeap}
 use Rattle.heap_region.specs.Regions.{object_of, ref_of}
-use Rattle.heap_region.specs.Legal.{NamesEach}
+use Rattle.heap_region.proofs.Areas.{area_of_empty_regions}
+use Rattle.heap_region.proofs.Spares.{NamesSpare}
 use Rattle.heap_region.specs.Limits.{region_limit}
 use Rattle.heap_world.specs.Limits.{mutator_limit}
 use Rattle.heap_world.specs.Legal.{IsLegal}
@@ -50,11 +51,6 @@ opening_region_is_empty zero r h = absurd (omega arith)
 opening_region_is_empty (suc n) zero h = refl
 opening_region_is_empty (suc n) (suc r) h = opening_region_is_empty n r (omega arith)
 
-empty_opening_region_is_listed : (n r : ℕ) → slice_get (replicate n Empty) r ≡ Some Empty → r < n
-empty_opening_region_is_listed zero r h = cc
-empty_opening_region_is_listed (suc n) zero h = omega arith
-empty_opening_region_is_listed (suc n) (suc r) h = let e : r < n = empty_opening_region_is_listed n r h in omega arith
-
 number_below_range_is_apart : (a b n : ℕ) → a < b → AllByRecursion (λ y. nat_eq a y ≡ false) (range_with_len b n)
 number_below_range_is_apart a b zero h = tt
 number_below_range_is_apart a b (suc n) h = (grind arith, number_below_range_is_apart a (b + 1) n (omega arith))
@@ -64,12 +60,14 @@ unfolding IsDistinct
 range_distinct a zero = tt
 range_distinct a (suc n) = (number_below_range_is_apart a (a + 1) n (omega arith), range_distinct (a + 1) n)
 
-pool_names : (n : ℕ) → NamesEach (range_with_len 0 n) (λ r. slice_get (replicate n Empty) r ≡ Some Empty)
-pool_names n = record {
-  distinct = range_distinct 0 n;
+pool_names : (n start : ℕ) → start ≤ n → NamesSpare start (range_with_len 0 start) (replicate n Empty)
+pool_names n start le = record {
+  distinct = range_distinct 0 start;
   each = λ r. (
-    λ c. opening_region_is_empty n r (omega (arith, c.1, length-range_with_len 0 n, range_index 0 n c.0 r (omega (arith, c.1, length-range_with_len 0 n)), c.2)),
-    λ e. let h : r < n = empty_opening_region_is_listed n r e in (r, omega (arith, length-range_with_len 0 n), range_index 0 n r r h ∙ omega arith),
+    λ c. (
+        let lt : r < start = omega (arith, c.1, length-range_with_len 0 start, range_index 0 start c.0 r (omega (arith, c.1, length-range_with_len 0 start)), c.2) in
+        (lt, opening_region_is_empty n r (omega (arith, lt, le)))),
+    λ e. (r, omega (arith, e.0, length-range_with_len 0 start), range_index 0 start r r e.0 ∙ omega arith),
   );
 }
 
@@ -81,13 +79,17 @@ no_id_names_at_opening n x o = go (ref_of (replicate n Empty) x)
     go None h = cc
     go (Some at) h = no_object_in_opening_regions n at o h
 
+no_opening_region_in_use : (n r : ℕ) → used_at (replicate n Empty) r ≡ None
+unfolding used_at
+no_opening_region_in_use n r = no_opening_region_is_used n r
+
 -- with as many regions and mutators as there may be
 pub begins_legal : (limits : Limits) (n m : ℕ) → AreLimits limits → 1 ≤ n → n ≤ region_limit → 1 ≤ m → m ≤ mutator_limit → IsLegal (opening_state limits n m)
 unfolding opening_state IsDistinct
 begins_legal limits n m few n1 n_few m1 m_few = record {
-  sized = record { limits = few; regions = (omega (arith, length-replicate n Empty), omega (arith, length-replicate n Empty)); mutators = (m, m1, m_few, length-replicate {A = ℕ} (8 * m) 0) };
+  sized = record { limits = few; regions = (omega (arith, length-replicate n Empty), omega (arith, length-replicate n Empty)); area = ap (λ k. k - limits.area) (sym (length-replicate n Empty)); mutators = (m, m1, m_few, length-replicate {A = ℕ} (8 * m) 0) };
   classes = tt;
-  regions = record { tables = λ r u h. absurd (no_used_region_at_opening n r u h); pool = pool_names n };
+  regions = record { tables = λ r u h. absurd (no_used_region_at_opening n r u h); pool = pool_names n (n - limits.area) (omega arith); area = area_of_empty_regions n (n - limits.area) (omega arith) (no_opening_region_in_use n) };
   objects = λ at o h. absurd (no_object_in_opening_regions n at o h);
   registers_live = λ x c other. absurd (other (sym c.2 ∙ all_zero (8 * m) c.0 x (omega (arith, c.1, length-replicate {A = ℕ} (8 * m) 0))));
   slots_live = λ x y live names. absurd (no_id_names_at_opening n x live.0 live.1);
@@ -103,7 +105,7 @@ begins_legal limits n m few n1 n_few m1 m_few = record {
 }
 
 -- the fields of a heap as it begins
-pub parts_of_opening_state : (limits limits' : Limits) (n m k room : ℕ) (classes : List Class) (pool : RegionPool) (registers : List ℕ) (marker : MarkerState) → limits ≡ limits' → classes ≡ [] → pool ≡ opening_pool n → registers ≡ replicate k 0 → k ≡ 8 * m → marker ≡ idle_marker room
+pub parts_of_opening_state : (limits limits' : Limits) (n m k room : ℕ) (classes : List Class) (pool : RegionPool) (registers : List ℕ) (marker : MarkerState) → limits ≡ limits' → classes ≡ [] → pool ≡ opening_pool n limits'.area → registers ≡ replicate k 0 → k ≡ 8 * m → marker ≡ idle_marker room
     → heap_of_parts limits classes pool registers marker ≡ opening_state limits' n m
 unfolding opening_state opening_pool
 parts_of_opening_state limits limits' n m k room classes pool registers marker z a b c d e = λ i. heap_of_parts (z i) (a i) (b i) ((c ∙ ap (λ j. replicate j 0) d) i) (e i)

@@ -12,6 +12,7 @@ use Rattle.heap_class.proofs.Slots.{instance_class_is_in_table}
 use Rattle.heap_region.specs.Regions.{Object, object_at, object_of, ref_of, slot_kinds}
 use Rattle.heap_region.proofs.ChangedLookups.{object_at_ref}
 use Rattle.heap_world.specs.State.{HeapState, slot_kind, word_of}
+use Rattle.heap_class.specs.Limits.{large_array_limit}
 use Rattle.heap_world.specs.Legal.{IsLegal, HasKind}
 use Rattle.heap_world.specs.HeapParts.{IsSoundHeap}
 use Rattle.heap_world.proofs.Registers.{object_and_kind_of_slot, word_of_object_slot}
@@ -81,7 +82,7 @@ instance_kinds w at slot class k = go (object_at w.regions at)
 pub record HasSlot (w : HeapState) (x slot : ℕ) (at : ObjRef) : Type 0 where
   pub there : IsSome (object_at w.regions at)
   pub within : IfSome (object_at w.regions at) (λ o. slot < length o.words)
-  pub few : slot < 1024
+  pub few : slot < large_array_limit
   pub word : (y : ℕ) → IfSome (object_at w.regions at) (λ o. y ≡ slice_index o.words slot) → y ≡ word_of w x slot
 
 has_slot : (w : HeapState) (x slot : ℕ) (at : ObjRef) (k : Kind) → IsLegal w → ref_of w.regions x ≡ Some at → slot_kind w x slot ≡ Some k → HasSlot w x slot at

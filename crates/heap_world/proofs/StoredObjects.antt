@@ -1,10 +1,10 @@
 -- The part of legality that speaks of places: objects in cells, regions and the pool.
 use Rattle.std.proofs.Common.{◌≡◌, ◌≢◌, ◌⊎◌, ℕ, true, false, List, [], ◌∷◌, length, refl, sym, ap, subst, ◌∙◌, Option, Some, None, IfSome, Contains, fold, Bool}
 use mathlib.Core.Logic.{inl, inr}
-use Rattle.std.specs.Prelude.{slice_get, option_map}
+use Rattle.std.specs.Prelude.{option_map}
 use Rattle.heap_class.specs.declared.ObjRef.{ObjRef}
 use Rattle.heap_class.specs.Classes.{Class}
-use Rattle.heap_region.specs.Regions.{Object, UsedRegion, Region, Empty, used_at, object_at, object_of, updated, with_object, cell_size_for}
+use Rattle.heap_region.specs.Regions.{Object, UsedRegion, Region, used_at, object_at, object_of, updated, with_object, with_region, cell_size_for}
 use Rattle.heap_region.proofs.UpdatedLists.{length_updated}
 use Rattle.heap_region.proofs.PriorObjects.{object_was, used_was_region, part_with_object, empty_with_region, free_with_object, inhabited_with_object}
 use Rattle.std.specs.Prelude.{if◌then◌else◌}
@@ -18,19 +18,21 @@ use Rattle.heap_world.specs.State.{HeapState}
 use Rattle.heap_world.specs.Legal.{IsObjectOf}
 use Rattle.heap_world.proofs.Clauses.{HasClauses}
 use Rattle.heap_region.proofs.Clauses.{IsPartition}
-use Rattle.heap_region.specs.Legal.{NamesEach}
+use Rattle.heap_region.specs.Legal.{IsArea}
+use Rattle.heap_region.proofs.Spares.{NamesSpare, area_with_region, spare_kept}
 
 -- each object has a kind and a place that fit, each region's cells and the pool are in order, and what isn't live is unmarked and in a region yet to be swept
-pub record IsStored (classes : List Class) (regions : List Region) (ps : List ℕ) : Type 0 where
+pub record IsStored (classes : List Class) (start : ℕ) (regions : List Region) (ps : List ℕ) : Type 0 where
   pub objects : (at : ObjRef) (o : Object) → object_at regions at ≡ Some o → IsObjectOf classes o
   pub least_cells : (at : ObjRef) (o : Object) → object_at regions at ≡ Some o → IfSome (used_at regions at.region) (λ u. u.cell_size ≡ cell_size_for (length o.words))
   pub cells : (r : ℕ) (u : UsedRegion) → used_at regions r ≡ Some u → IsPartition u
-  pub pool : NamesEach ps (λ r. slice_get regions r ≡ Some Empty)
+  pub pool : NamesSpare start ps regions
+  pub area : IsArea regions start
   pub marked_live : (at : ObjRef) (o : Object) → object_at regions at ≡ Some o → o.mark ≡ true → o.live ≡ true
   pub swept_live : (at : ObjRef) (o : Object) → object_at regions at ≡ Some o → IfSome (used_at regions at.region) (λ u. u.pending ≡ false → o.live ≡ true)
 
-pub clauses_make_heap_stored : (w : HeapState) → HasClauses w → IsStored w.classes w.regions w.pool
-clauses_make_heap_stored w l = record { objects = l.objects; least_cells = l.least_cells; cells = l.cells; pool = l.pool; marked_live = l.marked_live; swept_live = l.swept_live }
+pub clauses_make_heap_stored : (w : HeapState) → HasClauses w → IsStored w.classes w.area_start w.regions w.pool
+clauses_make_heap_stored w l = record { objects = l.objects; least_cells = l.least_cells; cells = l.cells; pool = l.pool; area = l.area; marked_live = l.marked_live; swept_live = l.swept_live }
 
 -- what a changed object keeps
 pub record Keeps (classes : List Class) (o p : Object) : Type 0 where
@@ -47,14 +49,15 @@ object_change_keeps_partition f c u t = record {
 }
 
 -- a change of an object that keeps its kind, its number of words and whether it is live
-pub stored_with_object : (classes : List Class) (rs : List Region) (pool : List ℕ) (at : ObjRef) (f : Object → Object) → IsStored classes rs pool
-    → ((o : Object) → object_at rs at ≡ Some o → Keeps classes o (f o)) → IsStored classes (with_object at f rs) pool
+pub stored_with_object : (classes : List Class) (start : ℕ) (rs : List Region) (pool : List ℕ) (at : ObjRef) (f : Object → Object) → IsStored classes start rs pool
+    → ((o : Object) → object_at rs at ≡ Some o → Keeps classes o (f o)) → IsStored classes start (with_object at f rs) pool
 unfolding with_object
-stored_with_object classes rs pool at f s keeps = record {
+stored_with_object classes start rs pool at f s keeps = record {
   objects = λ b o h. objects b o (object_was f rs at b o h);
   least_cells = λ b o h. least b o (object_was f rs at b o h);
   cells = λ r u h. cells r u (used_was_region change rs at.region r u h);
-  pool = record { distinct = s.pool.distinct; each = λ r. (λ m. (empty_with_region change rs at.region r).1 ((s.pool.each r).0 m), λ e. (s.pool.each r).1 ((empty_with_region change rs at.region r).0 e)) };
+  pool = spare_kept start pool rs (with_region at.region change rs) (empty_with_region change rs at.region) s.pool;
+  area = area_with_region change (λ u. refl) at.region rs start s.area;
   marked_live = λ b o h. marked b o (object_was f rs at b o h);
   swept_live = λ b o h. swept b o (object_was f rs at b o h);
 }
@@ -97,18 +100,18 @@ unfolding slot_kinds
 mark_keeps_the_object classes o f l = record { fits = record { kind = f.kind; values = f.values }; size = refl; live = refl; marked_live = λ m. l }
 
 -- a live object is shaded
-pub stored_shaded : (classes : List Class) (ps : List ℕ) (s : MarkState) (x : ℕ) → IsStored classes s.regions ps → ((o : Object) → object_of s.regions x ≡ Some o → o.live ≡ true) → IsStored classes (shaded s x).regions ps
+pub stored_shaded : (classes : List Class) (start : ℕ) (ps : List ℕ) (s : MarkState) (x : ℕ) → IsStored classes start s.regions ps → ((o : Object) → object_of s.regions x ≡ Some o → o.live ≡ true) → IsStored classes start (shaded s x).regions ps
 unfolding shaded with_mark_of with_mark
-stored_shaded classes ps s x st live = go (is_white s.regions x) (ref_of s.regions x) refl
+stored_shaded classes start ps s x st live = go (is_white s.regions x) (ref_of s.regions x) refl
   where
-    go : (b : Bool) (r : Option ObjRef) → ref_of s.regions x ≡ r → IsStored classes (if b then record s { regions = option_map_or (λ at. with_mark true at s.regions) r s.regions; gray = x ∷ s.gray } else s).regions ps
+    go : (b : Bool) (r : Option ObjRef) → ref_of s.regions x ≡ r → IsStored classes start (if b then record s { regions = option_map_or (λ at. with_mark true at s.regions) r s.regions; gray = x ∷ s.gray } else s).regions ps
     go false r e = st
     go true None e = st
-    go true (Some at) e = stored_with_object classes s.regions ps at as_marked st (λ o h. mark_keeps_the_object classes o (st.objects at o h) (live o (object_at_ref s.regions x at e ∙ h)))
+    go true (Some at) e = stored_with_object classes start s.regions ps at as_marked st (λ o h. mark_keeps_the_object classes o (st.objects at o h) (live o (object_at_ref s.regions x at e ∙ h)))
 
-pub shading_keeps_heap_stored : (classes : List Class) (ps : List ℕ) (xs : List ℕ) (s : MarkState) → IsStored classes s.regions ps → ((x : ℕ) (o : Object) → Contains xs x → object_of s.regions x ≡ Some o → o.live ≡ true) → IsStored classes (fold shaded s xs).regions ps
-shading_keeps_heap_stored classes ps [] s st live = st
-shading_keeps_heap_stored classes ps (x ∷ xs) s st live = shading_keeps_heap_stored classes ps xs (shaded s x) (stored_shaded classes ps s x st (λ o e. live x o (list_has_its_head x xs) e))
+pub shading_keeps_heap_stored : (classes : List Class) (start : ℕ) (ps : List ℕ) (xs : List ℕ) (s : MarkState) → IsStored classes start s.regions ps → ((x : ℕ) (o : Object) → Contains xs x → object_of s.regions x ≡ Some o → o.live ≡ true) → IsStored classes start (fold shaded s xs).regions ps
+shading_keeps_heap_stored classes start ps [] s st live = st
+shading_keeps_heap_stored classes start ps (x ∷ xs) s st live = shading_keeps_heap_stored classes start ps xs (shaded s x) (stored_shaded classes start ps s x st (λ o e. live x o (list_has_its_head x xs) e))
     (λ y o c e. later y o (list_has_items_of_tail x xs y c) e ((shades_one s x).each y))
   where
     later : (y : ℕ) (o : Object) → Contains (x ∷ xs) y → object_of (shaded s x).regions y ≡ Some o → (object_of (shaded s x).regions y ≡ object_of s.regions y) ⊎ IsShadedAt s (shaded s x) y → o.live ≡ true

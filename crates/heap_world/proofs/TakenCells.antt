@@ -1,11 +1,11 @@
 -- The regions after a new object has taken a free cell.
-use Rattle.std.proofs.Common.{◌≡◌, ◌≢◌, ◌⊎◌, ◌↔◌, ℕ, ◌/◌, ◌<◌, List, [], ◌∷◌, length, drop, set, refl, sym, ap, subst, ◌∙◌, Option, Some, None, Contains}
+use Rattle.std.proofs.Common.{◌≡◌, ◌≢◌, ◌⊎◌, ◌↔◌, ℕ, ◌<◌, List, [], ◌∷◌, length, drop, set, refl, sym, ap, subst, ◌∙◌, Option, Some, None, Contains}
 use mathlib.Core.Logic.{inl, inr}
 use Rattle.std.specs.Prelude.{slice_get, slice_set, option_map, option_and_then, nat_eq}
 use Rattle.std.specs.Option.{option_map_or}
 use Rattle.std.specs.List.{IsDistinct}
 use Rattle.heap_class.specs.declared.ObjRef.{ObjRef}
-use Rattle.heap_region.specs.Regions.{Object, UsedRegion, Region, Empty, used_at, object_of, object_at, id_of, ref_of, in_used, with_region}
+use Rattle.heap_region.specs.Regions.{Object, UsedRegion, Region, Empty, cell_count, used_at, object_of, object_at, id_of, ref_of, in_used, with_region}
 use Rattle.heap_region.proofs.Ids.{ref_is}
 use Rattle.heap_region.proofs.UpdatedLists.{length_updated}
 use Rattle.heap_region.proofs.Lookups.{used_region_after_other_change, used_region_after_its_change}
@@ -15,7 +15,8 @@ use Rattle.heap_region.proofs.RoundTrip.{IsSize, ref_of_id}
 use Rattle.heap_region.proofs.References.{list_has_its_head, list_has_items_of_tail, member_is_head_or_later, set_item_is_got, get_set_other, length_set, get_within}
 use Rattle.heap_region.proofs.Distinct.{rest_of_distinct_is_distinct, first_of_distinct_differs}
 use Rattle.heap_region.proofs.Clauses.{IsPartition}
-use Rattle.heap_region.specs.Legal.{NamesEach}
+use Rattle.heap_region.specs.Legal.{IsArea, NamesEach}
+use Rattle.heap_region.proofs.Spares.{area_with_region}
 
 -- the cell at the head of the free list has the object
 abbrev pub filled : ℕ → Object → UsedRegion → UsedRegion
@@ -27,7 +28,7 @@ pub record HasRoom (rs : List Region) (at : ObjRef) (s : ℕ) : Type 0 where
   pub used : used_at rs at.region ≡ Some region
   pub size : region.cell_size ≡ s
   pub is_size : IsSize s
-  pub cells : length region.cells ≡ 1024 / region.cell_size
+  pub cells : length region.cells ≡ cell_count region.cell_size
   pub free : NamesEach region.free (λ c. slice_get region.cells c ≡ Some None)
   pub first : slice_get region.free 0 ≡ Some at.cell
 
@@ -43,6 +44,7 @@ pub record IsTaken (rs ts : List Region) (at : ObjRef) (o : Object) (s : ℕ) : 
   pub size : (v : UsedRegion) × (used_at ts at.region ≡ Some v) × (v.cell_size ≡ s)
   pub tables : ((k : ℕ) (u : UsedRegion) → used_at rs k ≡ Some u → k ≢ at.region → IsPartition u) → (k : ℕ) (v : UsedRegion) → used_at ts k ≡ Some v → IsPartition v
   pub empties : (k : ℕ) → (slice_get ts k ≡ Some Empty) ↔ (slice_get rs k ≡ Some Empty)
+  pub area : (start : ℕ) → IsArea rs start → IsArea ts start
 
 pub list_from_its_first : (xs : List ℕ) (c : ℕ) → slice_get xs 0 ≡ Some c → xs ≡ c ∷ drop 1 xs
 list_from_its_first [] c e = cc
@@ -76,7 +78,7 @@ pub same_region_has_same_size : (rs ts : List Region) (k d : ℕ) → used_at ts
 unfolding size_at
 same_region_has_same_size rs ts k d e = ap (λ (p : Option UsedRegion). option_map_or (λ (u : UsedRegion). u.cell_size) p d) e
 
-table_filled : (u : UsedRegion) (c : ℕ) (o : Object) → length u.cells ≡ 1024 / u.cell_size → NamesEach u.free (λ k. slice_get u.cells k ≡ Some None) → slice_get u.free 0 ≡ Some c → IsPartition (filled c o u)
+table_filled : (u : UsedRegion) (c : ℕ) (o : Object) → length u.cells ≡ cell_count u.cell_size → NamesEach u.free (λ k. slice_get u.cells k ≡ Some None) → slice_get u.free 0 ≡ Some c → IsPartition (filled c o u)
 table_filled u c o cells free first = record {
   cells = length_set u.cells c (Some o) ∙ cells;
   free = record { distinct = rest_of_distinct_is_distinct c (drop 1 u.free) distinct; each = λ k. (λ m. to k m, λ e. from k e (same_or_not k c)) };
@@ -115,6 +117,7 @@ object_put_into_free_cell rs at o s h = record {
   size = (filled at.cell o h.region, used, h.size);
   tables = λ t k v e. table t k v (used_was_region (filled at.cell o) rs at.region k v e);
   empties = empty_with_region (filled at.cell o) rs at.region;
+  area = λ start. area_with_region (filled at.cell o) (λ u. refl) at.region rs start;
 }
   where
     ts : List Region
@@ -148,8 +151,8 @@ object_put_into_free_cell rs at o s h = record {
     ref_same_all : (x : ℕ) → ref_of (with_region at.region (filled at.cell o) rs) x ≡ ref_of rs x
     ref_same_all x = ref_same ts rs x (λ d. size_all (number_of x) d)
 
-    below : at.cell < 1024 / s
-    below = subst (λ n. at.cell < n) (h.cells ∙ ap (λ n. 1024 / n) h.size) within
+    below : at.cell < cell_count s
+    below = subst (λ n. at.cell < n) (h.cells ∙ ap cell_count h.size) within
 
     ref : ref_of (with_region at.region (filled at.cell o) rs) (id_of (with_region at.region (filled at.cell o) rs) at) ≡ Some at
     ref = ref_of_id ts at.region at.cell s h.is_size below (λ d. cell_size_of_used_region ts at.region (filled at.cell o h.region) s d used h.size)

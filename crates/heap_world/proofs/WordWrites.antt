@@ -1,5 +1,5 @@
 -- Legality where a word of an object is written, and perhaps the log: a store and a put.
-use Rattle.std.proofs.Common.{◌≡◌, ◌≢◌, ◌⊎◌, ℕ, zero, suc, ◌<◌, ◌≤◌, Bool, true, false, not, List, [], ◌∷◌, length, drop, set, zip, refl, sym, ap, subst, ◌∙◌, Some, All, Contains, arith}
+use Rattle.std.proofs.Common.{◌≡◌, ◌≢◌, ◌⊎◌, ℕ, ◌-◌, zero, suc, ◌<◌, ◌≤◌, Bool, true, false, not, List, [], ◌∷◌, length, drop, set, zip, refl, sym, ap, subst, ◌∙◌, Some, All, Contains, arith}
 use mathlib.Core.Logic.{inl, inr}
 use Rattle.std.specs.Prelude.{slice_get, slice_set, option_map}
 use Rattle.std.proofs.lemmas.List.Elements.{All-head, All-tail, All-cons}
@@ -160,9 +160,9 @@ pub word_write_keeps_region_count : (rs : List Region) (at : ObjRef) (slot word 
 unfolding with_word with_object with_region
 word_write_keeps_region_count rs at slot word = length_updated at.region _ rs
 
-word_write_keeps_stored : (classes : List Class) (rs : List Region) (ps : List ℕ) (at : ObjRef) (slot word : ℕ) → IsStored classes rs ps → ((b : Object) → object_at rs at ≡ Some b → Keeps classes b (with_object_word slot word b)) → IsStored classes (with_word at slot word rs) ps
+word_write_keeps_stored : (classes : List Class) (start : ℕ) (rs : List Region) (ps : List ℕ) (at : ObjRef) (slot word : ℕ) → IsStored classes start rs ps → ((b : Object) → object_at rs at ≡ Some b → Keeps classes b (with_object_word slot word b)) → IsStored classes start (with_word at slot word rs) ps
 unfolding with_word
-word_write_keeps_stored classes rs ps at slot word st keeps = stored_with_object classes rs ps at (with_object_word slot word) st keeps
+word_write_keeps_stored classes start rs ps at slot word st keeps = stored_with_object classes start rs ps at (with_object_word slot word) st keeps
 
 quiet_written : (rs : List Region) (at : ObjRef) (slot word : ℕ) → ((b : ObjRef) (o : Object) → object_at rs b ≡ Some o → o.mark ≡ false) → (b : ObjRef) (o : Object) → object_at (with_word at slot word rs) b ≡ Some o → o.mark ≡ false
 unfolding with_word
@@ -171,12 +171,13 @@ quiet_written rs at slot word h b o e = let q = object_was (with_object_word slo
 
 pub clauses_after_word_write : (w : HeapState) (at : ObjRef) (x : ℕ) (o : Object) (slot word : ℕ) (after : List ℕ) → HasClauses w → ref_of w.regions x ≡ Some at → object_of w.regions x ≡ Some o → IsLive w x → (word ≢ 0 → IsReferenceSlot w.classes o slot → IsLive w word) → MayWrite w x o slot word after → HasClauses (written w at slot word after)
 clauses_after_word_write w at x o slot word after l p e live word_live may = record {
-  sized = record { limits = l.sized.limits; regions = subst (λ n. (1 ≤ n) × (n ≤ region_limit)) (sym (word_write_keeps_region_count w.regions at slot word)) l.sized.regions; mutators = l.sized.mutators };
+  sized = record { limits = l.sized.limits; regions = subst (λ n. (1 ≤ n) × (n ≤ region_limit)) (sym (word_write_keeps_region_count w.regions at slot word)) l.sized.regions; area = subst (λ n. w.area_start ≡ n - w.limits.area) (sym (word_write_keeps_region_count w.regions at slot word)) l.sized.area; mutators = l.sized.mutators };
   classes = l.classes;
   objects = st.objects;
   least_cells = st.least_cells;
   cells = st.cells;
   pool = st.pool;
+  area = st.area;
   registers_live = λ y c n. live_after y (l.registers_live y c n);
   slots_live = λ y z a n. live_after z (elim (names_before_word_write w v x o slot word refl h y z n) [
     | inl b ↦ l.slots_live y z (live_before y a) b
@@ -202,8 +203,8 @@ clauses_after_word_write w at x o slot word after l p e live word_live may = rec
     here : (b : Object) → object_at w.regions at ≡ Some b → b ≡ o
     here b f = let g : object_of w.regions x ≡ object_at w.regions at = object_at_ref w.regions x at p in cc
 
-    st : IsStored w.classes (with_word at slot word w.regions) w.pool
-    st = word_write_keeps_stored w.classes w.regions w.pool at slot word (clauses_make_heap_stored w l)
+    st : IsStored w.classes w.area_start (with_word at slot word w.regions) w.pool
+    st = word_write_keeps_stored w.classes w.area_start w.regions w.pool at slot word (clauses_make_heap_stored w l)
         (λ b f. word_keeps w.classes b slot word (l.objects at b f) (l.marked_live at b f) (λ k g. may.value k (ap (λ (z : Object). slice_get (slot_kinds w.classes z) slot) (sym (here b f)) ∙ g)))
 
     live_after : (y : ℕ) → IsLive w y → IsLive v y

@@ -313,10 +313,10 @@ ref_before : (w v : HeapState) (m target : ℕ) (at : ObjRef) → w ≡ v → re
 ref_before w v m target at e r = subst (λ (u : HeapState). ref_of u.regions (register u m target) ≡ Some at) (sym e) r
 
 pub put_held_by : (w v : HeapState) (m target slot value room : ℕ) (at : ObjRef) (s : RegionPool) → IsSoundHeap w room → w ≡ v → put_refusal m target slot value v ≡ None → ref_of v.regions (register v m target) ≡ Some at
-    → s ≡ record { regions = with_word at slot value w.regions; pool = w.pool } → IsSoundHeap (with_pool s w) room
+    → s ≡ record { regions = with_word at slot value w.regions; pool = w.pool; area_start = w.area_start } → IsSoundHeap (with_pool s w) room
 put_held_by w v m target slot value room at s h e accepted r f = subst (λ (t : RegionPool). IsSoundHeap (with_pool t w) room) (sym f)
     (put_keeps_heap_sound m target slot value room w at h (subst (λ (u : HeapState). put_refusal m target slot value u ≡ None) (sym e) accepted) (ref_before w v m target at e r))
 
 pub put_written_by : (w v : HeapState) (m target slot value : ℕ) (at : ObjRef) (s : RegionPool) → w ≡ v → ref_of v.regions (register v m target) ≡ Some at
-    → s ≡ record { regions = with_word at slot value w.regions; pool = w.pool } → with_pool s w ≡ after_put m target slot value v
+    → s ≡ record { regions = with_word at slot value w.regions; pool = w.pool; area_start = w.area_start } → with_pool s w ≡ after_put m target slot value v
 put_written_by w v m target slot value at s e r f = ap (λ (t : RegionPool). with_pool t w) f ∙ parts_after_put m target slot value w v at e (ref_before w v m target at e r)

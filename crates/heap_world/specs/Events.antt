@@ -7,11 +7,10 @@ use Rattle.heap_class.specs.declared.Refusal.TheVariants.{NoClass, BadRegister, 
 use Rattle.heap_class.specs.declared.ObjKind.{ObjKind}
 use Rattle.heap_class.specs.declared.ObjRef.{ObjRef}
 use Rattle.heap_class.specs.Kinds.{is_reference, value_limit}
-use Rattle.heap_class.specs.Limits.{array_limit}
+use Rattle.heap_class.specs.Limits.{large_array_limit}
 use Rattle.heap_class.specs.Refusals.{first_refusal, IsAnswered}
 use Rattle.heap_class.specs.Classes.{Class, class_refusal, is_instance_class, is_array_class, slots_of}
 use Rattle.heap_region.specs.Regions.{Object, with_word, id_of}
-use Rattle.heap_region.specs.Limits.{region_words}
 use Rattle.heap_region.specs.Pool.{is_fresh, new_place, allocated}
 use Rattle.heap_mark.specs.MarkSteps.{is_marking, logged, snapped, marked, drained_once, finished}
 use Rattle.heap_sweep.specs.Sweep.{swept}
@@ -73,7 +72,7 @@ new_array_refusal m r class len w = first_refusal
     ((not (is_register w m r), BadRegister)
     ∷ (nat_le (length w.classes) class, NoClass)
     ∷ (not (is_array_class w.classes class), WrongKind)
-    ∷ (nat_lt array_limit len, TooLarge)
+    ∷ (nat_lt w.limits.elements len, TooLarge)
     ∷ (is_full len w, HeapFull)
     ∷ [])
 
@@ -82,7 +81,7 @@ unfoldable pub new_prim_refusal : ℕ → ℕ → Kind → ℕ → HeapState →
 new_prim_refusal m r kind len w = first_refusal
     ((not (is_register w m r), BadRegister)
     ∷ (is_reference kind, WrongKind)
-    ∷ (nat_lt array_limit len, TooLarge)
+    ∷ (nat_lt w.limits.elements len, TooLarge)
     ∷ (is_full len w, HeapFull)
     ∷ [])
 
@@ -100,7 +99,7 @@ is_reference_slot w x slot = option_map_or is_reference (slot_kind w x slot) fal
 pub record IsSlotAt (w : HeapState) (m target slot : ℕ) (at : ObjRef) (word : ℕ) : Type 0 where
   pub placed : at ≡ place_of w (register w m target)
   pub held : word ≡ word_of w (register w m target) slot
-  pub within : slot < region_words
+  pub within : slot < large_array_limit
 
 -- the refusal of a load, or None if it is accepted
 unfoldable pub load_refusal : ℕ → ℕ → ℕ → ℕ → HeapState → Option Refusal

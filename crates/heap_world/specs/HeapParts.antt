@@ -15,6 +15,7 @@ heap_of_parts limits classes pool registers marker =
       classes = classes;
       regions = pool.regions;
       pool = pool.pool;
+      area_start = pool.area_start;
       registers = registers;
       gray = marker.gray;
       log = marker.log;

@@ -2,7 +2,7 @@
 use Rattle.std.specs.Prelude.{ℕ, ◌≤◌, false}
 use Rattle.heap_class.specs.declared.ClassLimits.{ClassLimits}
 use Rattle.heap_class.specs.declared.IdSize.{IdSize}
-use Rattle.heap_class.specs.Limits.{AreClassLimits, widest_classes}
+use Rattle.heap_class.specs.Limits.{AreClassLimits, array_limit, large_array_limit, widest_classes}
 use Rattle.heap_region.specs.Limits.{region_limit}
 use Rattle.heap_world.specs.declared.Limits.{Limits}
 
@@ -36,16 +36,22 @@ narrow_classes = record { classes = 256; name_bytes = 64; any_sign = false }
 
 -- what a heap that isn't wide allows
 abbrev pub narrow_limits : Limits
-narrow_limits = record { classes = narrow_classes; pins = 4 }
+narrow_limits = record { classes = narrow_classes; pins = 4; elements = array_limit; area = 0 }
 
--- what a wide heap allows: as much as any heap
+-- what a wide heap without an area allows
 abbrev pub wide_limits : Limits
-wide_limits = record { classes = widest_classes; pins = pin_limit }
+wide_limits =
+    record { classes = widest_classes; pins = pin_limit; elements = array_limit; area = 0 }
+
+-- what a heap with these limits allows if it has an area of so many regions
+abbrev pub with_area : ℕ → Limits → Limits
+with_area regions limits = record limits { elements = large_array_limit; area = regions }
 
 -- a heap may have these limits: they allow no more than any heap does
 pub record AreLimits (limits : Limits) : Type 0 where
   pub classes : AreClassLimits limits.classes
   pub pins : limits.pins ≤ pin_limit
+  pub elements : limits.elements ≤ large_array_limit
 
 -- a heap that isn't wide may have these numbers of regions, of mutators and of steps that can be undone
 pub record AreNarrowSettings (regions mutators keep : ℕ) : Type 0 where

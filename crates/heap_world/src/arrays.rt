@@ -5,7 +5,7 @@ ghost use Rattle.heap_class.specs.declared.ObjKind.TheVariants.{Array, Prim};
 ghost use Rattle.heap_world.specs.Legal.{MayHold};
 ghost use Rattle.heap_world.specs.Events.{new_array_refusal, new_prim_refusal, IsNewClass, IsNewObject};
 
-use super::{ARRAY_LIMIT, Created, World};
+use super::{Created, World};
 use heap_class::{ClassNo, Kind, Name, ObjKind, Refusal};
 
 impl World {
@@ -18,7 +18,7 @@ impl World {
     }
 
     /// Makes an object array of a class in register `r` of mutator `m`, its elements null. Fails with BadRegister, NoClass,
-    /// WrongKind (the class isn't an array class), TooLarge (more than 1,024 elements) or HeapFull, in this order, and then
+    /// WrongKind (the class isn't an array class), TooLarge (more than 1,024 elements, in a heap with an area 2,097,147) or HeapFull, in this order, and then
     /// with NoMemory if a region's storage can't be allocated.
     pub fn new_array(
         &mut self,
@@ -35,7 +35,7 @@ impl World {
     }
 
     /// Makes an array of values of a kind in register `r` of mutator `m`, its elements 0. Fails with BadRegister, WrongKind
-    /// (the kind is Object), TooLarge (more than 1,024 elements) or HeapFull, in this order, and then with NoMemory if a
+    /// (the kind is Object), TooLarge (more than 1,024 elements, in a heap with an area 2,097,147) or HeapFull, in this order, and then with NoMemory if a
     /// region's storage can't be allocated.
     pub fn new_prim(&mut self, m: u64, r: u64, kind: Kind, len: u64) -> Result<Created, Refusal>
         ensures { IsNewObject m r (Prim kind) len (new_prim_refusal m r kind len self.old) self.old
@@ -54,7 +54,8 @@ impl World {
         if !self.classes.is_array(class) {
             return Err(Refusal::WrongKind);
         }
-        if len > ARRAY_LIMIT {
+        let most = self.limits.elements;
+        if len > most {
             return Err(Refusal::TooLarge);
         }
         Ok(())
@@ -71,7 +72,8 @@ impl World {
         if kind.is_reference() {
             return Err(Refusal::WrongKind);
         }
-        if len > ARRAY_LIMIT {
+        let most = self.limits.elements;
+        if len > most {
             return Err(Refusal::TooLarge);
         }
         Ok(())

@@ -9,7 +9,7 @@ ghost use Rattle.heap_class.specs.declared.ObjKind.TheVariants.{Instance};
 ghost use Rattle.heap_class.specs.declared.Refusal.TheVariants.{NoMemory, NullRegister, BadSlot, HeapFull};
 ghost use Rattle.heap_region.specs.Regions.{object_at, ref_of, slot_kinds, with_word};
 ghost use Rattle.heap_region.specs.Pool.{new_place, is_fresh, unallocated};
-ghost use Rattle.heap_world.specs.Limits.{AreHeapSettings, AreLimits, AreNarrowSettings, HeapSettings, mutator_limit, narrow_limits, registers_each, wide_limits};
+ghost use Rattle.heap_world.specs.Limits.{AreHeapSettings, AreLimits, AreNarrowSettings, HeapSettings, mutator_limit, narrow_limits, registers_each, wide_limits, with_area};
 ghost use Rattle.heap_world.specs.State.{HeapState, opening_state, is_register, register, with_register, pool_of, with_pool, place_in, slot_kind};
 ghost use Rattle.heap_world.specs.Legal.{IsLegal, MayHold};
 ghost use Rattle.heap_world.specs.Events.{is_full, new_array_refusal, new_refusal, after_new, put_refusal, after_put, IsNewClass, IsNewObject, IsSlotAt};
@@ -36,8 +36,11 @@ pub const MUTATOR_LIMIT: u64 = 16;
 /// The number of registers of each mutator.
 pub const REGISTERS_EACH: u64 = 8;
 
-/// The largest number of elements of an array.
+/// The largest number of elements of an array in a heap without an area.
 pub const ARRAY_LIMIT: u64 = 1024;
+
+/// The largest number of elements of an array in a heap with an area.
+pub const LARGE_ARRAY_LIMIT: u64 = 2_097_147;
 
 /// The largest number of steps that can be undone in a wide heap.
 pub const KEEP_LIMIT: u64 = 16_777_216;
@@ -49,6 +52,10 @@ pub struct Limits {
     pub classes: ClassLimits,
     /// The largest number of open pins, lost ones included: at most 64.
     pub pins: u64,
+    /// The largest number of elements of an array: at most 2,097,147.
+    pub elements: u64,
+    /// The number of regions of the area, in which arrays of more than 1,024 elements lie.
+    pub area: u64,
 }
 
 /// What a heap allows that isn't wide: 256 classes, names of 64 letters, digits and `_$/[;.`, and 4 pins.
@@ -59,12 +66,16 @@ pub const NARROW_LIMITS: Limits = Limits {
         any_sign: false,
     },
     pins: 4,
+    elements: ARRAY_LIMIT,
+    area: 0,
 };
 
 /// What a wide heap allows: 4,096 classes, names of 255 bytes that print a sign, except the colon, and 64 pins.
 pub const WIDE_LIMITS: Limits = Limits {
     classes: WIDEST_CLASSES,
     pins: 64,
+    elements: ARRAY_LIMIT,
+    area: 0,
 };
 
 /// The largest number of regions of a heap that isn't wide.
@@ -88,6 +99,7 @@ pub struct Config {
 }
 
 impl Model for Config {
+    ghost use Rattle.std.specs.Prelude.{◌<◌};
     ghost use Rattle.heap_world.specs.Limits.{AreHeapSettings, AreLimits, HeapSettings};
 
     ghost Value = { HeapSettings };
@@ -110,7 +122,8 @@ impl Model for Config {
           limits = c.limits;
         } };
 
-    ghost invariant = { λ c. AreHeapSettings c.regions c.mutators c.keep × AreLimits c.limits };
+    ghost invariant = { λ c. AreHeapSettings c.regions c.mutators c.keep × AreLimits c.limits
+        × (c.limits.area < c.regions) };
 }
 
 impl Config {
@@ -181,6 +194,24 @@ impl Config {
         Config { ids, ..self }
     }
 
+    /// Returns the same settings with an area: the last regions, in which arrays of 1,025 to 2,097,147 elements lie. None if
+    /// there is no region besides, or the area has none.
+    pub fn with_area(self, area: u64) -> Option<Config>
+        ensures given { IfSome result
+            (λ c. c ≡ record self { limits = with_area area self.limits }) }
+        ensures within { IsSome result ↔ ((1 ≤ area) × (area < self.regions)) }
+    {
+        if area == 0 || area >= self.regions {
+            return None;
+        }
+        let limits = Limits {
+            elements: LARGE_ARRAY_LIMIT,
+            area,
+            ..self.limits
+        };
+        Some(Config { limits, ..self })
+    }
+
     /// Returns the number of regions: 1 to 256, in a wide heap 1 to 65,536.
     pub fn regions(&self) -> u64
         ensures value { result ≡ self.now.regions }
@@ -208,6 +239,7 @@ impl Config {
     pub fn limits(&self) -> Limits
         ensures value { result ≡ self.now.limits }
         ensures within { AreLimits self.now.limits }
+        ensures area { self.now.limits.area < self.now.regions }
     {
         self.limits
     }
@@ -342,11 +374,12 @@ impl World {
     {
         let count = config.regions();
         let mutators = config.mutators();
-        let regions = Regions::new(alloc, count)?;
+        let limits = config.limits();
+        let regions = Regions::new(alloc, count, limits.area)?;
         let registers = nulls(alloc, (REGISTERS_EACH * mutators) as usize)?;
         let marker = Marker::new(alloc, CELLS_EACH * count)?;
         Ok(World {
-            limits: config.limits(),
+            limits,
             classes: Classes::new(alloc),
             regions,
             registers,

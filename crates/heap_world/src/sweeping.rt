@@ -2,6 +2,7 @@
 ghost use Rattle.std.specs.Prelude.{◌≡◌, ℕ, slice_get, None, Some, false, IfOk, OnOk, OnErr};
 ghost use Rattle.heap_class.specs.Refusals.{IsAnswered};
 ghost use Rattle.heap_region.specs.Regions.{Object};
+ghost use Rattle.heap_region.specs.Legal.{MayRestore};
 ghost use Rattle.heap_region.specs.Pool.{restored};
 ghost use Rattle.heap_sweep.specs.Sweep.{sweep_refusal, copies_dead, reclaimed, is_emptied, dead_at, unswept};
 ghost use Rattle.heap_world.specs.State.{HeapState, pool_of, with_pool};
@@ -15,7 +16,7 @@ use heap_sweep::{DeadCells, Reclaimed};
 
 impl World {
     /// Removes a region's objects that aren't live. Their cells head its free list, the highest first. A region left without
-    /// objects becomes empty and heads the pool. Returns what was removed. Fails with NothingToSweep if the region doesn't wait
+    /// objects becomes empty, and heads the pool if it is below the area. Returns what was removed. Fails with NothingToSweep if the region doesn't wait
     /// to be swept, and with NoMemory if the region keeps objects and the dead ones can't be copied.
     pub fn sweep(&mut self, region: u64) -> Result<Reclaimed, Refusal>
         ensures answered { IsAnswered (sweep_refusal region (pool_of self.old))
@@ -43,10 +44,11 @@ impl World {
         heap_sweep::unsweep(&mut self.regions, Reclaimed::Swept { region, dead })
     }
 
-    /// Undoes a sweep that emptied its region, given the storage of the region. The region must head the pool, and the storage
-    /// must have an object. The heap must be legal afterwards. Takes no memory.
+    /// Undoes a sweep that emptied its region, given the storage of the region, which must have an object. The region must head
+    /// the pool, or the regions that the storage takes must be empty ones of the area. The heap must be legal afterwards. Takes
+    /// no memory.
     pub fn unreclaim(&mut self, region: u16, storage: Storage)
-        requires head { slice_get self.old.pool 0 ≡ Some region }
+        requires ready { MayRestore (pool_of self.old) region storage }
         requires inhabited { (cell : ℕ) × (o : Object)
             × (slice_get storage.cells cell ≡ Some (Some o)) }
         requires legal { IsLegal (with_pool (restored region storage (pool_of self.old)) self.old) }

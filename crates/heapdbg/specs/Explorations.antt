@@ -1,5 +1,5 @@
 -- What a session with questions does between its reader and its writer.
-use Rattle.std.specs.Prelude.{◌≡◌, ◌⊎◌, ⊤, ℕ, List, Option, Some, None, Result, Err}
+use Rattle.std.specs.Prelude.{◌≡◌, ◌⊎◌, ⊤, ℕ, Bool, List, Option, Some, None, Result, Err, nat_lt}
 use Rattle.dump_pump.specs.Outlets.{Outgoing}
 use Rattle.heap_console.specs.Loads.{IsLoaded, IsTextLoaded}
 use Rattle.session_text.specs.Answers.{AnswerRelation, AnswersCommand, Begins}
@@ -24,30 +24,40 @@ use Rattle.heapdbg.specs.Endings.{outcome_of}
 abbrev pub IsOpening : Settings → Asking → Type 0
 IsOpening s c = c.local.machine ≡ opening_machine (limits_of s) s.ids s.regions s.mutators s.keep
 
--- the session of this dump was run, in a session that may have at most this: its lines were served to their end
-abbrev pub IsDumpRun : {S : Type 0} → SessionLimits → AnswerRelation S → AnswerRelation S → List ℕ
-    → S → S → Type 0
-IsDumpRun limits says begins dump b c =
-    (text : List ℕ) × IsDumpSession dump text × IsTextLoaded limits says begins text b c
+-- whether the heap of these settings has an area
+abbrev pub has_area : Settings → Bool
+has_area s = nat_lt 0 s.area
+
+-- the session of this dump, for a heap with an area or without one, was run, in a session that may have at most this: its lines
+-- were served to their end
+abbrev pub IsDumpRun : {S : Type 0} → SessionLimits → Bool → AnswerRelation S → AnswerRelation S
+    → List ℕ → S → S → Type 0
+IsDumpRun limits area says begins dump b c =
+    (text : List ℕ) × IsDumpSession area dump text × IsTextLoaded limits says begins text b c
 
 -- the same from these commands on, if they are known
-abbrev pub IsDumpRunFrom : {S : Type 0} → SessionLimits → AnswerRelation S → AnswerRelation S
+abbrev pub IsDumpRunFrom : {S : Type 0} → SessionLimits → Bool → AnswerRelation S → AnswerRelation S
     → List ℕ → Option S → S → Type 0
-IsDumpRunFrom limits says begins dump None c = ⊤
-IsDumpRunFrom limits says begins dump (Some b) c = IsDumpRun limits says begins dump b c
+IsDumpRunFrom limits area says begins dump None c = ⊤
+IsDumpRunFrom limits area says begins dump (Some b) c =
+    IsDumpRun limits area says begins dump b c
 
--- the lines of a file were run first, in a session that may have at most this, or the session of a dump was, or none were
-abbrev pub IsRunFirst : {S : Type 0} → SessionLimits → Origin → AnswerRelation S → AnswerRelation S
-    → S → S → Type 0
-IsRunFirst limits Fresh says begins b c = c ≡ b
-IsRunFirst limits Lines says begins b c = (ended : Ended) × IsLoaded limits says begins b c ended
-IsRunFirst limits Dump says begins b c = (dump : List ℕ) × IsDumpRun limits says begins dump b c
+-- the lines of a file were run first, in a session that may have at most this, or the session of a dump was, for a heap with an
+-- area or without one, or none were
+abbrev pub IsRunFirst : {S : Type 0} → SessionLimits → Bool → Origin → AnswerRelation S
+    → AnswerRelation S → S → S → Type 0
+IsRunFirst limits area Fresh says begins b c = c ≡ b
+IsRunFirst limits area Lines says begins b c =
+    (ended : Ended) × IsLoaded limits says begins b c ended
+IsRunFirst limits area Dump says begins b c =
+    (dump : List ℕ) × IsDumpRun limits area says begins dump b c
 
 -- a session as it begins: over a heap as it begins, or as lines left it, which were run first
 abbrev pub IsSessionBegun : Origin → Settings → Asking → Type 0
 IsSessionBegun origin s c =
     (b : Asking) × IsOpening s b
-    × IsRunFirst (session_limits s.wide) origin (AnswersCommand AskingActs AskingAnswers s.time)
+    × IsRunFirst (session_limits s.wide) (has_area s) origin
+    (AnswersCommand AskingActs AskingAnswers s.time)
     (Begins AskingActs AskingAnswers s.time) b c
 
 -- why a session doesn't begin: no memory, the file of lines can't be opened, or the file of the dump can't be read, has none, or

@@ -1,5 +1,5 @@
 -- A session with questions over a heap that a page shows.
-use Rattle.std.specs.Prelude.{◌≡◌, ◌⊎◌, ◌∷◌, ℕ, true, false, [], None, length, Result, Err}
+use Rattle.std.specs.Prelude.{◌≡◌, ◌⊎◌, ◌∷◌, ℕ, true, false, [], None, length, Result, Err, Bool}
 use Rattle.dump_pump.specs.Inlets.{Incoming}
 use Rattle.dump_pump.specs.Outlets.{Outgoing}
 use Rattle.session_text.specs.Limits.{session_limits}
@@ -17,7 +17,7 @@ use Rattle.heapdbg_options.specs.declared.settings.Settings.{Settings}
 use Rattle.heapdbg.specs.declared.failure.Fault.{Fault}
 use Rattle.heapdbg.specs.declared.failure.Fault.TheVariants.{Listen}
 use Rattle.heapdbg.specs.Endings.{outcome_of}
-use Rattle.heapdbg.specs.Explorations.{IsHindrance, IsRunFirst}
+use Rattle.heapdbg.specs.Explorations.{IsHindrance, IsRunFirst, has_area}
 use Rattle.heapdbg.specs.ServeOutcomes.{config_of}
 
 -- a heap of these settings, which drops old entries, with one user's seat
@@ -40,10 +40,10 @@ own_terms limits time =
     record { time = time; questions = true; secret = None; idle = 0; stays = false; limits = limits }
 
 -- a session as it begins: at such a seat, or as lines left it, which were run first in a session that may have at most this
-abbrev pub IsSeatBegun : SessionLimits → HeapSettings → Origin → ℕ → Station → Type 0
-IsSeatBegun limits config origin time c =
+abbrev pub IsSeatBegun : SessionLimits → Bool → HeapSettings → Origin → ℕ → Station → Type 0
+IsSeatBegun limits area config origin time c =
     (b : Station) × IsSeated config b
-    × IsRunFirst limits origin (seat_says config (own_terms limits time))
+    × IsRunFirst limits area origin (seat_says config (own_terms limits time))
     (seat_begins config (own_terms limits time)) b c
 
 -- why a session doesn't begin: as without a page, or its port can't be listened on
@@ -52,10 +52,10 @@ IsPageHindrance origin f = IsHindrance origin f ⊎ (f ≡ Listen)
 
 -- a session with questions from the only seat of a heap of these settings, and how it ended; or it didn't begin, and then nothing
 -- is read or written; the session and the lines before it may each have at most this
-abbrev pub IsPageExploredOver : SessionLimits → HeapSettings → Origin → ℕ → Incoming → Incoming
-    → Outgoing → Outgoing → Result (Unit {0}) Fault → Type 0
-IsPageExploredOver limits config origin time a b w w' result =
-    ((ended : Ended) × (c : Station) × (left : Station) × IsSeatBegun limits config origin time c
+abbrev pub IsPageExploredOver : SessionLimits → Bool → HeapSettings → Origin → ℕ → Incoming
+    → Incoming → Outgoing → Outgoing → Result (Unit {0}) Fault → Type 0
+IsPageExploredOver limits area config origin time a b w w' result =
+    ((ended : Ended) × (c : Station) × (left : Station) × IsSeatBegun limits area config origin time c
     × IsServedBeside limits (seat_acts config) (seat_answers config true) time a b c w left w'
     ended × (result ≡ outcome_of ended))
     ⊎ ((f : Fault) × IsPageHindrance origin f × (result ≡ Err f) × (b ≡ a) × (w' ≡ w))
@@ -64,4 +64,4 @@ IsPageExploredOver limits config origin time a b w w' result =
 abbrev pub IsPageExplored : Origin → Settings → Incoming → Incoming → Outgoing → Outgoing
     → Result (Unit {0}) Fault → Type 0
 IsPageExplored origin s a b w w' result =
-    IsPageExploredOver (session_limits s.wide) (config_of s) origin s.time a b w w' result
+    IsPageExploredOver (session_limits s.wide) (has_area s) (config_of s) origin s.time a b w w' result

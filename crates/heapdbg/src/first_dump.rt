@@ -3,7 +3,7 @@ ghost use Rattle.std.specs.Prelude.{◌≡◌, Some, Ok, IfErr, IfOk, IsOk};
 ghost use Rattle.session_text.specs.Answers.{AnswersCommand, Begins};
 ghost use Rattle.session_text.specs.Limits.{session_limits};
 ghost use Rattle.heapdbg_options.specs.declared.settings.Origin.TheVariants.{Dump};
-ghost use Rattle.heapdbg.specs.Explorations.{IsDumpRunFrom, IsHindrance, IsRunFirst};
+ghost use Rattle.heapdbg.specs.Explorations.{IsDumpRunFrom, IsHindrance, IsRunFirst, has_area};
 
 use crate::failure::Fault;
 use crate::reasons::tell_path;
@@ -20,8 +20,9 @@ use std::time::Clock;
 const REPORTED_LINES: u64 = 8;
 
 /// Runs by these commands the lines of the session of the dump in the file of the path, and returns them as the lines left them.
-/// Reports the first refused lines as `run_first` does, and how many more were refused, and on standard error what of the dump is left out, and its first fault. Fails with Memory,
-/// and with Hprof if the file can't be read, if it has no header of a dump, or if a line ends the session.
+/// Reports the first refused lines as `run_first` does, and how many more were refused, and on standard error what of the dump is
+/// left out, and its first fault. Fails with Memory, and with Hprof if the file can't be read, if it has no header of a dump, or if
+/// a line ends the session.
 #[tactic(auto, using(crate::proofs::RunDumps::dump_is_run_first))]
 pub(crate) fn load_dump<R: AllocGlobal + Clock + Eprint + Files, C: Commands + Drop>(
     rt: &R,
@@ -30,7 +31,7 @@ pub(crate) fn load_dump<R: AllocGlobal + Clock + Eprint + Files, C: Commands + D
     commands: C,
 ) -> Result<C, Fault>
     ensures run { IfOk result (IsRunFirst
-        (session_limits request.entry.settings.wide) Dump
+        (session_limits request.entry.settings.wide) (has_area request.entry.settings) Dump
         (AnswersCommand C.acts C.unknown request.entry.settings.time)
         (Begins C.acts C.unknown request.entry.settings.time) commands) }
     ensures hindrance { IfErr result (IsHindrance Dump) }
@@ -58,8 +59,8 @@ fn run_dump<R: AllocGlobal + Clock + Eprint, C: Commands + Drop, B: LoadStart<C>
     requires start { B.start ≡ Some commands }
     requires limits { session_limits request.settings.wide ≡ B.limits }
     requires time { request.settings.time ≡ B.time }
-    ensures run { IfOk result (IsDumpRunFrom B.limits (AnswersCommand C.acts C.unknown B.time)
-        (Begins C.acts C.unknown B.time) dump.now B.start) }
+    ensures run { IfOk result (IsDumpRunFrom B.limits (has_area request.entry.settings)
+        (AnswersCommand C.acts C.unknown B.time) (Begins C.acts C.unknown B.time) dump.now B.start) }
     ensures hindrance { IfErr result (IsHindrance Dump) }
 {
     let path = request.path.unwrap_or("");
@@ -73,16 +74,18 @@ fn run_dump<R: AllocGlobal + Clock + Eprint, C: Commands + Drop, B: LoadStart<C>
     let mut outlet: LoadOutlet<'_, R, C, B> = LoadOutlet::new(
         alloc, reports, commands, time, limits,
     );
-    let converted = convert(alloc, &mut outlet, dump);
+    let area = request.settings.area > 0;
+    let converted = convert(alloc, &mut outlet, area, dump);
     let left = outlet.into_commands();
-    tell_outcome(rt, path, &converted);
+    tell_outcome(rt, path, area, &converted);
     commands_left(converted, left)
 }
 
-// Tells on standard error what of a dump is left out, or that it is none. A write that fails changes nothing.
-fn tell_outcome<R: Eprint>(rt: &R, path: &str, converted: &Result<Converted, Failure>) {
+// Tells on standard error what of a dump is left out of the session for a heap with an area, or without one, or that it is none. A
+// write that fails changes nothing.
+fn tell_outcome<R: Eprint>(rt: &R, path: &str, area: bool, converted: &Result<Converted, Failure>) {
     match converted {
-        Ok(converted) => tell_left_out(rt, "heapdbg", path, converted),
+        Ok(converted) => tell_left_out(rt, "heapdbg", path, area, converted),
         Err(Failure::Header) => {
             let _ = eprintln!(rt; "heapdbg: {path}: no header of a dump");
         }

@@ -3,7 +3,7 @@ ghost use Rattle.std.specs.Prelude.{IfErr, IfOk};
 ghost use Rattle.session_text.specs.Answers.{AnswersCommand, Begins};
 ghost use Rattle.session_text.specs.Limits.{session_limits};
 ghost use Rattle.heapdbg_options.specs.declared.settings.Origin.TheVariants.{Lines};
-ghost use Rattle.heapdbg.specs.Explorations.{IsHindrance, IsRunFirst};
+ghost use Rattle.heapdbg.specs.Explorations.{IsHindrance, IsRunFirst, has_area};
 
 use crate::failure::Fault;
 use crate::first_dump::load_dump;
@@ -30,7 +30,7 @@ pub(crate) fn run_first<R: AllocGlobal + Clock + Eprint + Files, C: Commands + D
     commands: C,
 ) -> Result<C, Fault>
     ensures run { IfOk result (IsRunFirst
-        (session_limits request.entry.settings.wide) origin
+        (session_limits request.entry.settings.wide) (has_area request.entry.settings) origin
         (AnswersCommand C.acts C.unknown request.entry.settings.time)
         (Begins C.acts C.unknown request.entry.settings.time) commands) }
     ensures hindrance { IfErr result (IsHindrance origin) }
@@ -50,7 +50,7 @@ fn load<R: AllocGlobal + Clock + Eprint + Files, C: Commands + Drop>(
     commands: C,
 ) -> Result<C, Fault>
     ensures run { IfOk result (IsRunFirst
-        (session_limits request.entry.settings.wide) Lines
+        (session_limits request.entry.settings.wide) (has_area request.entry.settings) Lines
         (AnswersCommand C.acts C.unknown request.entry.settings.time)
         (Begins C.acts C.unknown request.entry.settings.time) commands) }
     ensures hindrance { IfErr result (IsHindrance Lines) }

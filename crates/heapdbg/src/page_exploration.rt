@@ -7,6 +7,7 @@ ghost use Rattle.session_text.specs.Limits.{session_limits};
 ghost use Rattle.heapdbg_options.specs.CommandLine.{IsHeapWithin};
 ghost use Rattle.heapdbg.specs.declared.failure.Fault.TheVariants.{Memory};
 ghost use Rattle.heapdbg.specs.ServeOutcomes.{config_of};
+ghost use Rattle.heapdbg.specs.Explorations.{has_area};
 ghost use Rattle.heapdbg.specs.PageExplorations.{IsMadeFor, IsPageExplored, IsPageExploredOver};
 
 use crate::failure::{Fault, outcome};
@@ -85,9 +86,9 @@ where
     R: AllocGlobal + Clock + Eprint + Files + Threads + Wait + Sync,
     requires named { IsNamed L.config L.tables L.ledger L.rolls blank }
     requires made { IsMadeFor L.config blank }
-    ensures { IsPageExploredOver (session_limits request.entry.settings.wide) L.config origin
-        request.entry.settings.time (I.seen reader.old) (I.seen reader.new) (O.seen writer.old)
-        (O.seen writer.new) result }
+    ensures { IsPageExploredOver (session_limits request.entry.settings.wide)
+        (has_area request.entry.settings) L.config origin request.entry.settings.time
+        (I.seen reader.old) (I.seen reader.new) (O.seen writer.old) (O.seen writer.new) result }
 {
     let (shared, seats) = blank.open::<L>();
     let seat = WatchedSeat::new(rt, &shared, only_seat(seats), &screen.console.watch);

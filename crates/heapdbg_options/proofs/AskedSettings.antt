@@ -14,7 +14,7 @@ use Rattle.clap.specs.Words.{Row, Text, first_of, subcommand_of}
 use Rattle.heap_class.specs.declared.IdSize.{IdSize}
 use Rattle.heap_class.specs.declared.IdSize.TheVariants.{Eight}
 use Rattle.heap_world.specs.Limits.{mutator_limit}
-use Rattle.heapdbg_options.specs.CommandLine.{AreNumbersOf, AreSettingsWithin, HasDefaults, IsTask, ask_in, idle_in, idle_limit, idle_of, is_guarded, has_secret, stays_in, stays_of, dumps_in, dumps_of, dumps_with, page_beside, page_in, page_of, page_with, explore_in, explore_with, is_dump, is_lines, origin_in, own_page, own_task, runs_dump, runs_lines, flag_in, fetch_in, heapdbg_line, id_size_in, id_size_of, is_given, is_task, IsOther, IsThird, keep_default, keep_in, most_kept, most_regions, most_sessions, number_in, number_or, other_port, port_in, port_limit, questions_in, regions_in, rolls_in, save_in, serve_in, serve_with, sessions_in, sessions_of, settings_in, settings_over, settings_under, settings_with, target_in, task_in, third_port, time_limit, option_value, wide_in, workers_in, workers_of, counted_in, option_size, size_or, size_with, text_before, times_in, regions_default, wide_default}
+use Rattle.heapdbg_options.specs.CommandLine.{AreNumbersOf, AreSettingsWithin, HasDefaults, IsTask, ask_in, idle_in, idle_limit, idle_of, is_guarded, has_secret, stays_in, stays_of, area_default, area_in, dumps_in, dumps_of, dumps_with, page_beside, page_in, page_of, page_with, explore_in, explore_with, is_dump, is_lines, origin_in, own_page, own_task, runs_dump, runs_lines, flag_in, fetch_in, heapdbg_line, id_size_in, id_size_of, is_given, is_task, IsOther, IsThird, keep_default, keep_in, most_area, most_kept, most_regions, most_sessions, number_in, number_or, other_port, port_in, port_limit, questions_in, regions_in, rolls_in, save_in, serve_in, serve_with, sessions_in, sessions_of, settings_in, settings_over, settings_under, settings_with, target_in, task_in, third_port, time_limit, option_value, wide_in, workers_in, workers_of, counted_in, option_size, size_or, size_with, text_before, times_in, regions_default, wide_default, with_area_in}
 use Rattle.heapdbg_options.specs.declared.settings.Settings.{Settings}
 use Rattle.heapdbg_options.specs.declared.settings.Origin.{Origin}
 use Rattle.heapdbg_options.specs.declared.settings.Origin.TheVariants.{Fresh, Lines, Dump}
@@ -97,6 +97,7 @@ number_or_default_within_bounds default least most (Some text) n low high e = nu
 pub record AreRead (rows : List Row) (s : Settings) : Type 0 where
   pub wide : wide_in rows ≡ Some s.wide
   pub regions : regions_in s.task s.wide rows ≡ Some s.regions
+  pub area : area_in s.task s.wide s.regions rows ≡ Some s.area
   pub mutators : option_value (codes "mutators") 2 1 mutator_limit rows ≡ Some s.mutators
   pub keep : keep_in s.task s.wide rows ≡ Some s.keep
   pub time : option_value (codes "time") 0 0 time_limit rows ≡ Some s.time
@@ -115,15 +116,17 @@ settings_keep_all_given task w (Some r) (Some m) (Some k) (Some t) (Some i) None
 settings_keep_all_given task w (Some r) (Some m) (Some k) (Some t) (Some i) (Some q) None s e = cc
 settings_keep_all_given task w (Some r) (Some m) (Some k) (Some t) (Some i) (Some q) (Some o) s e = (cc, cc, cc, cc, cc, cc, cc, cc, cc)
 
--- the settings over a heap that is wide, or isn't, are those of the rows
-settings_are_read_from_rows : (task : Task) (rows : List Row) (w : Bool) (s : Settings) → wide_in rows ≡ Some w → settings_over task rows w ≡ Some s → (s.task ≡ task) × AreRead rows s
-settings_are_read_from_rows task rows w s wide found =
+-- the settings over a heap that is wide, or isn't, with the area that the rows tell, are those of the rows
+settings_with_area_are_read : (task : Task) (rows : List Row) (w : Bool) (s : Settings) (area : ℕ) → wide_in rows ≡ Some w → settings_over task rows w ≡ Some s → area_in s.task s.wide s.regions rows ≡ Some area
+    → (s.task ≡ task) × AreRead rows (record s { area = area })
+settings_with_area_are_read task rows w s area wide found told =
     let there = settings_keep_all_given task w (regions_in task w rows) (option_value (codes "mutators") 2 1 mutator_limit rows) (keep_in task w rows) (option_value (codes "time") 0 0 time_limit rows) (id_size_in rows) (questions_in rows) (rolls_in rows) s found in
     let same : w ≡ s.wide = there.1 in (
       there.0,
       record {
         wide = wide ∙ ap (λ b. Some b) same;
         regions = ap (λ t. regions_in t s.wide rows) there.0 ∙ (ap (λ b. regions_in task b rows) (sym same) ∙ there.2);
+        area = told;
         mutators = there.3;
         keep = ap (λ t. keep_in t s.wide rows) there.0 ∙ (ap (λ b. keep_in task b rows) (sym same) ∙ there.4);
         time = there.5;
@@ -131,6 +134,24 @@ settings_are_read_from_rows task rows w s wide found =
         questions = there.7;
         rolls = there.8;
       },
+    )
+
+settings_are_read_from_rows : (task : Task) (rows : List Row) (w : Bool) (base s : Settings) → wide_in rows ≡ Some w → settings_over task rows w ≡ Some base → with_area_in rows base ≡ Some s → (s.task ≡ task) × AreRead rows s
+settings_are_read_from_rows task rows w base s wide found told = go (area_in base.task base.wide base.regions rows) refl told
+  where
+    go : (o : Option ℕ) → area_in base.task base.wide base.regions rows ≡ o → option_map (λ area. record base { area = area }) o ≡ Some s → (s.task ≡ task) × AreRead rows s
+    go None is made = cc
+    go (Some area) is made =
+        let same : record base { area = area } ≡ s = cc in
+        subst (λ (x : Settings). (x.task ≡ task) × AreRead rows x) same (settings_with_area_are_read task rows w base area wide found is)
+
+-- the settings without an area tell what its limit hangs on
+pub settings_tell_regions : (task : Task) (rows : List Row) (w : Bool) (s : Settings) → wide_in rows ≡ Some w → settings_over task rows w ≡ Some s → (wide_in rows ≡ Some s.wide) × (regions_in s.task s.wide rows ≡ Some s.regions)
+settings_tell_regions task rows w s wide found =
+    let there = settings_keep_all_given task w (regions_in task w rows) (option_value (codes "mutators") 2 1 mutator_limit rows) (keep_in task w rows) (option_value (codes "time") 0 0 time_limit rows) (id_size_in rows) (questions_in rows) (rolls_in rows) s found in
+    let same : w ≡ s.wide = there.1 in (
+      wide ∙ ap (λ b. Some b) same,
+      ap (λ t. regions_in t s.wide rows) there.0 ∙ (ap (λ b. regions_in task b rows) (sym same) ∙ there.2),
     )
 
 abbrev task_by_flags_and_rows : Bool → Bool → Bool → Bool → Bool → Bool → Bool → List Row → Option Task
@@ -157,9 +178,13 @@ found_settings_are_asked : (o : Option (Text × List Row)) (s : Settings) → op
 found_settings_are_asked None s e = cc
 found_settings_are_asked (Some f) s e = go (task_in f.0 f.1) refl e
   where
-    sized : (task : Task) (b : Option Bool) → wide_in f.1 ≡ b → option_and_then (settings_over task f.1) b ≡ Some s → (s.task ≡ task) × AreRead f.1 s
+    placed : (task : Task) (w : Bool) (o : Option Settings) → wide_in f.1 ≡ Some w → settings_over task f.1 w ≡ o → option_and_then (with_area_in f.1) o ≡ Some s → (s.task ≡ task) × AreRead f.1 s
+    placed task w None wide h found = cc
+    placed task w (Some base) wide h found = settings_are_read_from_rows task f.1 w base s wide h found
+
+    sized : (task : Task) (b : Option Bool) → wide_in f.1 ≡ b → option_and_then (with_area_in f.1) (option_and_then (settings_over task f.1) b) ≡ Some s → (s.task ≡ task) × AreRead f.1 s
     sized task None h found = cc
-    sized task (Some w) h found = settings_are_read_from_rows task f.1 w s h found
+    sized task (Some w) h found = placed task w (settings_over task f.1 w) h refl found
 
     go : (t : Option Task) → task_in f.0 f.1 ≡ t → option_and_then (λ task. settings_in task f.1) t ≡ Some s → AreAsked (Some f) s
     go None h found = cc
@@ -214,6 +239,22 @@ default_regions_within (Ask port secret) false = (omega arith, omega arith)
 default_regions_within (Ask port secret) true = (omega arith, omega arith)
 default_regions_within (Fetch port secret) false = (omega arith, omega arith)
 default_regions_within (Fetch port secret) true = (omega arith, omega arith)
+
+-- the area of a dump's heap may be there
+default_area_within : (task : Task) (w : Bool) (r : ℕ) → area_default task w r ≤ most_area w r
+default_area_within (Explore Fresh page) w r = omega arith
+default_area_within (Explore Lines page) w r = omega arith
+default_area_within (Explore Dump page) false r = omega arith
+default_area_within (Explore Dump page) true r = omega arith
+default_area_within Run w r = omega arith
+default_area_within Draw w r = omega arith
+default_area_within (Save target) w r = omega arith
+default_area_within (Serve service) w r = omega arith
+default_area_within (Ask port secret) w r = omega arith
+default_area_within (Fetch port secret) w r = omega arith
+
+area_within : (task : Task) (w : Bool) (rows : List Row) (r a : ℕ) → area_in task w r rows ≡ Some a → a ≤ most_area w r
+area_within task w rows r a e = (size_or_default_within_bounds (area_default task w r) 0 (most_area w r) (first_of (codes "area") rows) a (omega arith) (default_area_within task w r) e).1
 
 numbers_of_heap_within_bounds : (task : Task) (w : Bool) (rows : List Row) (r m k : ℕ) → regions_in task w rows ≡ Some r → option_value (codes "mutators") 2 1 mutator_limit rows ≡ Some m → keep_in task w rows ≡ Some k → AreNumbersOf w r m k
 numbers_of_heap_within_bounds task false rows r m k regions mutators keep =
@@ -419,7 +460,10 @@ pub settings_within : (o : Option (Text × List Row)) (s : Settings) → option_
 settings_within o s e =
     let asked = found_settings_are_asked o s e in
     let name = asked.found.0 in (
-      numbers_of_heap_within_bounds s.task s.wide asked.found.1 s.regions s.mutators s.keep asked.read.regions asked.read.mutators asked.read.keep,
+      (
+        numbers_of_heap_within_bounds s.task s.wide asked.found.1 s.regions s.mutators s.keep asked.read.regions asked.read.mutators asked.read.keep,
+        area_within s.task s.wide asked.found.1 s.regions s.area asked.read.area,
+      ),
       task_within (bytes_eq name (codes "run")) (bytes_eq name (codes "explore")) (bytes_eq name (codes "draw")) (bytes_eq name (codes "save")) (bytes_eq name (codes "serve")) (bytes_eq name (codes "ask")) (bytes_eq name (codes "fetch")) asked.found.1 s.task asked.task,
     )
 
@@ -603,6 +647,7 @@ defaults_of words s e =
     let rows = asked.found.1 in
     record {
       regions = ungiven_size_is_default (codes "regions") (regions_default s.task s.wide) 1 (most_regions s.wide) words asked.found s.regions refl asked.is asked.named asked.read.regions;
+      area = ungiven_size_is_default (codes "area") (area_default s.task s.wide s.regions) 0 (most_area s.wide s.regions) words asked.found s.area refl asked.is asked.named asked.read.area;
       mutators = ungiven_number_is_default (codes "mutators") 2 1 mutator_limit words asked.found s.mutators refl asked.is asked.named asked.read.mutators;
       keep = ungiven_size_is_default (codes "keep") (keep_default s.task s.wide) 1 (most_kept s.wide) words asked.found s.keep refl asked.is asked.named asked.read.keep;
       time = ungiven_number_is_default (codes "time") 0 0 time_limit words asked.found s.time refl asked.is asked.named asked.read.time;

@@ -8,11 +8,12 @@ use Rattle.clap.specs.Words.{App, FailsBy, HasMatchesOf, Row, Text, fault_of, fi
 use Rattle.clap.specs.declared.error.Error.{Error}
 use Rattle.clap.specs.declared.parser.matches.ArgMatches.{ArgMatches}
 use Rattle.clap.specs.declared.parser.matches.Found.{Found}
-use Rattle.heapdbg_options.specs.CommandLine.{explore_in, has_secret, heapdbg_line, id_size_in, keep_default, keep_in, most_kept, number_in, option_value, path_of, port_limit, questions_in, regions_in, rolls_in, settings_over, settings_with, size_or, time_limit, wide_in}
+use Rattle.heapdbg_options.specs.CommandLine.{area_default, area_in, explore_in, has_secret, heapdbg_line, id_size_in, keep_default, keep_in, most_area, most_kept, number_in, option_value, path_of, port_limit, questions_in, regions_in, rolls_in, settings_over, settings_with, size_or, time_limit, wide_in, with_area_in}
 use Rattle.heap_class.specs.declared.IdSize.{IdSize}
 use Rattle.heap_world.specs.Limits.{mutator_limit}
-use Rattle.heapdbg_options.specs.Refusals.{IsExploreMistake, IsExploreOrMistake, IsMistakeIn, IsNoSize, IsOutside, keep_mistake, IsTargetMistake, IsTaskOrMistake}
+use Rattle.heapdbg_options.specs.Refusals.{IsExploreMistake, IsExploreOrMistake, IsMistakeIn, IsNoSize, IsOutside, area_mistake, keep_mistake, IsTargetMistake, IsTaskOrMistake}
 use Rattle.heapdbg_options.specs.declared.refusal.Mistake.{Mistake}
+use Rattle.heapdbg_options.specs.declared.settings.Settings.{Settings}
 use Rattle.heapdbg_options.specs.declared.settings.Task.{Task}
 
 -- ---- what is told of options
@@ -121,4 +122,18 @@ pub keep_mistake_is_in_rows : (task : Task) (w : Bool) (rows : List Row) → wid
 keep_mistake_is_in_rows task w rows wide e = (
   rw e (no_settings_without_keep task w (regions_in task w rows) (option_value (codes "mutators") 2 1 mutator_limit rows) (option_value (codes "time") 0 0 time_limit rows) (id_size_in rows) (questions_in rows) (rolls_in rows)),
   mistake_of_keep w rows wide (no_size_within_bounds (keep_default task w) 1 (most_kept w) (first_of (codes "keep") rows) e),
+)
+
+-- ---- the area
+
+mistake_of_area : (task : Task) (w : Bool) (r : ℕ) (rows : List Row) → wide_in rows ≡ Some w → regions_in task w rows ≡ Some r → IsNoSize 0 (most_area w r) (first_of (codes "area") rows) → IsMistakeIn (area_mistake w) rows
+mistake_of_area task false r rows wide regions h = (wide, h)
+mistake_of_area task true r rows wide regions h = (task, r, wide, regions, h)
+
+-- an option `--area` that is out of its range is the mistake of its command
+pub area_mistake_is_in_rows : (s : Settings) (rows : List Row) → wide_in rows ≡ Some s.wide → regions_in s.task s.wide rows ≡ Some s.regions → area_in s.task s.wide s.regions rows ≡ None
+    → (with_area_in rows s ≡ None) × IsMistakeIn (area_mistake s.wide) rows
+area_mistake_is_in_rows s rows wide regions e = (
+  ap (option_map (λ n. record s { area = n })) e,
+  mistake_of_area s.task s.wide s.regions rows wide regions (no_size_within_bounds (area_default s.task s.wide s.regions) 0 (most_area s.wide s.regions) (first_of (codes "area") rows) e),
 )

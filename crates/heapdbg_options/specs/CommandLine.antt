@@ -1,5 +1,5 @@
 -- The command line: the settings that a list of words asks for.
-use Rattle.std.specs.Prelude.{◌≡◌, ◌≢◌, ◌≤◌, ◌==◌, ◌∷◌, ◌++◌, ◌*◌, ◌-◌, [], take, ◌&&◌, ◌||◌, ℕ, List, Option, Some, None, Bool, ⊤, true, false, codes}
+use Rattle.std.specs.Prelude.{◌≡◌, ◌≢◌, ◌≤◌, ◌==◌, ◌∷◌, ◌++◌, ◌*◌, ◌-◌, ◌/◌, [], take, ◌&&◌, ◌||◌, ℕ, List, Option, Some, None, Bool, ⊤, true, false, codes}
 use Rattle.std.specs.Prelude.{is_some, length, map, nat_le, nat_lt, option_and_then, option_map, string_bytes, if◌then◌else◌}
 use Rattle.std.specs.List.{list_all, list_any}
 use Rattle.std.specs.Option.{option_map_or}
@@ -13,7 +13,7 @@ use Rattle.clap.specs.declared.builder.ArgAction.TheVariants.{Set}
 use Rattle.heap_class.specs.declared.IdSize.{IdSize}
 use Rattle.heap_class.specs.declared.IdSize.TheVariants.{Four, Eight}
 use Rattle.heap_world.specs.RegionLimits.{region_limit}
-use Rattle.heap_world.specs.Limits.{AreHeapSettings, AreNarrowSettings, keep_limit, mutator_limit, narrow_keep, narrow_limits, narrow_regions, wide_limits}
+use Rattle.heap_world.specs.Limits.{AreHeapSettings, AreNarrowSettings, keep_limit, mutator_limit, narrow_keep, narrow_limits, narrow_regions, wide_limits, with_area}
 use Rattle.heap_world.specs.declared.Limits.{Limits}
 use Rattle.heapdbg_options.specs.declared.settings.Origin.{Origin}
 use Rattle.heapdbg_options.specs.declared.settings.Origin.TheVariants.{Fresh, Lines, Dump}
@@ -51,10 +51,12 @@ abbrev pub heap_line : Text → App
 heap_line name =
     with_rule
     (with_rule
+    (with_rule
     (with_rule (with_rule (new_app name) (value_option (codes "regions")))
     (value_option (codes "mutators")))
     (value_option (codes "keep")))
-    (flag_option (codes "wide"))
+    (flag_option (codes "wide")))
+    (value_option (codes "area"))
 
 -- a command with the options of the heap, its history and its dumps
 abbrev pub session_line : Text → App
@@ -214,7 +216,7 @@ id_size_of bytes = if bytes == 4 then Some Four else (if bytes == 8 then Some Ei
 abbrev pub id_size_in : List Row → Option IdSize
 id_size_in rows = option_and_then id_size_of (option_value (codes "ids") 8 4 8 rows)
 
--- the settings, if each option has a value in its range
+-- the settings without an area, if each option has a value in its range
 abbrev pub settings_with : Task → Bool → Option ℕ → Option ℕ → Option ℕ → Option ℕ → Option IdSize
     → Option Bool → Option Bool → Option Settings
 settings_with task wide (Some regions) (Some mutators) (Some keep) (Some time) (Some ids)
@@ -223,6 +225,7 @@ settings_with task wide (Some regions) (Some mutators) (Some keep) (Some time) (
       task = task;
       wide = wide;
       regions = regions;
+      area = 0;
       mutators = mutators;
       keep = keep;
       time = time;
@@ -303,7 +306,32 @@ abbrev pub keep_in : Task → Bool → List Row → Option ℕ
 keep_in task wide rows =
     option_size (codes "keep") (keep_default task wide) 1 (most_kept wide) rows
 
--- the settings of a task and its options over a heap that is wide, or isn't
+-- the largest number of regions of the area of a heap with so many regions that is wide, or isn't
+abbrev pub most_area : Bool → ℕ → ℕ
+most_area wide regions = if wide then regions - 1 else 0
+
+-- the regions of the area of `explore`, if the option is not given: for a dump in a wide heap a quarter of all
+abbrev pub area_after : Origin → Bool → ℕ → ℕ
+area_after Fresh wide regions = 0
+area_after Lines wide regions = 0
+area_after Dump wide regions = if wide then regions / 4 else 0
+
+-- the regions of the area, if the option is not given
+abbrev pub area_default : Task → Bool → ℕ → ℕ
+area_default (Explore origin page) wide regions = area_after origin wide regions
+area_default _ wide regions = 0
+
+-- the area of a task's heap with so many regions that is wide, or isn't
+abbrev pub area_in : Task → Bool → ℕ → List Row → Option ℕ
+area_in task wide regions rows =
+    option_size (codes "area") (area_default task wide regions) 0 (most_area wide regions) rows
+
+-- the settings with the area that the options give
+abbrev pub with_area_in : List Row → Settings → Option Settings
+with_area_in rows s =
+    option_map (λ regions. record s { area = regions }) (area_in s.task s.wide s.regions rows)
+
+-- the settings of a task and its options, but the area, over a heap that is wide, or isn't
 abbrev pub settings_over : Task → List Row → Bool → Option Settings
 settings_over task rows wide = settings_with task wide (regions_in task wide rows)
     (option_value (codes "mutators") 2 1 mutator_limit rows) (keep_in task wide rows)
@@ -312,7 +340,8 @@ settings_over task rows wide = settings_with task wide (regions_in task wide row
 
 -- the settings of a task and its options
 abbrev pub settings_in : Task → List Row → Option Settings
-settings_in task rows = option_and_then (settings_over task rows) (wide_in rows)
+settings_in task rows =
+    option_and_then (with_area_in rows) (option_and_then (settings_over task rows) (wide_in rows))
 
 -- the highest port
 abbrev pub port_limit : ℕ
@@ -538,9 +567,17 @@ IsTask (Serve service) = IsService service
 IsTask (Ask port secret) = (1 ≤ port) × (port ≤ port_limit)
 IsTask (Fetch port secret) = (1 ≤ port) × (port ≤ port_limit)
 
+-- what a heap without an area allows that is wide, or isn't
+abbrev pub usual_limits : Bool → Limits
+usual_limits wide = if wide then wide_limits else narrow_limits
+
+-- what a heap allows that has an area of so many regions, or none if they are 0, and is else as one with these limits
+abbrev pub limits_with : ℕ → Limits → Limits
+limits_with area limits = if area == 0 then limits else with_area area limits
+
 -- the limits that the heap's events keep to
 abbrev pub limits_of : Settings → Limits
-limits_of s = if s.wide then wide_limits else narrow_limits
+limits_of s = limits_with s.area (usual_limits s.wide)
 
 -- a heap that is wide, or isn't, may have these numbers of regions, of mutators and of steps that can be undone
 abbrev pub AreNumbersOf : Bool → ℕ → ℕ → ℕ → Type 0
@@ -549,7 +586,8 @@ AreNumbersOf false regions mutators keep = AreNarrowSettings regions mutators ke
 
 -- the settings of the heap and its history are within their limits
 abbrev pub IsHeapWithin : Settings → Type 0
-IsHeapWithin s = AreNumbersOf s.wide s.regions s.mutators s.keep
+IsHeapWithin s =
+    AreNumbersOf s.wide s.regions s.mutators s.keep × (s.area ≤ most_area s.wide s.regions)
 
 -- the settings are within their limits
 abbrev pub AreSettingsWithin : Settings → Type 0
@@ -621,6 +659,7 @@ runs_dump task = is_dump (origin_of task)
 -- an option that no word names has its default
 pub record HasDefaults (words : List Text) (s : Settings) : Type 0 where
   pub regions : is_given (codes "regions") words ≡ false → s.regions ≡ regions_default s.task s.wide
+  pub area : is_given (codes "area") words ≡ false → s.area ≡ area_default s.task s.wide s.regions
   pub mutators : is_given (codes "mutators") words ≡ false → s.mutators ≡ 2
   pub keep : is_given (codes "keep") words ≡ false → s.keep ≡ keep_default s.task s.wide
   pub time : is_given (codes "time") words ≡ false → s.time ≡ 0

@@ -6,9 +6,9 @@ use Rattle.clap.specs.Words.{IsAmong, Row, Text, fault_of, first_of, subcommand_
 use Rattle.clap.specs.declared.error.kind.ErrorKind.{ErrorKind}
 use Rattle.clap.specs.declared.error.kind.ErrorKind.TheVariants.{DisplayHelp, DisplayVersion, OutOfMemory}
 use Rattle.heap_world.specs.Limits.{mutator_limit}
-use Rattle.heapdbg_options.specs.CommandLine.{dumps_with, explore_with, has_secret, heapdbg_line, id_size_in, idle_in, is_task, most_kept, most_regions, number_in, page_with, port_in, port_limit, questions_in, rolls_in, sessions_in, settings_of, stays_in, option_value, size_in, time_limit, wide_in, workers_in}
+use Rattle.heapdbg_options.specs.CommandLine.{dumps_with, explore_with, has_secret, heapdbg_line, id_size_in, idle_in, is_task, most_area, most_kept, most_regions, number_in, page_with, port_in, port_limit, questions_in, regions_in, rolls_in, sessions_in, settings_of, stays_in, option_value, size_in, time_limit, wide_in, workers_in}
 use Rattle.heapdbg_options.specs.declared.refusal.Mistake.{Mistake}
-use Rattle.heapdbg_options.specs.declared.refusal.Mistake.TheVariants.{Command, Wide, Regions, WideRegions, Mutators, Keep, WideKeep, Time, Ids, Port, Sessions, Workers, Questions, Roll, Dumps, Page, Idle, Stay, To, Place, Origin, Source, OwnPage, Secret}
+use Rattle.heapdbg_options.specs.declared.refusal.Mistake.TheVariants.{Command, Wide, Regions, WideRegions, Area, WideArea, Mutators, Keep, WideKeep, Time, Ids, Port, Sessions, Workers, Questions, Roll, Dumps, Page, Idle, Stay, To, Place, Origin, Source, OwnPage, Secret}
 use Rattle.heapdbg_options.specs.declared.settings.LineFault.{LineFault}
 use Rattle.heapdbg_options.specs.declared.settings.LineFault.TheVariants.{Bad, CommandText, Memory, OptionText}
 use Rattle.heapdbg_options.specs.declared.settings.Task.{Task}
@@ -47,6 +47,12 @@ IsMistakeIn Regions rows =
     (wide_in rows ≡ Some false) × IsNoSize 1 (most_regions false) (first_of (codes "regions") rows)
 IsMistakeIn WideRegions rows =
     (wide_in rows ≡ Some true) × IsNoSize 1 (most_regions true) (first_of (codes "regions") rows)
+IsMistakeIn Area rows =
+    (wide_in rows ≡ Some false) × IsNoSize 0 0 (first_of (codes "area") rows)
+IsMistakeIn WideArea rows =
+    (task : Task) × (regions : ℕ) × (wide_in rows ≡ Some true)
+    × (regions_in task true rows ≡ Some regions)
+    × IsNoSize 0 (most_area true regions) (first_of (codes "area") rows)
 IsMistakeIn Mutators rows = option_value (codes "mutators") 2 1 mutator_limit rows ≡ None
 IsMistakeIn Keep rows =
     (wide_in rows ≡ Some false) × IsNoSize 1 (most_kept false) (first_of (codes "keep") rows)
@@ -84,6 +90,10 @@ IsMistakeIn Place rows =
 -- the mistake of regions that are out of the range of a heap that is wide, or isn't
 abbrev pub regions_mistake : Bool → Mistake
 regions_mistake wide = if wide then WideRegions else Regions
+
+-- the mistake of an area that is out of the range of a heap that is wide, or isn't
+abbrev pub area_mistake : Bool → Mistake
+area_mistake wide = if wide then WideArea else Area
 
 -- the mistake of steps to keep that are out of the range of a heap that is wide, or isn't
 abbrev pub keep_mistake : Bool → Mistake
@@ -129,6 +139,8 @@ mistake_of Command = codes "heapdbg takes one of run, explore, draw, save, serve
 mistake_of Wide = codes "--wide takes 0 or 1"
 mistake_of Regions = codes "--regions takes 1 to 256"
 mistake_of WideRegions = codes "--regions takes 1 to 65536"
+mistake_of Area = codes "--area takes 0 without --wide 1"
+mistake_of WideArea = codes "--area takes 0 to one less than the number of --regions"
 mistake_of Mutators = codes "--mutators takes 1 to 16"
 mistake_of Keep = codes "--keep takes 1 to 65536"
 mistake_of WideKeep = codes "--keep takes 1 to 16777216"

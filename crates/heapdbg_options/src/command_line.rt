@@ -8,8 +8,9 @@ ghost use Rattle.clap.specs.declared.builder.Command.TheViews.{out-Command};
 ghost use Rattle.heapdbg_options.specs.Parsers.{IsParserOf};
 ghost use Rattle.heapdbg_options.specs.CommandLine.{AreSettingsWithin, HasDefaults, heapdbg_line, named_line, number_in};
 ghost use Rattle.heapdbg_options.specs.CommandLine.{settings_in, settings_of, settings_over, settings_under, texts, option_size, option_value, counted_in, size_in, text_before};
-ghost use Rattle.heapdbg_options.specs.CommandLine.{id_size_in, id_size_of, flag_in, has_dump, keep_after, keep_default, most_kept, most_regions, path_of, regions_after, regions_default, task_in, wide_default, wide_in};
-ghost use Rattle.heapdbg_options.specs.Refusals.{IsMistake, IsMistakeIn, IsRefusalOf, keep_mistake, regions_mistake, IsSaidOf, IsValueOrMistake, is_help};
+ghost use Rattle.heapdbg_options.specs.CommandLine.{id_size_in, id_size_of, flag_in, has_dump, keep_after, keep_default, most_kept, most_regions, path_of, regions_after, regions_default, regions_in, task_in, wide_default, wide_in};
+ghost use Rattle.heapdbg_options.specs.CommandLine.{area_after, area_default, most_area, with_area_in};
+ghost use Rattle.heapdbg_options.specs.Refusals.{IsMistake, IsMistakeIn, IsRefusalOf, area_mistake, keep_mistake, regions_mistake, IsSaidOf, IsValueOrMistake, is_help};
 
 use crate::line_words::{is_help, is_version};
 use crate::option_rows::{CommandRow, with_commands};
@@ -160,9 +161,12 @@ fn settings_from(task: Task, options: &ArgMatches<'_>) -> Result<Settings, Mista
     ensures { IsValueOrMistake (settings_in task (rows_of (found_of options.now)))
         (λ m. IsMistakeIn m (rows_of (found_of options.now))) result }
 {
-    match wide_from(options) {
-        Some(wide) => settings_over(task, options, wide),
-        None => Err(Mistake::Wide),
+    let Some(wide) = wide_from(options) else {
+        return Err(Mistake::Wide);
+    };
+    match settings_over(task, options, wide) {
+        Ok(settings) => settings_with_area(settings, options),
+        Err(mistake) => Err(mistake),
     }
 }
 
@@ -188,7 +192,8 @@ fn has_dump(options: &ArgMatches<'_>) -> bool
     options.get_str("hprof").is_some()
 }
 
-// Returns the settings of a task's options over a heap that is wide, or isn't, or the option whose value is out of its range.
+// Returns the settings of a task's options over a heap that is wide, or isn't, without an area, or the option whose value is out of
+// its range.
 fn settings_over(task: Task, options: &ArgMatches<'_>, wide: bool) -> Result<Settings, Mistake>
     requires { wide_in (rows_of (found_of options.now)) ≡ Some wide }
     ensures { IsValueOrMistake (settings_over task (rows_of (found_of options.now)) wide)
@@ -221,6 +226,7 @@ fn settings_over(task: Task, options: &ArgMatches<'_>, wide: bool) -> Result<Set
         task,
         wide,
         regions,
+        area: 0,
         mutators,
         keep,
         time,
@@ -374,6 +380,65 @@ fn id_size(bytes: u64) -> Option<IdSize>
         4 => Some(IdSize::Four),
         8 => Some(IdSize::Eight),
         _ => None,
+    }
+}
+
+// Returns the settings with the area that the options give, or the mistake in it.
+fn settings_with_area(settings: Settings, options: &ArgMatches<'_>) -> Result<Settings, Mistake>
+    requires wide { wide_in (rows_of (found_of options.now)) ≡ Some settings.wide }
+    requires regions { regions_in settings.task settings.wide (rows_of (found_of options.now))
+        ≡ Some settings.regions }
+    ensures { IsValueOrMistake (with_area_in (rows_of (found_of options.now)) settings)
+        (λ m. IsMistakeIn m (rows_of (found_of options.now))) result }
+{
+    let Settings {
+        task,
+        wide,
+        regions,
+        ..
+    } = settings;
+    let usual = area_default(task, wide, regions);
+    match option_size(options, "area", usual, 0, most_area(wide, regions)) {
+        Some(area) => Ok(Settings { area, ..settings }),
+        None => Err(area_mistake(wide)),
+    }
+}
+
+// Returns the number of regions of the area if the option isn't given.
+fn area_default(task: Task, wide: bool, regions: u64) -> u64
+    ensures { result ≡ area_default task wide regions }
+{
+    match task {
+        Task::Explore { origin, .. } => area_after(origin, wide, regions),
+        _ => 0,
+    }
+}
+
+// Returns the number of regions of the area of `explore` if the option isn't given: for a dump in a wide heap a quarter of all.
+fn area_after(origin: Origin, wide: bool, regions: u64) -> u64
+    ensures { result ≡ area_after origin wide regions }
+{
+    match origin {
+        Origin::Fresh | Origin::Lines => 0,
+        Origin::Dump => if wide { regions / 4 } else { 0 },
+    }
+}
+
+// Returns the largest number of regions of the area of a heap with so many regions that is wide, or isn't.
+fn most_area(wide: bool, regions: u64) -> u64
+    ensures { result ≡ most_area wide regions }
+{
+    if wide { regions.saturating_sub(1) } else { 0 }
+}
+
+// Returns the mistake of an area that is out of the range of a heap that is wide, or isn't.
+fn area_mistake(wide: bool) -> Mistake
+    ensures { result ≡ area_mistake wide }
+{
+    if wide {
+        Mistake::WideArea
+    } else {
+        Mistake::Area
     }
 }
 

@@ -63,6 +63,15 @@ pub(crate) const WIDE: OptionRow = OptionRow {
     is_flag: true,
 };
 
+// The option `--area N`.
+pub(crate) const AREA: OptionRow = OptionRow {
+    name: "area",
+    value: "N",
+    help: "Last regions of the heap, which hold arrays of more than 1024 elements, fewer than all; with --wide 1 alone [default: 0]",
+    is_required: false,
+    is_flag: false,
+};
+
 // The option `--time N`.
 pub(crate) const TIME: OptionRow = OptionRow {
     name: "time",

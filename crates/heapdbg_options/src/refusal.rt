@@ -23,6 +23,10 @@ pub enum Mistake {
     Regions,
     /// `--regions` is out of its range, and the heap is wide.
     WideRegions,
+    /// `--area` isn't 0, and the heap isn't wide.
+    Area,
+    /// `--area` is no smaller than `--regions`, and the heap is wide.
+    WideArea,
     /// `--mutators` is out of its range.
     Mutators,
     /// `--keep` is out of its range, and the heap isn't wide.
@@ -76,6 +80,8 @@ impl Mistake {
             Mistake::Wide => "--wide takes 0 or 1",
             Mistake::Regions => "--regions takes 1 to 256",
             Mistake::WideRegions => "--regions takes 1 to 65536",
+            Mistake::Area => "--area takes 0 without --wide 1",
+            Mistake::WideArea => "--area takes 0 to one less than the number of --regions",
             Mistake::Mutators => "--mutators takes 1 to 16",
             Mistake::Keep => "--keep takes 1 to 65536",
             Mistake::WideKeep => "--keep takes 1 to 16777216",

@@ -7,7 +7,7 @@ ghost use Rattle.heapdbg_options.specs.declared.refusal.Mistake.TheVariants.{Own
 ghost use Rattle.heapdbg_options.specs.declared.settings.Task.TheVariants.{Explore};
 
 use crate::option_rows::{
-    CommandRow, IDS, KEEP, MUTATORS, OptionRow, PAGE, QUESTIONS, REGIONS, TIME, WIDE,
+    AREA, CommandRow, IDS, KEEP, MUTATORS, OptionRow, PAGE, QUESTIONS, REGIONS, TIME, WIDE,
 };
 use crate::refusal::Mistake;
 use crate::settings::{Origin, Task};
@@ -19,7 +19,7 @@ pub(crate) const RUN: CommandRow = CommandRow {
     name: "run",
     about: "Reads commands from standard input and writes replies to standard output",
     usage: None,
-    options: &[REGIONS, MUTATORS, KEEP, WIDE, TIME, IDS, QUESTIONS],
+    options: &[REGIONS, MUTATORS, KEEP, WIDE, AREA, TIME, IDS, QUESTIONS],
 };
 
 // The command `explore`.
@@ -40,6 +40,10 @@ pub(crate) const EXPLORE: CommandRow = CommandRow {
         OptionRow {
             help: "Whether the heap has wider limits, of classes, names and pins too, 0 or 1 [default: 0, or with --hprof 1]",
             ..WIDE
+        },
+        OptionRow {
+            help: "Last regions of the heap, which hold arrays of more than 1024 elements, fewer than all; with --wide 1 alone [default: 0, or with --hprof a quarter]",
+            ..AREA
         },
         TIME,
         IDS,
@@ -85,6 +89,7 @@ pub(crate) const DRAW: CommandRow = CommandRow {
         MUTATORS,
         KEEP,
         WIDE,
+        AREA,
         TIME,
         IDS,
         OptionRow {

@@ -1,7 +1,7 @@
 //! The settings that a command line asks for.
-ghost use Rattle.std.specs.Prelude.{◌≡◌, ◌↔◌, IfSome, IsSome};
+ghost use Rattle.std.specs.Prelude.{◌≡◌, ◌<◌, ◌↔◌, IfSome, IsSome};
 ghost use Rattle.heap_class.specs.declared.IdSize.TheVariants.{Eight};
-ghost use Rattle.heapdbg_options.specs.CommandLine.{IsHeapWithin, limits_of};
+ghost use Rattle.heapdbg_options.specs.CommandLine.{AreNumbersOf, IsHeapWithin, limits_of, limits_with, usual_limits};
 
 use heap_class::IdSize;
 use heap_world::Config;
@@ -92,6 +92,8 @@ pub struct Settings {
     pub wide: bool,
     /// Regions of the heap, 1 to 256, or 1 to 65,536 if it is wide.
     pub regions: u64,
+    /// The last of these regions that hold arrays of more than 1,024 elements, fewer than all: 0 if the heap isn't wide.
+    pub area: u64,
     /// Mutators of the heap, 1 to 16.
     pub mutators: u64,
     /// Steps that can be undone, 1 to 65,536, or 1 to 2^24 if the heap is wide.
@@ -136,12 +138,13 @@ pub fn config(settings: &Settings) -> Config
         } }
 {
     match config_of_numbers(settings) {
-        Some(config) => config.with_ids(settings.ids),
+        Some(config) => with_area(config.with_ids(settings.ids), settings.area),
         None => unreachable!(),
     }
 }
 
-// Returns the configuration that the settings' numbers give, with ids of 8 bytes, or None if a number is outside its limits.
+// Returns the configuration that the settings' numbers give, with ids of 8 bytes and without an area, or None if a number is outside
+// its limits.
 fn config_of_numbers(settings: &Settings) -> Option<Config>
     ensures given { IfSome result
         (λ c. c
@@ -150,13 +153,25 @@ fn config_of_numbers(settings: &Settings) -> Option<Config>
           mutators = settings.now.mutators;
           keep = settings.now.keep;
           ids = Eight;
-          limits = limits_of settings.now;
+          limits = usual_limits settings.now.wide;
         }) }
-    ensures within { IsSome result ↔ IsHeapWithin settings.now }
+    ensures within { IsSome result
+        ↔ AreNumbersOf settings.now.wide settings.now.regions settings.now.mutators settings.now.keep }
 {
     if settings.wide {
         Config::wide(settings.regions, settings.mutators, settings.keep)
     } else {
         Config::new(settings.regions, settings.mutators, settings.keep)
+    }
+}
+
+// Returns the same configuration with an area of so many regions, or with none if they are 0.
+fn with_area(config: Config, area: u64) -> Config
+    requires { area < config.regions }
+    ensures { result ≡ record config { limits = limits_with area config.limits } }
+{
+    match config.with_area(area) {
+        Some(config) => config,
+        None => config,
     }
 }

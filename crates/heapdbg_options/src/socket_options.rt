@@ -6,7 +6,7 @@ ghost use Rattle.heapdbg_options.specs.Refusals.{IsTaskOrMistake};
 
 use crate::command_line::{flag_from, number, option_value};
 use crate::option_rows::{
-    CommandRow, IDS, KEEP, MUTATORS, OptionRow, PAGE, QUESTIONS, REGIONS, SECRET, TIME, WIDE,
+    AREA, CommandRow, IDS, KEEP, MUTATORS, OptionRow, PAGE, QUESTIONS, REGIONS, SECRET, TIME, WIDE,
 };
 use crate::refusal::Mistake;
 use crate::settings::{Service, Task};
@@ -43,6 +43,7 @@ pub(crate) const SERVE: CommandRow = CommandRow {
         MUTATORS,
         KEEP,
         WIDE,
+        AREA,
         TIME,
         IDS,
         PORT,

@@ -1,5 +1,5 @@
 -- Where walks end, and which sessions they make.
-use Rattle.std.proofs.Common.{◌≡◌, ℕ, List, [], Option, Some, None, refl, sym, arith}
+use Rattle.std.proofs.Common.{ℕ, Bool, List, [], Option, Some, None, refl, sym, arith}
 use Rattle.std.proofs.lemmas.List.{append-nil}
 use Rattle.heap_class.specs.Limits.{widest_classes}
 use Rattle.dump_pump.specs.Outlets.{Outgoing}
@@ -14,7 +14,7 @@ use Rattle.hprof_plan.specs.Finds.{Finds}
 use Rattle.hprof_plan.specs.Plans.{IsPlan}
 use Rattle.hprof_plan.specs.declared.dump.Found.{Found}
 use Rattle.hprof_plan.specs.declared.planning.Plan.{Plan}
-use Rattle.hprof_convert.specs.Conversions.{IsWalkSession}
+use Rattle.hprof_convert.specs.Conversions.{IsWalkSession, elements_with}
 
 none_next : (w : Left) (fault : Option Fault) → EndsAt w fault → (i : ItemTold) (v : Left) → ¬ IsNext w i v
 none_next w None end i v next = omega (arith, walk_end_leaves_no_bytes w end, next_item_leaves_fewer_bytes w i v next)
@@ -24,8 +24,8 @@ pub found_whole : (w : Left) (f : Found) (finds : Finds w f) → IsWhole w finds
 found_whole w f finds = record { end = finds.end; walked = finds.walked; ended = none_next finds.end f.fault finds.ended }
 
 -- what is found and planned makes the session of a walk
-pub found_makes_a_session : (w : Left) (f : Found) (finds : Finds w f) (plan : Plan) → IsPlan widest_classes f plan → IsWalkSession w (session_text plan w.ids f.objects.keys finds.list f.roots.items)
-found_makes_a_session w f finds plan planned = record { items = finds.list; whole = found_whole w f finds; found = f; finds = finds; plan = plan; planned = planned; is = refl }
+pub found_makes_a_session : (area : Bool) (w : Left) (f : Found) (finds : Finds w f) (plan : Plan) → IsPlan widest_classes (elements_with area) f plan → IsWalkSession area w (session_text plan w.ids f.objects.keys finds.list f.roots.items)
+found_makes_a_session area w f finds plan planned = record { items = finds.list; whole = found_whole w f finds; found = f; finds = finds; plan = plan; planned = planned; is = refl }
 
 -- all is a part
 pub all_is_a_part : (old new : Outgoing) (text : List ℕ) → Puts old new text → PutsPart 0 old new text

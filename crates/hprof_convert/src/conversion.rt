@@ -1,6 +1,7 @@
 //! The session of a dump.
 ghost use Rattle.hprof_session.specs.Walks.{left};
-ghost use Rattle.hprof_convert.specs.Conversions.{IsConversion, IsConverted};
+ghost use Rattle.std.specs.Prelude.{◌≡◌};
+ghost use Rattle.hprof_convert.specs.Conversions.{IsConversion, IsConverted, elements_with};
 
 use dump_pump::Outlet;
 use heap_class::WIDEST_CLASSES;
@@ -10,10 +11,16 @@ use hprof_reader::{Fault, header_at};
 use hprof_session::Walk;
 use std::alloc::{AllocError, Global};
 
+// The most elements of an array in a heap without an area.
+const ARRAY_LIMIT: u64 = 1024;
+
+// The most elements of an array in a heap with an area.
+const LARGE_ARRAY_LIMIT: u64 = 2_097_147;
+
 /// What of a dump is left out of its session.
 #[derive(Clone, Copy)]
 pub struct Converted {
-    /// Arrays that are cut to 1,024 elements.
+    /// Arrays that are cut to 1,024 elements, or to 2,097,147 in a heap with an area.
     pub arrays: u64,
     /// Classes over the limit.
     pub classes: u64,
@@ -55,11 +62,16 @@ impl From<AllocError> for Failure {
     }
 }
 
-/// Puts out the session of a dump, and counts what is left out. Fails with Header if the bytes don't begin as a dump does; nothing
-/// is out then. Fails with Memory if an allocation fails, and with Write if a put fails; a part of the session may be out then, from
-/// the front.
-pub fn convert<O: Outlet>(alloc: Global, outlet: &mut O, bytes: &[u8]) -> Result<Converted, Failure>
-    ensures { IsConverted bytes.now (O.seen outlet.old) (O.seen outlet.new) result }
+/// Puts out the session of a dump, for a heap with an area or without one, and counts what is left out. Fails with Header if the
+/// bytes don't begin as a dump does; nothing is out then. Fails with Memory if an allocation fails, and with Write if a put fails; a
+/// part of the session may be out then, from the front.
+pub fn convert<O: Outlet>(
+    alloc: Global,
+    outlet: &mut O,
+    area: bool,
+    bytes: &[u8],
+) -> Result<Converted, Failure>
+    ensures { IsConverted area bytes.now (O.seen outlet.old) (O.seen outlet.new) result }
 {
     match header_at(bytes) {
         Ok(read) => {
@@ -68,7 +80,7 @@ pub fn convert<O: Outlet>(alloc: Global, outlet: &mut O, bytes: &[u8]) -> Result
                 segment: &[],
                 rest: read.1,
             };
-            convert_walk(alloc, outlet, walk, bytes.len() as u64)
+            convert_walk(alloc, outlet, area, walk, bytes.len() as u64)
         }
         Err(_) => Err(Failure::Header),
     }
@@ -78,13 +90,14 @@ pub fn convert<O: Outlet>(alloc: Global, outlet: &mut O, bytes: &[u8]) -> Result
 fn convert_walk<O: Outlet>(
     alloc: Global,
     outlet: &mut O,
+    area: bool,
     walk: Walk<'_>,
     size: u64,
 ) -> Result<Converted, Failure>
-    ensures { IsConversion (left walk.entry) (O.seen outlet.old) (O.seen outlet.new) result }
+    ensures { IsConversion area (left walk.entry) (O.seen outlet.old) (O.seen outlet.new) result }
 {
     let found = find(alloc, walk)?;
-    let plan = plan_classes(alloc, WIDEST_CLASSES, &found)?;
+    let plan = plan_classes(alloc, WIDEST_CLASSES, elements_with(area), &found)?;
     let _number = plan.classes.len();
     let roots = found.roots.as_slice();
     if !write_session(alloc, outlet, walk, &plan, &found.objects, roots)? {
@@ -92,6 +105,13 @@ fn convert_walk<O: Outlet>(
     }
     let left = count_left_out(alloc, walk, &plan, &found.objects, roots)?;
     Ok(left_out_of(&found, &plan, left, size))
+}
+
+// Returns the most elements of an array in a heap with an area, or without one.
+fn elements_with(area: bool) -> u64
+    ensures { result ≡ elements_with area }
+{
+    if area { LARGE_ARRAY_LIMIT } else { ARRAY_LIMIT }
 }
 
 // Returns what is left out: of objects this, and of classes those that have no number.

@@ -2,10 +2,16 @@
 use crate::conversion::Converted;
 use hprof_reader::Fault;
 
-/// Tells on standard error, as the program of this name, what of a dump is left out, in one line, if anything is.
-pub fn tell_left_out<R: Eprint>(rt: &R, program: &str, path: &str, left: &Converted) {
+/// Tells on standard error, as the program of this name, what of a dump is left out, in one line, if anything is. The session
+/// is for a heap with an area, or without one.
+pub fn tell_left_out<R: Eprint>(rt: &R, program: &str, path: &str, area: bool, left: &Converted) {
+    let cut = if area {
+        "cut to 2,097,147 elements"
+    } else {
+        "cut to 1,024 elements"
+    };
     let counts = [
-        (left.arrays, "array", "arrays", "cut to 1,024 elements"),
+        (left.arrays, "array", "arrays", cut),
         (left.classes, "class", "classes", "over 4,096"),
         (left.again, "object", "objects", "with the id of another"),
         (

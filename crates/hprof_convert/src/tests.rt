@@ -30,7 +30,7 @@ clear 0 6
 #[test]
 fn session_of_an_empty_dump(rt: HostRuntime) -> Result<(), Fail> {
     let mut outlet = WriteOutlet::new(Vec::new(rt.alloc()));
-    let converted = convert(rt.alloc(), &mut outlet, &DUMP[..31]);
+    let converted = convert(rt.alloc(), &mut outlet, false, &DUMP[..31]);
     assert_eq!(rt; outlet.into_writer().as_slice(), SESSION);
     let Ok(converted) = converted else {
         return Err("no session".into());
@@ -43,7 +43,7 @@ fn session_of_an_empty_dump(rt: HostRuntime) -> Result<(), Fail> {
 #[test]
 fn fault_of_a_cut_record(rt: HostRuntime) -> Result<(), Fail> {
     let mut outlet = WriteOutlet::new(Vec::new(rt.alloc()));
-    let converted = convert(rt.alloc(), &mut outlet, DUMP);
+    let converted = convert(rt.alloc(), &mut outlet, true, DUMP);
     assert_eq!(rt; outlet.into_writer().as_slice(), SESSION);
     match converted {
         Ok(
@@ -60,7 +60,7 @@ fn fault_of_a_cut_record(rt: HostRuntime) -> Result<(), Fail> {
 #[test]
 fn no_session_without_a_header(rt: HostRuntime) -> Result<(), Fail> {
     let mut outlet = WriteOutlet::new(Vec::new(rt.alloc()));
-    let converted = convert(rt.alloc(), &mut outlet, &DUMP[..30]);
+    let converted = convert(rt.alloc(), &mut outlet, false, &DUMP[..30]);
     assert_eq!(rt; outlet.into_writer().len(), 0);
     match converted {
         Err(Failure::Header) => Ok(()),

@@ -9,7 +9,7 @@ use Rattle.hprof_lines.specs.declared.left_out.LeftOut.{LeftOut}
 use Rattle.hprof_lines.specs.declared.values.SlotValue.{SlotValue}
 use Rattle.hprof_lines.specs.Objects.{ObjectsTold, names_object, number_of}
 use Rattle.hprof_lines.specs.Passes.{is_turn, next_place}
-use Rattle.hprof_lines.specs.Slots.{element_limit, kinds_of, object_values}
+use Rattle.hprof_lines.specs.Slots.{kinds_of, object_values}
 
 -- nothing
 abbrev pub none_left_out : LeftOut
@@ -36,8 +36,8 @@ count_of (prim x trace count kind elements) = count
 count_of _ = 0
 
 -- 1 for an array that is cut
-abbrev pub cuts_of : Sub → ℕ
-cuts_of s = if nat_lt element_limit (count_of s) then 1 else 0
+abbrev pub cuts_of : Plan → Sub → ℕ
+cuts_of p s = if nat_lt p.elements (count_of s) then 1 else 0
 
 -- whether a slot names an object that isn't made
 abbrev pub is_lost : ObjectsTold → SlotValue → Bool
@@ -46,7 +46,7 @@ is_lost o v = names_object v && is_none (number_of o v.value)
 -- what is left out of an object of which this tells whether it is made
 abbrev pub left_out_if : Bool → ObjectsTold → Sub → LeftOut
 left_out_if true o s = record {
-  arrays = cuts_of s;
+  arrays = cuts_of o.plan s;
   objects = 0;
   references = count_by (is_lost o) (object_values o.plan o.ids s);
   roots = 0;

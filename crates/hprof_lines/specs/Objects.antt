@@ -14,7 +14,7 @@ use Rattle.hprof_session.specs.Places.{fetch_events, keep_event, place_events}
 use Rattle.hprof_lines.specs.declared.objects.Objects.{Objects}
 use Rattle.hprof_plan.specs.declared.planning.Plan.{Plan}
 use Rattle.hprof_lines.specs.declared.values.SlotValue.{SlotValue}
-use Rattle.hprof_lines.specs.Slots.{element_limit, object_values}
+use Rattle.hprof_lines.specs.Slots.{object_values}
 
 -- what is known of the objects of a dump, wherever it lies in memory: the ids of the objects in order, which of them are made,
 -- and the ids of the classes that have an object for their static fields
@@ -86,14 +86,14 @@ instance_made p c = if is_instance_class p.classes c then Some (New 0 5 c) else 
 
 -- an array of references is made, if this is the number of an array class
 abbrev pub array_made : Plan → ℕ → ℕ → Option Event
-array_made p count c = if is_array_class p.classes c then Some (NewArray 0 5 c (min count element_limit)) else None
+array_made p count c = if is_array_class p.classes c then Some (NewArray 0 5 c (min count p.elements)) else None
 
 -- the event that makes an object, if it is made
 unfoldable pub making_event : Plan → Sub → Option Event
 making_event p (instance x trace k bytes) = option_and_then (instance_made p) (index_of nat_eq p.kinds k)
 making_event p (array x trace count k bytes) = option_and_then (array_made p count) (index_of nat_eq p.kinds k)
 making_event p (prim x trace count kind bytes) =
-    if is_reference kind then None else Some (NewPrim 0 5 kind (min count element_limit))
+    if is_reference kind then None else Some (NewPrim 0 5 kind (min count p.elements))
 making_event p _ = None
 
 -- object n is made by this event, if by any, its values are written, and it is kept

@@ -32,14 +32,10 @@ values_up p ids c (suc n) (Some k) bytes =
 abbrev pub instance_values : Plan → IdSize → ℕ → List ℕ → List SlotValue
 instance_values p ids c bytes = values_up p ids c (length p.classes) (Some c) bytes
 
--- the most elements of an array that are kept
-abbrev pub element_limit : ℕ
-element_limit = 1024
-
 -- the values of the slots of an object that are kept
 unfoldable pub object_values : Plan → IdSize → Sub → List SlotValue
 object_values p ids (instance x trace k bytes) =
     option_map_or (λ c. instance_values p ids c bytes) (index_of nat_eq p.kinds k) []
-object_values p ids (array x trace count k bytes) = elements_from ids Kind.Object (min count element_limit) 0 bytes
-object_values p ids (prim x trace count kind bytes) = elements_from ids kind (min count element_limit) 0 bytes
+object_values p ids (array x trace count k bytes) = elements_from ids Kind.Object (min count p.elements) 0 bytes
+object_values p ids (prim x trace count kind bytes) = elements_from ids kind (min count p.elements) 0 bytes
 object_values p ids _ = []

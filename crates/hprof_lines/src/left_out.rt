@@ -11,7 +11,7 @@ ghost use Rattle.hprof_lines.specs.Sessions.{told_objects};
 use crate::objects::{Objects, made_at, names_object, number_of};
 use crate::passes::{is_turn, made_objects};
 use crate::session::static_ids;
-use crate::slots::{ELEMENT_LIMIT, kinds_of, read_object};
+use crate::slots::{kinds_of, read_object};
 use crate::values::SlotValue;
 use hprof_plan::{Plan, RootFound};
 use hprof_reader::SubRecord;
@@ -155,7 +155,7 @@ fn left_out_of(
     }
     read_object(values, all.ids, all.plan, sub)?;
     Ok(LeftOut {
-        arrays: cuts_of(sub),
+        arrays: cuts_of(all.plan, sub),
         objects: 0,
         references: lost_in(all, values.as_slice()),
         roots: 0,
@@ -164,10 +164,10 @@ fn left_out_of(
 }
 
 // Returns 1 for an array that is cut.
-fn cuts_of(sub: &SubRecord<'_>) -> u64
-    ensures { result ≡ cuts_of (sub_record sub.now) }
+fn cuts_of(plan: &Plan<'_>, sub: &SubRecord<'_>) -> u64
+    ensures { result ≡ cuts_of plan.now (sub_record sub.now) }
 {
-    if ELEMENT_LIMIT < count_of(sub) { 1 } else { 0 }
+    if plan.elements < count_of(sub) { 1 } else { 0 }
 }
 
 // Returns how many elements an array has.

@@ -7,7 +7,7 @@ ghost use Rattle.hprof_reader.specs.SubRecords.{sub_record};
 ghost use Rattle.hprof_session.specs.Places.{lines_of};
 ghost use Rattle.hprof_lines.specs.Objects.{array_made, instance_made, links_of, made_events, making_event, names_object, number_of, object_events, objects_told, reference_events, value_events};
 
-use crate::slots::{ELEMENT_LIMIT, read_object};
+use crate::slots::read_object;
 use crate::values::SlotValue;
 use heap_class::{IdSize, Kind};
 use heap_step::Event;
@@ -159,7 +159,7 @@ pub(crate) fn making_event(plan: &Plan<'_>, sub: &SubRecord<'_>) -> Option<Event
                 m: 0,
                 r: MADE,
                 kind: array.kind,
-                len: (array.count as u64).min(ELEMENT_LIMIT),
+                len: (array.count as u64).min(plan.elements),
             })
         },
         SubRecord::Root(_) => None,
@@ -199,7 +199,7 @@ fn array_event(plan: &Plan<'_>, id: u64, count: u32) -> Option<Event>
                 m: 0,
                 r: MADE,
                 class,
-                len: (count as u64).min(ELEMENT_LIMIT),
+                len: (count as u64).min(plan.elements),
             })
         } else {
             None

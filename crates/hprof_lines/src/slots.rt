@@ -10,9 +10,6 @@ use hprof_plan::Plan;
 use hprof_reader::SubRecord;
 use std::alloc::AllocError;
 
-/// The most elements of an array.
-pub const ELEMENT_LIMIT: u64 = 1024;
-
 /// Puts the values of the slots of an object that are kept in place of those given. Fails if an allocation fails.
 #[tactic(auto, unfolding(crate::specs::Slots::object_values))]
 pub(crate) fn read_object(
@@ -31,11 +28,11 @@ pub(crate) fn read_object(
             None => Ok(()),
         },
         SubRecord::ObjectArray(array) => {
-            let count = (array.count as u64).min(ELEMENT_LIMIT);
+            let count = (array.count as u64).min(plan.elements);
             add_elements(slots, ids, Kind::Object, count, array.elements)
         }
         SubRecord::PrimArray(array) => {
-            let count = (array.count as u64).min(ELEMENT_LIMIT);
+            let count = (array.count as u64).min(plan.elements);
             add_elements(slots, ids, array.kind, count, array.elements)
         }
         SubRecord::Root(_) => Ok(()),

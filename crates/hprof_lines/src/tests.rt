@@ -146,6 +146,7 @@ fn plan(alloc: Global) -> Result<Plan<'static>, Fail> {
         kinds,
         statics,
         roots: 3,
+        elements: 1024,
     })
 }
 

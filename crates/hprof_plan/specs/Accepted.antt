@@ -1,5 +1,5 @@
 -- Classes that a heap takes, one after another, and the lines that define them.
-use Rattle.std.specs.Prelude.{◌≡◌, ℕ, ◌+◌, List, [], ◌∷◌, ◌++◌, length, map, None, flat_map, cond}
+use Rattle.std.specs.Prelude.{◌≡◌, ℕ, List, [], ◌∷◌, ◌++◌, length, map, None, flat_map, cond}
 use Rattle.heap_class.specs.declared.ClassLimits.{ClassLimits}
 use Rattle.heap_class.specs.Classes.{Class, class_refusal}
 use Rattle.heap_step.specs.declared.Event.{Event}

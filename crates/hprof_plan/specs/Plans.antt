@@ -59,8 +59,8 @@ planned_classes limits f =
     and_arrays limits (and_statics limits f of_dump (planned_statics limits f)) root_names
 
 -- the plan of the session of a dump: its classes, of which a heap with these limits refuses none, their lines, and the kinds of
--- fields and the static fields that they stand for. The 10 classes of roots come last
-pub record IsPlan (limits : ClassLimits) (f : Found) (p : Plan) : Type 0 where
+-- fields and the static fields that they stand for. The 10 classes of roots come last. Arrays have at most so many elements
+pub record IsPlan (limits : ClassLimits) (most : ℕ) (f : Found) (p : Plan) : Type 0 where
   pub classes : p.classes ≡ planned_classes limits f
   pub kinds : kinds_told p.kinds.entries ≡ map (λ id. (id, kinds_in f id)) (planned_ids limits f)
   pub statics : statics_told p.statics.items ≡ planned_statics limits f
@@ -68,3 +68,4 @@ pub record IsPlan (limits : ClassLimits) (f : Found) (p : Plan) : Type 0 where
   pub accepted : AreAccepted limits [] p.classes
   pub placed : length p.kinds.entries + length p.statics.items ≡ p.roots
   pub counted : length p.classes ≡ p.roots + 10
+  pub elements : p.elements ≡ most

@@ -40,18 +40,22 @@ pub struct Plan<'a> {
     pub statics: Vec<Statics<'a>>,
     /// The number of the class `roots`.
     pub roots: u64,
+    /// The most elements of an array.
+    pub elements: u64,
 }
 
-/// Plans the classes of the session of a dump, for a heap with these limits. Fails if an allocation fails.
+/// Plans the classes of the session of a dump, for a heap with these limits whose arrays have at most `elements` elements. Fails if
+/// an allocation fails.
 pub fn plan_classes<'a>(
     alloc: Global,
     limits: ClassLimits,
+    elements: u64,
     found: &Found<'a>,
 ) -> Result<Plan<'a>, AllocError>
     requires limits { AreClassLimits limits }
     requires long { 22 ≤ limits.name_bytes }
     requires room { 10 ≤ limits.classes }
-    ensures { IfOk result (IsPlan limits found.now) }
+    ensures { IfOk result (IsPlan limits elements found.now) }
 {
     let room = limits.classes - 10;
     let planned = plan_dump(alloc, limits, room, found)?;
@@ -71,6 +75,7 @@ pub fn plan_classes<'a>(
         kinds,
         statics,
         roots,
+        elements,
     })
 }
 

@@ -10,7 +10,7 @@ use Rattle.heap_class.specs.declared.Kind.TheVariants.{Boolean, Char, Float, Dou
 use Rattle.heap_class.specs.Kinds.{id_bytes, width_of}
 use Rattle.heap_class.specs.declared.ObjKind.{ObjKind}
 use Rattle.heap_class.specs.declared.ObjKind.TheVariants.{Instance, Array, Prim}
-use Rattle.heap_class.specs.Limits.{array_limit}
+use Rattle.heap_class.specs.Limits.{large_array_limit}
 use Rattle.heap_class.specs.Classes.{Class, slots_of, instance_size, IsClassTable}
 use Rattle.heap_class.proofs.FewSlots.{slots_few}
 use Rattle.hprof_text.specs.Image.{IsKnown}
@@ -44,8 +44,8 @@ pub id_small : (ids : IdSize) → id_bytes ids ≤ 8
 id_small Four = omega arith
 id_small Eight = omega arith
 
-pub dump_size_small : (ids : IdSize) (classes : List Class) → IsClassTable [] classes → (kind : ObjKind) (n : ℕ) → IsKnown classes kind n → n ≤ array_limit → dump_size ids classes kind n ≤ 8217
+pub dump_size_small : (ids : IdSize) (classes : List Class) → IsClassTable [] classes → (kind : ObjKind) (n : ℕ) → IsKnown classes kind n → n ≤ large_array_limit → dump_size ids classes kind n ≤ 16777201
 unfolding dump_size
 dump_size_small ids classes t (Instance k) n h l = omega (arith, id_small ids, instance_small ids classes k (slots_few classes t k))
-dump_size_small ids classes t (Array k) n h l = omega (arith, id_small ids, mul-le (id_bytes ids) n 8 1024 (id_small ids) l)
-dump_size_small ids classes t (Prim kind) n h l = omega (arith, id_small ids, mul-le (width_of ids kind) n 8 1024 (width_small ids kind) l)
+dump_size_small ids classes t (Array k) n h l = omega (arith, id_small ids, mul-le (id_bytes ids) n 8 2097147 (id_small ids) l)
+dump_size_small ids classes t (Prim kind) n h l = omega (arith, id_small ids, mul-le (width_of ids kind) n 8 2097147 (width_small ids kind) l)

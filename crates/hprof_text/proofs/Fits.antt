@@ -12,7 +12,7 @@ use Rattle.heap_class.specs.declared.Kind.{Kind}
 use Rattle.heap_class.specs.declared.Field.{Field}
 use Rattle.heap_class.specs.declared.ObjKind.{ObjKind}
 use Rattle.heap_class.specs.declared.ObjKind.TheVariants.{Instance, Array, Prim}
-use Rattle.heap_class.specs.Limits.{array_limit}
+use Rattle.heap_class.specs.Limits.{large_array_limit}
 use Rattle.heap_class.specs.Kinds.{type_code}
 use Rattle.heap_class.specs.Classes.{slots_of, name_table, name_id, instance_size}
 use Rattle.hprof_text.specs.Image.{Image, IsKnown, IsDumpable}
@@ -39,16 +39,16 @@ type_code_fits_byte _ = omega arith
 
 -- ---- the segments
 
--- the body of a sub-record or of a segment has at most 8217 bytes
+-- the body of a sub-record or of a segment has at most 16777201 bytes
 abbrev IsBodyWithinMost : ℕ → Type 0
-IsBodyWithinMost n = n ≤ 8217
+IsBodyWithinMost n = n ≤ 16777201
 
-open_segment_sizes_are_short : (size : ℕ) (ns : List ℕ) → size ≤ 8217 → All IsBodyWithinMost ns → All IsBodyWithinMost (sizes_at segment_limit size ns)
+open_segment_sizes_are_short : (size : ℕ) (ns : List ℕ) → size ≤ 16777201 → All IsBodyWithinMost ns → All IsBodyWithinMost (sizes_at segment_limit size ns)
 unfolding sizes_at
 open_segment_sizes_are_short size [] h a = All-cons IsBodyWithinMost size [] h (All-nil IsBodyWithinMost)
 open_segment_sizes_are_short size (n ∷ ns) h a = go (nat_le (size + n) segment_limit) refl (λ l. open_segment_sizes_are_short (size + n) ns l (All-tail IsBodyWithinMost n ns a)) (open_segment_sizes_are_short n ns (All-head IsBodyWithinMost n ns a) (All-tail IsBodyWithinMost n ns a))
   where
-    go : (b : Bool) → nat_le (size + n) segment_limit ≡ b → (size + n ≤ 8217 → All IsBodyWithinMost (sizes_at segment_limit (size + n) ns)) → All IsBodyWithinMost (sizes_at segment_limit n ns)
+    go : (b : Bool) → nat_le (size + n) segment_limit ≡ b → (size + n ≤ 16777201 → All IsBodyWithinMost (sizes_at segment_limit (size + n) ns)) → All IsBodyWithinMost (sizes_at segment_limit n ns)
         → All IsBodyWithinMost (elim b [ true ↦ sizes_at segment_limit (size + n) ns | false ↦ size ∷ sizes_at segment_limit n ns ])
     go true e fits over = fits (let l : size + n ≤ 4096 = grind (arith, e) in omega (arith, l))
     go false e fits over = All-cons IsBodyWithinMost size (sizes_at segment_limit n ns) h over
@@ -68,7 +68,7 @@ segment_sizes_fit_four_bytes ids image d =
     unmapped : (ss : List (List (List ℕ))) → All IsBodyWithinMost (map size_of ss) → All (λ s. FitsBytes 4 (size_of s)) ss
     unmapped [] a = All-nil (λ s. FitsBytes 4 (size_of s))
     unmapped (s ∷ ss) a =
-        let h : size_of s ≤ 8217 = All-head IsBodyWithinMost (size_of s) (map size_of ss) a in
+        let h : size_of s ≤ 16777201 = All-head IsBodyWithinMost (size_of s) (map size_of ss) a in
         All-cons (λ s. FitsBytes 4 (size_of s)) s ss (omega (arith, h)) (unmapped ss (All-tail IsBodyWithinMost (size_of s) (map size_of ss) a))
 
 -- ---- each part
@@ -110,7 +110,7 @@ module _ (ids : IdSize) (image : Image) (d : IsDumpable image) where
       (λ k c l s. (small_number_fits_id ids (class_id k) (omega (arith, l, d.few_classes)), sup_fits c.sup s.sup, size_fits k, omega (arith, s.fields), fields_fit c.fields))
       (classes_small image.classes d.classes)
 
-  dump_fits : (kind : ObjKind) (words : List ℕ) → IsKnown image.classes kind (length words) → length words ≤ array_limit → DumpFits ids image.classes kind words
+  dump_fits : (kind : ObjKind) (words : List ℕ) → IsKnown image.classes kind (length words) → length words ≤ large_array_limit → DumpFits ids image.classes kind words
   unfolding instance_size
   dump_fits (Instance k) words h l = (
     small_number_fits_id ids (class_id k) (omega (arith, h.0, d.few_classes)),

@@ -5,7 +5,7 @@ use Rattle.std.proofs.lemmas.Option.{slice_get_within, slice_get_past, slice_get
 use Rattle.std.proofs.lemmas.List.{length-map, get_or-map}
 use Rattle.std.proofs.lemmas.List.Elements.{All-map}
 use Rattle.heap_class.specs.Classes.{Class, IsClassTable}
-use Rattle.heap_class.specs.Limits.{class_limit, array_limit}
+use Rattle.heap_class.specs.Limits.{class_limit, large_array_limit}
 use Rattle.heap_class.specs.declared.ObjRef.{ObjRef}
 use Rattle.hprof_text.specs.declared.list_view.ListedObject.{ListedObject}
 use Rattle.hprof_text.specs.Image.{DumpedObject, IsKnown, IsDumpable}
@@ -64,7 +64,7 @@ listable_objects_are_dumpable classes registers os t c r n h = record {
   few_registers = r;
   few_objects = omega (arith, n, length-map os dumped_object);
   known = All-map (λ (o : DumpedObject). IsKnown classes o.kind (length o.words)) dumped_object os (λ k d l. (h k d l).0);
-  small = All-map (λ (o : DumpedObject). length o.words ≤ array_limit) dumped_object os (λ k d l. (h k d l).1);
+  small = All-map (λ (o : DumpedObject). length o.words ≤ large_array_limit) dumped_object os (λ k d l. (h k d l).1);
 }
 
 pub dumpable_list_is_listable : (classes : List Class) (registers : List ℕ) (os : List ListedObject) → IsDumpable (image_of_list classes registers os) → (length registers ≤ 128) × (length os ≤ 16777216) × All (IsListable classes) os
@@ -75,6 +75,6 @@ dumpable_list_is_listable classes registers os h = (
       let e = get_or-map dumped_object os k d (dumped_object d) l in
       let n : k < length (map dumped_object os) = omega (arith, l, length-map os dumped_object) in
       let K : DumpedObject → Type 0 = λ o. IsKnown classes o.kind (length o.words) in
-      let S : DumpedObject → Type 0 = λ o. length o.words ≤ array_limit in
+      let S : DumpedObject → Type 0 = λ o. length o.words ≤ large_array_limit in
       (subst K e (h.known k (dumped_object d) n), subst S e (h.small k (dumped_object d) n)),
 )

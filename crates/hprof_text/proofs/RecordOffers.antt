@@ -5,23 +5,32 @@ use Rattle.std.proofs.lemmas.Bool.Decides.{leb_tells}
 use Rattle.hprof_text.specs.SegmentContents.{Buffered, HasRoom}
 use Rattle.hprof_text.specs.SegmentFilling.{takes, IsOffered}
 use Rattle.hprof_text.specs.Segments.{segment_limit}
+use Rattle.hprof_text.specs.Sizes.{sub_record_limit}
 
 -- what a segment's buffer has
 abbrev pub IsOfSegment : Buffered → Type 0
-IsOfSegment b = (9 ≤ length b.written) × (length b.written ≤ 8226) × (b.limit ≡ 8226)
+IsOfSegment b =
+    (9 ≤ length b.written) × (length b.written ≤ 9 + sub_record_limit) × (9 + segment_limit ≤ b.limit)
 
-taken_record_keeps_body_short : (body : List ℕ) (n : ℕ) → takes body n ≡ true → n ≤ 8217 → length body + n ≤ 8217
-taken_record_keeps_body_short [] n t h = omega (arith, h)
-taken_record_keeps_body_short (b ∷ bs) n t h = elim (leb_tells (length (b ∷ bs) + n) segment_limit) [ inl p ↦ omega (arith, p.1) | inr p ↦ absurd (differ (sym t ∙ p.0)) ]
+taken_record_keeps_body_within : (most : ℕ) (body : List ℕ) (n : ℕ) → takes body n ≡ true → segment_limit ≤ most → n ≤ most → length body + n ≤ most
+taken_record_keeps_body_within most [] n t s h = omega (arith, h)
+taken_record_keeps_body_within most (b ∷ bs) n t s h = elim (leb_tells (length (b ∷ bs) + n) segment_limit) [ inl p ↦ omega (arith, p.1, s) | inr p ↦ absurd (differ (sym t ∙ p.0)) ]
   where
     differ : ◌≡◌ {A = Bool} true false → ⊥
     differ e = cc
 
-pub taken_record_has_room : (b : Buffered) (body x : List ℕ) (n : ℕ) → drop 9 b.written ≡ body → IsOfSegment b → n ≡ length x → n ≤ 8217 → takes body n ≡ true → HasRoom b x
-taken_record_has_room b body x n v i e h t = omega (arith, taken_record_keeps_body_short body n t h, ap length v, length-drop 9 b.written, i.0, i.2, e)
+-- there is room for a short record
+pub taken_record_has_room : (b : Buffered) (body x : List ℕ) (n : ℕ) → drop 9 b.written ≡ body → IsOfSegment b → n ≡ length x → n ≤ segment_limit → takes body n ≡ true → HasRoom b x
+taken_record_has_room b body x n v i e h t = omega (arith, taken_record_keeps_body_within segment_limit body n t (omega arith) h, ap length v, length-drop 9 b.written, i.0, i.2, e)
 
-pub written_segment_is_segment : (b c : Buffered) (x : List ℕ) → IsOfSegment b → HasRoom b x → c.written ≡ b.written ++ x → c.limit ≡ b.limit → IsOfSegment c
-written_segment_is_segment b c x i r w l = (omega (arith, i.0, ap length w, length-append b.written x), omega (arith, i.2, r, ap length w, length-append b.written x), l ∙ i.2)
+pub written_segment_is_segment : (b c : Buffered) (body x : List ℕ) (n : ℕ) → drop 9 b.written ≡ body → IsOfSegment b → n ≡ length x → n ≤ sub_record_limit → takes body n ≡ true → c.written ≡ b.written ++ x → c.limit ≡ b.limit → IsOfSegment c
+written_segment_is_segment b c body x n v i e h t w l =
+    let all : length c.written ≡ length b.written + length x = ap length w ∙ length-append b.written x in
+    (omega (arith, i.0, all), omega (arith, all, taken_record_keeps_body_within sub_record_limit body n t (omega arith) h, ap length v, length-drop 9 b.written, i.0, e), omega (arith, i.2, l))
+
+-- a segment's buffer to which room was added
+pub reserved_segment_is_segment : (b c : Buffered) → IsOfSegment b → c.written ≡ b.written → b.limit ≤ c.limit → IsOfSegment c
+reserved_segment_is_segment b c i w l = (omega (arith, i.0, ap length w), omega (arith, i.1, ap length w), omega (arith, i.2, l))
 
 pub taken_record_is_offered : (b c : Buffered) (body x : List ℕ) (n : ℕ) (taken : Bool) → drop 9 b.written ≡ body → IsOfSegment b → n ≡ length x → taken ≡ takes body n → taken ≡ true → c.written ≡ b.written ++ x → IsOffered x body (drop 9 c.written) taken
 taken_record_is_offered b c body x n taken v i e t y w =

@@ -82,7 +82,7 @@ section_items_are_items ids image (Numbered RegisterRoots) = All-map IsItem (λ 
 -- ---- each is short
 
 abbrev pub IsWithin : List ℕ → Type 0
-IsWithin x = length x ≤ 8217
+IsWithin x = length x ≤ 16777201
 
 single_record_within_limit : (x : List ℕ) → IsWithin x → All IsWithin (x ∷ [])
 single_record_within_limit x h = All-cons IsWithin x [] h (All-nil IsWithin)

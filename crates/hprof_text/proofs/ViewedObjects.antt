@@ -6,7 +6,7 @@ use Rattle.heap_class.specs.declared.IdSize.{IdSize}
 use Rattle.heap_class.specs.Classes.{Class}
 use Rattle.heap_class.specs.declared.ObjKind.{ObjKind}
 use Rattle.heap_class.specs.declared.ObjRef.{ObjRef}
-use Rattle.heap_class.specs.Limits.{array_limit}
+use Rattle.heap_class.specs.Limits.{large_array_limit}
 pub use Rattle.heap_class.proofs.Lists.{got_is_in as is_there}
 use Rattle.hprof_text.specs.Image.{Image, DumpedObject, IsKnown, IsDumpable}
 use Rattle.hprof_text.specs.declared.section.Section.TheVariants.{Objects}
@@ -23,7 +23,7 @@ pub record IsHere (image : Image) (i : ℕ) (kind : ObjKind) (words : List ℕ) 
   pub same_kind : kind ≡ object.kind
   pub same_words : words ≡ object.words
   pub known : IsKnown image.classes kind (length words)
-  pub small : length words ≤ array_limit
+  pub small : length words ≤ large_array_limit
 
 pub here : (image : Image) (places : List ObjRef) (i : ℕ) (at : ObjRef) (kind : ObjKind) (words : List ℕ) → IsDumpable image → length places ≡ length image.objects → slice_get places i ≡ Some at
     → IfSome (slice_get image.objects i) (λ o. kind ≡ o.kind) → IfSome (slice_get image.objects i) (λ o. words ≡ o.words) → IsHere image i kind words
@@ -37,12 +37,12 @@ here image places i at kind words d n e k w =
     let sw : words ≡ o.words = subst W p.1 w in
     let g : get_or image.objects i o ≡ o = get_or_from_slice_get image.objects i o o p.1 in
     let A : DumpedObject → Type 0 = λ x. IsKnown image.classes x.kind (length x.words) in
-    let B : DumpedObject → Type 0 = λ x. length x.words ≤ array_limit in
+    let B : DumpedObject → Type 0 = λ x. length x.words ≤ large_array_limit in
     let kn : A o = subst A g (d.known i o h) in
     let sm : B o = subst B g (d.small i o h) in
     let C : ObjKind → Type 0 = λ x. IsKnown image.classes x (length o.words) in
     let D : List ℕ → Type 0 = λ x. IsKnown image.classes kind (length x) in
-    let F : List ℕ → Type 0 = λ x. length x ≤ array_limit in
+    let F : List ℕ → Type 0 = λ x. length x ≤ large_array_limit in
     record { object = o; there = p.1; same_kind = sk; same_words = sw; known = subst D (sym sw) (subst C (sym sk) kn); small = subst F (sym sw) sm }
 
 pub object_bytes_are : (ids : IdSize) (image : Image) (j : ℕ) (o : DumpedObject) (s : IdSize) (cs : List Class) (x : ℕ) (kind : ObjKind) (words : List ℕ) → slice_get image.objects j ≡ Some o → s ≡ ids → cs ≡ image.classes

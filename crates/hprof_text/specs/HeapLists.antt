@@ -3,7 +3,7 @@ use Rattle.std.specs.Prelude.{ℕ, zero, suc, ◌+◌, ◌≤◌, List, [], ◌�
 use Rattle.heap_class.specs.declared.IdSize.{IdSize}
 use Rattle.heap_class.specs.declared.ObjRef.{ObjRef}
 use Rattle.heap_class.specs.Classes.{Class}
-use Rattle.heap_class.specs.Limits.{array_limit}
+use Rattle.heap_class.specs.Limits.{large_array_limit}
 use Rattle.hprof_text.specs.declared.list_view.ListedObject.{ListedObject}
 use Rattle.hprof_text.specs.Image.{Image, DumpedObject, IsKnown}
 
@@ -28,7 +28,7 @@ image_of_list classes registers objects =
 -- the object's kind is known, and its words are few enough
 abbrev pub IsListable : List Class → ListedObject → Type 0
 IsListable classes o =
-    IsKnown classes o.kind (length o.words.items) × (length o.words.items ≤ array_limit)
+    IsKnown classes o.kind (length o.words.items) × (length o.words.items ≤ large_array_limit)
 
 -- object i stands in region 0 at cell i
 abbrev pub listed_place : ℕ → ObjRef

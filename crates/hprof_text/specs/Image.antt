@@ -3,7 +3,7 @@ use Rattle.std.specs.Prelude.{◌≡◌, ℕ, ◌<◌, ◌≤◌, List, [], leng
 use Rattle.heap_class.specs.declared.ObjKind.{ObjKind}
 use Rattle.heap_class.specs.declared.ObjKind.TheVariants.{Instance, Array, Prim}
 use Rattle.heap_class.specs.Classes.{Class, IsClassTable, slots_of}
-use Rattle.heap_class.specs.Limits.{class_limit, array_limit}
+use Rattle.heap_class.specs.Limits.{class_limit, large_array_limit}
 
 -- an object of a dump: its id, its kind and the words of its slots
 pub record DumpedObject : Type 0 where
@@ -38,4 +38,4 @@ pub record IsDumpable (image : Image) : Type 0 where
   pub few_registers : length image.registers ≤ register_limit
   pub few_objects : length image.objects ≤ object_limit
   pub known : All (λ o. IsKnown image.classes o.kind (length o.words)) image.objects
-  pub small : All (λ o. length o.words ≤ array_limit) image.objects
+  pub small : All (λ o. length o.words ≤ large_array_limit) image.objects

@@ -19,6 +19,6 @@ AddsSizes sizes old new = (more : List ℕ) → total_with new more ≡ total_wi
 abbrev pub IsMeasured : List (List ℕ) → List (List ℕ) → Measure → Measure → Type 0
 IsMeasured rest left old new = total_with new (map length left) ≡ total_with old (map length rest)
 
--- the most bytes that the items of a section add, with the heads of their segments: 2^24 sub-records of 8,217 bytes
+-- the most bytes that the items of a section add, with the heads of their segments: 2^24 sub-records of 16,777,201 bytes
 abbrev pub section_limit : ℕ
-section_limit = 138009378816
+section_limit = 281474876047360

@@ -13,9 +13,13 @@ use Rattle.hprof_text.specs.Segments.{segment_limit, sizes_at, segment_sizes}
 abbrev pub class_size_limit : ℕ
 class_size_limit = 647
 
--- the largest size of a sub-record: that of an array of 1,024 identifiers of 8 bytes
+-- the largest size of the sub-record of an instance: one of 64 values of 8 bytes
+abbrev pub instance_dump_limit : ℕ
+instance_dump_limit = 537
+
+-- the largest size of a sub-record: that of an array of 2,097,147 identifiers of 8 bytes
 abbrev pub sub_record_limit : ℕ
-sub_record_limit = 8217
+sub_record_limit = 16777201
 
 -- the largest size of the UTF8 record of a name: one of 255 bytes, with an id of 8 bytes
 abbrev pub utf8_size_limit : ℕ

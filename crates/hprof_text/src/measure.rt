@@ -29,7 +29,7 @@ impl Measure {
     /// Adds a sub-record of `size` bytes.
     pub fn add(&mut self, size: u64)
         requires some { 0 < size }
-        requires limit { self.old.closed + self.old.body + size < 2 ^ 41 }
+        requires limit { self.old.closed + self.old.body + size < 2 ^ 51 }
         ensures added { AddsSizes (size ∷ []) self.old self.new }
         ensures limit { self.new.closed + self.new.body
             ≤ self.old.closed + self.old.body + size + 9 }
@@ -44,7 +44,7 @@ impl Measure {
 
     // Adds the sub-records of a view's items of a section.
     fn add_items<V: View>(&mut self, view: &V, section: NumberedSection)
-        requires { self.old.closed + self.old.body < 2 ^ 40 }
+        requires { self.old.closed + self.old.body < 2 ^ 50 }
         ensures added { IsMeasured
             (from_item (V.ids view.now) (V.image view.now) (Numbered section) 0)
             (records_in (V.ids view.now) (V.image view.now) (after (Numbered section))) self.old
@@ -63,7 +63,7 @@ impl Measure {
 
     // Adds the sub-records of a view's objects.
     fn add_objects<V: View>(&mut self, view: &V)
-        requires { self.old.closed + self.old.body < 2 ^ 40 }
+        requires { self.old.closed + self.old.body < 2 ^ 50 }
         ensures added { IsMeasured (from_item (V.ids view.now) (V.image view.now) Objects 0)
             (records_in (V.ids view.now) (V.image view.now) (after Objects)) self.old self.new }
         ensures limit { self.new.closed + self.new.body
@@ -83,7 +83,7 @@ impl Measure {
 
     /// Returns the size of all segments, with their heads, in bytes.
     pub fn total(self) -> u64
-        requires { self.closed + self.body < 2 ^ 41 }
+        requires { self.closed + self.body < 2 ^ 51 }
         ensures { result ≡ total self }
     {
         if self.body == 0 {
@@ -98,7 +98,7 @@ impl Measure {
 pub fn segments_size<V: View>(view: &V) -> u64
     ensures value { result
         ≡ records_size (map length (sub_records (V.ids view.now) (V.image view.now))) }
-    ensures limit { result < 2 ^ 40 }
+    ensures limit { result < 2 ^ 50 }
 {
     let mut measure = Measure::new();
     let mut next = Some(Section::first());

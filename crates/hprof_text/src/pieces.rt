@@ -43,70 +43,86 @@ impl Segment {
         None
     }
 
-    // Offers the sub-records of a view's objects from a place on. Returns the cursor at the first that wasn't taken.
+    // Offers the sub-records of a view's objects from a place on. Returns the cursor at the first that wasn't taken. Fails with
+    // NoMemory if an allocation fails.
     #[inline(always)]
-    fn fill_objects<V: View>(&mut self, view: &V, from: Option<ObjRef>) -> Option<Cursor>
+    fn fill_objects<V: View>(
+        &mut self,
+        view: &V,
+        from: Option<ObjRef>,
+    ) -> Result<Option<Cursor>, Refusal>
         requires { (n : ℕ) × (from ≡ slice_get (V.places view.now) n)
             × (n ≤ length (V.places view.now)) }
-        ensures { (n : ℕ) → from ≡ slice_get (V.places view.now) n → n ≤ length (V.places view.now)
-            → IsFilledFrom (V.ids view.now) (V.image view.now) (V.places view.now) Objects n result
-            self.old self.new }
+        ensures filled { IfOk result
+            (λ left. (n : ℕ) → from ≡ slice_get (V.places view.now) n
+            → n ≤ length (V.places view.now)
+            → IsFilledFrom (V.ids view.now) (V.image view.now) (V.places view.now) Objects n left
+            self.old self.new) }
+        ensures refused { IfErr result (λ e. e ≡ NoMemory) }
     {
         let classes = view.classes();
         let ids = view.id_size();
         let mut passed = 0u64;
         let mut here = from;
         while let Some(at) = here {
-            if !self.offer_object(ids, &classes, view.id(at), view.kind(at), view.words(at)) {
-                return Some(Cursor::Object(at));
+            let (id, kind, words) = (view.id(at), view.kind(at), view.words(at));
+            let taken = self.offer_object(ids, &classes, id, kind, words)?;
+            if !taken {
+                return Ok(Some(Cursor::Object(at)));
             }
             passed += 1;
             here = view.next(at);
         }
-        None
+        Ok(None)
     }
 
-    // Offers the items of the sections after this one. Returns the cursor at the first sub-record that is left.
-    fn fill_after<V: View>(&mut self, view: &V, section: Section) -> Cursor
-        ensures { IsFilledTo (V.ids view.now) (V.image view.now) (V.places view.now)
-            (records_in (V.ids view.now) (V.image view.now) (after section)) result self.old
-            self.new }
+    // Offers the items of the sections after this one. Returns the cursor at the first sub-record that is left. Fails with
+    // NoMemory if an allocation fails.
+    fn fill_after<V: View>(&mut self, view: &V, section: Section) -> Result<Cursor, Refusal>
+        ensures filled { IfOk result
+            (λ cursor. IsFilledTo (V.ids view.now) (V.image view.now) (V.places view.now)
+            (records_in (V.ids view.now) (V.image view.now) (after section)) cursor self.old
+            self.new) }
+        ensures refused { IfErr result (λ e. e ≡ NoMemory) }
     {
         let mut next = section.next();
         while let Some(section) = next {
             let left = match section {
                 Section::Numbered(section) => self.fill_items(view, section, 0),
-                Section::Objects => self.fill_objects(view, view.first()),
+                Section::Objects => self.fill_objects(view, view.first())?,
             };
             if let Some(cursor) = left {
-                return cursor;
+                return Ok(cursor);
             }
             next = section.next();
         }
-        Cursor::End
+        Ok(Cursor::End)
     }
 
-    // Fills the segment from the cursor on. Returns the cursor at the first sub-record that is left.
-    fn fill<V: View>(&mut self, view: &V, cursor: Cursor) -> Cursor
+    // Fills the segment from the cursor on. Returns the cursor at the first sub-record that is left. Fails with NoMemory if an
+    // allocation fails.
+    fn fill<V: View>(&mut self, view: &V, cursor: Cursor) -> Result<Cursor, Refusal>
         requires { (rest : List (List ℕ))
             × IsRest (V.ids view.now) (V.image view.now) (V.places view.now) cursor rest }
-        ensures { (rest : List (List ℕ))
+        ensures filled { IfOk result
+            (λ left. (rest : List (List ℕ))
             → IsRest (V.ids view.now) (V.image view.now) (V.places view.now) cursor rest
-            → IsFilledTo (V.ids view.now) (V.image view.now) (V.places view.now) rest result
-            self.old self.new }
+            → IsFilledTo (V.ids view.now) (V.image view.now) (V.places view.now) rest left self.old
+            self.new) }
+        ensures refused { IfErr result (λ e. e ≡ NoMemory) }
     {
         match cursor {
             Cursor::Item(section, from) => match self.fill_items(view, section, from) {
-                Some(left) => left,
+                Some(left) => Ok(left),
                 None => self.fill_after(view, Section::Numbered(section)),
             },
-            Cursor::Object(at) => match self.fill_objects(view, Some(at)) {
-                Some(left) => left,
+            Cursor::Object(at) => match self.fill_objects(view, Some(at))? {
+                Some(left) => Ok(left),
                 None => self.fill_after(view, Section::Objects),
             },
-            Cursor::Start => Cursor::Start,
-            Cursor::End => Cursor::End,
-            Cursor::Past => Cursor::Past,
+            Cursor::Start => Ok(Cursor::Start),
+            Cursor::End => Ok(Cursor::End),
+            Cursor::Past => Ok(Cursor::Past),
         }
     }
 }
@@ -170,7 +186,7 @@ pub fn segment_from<V: View>(
     ensures refused { IfErr result (λ e. e ≡ NoMemory) }
 {
     let mut segment = Segment::new(alloc)?;
-    let next = segment.fill(view, cursor);
+    let next = segment.fill(view, cursor)?;
     if segment.len() == 0 {
         let bytes = segment.into_record(HEAP_DUMP_END);
         return Ok((Piece { bytes, last: true }, Cursor::Past));

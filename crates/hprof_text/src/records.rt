@@ -2,7 +2,7 @@
 ghost use Rattle.std.specs.Prelude.{◌≡◌, ◌<◌, ◌≤◌, ◌++◌, [], length};
 ghost use Rattle.std.specs.Option.{option_map_or};
 ghost use Rattle.heap_class.specs.Classes.{sup_of};
-ghost use Rattle.heap_class.specs.Limits.{class_limit, name_limit, array_limit};
+ghost use Rattle.heap_class.specs.Limits.{class_limit, name_limit, large_array_limit};
 ghost use Rattle.hprof_text.specs.SegmentContents.{HasRoom};
 ghost use Rattle.hprof_text.specs.Image.{IsKnown};
 ghost use Rattle.hprof_text.specs.Records.{class_at, record_head, field_bytes, class_ids, class_counts, instance_head, sub_record_bytes, IsOfClasses};
@@ -256,11 +256,11 @@ impl SegmentBytes {
         self.values(ids, kinds, words);
     }
 
-    /// Appends an OBJECT ARRAY DUMP of at most 1,024 words. There must be room.
+    /// Appends an OBJECT ARRAY DUMP of at most 2,097,147 words. There must be room.
     #[tactic(auto, unfolding(crate::specs::Text::dump_of))]
     pub fn object_array_dump(&mut self, ids: IdSize, object: u64, class: ClassNo, words: &[u64])
         requires room { HasRoom self.old (dump_of ids [] object (Array class) words.now) }
-        requires small { length words.now ≤ array_limit }
+        requires small { length words.now ≤ large_array_limit }
         requires few { class < class_limit }
         ensures written { self.new.written
             ≡ self.old.written ++ dump_of ids [] object (Array class) words.now }
@@ -275,11 +275,11 @@ impl SegmentBytes {
         self.numbers(ids.bytes(), words);
     }
 
-    /// Appends a PRIMITIVE ARRAY DUMP of at most 1,024 words. There must be room.
+    /// Appends a PRIMITIVE ARRAY DUMP of at most 2,097,147 words. There must be room.
     #[tactic(auto, unfolding(crate::specs::Text::dump_of, crate::specs::Text::value_bytes))]
     pub fn primitive_array_dump(&mut self, ids: IdSize, object: u64, kind: Kind, words: &[u64])
         requires room { HasRoom self.old (dump_of ids [] object (Prim kind) words.now) }
-        requires small { length words.now ≤ array_limit }
+        requires small { length words.now ≤ large_array_limit }
         ensures written { self.new.written
             ≡ self.old.written ++ dump_of ids [] object (Prim kind) words.now }
         ensures limit { self.new.limit ≡ self.old.limit }

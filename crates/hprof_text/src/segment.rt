@@ -1,6 +1,6 @@
 //! A segment as it is filled: each sub-record is offered to it, and is written if there is room.
 ghost use Rattle.std.specs.Prelude.{◌+◌, ◌≡◌, ◌<◌, ◌≤◌, [], ℕ, List, Some, length, slice_get, IfOk, IfErr};
-ghost use Rattle.heap_class.specs.Limits.{class_limit, array_limit};
+ghost use Rattle.heap_class.specs.Limits.{class_limit, large_array_limit};
 ghost use Rattle.heap_class.specs.declared.ObjKind.TheVariants.{Instance, Array, Prim};
 ghost use Rattle.heap_class.specs.declared.Refusal.TheVariants.{NoMemory};
 ghost use Rattle.hprof_text.specs.declared.section.Section.TheVariants.{Numbered};
@@ -12,15 +12,15 @@ ghost use Rattle.hprof_text.specs.Text.{record_of, dump_of, items_of};
 
 use crate::section::{NumberedSection, SubRecord};
 use crate::segment_bytes::SegmentBytes;
-use crate::sizes::{array_size, dump_size, prim_size};
+use crate::sizes::{array_size, instance_dump_size, prim_size};
 use crate::{Bytes, SEGMENT_LIMIT, View};
 use heap_class::{ClassNo, FirstClasses, IdSize, Kind, ObjKind, Refusal};
 use hprof_records::HEAD_SIZE;
 use std::alloc::Global;
 use std::marker::Model;
 
-// The largest size of a sub-record in bytes: that of an array of 1,024 elements of 8 bytes.
-const LONGEST: usize = 8217;
+// The room of a new segment's body: for the sub-record of an array of 1,024 elements of 8 bytes.
+const ROOM: usize = 8217;
 
 /// A segment that is being filled. Contracts see its body.
 #[derive(Drop)]
@@ -30,6 +30,7 @@ pub struct Segment {
 
 impl Model for Segment {
     ghost use Rattle.std.specs.Prelude.{◌≡◌, ◌≤◌, ◌+◌, ℕ, List, length, drop};
+    ghost use Rattle.hprof_text.specs.Segments.{segment_limit};
     ghost use Rattle.hprof_text.specs.Sizes.{sub_record_limit};
 
     ghost Value = { List ℕ };
@@ -38,16 +39,16 @@ impl Model for Segment {
 
     ghost invariant = { λ s. (9 ≤ length s.buffer.written)
         × (length s.buffer.written ≤ 9 + sub_record_limit)
-        × (s.buffer.limit ≡ 9 + sub_record_limit) };
+        × (9 + segment_limit ≤ s.buffer.limit) };
 }
 
 impl Segment {
-    /// Creates an empty segment with room for the longest. Fails with NoMemory if that room can't be reserved.
+    /// Creates an empty segment with room for all but long arrays. Fails with NoMemory if that room can't be reserved.
     pub fn new(alloc: Global) -> Result<Segment, Refusal>
         ensures empty { IfOk result (λ s. s ≡ []) }
         ensures refused { IfErr result (λ e. e ≡ NoMemory) }
     {
-        match SegmentBytes::new(alloc, HEAD_SIZE + LONGEST) {
+        match SegmentBytes::new(alloc, HEAD_SIZE + ROOM) {
             Ok(mut buffer) => {
                 buffer.record_head(0, 0);
                 Ok(Segment { buffer })
@@ -97,13 +98,12 @@ impl Segment {
         words: &[u64],
     ) -> bool
         requires known { IsKnown classes.now (Instance class) (length words.now) }
-        requires small { length words.now ≤ array_limit }
+        requires small { length words.now ≤ large_array_limit }
         ensures { IsOffered (dump_of ids classes.now object (Instance class) words.now) self.old
             self.new result }
     {
         let _count = classes.len();
-        let kind = ObjKind::Instance(class);
-        let taken = self.takes(dump_size(ids, classes, kind, words.len() as u64));
+        let taken = self.takes(instance_dump_size(ids, classes, class));
         if taken {
             self.buffer
                 .instance_dump(ids, classes, object, class, words);
@@ -111,35 +111,56 @@ impl Segment {
         taken
     }
 
-    // Offers the sub-record of an object array, and tells whether it was taken.
+    // Offers the sub-record of an object array, and tells whether it was taken. Fails with NoMemory if an allocation fails.
     #[inline(never)]
-    fn offer_array(&mut self, ids: IdSize, object: u64, class: ClassNo, words: &[u64]) -> bool
+    fn offer_array(
+        &mut self,
+        ids: IdSize,
+        object: u64,
+        class: ClassNo,
+        words: &[u64],
+    ) -> Result<bool, Refusal>
         requires few { class < class_limit }
-        requires small { length words.now ≤ array_limit }
-        ensures { IsOffered (dump_of ids [] object (Array class) words.now) self.old self.new
-            result }
+        requires small { length words.now ≤ large_array_limit }
+        ensures taken { IfOk result
+            (λ taken. IsOffered (dump_of ids [] object (Array class) words.now) self.old self.new
+            taken) }
+        ensures refused { IfErr result (λ e. e ≡ NoMemory) }
     {
-        let taken = self.takes(array_size(ids, words.len() as u64));
+        let size = array_size(ids, words.len() as u64);
+        let taken = self.takes(size);
         if taken {
+            self.buffer.reserve(size as usize)?;
             self.buffer.object_array_dump(ids, object, class, words);
         }
-        taken
+        Ok(taken)
     }
 
-    // Offers the sub-record of an array of values, and tells whether it was taken.
+    // Offers the sub-record of an array of values, and tells whether it was taken. Fails with NoMemory if an allocation fails.
     #[inline(never)]
-    fn offer_prim(&mut self, ids: IdSize, object: u64, kind: Kind, words: &[u64]) -> bool
-        requires { length words.now ≤ array_limit }
-        ensures { IsOffered (dump_of ids [] object (Prim kind) words.now) self.old self.new result }
+    fn offer_prim(
+        &mut self,
+        ids: IdSize,
+        object: u64,
+        kind: Kind,
+        words: &[u64],
+    ) -> Result<bool, Refusal>
+        requires { length words.now ≤ large_array_limit }
+        ensures taken { IfOk result
+            (λ taken. IsOffered (dump_of ids [] object (Prim kind) words.now) self.old self.new
+            taken) }
+        ensures refused { IfErr result (λ e. e ≡ NoMemory) }
     {
-        let taken = self.takes(prim_size(ids, kind, words.len() as u64));
+        let size = prim_size(ids, kind, words.len() as u64);
+        let taken = self.takes(size);
         if taken {
+            self.buffer.reserve(size as usize)?;
             self.buffer.primitive_array_dump(ids, object, kind, words);
         }
-        taken
+        Ok(taken)
     }
 
-    /// Offers the sub-record of an object, and tells whether it was taken.
+    /// Offers the sub-record of an object, and tells whether it was taken. Fails with NoMemory if an allocation fails.
     #[inline(always)]
     #[tactic(auto, unfolding(crate::specs::Text::dump_of))]
     pub fn offer_object(
@@ -149,15 +170,19 @@ impl Segment {
         object: u64,
         kind: ObjKind,
         words: &[u64],
-    ) -> bool
+    ) -> Result<bool, Refusal>
         requires known { IsKnown classes.now kind (length words.now) }
-        requires small { length words.now ≤ array_limit }
-        ensures { IsOffered (dump_of ids classes.now object kind words.now) self.old self.new
-            result }
+        requires small { length words.now ≤ large_array_limit }
+        ensures taken { IfOk result
+            (λ taken. IsOffered (dump_of ids classes.now object kind words.now) self.old self.new
+            taken) }
+        ensures refused { IfErr result (λ e. e ≡ NoMemory) }
     {
         let _count = classes.len();
         match kind {
-            ObjKind::Instance(class) => self.offer_instance(ids, classes, object, class, words),
+            ObjKind::Instance(class) => {
+                Ok(self.offer_instance(ids, classes, object, class, words))
+            }
             ObjKind::Array(class) => self.offer_array(ids, object, class, words),
             ObjKind::Prim(kind) => self.offer_prim(ids, object, kind, words),
         }

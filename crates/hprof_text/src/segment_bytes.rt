@@ -1,16 +1,17 @@
-//! A buffer for bytes, in room that is reserved at once.
-ghost use Rattle.std.specs.Prelude.{◌≡◌, ◌+◌, ◌<◌, ◌≤◌, ◌^◌, ◌++◌, length, drop, [], IfOk};
+//! A buffer for bytes, in room that is reserved before they are written.
+ghost use Rattle.std.specs.Prelude.{◌≡◌, ◌+◌, ◌<◌, ◌≤◌, ◌^◌, ◌++◌, length, drop, [], IfOk, IfErr};
+ghost use Rattle.heap_class.specs.declared.Refusal.TheVariants.{NoMemory};
 ghost use Rattle.hprof_text.specs.SegmentContents.{HasRoom};
 ghost use Rattle.hprof_text.specs.Text.{u1, u4, id, record_of};
 ghost use Rattle.byteorder.specs.Endian.{big_bytes};
 
 use byteorder::{BigEndian, ByteOrder};
-use heap_class::IdSize;
+use heap_class::{IdSize, Refusal};
 use hprof_records::write_head;
 use std::alloc::{AllocError, Global};
 use std::marker::Model;
 
-/// A buffer with room for a number of bytes that is set when it is made. Contracts see the bytes written, and that number.
+/// A buffer with room for a number of bytes. Contracts see the bytes written, and that number.
 #[derive(Drop)]
 pub struct SegmentBytes {
     bytes: Vec<u8>,
@@ -36,6 +37,23 @@ impl SegmentBytes {
     {
         let bytes = Vec::with_capacity(alloc, limit)?;
         Ok(SegmentBytes { bytes, limit })
+    }
+
+    /// Makes room for `more` bytes behind those written, and returns NoMemory if the allocation fails.
+    #[inline(always)]
+    pub fn reserve(&mut self, more: usize) -> Result<(), Refusal>
+        ensures written { self.new.written ≡ self.old.written }
+        ensures limit { self.old.limit ≤ self.new.limit }
+        ensures room { IfOk result (λ u. length self.new.written + more ≤ self.new.limit) }
+        ensures refused { IfErr result (λ e. e ≡ NoMemory) }
+    {
+        if self.bytes.capacity() - self.bytes.len() < more {
+            if self.bytes.reserve_exact(more).is_err() {
+                return Err(Refusal::NoMemory);
+            }
+        }
+        self.limit = self.bytes.capacity();
+        Ok(())
     }
 
     /// Returns the bytes written.

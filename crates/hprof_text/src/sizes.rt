@@ -1,11 +1,11 @@
 //! The sizes of the parts of a dump in bytes. Each is known from the classes and the number of words, before a byte is written.
 ghost use Rattle.std.specs.Prelude.{◌≡◌, ◌<◌, ◌≤◌, [], ℕ, length};
 ghost use Rattle.heap_class.specs.Classes.{instance_size, name_table};
-ghost use Rattle.heap_class.specs.Limits.{array_limit, instance_size_limit};
-ghost use Rattle.heap_class.specs.declared.ObjKind.TheVariants.{Array, Prim};
+ghost use Rattle.heap_class.specs.Limits.{large_array_limit, instance_size_limit};
+ghost use Rattle.heap_class.specs.declared.ObjKind.TheVariants.{Array, Instance, Prim};
 ghost use Rattle.hprof_text.specs.Image.{IsKnown};
 ghost use Rattle.hprof_text.specs.Records.{class_at};
-ghost use Rattle.hprof_text.specs.Sizes.{names_size, opening_size, class_size, dump_size, root_size, class_size_limit, names_size_limit, opening_size_limit, sub_record_limit};
+ghost use Rattle.hprof_text.specs.Sizes.{names_size, opening_size, class_size, dump_size, root_size, class_size_limit, instance_dump_limit, names_size_limit, opening_size_limit, sub_record_limit};
 
 use heap_class::{ClassNo, FirstClasses, IdSize, Kind, ObjKind};
 
@@ -59,10 +59,21 @@ pub fn root_size(ids: IdSize) -> u64
     1 + ids.bytes()
 }
 
+/// Returns the size of the sub-record of an instance of a class.
+#[tactic(auto, unfolding(crate::specs::Sizes::dump_size))]
+pub fn instance_dump_size(ids: IdSize, classes: &FirstClasses<'_>, class: ClassNo) -> u64
+    requires { class < length classes.now }
+    ensures value { (n : ℕ) → result ≡ dump_size ids classes.now (Instance class) n }
+    ensures some { 0 < result }
+    ensures limit { result ≤ instance_dump_limit }
+{
+    9 + 2 * ids.bytes() + u64::from(instance_size(ids, classes, class))
+}
+
 /// Returns the size of the sub-record of an object array with `words` elements.
 #[tactic(auto, unfolding(crate::specs::Sizes::dump_size))]
 pub fn array_size(ids: IdSize, words: u64) -> u64
-    requires { words ≤ array_limit }
+    requires { words ≤ large_array_limit }
     ensures value { (class : ℕ) → result ≡ dump_size ids [] (Array class) words }
     ensures some { 0 < result }
     ensures limit { result ≤ sub_record_limit }
@@ -73,7 +84,7 @@ pub fn array_size(ids: IdSize, words: u64) -> u64
 /// Returns the size of the sub-record of an array of values of this kind with `words` elements.
 #[tactic(auto, using(crate::proofs::Bounds::width_small), unfolding(crate::specs::Sizes::dump_size))]
 pub fn prim_size(ids: IdSize, kind: Kind, words: u64) -> u64
-    requires { words ≤ array_limit }
+    requires { words ≤ large_array_limit }
     ensures value { result ≡ dump_size ids [] (Prim kind) words }
     ensures some { 0 < result }
     ensures limit { result ≤ sub_record_limit }
@@ -85,15 +96,13 @@ pub fn prim_size(ids: IdSize, kind: Kind, words: u64) -> u64
 #[tactic(auto, using(crate::proofs::Bounds::width_small), unfolding(crate::specs::Sizes::dump_size))]
 pub fn dump_size(ids: IdSize, classes: &FirstClasses<'_>, kind: ObjKind, words: u64) -> u64
     requires known { IsKnown classes.now kind words }
-    requires small { words ≤ array_limit }
+    requires small { words ≤ large_array_limit }
     ensures value { result ≡ dump_size ids classes.now kind words }
     ensures some { 0 < result }
     ensures limit { result ≤ sub_record_limit }
 {
     match kind {
-        ObjKind::Instance(class) => 9
-            + 2 * ids.bytes()
-            + u64::from(instance_size(ids, classes, class)),
+        ObjKind::Instance(class) => instance_dump_size(ids, classes, class),
         ObjKind::Array(_) => array_size(ids, words),
         ObjKind::Prim(kind) => prim_size(ids, kind, words),
     }

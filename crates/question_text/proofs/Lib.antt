@@ -13,6 +13,7 @@ pub mod PastTexts
 pub mod FieldNames
 pub mod FieldRows
 pub mod NamedObjects
+pub mod LivedRows
 pub mod PinRows
 pub mod UsedRegions
 pub mod CountedRegions

@@ -23,7 +23,7 @@ use Rattle.question_text.specs.Names.{IsClassThere}
 use Rattle.question_text.specs.ObjectLists.{IsListedThere}
 use Rattle.question_text.specs.Registers.{IsKindKnown, NamesKnown}
 
-there : (classes : List Class) (kind : ObjKind) (n : ℕ) → IsKnown classes kind n → IsClassThere classes kind
+pub there : (classes : List Class) (kind : ObjKind) (n : ℕ) → IsKnown classes kind n → IsClassThere classes kind
 there classes (Instance k) n known = known.0
 there classes (Array k) n known = known
 there classes (Prim kind) n known = tt

@@ -1,5 +1,5 @@
 -- The mark of the object at a place.
-use Rattle.std.proofs.Common.{Bool, ◌≡◌, ◌∙◌, ℕ, Option, Some, None, true, false, sym, ap}
+use Rattle.std.proofs.Common.{Bool, ◌≡◌, ◌∙◌, ℕ, Option, Some, None, false, sym, ap}
 use Rattle.std.specs.Option.{option_map_or}
 use Rattle.std.specs.Prelude.{IfSome, IsSome, option_and_then}
 use Rattle.std.proofs.lemmas.Bool.{false≢true}

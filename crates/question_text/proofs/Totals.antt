@@ -98,7 +98,7 @@ known_row classes (Instance k) n known = omega (arith, known.0)
 known_row classes (Array k) n known = omega (arith, known)
 known_row classes (Prim kind) n known = omega (arith, row_small kind)
 
-width_within : (ids : IdSize) (kind : Kind) (n : ℕ) → n ≤ 1024 → width_of ids kind * n ≤ 8192
+width_within : (ids : IdSize) (kind : Kind) (n : ℕ) → n ≤ 2097147 → width_of ids kind * n ≤ 16777176
 width_within Four Kind.Object n h = omega (arith, h)
 width_within Eight Kind.Object n h = omega (arith, h)
 width_within ids Boolean n h = omega (arith, h)
@@ -114,11 +114,11 @@ instance_within : (ids : IdSize) (classes : List Class) (k : ℕ) → instance_s
 unfolding instance_size
 instance_within ids classes k = sum_by-le (width_of ids) 8 (slots_of classes k) (λ i d h. width_small ids (slice_index_or (slots_of classes k) i d))
 
-array_within : (ids : IdSize) (n : ℕ) → n ≤ 1024 → id_bytes ids * n ≤ 8192
+array_within : (ids : IdSize) (n : ℕ) → n ≤ 2097147 → id_bytes ids * n ≤ 16777176
 array_within Four n h = omega (arith, h)
 array_within Eight n h = omega (arith, h)
 
-value_small : (ids : IdSize) (classes : List Class) (kind : ObjKind) (n : ℕ) → IsKnown classes kind n → n ≤ 1024 → value_size ids classes kind n ≤ 8192
+value_small : (ids : IdSize) (classes : List Class) (kind : ObjKind) (n : ℕ) → IsKnown classes kind n → n ≤ 2097147 → value_size ids classes kind n ≤ 16777176
 unfolding value_size
 value_small ids classes (Instance k) n known small = omega (arith, instance_within ids classes k, known.1, small)
 value_small ids classes (Array k) n known small = array_within ids n small
@@ -127,7 +127,7 @@ value_small ids classes (Prim kind) n known small = width_within ids kind n smal
 -- ---- objects that can be counted
 
 abbrev IsCountable : List Class → DumpedObject → Type 0
-IsCountable classes o = IsKnown classes o.kind (length o.words) × (length o.words ≤ 1024)
+IsCountable classes o = IsKnown classes o.kind (length o.words) × (length o.words ≤ 2097147)
 
 abbrev pub AreCountable : List Class → List DumpedObject → Type 0
 AreCountable classes objects = AllByRecursion (IsCountable classes) objects
@@ -138,7 +138,7 @@ rows_there classes [] all = tt
 rows_there classes (o ∷ os) all = (known_row classes o.kind (length o.words) all.0.0, rows_there classes os all.1)
 
 -- a countable object has few bytes
-bytes_small : (ids : IdSize) (classes : List Class) (o : DumpedObject) → IsCountable classes o → object_bytes ids classes o ≤ 8192
+bytes_small : (ids : IdSize) (classes : List Class) (o : DumpedObject) → IsCountable classes o → object_bytes ids classes o ≤ 16777176
 bytes_small ids classes o k = value_small ids classes o.kind (length o.words) k.0 k.1
 
 -- the objects of an image can be counted
@@ -196,7 +196,7 @@ sums_small ids classes objects rows e each few =
     let t = ap (λ (rs : List Row). sum_of rs) e ∙ total ids classes objects each in
     let a : (sum_of rows).objects ≡ length objects = ap (λ (r : Row). r.objects) t in
     let b : (sum_of rows).bytes ≡ (total_of ids classes objects).bytes = ap (λ (r : Row). r.bytes) t in
-    let small = sum_by-le (object_bytes ids classes) 8192 objects (λ i o h. bytes_small ids classes (slice_index_or objects i o) (All-from_recursion (IsCountable classes) objects each i o h)) in
+    let small = sum_by-le (object_bytes ids classes) 16777176 objects (λ i o h. bytes_small ids classes (slice_index_or objects i o) (All-from_recursion (IsCountable classes) objects each i o h)) in
     (omega (arith, a, few), omega (arith, b, small, few))
 
 -- so are those of all objects of an image, and of some of them

@@ -115,6 +115,6 @@ pub first_swept : (s : RegionPool) (r : ℕ) → slice_get (pending_regions s.re
 unfolding pending_regions swept released with_region
 first_swept s r e = go (is_emptied r s)
   where
-    go : (b : Bool) → numbers 0 (cond b (record { regions = slice_set s.regions r Empty; pool = r ∷ s.pool }) (record s { regions = updated r (in_used swept_region) s.regions })).regions ≡ drop 1 (numbers 0 s.regions)
+    go : (b : Bool) → numbers 0 (cond b (released r s) (record s { regions = updated r (in_used swept_region) s.regions })).regions ≡ drop 1 (numbers 0 s.regions)
     go true = ap (numbers 0) (set_out s.regions r) ∙ taken_out (λ (x : Region). Empty) (λ n x. refl) 0 r r s.regions e (omega arith)
     go false = taken_out (in_used swept_region) in_use_out 0 r r s.regions e (omega arith)

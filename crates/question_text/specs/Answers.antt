@@ -8,10 +8,11 @@ use Rattle.hprof_text.specs.Image.{Image}
 use Rattle.question_text.specs.declared.answers.PairQuestion.{PairQuestion}
 use Rattle.question_text.specs.declared.answers.StateQuestion.{StateQuestion}
 use Rattle.question_text.specs.declared.question.Question.{Question}
-use Rattle.question_text.specs.declared.question.Question.TheVariants.{Histogram, Garbage, Growth, Kept, Diff, Registers, Classes, Objects, Values, Referrers, Path, Retained, Dominators, Dominated, Dominator, Show, Born, Wrote, Watch, Writes, Dropped, History, Pins, Cells, Regions, Status}
+use Rattle.question_text.specs.declared.question.Question.TheVariants.{Histogram, Garbage, Growth, Kept, Diff, Registers, Classes, Objects, Values, Referrers, Path, Retained, Dominators, Dominated, Dominator, Show, Born, Wrote, Watch, Writes, Dropped, Life, History, Cycles, Pins, Cells, Regions, Status}
 use Rattle.question_text.specs.Births.{IsBornText}
 use Rattle.question_text.specs.CellLists.{IsCellsText}
 use Rattle.question_text.specs.ClassLists.{IsClassesText}
+use Rattle.question_text.specs.CycleLists.{IsCyclesText}
 use Rattle.question_text.specs.Diffs.{IsDiffText}
 use Rattle.question_text.specs.DominatorRows.{IsDominatedText, IsDominatorText, IsDominatorsText}
 use Rattle.question_text.specs.Histograms.{IsGarbageText, IsHistogramText, IsRetainedText}
@@ -20,6 +21,7 @@ use Rattle.question_text.specs.Growths.{IsGrowthText}
 use Rattle.question_text.specs.Comments.{unasked_text}
 use Rattle.question_text.specs.Histories.{IsHistoryText}
 use Rattle.question_text.specs.Kept.{IsKeptText}
+use Rattle.question_text.specs.Lives.{IsLifeText}
 use Rattle.question_text.specs.Losses.{IsDroppedText}
 use Rattle.question_text.specs.NamedLines.{question_in}
 use Rattle.question_text.specs.ObjectLists.{IsObjectsText}
@@ -93,7 +95,9 @@ IsAnswer (Wrote to x s) m acts text = IsAnswerSeen (IsWroteText x s) to m.trail 
 IsAnswer (Watch x s to) m acts text = IsAnswerSeen (IsWatchText x s) to m.trail text
 IsAnswer (Writes k s span) m acts text = IsWritesText k s span m.trail text
 IsAnswer (Dropped to x) m acts text = IsAnswerUpTo (IsDroppedText x) to m.trail text
+IsAnswer (Life x) m acts text = IsLifeText x m.trail text
 IsAnswer (History to count) m acts text = IsHistoryText to count m.trail text
+IsAnswer Cycles m acts text = IsCyclesText m.trail text
 IsAnswer Pins m acts text = IsPinsText m.pins text
 IsAnswer Cells m acts text = IsCellsText m.trail.current text
 IsAnswer Regions m acts text = IsRegionsText m.trail.current text

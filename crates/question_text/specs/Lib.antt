@@ -7,6 +7,8 @@ pub mod Histograms
 pub mod Referrers
 pub mod Registers
 pub mod ClassLists
+pub mod CycleLists
+pub mod Lives
 pub mod ClassSlots
 pub mod Diffs
 pub mod DominatorRows

@@ -5,7 +5,7 @@ use Rattle.session_grammar.specs.Grammar.{at_end, next_number, number_of_word, w
 use Rattle.question_text.specs.declared.question.At.{At}
 use Rattle.question_text.specs.declared.question.At.TheVariants.{Current, Pin, Place}
 use Rattle.question_text.specs.declared.question.Question.{Question}
-use Rattle.question_text.specs.declared.question.Question.TheVariants.{Histogram, Garbage, Growth, Kept, Diff, Registers, Classes, Objects, Values, Referrers, Path, Retained, Dominators, Dominated, Dominator, Show, Born, Wrote, Watch, Writes, Dropped, History, Pins, Cells, Regions, Status}
+use Rattle.question_text.specs.declared.question.Question.TheVariants.{Histogram, Garbage, Growth, Kept, Diff, Registers, Classes, Objects, Values, Referrers, Path, Retained, Dominators, Dominated, Dominator, Show, Born, Wrote, Watch, Writes, Dropped, Life, History, Cycles, Pins, Cells, Regions, Status}
 use Rattle.question_text.specs.declared.question.Span.{Span}
 use Rattle.question_text.specs.declared.question.Span.TheVariants.{AllSteps, Between}
 use Rattle.std.specs.Option.{option_or}
@@ -52,6 +52,10 @@ at_and_optional (w ∷ v ∷ ws) = two_ats (w ∷ v ∷ ws)
 abbrev pub next_id : List (List ℕ) → Option (ℕ × List (List ℕ))
 next_id [] = None
 next_id (w ∷ ws) = option_map (λ x. (x, ws)) (id_of_word w)
+
+-- the id that the words are
+abbrev pub one_id : List (List ℕ) → Option ℕ
+one_id ws = option_and_then (λ x. at_end x.0 x.1) (next_id ws)
 
 -- the state and the id that the words name
 abbrev pub at_and_id : List (List ℕ) → Option (At × ℕ)
@@ -210,6 +214,8 @@ unfoldable pub past_rules : List QuestionRule
 past_rules =
     (codes "born", λ ws. option_map (λ a. Born a.0 a.1) (place_and_id ws))
     ∷ (codes "dropped", λ ws. option_map (λ a. Dropped a.0 a.1) (place_and_id ws))
+    ∷ (codes "life", λ ws. option_map (λ x. Life x) (one_id ws))
+    ∷ (codes "cycles", λ ws. at_end Cycles ws)
     ∷ (codes "pins", λ ws. at_end Pins ws)
     ∷ (codes "cells", λ ws. at_end Cells ws)
     ∷ (codes "regions", λ ws. at_end Regions ws)

@@ -10,12 +10,14 @@ use crate::birth::born_answer;
 use crate::cell_list::cells_answer;
 use crate::class_list::classes_answer;
 use crate::comment::unasked_answer;
+use crate::cycle_list::cycles_answer;
 use crate::diff::diff_text;
 use crate::dominator_rows::{dominated_answer, dominator_answer, dominators_answer};
 use crate::growth::growth_answer;
 use crate::histogram::{garbage_text, histogram_text, retained_answer};
 use crate::history::history_answer;
 use crate::kept::kept_text;
+use crate::life::life_answer;
 use crate::loss::dropped_answer;
 use crate::named_line::question_in;
 use crate::object_list::objects_answer;
@@ -133,7 +135,9 @@ pub fn answer(alloc: Global, machine: &Machine, acts: Option<u64>, question: Que
             line_answer(writes_answer(alloc, machine, class, slot, span))
         }
         Question::Dropped { to, id } => dropped_answer(alloc, machine, to, id),
+        Question::Life(id) => line_answer(life_answer(alloc, machine, id)),
         Question::History { to, count } => line_answer(history_answer(alloc, machine, to, count)),
+        Question::Cycles => line_answer(cycles_answer(alloc, machine)),
         Question::Pins => line_answer(pins_answer(alloc, machine)),
         Question::Cells => line_answer(cells_answer(alloc, machine)),
         Question::Regions => line_answer(regions_answer(alloc, machine)),

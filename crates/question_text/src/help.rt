@@ -35,7 +35,9 @@ pub fn question_help(word: &[u8]) -> Option<&'static [u8]>
         b"watch" => Some(b"row watch ID SLOT [@PLACE]\nrow watch 0x10000020 next\nok\n"),
         b"writes" => Some(b"row writes CLASS SLOT [@PLACE [@PLACE]]\nrow writes server/Entry state\nok\n"),
         b"dropped" => Some(b"row dropped [@PLACE] ID\nrow dropped 0x10000020\nok\n"),
+        b"life" => Some(b"row life ID\nrow life 0x10000020\nok\n"),
         b"history" => Some(b"row history [@PLACE] N\nrow history 10\nok\n"),
+        b"cycles" => Some(b"row cycles\nrow cycles\nok\n"),
         b"pins" => Some(b"row pins\nrow pins\nok\n"),
         b"cells" => Some(b"row cells\nrow cells\nok\n"),
         b"regions" => Some(b"row regions\nrow regions\nok\n"),
@@ -98,7 +100,7 @@ pub fn all_help() -> &'static [u8]
         row rewind N\nrow open AT\nrow piece PIN\nrow dump PIN\nrow close PIN\nrow end\n\
         row histogram [AT]\nrow garbage [AT]\nrow growth AT [AT]\nrow kept AT [AT]\nrow diff AT [AT]\nrow registers [AT]\nrow classes [AT]\n\
         row objects [AT] [CLASS [SLOT VALUE]]\nrow values [AT] CLASS SLOT\nrow referrers [AT] ID\nrow path [AT] ID\nrow retained [AT] ID\nrow dominators [AT] [ID] [N]\nrow dominator [AT] ID\nrow show [AT] ID\n\
-        row born [@PLACE] ID\nrow wrote [@PLACE] ID SLOT\nrow watch ID SLOT [@PLACE]\nrow writes CLASS SLOT [@PLACE [@PLACE]]\nrow dropped [@PLACE] ID\nrow history [@PLACE] N\nrow pins\nrow cells\nrow regions\nrow status\nrow collect\n\
+        row born [@PLACE] ID\nrow wrote [@PLACE] ID SLOT\nrow watch ID SLOT [@PLACE]\nrow writes CLASS SLOT [@PLACE [@PLACE]]\nrow dropped [@PLACE] ID\nrow life ID\nrow history [@PLACE] N\nrow cycles\nrow pins\nrow cells\nrow regions\nrow status\nrow collect\n\
         row help WORD\nok\n"
 }
 

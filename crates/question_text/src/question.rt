@@ -2,7 +2,7 @@
 ghost use Rattle.std.specs.Prelude.{◌≡◌, drop};
 ghost use Rattle.session_grammar.specs.Grammar.{words_of_line};
 ghost use Rattle.question_text.specs.Ids.{id_of_word};
-ghost use Rattle.question_text.specs.Questions.{at_and_optional, at_and_slot, at_and_wanted, at_of_word, at_or_number, class_and_slot, dominated_by, dominators_by, dominators_of, id_and_number, optional_at, optional_at_and_id, past_rules, place_and_id, place_and_number, place_and_slot, place_of, place_of_word, question_by, question_of, question_rules, slot_and_place, slot_and_span, span_of, value_of_word, wanted_of};
+ghost use Rattle.question_text.specs.Questions.{at_and_optional, at_and_slot, at_and_wanted, at_of_word, at_or_number, class_and_slot, dominated_by, dominators_by, dominators_of, id_and_number, one_id, optional_at, optional_at_and_id, past_rules, place_and_id, place_and_number, place_and_slot, place_of, place_of_word, question_by, question_of, question_rules, slot_and_place, slot_and_span, span_of, value_of_word, wanted_of};
 
 use crate::id::id_of;
 use heap_questions::Wanted;
@@ -75,8 +75,12 @@ pub enum Question {
     Writes { class: u64, slot: u64, span: Span },
     /// When registers lost an object, by the steps up to a place, or to the current state.
     Dropped { to: Option<u64>, id: u64 },
+    /// What the retained steps did to each object that had an id.
+    Life(u64),
     /// What the newest retained steps did, of those that led to a place, or to the current state: how many of them.
     History { to: Option<u64>, count: u64 },
+    /// The cycles that the retained steps ended.
+    Cycles,
     /// The open pins.
     Pins,
     /// What each cell of the regions in use holds.
@@ -319,6 +323,12 @@ fn past_question(keyword: &[u8], words: Words) -> Option<Question>
         let (to, id) = place_and_id(words)?;
         return Some(Question::Dropped { to, id });
     }
+    if is_word(keyword, b"life") {
+        return Some(Question::Life(one_id(words)?));
+    }
+    if is_word(keyword, b"cycles") {
+        return at_end(Question::Cycles, words);
+    }
     if is_word(keyword, b"pins") {
         return at_end(Question::Pins, words);
     }
@@ -359,6 +369,14 @@ fn place_and_id(mut words: Words) -> Option<(Option<u64>, u64)>
         return Some((None, id_of(word)?));
     };
     at_end((place_of_word(word)?, id_of(second)?), words)
+}
+
+// Returns the id that the words are.
+fn one_id(mut words: Words) -> Option<u64>
+    ensures { result ≡ one_id (words_of_line words.entry) }
+{
+    let word = words.next_word()?;
+    at_end(id_of(word)?, words)
 }
 
 // Returns the place and the number that the words name. If they are only a number, there is no place.

@@ -3,7 +3,7 @@ use Rattle.std.proofs.Common.{◌≡◌, [], refl}
 use Rattle.std.specs.Fmt.{digits}
 use Rattle.hex.specs.Hex.{encode_with}
 use Rattle.heap_class.specs.Functions.{class_functions as open_heap_class}
-use Rattle.heap_world.specs.Regions.{used_at, object_at, objects_of_region, objects_in, id_of, cell_around, ref_of, object_of, slot_kinds, references_of, updated, in_used, with_region, with_object, with_word, with_mark, cell_size_for, live_objects}
+use Rattle.heap_world.specs.Regions.{block_words, cell_count, used_at, object_at, objects_of_region, objects_in, id_of, cell_around, ref_of, object_of, slot_kinds, references_of, updated, in_used, with_region, with_object, with_word, with_mark, cell_size_for, live_objects}
 use Rattle.heap_world.specs.Pool.{fresh_region, opening_pool, blank_object, free_place, place_or_fresh, new_place, is_fresh, taken, restored, allocated, freed, released, unallocated}
 use Rattle.heap_world.specs.Functions.{world_functions as open_heap_world}
 use Rattle.heap_step.specs.Functions.{step_functions as open_heap_step}
@@ -20,7 +20,7 @@ use Rattle.session_text.specs.Examples.{default_machine, point_lines, point_answ
 
 -- the functions of heap_region, opened at once
 unfoldable open_heap_region : Unit {0}
-unfolding used_at object_at objects_of_region objects_in id_of cell_around ref_of object_of slot_kinds references_of updated in_used with_region with_object with_word with_mark cell_size_for live_objects fresh_region opening_pool blank_object free_place place_or_fresh new_place is_fresh taken restored allocated freed released unallocated
+unfolding block_words cell_count used_at object_at objects_of_region objects_in id_of cell_around ref_of object_of slot_kinds references_of updated in_used with_region with_object with_word with_mark cell_size_for live_objects fresh_region opening_pool blank_object free_place place_or_fresh new_place is_fresh taken restored allocated freed released unallocated
 open_heap_region = tt
 
 -- those of hprof_text that pieces need

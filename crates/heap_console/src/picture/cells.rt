@@ -1,6 +1,6 @@
 //! The cells of regions, as strokes of a picture: a row for each region, and a pixel for each word.
 use crate::picture::colors::Palette;
-use crate::picture::rows::Rows;
+use crate::picture::rows::{REGION_WORDS, Rows, regions_for};
 use crate::picture::text::{add, add_next_stroke, add_stroke};
 use heap_class::ObjRef;
 use heap_region::Regions;
@@ -42,11 +42,31 @@ impl CellSort {
         }
     }
 
-    // Returns how far below the middle of its row a stroke for these cells runs.
-    fn drop_below(self) -> u64 {
+    // Returns where in its row a stroke for these cells runs.
+    fn level(self) -> Level {
         match self {
-            CellSort::Free | CellSort::Colored(_) | CellSort::Dead => 0,
-            CellSort::Marked => 4,
+            CellSort::Free | CellSort::Colored(_) | CellSort::Dead => Level::Middle,
+            CellSort::Marked => Level::Below,
+        }
+    }
+}
+
+// Where in its row a stroke runs.
+#[derive(Clone, Copy)]
+enum Level {
+    Above,
+    Middle,
+    Below,
+}
+
+impl Level {
+    // Returns the height of a stroke in this row.
+    fn height_in(self, row: u64) -> u64 {
+        let middle = middle_of(row);
+        match self {
+            Level::Above => middle.saturating_sub(4),
+            Level::Middle => middle,
+            Level::Below => middle.saturating_add(4),
         }
     }
 }
@@ -65,8 +85,49 @@ pub(crate) fn add_all_cells(
     sort: CellSort,
 ) -> Result<(), AllocError> {
     for region in 0..regions.count() {
-        if let Some(row) = rows.row(region) {
+        let size = regions.cell_size(region).unwrap_or(0);
+        if size > REGION_WORDS {
+            add_large(text, regions, rows, palette, sort, region)?;
+        } else if let Some(row) = rows.row(region) {
             add_cells(text, regions, palette, sort, region, row)?;
+        }
+    }
+    Ok(())
+}
+
+// Appends the strokes of a cell that takes several regions from this one on, if it is of this sort.
+fn add_large(
+    text: &mut Vec<u8>,
+    regions: &Regions,
+    rows: &Rows,
+    palette: &Palette,
+    sort: CellSort,
+    region: u64,
+) -> Result<(), AllocError> {
+    let Some(size) = regions.cell_size(region) else {
+        return Ok(());
+    };
+    let at = ObjRef {
+        region: regions.region_number(region),
+        cell: 0,
+    };
+    if sort.has(regions, palette, at) {
+        add_whole_rows(text, rows, region, size, sort.level())?;
+    }
+    Ok(())
+}
+
+// Appends a stroke, at this level, in the row of each region that a cell of this size takes, from the first on.
+fn add_whole_rows(
+    text: &mut Vec<u8>,
+    rows: &Rows,
+    first: u64,
+    size: u64,
+    level: Level,
+) -> Result<(), AllocError> {
+    for region in first..first.saturating_add(regions_for(size)) {
+        if let Some(row) = rows.row(region) {
+            add_stroke(text, LEFT, level.height_in(row), REGION_WORDS - 1)?;
         }
     }
     Ok(())
@@ -84,7 +145,7 @@ fn add_cells(
     let Some(size) = regions.cell_size(region) else {
         return Ok(());
     };
-    let y = middle_of(row).saturating_add(sort.drop_below());
+    let y = sort.level().height_in(row);
     let number = regions.region_number(region);
     let mut pen = None;
     for cell in 0..regions.cell_count(region) {
@@ -109,7 +170,11 @@ pub(crate) fn add_gray(
 ) -> Result<(), AllocError> {
     for id in gray {
         if let Some(at) = regions.find(*id) {
-            if let Some(row) = rows.row(at.region as u64) {
+            let region = at.region as u64;
+            let size = regions.cell_size(region).unwrap_or(0);
+            if size > REGION_WORDS {
+                add_whole_rows(text, rows, region, size, Level::Above)?;
+            } else if let Some(row) = rows.row(region) {
                 add_gray_cell(text, regions, at, row)?;
             }
         }
@@ -126,8 +191,7 @@ fn add_gray_cell(
 ) -> Result<(), AllocError> {
     let size = regions.cell_size(at.region as u64).unwrap_or(1);
     let x = LEFT.saturating_add(size.saturating_mul(at.cell as u64));
-    let y = middle_of(row).saturating_sub(4);
-    add_stroke(text, x, y, size.saturating_sub(1))
+    add_stroke(text, x, Level::Above.height_in(row), size.saturating_sub(1))
 }
 
 // Appends the beginning of a path in this colour and width.

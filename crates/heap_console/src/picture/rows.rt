@@ -1,4 +1,7 @@
 //! Which regions a picture shows cell by cell, each in a row of its own.
+ghost use Rattle.std.specs.Prelude.{◌≡◌};
+ghost use Rattle.heap_region.specs.Regions.{regions_for};
+
 use heap_class::ObjRef;
 use heap_region::Regions;
 use std::alloc::{AllocError, Global};
@@ -20,7 +23,15 @@ const CELL_TEXT: u64 = 8;
 const GRAY_TEXT: u64 = 16;
 
 // The number of words of a region.
-const REGION_WORDS: u64 = 1_024;
+pub(crate) const REGION_WORDS: u64 = 1_024;
+
+// Returns how many regions a cell of this size takes.
+#[tactic(auto, unfolding(heap_region::specs::Regions::regions_for))]
+pub(crate) fn regions_for(size: u64) -> u64
+    ensures { result ≡ regions_for size }
+{
+    size.div_ceil(REGION_WORDS)
+}
 
 // What there is in a region: the words of the cells in use, and the most bytes that its row takes.
 #[derive(Clone, Copy)]
@@ -55,7 +66,7 @@ fn contents_of(regions: &Regions, region: u64) -> Contents {
         };
         contents.text = contents.text.saturating_add(CELL_TEXT);
         if regions.has_object(at) {
-            contents.words = contents.words.saturating_add(size);
+            contents.words = contents.words.saturating_add(size.min(REGION_WORDS));
             let (live, mark) = regions.bits(at);
             if mark || !live {
                 contents.text = contents.text.saturating_add(CELL_TEXT);
@@ -73,6 +84,25 @@ fn count_gray(contents: &mut [Contents], regions: &Regions, gray: &[u64]) {
             if region < contents.len() {
                 contents[region].text = contents[region].text.saturating_add(GRAY_TEXT);
             }
+        }
+    }
+}
+
+// Gives each region that an object takes with others the contents of the first of them.
+fn share_contents(contents: &mut [Contents], regions: &Regions) {
+    for region in 0..regions.count() {
+        let size = regions.cell_size(region).unwrap_or(0);
+        if size > REGION_WORDS {
+            copy_contents(contents, region as usize, regions_for(size) as usize);
+        }
+    }
+}
+
+// Gives `count` regions from the first on the contents of the first.
+fn copy_contents(contents: &mut [Contents], first: usize, count: usize) {
+    for region in first..first.saturating_add(count) {
+        if first < contents.len() && region < contents.len() {
+            contents[region] = contents[first];
         }
     }
 }
@@ -131,6 +161,7 @@ impl Rows {
         if !is_whole {
             contents = all_contents(alloc, regions)?;
             count_gray(contents.as_mut_slice(), regions, gray);
+            share_contents(contents.as_mut_slice(), regions);
             let keys = keys_of(alloc, contents.as_slice())?;
             mark_largest(marked.as_mut_slice(), contents.as_slice(), keys.as_slice());
         }

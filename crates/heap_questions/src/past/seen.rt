@@ -1,5 +1,5 @@
 //! What slots held in a retained state, as a pin on it shows them.
-ghost use Rattle.std.specs.Prelude.{◌≡◌, ◌≤◌, IsSome, IfOk, IfErr};
+ghost use Rattle.std.specs.Prelude.{◌≡◌, ◌≤◌, IsSome, IfSome, IfOk, IfErr};
 ghost use Rattle.heap_class.specs.declared.Refusal.TheVariants.{NoMemory};
 ghost use Rattle.heap_region.specs.Regions.{object_at};
 ghost use Rattle.heap_world.specs.State.{HeapState};
@@ -7,7 +7,7 @@ ghost use Rattle.heap_trail.specs.Trail.{retained};
 ghost use Rattle.heap_questions.specs.PastTrails.{IsPinAgo, IsShownBeside, seen_slot};
 
 use crate::references::is_reference_slot;
-use heap_class::{ObjRef, Refusal};
+use heap_class::{ObjKind, ObjRef, Refusal};
 use heap_pins::Pin;
 use heap_trail::Machine;
 use heap_world::World;
@@ -54,6 +54,16 @@ pub(crate) fn slot_of(pin: &Pin, world: &World, at: ObjRef, slot: u64) -> Option
         word: words[slot as usize],
         refers,
     })
+}
+
+// Returns the kind of the object at `at` in the state that a pin shows.
+pub(crate) fn kind_of(pin: &Pin, world: &World, at: ObjRef) -> ObjKind
+    requires { (w : HeapState)
+        × IsShownBeside world.now pin.now w × IsSome (object_at w.regions at) }
+    ensures { (w : HeapState) → IsShownBeside world.now pin.now w → IsSome (object_at w.regions at)
+        → IfSome (object_at w.regions at) (λ o. result ≡ o.kind) }
+{
+    pin.kind(world, at)
 }
 
 /// Returns what a slot of the object at `at` holds in the current state, or None if the object has no such slot. Takes no memory.

@@ -2,7 +2,7 @@
 ghost use Rattle.std.specs.Prelude.{◌≡◌, ◌≤◌, ◌<◌, ◌==◌, ℕ, length, IsSome, Some, is_some};
 ghost use Rattle.std.specs.List.{list_any};
 ghost use Rattle.heap_class.specs.declared.ObjRef.{ObjRef};
-ghost use Rattle.heap_region.specs.Limits.{region_words};
+ghost use Rattle.heap_region.specs.Limits.{heap_words};
 ghost use Rattle.heap_region.specs.Regions.{UsedRegion, object_at, ref_of};
 ghost use Rattle.heap_step.specs.declared.Undo.TheVariants.{Reclaim};
 ghost use Rattle.heap_trail.specs.Trail.{retained, state_ago};
@@ -30,7 +30,7 @@ pub(crate) fn stood_ago(machine: &Machine, ago: u64, at: ObjRef) -> bool
 }
 
 // Tells whether an object stood at a place before the step that left this record. `now` says whether one stands there after it.
-fn stood_before(left: &Undo, at: ObjRef, now: bool) -> bool
+pub(crate) fn stood_before(left: &Undo, at: ObjRef, now: bool) -> bool
     ensures { result ≡ stood_before left.now at now }
 {
     match left {
@@ -78,9 +78,24 @@ pub(crate) fn cell_with(machine: &Machine, ago: u64, id: u64) -> Option<ObjRef>
     cell_by(cell_size_ago(machine, ago, region), region as u16, id)
 }
 
+// Returns the size of the cells of a region in the state of `ago` steps ago, if it was in use there.
+fn cell_size_ago(machine: &Machine, ago: u64, region: u64) -> u64
+    requires { ago ≤ retained machine.now.trail }
+    ensures value { HasCellSize (state_ago ago machine.now.trail) region result }
+    ensures limit { result ≤ heap_words }
+{
+    // Its contract says that each retained state came from the one before it.
+    let _place = machine.place();
+    let mut size = size_at(machine.world(), region);
+    for n in 0..ago {
+        size = size_before(machine.record_ago(n), region, size);
+    }
+    size
+}
+
 // Returns the cell of this size that an id names, of a region that has the id's word, or None if the id is that of no such cell.
-fn cell_by(size: u64, region: u16, id: u64) -> Option<ObjRef>
-    requires small { size ≤ region_words }
+pub(crate) fn cell_by(size: u64, region: u16, id: u64) -> Option<ObjRef>
+    requires small { size ≤ heap_words }
     ensures cell { IsCellOf size region id result }
 {
     if id < OBJECT_BASE || size == 0 {
@@ -98,27 +113,12 @@ fn cell_by(size: u64, region: u16, id: u64) -> Option<ObjRef>
     }
 }
 
-// Returns the size of the cells of a region in the state of `ago` steps ago, if it was in use there.
-fn cell_size_ago(machine: &Machine, ago: u64, region: u64) -> u64
-    requires { ago ≤ retained machine.now.trail }
-    ensures value { HasCellSize (state_ago ago machine.now.trail) region result }
-    ensures limit { result ≤ region_words }
-{
-    // Its contract says that each retained state came from the one before it.
-    let _place = machine.place();
-    let mut size = size_at(machine.world(), region);
-    for n in 0..ago {
-        size = size_before(machine.record_ago(n), region, size);
-    }
-    size
-}
-
 // Returns the size of the cells of a region before the step with this record, from that after it.
-fn size_before(left: &Undo, region: u64, now: u64) -> u64
+pub(crate) fn size_before(left: &Undo, region: u64, now: u64) -> u64
     requires cells { (r : ℕ) (u : UsedRegion) → left.now ≡ Reclaim r u → 0 < length u.cells }
-    requires small { now ≤ region_words }
+    requires small { now ≤ heap_words }
     ensures value { result ≡ size_before left.now region now }
-    ensures limit { result ≤ region_words }
+    ensures limit { result ≤ heap_words }
 {
     match left {
         Undo::Reclaim {

@@ -2,7 +2,7 @@
 ghost use Rattle.std.specs.Prelude.{◌≡◌, ◌<◌, ◌≤◌, ℕ, length, option_map, Some, All, IfOk, IfErr, unwrap_or};
 ghost use Rattle.heap_class.specs.declared.ObjRef.{ObjRef};
 ghost use Rattle.heap_class.specs.declared.Refusal.TheVariants.{NoMemory};
-ghost use Rattle.heap_region.specs.Limits.{region_words};
+ghost use Rattle.heap_region.specs.Limits.{heap_words};
 ghost use Rattle.heap_region.specs.Regions.{UsedRegion, used_at};
 ghost use Rattle.heap_step.specs.declared.Undo.TheVariants.{Reclaim};
 ghost use Rattle.heap_world.specs.Legal.{IsLegal};
@@ -28,17 +28,18 @@ pub struct PastStep {
 pub(crate) fn size_of(storage: &Storage) -> u64
     requires { 0 < length storage.now.cells }
     ensures value { result ≡ storage_cell_size storage.now }
-    ensures limit { result ≤ region_words }
+    ensures limit { result ≤ heap_words }
 {
-    REGION_WORDS / storage.cells()
+    storage.word_count() / storage.cells()
 }
 
 // Returns the size of the cells of a region, or 0 if it is empty.
+#[tactic(auto, using(crate::proofs::Sizes::whole_size, crate::proofs::Sizes::table_of))]
 pub(crate) fn size_at(world: &World, region: u64) -> u64
     requires { IsLegal world.now }
     ensures value { (u : UsedRegion) → used_at world.now.regions region ≡ Some u
         → result ≡ u.cell_size }
-    ensures limit { result ≤ region_words }
+    ensures limit { result ≤ heap_words }
 {
     match world.regions().region(region) {
         Some(storage) => size_of(storage),
@@ -118,7 +119,7 @@ fn undo_size(left: &Undo, sizes: &mut Vec<u64>)
 // Returns what the step with this record did.
 fn event_by(left: &Undo, sizes: &[u64]) -> PastEvent
     requires within { (at : ObjRef) → written_at left.now ≡ Some at → at.region < length sizes.now }
-    requires small { All (λ s. s ≤ region_words) sizes.now }
+    requires small { All (λ s. s ≤ heap_words) sizes.now }
     ensures { result
         ≡ event_with left.now (unwrap_or (option_map (id_by sizes.now) (written_at left.now)) 0) }
 {
@@ -128,7 +129,7 @@ fn event_by(left: &Undo, sizes: &[u64]) -> PastEvent
 // Returns the id of the object that the step with this record wrote or created, if it did.
 fn object_of(left: &Undo, sizes: &[u64]) -> Option<u64>
     requires within { (at : ObjRef) → written_at left.now ≡ Some at → at.region < length sizes.now }
-    requires small { All (λ s. s ≤ region_words) sizes.now }
+    requires small { All (λ s. s ≤ heap_words) sizes.now }
     ensures { result ≡ option_map (id_by sizes.now) (written_at left.now) }
 {
     match written_at(left) {
@@ -150,7 +151,7 @@ fn written_at(left: &Undo) -> Option<ObjRef>
 // Returns the id of the object at a place, by the size of its region's cells.
 fn id_by(sizes: &[u64], at: ObjRef) -> u64
     requires within { at.region < length sizes.now }
-    requires small { All (λ s. s ≤ region_words) sizes.now }
+    requires small { All (λ s. s ≤ heap_words) sizes.now }
     ensures { result ≡ id_by sizes.now at }
 {
     let size = sizes[at.region as usize];

@@ -1,16 +1,16 @@
 //! The trail up to a retained state.
-ghost use Rattle.std.specs.Prelude.{◌≡◌, ◌↔◌, ◌<◌, ◌≤◌, ℕ, MatchOption, IsSome, IsTrue, IfOk, IfErr, None, Some, is_some, slice_get};
+ghost use Rattle.std.specs.Prelude.{◌≡◌, ◌↔◌, ◌<◌, ◌≤◌, ℕ, MatchOption, IsSome, IfSome, IsTrue, IfOk, IfErr, None, Some, is_some, slice_get};
 ghost use Rattle.heap_class.specs.declared.Refusal.TheVariants.{NoMemory};
 ghost use Rattle.heap_region.specs.Regions.{object_at, object_of, ref_of};
 ghost use Rattle.heap_trail.specs.Trail.{retained, rewound, state_ago};
 ghost use Rattle.heap_world.specs.Reach.{Reaches};
 ghost use Rattle.heap_questions.specs.PastTrails.{IsPast, seen_slot};
 
-use crate::past::seen::{SeenSlot, past_pin, slot_of};
+use crate::past::seen::{SeenSlot, kind_of, past_pin, slot_of};
 use crate::past::standing::{cell_with, stood_ago};
 use crate::past::suspects::suspect;
 use crate::paths::shortest_path;
-use heap_class::{ObjRef, Refusal};
+use heap_class::{ObjKind, ObjRef, Refusal};
 use heap_step::Undo;
 use heap_trail::Machine;
 use std::alloc::Global;
@@ -98,6 +98,19 @@ impl<'a> PastTrail<'a> {
         let _place = self.machine.place();
         let pin = past_pin(alloc, self.machine, self.ago)?;
         Ok(slot_of(&pin, self.machine.world(), at, slot))
+    }
+
+    // Returns the kind of the object at `at` in the state. Fails with NoMemory.
+    pub(crate) fn kind(&self, alloc: Global, at: ObjRef) -> Result<ObjKind, Refusal>
+        requires { IsSome (object_at self.now.current.regions at) }
+        ensures kind { IfOk result (λ kind.
+            IfSome (object_at self.now.current.regions at) (λ o. kind ≡ o.kind)) }
+        ensures refused { IfErr result (λ e. e ≡ NoMemory) }
+    {
+        // Its contract says that the retained states are legal.
+        let _place = self.machine.place();
+        let shown = past_pin(alloc, self.machine, self.ago)?;
+        Ok(kind_of(&shown, self.machine.world(), at))
     }
 
     // Tells whether a register reached the object with this id in the state `n` steps before this one. Fails with NoMemory.

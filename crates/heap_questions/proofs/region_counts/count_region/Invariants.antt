@@ -1,7 +1,7 @@
 use Rattle.std.proofs.Common.{◌≡◌, ◌+◌, ◌≤◌, take}
 use Rattle.std.specs.Prelude.{count_by}
 use Rattle.heap_region.specs.Live.{is_live}
-use Rattle.heap_questions.specs.RegionCounts.{is_dead}
+use Rattle.heap_region.specs.Live.{is_dead}
 use Rattle.heap_questions.proofs.region_counts.count_region.Given as goal
 
 abbrev pub invariant-loop-cell : goal.invariant-loop-cell

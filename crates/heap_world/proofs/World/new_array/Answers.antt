@@ -7,4 +7,4 @@ returns-in_err-allow_array c = let p = err_from_is_err_and c.from_residual.resul
 
 pub returns : goal.returns
 returns c = let h = c.make.ensures in let may = c.in_ok-allow_array.ensures.allowed in
-    answer_of_new_object _ _ _ _ _ _ _ c.make.result (array_answered _ _ _ _ _ c.make.result may.there may.of_kind h.room h.refused) h.made h.placed h.held may.there h.unchanged
+    answer_of_new_object _ _ _ _ _ _ _ c.make.result (array_answered _ _ _ _ _ c.make.result may.there may.of_kind may.allowed h.room h.refused) h.made h.placed h.held may.there h.unchanged

@@ -3,7 +3,7 @@ use Rattle.heap_world.proofs.CreationEvents.{new_answered, refused_object_is_not
 use Rattle.heap_world.proofs.World.new_instance.Goals as goal
 
 pub make-requires : goal.make-requires
-make-requires c = let there = c.in_ok-len.ensures in record { there = there.register; of_kind = (there.class, there.value) }
+make-requires c = let there = c.in_ok-len.ensures in record { there = there.register; of_kind = (there.class, there.value); allowed = tt }
 
 pub returns-in_err-len : goal.returns-in_err-len
 returns-in_err-len c = let p = err_from_is_err_and c.from_residual.result c.from_residual.ensures.1 in rw (p.1, p.2) (refused_object_is_not_made _ _ _ _ _ _ _ c.in_err-len.ensures.refused)

@@ -1,4 +1,4 @@
-use Rattle.std.proofs.Common.{arith}
+use Rattle.std.proofs.Common.{arith, refl}
 use Rattle.hprof_plan.specs.Plans.{statics_told}
 use Rattle.hprof_plan.proofs.PlannedClasses.{classes_as_planned, kinds_as_planned, statics_as_planned}
 use Rattle.hprof_plan.proofs.planning.plan_classes.Goals as goal
@@ -19,4 +19,5 @@ returns c =
       accepted = c.in_ok-plan_roots.ensures.defined.accepted;
       placed = omega (arith, planned.counted, c.in_ok-statics.ensures.counted, c.len-roots.ensures.value);
       counted = omega (arith, c.in_ok-plan_roots.ensures.counted, c.len-roots.ensures.value);
+      elements = refl;
     }

@@ -1,4 +1,4 @@
-use Rattle.std.proofs.Common.{true, false, sym, ap, ◌∙◌, List, [], ◌∷◌, ◌++◌, ℕ, map, arith}
+use Rattle.std.proofs.Common.{sym, ap, ◌∙◌, List, [], ◌∷◌, ◌++◌, ℕ, map, arith}
 use Rattle.std.specs.List.{list_any}
 use Rattle.std.proofs.lemmas.List.{append-nil}
 use Rattle.hprof_reader.specs.declared.fields.StaticField.{StaticField}

@@ -17,6 +17,7 @@ loop-step-init c =
       left = ap (λ (n : ℕ). unshaded n (at_work c.args.regions.now.regions c.args.self.now)) all;
       room = refl;
       pool = refl;
+      area = refl;
       within = omega (arith, c.requires.within);
       names = c.requires.names;
     }

@@ -7,4 +7,4 @@ use Rattle.heap_region.proofs.storage.Storage.dead_objects.Goals as goal
 pub returns-clause-value : goal.returns-clause-value
 returns-clause-value c =
     let i = c.self.inside in
-    rw (← c.self.view_is) (c.dead.ensures.value ∙ (ap (λ b. count_by header_dead b.headers) c.deref.ensures ∙ dead_shown i.cell_size i.block.value.words 0 i.block.value.headers))
+    rw (← c.self.view_is) (c.dead.ensures.value ∙ (ap (count_by header_dead) c.headers.ensures ∙ dead_shown i.cell_size i.block.words 0 i.block.headers))

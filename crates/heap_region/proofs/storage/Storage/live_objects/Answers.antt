@@ -7,4 +7,4 @@ use Rattle.heap_region.proofs.storage.Storage.live_objects.Goals as goal
 pub returns-clause-value : goal.returns-clause-value
 returns-clause-value c =
     let i = c.self.inside in
-    rw (← c.self.view_is) (c.live.ensures.value ∙ (ap (λ b. count_by header_live b.headers) c.deref.ensures ∙ live_headers_counted_as_objects i.cell_size i.block.value.words 0 i.block.value.headers))
+    rw (← c.self.view_is) (c.live.ensures.value ∙ (ap (count_by header_live) c.headers.ensures ∙ live_headers_counted_as_objects i.cell_size i.block.words 0 i.block.headers))

@@ -5,17 +5,17 @@ use Rattle.heap_region.proofs.storage.Storage.set_bit.Goals as goal
 pub invariant_of-self : goal.invariant_of-self
 invariant_of-self c =
     let i = c.self.inside in
-    let there = header_here i.cell_size i.block.value.words i.block.value.headers c.args.cell (rw (← c.self.view_is) at c.requires) in
-    rw (c.set_bit.ensures, c.deref_mut.ensures.value) (bit_written i.cell_size i.pending i.block.value.words i.block.value.headers i.head c.self.invariant c.args.cell c.args.bit c.args.on there).0
+    let there = header_here i.cell_size i.block.words i.block.headers c.args.cell (rw (← c.self.view_is) at c.requires) in
+    rw (c.set_bit.ensures) (bit_written i.cell_size i.pending i.block.words i.block.headers i.head c.self.invariant c.args.cell c.args.bit c.args.on there).0
 
 pub returns-clause-value : goal.returns-clause-value
 returns-clause-value c =
     let i = c.self.inside in
-    let there = header_here i.cell_size i.block.value.words i.block.value.headers c.args.cell (rw (← c.self.view_is) at c.requires) in
-    rw (← c.self.view_is, c.set_bit.ensures, c.deref_mut.ensures.value) (bit_written i.cell_size i.pending i.block.value.words i.block.value.headers i.head c.self.invariant c.args.cell c.args.bit c.args.on there).1
+    let there = header_here i.cell_size i.block.words i.block.headers c.args.cell (rw (← c.self.view_is) at c.requires) in
+    rw (← c.self.view_is, c.set_bit.ensures) (bit_written i.cell_size i.pending i.block.words i.block.headers i.head c.self.invariant c.args.cell c.args.bit c.args.on there).1
 
 pub returns-clause-whole : goal.returns-clause-whole
 returns-clause-whole c =
     let i = c.self.inside in
-    let there = header_here i.cell_size i.block.value.words i.block.value.headers c.args.cell (rw (← c.self.view_is) at c.requires) in
-    rw (c.set_bit.ensures, c.deref_mut.ensures.value) (whole_shown i.cell_size i.pending i.block.value.words _ i.head (bit_written i.cell_size i.pending i.block.value.words i.block.value.headers i.head c.self.invariant c.args.cell c.args.bit c.args.on there).0)
+    let there = header_here i.cell_size i.block.words i.block.headers c.args.cell (rw (← c.self.view_is) at c.requires) in
+    rw (c.set_bit.ensures) (whole_shown i.cell_size i.pending i.block.words _ i.head (bit_written i.cell_size i.pending i.block.words i.block.headers i.head c.self.invariant c.args.cell c.args.bit c.args.on there).0)

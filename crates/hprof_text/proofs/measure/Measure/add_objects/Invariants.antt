@@ -9,7 +9,7 @@ abbrev pub invariant-loop-here : goal.invariant-loop-here
 invariant-loop-here g l = record {
   here : l.here ≡ slice_get (g.V.View.places l.view) l.passed;
   added : IsMeasured (from_item (g.V.View.ids l.view) (g.V.View.image l.view) Objects 0) (from_item (g.V.View.ids l.view) (g.V.View.image l.view) Objects l.passed) l.initial.self l.self;
-  limit : l.self.closed + l.self.body ≤ l.initial.self.closed + l.initial.self.body + l.passed * 8226;
+  limit : l.self.closed + l.self.body ≤ l.initial.self.closed + l.initial.self.body + l.passed * 16777210;
   passed : l.passed ≤ length (g.V.View.places l.view);
 }
 

@@ -23,8 +23,8 @@ pub struct PagePort {
 }
 
 /// Answers the clients of a page until the stop word is set. Takes the lock for each question and each dump, while it is made, and
-/// holds none while bytes move. A client that sends and takes nothing for 20 seconds is let go, and so is the one that has been quiet for
-/// longest when a seventeenth comes. Answers nobody if there is no clock. May wait.
+/// holds none while bytes move. A client that sends and takes nothing for 20 seconds is let go, and so is the one that has been
+/// quiet for longest when a seventeenth comes. Answers nobody if there is no clock. May wait.
 pub fn tend_page<L: Heap, R: Clock + Wait>(
     rt: &R,
     alloc: Global,

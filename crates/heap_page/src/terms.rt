@@ -52,8 +52,8 @@ impl Model for PageTerms {
 }
 
 impl PageTerms {
-    /// Creates the terms of the page at a port of this computer, for this key and this time in the headers of dumps, in milliseconds
-    /// since 1970. Fails if an allocation fails.
+    /// Creates the terms of the page at a port of this computer, for this key and this time in the headers of dumps, in
+    /// milliseconds since 1970. Fails if an allocation fails.
     pub fn new(alloc: Global, port: u16, key: &str, time: u64) -> Result<PageTerms, AllocError>
         ensures { IfOk result (λ t. t ≡ record { port = port; key = key.now; time = time }) }
     {

@@ -56,7 +56,8 @@ overwritten (Put at slot old) s = if slot == s then Some (at, old) else None
 overwritten (Store at slot old logged) s = if slot == s then Some (at, old) else None
 overwritten left s = None
 
--- the write of slot s of an object, which held `old` before the step to a place, if the object is one of class k and the word differs
+-- the write of slot s of an object, which held `old` before the step to a place, if the object is one of class k and the word
+-- differs
 abbrev pub changing_write : ℕ → ℕ → ℕ → ℕ → DumpedObject → Option SlotWrite
 changing_write k s place old o =
     let new = slice_index_or o.words s 0 in

@@ -30,10 +30,11 @@ pub enum Difference {
     },
 }
 
-/// Lists what differs between the objects of an older view and a newer one, by id, and the slots of an object by number: the objects
-/// that one view alone shows, and the slots of objects of both that hold other words. An object that is of another class or length in
-/// the newer view is listed as gone, and then as made. Fails with NoMemory if an allocation fails. Reads each object at most twice. If
-/// ids rise in both, as those of a heap do, both are walked once, side by side; else n ids are compared about n log n times.
+/// Lists what differs between the objects of an older view and a newer one, by id, and the slots of an object by number: the
+/// objects that one view alone shows, and the slots of objects of both that hold other words. An object that is of another class or
+/// length in the newer view is listed as gone, and then as made. Fails with NoMemory if an allocation fails. Reads each object at
+/// most twice. If ids rise in both, as those of a heap do, both are walked once, side by side; else n ids are compared about n log
+/// n times.
 pub fn object_differences<V: View>(
     alloc: Global,
     older: &V,
@@ -56,7 +57,8 @@ pub fn object_differences<V: View>(
     Ok(rows)
 }
 
-// Lists the ids of the objects of two views, each once, in order. Fails if an allocation fails. If ids rise in both, reads them once.
+// Lists the ids of the objects of two views, each once, in order. Fails if an allocation fails. If ids rise in both, reads them
+// once.
 fn ids_of_both<V: View>(
     alloc: Global,
     before: &ObjectIndex<'_, V>,

@@ -204,8 +204,8 @@ impl<'a, L: Heap, R: Wait> Actor<'a, L, R> {
         Ok(end)
     }
 
-    /// Shows a witness all calls so far under the lock, as `Shared::meet` does: those of this actor are among them. Takes no memory.
-    /// May wait.
+    /// Shows a witness all calls so far under the lock, as `Shared::meet` does: those of this actor are among them. Takes no
+    /// memory. May wait.
     pub fn meet(&mut self, witness: &mut Witness<L>)
         ensures begins { IsPrefix witness.old witness.new }
         ensures met { AreMet L.config self.old.seat witness.new }

@@ -37,8 +37,8 @@ impl<'a, L: Heap, R: Wait> Actor<'a, L, R> {
         Ok(())
     }
 
-    /// Sweeps all regions after each of `cycles` cycles as `sweep_regions` does, once the pace allows it, and keeps no claims. Fails
-    /// at the first cycle after which it can't sweep all, and says why. May wait.
+    /// Sweeps all regions after each of `cycles` cycles as `sweep_regions` does, once the pace allows it, and keeps no claims.
+    /// Fails at the first cycle after which it can't sweep all, and says why. May wait.
     pub fn sweep_cycles(&mut self, pace: &Pace, cycles: u64) -> Result<(), Halt>
         ensures { SweepsCycles L.config cycles self.old result self.new }
     {

@@ -21,8 +21,8 @@ pub record IsAhead (most : ℕ) (bytes : List ℕ) (failed : Bool) (a b : Incomi
   pub fails : failed ≡ true → b.failures ≡ a.failures + 1
 
 -- what a session saw of bytes that were read ahead and of the inlet behind them, which went on from `b` to `b'`: a beginning of the
--- bytes, or all of them and then all that the inlet gave since. The session met the end only if the inlet did, and a failed read only
--- if one of the inlet's failed
+-- bytes, or all of them and then all that the inlet gave since. The session met the end only if the inlet did, and a failed read
+-- only if one of the inlet's failed
 pub record IsSeenBehind (bytes : List ℕ) (failed : Bool) (b b' seen : Incoming) : Type 0 where
   pub front : List ℕ
   pub rest : List ℕ
@@ -34,8 +34,8 @@ pub record IsSeenBehind (bytes : List ℕ) (failed : Bool) (b b' seen : Incoming
   pub ends : seen.failures ≡ 0 → IsLastEmpty seen → IsLastEmpty b'
   pub fails : 0 < seen.failures → (failed ≡ true) ⊎ (b.failures < b'.failures)
 
--- the same when the first `start` of the bytes ahead were given, of what was taken, the sizes of the reads, and the number of those that
--- failed
+-- the same when the first `start` of the bytes ahead were given, of what was taken, the sizes of the reads, and the number of those
+-- that failed
 pub record IsGivenUpTo (start : ℕ) (bytes : List ℕ) (failed : Bool) (b b' : Incoming)
     (taken reads : List ℕ) (failures : ℕ) : Type 0 where
   pub within : start ≤ length bytes
@@ -58,8 +58,8 @@ pub record AheadState : Type 0 where
   pub last : Incoming
   pub seen : Incoming
 
--- behind the first `start` bytes, a part of those ahead was given; or the last read ahead failed, and so does this; or none is left of
--- them, and the inlet was read
+-- behind the first `start` bytes, a part of those ahead was given; or the last read ahead failed, and so does this; or none is left
+-- of them, and the inlet was read
 abbrev pub GoesOn : List ℕ → Bool → ℕ → Incoming → Incoming → Take × ℕ → List ℕ → Type 0
 GoesOn bytes failed start b b' r room =
     ((b' ≡ b) × (start + r.1 ≤ length bytes) × (0 < r.1) × (r.0 ≡ Got r.1)

@@ -37,8 +37,9 @@ ServesBehind limits says begins bytes failed b b' c w c' w' ended =
     × (i.left ≡ prepend_known bytes b.left) × IsSeenBehind bytes failed b b' j
     × Serves limits says begins i j c w c' w' ended
 
--- these bytes were read ahead of a session, the last of the reads failed or not, and left the inlet as `b`: they turn the client away,
--- and nothing was read, done or put out; or they don't, and a session was served behind those that are not the secret word's line
+-- these bytes were read ahead of a session, the last of the reads failed or not, and left the inlet as `b`: they turn the client
+-- away, and nothing was read, done or put out; or they don't, and a session was served behind those that are not the secret word's
+-- line
 abbrev pub ServesClient : {S : Type 0} → SessionLimits → AnswerRelation S → AnswerRelation S
     → Option (List ℕ) → List ℕ → Bool → Incoming → Incoming → S
     → Outgoing → S → Outgoing → SessionEnd → Type 0

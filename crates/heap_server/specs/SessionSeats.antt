@@ -20,7 +20,8 @@ abbrev pub AreUsers : List SeatModel → Type 0
 AreUsers [] = ⊤
 AreUsers (s ∷ seats) = (s.role ≡ User) × AreUsers seats
 
--- the seat and the terms with which a session's thread began, if one was started and hasn't been joined; and how it ended, once it has
+-- the seat and the terms with which a session's thread began, if one was started and hasn't been joined; and how it ended, once it
+-- has
 abbrev pub SittingState : Type 0
 SittingState = Option (SeatModel × Terms) × Option SeatEnd
 

@@ -49,8 +49,8 @@ abbrev pub seat_begins : HeapSettings → Terms → AnswerRelation Station
 seat_begins config terms =
     Begins (seat_acts config) (seat_answers config terms.questions) terms.time
 
--- a client was served from seat `s` over what an inlet gave as it went on from `a` to `a'`, of which `bytes` were read ahead, and left
--- the seat as `s'`
+-- a client was served from seat `s` over what an inlet gave as it went on from `a` to `a'`, of which `bytes` were read ahead, and
+-- left the seat as `s'`
 pub record IsServedFrom (config : HeapSettings) (terms : Terms) (s : SeatModel) (a a' : Incoming)
     (w w' : Outgoing) (s' : SeatModel) (end : SessionEnd) : Type 0 where
   pub bytes : List ℕ
@@ -81,7 +81,8 @@ staying_says config terms =
 abbrev pub staying_begins : HeapSettings → Terms → AnswerRelation StayingStation
 staying_begins config terms = Begins (staying_acts config) (staying_answers config) terms.time
 
--- a client was served from seat `s` of a heap that stays, as above, and then the pins were closed that were left of those that it opened
+-- a client was served from seat `s` of a heap that stays, as above, and then the pins were closed that were left of those that it
+-- opened
 pub record IsServedStaying (config : HeapSettings) (terms : Terms) (s : SeatModel) (a a' : Incoming)
     (w w' : Outgoing) (s' : SeatModel) (end : SessionEnd) : Type 0 where
   pub bytes : List ℕ
@@ -118,8 +119,8 @@ IsAttendedOn true config terms s a a' w w' s' end =
 abbrev pub IsLimited : Terms → SessionEnd → Type 0
 IsLimited terms end = end ≡ Idle → 1 ≤ terms.idle
 
--- the client of a socket was served, from the first byte that the socket gave to the last that it was sent; or memory for the socket was
--- refused, and nothing was done
+-- the client of a socket was served, from the first byte that the socket gave to the last that it was sent; or memory for the
+-- socket was refused, and nothing was done
 abbrev pub IsClientOf : HeapSettings → Terms → SeatModel → SeatModel → SessionEnd → Option Traffic → Type 0
 IsClientOf config terms s s' end (Some traffic) =
     IsLimited terms end × (a : Incoming) × (w : Outgoing) × (a.taken ≡ []) × (w.out ≡ [])

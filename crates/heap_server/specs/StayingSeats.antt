@@ -46,8 +46,8 @@ asks_pins l = is_pins (question_of l)
 
 -- ---- the pins of a session
 
--- a session's seat, the calls that its witness has seen, the pins that it opened and neither closed nor kept, and whether questions are
--- answered
+-- a session's seat, the calls that its witness has seen, the pins that it opened and neither closed nor kept, and whether questions
+-- are answered
 pub record StayingStation : Type 0 where
   pub seat : SeatModel
   pub seen : List Call
@@ -80,8 +80,8 @@ abbrev pub ActsWith : HeapSettings → StayingStation → List Call → Action �
 ActsWith config c seen a r d pins =
     IsJoined config c.seat seen a r d.seat d.seen × (d.pins ≡ pins)
 
--- pins that aren't open any more are forgotten, and then one is opened, or not; or memory to note it is refused, and nothing is asked
--- of the heap
+-- pins that aren't open any more are forgotten, and then one is opened, or not; or memory to note it is refused, and nothing is
+-- asked of the heap
 abbrev pub OpensNoted : HeapSettings → StayingStation → Option ℕ → Reply → StayingStation → Type 0
 OpensNoted config c at r d =
     (seen : List Call) × (left : List ℕ) × AreStillOpen config c.seat c.seen c.pins seen left
@@ -123,8 +123,8 @@ AnswersSeat config collects l c text d =
     AnswersForSeat config collects l c.seat c.seen text d.seat d.seen
     × (d.pins ≡ c.pins)
 
--- the answer of a line that the grammar of sessions doesn't know: `keep PIN`; or, if questions are answered, that of the seat; or, if
--- they aren't, that of `pins` alone
+-- the answer of a line that the grammar of sessions doesn't know: `keep PIN`; or, if questions are answered, that of the seat; or,
+-- if they aren't, that of `pins` alone
 abbrev pub AnswersStaying : HeapSettings → Option ℕ → Bool → Bool → List ℕ → StayingStation
     → List ℕ
     → StayingStation

@@ -17,8 +17,9 @@ use session_text::{Inlet, SessionLimits, Take};
 use std::alloc::{AllocError, Global};
 use std::marker::{Brand, Model, PhantomData};
 
-// How many more bytes are read ahead than a line may have. They are few, since each session that waits for its first line has room for
-// them. If the heap isn't wide, that room is a little more than a session's page, which takes its place when the first line has come.
+// How many more bytes are read ahead than a line may have. They are few, since each session that waits for its first line has room
+// for them. If the heap isn't wide, that room is a little more than a session's page, which takes its place when the first line has
+// come.
 const MORE_ROOM: usize = 4_608;
 
 // One less than the largest size of a read.
@@ -58,8 +59,8 @@ pub(crate) fn read_line<I: Inlet>(
     })
 }
 
-// Reads into a room until the first line is whole or has more than `most` bytes, the end comes, or a read fails. Returns the number of
-// bytes that came, and whether the last read failed.
+// Reads into a room until the first line is whole or has more than `most` bytes, the end comes, or a read fails. Returns the number
+// of bytes that came, and whether the last read failed.
 fn fill<I: Inlet>(
     inlet: &mut I,
     room: &mut [u8],
@@ -208,8 +209,8 @@ impl<I: Inlet + Drop, B: AheadOrigin> AheadInlet<I, B> {
     }
 }
 
-// Gives the next part of what was read ahead, behind the first `start` bytes; or fails if the last read ahead did, or reads on. Tells
-// how many of the bytes ahead were given.
+// Gives the next part of what was read ahead, behind the first `start` bytes; or fails if the last read ahead did, or reads on.
+// Tells how many of the bytes ahead were given.
 fn take_on<I: Inlet>(
     inlet: &mut I,
     ahead: &Ahead,

@@ -132,8 +132,8 @@ fn send_from<R: Wait, I: Inlet + Drop, T: Outlet + Drop>(
     }
 }
 
-// Sends the line of a word, if there is one, and then input, as `send_input` does. A write that fails ends the sending and is no fault.
-// Returns whether the input failed.
+// Sends the line of a word, if there is one, and then input, as `send_input` does. A write that fails ends the sending and is no
+// fault. Returns whether the input failed.
 fn send_all<R: Wait, I: Inlet, O: Outlet>(
     rt: &R,
     secret: Option<Secret>,

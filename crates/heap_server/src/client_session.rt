@@ -52,8 +52,8 @@ pub(crate) fn serve_client<I: Inlet + Drop, O: Outlet, C: Commands>(
     (SessionEnd::Ran(ended), inlet)
 }
 
-// Returns what is left of the bytes that were read ahead of a client that is served. Fails with how its session ends if the client is
-// turned away: if the first line isn't the secret word, or, without one, begins an HTTP request.
+// Returns what is left of the bytes that were read ahead of a client that is served. Fails with how its session ends if the client
+// is turned away: if the first line isn't the secret word, or, without one, begins an HTTP request.
 fn admit(ahead: Ahead, secret: Option<Secret>, limits: SessionLimits) -> Result<Ahead, SessionEnd>
     ensures { MatchResult result
         (λ a. Admits limits secret ahead.bytes.items a.bytes.items × (a.failed ≡ ahead.failed))

@@ -185,7 +185,8 @@ impl<'a, L: Heap, R: Wait> Joined<'a, L, R> {
         retain_open(kept.machine(), pins);
     }
 
-    // Takes the steps of `collect` under the lock, each an act of this seat, leaves the processor to others then, and returns its answer.
+    // Takes the steps of `collect` under the lock, each an act of this seat, leaves the processor to others then, and returns its
+    // answer.
     pub(crate) fn collect(&mut self, alloc: Global) -> LineAnswer
         ensures collects { IsCollectionOfHeap L.config self.old.seat self.old.seen
             (line_answer_text result) self.new.seat self.new.seen }

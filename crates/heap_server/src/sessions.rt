@@ -33,8 +33,8 @@ use std::thread;
 use std::thread::{Promise, Scope, Threads};
 use std::time::Clock;
 
-/// The listener for the clients of sessions, the one for the clients of dumps, if there is one, and the port of the page, if there is
-/// one.
+/// The listener for the clients of sessions, the one for the clients of dumps, if there is one, and the port of the page, if there
+/// is one.
 #[derive(Drop)]
 pub struct Ports {
     pub sessions: TcpListener,
@@ -132,8 +132,8 @@ impl<L: Heap> Promise<(SocketEnd, Seat<L>)> for AttendsFrom<L> {
     ghost kept_by = { λ p r. IsClientOf L.config p.terms p.seat.value r.1 r.0.end r.0.traffic };
 }
 
-// Serves the client of a socket from a seat, and gives the seat back. Ends by NoMemory, and does nothing, if memory for the socket is
-// refused.
+// Serves the client of a socket from a seat, and gives the seat back. Ends by NoMemory, and does nothing, if memory for the socket
+// is refused.
 pub(crate) fn session<L: Heap, R: Clock + Wait>(
     rt: &R,
     alloc: Global,
@@ -225,9 +225,9 @@ fn attend_staying<L: Heap, R: Wait, I: Inlet + Drop, O: Outlet>(
     Attended { end, inlet, seat }
 }
 
-// Serves one client from a seat, between an inlet and an outlet, unless its first line turns it away: if it isn't the secret word, or
-// without one, begins an HTTP request. Then it reads nothing more, and puts out and runs nothing. Each part of an answer goes out at
-// once. The word `hurry` is set while a piece of a dump is the last that was answered. Closes no pin at its end. May wait.
+// Serves one client from a seat, between an inlet and an outlet, unless its first line turns it away: if it isn't the secret word,
+// or without one, begins an HTTP request. Then it reads nothing more, and puts out and runs nothing. Each part of an answer goes
+// out at once. The word `hurry` is set while a piece of a dump is the last that was answered. Closes no pin at its end. May wait.
 fn attend<L: Heap, R: Wait, I: Inlet + Drop, O: Outlet>(
     rt: &R,
     alloc: Global,
@@ -275,11 +275,11 @@ fn told(idle: u64, waited: bool, end: SessionEnd) -> SessionEnd
 }
 
 /// Accepts as many clients as there are seats, in turn, and serves each in a thread of its own, which is joined at the next accept
-/// after its end. After the last of them, or after an accept that failed, it stops listening, so that a further client is refused at
-/// once. Returns once all sessions have ended, with their seats; that of a client whose thread can't be started ends by NoMemory, and its
-/// seat is gone. If the ports have a listener for dumps, three threads send a dump to each of its clients, and if they have a page,
-/// another answers its clients, from before the first accept until the last session has ended. Fails if such a thread can't be started,
-/// or memory is refused to the endings, and accepts nothing. May wait.
+/// after its end. After the last of them, or after an accept that failed, it stops listening, so that a further client is refused
+/// at once. Returns once all sessions have ended, with their seats; that of a client whose thread can't be started ends by
+/// NoMemory, and its seat is gone. If the ports have a listener for dumps, three threads send a dump to each of its clients, and if
+/// they have a page, another answers its clients, from before the first accept until the last session has ended. Fails if such a
+/// thread can't be started, or memory is refused to the endings, and accepts nothing. May wait.
 pub fn serve_clients<L: Heap + Send + Sync, R: Clock + Eprint + Threads + Wait + Sync>(
     rt: &R,
     alloc: Global,

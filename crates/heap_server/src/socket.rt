@@ -50,7 +50,8 @@ impl Half {
         })
     }
 
-    /// Returns an inlet of what the stream gives, and an outlet of what it is sent, with two more holders. Fails if there are too many.
+    /// Returns an inlet of what the stream gives, and an outlet of what it is sent, with two more holders. Fails if there are too
+    /// many.
     pub(crate) fn directions(&self) -> Result<(ReadInlet<Half>, SocketOutlet), AllocError>
         ensures { IfOk result (λ h. (h.0.taken ≡ []) × (h.1.out ≡ [])) }
     {
@@ -117,8 +118,8 @@ pub fn halves(
     Half::new(alloc, stream)?.directions()
 }
 
-/// What a socket gave, and what it was sent, for contracts alone: the bytes both ways, the sizes of the reads, and how many reads and
-/// writes failed. It is made of the two directions of a socket and of nothing else.
+/// What a socket gave, and what it was sent, for contracts alone: the bytes both ways, the sizes of the reads, and how many reads
+/// and writes failed. It is made of the two directions of a socket and of nothing else.
 #[derive(Drop)]
 pub struct SocketTraffic {
     inlet: Snapshot<ReadInlet<Half>>,

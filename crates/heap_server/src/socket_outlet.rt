@@ -6,8 +6,8 @@ use dump_pump::ledger::note_bytes;
 use dump_pump::{Log, Outlet, Put, WriteOutlet};
 use std::marker::Model;
 
-/// An outlet that writes to a half of a socket. Other than `WriteOutlet` it may be given to another thread. Contracts see the bytes that
-/// were put out, and the number of puts that failed.
+/// An outlet that writes to a half of a socket. Other than `WriteOutlet` it may be given to another thread. Contracts see the bytes
+/// that were put out, and the number of puts that failed.
 #[derive(Drop)]
 pub struct SocketOutlet {
     half: Half,

@@ -59,13 +59,13 @@ impl Door {
 }
 
 /// Serves clients from all seats at a time: from each seat one after another, in a thread of its own, so that as many clients are
-/// served as there are seats, and a further one waits until a session ends. Writes a line `session I WORD` to standard output as each
-/// ends, numbered in the order of acceptance from 1. An ending isn't told if 1,024 others wait to be told. An accept that fails because
-/// the client went, or for want of files or memory, is tried again after 100 ms; another failure ends the thread of that seat. Returns
-/// once all have ended; so a program that serves so goes on until it is ended from outside. A seat for which no thread can be started is
-/// left out. If the ports have a listener for dumps, threads send a dump to each of its clients, and if they have a page, another answers
-/// its clients, meanwhile. Fails if such a thread or that of the lines can't be started, or memory is refused, and accepts and writes
-/// nothing then. May wait.
+/// served as there are seats, and a further one waits until a session ends. Writes a line `session I WORD` to standard output as
+/// each ends, numbered in the order of acceptance from 1. An ending isn't told if 1,024 others wait to be told. An accept that
+/// fails because the client went, or for want of files or memory, is tried again after 100 ms; another failure ends the thread of
+/// that seat. Returns once all have ended; so a program that serves so goes on until it is ended from outside. A seat for which no
+/// thread can be started is left out. If the ports have a listener for dumps, threads send a dump to each of its clients, and if
+/// they have a page, another answers its clients, meanwhile. Fails if such a thread or that of the lines can't be started, or
+/// memory is refused, and accepts and writes nothing then. May wait.
 pub fn serve_staying<L: Heap + Send + Sync, R: Clock + Eprint + Print + Threads + Wait + Sync>(
     rt: &R,
     alloc: Global,

@@ -20,8 +20,8 @@ use std::marker::Model;
 use std::sync::Wait;
 
 /// A user's seat, with its heap, that notes the pins which its session opens. Each is closed at the session's end, unless it was
-/// closed, or kept by the line `keep PIN`. It answers `pins`, and other questions if they are answered. Contracts see the seat, the calls
-/// that its witness has seen, and the pins that are noted.
+/// closed, or kept by the line `keep PIN`. It answers `pins`, and other questions if they are answered. Contracts see the seat, the
+/// calls that its witness has seen, and the pins that are noted.
 #[derive(Drop)]
 pub(crate) struct StayingSeat<'a, L: Heap, R: Wait> {
     joined: Joined<'a, L, R>,
@@ -143,8 +143,8 @@ impl<'a, L: Heap, R: Wait> StayingSeat<'a, L, R> {
         joined.into_seat()
     }
 
-    // Opens a pin and notes it, once those are forgotten that aren't open any more. Fails with NoMemory, and opens none, if memory to note
-    // it is refused.
+    // Opens a pin and notes it, once those are forgotten that aren't open any more. Fails with NoMemory, and opens none, if memory
+    // to note it is refused.
     fn open(&mut self, at: Option<u64>) -> Reply
         ensures done { OpensNoted L.config self.old at result self.new }
         ensures questions { self.new.questions ≡ self.old.questions }

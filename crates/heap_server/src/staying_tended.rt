@@ -33,9 +33,9 @@ pub struct StayTendedHeap {
     pub sweeper: UnnamedSeat,
 }
 
-/// Serves clients from all users' seats at a time as `serve_staying` does, while two threads tend the collector. They begin before the
-/// first accept, and are told to stop and joined after the last session. Fails as `serve_staying` does, and if a thread for them can't be
-/// started. May wait.
+/// Serves clients from all users' seats at a time as `serve_staying` does, while two threads tend the collector. They begin before
+/// the first accept, and are told to stop and joined after the last session. Fails as `serve_staying` does, and if a thread for
+/// them can't be started. May wait.
 pub fn serve_staying_tended<
     L: Heap + Send + Sync,
     R: Clock + Eprint + Print + Threads + Wait + Sync,

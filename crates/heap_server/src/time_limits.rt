@@ -25,7 +25,8 @@ pub(crate) fn limit_times<R: Clock + Wait>(rt: &R, stream: &TcpStream, terms: &T
     let _ = stream.set_write_timeout(Some(Duration::from_millis(LOOK)));
 }
 
-// Returns how long a client has to say the secret word, where a session that reads nothing for `idle` seconds ends, unless they are 0.
+// Returns how long a client has to say the secret word, where a session that reads nothing for `idle` seconds ends, unless they are
+// 0.
 fn first_line_time(idle: u64) -> Duration {
     if idle == 0 {
         return Duration::from_secs(FIRST_LINE);

@@ -1,5 +1,5 @@
-//! The heap under its lock: seats in one thread and in several, workers, and audits. Dumps of a shared heap's pins, through the pipe
-//! and beside the meter: outlets that are held, and streams that are cancelled.
+//! The heap under its lock: seats in one thread and in several, workers, and audits. Dumps of a shared heap's pins, through the
+//! pipe and beside the meter: outlets that are held, and streams that are cancelled.
 mod cancelling;
 mod definitions;
 mod dumps;

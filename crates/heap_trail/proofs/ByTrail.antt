@@ -1,4 +1,5 @@
--- What an event or a rewind makes of the trail, and what it is answered, doesn't depend on the pins; a dumper's action leaves the trail.
+-- What an event or a rewind makes of the trail, and what it is answered, doesn't depend on the pins; a dumper's action leaves the
+-- trail.
 use Rattle.std.proofs.Common.{◌≡◌, ◌+◌, ◌≤◌, true, false, refl, sym, ap, ◌∙◌, arith}
 use Rattle.std.specs.Prelude.{◌≢◌}
 use Rattle.heap_class.specs.declared.IdSize.{IdSize}

@@ -167,8 +167,8 @@ fn next(answer: Outcome) -> Stage
     }
 }
 
-/// Goes on with the cycle that runs until it is finished, as `mark_worker` does from its Mark on, and begins none: if no cycle runs,
-/// its first act is refused NotMarking, and it ends. May wait.
+/// Goes on with the cycle that runs until it is finished, as `mark_worker` does from its Mark on, and begins none: if no cycle
+/// runs, its first act is refused NotMarking, and it ends. May wait.
 pub fn resume_worker<L: Heap, R: Wait, G: Gate>(
     shared: &Shared<L>,
     rt: &R,

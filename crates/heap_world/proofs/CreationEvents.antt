@@ -1,4 +1,5 @@
--- The events that make an object: their refusals, what they leave, and what undoes them. The heap after a new object is legal by `New`.
+-- The events that make an object: their refusals, what they leave, and what undoes them. The heap after a new object is legal by
+-- `New`.
 use Rattle.std.proofs.Common.{◌≡◌, ◌≢◌, ◌⊎◌, ℕ, ◌<◌, ◌≤◌, Bool, true, false, List, [], ◌∷◌, Option, Some, None, Result, Ok, Err, length, refl, sym, ap, subst, ◌∙◌, inl, inr, arith}
 use Rattle.std.specs.Prelude.{cond, not, nat_le, nat_lt, is_none, IfOk, OnOk, IfErr, OnErr, slice_get, slice_set, is_some, IsSome, option_map, option_and_then}
 use Rattle.std.specs.Option.{option_map_or}

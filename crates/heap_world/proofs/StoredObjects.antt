@@ -21,7 +21,8 @@ use Rattle.heap_region.proofs.Clauses.{IsPartition}
 use Rattle.heap_region.specs.Legal.{IsArea}
 use Rattle.heap_region.proofs.Spares.{NamesSpare, area_with_region, spare_kept}
 
--- each object has a kind and a place that fit, each region's cells and the pool are in order, and what isn't live is unmarked and in a region yet to be swept
+-- each object has a kind and a place that fit, each region's cells and the pool are in order, and what isn't live is unmarked and
+-- in a region yet to be swept
 pub record IsStored (classes : List Class) (start : ℕ) (regions : List Region) (ps : List ℕ) : Type 0 where
   pub objects : (at : ObjRef) (o : Object) → object_at regions at ≡ Some o → IsObjectOf classes o
   pub least_cells : (at : ObjRef) (o : Object) → object_at regions at ≡ Some o → IfSome (used_at regions at.region) (λ u. u.cell_size ≡ cell_size_for (length o.words))

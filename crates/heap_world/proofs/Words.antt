@@ -1,4 +1,5 @@
--- No object of a legal heap has more words than an array may have elements: what the clauses on classes and kinds say of each object.
+-- No object of a legal heap has more words than an array may have elements: what the clauses on classes and kinds say of each
+-- object.
 use Rattle.std.proofs.Common.{ℕ, ◌≤◌, List, [], length, arith}
 use Rattle.heap_class.specs.declared.ObjKind.{ObjKind}
 use Rattle.heap_class.specs.declared.ObjKind.TheVariants.{Instance, Array, Prim}

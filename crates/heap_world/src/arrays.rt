@@ -18,8 +18,8 @@ impl World {
     }
 
     /// Makes an object array of a class in register `r` of mutator `m`, its elements null. Fails with BadRegister, NoClass,
-    /// WrongKind (the class isn't an array class), TooLarge (more than 1,024 elements, in a heap with an area 2,097,147) or HeapFull, in this order, and then
-    /// with NoMemory if a region's storage can't be allocated.
+    /// WrongKind (the class isn't an array class), TooLarge (more than 1,024 elements, in a heap with an area 2,097,147) or
+    /// HeapFull, in this order, and then with NoMemory if a region's storage can't be allocated.
     pub fn new_array(
         &mut self,
         m: u64,
@@ -34,9 +34,9 @@ impl World {
         self.make(m, r, ObjKind::Array(class), len)
     }
 
-    /// Makes an array of values of a kind in register `r` of mutator `m`, its elements 0. Fails with BadRegister, WrongKind
-    /// (the kind is Object), TooLarge (more than 1,024 elements, in a heap with an area 2,097,147) or HeapFull, in this order, and then with NoMemory if a
-    /// region's storage can't be allocated.
+    /// Makes an array of values of a kind in register `r` of mutator `m`, its elements 0. Fails with BadRegister, WrongKind (the
+    /// kind is Object), TooLarge (more than 1,024 elements, in a heap with an area 2,097,147) or HeapFull, in this order, and then
+    /// with NoMemory if a region's storage can't be allocated.
     pub fn new_prim(&mut self, m: u64, r: u64, kind: Kind, len: u64) -> Result<Created, Refusal>
         ensures { IsNewObject m r (Prim kind) len (new_prim_refusal m r kind len self.old) self.old
             self.new result }

@@ -16,8 +16,8 @@ use heap_sweep::{DeadCells, Reclaimed};
 
 impl World {
     /// Removes a region's objects that aren't live. Their cells head its free list, the highest first. A region left without
-    /// objects becomes empty, and heads the pool if it is below the area. Returns what was removed. Fails with NothingToSweep if the region doesn't wait
-    /// to be swept, and with NoMemory if the region keeps objects and the dead ones can't be copied.
+    /// objects becomes empty, and heads the pool if it is below the area. Returns what was removed. Fails with NothingToSweep if
+    /// the region doesn't wait to be swept, and with NoMemory if the region keeps objects and the dead ones can't be copied.
     pub fn sweep(&mut self, region: u64) -> Result<Reclaimed, Refusal>
         ensures answered { IsAnswered (sweep_refusal region (pool_of self.old))
             (copies_dead region (pool_of self.old)) result }

@@ -22,7 +22,8 @@ abbrev pub IsUnfetched : Result (Unit {0}) Fault → Type 0
 IsUnfetched result =
     (result ≡ Err fault.Connect) ⊎ ((result ≡ Err fault.Out) ⊎ (result ≡ Err fault.Memory))
 
--- a socket gave what stands behind `socket'`, having given nothing before; this was put out to a file, and then a last line was put out
+-- a socket gave what stands behind `socket'`, having given nothing before; this was put out to a file, and then a last line was put
+-- out
 abbrev pub IsFetchTold : Fetched → Incoming → Outgoing → Outgoing → Outgoing
     → Result (Unit {0}) Fault
     → Type 0

@@ -62,24 +62,24 @@ terms_of s service secret =
       limits = session_limits s.wide;
     }
 
--- a heap was made of these settings with a seat for each of the service's sessions, and clients were served from its seats, from fewer
--- if an accept failed
+-- a heap was made of these settings with a seat for each of the service's sessions, and clients were served from its seats, from
+-- fewer if an accept failed
 abbrev pub IsHeapOf : Settings → Service → Option (List ℕ) → ServedHeap → Type 0
 IsHeapOf s service secret h =
     (h.made.value.config ≡ config_of s) × (h.made.value.rolls ≡ rolls_of s service)
     × (length h.made.value.seats ≡ service.sessions)
     × IsOver h.made.value (terms_of s service secret) h
 
--- a heap was made of these settings with the marker's seat, the sweeper's, and one for each of the service's sessions, from which clients
--- were served, from fewer if an accept failed; and the two seats gained what runs of their workers did
+-- a heap was made of these settings with the marker's seat, the sweeper's, and one for each of the service's sessions, from which
+-- clients were served, from fewer if an accept failed; and the two seats gained what runs of their workers did
 abbrev pub IsTendedHeapOf : Settings → Service → Option (List ℕ) → TendedHeap → Type 0
 IsTendedHeapOf s service secret t =
     (t.heap.made.value.config ≡ config_of s) × (t.heap.made.value.rolls ≡ rolls_of s service)
     × AreStaff service.sessions t.heap.made.value.seats
     × IsTendedOver t.heap.made.value (terms_of s service secret) t
 
--- a heap was made of these settings with a seat for each of the service's sessions, and from each of its seats clients were served, one
--- after another
+-- a heap was made of these settings with a seat for each of the service's sessions, and from each of its seats clients were served,
+-- one after another
 abbrev pub IsStayedHeapOf : Settings → Service → Option (List ℕ) → StayedHeap → Type 0
 IsStayedHeapOf s service secret h =
     (h.made.value.config ≡ config_of s) × (h.made.value.rolls ≡ rolls_of s service)
@@ -97,7 +97,8 @@ IsStayTendedHeapOf s service secret t =
 abbrev pub IsUnserved : Outgoing → Outgoing → Result (Unit {0}) Fault → Type 0
 IsUnserved w w' outcome = ((outcome ≡ Err Memory) ⊎ (outcome ≡ Err Listen)) × (w' ≡ w)
 
--- this heap of these settings was served, its collector tended if there are workers, and its sessions' endings were put out; or no heap was
+-- this heap of these settings was served, its collector tended if there are workers, and its sessions' endings were put out; or no
+-- heap was
 abbrev pub IsServed : Service → Option (List ℕ) → Settings → Outgoing → Outgoing → Option HeapServed
     → Result (Unit {0}) Fault
     → Type 0
@@ -115,8 +116,8 @@ IsServed service secret s w w' (Some (StayedTended t)) outcome =
     (service.stays ≡ true) × (1 ≤ service.workers) × IsStayTendedHeapOf s service secret t
     × (w' ≡ w) × (outcome ≡ Err Accept)
 
--- this heap was served from these seats on these terms, with nobody tending its collector, and its sessions' endings were put out; or there
--- was no memory
+-- this heap was served from these seats on these terms, with nobody tending its collector, and its sessions' endings were put out;
+-- or there was no memory
 abbrev pub IsUntendedEnd : Maker → Terms → Outgoing → Outgoing → Option HeapServed
     → Result (Unit {0}) Fault
     → Type 0
@@ -138,8 +139,8 @@ IsTendedEnd blank terms w w' (Some (Tended t)) outcome =
 IsTendedEnd blank terms w w' (Some (Stayed h)) outcome = ⊥
 IsTendedEnd blank terms w w' (Some (StayedTended t)) outcome = ⊥
 
--- this heap was served from these seats on these terms, by sessions one after another from each, until no client could be accepted any
--- more; or there was no memory
+-- this heap was served from these seats on these terms, by sessions one after another from each, until no client could be accepted
+-- any more; or there was no memory
 abbrev pub IsStayEnd : Maker → Terms → Option HeapServed → Result (Unit {0}) Fault → Type 0
 IsStayEnd blank terms None outcome = outcome ≡ Err Memory
 IsStayEnd blank terms (Some (Untended h)) outcome = ⊥

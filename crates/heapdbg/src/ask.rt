@@ -13,8 +13,8 @@ use std::net::{Net, TcpStream};
 use std::sync::Wait;
 use std::thread::Threads;
 
-/// A client of a session that has ended: how it ended, the thread that sends its input, if one was started, and the socket's direction from
-/// which it received.
+/// A client of a session that has ended: how it ended, the thread that sends its input, if one was started, and the socket's
+/// direction from which it received.
 #[derive(Drop)]
 pub struct SessionAsked<I: Inlet> {
     pub client: Client<I, SocketOutlet>,
@@ -41,9 +41,10 @@ impl<I: Inlet> AskEnd<I> {
     }
 }
 
-/// Sends the secret, if there is one, and all input to the session on a port, and puts out what comes back, until the session has ended. Returns the client. Fails with
-/// Connect, and then writes nothing, if no connection can be made; why, it says on standard error, if that is a terminal. Fails with
-/// Memory, and writes nothing, if an allocation fails or no thread can be started. May wait.
+/// Sends the secret, if there is one, and all input to the session on a port, and puts out what comes back, until the session has
+/// ended. Returns the client. Fails with Connect, and then writes nothing, if no connection can be made; why, it says on standard
+/// error, if that is a terminal. Fails with Memory, and writes nothing, if an allocation fails or no thread can be started. May
+/// wait.
 pub fn ask_port<R, I: Inlet + Send + Drop + 'static, O: Outlet>(
     rt: &R,
     port: u16,

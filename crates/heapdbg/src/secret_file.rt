@@ -16,8 +16,9 @@ const OTHERS: u32 = 0o077;
 // The room for what a file has: one byte more than a secret with its line's end.
 const ROOM: usize = FIRST_LINE_LIMIT + 1;
 
-/// Reads the secret from the file of a path, if clients have to know one. Fails with Secret if the file can't be read, if others than its
-/// owner may use it, or if it has no secret, and says why on standard error, if that is a terminal. Fails with Memory if there is no path.
+/// Reads the secret from the file of a path, if clients have to know one. Fails with Secret if the file can't be read, if others
+/// than its owner may use it, or if it has no secret, and says why on standard error, if that is a terminal. Fails with Memory if
+/// there is no path.
 pub(crate) fn secret_for<R: AllocGlobal + Eprint + Files>(
     rt: &R,
     is_wanted: bool,

@@ -41,8 +41,8 @@ pub enum HeapServed {
     StayedTended(StayTendedHeap),
 }
 
-/// The end of a service: its outcome, and the heap that it served. It served none if there was no memory for the heap or a thread, or if a
-/// port couldn't be listened on.
+/// The end of a service: its outcome, and the heap that it served. It served none if there was no memory for the heap or a thread,
+/// or if a port couldn't be listened on.
 #[derive(Drop)]
 pub struct ServiceEnd {
     pub outcome: Result<(), Fault>,
@@ -61,12 +61,13 @@ impl ServiceEnd {
     }
 }
 
-/// Serves sessions to clients of a port, and puts out how each session ended; a heap that stays says it on standard output as each ends. Two threads tend the collector meanwhile if there are
-/// workers, three send dumps if there is a port for them, and one answers the clients of the page if there is a port for it; the page's
-/// address, with its key, is said on standard error. Returns the heap that was served. Fails with Memory if the heap can't be allocated,
-/// no thread for the workers, the dumps or the page can be had, or the system gives no random bytes for the key, with Listen if a port
-/// can't be listened on, with Accept if a client could not be accepted, and else with Write if a write failed. Says on standard error
-/// that it listens, or why it can't, if that is a terminal. May wait.
+/// Serves sessions to clients of a port, and puts out how each session ended; a heap that stays says it on standard output as each
+/// ends. Two threads tend the collector meanwhile if there are workers, three send dumps if there is a port for them, and one
+/// answers the clients of the page if there is a port for it; the page's address, with its key, is said on standard error. Returns
+/// the heap that was served. Fails with Memory if the heap can't be allocated, no thread for the workers, the dumps or the page can
+/// be had, or the system gives no random bytes for the key, with Listen if a port can't be listened on, with Accept if a client
+/// could not be accepted, and else with Write if a write failed. Says on standard error that it listens, or why it can't, if that
+/// is a terminal. May wait.
 pub fn serve_port<R, O: Outlet>(
     rt: &R,
     alloc: Global,

@@ -82,7 +82,8 @@ used_as_free name Version id how values rows is other free = cc
 
 -- ---- rules
 
--- an option is named by its id, takes no place among positionals, and has neither a default nor, if its id is the name, a short form
+-- an option is named by its id, takes no place among positionals, and has neither a default nor, if its id is the name, a short
+-- form
 abbrev pub is_plain_rule : Text → Rule → Bool
 is_plain_rule name r = option_map_or (λ s. bytes_eq s r.id) r.long false && (is_empty r.aliases
     && (not (is_some r.index) && (is_empty r.defaults && (is_value_or_help (action_of r)

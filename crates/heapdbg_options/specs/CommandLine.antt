@@ -193,8 +193,8 @@ size_with least most text (Some digits) before_m = counted_in least most 1024 di
 size_with least most text None (Some digits) = counted_in least most 1048576 digits
 size_with least most text None None = number_in least most text
 
--- the size that a text writes, if it lies from least to most: a number, or 1,024 times the number before a `k`, or 1,048,576 times the
--- number before an `m`
+-- the size that a text writes, if it lies from least to most: a number, or 1,024 times the number before a `k`, or 1,048,576 times
+-- the number before an `m`
 abbrev pub size_in : ℕ → ℕ → Text → Option ℕ
 size_in least most text =
     size_with least most text (text_before (codes "k") text) (text_before (codes "m") text)
@@ -273,8 +273,8 @@ most_regions wide = if wide then region_limit else narrow_regions
 abbrev pub most_kept : Bool → ℕ
 most_kept wide = if wide then keep_limit else narrow_keep
 
--- the number of steps of `explore` that can be undone, if the option is not given: the most that there may be, but those of a dump's
--- session as many as in a heap that isn't wide
+-- the number of steps of `explore` that can be undone, if the option is not given: the most that there may be, but those of a
+-- dump's session as many as in a heap that isn't wide
 abbrev pub keep_after : Origin → Bool → ℕ
 keep_after Fresh wide = most_kept wide
 keep_after Lines wide = most_kept wide

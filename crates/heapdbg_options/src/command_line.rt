@@ -279,8 +279,8 @@ fn option_size(
     }
 }
 
-// Returns the size that a text writes, by digits alone or with `k` or `m` behind them, or None if it isn't from `least` to `most` or the
-// text is another.
+// Returns the size that a text writes, by digits alone or with `k` or `m` behind them, or None if it isn't from `least` to `most`
+// or the text is another.
 fn size(text: &str, least: u64, most: u64) -> Option<u64>
     ensures { result ≡ size_in least most text.now }
 {
@@ -335,8 +335,8 @@ fn keep_default(task: Task, wide: bool) -> u64
     }
 }
 
-// Returns how many steps of `explore` can be undone if the option isn't given: the most that there may be, but of a dump's session as
-// many as in a heap that isn't wide.
+// Returns how many steps of `explore` can be undone if the option isn't given: the most that there may be, but of a dump's session
+// as many as in a heap that isn't wide.
 fn keep_after(origin: Origin, wide: bool) -> u64
     ensures { result ≡ keep_after origin wide }
 {

@@ -143,8 +143,8 @@ pub fn config(settings: &Settings) -> Config
     }
 }
 
-// Returns the configuration that the settings' numbers give, with ids of 8 bytes and without an area, or None if a number is outside
-// its limits.
+// Returns the configuration that the settings' numbers give, with ids of 8 bytes and without an area, or None if a number is
+// outside its limits.
 fn config_of_numbers(settings: &Settings) -> Option<Config>
     ensures given { IfSome result
         (λ c. c

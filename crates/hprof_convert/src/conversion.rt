@@ -63,8 +63,8 @@ impl From<AllocError> for Failure {
 }
 
 /// Puts out the session of a dump, for a heap with an area or without one, and counts what is left out. Fails with Header if the
-/// bytes don't begin as a dump does; nothing is out then. Fails with Memory if an allocation fails, and with Write if a put fails; a
-/// part of the session may be out then, from the front.
+/// bytes don't begin as a dump does; nothing is out then. Fails with Memory if an allocation fails, and with Write if a put fails;
+/// a part of the session may be out then, from the front.
 pub fn convert<O: Outlet>(
     alloc: Global,
     outlet: &mut O,

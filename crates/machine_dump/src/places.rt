@@ -67,7 +67,8 @@ pub fn stream_place<O: Outlet, G: Gauge, R: Threads + Wait + Sync>(
     }
 }
 
-// Streams a pin by a new meter, and shows a gauge its progress. The dump is lost by Memory, with 0 bytes, if a meter can't be allocated.
+// Streams a pin by a new meter, and shows a gauge its progress. The dump is lost by Memory, with 0 bytes, if a meter can't be
+// allocated.
 fn stream_shown<'a, O: Outlet, G: Gauge, R: Threads + Wait + Sync>(
     rt: &R,
     alloc: Global,

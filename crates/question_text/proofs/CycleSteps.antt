@@ -218,7 +218,8 @@ none_first : (p : List ℕ) → slice_get p 0 ≡ None → p ≡ []
 none_first [] h = refl
 none_first (x ∷ xs) h = absurd (cc h)
 
--- the sweeps so far lead from m to n, and remove this number of objects; each region that still waits may have as many more as it has cells
+-- the sweeps so far lead from m to n, and remove this number of objects; each region that still waits may have as many more as it
+-- has cells
 pub record AreSweeping (m : Machine) (steps : List TakenStep) (count : ℕ) (n : Machine) : Type 0 where
   pub lead : (b : Bool) → StepsLead b m steps b n 0 count
   pub few : count + cell_limit * length (pending_regions n.trail.current.regions) ≤ region_limit * cell_limit

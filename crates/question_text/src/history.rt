@@ -90,8 +90,8 @@ impl Lined for PastStep {
     }
 }
 
-// Returns the answer of `history`. Fails with NotRetained if the state at the place isn't retained, and with NoMemory if an allocation
-// fails. Reads each record since the oldest step that it tells once.
+// Returns the answer of `history`. Fails with NotRetained if the state at the place isn't retained, and with NoMemory if an
+// allocation fails. Reads each record since the oldest step that it tells once.
 pub(crate) fn history_answer(
     alloc: Global,
     machine: &Machine,

@@ -14,8 +14,8 @@ use heap_questions::{ListedObject, Wanted, list_wanted};
 use hprof_text::View;
 use std::alloc::{AllocError, Global};
 
-// Returns the answer of `objects` about a view. Fails with NoClass if the class isn't there, with BadSlot if its objects have no such
-// slot, and with NoMemory if an allocation fails. Reads each object at most twice.
+// Returns the answer of `objects` about a view. Fails with NoClass if the class isn't there, with BadSlot if its objects have no
+// such slot, and with NoMemory if an allocation fails. Reads each object at most twice.
 pub(crate) fn objects_answer<V: View>(
     alloc: Global,
     view: &V,

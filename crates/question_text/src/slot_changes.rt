@@ -28,9 +28,9 @@ pub(crate) fn push_word(text: &mut Vec<u8>, refers: bool, word: u64) -> Result<(
     }
 }
 
-// Returns the answer of `watch`, about the steps up to a place. Fails with NotRetained if its state isn't retained, with NoObject if
-// the id names no object there, with BadSlot if it lacks the slot, and with NoMemory if an allocation fails. Reads each record since
-// the object was made at most three times.
+// Returns the answer of `watch`, about the steps up to a place. Fails with NotRetained if its state isn't retained, with NoObject
+// if the id names no object there, with BadSlot if it lacks the slot, and with NoMemory if an allocation fails. Reads each record
+// since the object was made at most three times.
 pub(crate) fn watch_answer(
     alloc: Global,
     machine: &Machine,

@@ -19,8 +19,8 @@ use heap_trail::Machine;
 use std::alloc::{AllocError, Global};
 
 // Returns the answer of `writes`. Fails with NoClass if the class isn't there, with BadSlot if its objects have no such slot, with
-// NotRetained if the state at a place isn't retained, and with NoMemory if an allocation fails. Reads each record since the first of
-// the steps once.
+// NotRetained if the state at a place isn't retained, and with NoMemory if an allocation fails. Reads each record since the first
+// of the steps once.
 pub(crate) fn writes_answer(
     alloc: Global,
     machine: &Machine,
@@ -53,8 +53,8 @@ fn steps_of(machine: &Machine, span: Span) -> Result<(u64, u64), Refusal>
     }
 }
 
-// Returns the lines of all changes of a slot of the objects of a class by the last `count` steps to the state of `ago` steps ago, and
-// their number. Fails with NoMemory.
+// Returns the lines of all changes of a slot of the objects of a class by the last `count` steps to the state of `ago` steps ago,
+// and their number. Fails with NoMemory.
 fn written_text(
     alloc: Global,
     machine: &Machine,

@@ -68,8 +68,8 @@ fn write_line(past: &PastTrail<'_>, at: ObjRef, slot: u64, word: u64) -> LineAns
     }
 }
 
-// Returns the answer of `wrote` about the steps up to a place. Refused with NotRetained if its state isn't retained, and with NoMemory
-// if an allocation fails.
+// Returns the answer of `wrote` about the steps up to a place. Refused with NotRetained if its state isn't retained, and with
+// NoMemory if an allocation fails.
 fn wrote_past(alloc: Global, machine: &Machine, place: u64, id: u64, slot: u64) -> LineAnswer
     ensures { IsAnswerAgo (λ u. IsTextOrNoMemory (IsWroteText id slot u)) machine.now.trail
         (steps_ago (Some place) machine.now.trail) (line_answer_text result) }

@@ -66,8 +66,8 @@ fn secret_of(word: &[u8]) -> Secret
 }
 
 impl Secret {
-    /// Returns the word of a text: 16 to 64 ASCII letters and digits, and perhaps one LF or CR LF behind them. Returns None if the text is
-    /// anything else.
+    /// Returns the word of a text: 16 to 64 ASCII letters and digits, and perhaps one LF or CR LF behind them. Returns None if the
+    /// text is anything else.
     pub fn of_text(text: &[u8]) -> Option<Secret>
         ensures { MatchOption result
             ((word : List ℕ) → IsSecret word → IsTextOf word text.now → ⊥)
@@ -93,8 +93,8 @@ impl Secret {
         difference == 0
     }
 
-    /// Returns the size of the first line of these bytes, with the LF or CR LF that ends it, if it is the word, or None. Takes as many
-    /// steps for each first line of one length.
+    /// Returns the size of the first line of these bytes, with the LF or CR LF that ends it, if it is the word, or None. Takes as
+    /// many steps for each first line of one length.
     pub fn line_size(&self, bytes: &[u8]) -> Option<usize>
         ensures { MatchOption result
             ((rest : List ℕ) → IsBehindWord self.now bytes.now rest → ⊥)

@@ -20,8 +20,8 @@ const BUFFER_LIMIT: usize = 65_536;
 // The number of bytes in use until a read fills them, more than a line has: a session that is idle touches no more of its memory.
 const FIRST_LIMIT: usize = 4_608;
 
-/// Bytes that were read. All memory is allocated when the buffer is made, and most of it is touched only after a read that filled what is
-/// in use. Contracts see the bytes.
+/// Bytes that were read. All memory is allocated when the buffer is made, and most of it is touched only after a read that filled
+/// what is in use. Contracts see the bytes.
 #[derive(Drop)]
 pub struct Buffer {
     bytes: Vec<u8>,

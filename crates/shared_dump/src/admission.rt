@@ -8,8 +8,8 @@ use std::time::{Clock, Duration};
 // The milliseconds in which a client has to say the secret word.
 const FIRST_LINE: u64 = 250;
 
-/// Tells whether a client may have a dump: anyone may if there is no secret word; else the first line that the client sends has to be
-/// the word, and to come within a quarter of a second. That line is taken then, and nothing behind it. May wait.
+/// Tells whether a client may have a dump: anyone may if there is no secret word; else the first line that the client sends has to
+/// be the word, and to come within a quarter of a second. That line is taken then, and nothing behind it. May wait.
 pub(crate) fn is_admitted<R: Clock + Wait>(
     rt: &R,
     stream: &TcpStream,

@@ -71,8 +71,8 @@ impl<'m, O: Outlet + Drop, G: DumpGuard + Drop, B: AskStart<G>> Asking<'m, O, G,
         }
     }
 
-    // Returns the outlet and its guard. Takes the seat that looked: it found that the dump was to be cancelled only if the guard said
-    // that it has to end.
+    // Returns the outlet and its guard. Takes the seat that looked: it found that the dump was to be cancelled only if the guard
+    // said that it has to end.
     pub(crate) fn into_guarded(self, feed: FeedSeat) -> Guarded<O, G>
         requires { B.meter ≡ Some feed.meter }
         ensures back { result ≡ self.entry }
@@ -101,8 +101,8 @@ impl<'m, O: Outlet + Drop, G: DumpGuard + Drop, B: AskStart<G>> Outlet for Askin
     }
 }
 
-// Puts out the dump of a pin as `stream` does, and asks to cancel it once the guard says that it has to end. Returns the outlet with
-// its guard, and the dumper.
+// Puts out the dump of a pin as `stream` does, and asks to cancel it once the guard says that it has to end. Returns the outlet
+// with its guard, and the dumper.
 pub(crate) fn stream_asking<
     'a,
     'm,

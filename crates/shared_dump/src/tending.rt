@@ -22,8 +22,8 @@ use std::time::{Clock, Duration};
 // The milliseconds after which a thread looks for a client again: one of the three does about every millisecond.
 const PAUSE: u64 = 3;
 
-// The port for dumps: its heap, its listener, the word that its clients have to say, if there is one, the time in the headers, the dumps
-// that failed, and the stop word.
+// The port for dumps: its heap, its listener, the word that its clients have to say, if there is one, the time in the headers, the
+// dumps that failed, and the stop word.
 #[derive(Drop)]
 struct DumpPort<'a, L: Heap> {
     shared: &'a Shared<L>,

@@ -17,8 +17,8 @@ const REST: u64 = 50;
 // The seconds without a byte after which a dump has to end.
 const PATIENCE: u64 = 10;
 
-/// When the dump of a client has to end: once the stop word is set, its pin is closed or lost, no byte has gone out for ten seconds,
-/// or its socket failed. Once it has to end, it has to.
+/// When the dump of a client has to end: once the stop word is set, its pin is closed or lost, no byte has gone out for ten
+/// seconds, or its socket failed. Once it has to end, it has to.
 #[derive(Drop)]
 pub struct DumpTerm<'a, L: Heap, R: Clock + Wait> {
     rt: &'a R,

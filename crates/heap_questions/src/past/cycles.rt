@@ -26,8 +26,8 @@ pub struct EndedCycle {
     pub swept: u64,
 }
 
-/// Returns the cycles that the retained steps ended, the oldest first. Fails with NoMemory if an allocation fails. Looks at each cell
-/// of the current state once, and reads each record once.
+/// Returns the cycles that the retained steps ended, the oldest first. Fails with NoMemory if an allocation fails. Looks at each
+/// cell of the current state once, and reads each record once.
 pub fn ended_cycles(alloc: Global, machine: &Machine) -> Result<Vec<EndedCycle>, Refusal>
     ensures cycles { IfOk result
         (λ cycles. AreLastCycles machine.now.trail (retained machine.now.trail) cycles.items) }
@@ -93,8 +93,8 @@ fn push_cycle(cycles: &mut Vec<EndedCycle>, cycle: Option<EndedCycle>) -> Result
     Ok(())
 }
 
-// Returns the cycle that the step with this record ended, if it did, given the place that it led to, the number of dead objects after
-// it, and how many of them are left before the next such step.
+// Returns the cycle that the step with this record ended, if it did, given the place that it led to, the number of dead objects
+// after it, and how many of them are left before the next such step.
 fn cycle_by(record: &Undo, place: u64, dead: u64, left: u64) -> Option<EndedCycle>
     requires { left ≤ dead }
     ensures { result ≡ cycle_by record.now place dead left }

@@ -1,4 +1,5 @@
-//! The objects that had an id in the retained states: a walk over the records, the newest first, that follows the cell that the id names.
+//! The objects that had an id in the retained states: a walk over the records, the newest first, that follows the cell that the id
+//! names.
 ghost use Rattle.std.specs.Prelude.{◌≡◌, ◌≤◌, ◌+◌, ◌-◌, ◌/◌, ◌++◌, [], reverse, true, IfOk, IfErr, OnOk};
 ghost use Rattle.heap_class.specs.declared.Refusal.TheVariants.{NoMemory};
 ghost use Rattle.heap_region.specs.Limits.{region_words};
@@ -17,8 +18,8 @@ use heap_trail::Machine;
 use heap_world::World;
 use std::alloc::Global;
 
-/// What the retained steps did to an object: its kind, the place of the step that made it, or None if none of them did, when registers
-/// lost it, and the place of the step that removed it, or None if it is still there.
+/// What the retained steps did to an object: its kind, the place of the step that made it, or None if none of them did, when
+/// registers lost it, and the place of the step that removed it, or None if it is still there.
 #[derive(Clone, Copy)]
 pub struct Life {
     pub kind: ObjKind,
@@ -28,8 +29,8 @@ pub struct Life {
 }
 
 /// Returns what the retained steps did to each object, dead or not, that had an id in one of the retained states, the oldest first.
-/// Fails with NoMemory if an allocation fails. Reads each record once, and for each object those since its last state several times,
-/// and searches the heap as `loss_of` does.
+/// Fails with NoMemory if an allocation fails. Reads each record once, and for each object those since its last state several
+/// times, and searches the heap as `loss_of` does.
 pub fn lives_of(alloc: Global, machine: &Machine, id: u64) -> Result<Vec<Life>, Refusal>
     ensures lives { IfOk result
         (λ lives. AreLives machine.now.trail id (retained machine.now.trail + 1) lives.items) }
@@ -93,8 +94,8 @@ fn stands_in(world: &World, cell: Option<ObjRef>) -> bool
     }
 }
 
-// Tells whether an object stood in a cell, if there is one, before the step with this record. `now` says whether one with the same id
-// stands after it.
+// Tells whether an object stood in a cell, if there is one, before the step with this record. `now` says whether one with the same
+// id stands after it.
 fn stood_in(record: &Undo, cell: Option<ObjRef>, now: bool) -> bool
     ensures { result ≡ stood_in record.now cell now }
 {
@@ -115,8 +116,8 @@ fn push_life(lives: &mut Vec<Life>, life: Option<Life>) -> Result<(), Refusal>
     Ok(())
 }
 
-// Returns what is told of the object that has the id since the state of `oldest` steps ago, and last in that of `newest` steps ago, if
-// it is asked for. Fails with NoMemory.
+// Returns what is told of the object that has the id since the state of `oldest` steps ago, and last in that of `newest` steps ago,
+// if it is asked for. Fails with NoMemory.
 fn life_if(
     alloc: Global,
     machine: &Machine,

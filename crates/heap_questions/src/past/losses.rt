@@ -32,10 +32,10 @@ pub fn unreached_stays()
     ensures { (e : Event) (w : HeapState) → StaysUnreached e w }
 {}
 
-/// Tells whether a register reaches the object at `at` in the state to which a trail leads, in which it has this id, or which step of
-/// the trail took the last path from it. Fails with NoMemory if an allocation fails. Searches the heap twice if a guess by the
-/// references of the current state is right, and if it isn't, once more for each halving of the retained states: 17 times for 65,536
-/// steps.
+/// Tells whether a register reaches the object at `at` in the state to which a trail leads, in which it has this id, or which step
+/// of the trail took the last path from it. Fails with NoMemory if an allocation fails. Searches the heap twice if a guess by the
+/// references of the current state is right, and if it isn't, once more for each halving of the retained states: 17 times for
+/// 65,536 steps.
 pub fn loss_of(alloc: Global, past: &PastTrail<'_>, at: ObjRef, id: u64) -> Result<Loss, Refusal>
     requires named { ref_of past.now.current.regions id ≡ Some at }
     requires there { IsSome (object_at past.now.current.regions at) }
@@ -65,9 +65,9 @@ fn oldest_state(past: &PastTrail<'_>, at: ObjRef) -> u64
     }
 }
 
-// Returns how many steps ago the newest state was in which a register reached the object at `at`, whose id is `id` and which has stood
-// there since `oldest` steps ago, or None if no register has reached it since then. Begins with a guess, and halves the states then, since an
-// object that isn't reached is never reached again. Fails with NoMemory.
+// Returns how many steps ago the newest state was in which a register reached the object at `at`, whose id is `id` and which has
+// stood there since `oldest` steps ago, or None if no register has reached it since then. Begins with a guess, and halves the
+// states then, since an object that isn't reached is never reached again. Fails with NoMemory.
 fn newest_reached(
     alloc: Global,
     past: &PastTrail<'_>,

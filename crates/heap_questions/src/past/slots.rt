@@ -18,8 +18,8 @@ pub struct SlotChange {
     pub new: u64,
 }
 
-/// Returns the changes of a slot of the object at `at` by the steps of a trail since it was made, the oldest first. The trail leads to
-/// a state in which the slot holds `now`. Fails with NoMemory if an allocation fails. Reads each of the steps' records once.
+/// Returns the changes of a slot of the object at `at` by the steps of a trail since it was made, the oldest first. The trail leads
+/// to a state in which the slot holds `now`. Fails with NoMemory if an allocation fails. Reads each of the steps' records once.
 pub fn slot_changes(
     alloc: Global,
     past: &PastTrail<'_>,
@@ -36,8 +36,8 @@ pub fn slot_changes(
     Ok(changes)
 }
 
-// Returns the changes of a slot of the object at `at` by the steps of a trail since it was made, the newest first. The trail leads to
-// a state in which the slot holds `now`. Fails with NoMemory.
+// Returns the changes of a slot of the object at `at` by the steps of a trail since it was made, the newest first. The trail leads
+// to a state in which the slot holds `now`. Fails with NoMemory.
 fn newest_changes(
     alloc: Global,
     past: &PastTrail<'_>,

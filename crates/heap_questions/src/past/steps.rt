@@ -48,8 +48,8 @@ pub(crate) fn size_at(world: &World, region: u64) -> u64
 }
 
 /// Returns the newest `count` of the retained steps that led to the state of `ago` steps ago, or all if there are fewer, the newest
-/// first. That state must be retained. Fails with NoMemory if an allocation fails. Reads each record of the steps since, and of these,
-/// once.
+/// first. That state must be retained. Fails with NoMemory if an allocation fails. Reads each record of the steps since, and of
+/// these, once.
 pub fn history(
     alloc: Global,
     machine: &Machine,

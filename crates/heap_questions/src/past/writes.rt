@@ -24,9 +24,9 @@ pub struct SlotWrite {
     pub new: u64,
 }
 
-/// Returns the changes of a slot of all objects of a class by the last `count` steps to the state of `ago` steps ago, the oldest first:
-/// also of objects that aren't there any more. The steps must be retained. A class that isn't there has none. Fails with NoMemory if
-/// an allocation fails. Reads each record of these steps, and of the steps since, once.
+/// Returns the changes of a slot of all objects of a class by the last `count` steps to the state of `ago` steps ago, the oldest
+/// first: also of objects that aren't there any more. The steps must be retained. A class that isn't there has none. Fails with
+/// NoMemory if an allocation fails. Reads each record of these steps, and of the steps since, once.
 pub fn slot_writes(
     alloc: Global,
     machine: &Machine,
@@ -45,8 +45,8 @@ pub fn slot_writes(
     Ok(writes)
 }
 
-// Returns the writes of a slot of the objects of a class by the last `count` steps to the state of `ago` steps ago, the newest first.
-// Fails with NoMemory.
+// Returns the writes of a slot of the objects of a class by the last `count` steps to the state of `ago` steps ago, the newest
+// first. Fails with NoMemory.
 fn newest_writes(
     alloc: Global,
     machine: &Machine,
@@ -87,8 +87,8 @@ fn push_write(writes: &mut Vec<SlotWrite>, write: Option<SlotWrite>) -> Result<(
     Ok(())
 }
 
-// Returns the write of a slot by the step that left this record and led to `place`, if it changed an object of a class. The pin must
-// show the state after the step.
+// Returns the write of a slot by the step that left this record and led to `place`, if it changed an object of a class. The pin
+// must show the state after the step.
 fn write_by(
     pin: &Pin,
     world: &World,
@@ -133,8 +133,8 @@ fn overwritten(left: &Undo, slot: u64) -> Option<(ObjRef, u64)>
     }
 }
 
-// Returns the write of a slot of an object by the step that led to `place`, if the object is one of a class and its word changed. The
-// object's place and its old word are given, and a pin shows the object after the step.
+// Returns the write of a slot of an object by the step that led to `place`, if the object is one of a class and its word changed.
+// The object's place and its old word are given, and a pin shows the object after the step.
 fn changing_write(
     pin: &Pin,
     world: &World,

@@ -8,8 +8,8 @@ use machine_dump::PinSource;
 use std::alloc::Global;
 use std::test::Fail;
 
-/// Pumps the dump of a pin on a point that was changed since, but for its first piece, which was taken before. Returns whether it is
-/// that of the point as it was, and whether the dump of a pin that isn't open is lost.
+/// Pumps the dump of a pin on a point that was changed since, but for its first piece, which was taken before. Returns whether it
+/// is that of the point as it was, and whether the dump of a pin that isn't open is lost.
 pub fn is_pumped(alloc: Global, machine: &mut Machine) -> bool {
     if !has_point(alloc, machine) || !takes(machine, put_x(7)) {
         return false;

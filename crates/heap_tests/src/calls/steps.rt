@@ -27,8 +27,8 @@ fn new_steps_go(alloc: Global) -> bool {
     }
 }
 
-// Makes two points and removes both, one in each cycle. A write keeps one word; the first sweep keeps an entry and two words, and the
-// second the region, which has 1,024 words and 256 cells. Returns whether all goes as it must.
+// Makes two points and removes both, one in each cycle. A write keeps one word; the first sweep keeps an entry and two words, and
+// the second the region, which has 1,024 words and 256 cells. Returns whether all goes as it must.
 fn steps_go(world: &mut World, class: Event) -> bool {
     takes(world, class, Answer::Class(0), 0)
         && takes(world, new(0), Answer::Object(0x1000_0000), 0)

@@ -44,7 +44,8 @@ pub fn cuts<L: Heap + Send + Sync, R: Threads + Wait + Sync>(
     }
 }
 
-// Returns whether a dump to a sink that is held from the first byte on was cancelled before its end, and what is out is a beginning.
+// Returns whether a dump to a sink that is held from the first byte on was cancelled before its end, and what is out is a
+// beginning.
 fn is_cut<L: Heap + Send + Sync, R: Threads + Wait + Sync>(
     stage: &Stage<'_, L, R>,
     text: &[u8],

@@ -1,4 +1,4 @@
-use Rattle.std.proofs.Common.{[], length, drop, sym, ap, ◌∙◌, arith}
+use Rattle.std.proofs.Common.{[], drop, sym, ap, ◌∙◌, arith}
 use Rattle.heap_class.specs.declared.ObjKind.TheVariants.{Array}
 use Rattle.hprof_text.specs.Text.{dump_of}
 use Rattle.hprof_text.proofs.Lengths.{array_dump_length}

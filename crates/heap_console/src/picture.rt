@@ -74,7 +74,12 @@ fn add_picture(
     let height = behind.saturating_add(LEGEND_STEP.saturating_mul(OTHER_LINES));
     add_head(text, height)?;
     add_title(text, machine.place(), rows)?;
-    add_regions(text, regions, &shown, world.gray(), palette)?;
+    let shown_regions = ShownRegions {
+        regions,
+        rows: &shown,
+        palette,
+    };
+    add_regions(text, shown_regions, world.gray())?;
     add_bars(text, regions, &shown)?;
     add_rows(alloc, text, legend, classes, rows, ranked)?;
     add_strokes(text, behind)?;
@@ -118,55 +123,29 @@ fn add_title(text: &mut Vec<u8>, place: u64, rows: &[Row]) -> Result<(), AllocEr
     add(text, b" bytes</text>\n")
 }
 
+// The regions that have a row, and the colours of their objects.
+#[derive(Clone, Copy)]
+struct ShownRegions<'a> {
+    regions: &'a Regions,
+    rows: &'a Rows,
+    palette: &'a Palette,
+}
+
 // Appends the cells of the regions that have a row.
 fn add_regions(
     text: &mut Vec<u8>,
-    regions: &Regions,
-    rows: &Rows,
+    shown: ShownRegions<'_>,
     gray: &[u64],
-    palette: &Palette,
 ) -> Result<(), AllocError> {
-    add_labels(text, regions, rows)?;
-    add_sort(
-        text,
-        regions,
-        rows,
-        palette,
-        CellSort::Free,
-        b"#eeeeee",
-        b"9",
-    )?;
+    add_labels(text, shown.regions, shown.rows)?;
+    add_sort(text, shown, CellSort::Free, b"#eeeeee", b"9")?;
     for color in 0..COLORS.len() {
-        add_sort(
-            text,
-            regions,
-            rows,
-            palette,
-            CellSort::Colored(color),
-            COLORS[color],
-            b"9",
-        )?;
+        add_sort(text, shown, CellSort::Colored(color), COLORS[color], b"9")?;
     }
-    add_sort(
-        text,
-        regions,
-        rows,
-        palette,
-        CellSort::Dead,
-        b"url(#dead)",
-        b"9",
-    )?;
-    add_sort(
-        text,
-        regions,
-        rows,
-        palette,
-        CellSort::Marked,
-        b"#000000",
-        b"2",
-    )?;
+    add_sort(text, shown, CellSort::Dead, b"url(#dead)", b"9")?;
+    add_sort(text, shown, CellSort::Marked, b"#000000", b"2")?;
     add_path_begin(text, b"#e00000", b"2")?;
-    add_gray(text, regions, rows, gray)?;
+    add_gray(text, shown.regions, shown.rows, gray)?;
     add_path_end(text)
 }
 
@@ -194,15 +173,13 @@ struct Drawing<'a> {
 // Appends a path of the cells of this sort.
 fn add_sort(
     text: &mut Vec<u8>,
-    regions: &Regions,
-    rows: &Rows,
-    palette: &Palette,
+    shown: ShownRegions<'_>,
     sort: CellSort,
     color: &[u8],
     width: &[u8],
 ) -> Result<(), AllocError> {
     add_path_begin(text, color, width)?;
-    add_all_cells(text, regions, rows, palette, sort)?;
+    add_all_cells(text, shown.regions, shown.rows, shown.palette, sort)?;
     add_path_end(text)
 }
 

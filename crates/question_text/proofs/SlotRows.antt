@@ -14,7 +14,7 @@ use Rattle.question_text.specs.Objects.{element_row, element_rows, end_in, field
 -- the first n of two lists, one after the other, are left out
 pub drop_both : {X : Type 0} (n : ℕ) (xs ys : List X) → drop n (xs ++ ys) ≡ drop n xs ++ drop (n - length xs) ys
 drop_both zero xs ys = let e : 0 ≡ 0 - length xs = omega arith in ap (λ k. xs ++ drop k ys) e
-drop_both (suc n) [] ys = let e : suc n ≡ suc n - length {A = X} [] = omega arith in ap (λ k. drop k ys) e
+drop_both {X = X} (suc n) [] ys = let e : suc n ≡ suc n - length {A = X} [] = omega arith in ap (λ k. drop k ys) e
 drop_both (suc n) (x ∷ xs) ys =
     let e : n - length xs ≡ suc n - length (x ∷ xs) = omega arith in
     drop_both n xs ys ∙ ap (λ k. drop n xs ++ drop k ys) e

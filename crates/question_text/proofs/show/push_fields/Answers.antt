@@ -29,7 +29,8 @@ loop-depth-preserved c =
     let own = c.own_count.result in
     let items = c.loop-depth.text.items in
     let there : a < length cs = subst (λ (o : Option ℕ). IfSome o (λ k. k < length cs)) c.in-Some.is c.loop-depth.invariant.there in
-    let k = c.args.from - f in
+    let k = c.saturating_sub.result in
+    let same : k ≡ c.args.from - f = omega (arith, c.saturating_sub.ensures) in
     let j = c.args.from - (f + own) in
     let mid = joined (drop k (field_rows f (fields_of cs a) (drop f words))) in
     let rest = joined (drop j (field_rows (f + own) (fields_up cs m (sup_of cs a)) (drop (f + own) words))) in
@@ -42,5 +43,6 @@ loop-depth-preserved c =
           ∙ append_assoc items mid rest
           ∙ ap (λ (t : List ℕ). items ++ t) (sym (part_of_class cs n m a f own k j words next c.own_count.ensures (omega arith)))
           ∙ ap (λ (o : Option ℕ). items ++ joined (drop k (field_rows f (fields_up cs n o) (drop f words)))) (sym c.in-Some.is)
+          ∙ ap (λ i. items ++ joined (drop i (field_rows f (fields_up cs n c.loop-depth.here) (drop f words)))) same
           ∙ c.loop-depth.invariant.lines;
     }

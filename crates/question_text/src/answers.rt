@@ -55,7 +55,10 @@ enum StateQuestion {
     // The objects that are wanted.
     Objects(Wanted),
     // The words that a slot holds in the objects of a class.
-    Values { class: u64, slot: u64 },
+    Values {
+        class: u64,
+        slot: u64,
+    },
     // What names the object with this id.
     Referrers(u64),
     // Why the object with this id is alive.
@@ -65,11 +68,18 @@ enum StateQuestion {
     // The objects that no other dominates: how many rows, or all.
     Dominators(Option<u64>),
     // What the object with this id dominates immediately: how many rows, or all.
-    Dominated { id: u64, most: Option<u64> },
+    Dominated {
+        id: u64,
+        most: Option<u64>,
+    },
     // What dominates the object with this id.
     Dominator(u64),
     // Slots of an object, and whether it is marked.
-    Show { id: u64, slots: SlotRange, marked: bool },
+    Show {
+        id: u64,
+        slots: SlotRange,
+        marked: bool,
+    },
 }
 
 // What a question asks about two states.
@@ -126,7 +136,12 @@ pub fn answer(alloc: Global, machine: &Machine, acts: Option<u64>, question: Que
         }
         Question::Show { at, id, slots } => {
             let marked = shows_mark(machine, at, id);
-            state_answer(alloc, machine, at, StateQuestion::Show { id, slots, marked })
+            state_answer(
+                alloc,
+                machine,
+                at,
+                StateQuestion::Show { id, slots, marked },
+            )
         }
         Question::Born { to, id } => born_answer(machine, to, id),
         Question::Wrote { to, id, slot } => wrote_answer(alloc, machine, to, id, slot),

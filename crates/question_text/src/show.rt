@@ -136,14 +136,8 @@ fn push_fields(
         let Some(above) = here else {
             return Ok(());
         };
-        push_own(
-            text,
-            classes,
-            above,
-            words,
-            first,
-            from.saturating_sub(first),
-        )?;
+        let skipped = from.saturating_sub(first);
+        push_own(text, classes, above, words, first, skipped)?;
         first += own_count(classes, above, (words.len() - first) as u64) as usize;
         here = classes.sup(above);
     }

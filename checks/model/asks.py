@@ -27,7 +27,7 @@ WANTED = {
     "classes": ABOUT_A_MOMENT,
     "objects": (*ABOUT_A_MOMENT, "ok of class", "ok by value", *BY_NAME, "no 2", "no 9"),
     "values": ("ok nothing", "ok some", "ok several", "ok without AT", *BY_NAME, "no 2", "no 9", "no 22", "no 23", "no 24"),
-    "show": (*ABOUT_A_MOMENT, "no 28"),
+    "show": ("ok", "ok no slot", "ok some slots", *ABOUT_A_MOMENT[1:], "no 28"),
     "born": ("ok place", "ok older", *UP_TO_A_PLACE, "no 28"),
     "wrote": ("ok place", "ok older", *UP_TO_A_PLACE, *BY_NAME, "no 9", "no 28"),
     "watch": ("ok nothing", "ok some", *UP_TO_A_PLACE, *BY_NAME, "no 9", "no 28"),
@@ -49,9 +49,9 @@ LEAST = 3
 PAST = (b"born", b"wrote", b"watch", b"writes", b"dropped", b"history")
 
 
-def sorts(word, form, words, left_out, last):
-    """Yields of what sorts an answer is, by its question, form and words, whether a moment was left out, and the words of its last
-    line."""
+def sorts(word, form, words, left_out, last, rows):
+    """Yields of what sorts an answer is, by its question, form and words, whether a moment was left out, the words of its last line,
+    and how many rows stand before that."""
     if left_out and last[0] == "ok":
         yield "ok without AT"
     if word in PAST and any(str(each).startswith("@") for each in words) and last[0] == "ok":
@@ -69,6 +69,8 @@ def sorts(word, form, words, left_out, last):
         yield ("ok nothing" if last[1] == "0" else "ok some") + below
         if word == b"dominators" and form.endswith("n") and last[1] != "0":
             yield "ok some of them" + below
+    elif word == b"show" and form.endswith("nn") and last[0] == "ok":
+        yield "ok some slots" if rows else "ok no slot"
     else:
         yield " ".join(last[:2]) if last[0] == "no" or last[1:2] in (["place"], ["older"], ["reached"]) else last[0]
 
@@ -124,6 +126,18 @@ class AskingDraw(Draw):
             return lots.pick([*(name for of in range(len(classes)) for name in field_names(classes, of)), "absent"])
         return lots.near(lots.below(8), 70)
 
+    def shown_object(self):
+        """Returns a word for an object: often that with the most slots, if these are many."""
+        slots, longest = max(((len(thing.words), word) for word, thing in self.state.objects()), default=(0, 0))
+        return f"0x{longest:08x}" if slots > 1024 and self.lots.once_in(2) else self.identifier()
+
+    def asked_index(self):
+        """Returns a number for the first slot that is shown, or for how many: a small one, or one near how many some object has."""
+        lots = self.lots
+        lengths = sorted(len(thing.words) for _, thing in self.state.objects())
+        usual = lots.pick([lots.below(4), max(0, lots.pick([0, *lengths[-3:]]) - lots.below(4))])
+        return lots.near(usual, 70)
+
     def help_words(self):
         """Returns the words after `help`: none, the word of a line, or words that name no line."""
         return self.lots.pick([[], [self.lots.pick(list(FORMS))], ["helping"], ["path", "-"]])
@@ -135,10 +149,12 @@ class AskingDraw(Draw):
 
     def ask(self):
         """Asks a question, or for help."""
-        word = self.lots.pick([*QUESTIONS, b"watch", b"writes", b"help"])
+        word = self.lots.pick([*QUESTIONS, b"show", b"watch", b"writes", b"help"])
         draws = {"a": self.moment, "i": self.identifier, "c": self.asked_class, "s": self.asked_slot, "v": self.held_word}
         draws["p"] = lambda: self.lots.pick(["-", self.retained_place()])
         draws["n"] = lambda: self.lots.near(self.lots.below(8), 70)
+        if word == b"show":
+            draws |= {"i": self.shown_object, "n": self.asked_index}
         form = "" if word == b"help" else self.lots.pick(QUESTIONS[word].split("|"))
         parts = findall(r"\??.", form)
         kept = [part for part in parts if part[0] != "?" or not self.lots.once_in(4)]
@@ -146,8 +162,8 @@ class AskingDraw(Draw):
         left_out = any(part in ("?a", "?p") for part in parts if part not in kept)
         words = self.help_words() if word == b"help" else [draws[sort]() for sort in form]
         accepted = self.say(word.decode(), *words)
-        last = self.lines[-1][1].split(b"\n")[-2].decode().split()
-        for sort in sorts(word, form, words, left_out, last):
+        *rows, last, _ = self.lines[-1][1].split(b"\n")
+        for sort in sorts(word, form, words, left_out, last.decode().split(), len(rows)):
             self.machine.sights.met[f"{word.decode()}: {sort}"] += 1
         return accepted
 

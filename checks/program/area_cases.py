@@ -82,6 +82,19 @@ def answers(program):
     wanted = made(SECOND) + b"row 1 2048 1 1 0 -\nok 1\nrow 1 2048 - o\nok 1\nno 28 NoObject\nok place 1\nrow 1 2000 byte[]\nok 1 2000\n"
     wanted += b"ok pushed 1\nrow 1 2048 - g\nok 1\n"
     yield "questions about a large object", run(program, ["explore", *AREA], lines), (0, wanted, b"")
+    yield from slots(program)
+
+
+def slots(program):
+    """Yields questions about some slots of the largest array."""
+    asked = b"show 0x10002000 %d 3\nshow - 0x10002000 %d 1000\nshow 0x10002000 %d 1\nput 0 0 1024 9\nshow 0x10002000 1023 2\nshow @2 0x10002000 1024 1\n"
+    lines = b"newprim 0 0 byte %d\nput 0 0 %d 255\n" % (MOST, MOST - 1) + asked % (MOST - 2, MOST - 1, MOST)
+    last = b"row %d %d byte 255\n" % (MOST - 1, MOST - 1)
+    end = b"ok object byte[] %d\n" % MOST
+    wanted = made(SECOND) + b"ok\n" + b"row %d %d byte 0\n" % (MOST - 2, MOST - 2) + last + end + last + end + end + b"ok\n"
+    wanted += b"row 1023 1023 byte 0\nrow 1024 1024 byte 9\n" + end + b"row 1024 1024 byte 0\n" + end
+    words = ["explore", "--wide", "--regions", "2049", "--area=2k"]
+    yield "slots of the largest array", run(program, words, lines), (0, wanted, b"")
 
 
 def areas(program):

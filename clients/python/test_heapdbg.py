@@ -137,6 +137,14 @@ class Replies(unittest.TestCase):
         self.assertEqual(heap.born(0x10000000), ("older", 4))
         self.assertEqual(heap.writer.getvalue(), b"show - 0x10000000\ndropped 0x10000000\nborn 0x10000000\n")
 
+    def test_some_slots(self):
+        heap = canned("row 2 x object null", "ok object Node 3", "row 1 v long 7", "ok object Node 3", "ok object Node 3")
+        self.assertEqual(heap.show(None, 0x10000000, first=2), [(2, "x", "object", None)])
+        self.assertEqual(heap.show("@4", 0x10000000, 1, 1), [(1, "v", "long", 7)])
+        self.assertEqual(heap.show(3, 0x10000000, count=0), [])
+        asked = b"show - 0x10000000 2 18446744073709551615\nshow @4 0x10000000 1 1\nshow 3 0x10000000 0 0\n"
+        self.assertEqual(heap.writer.getvalue(), asked)
+
     def test_classes_pins_and_collect(self):
         pins = "row 1 3 held 2", "row 4 9 lost Rewound", "row 5 7 lost Memory", "ok 3"
         heap = canned("row 0 Node - next:object v:long", "row 1 Nodes array", "ok 2", *pins, "ok condemned 3 swept 5")
@@ -621,6 +629,8 @@ class Names(unittest.TestCase):
             node = heap.new(0, 1, 1)
             heap.store(0, 0, 1, 1)
             self.assertEqual(heap.show(None, array), [(0, "0", "object", None), (1, "1", "object", node)])
+            self.assertEqual(heap.show(None, array, first=1), [(1, "1", "object", node)])
+            self.assertEqual(heap.show("@6", array, count=1), [(0, "0", "object", None)])
             self.assertEqual(heap.path("@6", node), [(0, 1, node)])
             self.assertEqual(heap.referrers(heap.open(), node), [(0, 1), (array, 1)])
             self.assertEqual((heap.born(node), heap.wrote(array, 1)), (("place", 5), ("place", 6)))

@@ -189,9 +189,13 @@ class Calls:
 
     # ---- questions, of a heapdbg that answers them
 
-    def show(self, moment: Moment, of: int) -> list[SlotRow]:
-        """Returns a `SlotRow` for each slot of an object."""
-        return self.send(f"show {word_of_moment(moment)} {ObjectId(of)}", rows_by(slot))
+    def show(self, moment: Moment, of: int, first: int = 0, count: Optional[int] = None) -> list[SlotRow]:
+        """Returns a `SlotRow` for each slot of an object, or for each from the slot `first` on: for `count` of these, if there are
+        as many."""
+        line = f"show {word_of_moment(moment)} {ObjectId(of)}"
+        if first or count is not None:
+            line += f" {first} {MOST if count is None else count}"
+        return self.send(line, rows_by(slot))
 
     def registers(self, moment: Moment = None) -> list[Union[Register, NullRegister]]:
         """Returns a `Register` for each register that names an object, and a `NullRegister` for each other."""

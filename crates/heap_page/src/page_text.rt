@@ -2,7 +2,7 @@
 
 // The policy of the page.
 pub(crate) const POLICY: &str =
-    "default-src 'none'; script-src 'sha256-66MXV/Bz87MN1mQqdakWsZGh6fEeaYkhHCrCPqVY/c8='; style-src 'sha256-rwptB6V3j7C9RUYU45deu6HKvCkiW6lYFRte+Sm6CU4='; img-src data:; connect-src 'self'; base-uri 'none'; form-action 'none'; frame-ancestors 'none'";
+    "default-src 'none'; script-src 'sha256-E8pc2o8PNyi8Q2hJkpJhPkGeOzuF1ajduRhyloSAOw0='; style-src 'sha256-rwptB6V3j7C9RUYU45deu6HKvCkiW6lYFRte+Sm6CU4='; img-src data:; connect-src 'self'; base-uri 'none'; form-action 'none'; frame-ancestors 'none'";
 
 // The page.
 pub(crate) const PAGE: &[u8] = b"<!doctype html>\n\
@@ -246,13 +246,15 @@ pub(crate) const PAGE: &[u8] = b"<!doctype html>\n\
     \x20\x20};\n\
     \x20\x20const COLORS = [...new Set(Object.values(EVENTS))];\n\
     \x20\x20// The most objects that are listed, the most requests at a time, the steps that are read before all are, the most that are read again while the heap goes on, the\n\
-    \x20\x20// objects that are listed through which most is reached, and the objects below one of them that are listed at a time.\n\
+    \x20\x20// objects that are listed through which most is reached, the objects below one of them that are listed at a time, and the slots of an\n\
+    \x20\x20// object that are asked for at a time.\n\
     \x20\x20const LISTED = 200,\n\
     \x20\x20\x20\x20LANES = 6,\n\
     \x20\x20\x20\x20FEW = 400,\n\
     \x20\x20\x20\x20MANY = 4000,\n\
     \x20\x20\x20\x20TOPS = 20,\n\
-    \x20\x20\x20\x20KIDS = 20;\n\
+    \x20\x20\x20\x20KIDS = 20,\n\
+    \x20\x20\x20\x20SLOTS = 1000;\n\
     \n\
     \x20\x20// ---- what is known\n\
     \x20\x20const key = location.hash.slice(1) || sessionStorage.getItem(\"heapdbg-key\") || \"\";\n\
@@ -303,6 +305,8 @@ pub(crate) const PAGE: &[u8] = b"<!doctype html>\n\
     \x20\x20\x20\x20path: new Set(),\n\
     \x20\x20\x20\x20refs: new Set(),\n\
     \x20\x20\x20\x20retains: { id: null, text: \"\", bytes: 0 },\n\
+    \x20\x20\x20\x20slots: { id: null, most: 0 },\n\
+    \x20\x20\x20\x20writers: [],\n\
     \x20\x20\x20\x20later: 0,\n\
     \x20\x20\x20\x20values: new Map(),\n\
     \x20\x20\x20\x20more: 0,\n\
@@ -2226,12 +2230,14 @@ pub(crate) const PAGE: &[u8] = b"<!doctype html>\n\
     \x20\x20\x20\x20if (value !== undefined) fill(value);\n\
     \x20\x20\x20\x20else if (!S.fast && e.p > S.shown - 16) {\n\
     \x20\x20\x20\x20\x20\x20const [, id, slot] = wordsOf(e),\n\
+    \x20\x20\x20\x20\x20\x20\x20\x20first = slot - slot % SLOTS,\n\
+    \x20\x20\x20\x20\x20\x20\x20\x20part = id + \" \" + first,\n\
     \x20\x20\x20\x20\x20\x20\x20\x20known = S.values;\n\
     \x20\x20\x20\x20\x20\x20// The first sight doesn't wait for it.\n\
     \x20\x20\x20\x20\x20\x20setTimeout(() => {\n\
     \x20\x20\x20\x20\x20\x20\x20\x20if (known !== S.values || !box.isConnected) return;\n\
-    \x20\x20\x20\x20\x20\x20\x20\x20if (!known.has(id)) known.set(id, ask(`show ${atWord()} ${id}`, true).then((r) => r.ok ? r.rows.map((x) => x[3]) : []));\n\
-    \x20\x20\x20\x20\x20\x20\x20\x20known.get(id).then((values) => fill(values[slot])).catch(() => {});\n\
+    \x20\x20\x20\x20\x20\x20\x20\x20if (!known.has(part)) known.set(part, ask(`show ${atWord()} ${part} ${SLOTS}`, true).then((r) => r.ok ? r.rows.map((x) => x[3]) : []));\n\
+    \x20\x20\x20\x20\x20\x20\x20\x20known.get(part).then((values) => fill(values[slot - first])).catch(() => {});\n\
     \x20\x20\x20\x20\x20\x20}, 100);\n\
     \x20\x20\x20\x20}\n\
     \x20\x20\x20\x20return box;\n\
@@ -2342,8 +2348,12 @@ pub(crate) const PAGE: &[u8] = b"<!doctype html>\n\
     \x20\x20\x20\x20keepFocus(box, () => box.replaceChildren(hint, sub, list));\n\
     \x20\x20\x20\x20$(\"inspnote\").textContent = S.at === null ? \"\" : `as it was at @${num(S.at)}`;\n\
     \x20\x20}\n\
-    \x20\x20async function fieldsOf(id) {\n\
-    \x20\x20\x20\x20const r = await ask(`show ${atWord()} ${id}`);\n\
+    \x20\x20// How many slots of an object are listed, at most.\n\
+    \x20\x20const mostSlots = (id) => S.slots.id === id ? S.slots.most : SLOTS;\n\
+    \n\
+    \x20\x20// Asks for slots of an object: for so many from one on.\n\
+    \x20\x20async function fieldsOf(id, first, count) {\n\
+    \x20\x20\x20\x20const r = await ask(`show ${atWord()} ${id} ${first} ${count}`);\n\
     \x20\x20\x20\x20return r.ok ? {\n\
     \x20\x20\x20\x20\x20\x20name: r.words[2],\n\
     \x20\x20\x20\x20\x20\x20count: +r.words[3],\n\
@@ -2370,7 +2380,7 @@ pub(crate) const PAGE: &[u8] = b"<!doctype html>\n\
     \x20\x20\x20\x20\x20\x20word = atWord(),\n\
     \x20\x20\x20\x20\x20\x20live = S.at === null;\n\
     \x20\x20\x20\x20if (!quiet) box.replaceChildren(el(\"div\", \"empty\", \"\xe2\x80\xa6\"));\n\
-    \x20\x20\x20\x20const [me, born, path, refs] = await Promise.all([fieldsOf(id), live ? ask(\"born \" + id, true) : null, ask(`path ${atWord()} ${id}`, true),\n\
+    \x20\x20\x20\x20const [me, born, path, refs] = await Promise.all([fieldsOf(id, 0, mostSlots(id)), live ? ask(\"born \" + id, true) : null, ask(`path ${atWord()} ${id}`, true),\n\
     \x20\x20\x20\x20\x20\x20ask(`referrers ${atWord()} ${id}`, true)\n\
     \x20\x20\x20\x20]);\n\
     \x20\x20\x20\x20const dropped = live && me && !path.ok ? await ask(\"dropped \" + id, true) : null;\n\
@@ -2386,13 +2396,15 @@ pub(crate) const PAGE: &[u8] = b"<!doctype html>\n\
     \x20\x20\x20\x20\x20\x20return;\n\
     \x20\x20\x20\x20}\n\
     \x20\x20\x20\x20const scrolled = box.scrollTop,\n\
-    \x20\x20\x20\x20\x20\x20written = [];\n\
-    \x20\x20\x20\x20const out = [headOf(id, me, born, path, dropped, at), ...slotsOf(id, me, written), writesOf(), ...pathOf(id, path), ...referrersOf(refs)];\n\
+    \x20\x20\x20\x20\x20\x20slots = el(\"div\"),\n\
+    \x20\x20\x20\x20\x20\x20out = [headOf(id, me, born, path, dropped, at), slots, writesOf(), ...pathOf(id, path), ...referrersOf(refs)];\n\
+    \x20\x20\x20\x20S.writers = [];\n\
+    \x20\x20\x20\x20slots.append(...slotsOf(id, me, (more) => writers(id, more, turn, at, live).catch(() => {}), turn));\n\
     \x20\x20\x20\x20keepFocus(box, () => box.replaceChildren(...out));\n\
     \x20\x20\x20\x20if (quiet) box.scrollTop = scrolled;\n\
     \x20\x20\x20\x20$(\"inspnote\").textContent = live ? \"\" : `as it was at @${num(at)}`;\n\
     \x20\x20\x20\x20drawMap();\n\
-    \x20\x20\x20\x20writers(id, written, turn, at, live).catch(() => {});\n\
+    \x20\x20\x20\x20loadWriters();\n\
     \x20\x20\x20\x20if (S.watch) loadWrites().catch(() => {});\n\
     \x20\x20\x20\x20if (path.ok) afterPaint(() => retainedBy(id, word, turn).catch(() => {}));\n\
     \x20\x20}\n\
@@ -2447,58 +2459,88 @@ pub(crate) const PAGE: &[u8] = b"<!doctype html>\n\
     \x20\x20\x20\x20return head;\n\
     \x20\x20}\n\
     \n\
-    \x20\x20function slotsOf(id, me, written) {\n\
-    \x20\x20\x20\x20if (me.slots.length > 8 && me.slots.every((x) => x.kind === \"byte\")) return bytesOf(me);\n\
+    \x20\x20// Returns the slots of an object, with a line to click if it has more.\n\
+    \x20\x20function slotsOf(id, me, tell, turn) {\n\
+    \x20\x20\x20\x20const bytes = me.slots.length > 8 && me.slots.every((x) => x.kind === \"byte\"),\n\
+    \x20\x20\x20\x20\x20\x20list = bytes ? el(\"div\", \"bytes\") : fieldTable(),\n\
+    \x20\x20\x20\x20\x20\x20title = bytes ? \"Bytes\" : isArray(me.name) ? \"Elements\" : \"Fields\",\n\
+    \x20\x20\x20\x20\x20\x20more = el(\"div\", \"empty\");\n\
+    \x20\x20\x20\x20addSlots(list, me, me.slots, tell);\n\
+    \x20\x20\x20\x20leadOn(id, me, more, async () => {\n\
+    \x20\x20\x20\x20\x20\x20S.slots = { id, most: me.slots.length + SLOTS };\n\
+    \x20\x20\x20\x20\x20\x20const next = await fieldsOf(id, me.slots.length, SLOTS);\n\
+    \x20\x20\x20\x20\x20\x20if (!next || turn !== inspecting) return;\n\
+    \x20\x20\x20\x20\x20\x20addSlots(list, me, next.slots, tell);\n\
+    \x20\x20\x20\x20\x20\x20me.slots.push(...next.slots);\n\
+    \x20\x20\x20\x20\x20\x20loadWriters();\n\
+    \x20\x20\x20\x20});\n\
+    \x20\x20\x20\x20return [el(\"div\", \"sub\", title), list, more];\n\
+    \x20\x20}\n\
+    \n\
+    \x20\x20// Writes below the slots that are listed how many more there are, and lists the next ones at a click.\n\
+    \x20\x20function leadOn(id, me, box, act) {\n\
+    \x20\x20\x20\x20const rest = me.count - me.slots.length,\n\
+    \x20\x20\x20\x20\x20\x20next = link(`\xe2\x80\xa6 ${num(rest)} more`, \"List the next slots\", () => act().then(() => leadOn(id, me, box, act)).catch(() => {}));\n\
+    \x20\x20\x20\x20next.dataset.row = \"more slots\";\n\
+    \x20\x20\x20\x20box.hidden = !rest;\n\
+    \x20\x20\x20\x20keepFocus(box, () => box.replaceChildren(...rest ? [next] : []));\n\
+    \x20\x20}\n\
+    \n\
+    \x20\x20function fieldTable() {\n\
     \x20\x20\x20\x20const table = el(\"table\", \"fields\"),\n\
-    \x20\x20\x20\x20\x20\x20tb = el(\"tbody\"),\n\
-    \x20\x20\x20\x20\x20\x20hr = el(\"tr\"),\n\
-    \x20\x20\x20\x20\x20\x20th = el(\"thead\"),\n\
-    \x20\x20\x20\x20\x20\x20shown = me.slots.slice(0, 96),\n\
-    \x20\x20\x20\x20\x20\x20out = [el(\"div\", \"sub\", isArray(me.name) ? \"Elements\" : \"Fields\"), table];\n\
-    \x20\x20\x20\x20for (const x of [\"Name\", \"Kind\", \"Value\", \"Written at\"]) hr.append(el(\"th\", \"\", x));\n\
-    \x20\x20\x20\x20th.append(hr);\n\
-    \x20\x20\x20\x20table.append(th, tb);\n\
-    \x20\x20\x20\x20for (const x of shown) {\n\
-    \x20\x20\x20\x20\x20\x20const tr = rowOf(\"slot \" + x.slot, \"pick\" + (isWatched(x.slot) ? \" on\" : \"\"), () => watchField(me.name, x)),\n\
-    \x20\x20\x20\x20\x20\x20\x20\x20v = el(\"td\"),\n\
-    \x20\x20\x20\x20\x20\x20\x20\x20cell = el(\"td\", \"mid\", \"\");\n\
-    \x20\x20\x20\x20\x20\x20tr.title = \"Show all its writes on the time line\";\n\
-    \x20\x20\x20\x20\x20\x20tr.ariaSelected = isWatched(x.slot);\n\
-    \x20\x20\x20\x20\x20\x20if (x.value === \"null\" || x.value === \"0\") v.append(el(\"span\", \"dim\", x.value));\n\
-    \x20\x20\x20\x20\x20\x20else if (x.kind === \"object\") {\n\
-    \x20\x20\x20\x20\x20\x20\x20\x20const o = objectAt(x.value);\n\
-    \x20\x20\x20\x20\x20\x20\x20\x20v.append(idLink(x.value), o ? el(\"span\", \"mid\", \" \" + o.name) : \"\");\n\
-    \x20\x20\x20\x20\x20\x20\x20\x20v.title = o ? o.name : \"\";\n\
-    \x20\x20\x20\x20\x20\x20} else v.append(x.value);\n\
-    \x20\x20\x20\x20\x20\x20tr.append(el(\"td\", \"\", x.name), el(\"td\", \"dim\", x.kind), v, cell);\n\
-    \x20\x20\x20\x20\x20\x20tb.append(tr);\n\
-    \x20\x20\x20\x20\x20\x20written.push({ slot: x.slot, cell, place: (p) => link(\"@\" + num(p), \"Show the heap at this place, and all writes of the field\", () => goWatching(p, me.name, x)) });\n\
+    \x20\x20\x20\x20\x20\x20row = el(\"tr\");\n\
+    \x20\x20\x20\x20for (const x of [\"Name\", \"Kind\", \"Value\", \"Written at\"]) row.append(el(\"th\", \"\", x));\n\
+    \x20\x20\x20\x20table.createTHead().append(row);\n\
+    \x20\x20\x20\x20table.createTBody();\n\
+    \x20\x20\x20\x20return table;\n\
+    \x20\x20}\n\
+    \n\
+    \x20\x20// Adds slots of an object to those that are listed.\n\
+    \x20\x20function addSlots(list, me, slots, tell) {\n\
+    \x20\x20\x20\x20if (list.tBodies) tell(slots.map((x) => slotRow(list.tBodies[0], me, x)));\n\
+    \x20\x20\x20\x20else list.append(...bytesOf(slots));\n\
+    \x20\x20}\n\
+    \n\
+    \x20\x20// Adds the row of a slot. Returns where it says which step wrote it.\n\
+    \x20\x20function slotRow(body, me, x) {\n\
+    \x20\x20\x20\x20const tr = rowOf(\"slot \" + x.slot, \"pick\" + (isWatched(x.slot) ? \" on\" : \"\"), () => watchField(me.name, x)),\n\
+    \x20\x20\x20\x20\x20\x20v = el(\"td\"),\n\
+    \x20\x20\x20\x20\x20\x20cell = el(\"td\", \"mid\", \"\");\n\
+    \x20\x20\x20\x20tr.title = \"Show all its writes on the time line\";\n\
+    \x20\x20\x20\x20tr.ariaSelected = isWatched(x.slot);\n\
+    \x20\x20\x20\x20if (x.value === \"null\" || x.value === \"0\") v.append(el(\"span\", \"dim\", x.value));\n\
+    \x20\x20\x20\x20else if (x.kind === \"object\") {\n\
+    \x20\x20\x20\x20\x20\x20const o = objectAt(x.value);\n\
+    \x20\x20\x20\x20\x20\x20v.append(idLink(x.value), o ? el(\"span\", \"mid\", \" \" + o.name) : \"\");\n\
+    \x20\x20\x20\x20\x20\x20v.title = o ? o.name : \"\";\n\
+    \x20\x20\x20\x20} else v.append(x.value);\n\
+    \x20\x20\x20\x20tr.append(el(\"td\", \"\", x.name), el(\"td\", \"dim\", x.kind), v, cell);\n\
+    \x20\x20\x20\x20body.append(tr);\n\
+    \x20\x20\x20\x20return { slot: x.slot, cell, place: (p) => link(\"@\" + num(p), \"Show the heap at this place, and all writes of the field\", () => goWatching(p, me.name, x)) };\n\
+    \x20\x20}\n\
+    \n\
+    \x20\x20// Returns lines of eight bytes each.\n\
+    \x20\x20function bytesOf(slots) {\n\
+    \x20\x20\x20\x20const out = [];\n\
+    \x20\x20\x20\x20for (let i = 0; i < slots.length; i += 8) {\n\
+    \x20\x20\x20\x20\x20\x20const part = slots.slice(i, i + 8),\n\
+    \x20\x20\x20\x20\x20\x20\x20\x20row = el(\"div\");\n\
+    \x20\x20\x20\x20\x20\x20row.append(el(\"b\", \"\", part[0].slot.toString(16).padStart(4, \"0\") + \"  \"));\n\
+    \x20\x20\x20\x20\x20\x20for (const x of part) row.append(el(\"span\", x.value === \"0\" ? \"z\" : \"\", (+x.value).toString(16).padStart(2, \"0\") + \" \"));\n\
+    \x20\x20\x20\x20\x20\x20row.append(el(\"b\", \"\", \" \" + \"   \".repeat(8 - part.length) + part.map((x) => +x.value >= 32 && +x.value < 127 ? String.fromCharCode(+x.value) : \"\xc2\xb7\").join(\"\")));\n\
+    \x20\x20\x20\x20\x20\x20out.push(row);\n\
     \x20\x20\x20\x20}\n\
-    \x20\x20\x20\x20if (me.slots.length > shown.length) out.push(el(\"div\", \"empty\", `and ${num(me.slots.length - shown.length)} more: ask show ${S.at === null ? \"-\" : \"@\" + S.at} ${id}`));\n\
     \x20\x20\x20\x20return out;\n\
     \x20\x20}\n\
     \n\
-    \x20\x20function bytesOf(me) {\n\
-    \x20\x20\x20\x20const pre = el(\"div\", \"bytes\"),\n\
-    \x20\x20\x20\x20\x20\x20some = me.slots.slice(0, 512);\n\
-    \x20\x20\x20\x20for (let i = 0; i < some.length; i += 8) {\n\
-    \x20\x20\x20\x20\x20\x20const part = some.slice(i, i + 8),\n\
-    \x20\x20\x20\x20\x20\x20\x20\x20row = el(\"div\");\n\
-    \x20\x20\x20\x20\x20\x20row.append(el(\"b\", \"\", i.toString(16).padStart(4, \"0\") + \"  \"));\n\
-    \x20\x20\x20\x20\x20\x20for (const x of part) row.append(el(\"span\", x.value === \"0\" ? \"z\" : \"\", (+x.value).toString(16).padStart(2, \"0\") + \" \"));\n\
-    \x20\x20\x20\x20\x20\x20row.append(el(\"b\", \"\", \" \" + \"   \".repeat(8 - part.length) + part.map((x) => +x.value >= 32 && +x.value < 127 ? String.fromCharCode(+x.value) : \"\xc2\xb7\").join(\"\")));\n\
-    \x20\x20\x20\x20\x20\x20pre.append(row);\n\
-    \x20\x20\x20\x20}\n\
-    \x20\x20\x20\x20return [el(\"div\", \"sub\", \"Bytes\"), pre];\n\
-    \x20\x20}\n\
-    \n\
-    \x20\x20// Fills in which step wrote each slot: by the heap's answers, or of a past state by its steps.\n\
+    \x20\x20// Fills in which step wrote each of some slots: by the heap's answers, once it can be seen, or of a past state by its steps.\n\
     \x20\x20async function writers(id, written, turn, at, live) {\n\
     \x20\x20\x20\x20if (live) {\n\
-    \x20\x20\x20\x20\x20\x20await Promise.all(written.map(async (x) => {\n\
+    \x20\x20\x20\x20\x20\x20for (const x of written) x.tell = async () => {\n\
     \x20\x20\x20\x20\x20\x20\x20\x20const r = await ask(`wrote ${id} ${x.slot}`, true);\n\
     \x20\x20\x20\x20\x20\x20\x20\x20if (turn === inspecting) x.cell.replaceChildren(r.words[1] === \"place\" ? x.place(+r.words[2]) : el(\"span\", \"dim\", \"older\"));\n\
-    \x20\x20\x20\x20\x20\x20}));\n\
+    \x20\x20\x20\x20\x20\x20};\n\
+    \x20\x20\x20\x20\x20\x20S.writers.push(...written);\n\
     \x20\x20\x20\x20\x20\x20return;\n\
     \x20\x20\x20\x20}\n\
     \x20\x20\x20\x20const w = wordOf(id),\n\
@@ -2516,6 +2558,20 @@ pub(crate) const PAGE: &[u8] = b"<!doctype html>\n\
     \x20\x20\x20\x20\x20\x20const p = found.get(x.slot) ?? made;\n\
     \x20\x20\x20\x20\x20\x20x.cell.replaceChildren(p === null ? el(\"span\", \"dim\", unknown()) : x.place(p));\n\
     \x20\x20\x20\x20}\n\
+    \x20\x20}\n\
+    \n\
+    \x20\x20// Asks which step wrote each slot that can be seen, if that wasn't asked yet.\n\
+    \x20\x20function loadWriters() {\n\
+    \x20\x20\x20\x20const box = $(\"insp\").getBoundingClientRect(),\n\
+    \x20\x20\x20\x20\x20\x20top = Math.max(0, box.top),\n\
+    \x20\x20\x20\x20\x20\x20bottom = Math.min(innerHeight, box.bottom),\n\
+    \x20\x20\x20\x20\x20\x20seen = ({ cell }) => {\n\
+    \x20\x20\x20\x20\x20\x20\x20\x20const r = cell.getBoundingClientRect();\n\
+    \x20\x20\x20\x20\x20\x20\x20\x20return r.bottom > top && r.top < bottom;\n\
+    \x20\x20\x20\x20\x20\x20},\n\
+    \x20\x20\x20\x20\x20\x20wanted = S.writers.filter(seen);\n\
+    \x20\x20\x20\x20S.writers = S.writers.filter((x) => !wanted.includes(x));\n\
+    \x20\x20\x20\x20for (const x of wanted) x.tell().catch(() => {});\n\
     \x20\x20}\n\
     \n\
     \x20\x20// ---- writes of a field\n\
@@ -2835,6 +2891,7 @@ pub(crate) const PAGE: &[u8] = b"<!doctype html>\n\
     \x20\x20\x20\x20M.fresh = true;\n\
     \x20\x20\x20\x20drawMap();\n\
     \x20\x20};\n\
+    \x20\x20$(\"insp\").onscroll = onscroll = loadWriters;\n\
     \x20\x20for (const box of [$(\"steps\"), $(\"inst\").parentElement]) box.onscroll = () => {\n\
     \x20\x20\x20\x20box.toggleAttribute(\"data-far\", box.scrollTop > 0);\n\
     \x20\x20\x20\x20if (box !== $(\"steps\")) loadSizesLater();\n\

@@ -11,6 +11,7 @@ pub mod HelpForms
 pub mod Slots
 pub mod PastTexts
 pub mod FieldNames
+pub mod SlotRows
 pub mod FieldRows
 pub mod NamedObjects
 pub mod LivedRows

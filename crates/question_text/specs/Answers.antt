@@ -52,7 +52,7 @@ IsStateText (StateQuestion.Retained x) ids = IsRetainedText x ids
 IsStateText (StateQuestion.Dominators most) ids = IsDominatorsText most ids
 IsStateText (StateQuestion.Dominated x most) ids = IsDominatedText x most ids
 IsStateText (StateQuestion.Dominator x) ids = IsDominatorText x
-IsStateText (StateQuestion.Show x marked) ids = IsShowText x marked
+IsStateText (StateQuestion.Show x slots marked) ids = IsShowText x slots marked
 
 -- the text of the answer about two images
 abbrev pub IsPairText : PairQuestion → IdSize → Image → Image → List ℕ → Type 0
@@ -88,8 +88,8 @@ IsAnswer (Dominators at most) m acts text =
 IsAnswer (Dominated at x most) m acts text =
     IsAnswerAbout (IsDominatedText x most m.ids) (image_at at m) text
 IsAnswer (Dominator at x) m acts text = IsAnswerAbout (IsDominatorText x) (image_at at m) text
-IsAnswer (Show at x) m acts text =
-    IsAnswerAbout (IsShowText x (shows_mark at m x)) (image_at at m) text
+IsAnswer (Show at x slots) m acts text =
+    IsAnswerAbout (IsShowText x slots (shows_mark at m x)) (image_at at m) text
 IsAnswer (Born to x) m acts text = IsAnswerUpTo (IsBornText x) to m.trail text
 IsAnswer (Wrote to x s) m acts text = IsAnswerSeen (IsWroteText x s) to m.trail text
 IsAnswer (Watch x s to) m acts text = IsAnswerSeen (IsWatchText x s) to m.trail text

@@ -32,7 +32,7 @@ question_forms =
     ∷ form_of (codes "retained") (codes "retained [AT] ID") (codes "retained 0x10000020")
     ∷ form_of (codes "dominators") (codes "dominators [AT] [ID] [N]") (codes "dominators 0x10000020 10")
     ∷ form_of (codes "dominator") (codes "dominator [AT] ID") (codes "dominator 0x10000020")
-    ∷ form_of (codes "show") (codes "show [AT] ID") (codes "show - 0x10000020")
+    ∷ form_of (codes "show") (codes "show [AT] ID [FROM N]") (codes "show 0x10000020 0 100")
     ∷ form_of (codes "born") (codes "born [@PLACE] ID") (codes "born 0x10000020")
     ∷ form_of (codes "wrote") (codes "wrote [@PLACE] ID SLOT") (codes "wrote 0x10000020 next")
     ∷ form_of (codes "watch") (codes "watch ID SLOT [@PLACE]") (codes "watch 0x10000020 next")

@@ -1,5 +1,5 @@
 -- The text of `show`.
-use Rattle.std.specs.Prelude.{◌≡◌, ℕ, Bool, false, zero, suc, ◌+◌, List, [], ◌∷◌, ◌++◌, codes, length, Option, Some, None, if◌then◌else◌}
+use Rattle.std.specs.Prelude.{◌≡◌, ℕ, Bool, false, zero, suc, ◌+◌, List, [], ◌∷◌, ◌++◌, ◌-◌, codes, drop, flat_map, length, min, take, Option, Some, None, if◌then◌else◌}
 use Rattle.std.specs.Option.{option_map_or}
 use Rattle.heap_class.specs.declared.Field.{Field}
 use Rattle.heap_class.specs.declared.Kind.{Kind}
@@ -15,6 +15,8 @@ use Rattle.heap_questions.specs.Graph.{object_with}
 use Rattle.session_text.specs.Replies.{and_number, line}
 use Rattle.question_text.specs.declared.question.At.{At}
 use Rattle.question_text.specs.declared.question.At.TheVariants.{Current, Pin, Place}
+use Rattle.question_text.specs.declared.question.SlotRange.{SlotRange}
+use Rattle.question_text.specs.declared.question.SlotRange.TheVariants.{AllSlots, FromSlot}
 use Rattle.question_text.specs.Ids.{and_reference}
 use Rattle.question_text.specs.Moments.{no_object_text}
 use Rattle.question_text.specs.Names.{class_name}
@@ -36,15 +38,15 @@ unfoldable pub element_row : Kind → ℕ → ℕ → List ℕ
 element_row k n w = ((codes "row" ++ and_number n) ++ and_number n) ++ value_text k w
 
 -- the rows of these fields with these words, numbered from n on
-abbrev pub field_rows : ℕ → List Field → List ℕ → List ℕ
+abbrev pub field_rows : ℕ → List Field → List ℕ → List (List ℕ)
 field_rows n [] ws = []
 field_rows n (f ∷ fs) [] = []
-field_rows n (f ∷ fs) (w ∷ ws) = field_row n f.name f.kind w ++ field_rows (n + 1) fs ws
+field_rows n (f ∷ fs) (w ∷ ws) = field_row n f.name f.kind w ∷ field_rows (n + 1) fs ws
 
 -- the rows of elements of a kind with these words, numbered from n on
-abbrev pub element_rows : Kind → ℕ → List ℕ → List ℕ
+abbrev pub element_rows : Kind → ℕ → List ℕ → List (List ℕ)
 element_rows k n [] = []
-element_rows k n (w ∷ ws) = element_row k n w ++ element_rows k (n + 1) ws
+element_rows k n (w ∷ ws) = element_row k n w ∷ element_rows k (n + 1) ws
 
 -- the fields of a class and of the supers above it, up to n classes in all: its own, then its super's, and so on
 abbrev pub fields_up : List Class → ℕ → Option ℕ → List Field
@@ -53,10 +55,28 @@ fields_up classes (suc n) None = []
 fields_up classes (suc n) (Some k) = fields_of classes k ++ fields_up classes n (sup_of classes k)
 
 -- the rows of the slots of an object of this kind with these words
-unfoldable pub slot_rows : List Class → ObjKind → List ℕ → List ℕ
+unfoldable pub slot_rows : List Class → ObjKind → List ℕ → List (List ℕ)
 slot_rows classes (Instance k) ws = field_rows 0 (fields_up classes (length classes) (Some k)) ws
 slot_rows classes (Array k) ws = element_rows Kind.Object 0 ws
 slot_rows classes (Prim kind) ws = element_rows kind 0 ws
+
+-- the rows of these slots: of those from one on as many as there are, but no more than n
+abbrev pub rows_in : SlotRange → List (List ℕ) → List (List ℕ)
+rows_in AllSlots rows = rows
+rows_in (FromSlot first n) rows = take n (drop first rows)
+
+-- of n slots the first of these, and their end
+abbrev pub first_in : SlotRange → ℕ → ℕ
+first_in AllSlots n = 0
+first_in (FromSlot first count) n = min first n
+
+abbrev pub end_in : SlotRange → ℕ → ℕ
+end_in AllSlots n = n
+end_in (FromSlot first count) n = min first n + min count (n - min first n)
+
+-- rows, one after another
+abbrev pub joined : List (List ℕ) → List ℕ
+joined rows = flat_map (λ row. row) rows
 
 -- what the last line says of an object that is marked
 abbrev pub mark_text : Bool → List ℕ
@@ -67,20 +87,21 @@ unfoldable pub object_line : List Class → ObjKind → ℕ → Bool → List �
 object_line classes kind n marked =
     line (((codes "ok object " ++ class_name classes kind) ++ and_number n) ++ mark_text marked)
 
--- the lines of an object
-abbrev pub object_text : List Class → DumpedObject → Bool → List ℕ
-object_text classes o marked =
-    slot_rows classes o.kind o.words ++ object_line classes o.kind (length o.words) marked
+-- the lines of an object, with the rows of these slots
+abbrev pub object_text : List Class → DumpedObject → SlotRange → Bool → List ℕ
+object_text classes o slots marked =
+    joined (rows_in slots (slot_rows classes o.kind o.words))
+    ++ object_line classes o.kind (length o.words) marked
 
 -- the same, if it is there
-abbrev pub object_text_of : List Class → Option DumpedObject → Bool → List ℕ
-object_text_of classes None marked = no_object_text
-object_text_of classes (Some o) marked = object_text classes o marked
+abbrev pub object_text_of : List Class → Option DumpedObject → SlotRange → Bool → List ℕ
+object_text_of classes None slots marked = no_object_text
+object_text_of classes (Some o) slots marked = object_text classes o slots marked
 
 -- the answer of `show`
-abbrev pub IsShowText : ℕ → Bool → Image → List ℕ → Type 0
-IsShowText x marked image text =
-    text ≡ object_text_of image.classes (object_with image x) marked
+abbrev pub IsShowText : ℕ → SlotRange → Bool → Image → List ℕ → Type 0
+IsShowText x slots marked image text =
+    text ≡ object_text_of image.classes (object_with image x) slots marked
 
 -- ---- marks
 

@@ -6,6 +6,8 @@ use Rattle.question_text.specs.declared.question.At.{At}
 use Rattle.question_text.specs.declared.question.At.TheVariants.{Current, Pin, Place}
 use Rattle.question_text.specs.declared.question.Question.{Question}
 use Rattle.question_text.specs.declared.question.Question.TheVariants.{Histogram, Garbage, Growth, Kept, Diff, Registers, Classes, Objects, Values, Referrers, Path, Retained, Dominators, Dominated, Dominator, Show, Born, Wrote, Watch, Writes, Dropped, Life, History, Cycles, Pins, Cells, Regions, Status}
+use Rattle.question_text.specs.declared.question.SlotRange.{SlotRange}
+use Rattle.question_text.specs.declared.question.SlotRange.TheVariants.{AllSlots, FromSlot}
 use Rattle.question_text.specs.declared.question.Span.{Span}
 use Rattle.question_text.specs.declared.question.Span.TheVariants.{AllSteps, Between}
 use Rattle.std.specs.Option.{option_or}
@@ -203,6 +205,30 @@ abbrev pub dominators_of : List (List ℕ) → Option Question
 dominators_of [] = Some (Dominators Current None)
 dominators_of (w ∷ ws) = dominators_from (id_of_word w) w ws
 
+-- ---- the words after `show`
+
+-- the slots that the words name: all, or from the first number on as many as the second says
+abbrev pub slots_named : List (List ℕ) → Option SlotRange
+slots_named [] = Some AllSlots
+slots_named (w ∷ ws) =
+    option_and_then (λ first. option_and_then (λ n. at_end (FromSlot first n.0) n.1) (next_number ws))
+    (number_of_word w)
+
+-- the slots of object x in a state that the words name
+abbrev pub show_by : At → ℕ → List (List ℕ) → Option Question
+show_by at x ws = option_map (λ slots. Show at x slots) (slots_named ws)
+
+-- the same; the first word, which may be this id, may be the state
+abbrev pub show_from : Option ℕ → List ℕ → List (List ℕ) → Option Question
+show_from (Some x) w ws = show_by Current x ws
+show_from None w ws =
+    option_and_then (λ at. option_and_then (λ x. show_by at x.0 x.1) (next_id ws)) (at_of_word w)
+
+-- a state, if it is named, an id and the slots
+abbrev pub show_of : List (List ℕ) → Option Question
+show_of [] = None
+show_of (w ∷ ws) = show_from (id_of_word w) w ws
+
 -- ---- the table of questions
 
 -- a keyword, and what the words after it ask
@@ -243,7 +269,7 @@ question_rules =
     ∷ (codes "retained", λ ws. option_map (λ a. Retained a.0 a.1) (optional_at_and_id ws))
     ∷ (codes "dominators", λ ws. dominators_of ws)
     ∷ (codes "dominator", λ ws. option_map (λ a. Dominator a.0 a.1) (optional_at_and_id ws))
-    ∷ (codes "show", λ ws. option_map (λ a. Show a.0 a.1) (optional_at_and_id ws))
+    ∷ (codes "show", λ ws. show_of ws)
     ∷ past_rules
 
 -- what the words after a keyword ask, by the first of these rules that has it

@@ -23,7 +23,7 @@ use crate::named_line::question_in;
 use crate::object_list::objects_answer;
 use crate::path::path_answer;
 use crate::pin_list::pins_answer;
-use crate::question::{At, Question};
+use crate::question::{At, Question, SlotRange};
 use crate::referrers::referrers_answer;
 use crate::region_list::regions_answer;
 use crate::registers::registers_answer;
@@ -55,7 +55,10 @@ enum StateQuestion {
     // The objects that are wanted.
     Objects(Wanted),
     // The words that a slot holds in the objects of a class.
-    Values { class: u64, slot: u64 },
+    Values {
+        class: u64,
+        slot: u64,
+    },
     // What names the object with this id.
     Referrers(u64),
     // Why the object with this id is alive.
@@ -65,11 +68,18 @@ enum StateQuestion {
     // The objects that no other dominates: how many rows, or all.
     Dominators(Option<u64>),
     // What the object with this id dominates immediately: how many rows, or all.
-    Dominated { id: u64, most: Option<u64> },
+    Dominated {
+        id: u64,
+        most: Option<u64>,
+    },
     // What dominates the object with this id.
     Dominator(u64),
-    // The slots of an object, and whether it is marked.
-    Show { id: u64, marked: bool },
+    // Slots of an object, and whether it is marked.
+    Show {
+        id: u64,
+        slots: SlotRange,
+        marked: bool,
+    },
 }
 
 // What a question asks about two states.
@@ -124,9 +134,14 @@ pub fn answer(alloc: Global, machine: &Machine, acts: Option<u64>, question: Que
         Question::Dominator { at, id } => {
             state_answer(alloc, machine, at, StateQuestion::Dominator(id))
         }
-        Question::Show { at, id } => {
+        Question::Show { at, id, slots } => {
             let marked = shows_mark(machine, at, id);
-            state_answer(alloc, machine, at, StateQuestion::Show { id, marked })
+            state_answer(
+                alloc,
+                machine,
+                at,
+                StateQuestion::Show { id, slots, marked },
+            )
         }
         Question::Born { to, id } => born_answer(machine, to, id),
         Question::Wrote { to, id, slot } => wrote_answer(alloc, machine, to, id, slot),
@@ -199,7 +214,7 @@ fn view_lines(
         StateQuestion::Dominators(most) => or_refused(dominators_answer(alloc, view, most)),
         StateQuestion::Dominated { id, most } => dominated_answer(alloc, view, id, most),
         StateQuestion::Dominator(id) => dominator_answer(alloc, view, id),
-        StateQuestion::Show { id, marked } => show_answer(alloc, view, id, marked),
+        StateQuestion::Show { id, slots, marked } => show_answer(alloc, view, id, slots, marked),
     }
 }
 

@@ -2,7 +2,7 @@
 ghost use Rattle.std.specs.Prelude.{◌≡◌, drop};
 ghost use Rattle.session_grammar.specs.Grammar.{words_of_line};
 ghost use Rattle.question_text.specs.Ids.{id_of_word};
-ghost use Rattle.question_text.specs.Questions.{at_and_optional, at_and_slot, at_and_wanted, at_of_word, at_or_number, class_and_slot, dominated_by, dominators_by, dominators_of, id_and_number, one_id, optional_at, optional_at_and_id, past_rules, place_and_id, place_and_number, place_and_slot, place_of, place_of_word, question_by, question_of, question_rules, slot_and_place, slot_and_span, span_of, value_of_word, wanted_of};
+ghost use Rattle.question_text.specs.Questions.{at_and_optional, at_and_slot, at_and_wanted, at_of_word, at_or_number, class_and_slot, dominated_by, dominators_by, dominators_of, id_and_number, one_id, optional_at, optional_at_and_id, past_rules, place_and_id, place_and_number, place_and_slot, place_of, place_of_word, question_by, question_of, question_rules, show_by, show_of, slot_and_place, slot_and_span, slots_named, span_of, value_of_word, wanted_of};
 
 use crate::id::id_of;
 use heap_questions::Wanted;
@@ -28,6 +28,15 @@ pub enum Span {
     AllSteps,
     /// Those after one place up to another: None is the place of the current state.
     Between { after: Option<u64>, to: Option<u64> },
+}
+
+/// The slots of an object that a question lists.
+#[derive(Clone, Copy)]
+pub enum SlotRange {
+    /// All of them.
+    AllSlots,
+    /// Those from a slot on, by number: how many, or as many as there are.
+    FromSlot { first: u64, count: u64 },
 }
 
 /// A question that a line asks.
@@ -63,8 +72,8 @@ pub enum Question {
     Dominated { at: At, id: u64, most: Option<u64> },
     /// The objects without which an object wouldn't be reached, one above the other.
     Dominator { at: At, id: u64 },
-    /// The slots of an object.
-    Show { at: At, id: u64 },
+    /// Slots of an object.
+    Show { at: At, id: u64, slots: SlotRange },
     /// When an object was made, by the steps up to a place, or to the current state.
     Born { to: Option<u64>, id: u64 },
     /// When a slot of an object last changed, by the steps up to a place, or to the current state.
@@ -194,8 +203,7 @@ fn later_question(keyword: &[u8], words: Words) -> Option<Question>
         return Some(Question::Dominator { at, id });
     }
     if is_word(keyword, b"show") {
-        let (at, id) = optional_at_and_id(words)?;
-        return Some(Question::Show { at, id });
+        return show_of(words);
     }
     past_question(keyword, words)
 }
@@ -308,6 +316,39 @@ fn dominators_by(at: At, word: &[u8], words: Words) -> Option<Question>
     }
     let most = Some(number_of(word)?);
     at_end(Question::Dominators { at, most }, words)
+}
+
+// Reads the words behind `show`: a state, if it is named, an id and the slots. Only the id begins with `0x`.
+fn show_of(mut words: Words) -> Option<Question>
+    ensures { result ≡ show_of (words_of_line words.entry) }
+{
+    let word = words.next_word()?;
+    if let Some(id) = id_of(word) {
+        return show_by(At::Current, id, words);
+    }
+    let at = at_of(word)?;
+    let second = words.next_word()?;
+    show_by(at, id_of(second)?, words)
+}
+
+// Reads the words behind an id: the slots.
+fn show_by(at: At, id: u64, words: Words) -> Option<Question>
+    ensures { result ≡ show_by at id (words_of_line words.entry) }
+{
+    let slots = slots_of(words)?;
+    Some(Question::Show { at, id, slots })
+}
+
+// Returns the slots that the words name: all if there are no words, else the number of the first and how many.
+fn slots_of(mut words: Words) -> Option<SlotRange>
+    ensures { result ≡ slots_named (words_of_line words.entry) }
+{
+    let Some(word) = words.next_word() else {
+        return Some(SlotRange::AllSlots);
+    };
+    let first = number_of(word)?;
+    let count = next_number(&mut words)?;
+    at_end(SlotRange::FromSlot { first, count }, words)
 }
 
 // Reads the words behind a keyword of a question about what retained steps did, about pins, or about the current state.

@@ -5,12 +5,12 @@ ghost use Rattle.heap_class.specs.declared.Refusal.TheVariants.{NoMemory};
 ghost use Rattle.question_text.specs.Appends.{Appends, ReturnsText};
 ghost use Rattle.question_text.specs.Moments.{IsToldOf, told_text};
 ghost use Rattle.question_text.specs.Names.{IsClassThere};
-ghost use Rattle.question_text.specs.Objects.{IsShowText, and_value, element_row, element_rows, field_row, field_rows, fields_up, is_marked, mark_text, object_line, object_text, shows_mark, value_text};
+ghost use Rattle.question_text.specs.Objects.{IsShowText, and_value, element_row, element_rows, end_in, field_row, field_rows, fields_up, first_in, is_marked, joined, mark_text, object_line, object_text, rows_in, shows_mark, slot_rows, value_text};
 
 use crate::id::push_reference;
 use crate::names::push_class_name;
 use crate::place::place_of_object;
-use crate::question::At;
+use crate::question::{At, SlotRange};
 use crate::rows::{Unanswered, push_number, push_row, push_words};
 use heap_class::{ClassNo, FirstClasses, Kind, ObjKind, Refusal};
 use heap_questions::{ShownObject, object_with};
@@ -29,54 +29,106 @@ pub(crate) fn field_name<'a>(classes: &'a FirstClasses<'_>, class: ClassNo, fiel
 }
 
 // Returns the answer of `show` about a view. Fails with NoObject if the id names no object, and with NoMemory if an allocation
-// fails. Reads each object before it at most once.
+// fails. Reads each object before it at most once, and of the object only the slots that are listed.
 pub(crate) fn show_answer<V: View>(
     alloc: Global,
     view: &V,
     id: u64,
+    slots: SlotRange,
     marked: bool,
 ) -> Result<Vec<u8>, Unanswered>
-    ensures { IsToldOf (IsShowText id marked) (V.image view.now) (told_text result) }
+    ensures { IsToldOf (IsShowText id slots marked) (V.image view.now) (told_text result) }
 {
     let classes = view.classes();
     match object_with(view, id) {
-        Some(object) => Ok(object_lines(alloc, &classes, &object, marked)?),
+        Some(object) => Ok(object_lines(alloc, &classes, &object, slots, marked)?),
         None => Err(Unanswered::NoObject),
     }
 }
 
-// Returns the lines of an object. Its class must be there. Fails with NoMemory.
-#[tactic(auto, unfolding(crate::specs::Objects::slot_rows))]
+// Returns the lines of an object, with the rows of these slots. Its class must be there. Fails with NoMemory.
 fn object_lines(
     alloc: Global,
     classes: &FirstClasses<'_>,
     object: &ShownObject<'_>,
+    slots: SlotRange,
     marked: bool,
 ) -> Result<Vec<u8>, Refusal>
     requires { IsClassThere classes.now object.now.kind }
-    ensures { ReturnsText (λ text. text ≡ object_text classes.now object.now marked) result }
+    ensures { ReturnsText (λ text. text ≡ object_text classes.now object.now slots marked) result }
 {
-    let words = object.words();
     let mut text = Vec::new(alloc);
-    match object.kind() {
-        ObjKind::Instance(class) => push_fields(&mut text, classes, class, words)?,
-        ObjKind::Array(_) => push_elements(&mut text, Kind::Object, words)?,
-        ObjKind::Prim(kind) => push_elements(&mut text, kind, words)?,
-    }
+    push_slots(&mut text, classes, object, slots)?;
     push_object(&mut text, classes, object, marked)?;
     Ok(text)
 }
 
-// Appends the rows of an instance's slots: a class's own fields, then its super's, and so on. Fails if an allocation fails.
+// Appends the rows of these slots of an object. Its class must be there. Fails if an allocation fails.
+fn push_slots(
+    text: &mut Vec<u8>,
+    classes: &FirstClasses<'_>,
+    object: &ShownObject<'_>,
+    slots: SlotRange,
+) -> Result<(), AllocError>
+    requires { IsClassThere classes.now object.now.kind }
+    ensures { Appends
+        (joined (rows_in slots (slot_rows classes.now object.now.kind object.now.words)))
+        text.old.items text.new.items result }
+{
+    let words = object.words();
+    let (first, end) = bounds_of(slots, words.len());
+    push_rows(text, classes, object.kind(), &words[..end], first)
+}
+
+// Returns the first of these slots of an object with `len` slots, and their end.
+fn bounds_of(slots: SlotRange, len: usize) -> (usize, usize)
+    ensures first { result.0 ≡ first_in slots len }
+    ensures end { result.1 ≡ end_in slots len }
+    ensures within { result.1 ≤ len }
+{
+    match slots {
+        SlotRange::AllSlots => (0, len),
+        SlotRange::FromSlot { first, count } => {
+            let from = first.min(len as u64) as usize;
+            (from, from + count.min((len - from) as u64) as usize)
+        }
+    }
+}
+
+// Appends the rows of the slots from this one on, of an object of this kind with these words. Its class must be there. Fails if an
+// allocation fails.
+#[tactic(auto, unfolding(crate::specs::Objects::slot_rows))]
+fn push_rows(
+    text: &mut Vec<u8>,
+    classes: &FirstClasses<'_>,
+    kind: ObjKind,
+    words: &[u64],
+    from: usize,
+) -> Result<(), AllocError>
+    requires { IsClassThere classes.now kind }
+    ensures { Appends (joined (drop from (slot_rows classes.now kind words.now)))
+        text.old.items text.new.items result }
+{
+    match kind {
+        ObjKind::Instance(class) => push_fields(text, classes, class, words, from),
+        ObjKind::Array(_) => push_elements(text, Kind::Object, words, from),
+        ObjKind::Prim(kind) => push_elements(text, kind, words, from),
+    }
+}
+
+// Appends the rows of an instance's slots from this one on: a class's own fields, then its super's, and so on. Fails if an
+// allocation fails.
 fn push_fields(
     text: &mut Vec<u8>,
     classes: &FirstClasses<'_>,
     class: ClassNo,
     words: &[u64],
+    from: usize,
 ) -> Result<(), AllocError>
     requires { class < length classes.now }
-    ensures { Appends (field_rows 0 (fields_up classes.now (length classes.now) (Some class))
-        words.now) text.old.items text.new.items result }
+    ensures { Appends (joined (drop from
+        (field_rows 0 (fields_up classes.now (length classes.now) (Some class)) words.now)))
+        text.old.items text.new.items result }
 {
     let mut here = Some(class);
     let mut first = 0;
@@ -84,28 +136,32 @@ fn push_fields(
         let Some(above) = here else {
             return Ok(());
         };
-        push_own(text, classes, above, words, first)?;
+        let skipped = from.saturating_sub(first);
+        push_own(text, classes, above, words, first, skipped)?;
         first += own_count(classes, above, (words.len() - first) as u64) as usize;
         here = classes.sup(above);
     }
     Ok(())
 }
 
-// Appends the rows of the slots from this one on that are own fields of a class. Fails if an allocation fails.
+// Appends the rows of the slots from `first` on that are own fields of a class, but for so many of these fields. Fails if an
+// allocation fails.
 fn push_own(
     text: &mut Vec<u8>,
     classes: &FirstClasses<'_>,
     class: ClassNo,
     words: &[u64],
     first: usize,
+    skipped: usize,
 ) -> Result<(), AllocError>
     requires there { class < length classes.now }
     requires within { first ≤ length words.now }
-    ensures { Appends (field_rows first (fields_of classes.now class) (drop first words.now))
+    ensures { Appends (joined (drop skipped
+        (field_rows first (fields_of classes.now class) (drop first words.now))))
         text.old.items text.new.items result }
 {
     let count = own_count(classes, class, (words.len() - first) as u64);
-    for field in 0..count {
+    for field in skipped as u64..count {
         let name = field_name(classes, class, field);
         let kind = classes.field_kind(class, field);
         let slot = first + field as usize;
@@ -161,11 +217,17 @@ fn push_value(text: &mut Vec<u8>, kind: Kind, word: u64) -> Result<(), AllocErro
     }
 }
 
-// Appends the rows of all elements. Fails if an allocation fails.
-fn push_elements(text: &mut Vec<u8>, kind: Kind, words: &[u64]) -> Result<(), AllocError>
-    ensures { Appends (element_rows kind 0 words.now) text.old.items text.new.items result }
+// Appends the rows of the elements from this one on. Fails if an allocation fails.
+fn push_elements(
+    text: &mut Vec<u8>,
+    kind: Kind,
+    words: &[u64],
+    from: usize,
+) -> Result<(), AllocError>
+    ensures { Appends (joined (drop from (element_rows kind 0 words.now)))
+        text.old.items text.new.items result }
 {
-    for index in 0..words.len() {
+    for index in from..words.len() {
         push_element(text, kind, index as u64, words[index])?;
     }
     Ok(())

@@ -139,7 +139,7 @@ fn object_of(left: &Undo, sizes: &[u64]) -> Option<u64>
 }
 
 // Returns the place of the object that the step with this record wrote or created, if it did.
-fn written_at(left: &Undo) -> Option<ObjRef>
+pub(crate) fn written_at(left: &Undo) -> Option<ObjRef>
     ensures { result ≡ written_at left.now }
 {
     match left {

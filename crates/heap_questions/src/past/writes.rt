@@ -163,7 +163,7 @@ fn changing_write(
 }
 
 // Returns the words of the object at `at`, as a pin shows it.
-fn words_at<'a>(pin: &'a Pin, world: &'a World, at: ObjRef) -> &'a [u64]
+pub(crate) fn words_at<'a>(pin: &'a Pin, world: &'a World, at: ObjRef) -> &'a [u64]
     requires { SeesObject pin.now world.now at }
     ensures { result.now ≡ (seen_object pin.now world.now at).words }
 {
@@ -171,7 +171,7 @@ fn words_at<'a>(pin: &'a Pin, world: &'a World, at: ObjRef) -> &'a [u64]
 }
 
 // Returns the kind of the object at `at`, as a pin shows it.
-fn kind_at(pin: &Pin, world: &World, at: ObjRef) -> ObjKind
+pub(crate) fn kind_at(pin: &Pin, world: &World, at: ObjRef) -> ObjKind
     requires { SeesObject pin.now world.now at }
     ensures { result ≡ (seen_object pin.now world.now at).kind }
 {

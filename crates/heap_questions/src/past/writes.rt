@@ -162,6 +162,14 @@ fn changing_write(
     }
 }
 
+// Returns the id of the object at `at`, as a pin shows it.
+fn id_at(pin: &Pin, world: &World, at: ObjRef) -> u64
+    requires { SeesObject pin.now world.now at }
+    ensures { result ≡ (seen_object pin.now world.now at).id }
+{
+    pin.id(world, at)
+}
+
 // Returns the words of the object at `at`, as a pin shows it.
 pub(crate) fn words_at<'a>(pin: &'a Pin, world: &'a World, at: ObjRef) -> &'a [u64]
     requires { SeesObject pin.now world.now at }
@@ -176,12 +184,4 @@ pub(crate) fn kind_at(pin: &Pin, world: &World, at: ObjRef) -> ObjKind
     ensures { result ≡ (seen_object pin.now world.now at).kind }
 {
     pin.kind(world, at)
-}
-
-// Returns the id of the object at `at`, as a pin shows it.
-fn id_at(pin: &Pin, world: &World, at: ObjRef) -> u64
-    requires { SeesObject pin.now world.now at }
-    ensures { result ≡ (seen_object pin.now world.now at).id }
-{
-    pin.id(world, at)
 }

@@ -66,7 +66,7 @@ ANSWERS = {
     "history": f"ok {NUMBER}", "pins": f"ok {NUMBER}", "objects": f"ok {NUMBER}", "cells": f"ok {NUMBER}", "status": "ok 8",
     "dominators": f"ok {NUMBER}", "dominator": f"ok {NUMBER}", "show": f"ok object {NAMED} {NUMBER}( marked)?",
     "regions": f"ok {NUMBER}", "cycles": f"ok {NUMBER}", "life": f"ok {NUMBER}", "kept": f"ok {NUMBER} {NUMBER}", "diff": f"ok {NUMBER}",
-    "retained": f"ok {NUMBER} {NUMBER}", "watch": f"ok {NUMBER}", "writes": f"ok {NUMBER}", "values": f"ok {NUMBER}",
+    "retained": f"ok {NUMBER} {NUMBER}", "watch": f"ok {NUMBER}", "writes": f"ok {NUMBER}", "when": f"ok (place {NUMBER}|never)", "values": f"ok {NUMBER}",
     "collect": f"ok condemned {NUMBER} swept {NUMBER}",
 }
 # A row of the answer to a question, by its first word.
@@ -88,7 +88,7 @@ PATTERNS = {word: re.compile(f"({answer})|{REFUSED}") for word, answer in ANSWER
 DATA = re.compile("data ([0-9a-f]{2}){1,64}")
 BEFORE = {"dump": DATA, "piece": DATA} | {word: re.compile(f"row {row}") for word, row in ROWS.items()}
 # What adds nothing to the chronicle, by its first word; and how many entries `collect` adds, about.
-NO_ACTS = {"open", "dump", "piece", "close", "what", *ROWS}
+NO_ACTS = {"open", "dump", "piece", "close", "what", "when", *ROWS}
 COLLECTED = 300
 
 
@@ -119,6 +119,7 @@ def line_by_lot(lot):
         (1, f"dominator {lot.choice(['', '- '])}0x{0x10000000 + lot.randrange(1 << 12) * 8:08x}"),
         (1, f"watch 0x{0x10000000 + lot.randrange(1 << 8) * 32:08x} {slot}{lot.choice(['', f' @{lot.randrange(3000)}'])}"),
         (0.3, f"writes {lot.randrange(3)} {slot}{lot.choice(['', f' @{lot.randrange(3000)}', f' @{lot.randrange(3000)} -'])}"),
+        (0.3, f"when {lot.randrange(3)} {slot} {lot.choice(['0', 'null', '7'])}{lot.choice(['', f' @{lot.randrange(3000)}', f' @{lot.randrange(3000)} -'])}"),
         (1, f"values {lot.choice(['', '- '])}{lot.randrange(3)} {slot}"),
         (1, f"show {lot.choice(['', '- '])}0x{0x10000000 + lot.randrange(1 << 8) * 32:08x}{lot.choice(['', ' 1 2', ' 9 9'])}"),
         (1, f"history {lot.randrange(30)}"),

@@ -32,6 +32,7 @@ WANTED = {
     "wrote": ("ok place", "ok older", *UP_TO_A_PLACE, *BY_NAME, "no 9", "no 28"),
     "watch": ("ok nothing", "ok some", *UP_TO_A_PLACE, *BY_NAME, "no 9", "no 28"),
     "writes": ("ok nothing", "ok some", *UP_TO_A_PLACE[1:], *BY_NAME, "no 2", "no 9"),
+    "when": ("ok place", "ok never", *UP_TO_A_PLACE[1:], *BY_NAME, "no 2", "no 9"),
     "dropped": ("ok place", "ok older", "ok reached", *UP_TO_A_PLACE, "no 28"),
     "history": ("ok", *UP_TO_A_PLACE),
     "life": ("ok nothing", "ok some", "ok several"),
@@ -46,7 +47,7 @@ WANTED = {
 }
 LEAST = 3
 # The questions about the steps up to a place.
-PAST = (b"born", b"wrote", b"watch", b"writes", b"dropped", b"history")
+PAST = (b"born", b"wrote", b"watch", b"writes", b"when", b"dropped", b"history")
 
 
 def sorts(word, form, words, left_out, last, rows):
@@ -72,7 +73,7 @@ def sorts(word, form, words, left_out, last, rows):
     elif word == b"show" and form.endswith("nn") and last[0] == "ok":
         yield "ok some slots" if rows else "ok no slot"
     else:
-        yield " ".join(last[:2]) if last[0] == "no" or last[1:2] in (["place"], ["older"], ["reached"]) else last[0]
+        yield " ".join(last[:2]) if last[0] == "no" or last[1:2] in (["place"], ["older"], ["reached"], ["never"]) else last[0]
 
 
 class AskingDraw(Draw):

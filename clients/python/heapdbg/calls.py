@@ -287,6 +287,16 @@ class Calls:
         span = f" {word_of_moment(after)} {word_of_moment(to)}" if after is not None else ""
         return self.send(f"writes {word_of(str(of_class))} {word_of(str(slot))}{span}", rows_by(written))
 
+    def when(
+        self, of_class: Name, slot: Name, value: Union[ObjectId, int, None], one: Moment = None, other: Moment = None
+    ) -> When:
+        """Returns the `When` of the first retained place at which an object of a class had this value in a slot, None for null:
+        ("place", P), or ("never",). With a `Place` it is about the places from there to the current one, or to a second one."""
+        words = [word_of(str(of_class)), word_of(str(slot)), "null" if value is None else str(value)]
+        if one is not None:
+            words += [word_of_moment(one), word_of_moment(other)]
+        return self.send(" ".join(["when", *words]), place_or_older)
+
     def born(self, of: int, moment: Moment = None) -> When:
         """Returns the `When` of the step that made an object: ("place", P), or ("older", P). With a `Place` it is about the object
         and the steps up to there."""

@@ -212,11 +212,12 @@ class SlotWrite(NamedTuple):
 
 
 class When(tuple):
-    """When something happened: ("place", P), ("older", P) or ("reached",). `place` is P, or None."""
+    """When something happened: ("place", P), ("older", P), ("reached",) or ("never",). `place` is P, or None."""
 
     @property
     def word(self) -> str:
-        """`place`; `older` if the step is older than the retained ones; or `reached` if a register still reaches the object."""
+        """`place`; `older` if the step is older than the retained ones; `reached` if a register still reaches the object; or `never` if
+        no place is the one that was asked for."""
         return self[0]
 
     @property
@@ -478,5 +479,5 @@ def open_pin(row: list) -> tuple:
 
 
 def place_or_older(words: list, _lines: list) -> When:
-    """Returns the last words of an answer, such as ("place", 12), ("older", 3) or ("reached",)."""
+    """Returns the last words of an answer, such as ("place", 12), ("older", 3), ("reached",) or ("never",)."""
     return When((words[0], *map(int, words[1:])))

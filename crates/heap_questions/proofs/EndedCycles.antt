@@ -101,7 +101,7 @@ dead_was_live log before after at t d = live_by_state (object_at before.regions 
 -- ---- a new object
 
 -- the place that a record names as that of a new object, and whether it is in a fresh region
-abbrev new_at : Undo → Option (ObjRef × Bool)
+abbrev pub new_at : Undo → Option (ObjRef × Bool)
 new_at (New at fresh m r old) = Some (at, fresh)
 new_at left = None
 
@@ -110,10 +110,10 @@ made_at None k s old at fresh e = e
 made_at (Some p) k s old at fresh e = e
 
 -- an event made an object of so many slots at the place
-abbrev IsMadeAt : Event → HeapState → ObjRef → Bool → Type 0
+abbrev pub IsMadeAt : Event → HeapState → ObjRef → Bool → Type 0
 IsMadeAt e w at fresh = (m : ℕ) × (r : ℕ) × (n : ℕ) × (kind : ObjKind) × (state_after e w ≡ after_new m r kind n w) × (new_place n (pool_of w) ≡ Some (at, fresh))
 
-by_record : (e : Event) (w : HeapState) (at : ObjRef) (fresh : Bool) → new_at (undo_record e w) ≡ Some (at, fresh) → IsMadeAt e w at fresh
+pub by_record : (e : Event) (w : HeapState) (at : ObjRef) (fresh : Bool) → new_at (undo_record e w) ≡ Some (at, fresh) → IsMadeAt e w at fresh
 unfolding undo_record state_after new_record reg_record sweep_record
 by_record (Event.New m r class) w at fresh h = (m, r, length (slots_of w.classes class), Instance class, refl, made_at (new_place (length (slots_of w.classes class)) (pool_of w)) m r _ at fresh h)
 by_record (Event.NewArray m r class len) w at fresh h = (m, r, len, Array class, refl, made_at (new_place len (pool_of w)) m r _ at fresh h)

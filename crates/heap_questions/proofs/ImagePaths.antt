@@ -39,10 +39,10 @@ use Rattle.heap_questions.proofs.NamedObjects.{element_kind}
 abbrev shown : List Region → ObjRef × Object → DumpedObject
 shown regions p = record { id = id_of regions p.0; kind = p.1.kind; words = p.1.words }
 
-abbrev IsLiveOne : ObjRef × Object → Type 0
+abbrev pub IsLiveOne : ObjRef × Object → Type 0
 IsLiveOne p = p.1.live ≡ true
 
-filter_live : (xs : List (ObjRef × Object)) → All IsLiveOne (filter (λ p. p.1.live) xs)
+pub filter_live : (xs : List (ObjRef × Object)) → All IsLiveOne (filter (λ p. p.1.live) xs)
 filter_live [] = All-nil IsLiveOne
 filter_live (x ∷ xs) = go x.1.live refl (filter_live xs)
   where
@@ -155,15 +155,21 @@ find_there regions x (p ∷ ps) q c e = go (id_of regions p.0 == x) refl (member
     go false h (inl m) rest = absurd (true≢false (sym (eq-eqb (id_of regions p.0) x (ap (λ (z : ObjRef × Object). id_of regions z.0) (sym m) ∙ e)) ∙ h))
     go false h (inr d) rest = rest d
 
+-- each live object is among the live objects
+pub live_listed : (w : HeapState) (at : ObjRef) (o : Object) → object_at w.regions at ≡ Some o → o.live ≡ true → Contains (live_objects w.regions) (at, o)
+unfolding live_objects objects_in
+live_listed w at o here live =
+    let u = used_of w.regions at (subst IsSome (sym here) refl) in
+    let c = region_there at.region u.0 at.cell o (cell_of_object_of_region w.regions at u.0 o u.1 here) in
+    let e : at.region ≡ 0 + at.region = omega arith in
+    let m = regions_there 0 at.region w.regions (InUse u.0) (at, o) (used_region_stands_in_list w.regions at.region u.0 u.1) (subst (λ r. Contains (objects_of_region (r, InUse u.0)) (at, o)) e c) in
+    filter_there (flat_map objects_of_region (enumerate_from 0 w.regions)) (at, o) m live
+
 live_shown : (w : HeapState) (x : ℕ) → IsLive w x → HasId (image_of w) x
-unfolding object_with image_of dumped_objects live_objects objects_in
+unfolding object_with image_of dumped_objects
 live_shown w x l =
     let p = place_of_object_of_id w.regions x l.0 l.1 in
-    let u = used_of w.regions p.0 (subst IsSome (sym p.2) refl) in
-    let c = region_there p.0.region u.0 p.0.cell l.0 (cell_of_object_of_region w.regions p.0 u.0 l.0 u.1 p.2) in
-    let e : p.0.region ≡ 0 + p.0.region = omega arith in
-    let m = regions_there 0 p.0.region w.regions (InUse u.0) (p.0, l.0) (used_region_stands_in_list w.regions p.0.region u.0 u.1) (subst (λ r. Contains (objects_of_region (r, InUse u.0)) (p.0, l.0)) e c) in
-    find_there w.regions x (filter (λ p. p.1.live) (flat_map objects_of_region (enumerate_from 0 w.regions))) (p.0, l.0) (filter_there (flat_map objects_of_region (enumerate_from 0 w.regions)) (p.0, l.0) m l.2) (ref_is w.regions x p.0 p.1)
+    find_there w.regions x (live_objects w.regions) (p.0, l.0) (live_listed w p.0 l.0 p.2 l.2) (ref_is w.regions x p.0 p.1)
 
 -- ---- slots
 

@@ -37,3 +37,4 @@ pub mod DifferentObjects
 pub mod DeadObjects
 pub mod EndedCycles
 pub mod PastLives
+pub mod FirstPlaces

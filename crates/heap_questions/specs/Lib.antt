@@ -22,3 +22,4 @@ pub mod Cells
 pub mod RegionCounts
 pub mod PastTrails
 pub mod Differences
+pub mod FirstPlaces

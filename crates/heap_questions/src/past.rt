@@ -2,6 +2,7 @@
 mod changes;
 mod cycles;
 mod events;
+mod firsts;
 mod lives;
 mod losses;
 mod seen;
@@ -15,6 +16,7 @@ mod writes;
 pub use changes::{birth, last_write};
 pub use cycles::{EndedCycle, ended_cycles};
 pub use events::PastEvent;
+pub use firsts::first_wanted;
 pub use lives::{Life, lives_of};
 pub use losses::{Loss, loss_of, path_is_reach, unreached_stays};
 pub use seen::{SeenSlot, slot_now};

@@ -31,7 +31,7 @@ IsNew key = (ws : List (List ℕ)) → by_rule all_rules key ws ≡ None
 
 all_new : AllByRecursion (λ (r : QuestionRule). IsNew r.0) question_rules
 unfolding question_rules past_rules by_rule class_rules making_rules access_rules marking_rules session_rules
-all_new = (λ ws. refl, (λ ws. refl, (λ ws. refl, (λ ws. refl, (λ ws. refl, (λ ws. refl, (λ ws. refl, (λ ws. refl, (λ ws. refl, (λ ws. refl, (λ ws. refl, (λ ws. refl, (λ ws. refl, (λ ws. refl, (λ ws. refl, (λ ws. refl, (λ ws. refl, (λ ws. refl, (λ ws. refl, (λ ws. refl, (λ ws. refl, (λ ws. refl, (λ ws. refl, (λ ws. refl, (λ ws. refl, (λ ws. refl, (λ ws. refl, tt)))))))))))))))))))))))))))
+all_new = (λ ws. refl, (λ ws. refl, (λ ws. refl, (λ ws. refl, (λ ws. refl, (λ ws. refl, (λ ws. refl, (λ ws. refl, (λ ws. refl, (λ ws. refl, (λ ws. refl, (λ ws. refl, (λ ws. refl, (λ ws. refl, (λ ws. refl, (λ ws. refl, (λ ws. refl, (λ ws. refl, (λ ws. refl, (λ ws. refl, (λ ws. refl, (λ ws. refl, (λ ws. refl, (λ ws. refl, (λ ws. refl, (λ ws. refl, (λ ws. refl, (λ ws. refl, tt))))))))))))))))))))))))))))
 
 found_new : (w : List ℕ) (ws : List (List ℕ)) (rules : List QuestionRule) (q : Question) → AllByRecursion (λ (r : QuestionRule). IsNew r.0) rules
     → question_by rules w ws ≡ Some q → IsNew w
@@ -52,7 +52,7 @@ by_words (w ∷ ws) q e = let none = found_new w ws question_rules q all_new e w
 
 named_new : (state : HeapState) → AllByRecursion (λ (r : QuestionRule). IsNew r.0) (named_rules state)
 unfolding named_rules by_rule class_rules making_rules access_rules marking_rules session_rules
-named_new state = (λ ws. refl, (λ ws. refl, (λ ws. refl, (λ ws. refl, (λ ws. refl, tt)))))
+named_new state = (λ ws. refl, (λ ws. refl, (λ ws. refl, (λ ws. refl, (λ ws. refl, (λ ws. refl, tt))))))
 
 by_named_words : (state : HeapState) (ws : List (List ℕ)) (q : Question) → named_question_of_words state ws ≡ Some q → command_of_words ws ≡ Bad
 unfolding named_question_of_words

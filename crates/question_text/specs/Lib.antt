@@ -29,6 +29,7 @@ pub mod Writes
 pub mod SlotChanges
 pub mod SlotWrites
 pub mod Losses
+pub mod FirstPlaces
 pub mod Histories
 pub mod Help
 pub mod Comments

@@ -9,7 +9,7 @@ use Rattle.session_grammar.specs.Grammar.{at_end, words_of_line}
 use Rattle.question_text.specs.declared.question.At.{At}
 use Rattle.question_text.specs.declared.question.At.TheVariants.{Current}
 use Rattle.question_text.specs.declared.question.Question.{Question}
-use Rattle.question_text.specs.declared.question.Question.TheVariants.{Objects, Values, Wrote, Watch, Writes}
+use Rattle.question_text.specs.declared.question.Question.TheVariants.{Objects, Values, Wrote, Watch, Writes, When}
 use Rattle.question_text.specs.declared.question.Span.{Span}
 use Rattle.question_text.specs.NameWords.{class_and_slot_named, class_of_word, id_and_slot_named}
 use Rattle.question_text.specs.Questions.{QuestionRule, at_of_word, place_of_word, question_by, question_of, span_of, value_of_word}
@@ -73,6 +73,15 @@ writes_named classes (w ∷ v ∷ ws) =
     option_and_then (λ slot. option_map (λ span. (slot, span)) (span_of ws))
     (class_and_slot_named classes w v)
 
+-- the objects of a class with a value in a slot, and the places, that the words name
+unfoldable pub when_named : List Class → List (List ℕ) → Option (Wanted × Span)
+when_named classes [] = None
+when_named classes (k ∷ []) = None
+when_named classes (k ∷ s ∷ []) = None
+when_named classes (k ∷ s ∷ v ∷ ws) =
+    option_and_then (λ wanted. option_map (λ span. (wanted, span)) (span_of ws))
+    (holding_named classes k s v)
+
 -- ---- the table of questions that take a class or a slot
 
 unfoldable pub named_rules : HeapState → List QuestionRule
@@ -82,6 +91,7 @@ named_rules state =
     ∷ (codes "wrote", λ ws. option_map (λ a. Wrote a.0 a.1.0 a.1.1) (write_named state ws))
     ∷ (codes "watch", λ ws. option_map (λ a. Watch a.0.0 a.0.1 a.1) (watch_named state ws))
     ∷ (codes "writes", λ ws. option_map (λ a. Writes a.0.0 a.0.1 a.1) (writes_named state.classes ws))
+    ∷ (codes "when", λ ws. option_map (λ a. When a.0 a.1) (when_named state.classes ws))
     ∷ []
 
 -- the question of these words, which may name classes and fields of a state

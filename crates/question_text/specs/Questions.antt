@@ -5,7 +5,7 @@ use Rattle.session_grammar.specs.Grammar.{at_end, next_number, number_of_word, w
 use Rattle.question_text.specs.declared.question.At.{At}
 use Rattle.question_text.specs.declared.question.At.TheVariants.{Current, Pin, Place}
 use Rattle.question_text.specs.declared.question.Question.{Question}
-use Rattle.question_text.specs.declared.question.Question.TheVariants.{Histogram, Garbage, Growth, Kept, Diff, Registers, Classes, Objects, Values, Referrers, Path, Retained, Dominators, Dominated, Dominator, Show, Born, Wrote, Watch, Writes, Dropped, Life, History, Cycles, Pins, Cells, Regions, Status}
+use Rattle.question_text.specs.declared.question.Question.TheVariants.{Histogram, Garbage, Growth, Kept, Diff, Registers, Classes, Objects, Values, Referrers, Path, Retained, Dominators, Dominated, Dominator, Show, Born, Wrote, Watch, Writes, When, Dropped, Life, History, Cycles, Pins, Cells, Regions, Status}
 use Rattle.question_text.specs.declared.question.SlotRange.{SlotRange}
 use Rattle.question_text.specs.declared.question.SlotRange.TheVariants.{AllSlots, FromSlot}
 use Rattle.question_text.specs.declared.question.Span.{Span}
@@ -179,6 +179,20 @@ at_and_slot (w ∷ v ∷ u ∷ ws) =
     option_and_then (λ at. option_and_then (λ slot. at_end (at, slot) ws) (class_and_slot v u))
     (at_of_word w)
 
+-- the objects of a class with a value in a slot, which three words name
+abbrev pub holding : List ℕ → List ℕ → List ℕ → Option Wanted
+holding k s v =
+    option_and_then (λ slot. option_map (λ x. Holding slot.0 slot.1 x) (value_of_word v))
+    (class_and_slot k s)
+
+-- these objects, and the places, that the words name
+abbrev pub holding_and_span : List (List ℕ) → Option (Wanted × Span)
+holding_and_span [] = None
+holding_and_span (k ∷ []) = None
+holding_and_span (k ∷ s ∷ []) = None
+holding_and_span (k ∷ s ∷ v ∷ ws) =
+    option_and_then (λ wanted. option_map (λ span. (wanted, span)) (span_of ws)) (holding k s v)
+
 -- ---- the words after `dominators`
 
 -- what object x dominates in a state: as many rows as the words say, or all
@@ -250,6 +264,7 @@ past_rules =
     ∷ (codes "wrote", λ ws. option_map (λ a. Wrote a.0 a.1.0 a.1.1) (place_and_slot ws))
     ∷ (codes "watch", λ ws. option_map (λ a. Watch a.0.0 a.0.1 a.1) (slot_and_place ws))
     ∷ (codes "writes", λ ws. option_map (λ a. Writes a.0.0 a.0.1 a.1) (slot_and_span ws))
+    ∷ (codes "when", λ ws. option_map (λ a. When a.0 a.1) (holding_and_span ws))
     ∷ []
 
 -- all questions: those about a state first

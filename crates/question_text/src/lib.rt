@@ -31,6 +31,7 @@ mod cycle;
 mod cycle_list;
 mod diff;
 mod dominator_rows;
+mod first_place;
 mod growth;
 mod help;
 mod histogram;

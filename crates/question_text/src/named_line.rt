@@ -1,7 +1,7 @@
 //! Lines of questions that name classes and fields.
 ghost use Rattle.std.specs.Prelude.{◌≡◌};
 ghost use Rattle.session_grammar.specs.Grammar.{words_of_line};
-ghost use Rattle.question_text.specs.NamedLines.{holding_named, named_question_of_words, objects_named, question_in, values_named, watch_named, write_named, writes_named};
+ghost use Rattle.question_text.specs.NamedLines.{holding_named, named_question_of_words, objects_named, question_in, values_named, watch_named, when_named, write_named, writes_named};
 
 use crate::name_words::{class_and_slot_named, class_of, id_and_slot_named};
 use crate::question::{At, Question, Span, at_of, place_of_word, question_of, span_of, value_of};
@@ -49,6 +49,10 @@ fn named_question(world: &World, line: &[u8]) -> Option<Question>
     if is_word(keyword, b"writes") {
         let ((class, slot), span) = writes_named(&classes, words)?;
         return Some(Question::Writes { class, slot, span });
+    }
+    if is_word(keyword, b"when") {
+        let (wanted, span) = when_named(&classes, words)?;
+        return Some(Question::When { wanted, span });
     }
     None
 }
@@ -140,4 +144,16 @@ fn writes_named(classes: &FirstClasses<'_>, mut words: Words) -> Option<((u64, u
     let second = words.next_word()?;
     let slot = class_and_slot_named(classes, first, second)?;
     Some((slot, span_of(words)?))
+}
+
+// Returns the objects of a class with a value in a slot, and the places, that the words name.
+#[tactic(auto, unfolding(crate::specs::NamedLines::when_named))]
+fn when_named(classes: &FirstClasses<'_>, mut words: Words) -> Option<(Wanted, Span)>
+    ensures { result ≡ when_named classes.now (words_of_line words.entry) }
+{
+    let class = words.next_word()?;
+    let slot = words.next_word()?;
+    let value = words.next_word()?;
+    let wanted = holding_named(classes, class, slot, value)?;
+    Some((wanted, span_of(words)?))
 }

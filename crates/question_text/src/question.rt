@@ -2,7 +2,7 @@
 ghost use Rattle.std.specs.Prelude.{◌≡◌, drop};
 ghost use Rattle.session_grammar.specs.Grammar.{words_of_line};
 ghost use Rattle.question_text.specs.Ids.{id_of_word};
-ghost use Rattle.question_text.specs.Questions.{at_and_optional, at_and_slot, at_and_wanted, at_of_word, at_or_number, class_and_slot, dominated_by, dominators_by, dominators_of, id_and_number, one_id, optional_at, optional_at_and_id, past_rules, place_and_id, place_and_number, place_and_slot, place_of, place_of_word, question_by, question_of, question_rules, show_by, show_of, slot_and_place, slot_and_span, slots_named, span_of, value_of_word, wanted_of};
+ghost use Rattle.question_text.specs.Questions.{at_and_optional, at_and_slot, at_and_wanted, at_of_word, at_or_number, class_and_slot, dominated_by, dominators_by, dominators_of, holding, holding_and_span, id_and_number, one_id, optional_at, optional_at_and_id, past_rules, place_and_id, place_and_number, place_and_slot, place_of, place_of_word, question_by, question_of, question_rules, show_by, show_of, slot_and_place, slot_and_span, slots_named, span_of, value_of_word, wanted_of};
 
 use crate::id::id_of;
 use heap_questions::Wanted;
@@ -82,6 +82,8 @@ pub enum Question {
     Watch { id: u64, slot: u64, to: Option<u64> },
     /// The changes of a slot of all objects of a class by some steps.
     Writes { class: u64, slot: u64, span: Span },
+    /// The first of some retained places at which an object is wanted: those that the steps led to, and the one before them.
+    When { wanted: Wanted, span: Span },
     /// When registers lost an object, by the steps up to a place, or to the current state.
     Dropped { to: Option<u64>, id: u64 },
     /// What the retained steps did to each object that had an id.
@@ -398,6 +400,10 @@ fn past_question(keyword: &[u8], words: Words) -> Option<Question>
         let ((class, slot), span) = slot_and_span(words)?;
         return Some(Question::Writes { class, slot, span });
     }
+    if is_word(keyword, b"when") {
+        let (wanted, span) = holding_and_span(words)?;
+        return Some(Question::When { wanted, span });
+    }
     None
 }
 
@@ -469,6 +475,26 @@ fn slot_and_span(mut words: Words) -> Option<((u64, u64), Span)>
     let class = next_number(&mut words)?;
     let slot = next_number(&mut words)?;
     Some(((class, slot), span_of(words)?))
+}
+
+// Returns the objects of a class with a value in a slot, and the places, that the words name.
+fn holding_and_span(mut words: Words) -> Option<(Wanted, Span)>
+    ensures { result ≡ holding_and_span (words_of_line words.entry) }
+{
+    let class = words.next_word()?;
+    let slot = words.next_word()?;
+    let value = words.next_word()?;
+    let wanted = holding(class, slot, value)?;
+    Some((wanted, span_of(words)?))
+}
+
+// Returns the objects of a class with a value in a slot, which three words name.
+fn holding(class: &[u8], slot: &[u8], value: &[u8]) -> Option<Wanted>
+    ensures { result ≡ holding class.now slot.now value.now }
+{
+    let (class, slot) = class_and_slot(class, slot)?;
+    let word = value_of(value)?;
+    Some(Wanted::Holding { class, slot, word })
 }
 
 // Returns the word that a word tells: an id, `null` or a number. Returns None if it tells none.

@@ -138,16 +138,6 @@ fn object_of(left: &Undo, sizes: &[u64]) -> Option<u64>
     }
 }
 
-// Returns the place of the object that the step with this record wrote or created, if it did.
-fn written_at(left: &Undo) -> Option<ObjRef>
-    ensures { result ≡ written_at left.now }
-{
-    match left {
-        Undo::Put { at, .. } | Undo::Store { at, .. } | Undo::New { at, .. } => Some(*at),
-        _ => None,
-    }
-}
-
 // Returns the id of the object at a place, by the size of its region's cells.
 fn id_by(sizes: &[u64], at: ObjRef) -> u64
     requires within { at.region < length sizes.now }
@@ -156,4 +146,14 @@ fn id_by(sizes: &[u64], at: ObjRef) -> u64
 {
     let size = sizes[at.region as usize];
     OBJECT_BASE + 8 * (REGION_WORDS * at.region as u64 + at.cell as u64 * size)
+}
+
+// Returns the place of the object that the step with this record wrote or created, if it did.
+pub(crate) fn written_at(left: &Undo) -> Option<ObjRef>
+    ensures { result ≡ written_at left.now }
+{
+    match left {
+        Undo::Put { at, .. } | Undo::Store { at, .. } | Undo::New { at, .. } => Some(*at),
+        _ => None,
+    }
 }

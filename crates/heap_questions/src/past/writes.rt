@@ -162,8 +162,16 @@ fn changing_write(
     }
 }
 
+// Returns the id of the object at `at`, as a pin shows it.
+fn id_at(pin: &Pin, world: &World, at: ObjRef) -> u64
+    requires { SeesObject pin.now world.now at }
+    ensures { result ≡ (seen_object pin.now world.now at).id }
+{
+    pin.id(world, at)
+}
+
 // Returns the words of the object at `at`, as a pin shows it.
-fn words_at<'a>(pin: &'a Pin, world: &'a World, at: ObjRef) -> &'a [u64]
+pub(crate) fn words_at<'a>(pin: &'a Pin, world: &'a World, at: ObjRef) -> &'a [u64]
     requires { SeesObject pin.now world.now at }
     ensures { result.now ≡ (seen_object pin.now world.now at).words }
 {
@@ -171,17 +179,9 @@ fn words_at<'a>(pin: &'a Pin, world: &'a World, at: ObjRef) -> &'a [u64]
 }
 
 // Returns the kind of the object at `at`, as a pin shows it.
-fn kind_at(pin: &Pin, world: &World, at: ObjRef) -> ObjKind
+pub(crate) fn kind_at(pin: &Pin, world: &World, at: ObjRef) -> ObjKind
     requires { SeesObject pin.now world.now at }
     ensures { result ≡ (seen_object pin.now world.now at).kind }
 {
     pin.kind(world, at)
-}
-
-// Returns the id of the object at `at`, as a pin shows it.
-fn id_at(pin: &Pin, world: &World, at: ObjRef) -> u64
-    requires { SeesObject pin.now world.now at }
-    ensures { result ≡ (seen_object pin.now world.now at).id }
-{
-    pin.id(world, at)
 }

@@ -20,6 +20,7 @@ import colours  # noqa: E402
 import differences  # noqa: E402
 import loads  # noqa: E402
 import sizes  # noqa: E402
+import slots  # noqa: E402
 import writes  # noqa: E402
 from asking import body_of, dumped  # noqa: E402
 from explored import explored  # noqa: E402
@@ -32,7 +33,7 @@ LEAK = (TOP / "examples/leak.session").read_bytes()
 PAGE = (TOP / "crates/heap_page/page/page.html").read_bytes()
 # What is asked of the heap that LEAK leaves: each question with an answer of several rows, and each refusal.
 ASKED = """histogram -, histogram @816, garbage -, garbage @1637, growth @816 @1637, registers -, registers @816, classes -,
-    referrers - 0x10000020, path - 0x10000040, retained 0x10002000, retained @816 0x10002000, show - 0x10000040,
+    referrers - 0x10000020, path - 0x10000040, retained 0x10002000, retained @816 0x10002000, show - 0x10000040, show @1500 0x10000040 1 1,
     show @1500 0x10000040, born 0x10000040, wrote 0x10000040 1, dropped 0x10000040, history 3, history 4096, pins, objects -,
     objects @816, cells, path - 0x10000001, histogram 7, histogram @99999, show - 0x10000600""".replace("\n    ", " ").split(", ")
 
@@ -227,7 +228,7 @@ def main(program, *pictures):
         for folder in pictures:
             with Heap(program, LEAK) as heap:
                 take(heap, pathlib.Path(folder))
-        for load in (loads.empty, loads.mixed, loads.few, loads.full, loads.busy, writes.all_of, sizes.all_of, differences.all_of):
+        for load in (loads.empty, loads.mixed, loads.few, loads.full, loads.busy, writes.all_of, sizes.all_of, differences.all_of, slots.all_of):
             cases += until_late(load(program))
     for name, found, wanted in cases:
         if found != wanted:

@@ -2,7 +2,7 @@
 use Rattle.std.proofs.Common.{◌≡◌, ◌∙◌, ◌++◌, ◌⊎◌, ℕ, List, [], ◌∷◌, Option, Some, None, append_assoc, arith, inl, inr, length-append, refl, sym, ap, subst}
 use Rattle.std.specs.Prelude.{◌≢◌, IfSome, length, option_map, take}
 use Rattle.std.specs.Io.KnownBytes.{Keeps}
-use Rattle.std.proofs.lemmas.List.{append-nil}
+use Rattle.std.proofs.lemmas.List.{append-nil, take-append-le}
 use Rattle.dump_pump.specs.Inlets.{Incoming}
 use Rattle.dump_pump.specs.Outlets.{Outgoing}
 use Rattle.session_text.specs.Answers.{AnswerRelation}
@@ -20,7 +20,7 @@ pub no_bytes_are_all_answered : {S : Type 0} (limits : SessionLimits) (says : An
 no_bytes_are_all_answered limits says start c is = subst (λ o. AreAllAnswered limits says [] o c) (sym is) ([], no_lines_make_a_talk limits says [] c)
 
 -- lines and then further ones, all answered in turn
-pub further_lines_are_all_answered : {S : Type 0} (limits : SessionLimits) (says : AnswerRelation S) (xs ys : List ℕ) (start : Option S) (m d : S) → AreAllAnswered limits says xs start m → AreAllAnswered limits says ys (Some m) d
+further_lines_are_all_answered : {S : Type 0} (limits : SessionLimits) (says : AnswerRelation S) (xs ys : List ℕ) (start : Option S) (m d : S) → AreAllAnswered limits says xs start m → AreAllAnswered limits says ys (Some m) d
     → AreAllAnswered limits says (xs ++ ys) start d
 further_lines_are_all_answered limits says xs ys None m d first second = tt
 further_lines_are_all_answered limits says xs ys (Some c) m d first second = (
@@ -29,7 +29,7 @@ further_lines_are_all_answered limits says xs ys (Some c) m d first second = (
 )
 
 -- a session that ends at the end of a text has answered all its lines
-pub text_served_to_its_end_is_all_answered : {S : Type 0} (limits : SessionLimits) (says begins : AnswerRelation S) (text : List ℕ) (b : Incoming) (c : S) (w : Outgoing) (d : S) (w' : Outgoing) → Serves limits says begins (unread text) b c w d w' Eof
+text_served_to_its_end_is_all_answered : {S : Type 0} (limits : SessionLimits) (says begins : AnswerRelation S) (text : List ℕ) (b : Incoming) (c : S) (w : Outgoing) (d : S) (w' : Outgoing) → Serves limits says begins (unread text) b c w d w' Eof
     → AreAllAnswered limits says text (Some c) d
 text_served_to_its_end_is_all_answered limits says begins text b c w d w' served =
     let run = served.3 in
@@ -43,7 +43,7 @@ text_served_to_its_end_is_all_answered limits says begins text b c w d w' served
     whole_is_taken (Some l) keeps none = sym (append-nil b.taken) ∙ ap (λ l. b.taken ++ l) (sym none) ∙ keeps
 
 -- a text whose lines were all answered is one that a session was served
-pub all_answered_text_is_loaded : {S : Type 0} (limits : SessionLimits) (says begins : AnswerRelation S) (text : List ℕ) (start : Option S) (d : S) → AreAllAnswered limits says text start d → IsTextLoadedFrom limits says begins text start d
+all_answered_text_is_loaded : {S : Type 0} (limits : SessionLimits) (says begins : AnswerRelation S) (text : List ℕ) (start : Option S) (d : S) → AreAllAnswered limits says text start d → IsTextLoadedFrom limits says begins text start d
 all_answered_text_is_loaded limits says begins text None d answered = tt
 all_answered_text_is_loaded limits says begins text (Some c) d answered = (
   record { taken = text; left = Some []; reads = 0 ∷ []; failures = 0 },
@@ -124,17 +124,30 @@ ended_after_others limits says xs ys (Some c) m first second = (
   second.4,
 )
 
--- lines that are run after others that were all answered
-pub further_lines_are_run : {S : Type 0} (limits : SessionLimits) (says : AnswerRelation S) (xs ys : List ℕ) (start : Option S) (m d : S) (ended : Ended) → AreAllAnswered limits says xs start m → AreLinesRun limits says ys (Some m) d ended
+more_lines_are_run : {S : Type 0} (limits : SessionLimits) (says : AnswerRelation S) (xs ys : List ℕ) (start : Option S) (m d : S) (ended : Ended) → AreAllAnswered limits says xs start m → AreLinesRun limits says ys (Some m) d ended
     → AreLinesRun limits says (xs ++ ys) start d ended
-further_lines_are_run limits says xs ys start m d Eof first second = further_lines_are_all_answered limits says xs ys start m d first second
-further_lines_are_run limits says xs ys start m d Quit first second = ended_after_others limits says xs ys start m first second
-further_lines_are_run limits says xs ys start m d TooLong first second = ended_after_others limits says xs ys start m first second
-further_lines_are_run limits says xs ys start m d CutLine first second = tt
-further_lines_are_run limits says xs ys start m d TooManyReads first second = tt
-further_lines_are_run limits says xs ys start m d NoMemory first second = tt
-further_lines_are_run limits says xs ys start m d ReadFault first second = absurd second
-further_lines_are_run limits says xs ys start m d WriteFault first second = absurd second
+more_lines_are_run limits says xs ys start m d Eof first second = further_lines_are_all_answered limits says xs ys start m d first second
+more_lines_are_run limits says xs ys start m d Quit first second = ended_after_others limits says xs ys start m first second
+more_lines_are_run limits says xs ys start m d TooLong first second = ended_after_others limits says xs ys start m first second
+more_lines_are_run limits says xs ys start m d CutLine first second = tt
+more_lines_are_run limits says xs ys start m d TooManyReads first second = tt
+more_lines_are_run limits says xs ys start m d NoMemory first second = tt
+more_lines_are_run limits says xs ys start m d ReadFault first second = absurd second
+more_lines_are_run limits says xs ys start m d WriteFault first second = absurd second
+
+all_run_are_answered : {S : Type 0} (limits : SessionLimits) (says : AnswerRelation S) (text : List ℕ) (start : Option S) (d : S) (ended : Ended) → ended ≡ Eof → AreLinesRun limits says text start d ended → AreAllAnswered limits says text start d
+all_run_are_answered limits says text start d ended all run = subst (λ e. AreLinesRun limits says text start d e) all run
+
+-- lines that are run after others that were all run
+pub further_lines_are_run : {S : Type 0} (limits : SessionLimits) (says : AnswerRelation S) (xs ys : List ℕ) (start : Option S) (m d : S) (before ended : Ended) → before ≡ Eof → AreLinesRun limits says xs start m before → AreLinesRun limits says ys (Some m) d ended
+    → AreLinesRun limits says (xs ++ ys) start d ended
+further_lines_are_run limits says xs ys start m d before ended all first second =
+    more_lines_are_run limits says xs ys start m d ended (all_run_are_answered limits says xs start m before all first) second
+
+-- a text whose lines were all run is one that a session was served
+pub lines_all_run_are_loaded : {S : Type 0} (limits : SessionLimits) (says begins : AnswerRelation S) (text : List ℕ) (start : Option S) (d : S) (ended : Ended) → ended ≡ Eof → AreLinesRun limits says text start d ended → IsTextLoadedFrom limits says begins text start d
+lines_all_run_are_loaded limits says begins text start d ended all run =
+    all_answered_text_is_loaded limits says begins text start d (all_run_are_answered limits says text start d ended all run)
 
 -- lines that weren't all run have a reason
 pub lines_not_run_have_an_end : {S : Type 0} (limits : SessionLimits) (says : AnswerRelation S) (text : List ℕ) (start : Option S) (d : S) (ended : Ended) → AreLinesRun limits says text start d ended → ended ≢ Eof → IsLoadEnded limits says text start ended

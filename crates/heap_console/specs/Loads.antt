@@ -1,5 +1,5 @@
 -- Lines that are run before a session.
-use Rattle.std.specs.Prelude.{◌⊎◌, ℕ, List, [], Option, Some, None, ⊤, ⊥}
+use Rattle.std.specs.Prelude.{◌⊎◌, ℕ, List, [], Option, Some, None, ⊤}
 use Rattle.dump_pump.specs.Outlets.{Outgoing}
 use Rattle.session_text.specs.Answers.{AnswerRelation}
 use Rattle.session_text.specs.Talks.{IsLong, IsQuit, IsTalk, Serves}

@@ -104,7 +104,7 @@ impl<'a, R: Clock + Eprint, C: Commands + Drop, B: LoadStart<C>> LoadOutlet<'a, 
     }
 
     /// Returns the commands as the lines left them. If not all lines that were put were run, reports why, and fails with it.
-    #[tactic(auto, using(crate::proofs::LoadedTexts::all_answered_text_is_loaded, crate::proofs::LoadedTexts::lines_not_run_have_an_end,))]
+    #[tactic(auto, using(crate::proofs::LoadedTexts::lines_all_run_are_loaded, crate::proofs::LoadedTexts::lines_not_run_have_an_end))]
     pub fn into_commands(self) -> Result<C, Ended>
         ensures run { IfOk result (IsTextLoadedFrom B.limits (AnswersCommand C.acts C.unknown B.time)
             (Begins C.acts C.unknown B.time) self.entry.out B.start) }
@@ -182,7 +182,7 @@ fn run_lines<R: Clock + Eprint, C: Commands>(
 impl<R: Clock + Eprint, C: Commands + Drop, B: LoadStart<C>> Outlet for LoadOutlet<'_, R, C, B> {
     ghost seen = { λ o. o };
 
-    #[tactic(auto, using(crate::proofs::LoadedTexts::further_lines_are_all_answered))]
+    #[tactic(auto, using(crate::proofs::LoadedTexts::further_lines_are_run))]
     fn put(&mut self, given: &[u8]) -> Put {
         if !is_open(self.ended) {
             self.failed = self.failed.and(&(), &());

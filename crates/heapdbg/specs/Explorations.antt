@@ -1,5 +1,5 @@
 -- What a session with questions does between its reader and its writer.
-use Rattle.std.specs.Prelude.{◌≡◌, ◌⊎◌, ⊤, ⊥, ℕ, Bool, List, Option, Some, None, Result, Ok, Err, nat_lt}
+use Rattle.std.specs.Prelude.{◌≡◌, ◌⊎◌, ⊤, ℕ, Bool, List, Option, Some, None, Result, Ok, Err, nat_lt}
 use Rattle.dump_pump.specs.Outlets.{Outgoing}
 use Rattle.heap_console.specs.Loads.{IsLoaded, IsTextEndedFrom, IsTextLoaded}
 use Rattle.session_text.specs.Answers.{AnswerRelation, AnswersCommand, Begins}

@@ -162,7 +162,6 @@ fn whole_lines(bytes: &[u8]) -> usize
 }
 
 // Runs lines as a session, whose answers go nowhere. Returns how it ended: at their end if all were run.
-#[tactic(auto, using(crate::proofs::LoadedTexts::served_lines_are_run))]
 fn run_lines<R: Clock + Eprint, C: Commands>(
     alloc: Global,
     reports: &mut LineReports<'_, R>,

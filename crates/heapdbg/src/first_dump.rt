@@ -23,7 +23,7 @@ const REPORTED_LINES: u64 = 8;
 /// Reports the first refused lines as `run_first` does, and how many more were refused, and on standard error what of the dump is
 /// left out, and its first fault. Fails with Memory, and with Hprof if the file can't be read, if it has no header of a dump, or if
 /// a line ends the session. (With Cut or Reads if lines are put to be run that end in the middle of one, or need too many reads.)
-#[tactic(auto, using(crate::proofs::RunDumps::dump_is_run_first, crate::proofs::RunDumps::dump_hindrance_hinders,))]
+#[tactic(auto, using(crate::proofs::RunDumps::dump_is_run_first, crate::proofs::RunDumps::dump_hindrance_hinders))]
 pub(crate) fn load_dump<R: AllocGlobal + Clock + Eprint + Files, C: Commands + Drop>(
     rt: &R,
     request: Request<'_>,

@@ -1,6 +1,6 @@
 -- Texts whose lines were all answered.
 use Rattle.std.proofs.Common.{◌≡◌, ◌∙◌, ◌++◌, ◌⊎◌, ◌+◌, ℕ, List, [], ◌∷◌, Option, Some, None, append_assoc, arith, inl, inr, length-append, refl, sym, ap, subst}
-use Rattle.std.specs.Prelude.{◌≢◌, IfSome, length, option_map, take}
+use Rattle.std.specs.Prelude.{◌≢◌, IfSome, option_map}
 use Rattle.std.specs.Io.KnownBytes.{Keeps}
 use Rattle.std.proofs.lemmas.List.{append-nil, take-append-le}
 use Rattle.dump_pump.specs.Inlets.{Incoming}

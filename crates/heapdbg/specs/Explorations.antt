@@ -64,8 +64,8 @@ IsSessionBegun origin s c =
     (AnswersCommand AskingActs AskingAnswers s.time)
     (Begins AskingActs AskingAnswers s.time) b c
 
--- why the session of this dump wasn't run from these commands on: `hprof` only if the bytes have no header, or a line of the session
--- ends it. Or there was no memory, lines that were to be run ended in the middle of one, or a session of them needed too many reads
+-- why the session of this dump wasn't run from these commands on: `hprof` only if the bytes have no header, or a line of the
+-- session ends it. Or there was no memory, lines that were to be run ended in the middle of one, or needed too many reads
 abbrev pub IsDumpHindrance : {S : Type 0} → SessionLimits → Bool → AnswerRelation S → List ℕ
     → Option S → Fault → Type 0
 IsDumpHindrance limits area says dump start Hprof =

@@ -67,8 +67,8 @@ IsDrawingOutcome (Err f) result = result ≡ Err f
 IsDrawingOutcome (Ok done) result =
     (result ≡ Ok done) ⊎ ((result ≡ Err fault.Out) ⊎ (result ≡ Err Memory))
 
--- a session with questions over a heap with these settings, and a picture of what it left, if it ended well; or it didn't begin, and
--- then nothing is read or written
+-- a session with questions over a heap with these settings, and a picture of what it left, if it ended well; or it didn't begin,
+-- and then nothing is read or written
 abbrev pub IsSessionDrawn : Origin → Settings → Incoming → Incoming → Outgoing → Outgoing
     → Result (Unit {0}) Fault → Type 0
 IsSessionDrawn origin s a b w w' result =

@@ -94,8 +94,8 @@ fn tell_outcome<R: Eprint>(rt: &R, path: &str, area: bool, converted: &Result<Co
     }
 }
 
-// Returns the commands as the session of a dump left them, if all of it was run. Fails with Hprof if the dump has no header or a line
-// ended the session, and with Memory, Cut, Read, Reads and Write if that was why not all of it was run.
+// Returns the commands as the session of a dump left them, if all of it was run. Fails with Hprof if the dump has no header or a
+// line ended the session, and with Memory, Cut, Read, Reads and Write if that was why not all of it was run.
 fn commands_left<C: Drop>(
     converted: Result<Converted, Failure>,
     left: Result<C, Ended>,

@@ -290,8 +290,8 @@ abbrev pub usual_keep : Task → Bool → ℕ
 usual_keep (Explore origin page) wide = most_kept wide
 usual_keep _ wide = 1024
 
--- the number of steps that can be undone, if the option is not given: this many, but in the heap of a dump as many as in a heap that
--- isn't wide
+-- the number of steps that can be undone, if the option is not given: this many, but in the heap of a dump as many as in a heap
+-- that isn't wide
 abbrev pub keep_after : Origin → ℕ → ℕ
 keep_after Fresh usual = usual
 keep_after Lines usual = usual

@@ -185,13 +185,6 @@ fn wide_default(dump: bool) -> u64
     if dump { 1 } else { 0 }
 }
 
-// Tells whether a dump is given.
-pub(crate) fn has_dump(options: &ArgMatches<'_>) -> bool
-    ensures { result ≡ has_dump (rows_of (found_of options.now)) }
-{
-    options.get_str("hprof").is_some()
-}
-
 // Returns the settings of a task's options over a heap that is wide, or isn't, without an area, or the option whose value is out of
 // its range.
 fn settings_over(task: Task, options: &ArgMatches<'_>, wide: bool) -> Result<Settings, Mistake>
@@ -243,16 +236,6 @@ fn regions_default(task: Task, wide: bool) -> u64
     regions_after(origin_of(task), wide)
 }
 
-// Returns what is run before the session of a task.
-fn origin_of(task: Task) -> Origin
-    ensures { result ≡ origin_of task }
-{
-    match task {
-        Task::Run(origin) | Task::Explore { origin, .. } | Task::Draw(origin) => origin,
-        _ => Origin::Fresh,
-    }
-}
-
 // Returns the number of regions if the option isn't given: for a dump the most that there may be.
 fn regions_after(origin: Origin, wide: bool) -> u64
     ensures { result ≡ regions_after origin wide }
@@ -268,6 +251,16 @@ fn most_regions(wide: bool) -> u64
     ensures { result ≡ most_regions wide }
 {
     if wide { REGION_LIMIT } else { NARROW_REGIONS }
+}
+
+// Returns what is run before the session of a task.
+fn origin_of(task: Task) -> Origin
+    ensures { result ≡ origin_of task }
+{
+    match task {
+        Task::Run(origin) | Task::Explore { origin, .. } | Task::Draw(origin) => origin,
+        _ => Origin::Fresh,
+    }
 }
 
 // Returns the size that an option is given, `default` if it isn't given, or None if it isn't from `least` to `most`.
@@ -339,16 +332,6 @@ fn keep_default(task: Task, wide: bool) -> u64
     keep_after(origin_of(task), usual_keep(task, wide))
 }
 
-// Returns how many steps can be undone in a heap of no dump if the option isn't given: of `explore` the most that there may be.
-fn usual_keep(task: Task, wide: bool) -> u64
-    ensures { result ≡ usual_keep task wide }
-{
-    match task {
-        Task::Explore { .. } => most_kept(wide),
-        _ => 1024,
-    }
-}
-
 // Returns how many steps can be undone if the option isn't given: this many, but in the heap of a dump as many as in a heap that
 // isn't wide.
 fn keep_after(origin: Origin, usual: u64) -> u64
@@ -357,6 +340,16 @@ fn keep_after(origin: Origin, usual: u64) -> u64
     match origin {
         Origin::Fresh | Origin::Lines => usual,
         Origin::Dump => NARROW_KEEP,
+    }
+}
+
+// Returns how many steps can be undone in a heap of no dump if the option isn't given: of `explore` the most that there may be.
+fn usual_keep(task: Task, wide: bool) -> u64
+    ensures { result ≡ usual_keep task wide }
+{
+    match task {
+        Task::Explore { .. } => most_kept(wide),
+        _ => 1024,
     }
 }
 
@@ -451,6 +444,13 @@ fn area_mistake(wide: bool) -> Mistake
     } else {
         Mistake::Area
     }
+}
+
+// Tells whether a dump is given.
+pub(crate) fn has_dump(options: &ArgMatches<'_>) -> bool
+    ensures { result ≡ has_dump (rows_of (found_of options.now)) }
+{
+    options.get_str("hprof").is_some()
 }
 
 /// Returns the path that the words give to an option, or None if they give none or an allocation fails.

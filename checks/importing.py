@@ -4,9 +4,10 @@
 PROGRAM is heapdbg, IMPORT heapdbg-import. The dumps are those of example sessions, which heapdbg saves, and that of a program
 in Java, where `javac` and `java` are installed. A reader of HPROF of its own reads both dumps. From the roots on, each object
 must have the class, the values and the references of its like, but for arrays of more than 1,024 elements, which are cut unless
-the heap has an area. Bad files and bad words must be refused; what is left out must be told. `explore --hprof` must answer, and report, just as `explore
---from` does with the session of the dump, also of dumps that are cut or have a byte changed. Prints a line for each thing that
-is otherwise than it must be, and ends with status 1 then."""
+the heap has an area. Bad files and bad words must be refused; what is left out must be told. `explore --hprof` must answer, and
+report, just as `explore --from` does with the session of the dump, also of dumps that are cut or have a byte changed. So must
+`run --hprof` and `draw --hprof`, which draws what `draw` draws after the lines of the session. Prints a line for each thing that is
+otherwise than it must be, and ends with status 1 then."""
 import pathlib
 import re
 import shutil
@@ -31,6 +32,10 @@ WIDE = ("--wide", "--regions", "2048", "--area", "600", "--keep", "16")
 SMALL = ("--wide", "0", "--regions", "16", "--keep", "16")
 # What `--hprof` stands for, beside the dump.
 USUAL = ("--wide", "--regions", "65536", "--area", "16384", "--keep", "65536")
+# The lines that `run` answers without `--questions`, too.
+PLAIN = b"new 0 0 0\nsnap\ndump -\nrewind 1\n"
+# A session that defines a class with a long line, for a wide heap alone.
+LONG = b"class Long - " + b" ".join(b"%s%d:long" % (b"f" * 90, i) for i in range(60)) + b"\nnew 0 0 0\n"
 # A session of large arrays, and the heap that it is for.
 LARGE = b"""class Node - next:object v:long
 array [Node;
@@ -270,11 +275,27 @@ def java_dump(folder):
     return dump
 
 
-def told(program, option, path, words, name=None):
-    """Returns what `explore` does with a file and the questions: its status, its answers and its reports, with another name for the
-    file in these."""
-    ran = subprocess.run([program, "explore", *words, option, str(path)], input=QUESTIONS, capture_output=True, timeout=LIMIT)
+def told(program, option, path, words, name=None, command=("explore",), lines=QUESTIONS):
+    """Returns what a command, such as `explore`, does with a file and these lines: its status, its answers and its reports, with
+    another name for the file in these."""
+    ran = subprocess.run([program, *command, *words, option, str(path)], input=lines, capture_output=True, timeout=LIMIT)
     return ran.returncode, ran.stdout, ran.stderr.replace(bytes(path), bytes(name or path))
+
+
+def alike(program, importer, dump, folder, *words):
+    """Yields how `run --hprof` and `draw --hprof` differ from `explore --hprof`, and the picture from that of the session's lines."""
+    shown, other, session = (folder / name for name in ("shown.svg", "other.svg", "drawn.session"))
+    area = [] if words == SMALL else ["--area"]
+    for command, lines in (("run", "--questions"), QUESTIONS), (("run",), PLAIN), (("draw", "--out", str(shown)), QUESTIONS):
+        wanted = told(program, "--hprof", dump, words, lines=lines)
+        got = told(program, "--hprof", dump, words, command=command, lines=lines)
+        if got != wanted or got[0]:
+            yield f"{dump.name} {' '.join(words)}: {' '.join(command)} --hprof: {got}, and explore --hprof: {wanted}"
+    subprocess.run([importer, *area, str(dump), str(session)], capture_output=True, check=True, timeout=LIMIT)
+    drawing = [program, "draw", *(words or USUAL), "--out", str(other)]
+    subprocess.run(drawing, input=session.read_bytes() + QUESTIONS, capture_output=True, check=True, timeout=LIMIT)
+    if shown.read_bytes() != other.read_bytes():
+        yield f"{dump.name} {' '.join(words)}: draw --hprof draws another picture than draw does of the session"
 
 
 def limited(reports, dump):
@@ -312,14 +333,34 @@ def changed(program, importer, dump, folder):
 
 def unread(program, dump, folder):
     """Yields what is wrong with how `explore --hprof` refuses files that can't be read, and words."""
-    for path in folder / "missing", folder:
-        ran = told(program, "--hprof", path, ())
-        if ran != (1, b"", b"heapdbg: hprof\n"):
-            yield f"explore --hprof {path.name}: {ran}"
+    picture = folder / "no.svg"
+    commands = ("explore",), ("run",), ("run", "--questions"), ("draw", "--out", str(picture))
+    for command in commands:
+        for path in folder / "missing", folder:
+            ran = told(program, "--hprof", path, (), command=command)
+            if ran != (1, b"", b"heapdbg: hprof\n"):
+                yield f"{' '.join(command)} --hprof {path.name}: {ran}"
+        yield from hindered(program, command, folder)
+    if picture.exists():
+        yield "draw --hprof draws a picture of a heap that isn't made"
     for words in ["--from", str(dump)], ["--port", "7000"]:
         status, answers, reports = told(program, "--hprof", dump, words)
         if status != 2 or answers or words[0].encode() not in reports:
             yield f"explore --hprof with {words[0]}: status {status}, {answers!r}, {reports!r}"
+
+
+def hindered(program, command, folder):
+    """Yields what is wrong with how a command with `--hprof` refuses a file without a header, and a line that is too long."""
+    bad, session, dump = folder / "bad.hprof", folder / "long.session", folder / "long.hprof"
+    bad.write_bytes(b"JAVA PROFILE 1.0.2 it isn't")
+    ran = told(program, "--hprof", bad, (), command=command)
+    if ran != (1, b"", b"heapdbg: %s: no header of a dump\nheapdbg: hprof\n" % bytes(bad)):
+        yield f"{' '.join(command)} --hprof without a header: {ran}"
+    session.write_bytes(LONG)
+    saved(program, ["--wide"], session, dump)
+    status, answers, reports = told(program, "--hprof", dump, SMALL, command=command)
+    if status != 1 or answers or not reports.endswith(b"heapdbg: hprof\n") or reports.count(b": the line is too long\n") != 1:
+        yield f"{' '.join(command)} --hprof of a line that is too long: status {status}, {answers!r}, {reports!r}"
 
 
 def refusals(importer, dump, folder):
@@ -355,6 +396,7 @@ def large_arrays(program, importer, folder):
             yield from imported(program, importer, dump, folder, *area)
         for words in (), WIDE, SMALL:
             yield from explored(program, importer, dump, folder, *words)
+        yield from alike(program, importer, dump, folder, *WIDE)
         few = told(program, "--hprof", dump, ("--regions", "64", "--area", "8"))[2]
         if few.count(b" no 13 HeapFull: newprim 0 5 char 70000\n") != 1:
             yield f"a dump whose large arrays the area has no room for: {few!r}"
@@ -373,6 +415,8 @@ def differences(program, importer):
                 yield from explored(program, importer, dump, folder, *WIDE)
                 yield from explored(program, importer, dump, folder)
                 yield from explored(program, importer, dump, folder, *SMALL)
+                yield from alike(program, importer, dump, folder)
+                yield from alike(program, importer, dump, folder, *SMALL)
         yield from large_arrays(program, importer, folder)
         yield from changed(program, importer, folder / "leak-8.hprof", folder)
         yield from unread(program, folder / "leak-8.hprof", folder)

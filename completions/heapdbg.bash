@@ -33,9 +33,9 @@ _heapdbg() {
             mapfile -t COMPREPLY < <(compgen -W "$commands" -- "$word")
             return
             ;;
-        run) options="$heap --questions" ;;
+        run) options="$heap --questions --hprof" ;;
         explore) options="$heap --from --hprof --port --page --secret" ;;
-        draw) options="$heap --out" ;;
+        draw) options="$heap --out --hprof" ;;
         save) options="$heap --out --to --questions" ;;
         serve) options="$heap --port --sessions --workers --dumps --page --questions --roll --stay --idle --secret" ;;
         ask) options="--port --secret" ;;

@@ -1,8 +1,8 @@
 //! An outlet that runs the lines that it takes.
-ghost use Rattle.std.specs.Prelude.{◌≡◌, ◌<◌, ◌≤◌, [], Some, IfOk, length, true};
+ghost use Rattle.std.specs.Prelude.{◌≡◌, ◌<◌, ◌≤◌, [], Some, IfErr, IfOk, length, true};
 ghost use Rattle.session_text.specs.Answers.{AnswersCommand, Begins};
 ghost use Rattle.session_text.specs.declared.Ended.TheVariants.{Eof};
-ghost use Rattle.heap_console.specs.Loads.{AreAllAnswered, IsTextLoadedFrom};
+ghost use Rattle.heap_console.specs.Loads.{AreLinesRun, IsLoadEnded, IsTextLoadedFrom};
 
 use crate::columns::LINE_END;
 use crate::discard::Discard;
@@ -42,8 +42,8 @@ impl<C> LoadStart<C> for Brand {
 }
 
 /// An outlet that takes whole lines, and runs them as a session of these commands, whose answers go nowhere. Each line that is
-/// refused or no command is reported. A put fails if it has no whole line, or if a line ends the session; none is run after it.
-/// Contracts see the bytes that it took.
+/// refused or no command is reported. If a line ends the session, its put takes it, and each put after it fails. So does a put that
+/// has no whole line, and each after it. Contracts see the bytes that it took.
 #[derive(Drop)]
 pub struct LoadOutlet<'a, R, C: Commands + Drop, B: LoadStart<C>> {
     alloc: Global,
@@ -62,7 +62,7 @@ impl<'a, R, C: Commands + Drop, B: LoadStart<C>> Model for LoadOutlet<'a, R, C, 
     ghost use Rattle.dump_pump.specs.Outlets.{Outgoing, log_bytes};
     ghost use Rattle.session_text.specs.Answers.{AnswersCommand};
     ghost use Rattle.session_text.specs.declared.Ended.TheVariants.{Eof};
-    ghost use Rattle.heap_console.specs.Loads.{AreAllAnswered};
+    ghost use Rattle.heap_console.specs.Loads.{AreLinesRun};
 
     ghost Value = { Outgoing };
 
@@ -70,8 +70,9 @@ impl<'a, R, C: Commands + Drop, B: LoadStart<C>> Model for LoadOutlet<'a, R, C, 
         record { out = log_bytes o.taken.items; failures = length o.failed.items } };
 
     ghost invariant = { λ o. (o.limits ≡ B.limits) × (o.time ≡ B.time)
-        × (o.ended ≡ Eof → AreAllAnswered B.limits (AnswersCommand C.acts C.unknown B.time)
-        (log_bytes o.taken.items) B.start o.commands) };
+        × (o.ended ≡ Eof → length o.failed.items ≡ 0)
+        × AreLinesRun B.limits (AnswersCommand C.acts C.unknown B.time) (log_bytes o.taken.items)
+        B.start o.commands o.ended };
 }
 
 impl<'a, R: Clock + Eprint, C: Commands + Drop, B: LoadStart<C>> LoadOutlet<'a, R, C, B> {
@@ -102,11 +103,14 @@ impl<'a, R: Clock + Eprint, C: Commands + Drop, B: LoadStart<C>> LoadOutlet<'a, 
         }
     }
 
-    /// Returns the commands as the lines left them. Fails if a put failed, reports why no more lines were run, and returns it.
-    #[tactic(auto, using(crate::proofs::LoadedTexts::all_answered_text_is_loaded))]
+    /// Returns the commands as the lines left them. If not all lines that were put were run, reports why, and fails with it.
+    #[tactic(auto, using(crate::proofs::LoadedTexts::lines_all_run_are_loaded, crate::proofs::LoadedTexts::lines_not_run_have_an_end))]
     pub fn into_commands(self) -> Result<C, Ended>
-        ensures { IfOk result (IsTextLoadedFrom B.limits (AnswersCommand C.acts C.unknown B.time)
+        ensures run { IfOk result (IsTextLoadedFrom B.limits (AnswersCommand C.acts C.unknown B.time)
             (Begins C.acts C.unknown B.time) self.entry.out B.start) }
+        ensures failures { IfOk result (λ _. self.entry.failures ≡ 0) }
+        ensures ended { IfErr result (IsLoadEnded B.limits
+            (AnswersCommand C.acts C.unknown B.time) self.entry.out B.start) }
     {
         let LoadOutlet {
             alloc: _,
@@ -157,9 +161,7 @@ fn whole_lines(bytes: &[u8]) -> usize
     }
 }
 
-// Runs whole lines as a session, whose answers go nowhere. Returns how it ended: at their end if all were run, and with CutLine if
-// there is none.
-#[tactic(auto, using(crate::proofs::LoadedTexts::text_served_to_its_end_is_all_answered))]
+// Runs lines as a session, whose answers go nowhere. Returns how it ended: at their end if all were run.
 fn run_lines<R: Clock + Eprint, C: Commands>(
     alloc: Global,
     reports: &mut LineReports<'_, R>,
@@ -168,12 +170,9 @@ fn run_lines<R: Clock + Eprint, C: Commands>(
     time: u64,
     limits: SessionLimits,
 ) -> Ended
-    ensures { result ≡ Eof → (0 < length lines.now) × AreAllAnswered limits
-        (AnswersCommand C.acts C.unknown time) lines.now (Some commands.old) commands.new }
+    ensures { AreLinesRun limits (AnswersCommand C.acts C.unknown time) lines.now
+        (Some commands.old) commands.new result }
 {
-    if lines.is_empty() {
-        return Ended::CutLine;
-    }
     let mut answers = NotingOutlet::new(Discard::new(), reports.answers());
     let mut inlet = TextInlet::new(reports, lines);
     serve(alloc, &mut inlet, &mut answers, commands, time, limits)
@@ -182,10 +181,15 @@ fn run_lines<R: Clock + Eprint, C: Commands>(
 impl<R: Clock + Eprint, C: Commands + Drop, B: LoadStart<C>> Outlet for LoadOutlet<'_, R, C, B> {
     ghost seen = { λ o. o };
 
-    #[tactic(auto, using(crate::proofs::LoadedTexts::further_lines_are_all_answered))]
+    #[tactic(auto, using(crate::proofs::LoadedTexts::further_lines_are_run))]
     fn put(&mut self, given: &[u8]) -> Put {
-        let lines = &given[..whole_lines(given)];
         if !is_open(self.ended) {
+            self.failed = self.failed.and(&(), &());
+            return Put::Failed;
+        }
+        let lines = &given[..whole_lines(given)];
+        if lines.is_empty() {
+            self.ended = Ended::CutLine;
             self.failed = self.failed.and(&(), &());
             return Put::Failed;
         }
@@ -197,10 +201,6 @@ impl<R: Clock + Eprint, C: Commands + Drop, B: LoadStart<C>> Outlet for LoadOutl
             self.time,
             self.limits,
         );
-        if !is_open(self.ended) {
-            self.failed = self.failed.and(&(), &());
-            return Put::Failed;
-        }
         note_bytes(&mut self.taken, lines);
         Put::Took(lines.len())
     }

@@ -1,23 +1,27 @@
 -- What a session with questions does between its reader and its writer.
-use Rattle.std.specs.Prelude.{◌≡◌, ◌⊎◌, ⊤, ℕ, Bool, List, Option, Some, None, Result, Err, nat_lt}
+use Rattle.std.specs.Prelude.{◌≡◌, ◌⊎◌, ⊤, ℕ, Bool, List, Option, Some, None, Result, Ok, Err, nat_lt}
 use Rattle.dump_pump.specs.Outlets.{Outgoing}
-use Rattle.heap_console.specs.Loads.{IsLoaded, IsTextLoaded}
+use Rattle.heap_console.specs.Loads.{IsLoaded, IsTextEndedFrom, IsTextLoaded}
 use Rattle.session_text.specs.Answers.{AnswerRelation, AnswersCommand, Begins}
 use Rattle.session_text.specs.Machine.{opening_machine}
 use Rattle.question_text.specs.declared.asking.Asking.{Asking}
 use Rattle.question_text.specs.Sessions.{AskingActs, AskingAnswers, ServesAsking}
 use Rattle.session_text.specs.declared.Ended.{Ended}
+use Rattle.session_text.specs.declared.Ended.TheVariants.{Quit, Eof, CutLine, TooLong, ReadFault, TooManyReads, WriteFault, NoMemory}
 use Rattle.session_text.specs.Endings.{EndsSession}
 use Rattle.session_text.specs.Limits.{session_limits}
 use Rattle.session_text.specs.declared.limits.SessionLimits.{SessionLimits}
 use Rattle.dump_pump.specs.Inlets.{Incoming}
 use Rattle.heapdbg.specs.declared.failure.Fault.{Fault}
-use Rattle.heapdbg.specs.declared.failure.Fault.TheVariants.{From, Hprof, Memory}
+use Rattle.heapdbg.specs.declared.failure.Fault.TheVariants.{Cut, From, Hprof, Memory, Read, Reads, Write}
 use Rattle.heapdbg_options.specs.CommandLine.{limits_of}
 use Rattle.heapdbg_options.specs.declared.settings.Origin.{Origin}
 use Rattle.heapdbg_options.specs.declared.settings.Origin.TheVariants.{Fresh, Lines, Dump}
 use Rattle.heapdbg_options.specs.declared.settings.Settings.{Settings}
-use Rattle.hprof_convert.specs.Conversions.{IsDumpSession}
+use Rattle.hprof_convert.specs.Conversions.{HasNoHeader, IsDumpSession}
+use Rattle.hprof_convert.specs.declared.conversion.Converted.{Converted}
+use Rattle.hprof_convert.specs.declared.conversion.Failure.{Failure}
+use Rattle.hprof_convert.specs.declared.conversion.Failure.TheVariants as failure
 use Rattle.heapdbg.specs.Endings.{outcome_of}
 
 -- a heap with these settings as it begins
@@ -60,12 +64,44 @@ IsSessionBegun origin s c =
     (AnswersCommand AskingActs AskingAnswers s.time)
     (Begins AskingActs AskingAnswers s.time) b c
 
--- why a session doesn't begin: no memory, the file of lines can't be opened, or the file of the dump can't be read, has none, or
--- has lines that end a session
+-- why the session of this dump wasn't run from these commands on: `hprof` only if the bytes have no header, or a line of the
+-- session ends it. Or there was no memory, lines that were to be run ended in the middle of one, or needed too many reads
+abbrev pub IsDumpHindrance : {S : Type 0} → SessionLimits → Bool → AnswerRelation S → List ℕ
+    → Option S → Fault → Type 0
+IsDumpHindrance limits area says dump start Hprof =
+    HasNoHeader dump
+    ⊎ ((text : List ℕ) × IsDumpSession area dump text × IsTextEndedFrom limits says text start)
+IsDumpHindrance limits area says dump start Memory = ⊤
+IsDumpHindrance limits area says dump start Cut = ⊤
+IsDumpHindrance limits area says dump start Reads = ⊤
+IsDumpHindrance limits area says dump start f = ⊥
+
+-- the fault of lines that weren't all run, by why they weren't
+abbrev pub load_fault : Ended → Fault
+load_fault Quit = Hprof
+load_fault Eof = Hprof
+load_fault CutLine = Cut
+load_fault TooLong = Hprof
+load_fault ReadFault = Read
+load_fault TooManyReads = Reads
+load_fault WriteFault = Write
+load_fault NoMemory = Memory
+
+-- the fault of a dump by how it was converted, and by how its lines were run
+abbrev pub IsLoadFault : {S : Type 0} → Result Converted Failure → Result S Ended → Fault → Type 0
+IsLoadFault (Ok converted) (Ok d) f = ⊥
+IsLoadFault (Ok converted) (Err ended) f = f ≡ load_fault ended
+IsLoadFault (Err failure.Header) left f = f ≡ Hprof
+IsLoadFault (Err failure.Memory) left f = f ≡ Memory
+IsLoadFault (Err failure.Write) (Ok d) f = f ≡ Write
+IsLoadFault (Err failure.Write) (Err ended) f = f ≡ load_fault ended
+
+-- why a session doesn't begin: no memory, the file of lines can't be opened, the file of the dump can't be read, or its session
+-- wasn't run
 abbrev pub IsHindrance : Origin → Fault → Type 0
 IsHindrance Fresh f = f ≡ Memory
 IsHindrance Lines f = (f ≡ Memory) ⊎ (f ≡ From)
-IsHindrance Dump f = (f ≡ Memory) ⊎ (f ≡ Hprof)
+IsHindrance Dump f = (f ≡ Memory) ⊎ ((f ≡ Hprof) ⊎ ((f ≡ Cut) ⊎ (f ≡ Reads)))
 
 -- a session with questions over a heap with these settings, and how it ended; or it didn't begin, and then nothing is read or
 -- written

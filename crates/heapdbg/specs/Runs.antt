@@ -1,7 +1,12 @@
 -- A run of the program between its reader and its writer.
 use Rattle.std.specs.Prelude.{◌≡◌, ℕ, ◌⊎◌, Bool, true, false, List, Option, Result, None, Some, Ok, Err, is_some}
 use Rattle.dump_pump.specs.Outlets.{Outgoing}
+use Rattle.heap_trail.specs.declared.Action.{Action}
+use Rattle.heap_trail.specs.declared.Reply.{Reply}
+use Rattle.session_text.specs.Answers.{AnswersCommand, Begins, all_bad}
+use Rattle.session_text.specs.Local.{LocalActs}
 use Rattle.session_text.specs.Machine.{Machine, opening_machine}
+use Rattle.session_text.specs.declared.commands.Local.{Local}
 use Rattle.session_text.specs.declared.Ended.{Ended}
 use Rattle.session_text.specs.Endings.{EndsSession}
 use Rattle.dump_pump.specs.Inlets.{Incoming}
@@ -14,7 +19,7 @@ use Rattle.heapdbg.specs.declared.failure.Fault.TheVariants.{Memory}
 use Rattle.heapdbg.specs.declared.failure.Failure.{Failure}
 use Rattle.heapdbg.specs.declared.serve.HeapServed.{HeapServed}
 use Rattle.heapdbg_options.specs.declared.settings.LineFault.{LineFault}
-use Rattle.heapdbg_options.specs.declared.settings.Origin.TheVariants.{Fresh}
+use Rattle.heapdbg_options.specs.declared.settings.Origin.{Origin}
 use Rattle.heapdbg_options.specs.declared.settings.Service.{Service}
 use Rattle.heapdbg_options.specs.declared.settings.Settings.{Settings}
 use Rattle.heapdbg_options.specs.declared.settings.Task.{Task}
@@ -23,29 +28,38 @@ use Rattle.heapdbg_options.specs.declared.settings.Task.TheVariants.{Run, Explor
 use Rattle.heapdbg_options.specs.declared.settings.Target.TheVariants.{Out, To}
 use Rattle.heapdbg_options.specs.CommandLine.{limits_of, settings_of}
 use Rattle.heapdbg.specs.Endings.{failure_of, outcome_of, work_of}
-use Rattle.heapdbg.specs.Explorations.{IsExplored, IsOpening}
+use Rattle.heapdbg.specs.Explorations.{IsExplored, IsHindrance, IsRunFirst, IsSessionBegun, has_area}
 use Rattle.heapdbg.specs.FetchOutcomes.{IsDumpFetched}
 use Rattle.heapdbg_options.specs.Refusals.{IsRefusalOf}
 use Rattle.heapdbg.specs.SaveOutcomes.{IsSavedTo}
 use Rattle.heapdbg.specs.ServeOutcomes.{IsServerAsked, IsServed}
 use Rattle.heapdbg.specs.PageExplorations.{IsPageExplored}
 
--- a session over a heap with these settings as it begins, and how it ended; or the heap couldn't be allocated, and nothing is
--- read or written
-abbrev pub IsRun : Settings → Incoming → Incoming → Outgoing → Outgoing → Result (Unit {0}) Fault
-    → Type 0
-IsRun s a b w w' result =
-    ((ended : Ended) × (left : Machine)
-    × IsSession (session_limits s.wide)
-    (opening_machine (limits_of s) s.ids s.regions s.mutators s.keep) s.time a b w w' left ended
+-- an action of a private machine, which keeps the number of the first pin
+abbrev pub OwnActs : Local → Action → Reply → Local → Type 0
+OwnActs c a r d = LocalActs c.machine a r d.machine × (d.first_pin ≡ c.first_pin)
+
+-- a session without questions as it begins: over a heap with these settings as it begins, or as the session of a dump left it
+abbrev pub IsRunBegun : Origin → Settings → Local → Type 0
+IsRunBegun origin s c =
+    (b : Local) × (b.machine ≡ opening_machine (limits_of s) s.ids s.regions s.mutators s.keep)
+    × IsRunFirst (session_limits s.wide) (has_area s) origin
+    (AnswersCommand OwnActs all_bad s.time) (Begins OwnActs all_bad s.time) b c
+
+-- such a session, and how it ended; or it didn't begin, and then nothing is read or written
+abbrev pub IsRun : Origin → Settings → Incoming → Incoming → Outgoing → Outgoing
+    → Result (Unit {0}) Fault → Type 0
+IsRun origin s a b w w' result =
+    ((ended : Ended) × (c : Local) × (left : Machine) × IsRunBegun origin s c
+    × IsSession (session_limits s.wide) c.machine s.time a b w w' left ended
     × EndsSession (session_limits s.wide) a b w w' ended × (result ≡ outcome_of ended))
-    ⊎ ((result ≡ Err Memory) × (b ≡ a) × (w' ≡ w))
+    ⊎ ((f : Fault) × IsHindrance origin f × (result ≡ Err f) × (b ≡ a) × (w' ≡ w))
 
 -- a session with questions or without
-abbrev pub IsRunWith : Bool → Settings → Incoming → Incoming → Outgoing → Outgoing
+abbrev pub IsRunWith : Bool → Origin → Settings → Incoming → Incoming → Outgoing → Outgoing
     → Result (Unit {0}) Fault → Type 0
-IsRunWith true s a b w w' result = IsExplored Fresh s a b w w' result
-IsRunWith false s a b w w' result = IsRun s a b w w' result
+IsRunWith true origin s a b w w' result = IsExplored origin s a b w w' result
+IsRunWith false origin s a b w w' result = IsRun origin s a b w w' result
 
 -- the outcome of a session that was drawn: its own if that is a fault, or that of the picture
 abbrev pub IsDrawingOutcome : Result (Unit {0}) Fault → Result (Unit {0}) Fault → Type 0
@@ -53,15 +67,15 @@ IsDrawingOutcome (Err f) result = result ≡ Err f
 IsDrawingOutcome (Ok done) result =
     (result ≡ Ok done) ⊎ ((result ≡ Err fault.Out) ⊎ (result ≡ Err Memory))
 
--- a session with questions over a heap with these settings as it begins, and a picture of what it left, if it ended well; or the
--- heap couldn't be allocated, and nothing is read or written
-abbrev pub IsSessionDrawn : Settings → Incoming → Incoming → Outgoing → Outgoing
+-- a session with questions over a heap with these settings, and a picture of what it left, if it ended well; or it didn't begin,
+-- and then nothing is read or written
+abbrev pub IsSessionDrawn : Origin → Settings → Incoming → Incoming → Outgoing → Outgoing
     → Result (Unit {0}) Fault → Type 0
-IsSessionDrawn s a b w w' result =
-    ((ended : Ended) × (c : Asking) × (left : Asking) × IsOpening s c
+IsSessionDrawn origin s a b w w' result =
+    ((ended : Ended) × (c : Asking) × (left : Asking) × IsSessionBegun origin s c
     × ServesAsking (session_limits s.wide) s.time a b c w left w' ended
     × EndsSession (session_limits s.wide) a b w w' ended × IsDrawingOutcome (outcome_of ended) result)
-    ⊎ ((result ≡ Err Memory) × (b ≡ a) × (w' ≡ w))
+    ⊎ ((f : Fault) × IsHindrance origin f × (result ≡ Err f) × (b ≡ a) × (w' ≡ w))
 
 -- a session that was saved to a file; or the folder of its path was not there, and nothing was read or written
 abbrev pub IsSavedOut : Settings → Incoming → Incoming → Outgoing → Outgoing
@@ -94,10 +108,10 @@ IsFetchDone is_secret w w' result =
 -- the task of the settings was done
 abbrev pub IsTaskDone : Task → Settings → Incoming → Incoming → Outgoing → Outgoing
     → Result (Unit {0}) Fault → Type 0
-IsTaskDone Run s a b w w' result = IsRunWith s.questions s a b w w' result
+IsTaskDone (Run origin) s a b w w' result = IsRunWith s.questions origin s a b w w' result
 IsTaskDone (Explore origin None) s a b w w' result = IsExplored origin s a b w w' result
 IsTaskDone (Explore origin (Some page)) s a b w w' result = IsPageExplored origin s a b w w' result
-IsTaskDone Draw s a b w w' result = IsSessionDrawn s a b w w' result
+IsTaskDone (Draw origin) s a b w w' result = IsSessionDrawn origin s a b w w' result
 IsTaskDone (Save Out) s a b w w' result = IsSavedOut s a b w w' result
 IsTaskDone (Save (To port)) s a b w w' result = IsSavedTo fault.Connect s a b w w' result
 IsTaskDone (Serve service) s a b w w' result = (b ≡ a) × IsServiceDone service s w w' result

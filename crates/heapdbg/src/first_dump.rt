@@ -3,7 +3,7 @@ ghost use Rattle.std.specs.Prelude.{◌≡◌, Some, Ok, IfErr, IfOk, IsOk};
 ghost use Rattle.session_text.specs.Answers.{AnswersCommand, Begins};
 ghost use Rattle.session_text.specs.Limits.{session_limits};
 ghost use Rattle.heapdbg_options.specs.declared.settings.Origin.TheVariants.{Dump};
-ghost use Rattle.heapdbg.specs.Explorations.{IsDumpRunFrom, IsHindrance, IsRunFirst, has_area};
+ghost use Rattle.heapdbg.specs.Explorations.{IsDumpHindrance, IsDumpRunFrom, IsHindrance, IsLoadFault, IsRunFirst, has_area, load_fault};
 
 use crate::failure::Fault;
 use crate::reasons::tell_path;
@@ -22,8 +22,8 @@ const REPORTED_LINES: u64 = 8;
 /// Runs by these commands the lines of the session of the dump in the file of the path, and returns them as the lines left them.
 /// Reports the first refused lines as `run_first` does, and how many more were refused, and on standard error what of the dump is
 /// left out, and its first fault. Fails with Memory, and with Hprof if the file can't be read, if it has no header of a dump, or if
-/// a line ends the session.
-#[tactic(auto, using(crate::proofs::RunDumps::dump_is_run_first))]
+/// a line ends the session. (With Cut or Reads if lines are put to be run that end in the middle of one, or need too many reads.)
+#[tactic(auto, using(crate::proofs::RunDumps::dump_is_run_first, crate::proofs::RunDumps::dump_hindrance_hinders))]
 pub(crate) fn load_dump<R: AllocGlobal + Clock + Eprint + Files, C: Commands + Drop>(
     rt: &R,
     request: Request<'_>,
@@ -36,7 +36,7 @@ pub(crate) fn load_dump<R: AllocGlobal + Clock + Eprint + Files, C: Commands + D
         (Begins C.acts C.unknown request.entry.settings.time) commands) }
     ensures hindrance { IfErr result (IsHindrance Dump) }
 {
-    let Some(path) = request.path else {
+    let Some(path) = request.first else {
         return Err(Fault::Memory);
     };
     match fs::read(rt, path) {
@@ -61,9 +61,10 @@ fn run_dump<R: AllocGlobal + Clock + Eprint, C: Commands + Drop, B: LoadStart<C>
     requires time { request.settings.time ≡ B.time }
     ensures run { IfOk result (IsDumpRunFrom B.limits (has_area request.entry.settings)
         (AnswersCommand C.acts C.unknown B.time) (Begins C.acts C.unknown B.time) dump.now B.start) }
-    ensures hindrance { IfErr result (IsHindrance Dump) }
+    ensures hindrance { IfErr result (IsDumpHindrance B.limits (has_area request.entry.settings)
+        (AnswersCommand C.acts C.unknown B.time) dump.now B.start) }
 {
-    let path = request.path.unwrap_or("");
+    let path = request.first.unwrap_or("");
     let (alloc, time) = (rt.alloc(), request.settings.time);
     let limits = session_limits(request.settings.wide);
     let answers = NewestLine::new(alloc);
@@ -93,17 +94,34 @@ fn tell_outcome<R: Eprint>(rt: &R, path: &str, area: bool, converted: &Result<Co
     }
 }
 
-// Returns the commands as the session of a dump left them, if all of it was run.
+// Returns the commands as the session of a dump left them, if all of it was run. Fails with Hprof if the dump has no header or a
+// line ended the session, and with Memory, Cut, Read, Reads and Write if that was why not all of it was run.
 fn commands_left<C: Drop>(
     converted: Result<Converted, Failure>,
     left: Result<C, Ended>,
 ) -> Result<C, Fault>
     ensures run { IfOk result (λ d. IsOk converted × (left ≡ Ok d)) }
-    ensures hindrance { IfErr result (IsHindrance Dump) }
+    ensures fault { IfErr result (IsLoadFault converted left) }
 {
     match (converted, left) {
         (Ok(_), Ok(commands)) => Ok(commands),
-        (Err(Failure::Memory), _) | (_, Err(Ended::NoMemory)) => Err(Fault::Memory),
-        _ => Err(Fault::Hprof),
+        (Err(Failure::Memory), _) => Err(Fault::Memory),
+        (Err(Failure::Header), _) => Err(Fault::Hprof),
+        (_, Err(ended)) => Err(fault_of_load(ended)),
+        (Err(Failure::Write), Ok(_)) => Err(Fault::Write),
+    }
+}
+
+// Returns the fault of a dump whose lines were run until this.
+fn fault_of_load(ended: Ended) -> Fault
+    ensures { result ≡ load_fault ended }
+{
+    match ended {
+        Ended::Quit | Ended::Eof | Ended::TooLong => Fault::Hprof,
+        Ended::CutLine => Fault::Cut,
+        Ended::ReadFault => Fault::Read,
+        Ended::TooManyReads => Fault::Reads,
+        Ended::WriteFault => Fault::Write,
+        Ended::NoMemory => Fault::Memory,
     }
 }

@@ -55,7 +55,7 @@ fn load<R: AllocGlobal + Clock + Eprint + Files, C: Commands + Drop>(
         (Begins C.acts C.unknown request.entry.settings.time) commands) }
     ensures hindrance { IfErr result (IsHindrance Lines) }
 {
-    let Some(path) = request.path else {
+    let Some(path) = request.first else {
         return Err(Fault::Memory);
     };
     let file = match open_lines(rt, path) {

@@ -17,6 +17,7 @@ mod ports;
 mod progress;
 mod reasons;
 mod request;
+mod run;
 mod save;
 mod secret_file;
 mod serve;

@@ -6,8 +6,11 @@ use heapdbg_options::settings::Settings;
 pub struct Request<'a> {
     /// The settings.
     pub settings: Settings,
-    /// The path of the task's file. None if the task has no file, or if an allocation failed.
+    /// The path of the file that the task makes. None if it makes none, or if an allocation failed.
     pub path: Option<&'a str>,
+    /// The path of the file of which lines are run first: its own, or those of the session of the dump in it. None if there is
+    /// none, or if an allocation failed.
+    pub first: Option<&'a str>,
     /// The path of the file of the secret. None if the command line names none, or if an allocation failed.
     pub secret: Option<&'a str>,
 }

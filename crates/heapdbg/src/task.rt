@@ -6,19 +6,19 @@ ghost use Rattle.heapdbg_options.specs.Refusals.{IsRefusalOf};
 ghost use Rattle.heapdbg_options.specs.declared.settings.Task.TheVariants.{Explore, Save};
 ghost use Rattle.heapdbg.specs.FetchOutcomes.{IsDumpFetched};
 ghost use Rattle.heap_server.specs.SessionSeats.{session_limit};
-ghost use Rattle.heapdbg.specs.Runs.{IsAskDone, IsFetchDone, IsPerformed, IsRun, IsRunWith, IsServiceDone, IsTaskDone};
+ghost use Rattle.heapdbg.specs.Runs.{IsAskDone, IsFetchDone, IsPerformed, IsServiceDone, IsTaskDone};
 
 use crate::ask::ask_port;
 use crate::draw::draw;
 use crate::explore::explore;
-use crate::failure::{Failure, Fault, outcome};
+use crate::failure::{Failure, Fault};
 use crate::fetch::{FetchEnd, fetch_port};
 use crate::folder::missing_folder;
-use crate::opening::open_local;
 use crate::page_exploration::explore_with_page;
 use crate::progress::TerminalGauge;
 use crate::reasons::tell_path;
 use crate::request::Request;
+use crate::run::run;
 use crate::save::{out_file, peer, save};
 use crate::secret_file::secret_for;
 use crate::serve::serve_port;
@@ -30,7 +30,7 @@ use heapdbg_options::line_words::borrow_words;
 use heapdbg_options::refusal::bad;
 use heapdbg_options::settings::{LineFault, Origin, Service, Settings, Target, Task};
 use secret_word::Secret;
-use session_text::{Inlet, ReadInlet, serve_local, session_limits};
+use session_text::{Inlet, ReadInlet};
 use std::alloc::Global;
 use std::fs::Files;
 use std::io::{Error, ErrorKind};
@@ -139,10 +139,12 @@ where
     let settings = settings_of_words(alloc, words)?;
     let line = line_of_words(alloc, words)?;
     let path = path_of_task(alloc, line.as_slice(), settings.task);
+    let first = first_of_task(alloc, line.as_slice(), settings.task);
     let secret = path_option(alloc, line.as_slice(), "secret");
     let request = Request {
         settings,
         path,
+        first,
         secret,
     };
     work(rt, request, screen, reader, input, writer)?;
@@ -171,21 +173,32 @@ fn line_of_words<'a>(alloc: Global, words: &'a [String]) -> Result<Vec<&'a str>,
     }
 }
 
-// Returns the path of the task's file, or None if the task has no file or an allocation fails.
+// Returns the path of the file that the task makes, or None if it makes none or an allocation fails.
 fn path_of_task<'a>(alloc: Global, line: &'a [&'a str], task: Task) -> Option<&'a str> {
     match task {
-        Task::Explore {
-            origin: Origin::Lines,
-            ..
-        } => path_option(alloc, line, "from"),
-        Task::Explore {
-            origin: Origin::Dump,
-            ..
-        } => path_option(alloc, line, "hprof"),
-        Task::Draw | Task::Save(Target::Out) | Task::Fetch { .. } => {
+        Task::Draw(_) | Task::Save(Target::Out) | Task::Fetch { .. } => {
             path_option(alloc, line, "out")
         }
         _ => None,
+    }
+}
+
+// Returns the path of the file of which the task runs lines first, or None if there is none or an allocation fails.
+fn first_of_task<'a>(alloc: Global, line: &'a [&'a str], task: Task) -> Option<&'a str> {
+    match task {
+        Task::Run(origin) | Task::Explore { origin, .. } | Task::Draw(origin) => {
+            path_of_origin(alloc, line, origin)
+        }
+        _ => None,
+    }
+}
+
+// Returns the path of the file of which lines are run first, or None if there is none or an allocation fails.
+fn path_of_origin<'a>(alloc: Global, line: &'a [&'a str], origin: Origin) -> Option<&'a str> {
+    match origin {
+        Origin::Fresh => None,
+        Origin::Lines => path_option(alloc, line, "from"),
+        Origin::Dump => path_option(alloc, line, "hprof"),
     }
 }
 
@@ -207,55 +220,15 @@ where
 {
     let is_terminal = screen.is_terminal;
     match request.settings.task {
-        Task::Run => run(rt, request, screen, reader, writer),
+        Task::Run(origin) => run(rt, request, origin, screen, reader, writer),
         Task::Explore { origin, page } => {
             explore_at(rt, request, origin, page, screen, reader, writer)
         }
-        Task::Draw => draw(rt, request, screen, reader, writer),
+        Task::Draw(origin) => draw(rt, request, origin, screen, reader, writer),
         Task::Save(target) => save_at(rt, request, target, is_terminal, reader, writer),
         Task::Serve(service) => serve(rt, request, service, writer, is_terminal),
         Task::Ask { port, secret } => ask_at(rt, request, port, secret, input, writer, is_terminal),
         Task::Fetch { port, secret } => fetch_at(rt, request, port, secret, writer, is_terminal),
-    }
-}
-
-// Runs one session over a private heap, in which questions are answered if the settings say so.
-fn run<R: AllocGlobal + Clock + Eprint + Files, I: Inlet, O: Outlet>(
-    rt: &R,
-    request: Request<'_>,
-    screen: Screen<'_>,
-    reader: &mut I,
-    writer: &mut O,
-) -> Result<(), Fault>
-    requires { IsHeapWithin request.settings }
-    ensures { IsRunWith request.entry.settings.questions request.entry.settings (I.seen reader.old)
-        (I.seen reader.new) (O.seen writer.old) (O.seen writer.new) result }
-{
-    if request.settings.questions {
-        explore(rt, request, Origin::Fresh, screen, reader, writer)
-    } else {
-        session(rt.alloc(), &request.settings, reader, writer)
-    }
-}
-
-// Runs one session over a private heap.
-fn session<I: Inlet, O: Outlet>(
-    alloc: Global,
-    settings: &Settings,
-    reader: &mut I,
-    writer: &mut O,
-) -> Result<(), Fault>
-    requires { IsHeapWithin settings.now }
-    ensures { IsRun settings.now (I.seen reader.old) (I.seen reader.new) (O.seen writer.old)
-        (O.seen writer.new) result }
-{
-    match open_local(alloc, settings) {
-        Ok(mut local) => {
-            let limits = session_limits(settings.wide);
-            let time = settings.time;
-            outcome(serve_local(alloc, reader, writer, &mut local, time, limits))
-        }
-        Err(fault) => Err(fault),
     }
 }
 

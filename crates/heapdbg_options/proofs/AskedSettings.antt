@@ -14,7 +14,7 @@ use Rattle.clap.specs.Words.{Row, Text, first_of, subcommand_of}
 use Rattle.heap_class.specs.declared.IdSize.{IdSize}
 use Rattle.heap_class.specs.declared.IdSize.TheVariants.{Eight}
 use Rattle.heap_world.specs.Limits.{mutator_limit}
-use Rattle.heapdbg_options.specs.CommandLine.{AreNumbersOf, AreSettingsWithin, HasDefaults, IsTask, ask_in, idle_in, idle_limit, idle_of, is_guarded, has_secret, stays_in, stays_of, area_default, area_in, dumps_in, dumps_of, dumps_with, page_beside, page_in, page_of, page_with, explore_in, explore_with, is_dump, is_lines, origin_in, own_page, own_task, runs_dump, runs_lines, flag_in, fetch_in, heapdbg_line, id_size_in, id_size_of, is_given, is_task, IsOther, IsThird, keep_default, keep_in, most_area, most_kept, most_regions, most_sessions, number_in, number_or, other_port, port_in, port_limit, questions_in, regions_in, rolls_in, save_in, serve_in, serve_with, sessions_in, sessions_of, settings_in, settings_over, settings_under, settings_with, target_in, task_in, third_port, time_limit, option_value, wide_in, workers_in, workers_of, counted_in, option_size, size_or, size_with, text_before, times_in, regions_default, wide_default, with_area_in}
+use Rattle.heapdbg_options.specs.CommandLine.{AreNumbersOf, AreSettingsWithin, HasDefaults, IsTask, ask_in, idle_in, idle_limit, idle_of, is_guarded, has_secret, stays_in, stays_of, area_after, area_default, area_in, draw_in, dump_origin, dumps_in, dumps_of, dumps_with, page_beside, page_in, page_of, page_with, explore_in, explore_with, is_dump, is_lines, origin_in, origin_of, own_page, own_task, runs_dump, runs_lines, flag_in, fetch_in, heapdbg_line, id_size_in, id_size_of, is_given, is_task, IsOther, IsThird, keep_after, keep_default, keep_in, most_area, most_kept, most_regions, most_sessions, number_in, number_or, other_port, port_in, port_limit, questions_in, regions_in, rolls_in, save_in, serve_in, serve_with, sessions_in, sessions_of, settings_in, settings_over, settings_under, settings_with, target_in, task_in, third_port, time_limit, option_value, wide_in, workers_in, workers_of, counted_in, option_size, size_or, size_with, text_before, times_in, has_dump, regions_after, regions_default, run_in, usual_keep, wide_default, with_area_in}
 use Rattle.heapdbg_options.specs.declared.settings.Settings.{Settings}
 use Rattle.heapdbg_options.specs.declared.settings.Origin.{Origin}
 use Rattle.heapdbg_options.specs.declared.settings.Origin.TheVariants.{Fresh, Lines, Dump}
@@ -155,7 +155,7 @@ settings_tell_regions task rows w s wide found =
     )
 
 abbrev task_by_flags_and_rows : Bool → Bool → Bool → Bool → Bool → Bool → Bool → List Row → Option Task
-task_by_flags_and_rows runs explores draws saves serves asks fetches rows = cond runs (Some Run) (cond explores (explore_in rows) (cond draws (Some Draw) (cond saves (save_in rows) (cond serves (serve_in rows) (cond asks (ask_in rows) (cond fetches (fetch_in rows) None))))))
+task_by_flags_and_rows runs explores draws saves serves asks fetches rows = cond runs (run_in rows) (cond explores (explore_in rows) (cond draws (draw_in rows) (cond saves (save_in rows) (cond serves (serve_in rows) (cond asks (ask_in rows) (cond fetches (fetch_in rows) None))))))
 
 task_is_named_by_one : (runs explores draws saves serves asks fetches : Bool) (rows : List Row) (task : Task) → task_by_flags_and_rows runs explores draws saves serves asks fetches rows ≡ Some task → (runs || (explores || (draws || (saves || (serves || (asks || fetches)))))) ≡ true
 task_is_named_by_one true explores draws saves serves asks fetches rows task e = refl
@@ -198,60 +198,54 @@ found_settings_are_asked (Some f) s e = go (task_in f.0 f.1) refl e
           read = there.1;
         }
 
+-- as many steps as can be undone in a heap of no dump may be undone
+usual_keep_within : (task : Task) (w : Bool) → (1 ≤ usual_keep task w) × (usual_keep task w ≤ most_kept w)
+usual_keep_within (Explore origin page) false = (omega arith, omega arith)
+usual_keep_within (Explore origin page) true = (omega arith, omega arith)
+usual_keep_within (Run origin) false = (omega arith, omega arith)
+usual_keep_within (Run origin) true = (omega arith, omega arith)
+usual_keep_within (Draw origin) false = (omega arith, omega arith)
+usual_keep_within (Draw origin) true = (omega arith, omega arith)
+usual_keep_within (Save target) false = (omega arith, omega arith)
+usual_keep_within (Save target) true = (omega arith, omega arith)
+usual_keep_within (Serve service) false = (omega arith, omega arith)
+usual_keep_within (Serve service) true = (omega arith, omega arith)
+usual_keep_within (Ask port secret) false = (omega arith, omega arith)
+usual_keep_within (Ask port secret) true = (omega arith, omega arith)
+usual_keep_within (Fetch port secret) false = (omega arith, omega arith)
+usual_keep_within (Fetch port secret) true = (omega arith, omega arith)
+
+keep_after_within : (origin : Origin) (w : Bool) (usual : ℕ) → (1 ≤ usual) × (usual ≤ most_kept w) → (1 ≤ keep_after origin usual) × (keep_after origin usual ≤ most_kept w)
+keep_after_within Fresh w usual within = within
+keep_after_within Lines w usual within = within
+keep_after_within Dump false usual within = (omega arith, omega arith)
+keep_after_within Dump true usual within = (omega arith, omega arith)
+
 -- as many steps as can be undone by default may be undone
 default_within : (task : Task) (w : Bool) → (1 ≤ keep_default task w) × (keep_default task w ≤ most_kept w)
-default_within (Explore Fresh page) false = (omega arith, omega arith)
-default_within (Explore Fresh page) true = (omega arith, omega arith)
-default_within (Explore Lines page) false = (omega arith, omega arith)
-default_within (Explore Lines page) true = (omega arith, omega arith)
-default_within (Explore Dump page) false = (omega arith, omega arith)
-default_within (Explore Dump page) true = (omega arith, omega arith)
-default_within Run false = (omega arith, omega arith)
-default_within Run true = (omega arith, omega arith)
-default_within Draw false = (omega arith, omega arith)
-default_within Draw true = (omega arith, omega arith)
-default_within (Save target) false = (omega arith, omega arith)
-default_within (Save target) true = (omega arith, omega arith)
-default_within (Serve service) false = (omega arith, omega arith)
-default_within (Serve service) true = (omega arith, omega arith)
-default_within (Ask port secret) false = (omega arith, omega arith)
-default_within (Ask port secret) true = (omega arith, omega arith)
-default_within (Fetch port secret) false = (omega arith, omega arith)
-default_within (Fetch port secret) true = (omega arith, omega arith)
+default_within task w = keep_after_within (origin_of task) w (usual_keep task w) (usual_keep_within task w)
+
+regions_after_within : (origin : Origin) (w : Bool) → (1 ≤ regions_after origin w) × (regions_after origin w ≤ most_regions w)
+regions_after_within Fresh false = (omega arith, omega arith)
+regions_after_within Fresh true = (omega arith, omega arith)
+regions_after_within Lines false = (omega arith, omega arith)
+regions_after_within Lines true = (omega arith, omega arith)
+regions_after_within Dump false = (omega arith, omega arith)
+regions_after_within Dump true = (omega arith, omega arith)
 
 -- as many regions as there are by default may be there
 default_regions_within : (task : Task) (w : Bool) → (1 ≤ regions_default task w) × (regions_default task w ≤ most_regions w)
-default_regions_within (Explore Fresh page) false = (omega arith, omega arith)
-default_regions_within (Explore Fresh page) true = (omega arith, omega arith)
-default_regions_within (Explore Lines page) false = (omega arith, omega arith)
-default_regions_within (Explore Lines page) true = (omega arith, omega arith)
-default_regions_within (Explore Dump page) false = (omega arith, omega arith)
-default_regions_within (Explore Dump page) true = (omega arith, omega arith)
-default_regions_within Run false = (omega arith, omega arith)
-default_regions_within Run true = (omega arith, omega arith)
-default_regions_within Draw false = (omega arith, omega arith)
-default_regions_within Draw true = (omega arith, omega arith)
-default_regions_within (Save target) false = (omega arith, omega arith)
-default_regions_within (Save target) true = (omega arith, omega arith)
-default_regions_within (Serve service) false = (omega arith, omega arith)
-default_regions_within (Serve service) true = (omega arith, omega arith)
-default_regions_within (Ask port secret) false = (omega arith, omega arith)
-default_regions_within (Ask port secret) true = (omega arith, omega arith)
-default_regions_within (Fetch port secret) false = (omega arith, omega arith)
-default_regions_within (Fetch port secret) true = (omega arith, omega arith)
+default_regions_within task w = regions_after_within (origin_of task) w
+
+area_after_within : (origin : Origin) (w : Bool) (r : ℕ) → area_after origin w r ≤ most_area w r
+area_after_within Fresh w r = omega arith
+area_after_within Lines w r = omega arith
+area_after_within Dump false r = omega arith
+area_after_within Dump true r = omega arith
 
 -- the area of a dump's heap may be there
 default_area_within : (task : Task) (w : Bool) (r : ℕ) → area_default task w r ≤ most_area w r
-default_area_within (Explore Fresh page) w r = omega arith
-default_area_within (Explore Lines page) w r = omega arith
-default_area_within (Explore Dump page) false r = omega arith
-default_area_within (Explore Dump page) true r = omega arith
-default_area_within Run w r = omega arith
-default_area_within Draw w r = omega arith
-default_area_within (Save target) w r = omega arith
-default_area_within (Serve service) w r = omega arith
-default_area_within (Ask port secret) w r = omega arith
-default_area_within (Fetch port secret) w r = omega arith
+default_area_within task w r = area_after_within (origin_of task) w r
 
 area_within : (task : Task) (w : Bool) (rows : List Row) (r a : ℕ) → area_in task w r rows ≡ Some a → a ≤ most_area w r
 area_within task w rows r a e = (size_or_default_within_bounds (area_default task w r) 0 (most_area w r) (first_of (codes "area") rows) a (omega arith) (default_area_within task w r) e).1
@@ -447,9 +441,9 @@ explore_within None None None (Some text) secret task e = go (number_in 1 port_l
         subst IsTask same (number_setting_within_bounds 1 port_limit text port at)
 
 task_within : (runs explores draws saves serves asks fetches : Bool) (rows : List Row) (task : Task) → task_by_flags_and_rows runs explores draws saves serves asks fetches rows ≡ Some task → IsTask task
-task_within true explores draws saves serves asks fetches rows task e = let same : Run ≡ task = cc in subst IsTask same tt
+task_within true explores draws saves serves asks fetches rows task e = let same : Run (dump_origin (has_dump rows)) ≡ task = cc in subst IsTask same tt
 task_within false true draws saves serves asks fetches rows task e = explore_within (first_of (codes "from") rows) (first_of (codes "hprof") rows) (first_of (codes "page") rows) (first_of (codes "port") rows) (has_secret rows) task e
-task_within false false true saves serves asks fetches rows task e = let same : Draw ≡ task = cc in subst IsTask same tt
+task_within false false true saves serves asks fetches rows task e = let same : Draw (dump_origin (has_dump rows)) ≡ task = cc in subst IsTask same tt
 task_within false false false true serves asks fetches rows task e = save_within (first_of (codes "out") rows) (first_of (codes "to") rows) task e
 task_within false false false false true asks fetches rows task e = serve_within rows task e
 task_within false false false false false true fetches rows task e = ask_within rows (has_secret rows) (port_in rows) task refl e
@@ -541,12 +535,12 @@ explore_has P None None None (Some text) secret task one other e = go (number_in
     go (Some n) h = let same : Ask n secret ≡ task = cc in subst P same (other n)
 
 -- what a task of no served heap has, and what a served heap has, is what each task has
-each_task_has_property : (P : Task → Type 0) (runs explores draws saves serves asks fetches : Bool) (rows : List Row) (task : Task) → P Run
-    → ((origin : Origin) (p : Option ℕ) → origin_in (is_some (first_of (codes "from") rows)) (is_some (first_of (codes "hprof") rows)) ≡ Some origin → own_page (first_of (codes "page") rows) ≡ Some p → P (Explore origin p)) → P Draw → ((target : Target) → P (Save target))
+each_task_has_property : (P : Task → Type 0) (runs explores draws saves serves asks fetches : Bool) (rows : List Row) (task : Task) → P (Run (dump_origin (has_dump rows)))
+    → ((origin : Origin) (p : Option ℕ) → origin_in (is_some (first_of (codes "from") rows)) (is_some (first_of (codes "hprof") rows)) ≡ Some origin → own_page (first_of (codes "page") rows) ≡ Some p → P (Explore origin p)) → P (Draw (dump_origin (has_dump rows))) → ((target : Target) → P (Save target))
     → ((port : ℕ) → P (Ask port (has_secret rows))) → ((port : ℕ) → P (Fetch port (has_secret rows))) → (serve_in rows ≡ Some task → P task) → task_by_flags_and_rows runs explores draws saves serves asks fetches rows ≡ Some task → P task
-each_task_has_property P true explores draws saves serves asks fetches rows task run explore draw save ask fetch serve e = let same : Run ≡ task = cc in subst P same run
+each_task_has_property P true explores draws saves serves asks fetches rows task run explore draw save ask fetch serve e = let same : Run (dump_origin (has_dump rows)) ≡ task = cc in subst P same run
 each_task_has_property P false true draws saves serves asks fetches rows task run explore draw save ask fetch serve e = explore_has P (first_of (codes "from") rows) (first_of (codes "hprof") rows) (first_of (codes "page") rows) (first_of (codes "port") rows) (has_secret rows) task explore ask e
-each_task_has_property P false false true saves serves asks fetches rows task run explore draw save ask fetch serve e = let same : Draw ≡ task = cc in subst P same draw
+each_task_has_property P false false true saves serves asks fetches rows task run explore draw save ask fetch serve e = let same : Draw (dump_origin (has_dump rows)) ≡ task = cc in subst P same draw
 each_task_has_property P false false false true serves asks fetches rows task run explore draw save ask fetch serve e = go (target_in (first_of (codes "out") rows) (first_of (codes "to") rows)) e
   where
     go : (t : Option Target) → option_map (λ target. Save target) t ≡ Some task → P task
@@ -604,6 +598,15 @@ ungiven_dump_is_unread from true origin none e = cc
 ungiven_file_is_unread : (given : Option Text) → given ≡ None → is_some given ≡ false
 ungiven_file_is_unread None none = refl
 ungiven_file_is_unread (Some path) none = cc
+
+-- the session of a dump is no file of lines
+dump_session_is_no_file : (dump : Bool) → is_lines (dump_origin dump) ≡ false
+dump_session_is_no_file false = refl
+dump_session_is_no_file true = refl
+
+-- no session of a dump is run first where no word tells one
+no_dump_given_none_run : (rows : List Row) → first_of (codes "hprof") rows ≡ None → is_dump (dump_origin (has_dump rows)) ≡ false
+no_dump_given_none_run rows none = ap (λ b. is_dump (dump_origin b)) (ungiven_file_is_unread (first_of (codes "hprof") rows) none)
 
 -- no secret is given where no word tells one
 no_secret_given_unguarded : (rows : List Row) → first_of (codes "secret") rows ≡ None → has_secret rows ≡ false
@@ -668,10 +671,10 @@ defaults_of words s e =
           refl (λ origin p is at. default_own (first_of (codes "page") rows) p (unnamed_option_has_no_row (codes "page") words asked.found refl asked.is asked.named other) at) refl (λ target. refl) (λ port. refl) (λ port. refl)
           (λ is. default_page rows s.task (unnamed_option_has_no_row (codes "page") words asked.found refl asked.is asked.named other) is) asked.task;
       from = λ other. each_task_has_property (λ t. runs_lines t ≡ false) (bytes_eq name (codes "run")) (bytes_eq name (codes "explore")) (bytes_eq name (codes "draw")) (bytes_eq name (codes "save")) (bytes_eq name (codes "serve")) (bytes_eq name (codes "ask")) (bytes_eq name (codes "fetch")) rows s.task
-          refl (λ origin p is at. ungiven_lines_are_unread (is_some (first_of (codes "from") rows)) (is_some (first_of (codes "hprof") rows)) origin (ungiven_file_is_unread (first_of (codes "from") rows) (unnamed_option_has_no_row (codes "from") words asked.found refl asked.is asked.named other)) is) refl (λ target. refl) (λ port. refl) (λ port. refl)
+          (dump_session_is_no_file (has_dump rows)) (λ origin p is at. ungiven_lines_are_unread (is_some (first_of (codes "from") rows)) (is_some (first_of (codes "hprof") rows)) origin (ungiven_file_is_unread (first_of (codes "from") rows) (unnamed_option_has_no_row (codes "from") words asked.found refl asked.is asked.named other)) is) (dump_session_is_no_file (has_dump rows)) (λ target. refl) (λ port. refl) (λ port. refl)
           (λ is. let served = serve_rows_make_task rows s.task is in by_service runs_lines rows s.task served false (refl)) asked.task;
       hprof = λ other. each_task_has_property (λ t. runs_dump t ≡ false) (bytes_eq name (codes "run")) (bytes_eq name (codes "explore")) (bytes_eq name (codes "draw")) (bytes_eq name (codes "save")) (bytes_eq name (codes "serve")) (bytes_eq name (codes "ask")) (bytes_eq name (codes "fetch")) rows s.task
-          refl (λ origin p is at. ungiven_dump_is_unread (is_some (first_of (codes "from") rows)) (is_some (first_of (codes "hprof") rows)) origin (ungiven_file_is_unread (first_of (codes "hprof") rows) (unnamed_option_has_no_row (codes "hprof") words asked.found refl asked.is asked.named other)) is) refl (λ target. refl) (λ port. refl) (λ port. refl)
+          (no_dump_given_none_run rows (unnamed_option_has_no_row (codes "hprof") words asked.found refl asked.is asked.named other)) (λ origin p is at. ungiven_dump_is_unread (is_some (first_of (codes "from") rows)) (is_some (first_of (codes "hprof") rows)) origin (ungiven_file_is_unread (first_of (codes "hprof") rows) (unnamed_option_has_no_row (codes "hprof") words asked.found refl asked.is asked.named other)) is) (no_dump_given_none_run rows (unnamed_option_has_no_row (codes "hprof") words asked.found refl asked.is asked.named other)) (λ target. refl) (λ port. refl) (λ port. refl)
           (λ is. let served = serve_rows_make_task rows s.task is in by_service runs_dump rows s.task served false (refl)) asked.task;
       idle = λ other. each_task_has_property (λ t. idle_of t ≡ 0) (bytes_eq name (codes "run")) (bytes_eq name (codes "explore")) (bytes_eq name (codes "draw")) (bytes_eq name (codes "save")) (bytes_eq name (codes "serve")) (bytes_eq name (codes "ask")) (bytes_eq name (codes "fetch")) rows s.task
           refl (λ origin p is at. refl) refl (λ target. refl) (λ port. refl) (λ port. refl)

@@ -3,19 +3,18 @@ use Rattle.std.proofs.Common.{◌≡◌, ◌∙◌, Bool, Err, List, None, Ok, O
 use Rattle.std.specs.Prelude.{option_and_then, option_map}
 use Rattle.std.specs.Str.{bytes_eq}
 use Rattle.clap.specs.Words.{Row, Text}
-use Rattle.heapdbg_options.specs.CommandLine.{ask_in, explore_in, fetch_in, is_task, save_in, serve_in, settings_in, settings_under, task_in}
+use Rattle.heapdbg_options.specs.CommandLine.{ask_in, draw_in, explore_in, fetch_in, is_task, run_in, save_in, serve_in, settings_in, settings_under, task_in}
 use Rattle.heapdbg_options.specs.Refusals.{IsMistake, IsMistakeIn, IsTaskOrMistake, IsValueOrMistake}
 use Rattle.heapdbg_options.specs.declared.refusal.Mistake.{Mistake}
 use Rattle.heapdbg_options.specs.declared.settings.Settings.{Settings}
 use Rattle.heapdbg_options.specs.declared.settings.Task.{Task}
-use Rattle.heapdbg_options.specs.declared.settings.Task.TheVariants.{Run, Draw}
 
 -- what is read, by what the name is
 abbrev task_chosen_by_flags : Bool → Bool → Bool → Bool → Bool → Bool → Bool → List Row → Option Task
 task_chosen_by_flags run explore draw save serve ask fetch rows =
-    cond run (Some Run)
+    cond run (run_in rows)
     (cond explore (explore_in rows)
-    (cond draw (Some Draw)
+    (cond draw (draw_in rows)
     (cond save (save_in rows)
     (cond serve (serve_in rows)
     (cond ask (ask_in rows)
@@ -31,7 +30,7 @@ pub command_task_by_name_and_rows : (read : List Row → Option Task) (name : Te
 command_task_by_name_and_rows read name rows (Ok task) e h = (e ∙ h.0, tt)
 command_task_by_name_and_rows read name rows (Err m) e h = (tt, (e ∙ h.1.0, inl h.1.1))
 
-pub run_name_names_run : (name : Text) (rows : List Row) → true ≡ bytes_eq name (codes "run") → task_in name rows ≡ Some Run
+pub run_name_names_run : (name : Text) (rows : List Row) → true ≡ bytes_eq name (codes "run") → task_in name rows ≡ run_in rows
 run_name_names_run name rows run =
     λ i. task_chosen_by_flags (sym run i) (bytes_eq name (codes "explore")) (bytes_eq name (codes "draw")) (bytes_eq name (codes "save")) (bytes_eq name (codes "serve")) (bytes_eq name (codes "ask")) (bytes_eq name (codes "fetch")) rows
 
@@ -39,7 +38,7 @@ pub names_explore : (name : Text) (rows : List Row) → false ≡ bytes_eq name 
 names_explore name rows run explore =
     λ i. task_chosen_by_flags (sym run i) (sym explore i) (bytes_eq name (codes "draw")) (bytes_eq name (codes "save")) (bytes_eq name (codes "serve")) (bytes_eq name (codes "ask")) (bytes_eq name (codes "fetch")) rows
 
-pub names_draw : (name : Text) (rows : List Row) → false ≡ bytes_eq name (codes "run") → false ≡ bytes_eq name (codes "explore") → true ≡ bytes_eq name (codes "draw") → task_in name rows ≡ Some Draw
+pub names_draw : (name : Text) (rows : List Row) → false ≡ bytes_eq name (codes "run") → false ≡ bytes_eq name (codes "explore") → true ≡ bytes_eq name (codes "draw") → task_in name rows ≡ draw_in rows
 names_draw name rows run explore draw =
     λ i. task_chosen_by_flags (sym run i) (sym explore i) (sym draw i) (bytes_eq name (codes "save")) (bytes_eq name (codes "serve")) (bytes_eq name (codes "ask")) (bytes_eq name (codes "fetch")) rows
 

@@ -72,9 +72,14 @@ port_option = record (value_option (codes "port")) { required = true }
 abbrev pub secret_option : Rule
 secret_option = value_option (codes "secret")
 
+-- the option `--hprof VALUE`
+abbrev pub dump_option : Rule
+dump_option = value_option (codes "hprof")
+
 -- the command `run`
 abbrev pub run_line : App
-run_line = with_rule (session_line (codes "run")) (flag_option (codes "questions"))
+run_line =
+    with_rule (with_rule (session_line (codes "run")) (flag_option (codes "questions"))) dump_option
 
 -- the command `explore`
 abbrev pub explore_line : App
@@ -83,7 +88,7 @@ explore_line =
     (with_rule
     (with_rule
     (with_rule (with_rule (session_line (codes "explore")) (value_option (codes "from")))
-    (value_option (codes "hprof")))
+    dump_option)
     (value_option (codes "port")))
     (value_option (codes "page")))
     secret_option
@@ -133,7 +138,7 @@ out_option = record (value_option (codes "out")) { required = true }
 
 -- the command `draw`
 abbrev pub draw_line : App
-draw_line = with_rule (session_line (codes "draw")) out_option
+draw_line = with_rule (with_rule (session_line (codes "draw")) out_option) dump_option
 
 -- the command `fetch`
 abbrev pub fetch_line : App
@@ -273,28 +278,38 @@ most_regions wide = if wide then region_limit else narrow_regions
 abbrev pub most_kept : Bool → ℕ
 most_kept wide = if wide then keep_limit else narrow_keep
 
--- the number of steps of `explore` that can be undone, if the option is not given: the most that there may be, but those of a
--- dump's session as many as in a heap that isn't wide
-abbrev pub keep_after : Origin → Bool → ℕ
-keep_after Fresh wide = most_kept wide
-keep_after Lines wide = most_kept wide
-keep_after Dump wide = narrow_keep
+-- what is run before the session of a task
+abbrev pub origin_of : Task → Origin
+origin_of (Run origin) = origin
+origin_of (Explore origin page) = origin
+origin_of (Draw origin) = origin
+origin_of _ = Fresh
 
--- the number of steps that can be undone, if the option is not given
+-- the number of steps that can be undone in a heap of no dump, if the option is not given: of `explore` the most that there may be
+abbrev pub usual_keep : Task → Bool → ℕ
+usual_keep (Explore origin page) wide = most_kept wide
+usual_keep _ wide = 1024
+
+-- the number of steps that can be undone, if the option is not given: this many, but in the heap of a dump as many as in a heap
+-- that isn't wide
+abbrev pub keep_after : Origin → ℕ → ℕ
+keep_after Fresh usual = usual
+keep_after Lines usual = usual
+keep_after Dump usual = narrow_keep
+
+-- the number of a task's steps that can be undone, if the option is not given
 abbrev pub keep_default : Task → Bool → ℕ
-keep_default (Explore origin page) wide = keep_after origin wide
-keep_default _ wide = 1024
+keep_default task wide = keep_after (origin_of task) (usual_keep task wide)
 
--- the number of regions of `explore`, if the option is not given: for a dump the most that there may be
+-- the number of regions, if the option is not given: for a dump the most that there may be
 abbrev pub regions_after : Origin → Bool → ℕ
 regions_after Fresh wide = 16
 regions_after Lines wide = 16
 regions_after Dump wide = most_regions wide
 
--- the number of regions, if the option is not given
+-- the number of a task's regions, if the option is not given
 abbrev pub regions_default : Task → Bool → ℕ
-regions_default (Explore origin page) wide = regions_after origin wide
-regions_default _ wide = 16
+regions_default task wide = regions_after (origin_of task) wide
 
 -- the regions of a task's heap that is wide, or isn't
 abbrev pub regions_in : Task → Bool → List Row → Option ℕ
@@ -310,16 +325,15 @@ keep_in task wide rows =
 abbrev pub most_area : Bool → ℕ → ℕ
 most_area wide regions = if wide then regions - 1 else 0
 
--- the regions of the area of `explore`, if the option is not given: for a dump in a wide heap a quarter of all
+-- the regions of the area, if the option is not given: for a dump in a wide heap a quarter of all
 abbrev pub area_after : Origin → Bool → ℕ → ℕ
 area_after Fresh wide regions = 0
 area_after Lines wide regions = 0
 area_after Dump wide regions = if wide then regions / 4 else 0
 
--- the regions of the area, if the option is not given
+-- the regions of the area of a task's heap, if the option is not given
 abbrev pub area_default : Task → Bool → ℕ → ℕ
-area_default (Explore origin page) wide regions = area_after origin wide regions
-area_default _ wide regions = 0
+area_default task wide regions = area_after (origin_of task) wide regions
 
 -- the area of a task's heap with so many regions that is wide, or isn't
 abbrev pub area_in : Task → Bool → ℕ → List Row → Option ℕ
@@ -503,12 +517,24 @@ is_task name =
     || (bytes_eq name (codes "serve")
     || (bytes_eq name (codes "ask") || bytes_eq name (codes "fetch"))))))
 
+-- what is run before a session, if a dump is given, or isn't
+abbrev pub dump_origin : Bool → Origin
+dump_origin dump = if dump then Dump else Fresh
+
+-- the task of the options of `run`
+abbrev pub run_in : List Row → Option Task
+run_in rows = Some (Run (dump_origin (has_dump rows)))
+
+-- the task of the options of `draw`
+abbrev pub draw_in : List Row → Option Task
+draw_in rows = Some (Draw (dump_origin (has_dump rows)))
+
 -- the task of a command's name and options
 abbrev pub task_in : Text → List Row → Option Task
 task_in name rows =
-    if bytes_eq name (codes "run") then Some Run
+    if bytes_eq name (codes "run") then run_in rows
     else (if bytes_eq name (codes "explore") then explore_in rows
-    else (if bytes_eq name (codes "draw") then Some Draw
+    else (if bytes_eq name (codes "draw") then draw_in rows
     else (if bytes_eq name (codes "save") then save_in rows
     else (if bytes_eq name (codes "serve") then serve_in rows
     else (if bytes_eq name (codes "ask") then ask_in rows
@@ -557,10 +583,10 @@ IsService s =
 
 -- the ports and numbers of a task are within their limits
 abbrev pub IsTask : Task → Type 0
-IsTask Run = ⊤
+IsTask (Run origin) = ⊤
 IsTask (Explore origin None) = ⊤
 IsTask (Explore origin (Some page)) = (1 ≤ page) × (page ≤ port_limit)
-IsTask Draw = ⊤
+IsTask (Draw origin) = ⊤
 IsTask (Save Out) = ⊤
 IsTask (Save (To port)) = (1 ≤ port) × (port ≤ port_limit)
 IsTask (Serve service) = IsService service
@@ -642,11 +668,6 @@ abbrev pub is_dump : Origin → Bool
 is_dump Fresh = false
 is_dump Lines = false
 is_dump Dump = true
-
--- what is run before the session of a task
-abbrev pub origin_of : Task → Origin
-origin_of (Explore origin page) = origin
-origin_of _ = Fresh
 
 -- the lines of a file are run first
 abbrev pub runs_lines : Task → Bool

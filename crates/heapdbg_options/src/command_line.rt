@@ -8,7 +8,7 @@ ghost use Rattle.clap.specs.declared.builder.Command.TheViews.{out-Command};
 ghost use Rattle.heapdbg_options.specs.Parsers.{IsParserOf};
 ghost use Rattle.heapdbg_options.specs.CommandLine.{AreSettingsWithin, HasDefaults, heapdbg_line, named_line, number_in};
 ghost use Rattle.heapdbg_options.specs.CommandLine.{settings_in, settings_of, settings_over, settings_under, texts, option_size, option_value, counted_in, size_in, text_before};
-ghost use Rattle.heapdbg_options.specs.CommandLine.{id_size_in, id_size_of, flag_in, has_dump, keep_after, keep_default, most_kept, most_regions, path_of, regions_after, regions_default, regions_in, task_in, wide_default, wide_in};
+ghost use Rattle.heapdbg_options.specs.CommandLine.{id_size_in, id_size_of, flag_in, has_dump, keep_after, keep_default, most_kept, most_regions, origin_of, path_of, regions_after, regions_default, regions_in, task_in, usual_keep, wide_default, wide_in};
 ghost use Rattle.heapdbg_options.specs.CommandLine.{area_after, area_default, most_area, with_area_in};
 ghost use Rattle.heapdbg_options.specs.Refusals.{IsMistake, IsMistakeIn, IsRefusalOf, area_mistake, keep_mistake, regions_mistake, IsSaidOf, IsValueOrMistake, is_help};
 
@@ -16,7 +16,7 @@ use crate::line_words::{is_help, is_version};
 use crate::option_rows::{CommandRow, with_commands};
 use crate::refusal::{Mistake, VERSION, version_by_command, version_by_option};
 use crate::save_options::{SAVE, save_task};
-use crate::session_options::{DRAW, EXPLORE, RUN, explore_task};
+use crate::session_options::{DRAW, EXPLORE, RUN, draw_task, explore_task, run_task};
 use crate::settings::{LineFault, Origin, Settings, Task};
 use crate::socket_options::{ASK, FETCH, SERVE, ask_task, fetch_task, serve_task};
 use crate::tip::with_tip;
@@ -132,13 +132,13 @@ fn task_of(name: &str, options: &ArgMatches<'_>) -> Result<Task, Mistake>
         (λ m. IsMistake m (Some (name.now, rows_of (found_of options.now)))) result }
 {
     if name == "run" {
-        return Ok(Task::Run);
+        return Ok(run_task(options));
     }
     if name == "explore" {
         return explore_task(options);
     }
     if name == "draw" {
-        return Ok(Task::Draw);
+        return Ok(draw_task(options));
     }
     if name == "save" {
         return save_task(options);
@@ -185,13 +185,6 @@ fn wide_default(dump: bool) -> u64
     if dump { 1 } else { 0 }
 }
 
-// Tells whether a dump is given.
-fn has_dump(options: &ArgMatches<'_>) -> bool
-    ensures { result ≡ has_dump (rows_of (found_of options.now)) }
-{
-    options.get_str("hprof").is_some()
-}
-
 // Returns the settings of a task's options over a heap that is wide, or isn't, without an area, or the option whose value is out of
 // its range.
 fn settings_over(task: Task, options: &ArgMatches<'_>, wide: bool) -> Result<Settings, Mistake>
@@ -236,17 +229,14 @@ fn settings_over(task: Task, options: &ArgMatches<'_>, wide: bool) -> Result<Set
     })
 }
 
-// Returns the number of regions if the option isn't given.
+// Returns the number of a task's regions if the option isn't given.
 fn regions_default(task: Task, wide: bool) -> u64
     ensures { result ≡ regions_default task wide }
 {
-    match task {
-        Task::Explore { origin, .. } => regions_after(origin, wide),
-        _ => 16,
-    }
+    regions_after(origin_of(task), wide)
 }
 
-// Returns the number of regions of `explore` if the option isn't given: for a dump the most that there may be.
+// Returns the number of regions if the option isn't given: for a dump the most that there may be.
 fn regions_after(origin: Origin, wide: bool) -> u64
     ensures { result ≡ regions_after origin wide }
 {
@@ -261,6 +251,16 @@ fn most_regions(wide: bool) -> u64
     ensures { result ≡ most_regions wide }
 {
     if wide { REGION_LIMIT } else { NARROW_REGIONS }
+}
+
+// Returns what is run before the session of a task.
+fn origin_of(task: Task) -> Origin
+    ensures { result ≡ origin_of task }
+{
+    match task {
+        Task::Run(origin) | Task::Explore { origin, .. } | Task::Draw(origin) => origin,
+        _ => Origin::Fresh,
+    }
 }
 
 // Returns the size that an option is given, `default` if it isn't given, or None if it isn't from `least` to `most`.
@@ -325,24 +325,31 @@ fn regions_mistake(wide: bool) -> Mistake
     }
 }
 
-// Returns how many steps can be undone if the option isn't given.
+// Returns how many steps of a task can be undone if the option isn't given.
 fn keep_default(task: Task, wide: bool) -> u64
     ensures { result ≡ keep_default task wide }
 {
-    match task {
-        Task::Explore { origin, .. } => keep_after(origin, wide),
-        _ => 1024,
+    keep_after(origin_of(task), usual_keep(task, wide))
+}
+
+// Returns how many steps can be undone if the option isn't given: this many, but in the heap of a dump as many as in a heap that
+// isn't wide.
+fn keep_after(origin: Origin, usual: u64) -> u64
+    ensures { result ≡ keep_after origin usual }
+{
+    match origin {
+        Origin::Fresh | Origin::Lines => usual,
+        Origin::Dump => NARROW_KEEP,
     }
 }
 
-// Returns how many steps of `explore` can be undone if the option isn't given: the most that there may be, but of a dump's session
-// as many as in a heap that isn't wide.
-fn keep_after(origin: Origin, wide: bool) -> u64
-    ensures { result ≡ keep_after origin wide }
+// Returns how many steps can be undone in a heap of no dump if the option isn't given: of `explore` the most that there may be.
+fn usual_keep(task: Task, wide: bool) -> u64
+    ensures { result ≡ usual_keep task wide }
 {
-    match origin {
-        Origin::Fresh | Origin::Lines => most_kept(wide),
-        Origin::Dump => NARROW_KEEP,
+    match task {
+        Task::Explore { .. } => most_kept(wide),
+        _ => 1024,
     }
 }
 
@@ -404,17 +411,14 @@ fn settings_with_area(settings: Settings, options: &ArgMatches<'_>) -> Result<Se
     }
 }
 
-// Returns the number of regions of the area if the option isn't given.
+// Returns the number of regions of the area of a task's heap if the option isn't given.
 fn area_default(task: Task, wide: bool, regions: u64) -> u64
     ensures { result ≡ area_default task wide regions }
 {
-    match task {
-        Task::Explore { origin, .. } => area_after(origin, wide, regions),
-        _ => 0,
-    }
+    area_after(origin_of(task), wide, regions)
 }
 
-// Returns the number of regions of the area of `explore` if the option isn't given: for a dump in a wide heap a quarter of all.
+// Returns the number of regions of the area if the option isn't given: for a dump in a wide heap a quarter of all.
 fn area_after(origin: Origin, wide: bool, regions: u64) -> u64
     ensures { result ≡ area_after origin wide regions }
 {
@@ -440,6 +444,13 @@ fn area_mistake(wide: bool) -> Mistake
     } else {
         Mistake::Area
     }
+}
+
+// Tells whether a dump is given.
+pub(crate) fn has_dump(options: &ArgMatches<'_>) -> bool
+    ensures { result ≡ has_dump (rows_of (found_of options.now)) }
+{
+    options.get_str("hprof").is_some()
 }
 
 /// Returns the path that the words give to an option, or None if they give none or an allocation fails.

@@ -1,11 +1,12 @@
 //! The command lines of the tasks between standard input and standard output.
-ghost use Rattle.std.specs.Prelude.{◌≡◌, option_map};
+ghost use Rattle.std.specs.Prelude.{◌≡◌, Some, option_map};
 ghost use Rattle.clap.specs.Words.{found_of, rows_of};
-ghost use Rattle.heapdbg_options.specs.CommandLine.{explore_in, origin_in, own_page, port_limit};
+ghost use Rattle.heapdbg_options.specs.CommandLine.{draw_in, dump_origin, explore_in, origin_in, own_page, port_limit, run_in};
 ghost use Rattle.heapdbg_options.specs.Refusals.{IsExploreOrMistake, IsOutside, IsTaskOrMistake, IsValueOrMistake};
 ghost use Rattle.heapdbg_options.specs.declared.refusal.Mistake.TheVariants.{OwnPage};
 ghost use Rattle.heapdbg_options.specs.declared.settings.Task.TheVariants.{Explore};
 
+use crate::command_line::has_dump;
 use crate::option_rows::{
     AREA, CommandRow, IDS, KEEP, MUTATORS, OptionRow, PAGE, QUESTIONS, REGIONS, TIME, WIDE,
 };
@@ -14,12 +15,55 @@ use crate::settings::{Origin, Task};
 use crate::socket_options::{has_secret, port_of};
 use clap::ArgMatches;
 
+// The option `--regions N` of a command that takes a dump.
+const DUMP_REGIONS: OptionRow = OptionRow {
+    help: "Regions of the heap, 1 to 256, or to 65536 with --wide 1 [default: 16, or with --hprof the most]",
+    ..REGIONS
+};
+
+// The option `--keep N` of a command that takes a dump, but of `explore`.
+const DUMP_KEEP: OptionRow = OptionRow {
+    help: "Steps that can be undone, 1 to 65536, or to 16777216 with --wide 1 [default: 1024, or with --hprof 65536]",
+    ..KEEP
+};
+
+// The option `--wide [N]` of a command that takes a dump.
+const DUMP_WIDE: OptionRow = OptionRow {
+    help: "Whether the heap has wider limits, of classes, names and pins too, 0 or 1 [default: 0, or with --hprof 1]",
+    ..WIDE
+};
+
+// The option `--area N` of a command that takes a dump.
+const DUMP_AREA: OptionRow = OptionRow {
+    help: "Last regions of the heap, which hold arrays of more than 1024 elements, fewer than all; with --wide 1 alone [default: 0, or with --hprof a quarter]",
+    ..AREA
+};
+
+// The option `--hprof PATH`.
+const HPROF: OptionRow = OptionRow {
+    name: "hprof",
+    value: "PATH",
+    help: "File of a heap dump in HPROF, whose heap is made first",
+    is_required: false,
+    is_flag: false,
+};
+
 // The command `run`.
 pub(crate) const RUN: CommandRow = CommandRow {
     name: "run",
     about: "Reads commands from standard input and writes replies to standard output",
     usage: None,
-    options: &[REGIONS, MUTATORS, KEEP, WIDE, AREA, TIME, IDS, QUESTIONS],
+    options: &[
+        DUMP_REGIONS,
+        MUTATORS,
+        DUMP_KEEP,
+        DUMP_WIDE,
+        DUMP_AREA,
+        TIME,
+        IDS,
+        QUESTIONS,
+        HPROF,
+    ],
 };
 
 // The command `explore`.
@@ -28,23 +72,14 @@ pub(crate) const EXPLORE: CommandRow = CommandRow {
     about: "Reads commands and questions from standard input and writes answers to standard output",
     usage: None,
     options: &[
-        OptionRow {
-            help: "Regions of the heap, 1 to 256, or to 65536 with --wide 1 [default: 16, or with --hprof the most]",
-            ..REGIONS
-        },
+        DUMP_REGIONS,
         MUTATORS,
         OptionRow {
             help: "Steps that can be undone, 1 to 65536, or to 16777216 with --wide 1 [default: the most, or with --hprof 65536]",
             ..KEEP
         },
-        OptionRow {
-            help: "Whether the heap has wider limits, of classes, names and pins too, 0 or 1 [default: 0, or with --hprof 1]",
-            ..WIDE
-        },
-        OptionRow {
-            help: "Last regions of the heap, which hold arrays of more than 1024 elements, fewer than all; with --wide 1 alone [default: 0, or with --hprof a quarter]",
-            ..AREA
-        },
+        DUMP_WIDE,
+        DUMP_AREA,
         TIME,
         IDS,
         OptionRow {
@@ -55,11 +90,8 @@ pub(crate) const EXPLORE: CommandRow = CommandRow {
             is_flag: false,
         },
         OptionRow {
-            name: "hprof",
-            value: "PATH",
             help: "File of a heap dump in HPROF, whose heap is made first; not with --from",
-            is_required: false,
-            is_flag: false,
+            ..HPROF
         },
         OptionRow {
             name: "port",
@@ -85,11 +117,11 @@ pub(crate) const DRAW: CommandRow = CommandRow {
     about: "Runs a session, and draws the regions of the state that it leaves",
     usage: None,
     options: &[
-        REGIONS,
+        DUMP_REGIONS,
         MUTATORS,
-        KEEP,
-        WIDE,
-        AREA,
+        DUMP_KEEP,
+        DUMP_WIDE,
+        DUMP_AREA,
         TIME,
         IDS,
         OptionRow {
@@ -99,8 +131,30 @@ pub(crate) const DRAW: CommandRow = CommandRow {
             is_required: true,
             is_flag: false,
         },
+        HPROF,
     ],
 };
+
+// Returns the task of the options of `run`.
+pub(crate) fn run_task(options: &ArgMatches<'_>) -> Task
+    ensures { run_in (rows_of (found_of options.now)) ≡ Some result }
+{
+    Task::Run(dump_origin(has_dump(options)))
+}
+
+// Returns what is run before a session, if a dump is given, or isn't.
+fn dump_origin(dump: bool) -> Origin
+    ensures { result ≡ dump_origin dump }
+{
+    if dump { Origin::Dump } else { Origin::Fresh }
+}
+
+// Returns the task of the options of `draw`.
+pub(crate) fn draw_task(options: &ArgMatches<'_>) -> Task
+    ensures { draw_in (rows_of (found_of options.now)) ≡ Some result }
+{
+    Task::Draw(dump_origin(has_dump(options)))
+}
 
 // Returns the task of the options of `explore`, or the mistake in them: the session is over a heap of its own, or the questions
 // are about a heap that is served.

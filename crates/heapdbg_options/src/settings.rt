@@ -38,7 +38,7 @@ pub struct Service {
     pub secret: bool,
 }
 
-/// What is run before a session with questions over a heap of its own.
+/// What is run before a session over a heap of its own.
 #[derive(Clone, Copy)]
 pub enum Origin {
     /// Nothing.
@@ -52,8 +52,8 @@ pub enum Origin {
 /// A task of the program.
 #[derive(Clone, Copy)]
 pub enum Task {
-    /// Runs one session between standard input and standard output.
-    Run,
+    /// Runs one session between standard input and standard output, after this: nothing, or the session of a dump.
+    Run(Origin),
     /// Runs one session likewise, in which questions are answered.
     Explore {
         /// What is run first.
@@ -61,8 +61,8 @@ pub enum Task {
         /// The port of the page, 1 to 65,535, or None if there is none.
         page: Option<u16>,
     },
-    /// Runs one session as `Run` does, and draws the state that it leaves.
-    Draw,
+    /// Runs one session with questions after this, nothing or the session of a dump, and draws the state that it leaves.
+    Draw(Origin),
     /// Runs one session as `Run` does, and dumps the state that it leaves.
     Save(Target),
     /// Serves sessions over one shared heap to clients of this computer.

@@ -1,11 +1,11 @@
-use Rattle.std.proofs.Common.{inr, refl}
+use Rattle.std.proofs.Common.{◌∙◌, inr, refl}
 use Rattle.clap.specs.Words.{found_of, rows_of}
 use Rattle.heapdbg_options.specs.CommandLine.{ask_in, explore_in, fetch_in, save_in, serve_in}
 use Rattle.heapdbg_options.proofs.NamedTasks.{IsLate, names_ask, names_draw, names_explore, names_fetch, other_name_names_no_task, run_name_names_run, names_save, names_serve, command_task_by_name_and_rows}
 use Rattle.heapdbg_options.proofs.command_line.task_of.Goals as goal
 
 pub returns-then-eq : goal.returns-then-eq
-returns-then-eq c = (run_name_names_run c.args.name.now (rows_of (found_of c.args.options.now)) c.if-eq.ensures, tt)
+returns-then-eq c = (run_name_names_run c.args.name.now (rows_of (found_of c.args.options.now)) c.if-eq.ensures ∙ c.run_task.ensures, tt)
 
 pub returns-then-eq-2 : goal.returns-then-eq-2
 returns-then-eq-2 c =
@@ -13,7 +13,7 @@ returns-then-eq-2 c =
     command_task_by_name_and_rows explore_in c.args.name.now rows c.explore_task.result (names_explore c.args.name.now rows c.if-eq.ensures c.if-eq-2.ensures) c.explore_task.ensures
 
 pub returns-then-eq-3 : goal.returns-then-eq-3
-returns-then-eq-3 c = (names_draw c.args.name.now (rows_of (found_of c.args.options.now)) c.if-eq.ensures c.if-eq-2.ensures c.if-eq-3.ensures, tt)
+returns-then-eq-3 c = (names_draw c.args.name.now (rows_of (found_of c.args.options.now)) c.if-eq.ensures c.if-eq-2.ensures c.if-eq-3.ensures ∙ c.draw_task.ensures, tt)
 
 pub returns-then-eq-4 : goal.returns-then-eq-4
 returns-then-eq-4 c =

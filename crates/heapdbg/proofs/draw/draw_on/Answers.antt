@@ -1,15 +1,15 @@
 use Rattle.std.proofs.Common.{Result, subst, inl}
 use Rattle.heapdbg.specs.declared.failure.Fault.{Fault}
 use Rattle.heapdbg.specs.Runs.{IsDrawingOutcome}
-use Rattle.heapdbg.proofs.draw.draw.Goals as goal
+use Rattle.heapdbg.proofs.draw.draw_on.Goals as goal
 
-pub returns-in-Ok : goal.returns-in-Ok
-returns-in-Ok g c =
+pub returns : goal.returns
+returns g c =
     inl (
       c.serve_asking-ended.result,
-      c.in-Ok.asking,
+      c.in_ok-asking.asking,
       c.serve_asking-ended.new.asking,
-      c.in-Ok.ensures.opening,
+      (c.args.asking, c.requires, c.in_ok-asking.ensures.run),
       rw c.session_limits-limits.ensures at c.serve_asking-ended.ensures.session,
       rw c.session_limits-limits.ensures at c.serve_asking-ended.ensures.ends,
       subst (λ (r : Result (Unit {0}) Fault). IsDrawingOutcome r c.draw_after.result) c.outcome.ensures c.draw_after.ensures,

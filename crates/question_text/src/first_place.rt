@@ -41,9 +41,7 @@ fn wanted_line(alloc: Global, machine: &Machine, wanted: Wanted, span: Span) -> 
         (line_answer_text result) }
 {
     match states_of(machine, span) {
-        Ok((ago, count)) => {
-            first_line(first_wanted(alloc, machine, ago, count, wanted))
-        }
+        Ok((ago, count)) => { first_line(first_wanted(alloc, machine, ago, count, wanted)) }
         Err(refusal) => reason_line(Unanswered::Refused(refusal)),
     }
 }

@@ -6,7 +6,7 @@ from paged import Heap
 
 # A node, an array of references and one of bytes, in a heap with an area; and the first step of what is written there.
 LINES = b"""class Node - next:object v:long
-array Nodes
+array [Node;
 new 0 0 0
 newarray 0 1 1 2500
 newprim 0 2 byte 2500
@@ -19,7 +19,7 @@ AREA = ("--wide", "1", "--regions", "16", "--area", "12")
 AT_A_TIME, LENGTH = 1000, 2500
 NEWEST = 8
 ROWS = "document.querySelectorAll('#insp table.fields tbody tr')"
-CELLS = f"(() => {{ const r = {ROWS}[{{}}]; return [...r.cells].map((c) => c.textContent); }})()"
+CELLS = f"[...{ROWS}[{{}}].cells].map((c) => c.textContent)"
 LINES_OF_BYTES = "document.querySelectorAll('#insp .bytes > div')"
 MORE = "document.querySelector('#insp [data-row=\"more slots\"]')"
 LEFT = f"({MORE} ? {MORE}.textContent : '')"
@@ -58,13 +58,13 @@ def others(tab):
     """The slots of another object, and of the array again; and at a place."""
     tab.value(f"heapdbg.pick('{NODE}')")
     tab.wait(f"{ROWS}.length === 2")
-    yield "the fields of a node", tab.value(f"[{CELLS.format(0)}[0], {CELLS.format(1)}[0], {LEFT}]"), ["next", "v", ""]
+    yield "the fields of a node", tab.value(f"[{ROWS}[0].cells[0].textContent, {ROWS}[1].cells[0].textContent, {LEFT}]"), ["next", "v", ""]
     tab.value(f"heapdbg.pick('{ARRAY}')")
     tab.wait(f"{ROWS}.length > 2")
     yield "the first elements again", tab.value(f"[{ROWS}.length, {LEFT}]"), [AT_A_TIME, "… 1,500 more"]
     tab.value("heapdbg.go(6)")
     at_place(tab, 6)
-    tab.wait(f"{CELLS.format(0)}[3] === '@6'")
+    tab.wait(f"{ROWS}[0].cells[3].textContent === '@6'")
     yield "those at a place", tab.value(f"[{ROWS}.length, {CELLS.format(0)}, {LEFT}]"), [
         AT_A_TIME, ["0", "object", f"{NODE} Node", "@6"], "… 1,500 more"]
     tab.click_on(MORE)
@@ -84,8 +84,8 @@ def octets(tab):
         tab.wait(f"{LINES_OF_BYTES}.length === {-(-count // 8)}")
     last = tab.value(f"{LINES_OF_BYTES}[{LENGTH // 8}].textContent")
     yield "the last bytes", (last.split(), tab.value(LEFT)), (["09c0", "00", "00", "00", "41", "···A"], "")
-    written = [text for text in tab.value("[...document.querySelectorAll('#steps .step')].map((e) => e.textContent)") if "put" in text]
-    yield "what a step wrote far behind", written, [f"@{NEWEST} put {BYTES}[2499] = 65 was 0"]
+    told = tab.value("[...document.querySelectorAll('#steps .step')].map((e) => e.children[1].textContent)")
+    yield "what a step wrote far behind", [text for text in told if text.startswith("put")], [f"put {BYTES}[2499] = 65 was 0"]
 
 
 def all_of(program):

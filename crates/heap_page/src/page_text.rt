@@ -2,7 +2,7 @@
 
 // The policy of the page.
 pub(crate) const POLICY: &str =
-    "default-src 'none'; script-src 'sha256-E8pc2o8PNyi8Q2hJkpJhPkGeOzuF1ajduRhyloSAOw0='; style-src 'sha256-rwptB6V3j7C9RUYU45deu6HKvCkiW6lYFRte+Sm6CU4='; img-src data:; connect-src 'self'; base-uri 'none'; form-action 'none'; frame-ancestors 'none'";
+    "default-src 'none'; script-src 'sha256-23QoXPplB4rtFI4PQJkFGsnqxvW7XSSzqmQ99oNgtWY='; style-src 'sha256-rwptB6V3j7C9RUYU45deu6HKvCkiW6lYFRte+Sm6CU4='; img-src data:; connect-src 'self'; base-uri 'none'; form-action 'none'; frame-ancestors 'none'";
 
 // The page.
 pub(crate) const PAGE: &[u8] = b"<!doctype html>\n\
@@ -305,7 +305,7 @@ pub(crate) const PAGE: &[u8] = b"<!doctype html>\n\
     \x20\x20\x20\x20path: new Set(),\n\
     \x20\x20\x20\x20refs: new Set(),\n\
     \x20\x20\x20\x20retains: { id: null, text: \"\", bytes: 0 },\n\
-    \x20\x20\x20\x20slots: { id: null, most: 0 },\n\
+    \x20\x20\x20\x20most: SLOTS,\n\
     \x20\x20\x20\x20writers: [],\n\
     \x20\x20\x20\x20later: 0,\n\
     \x20\x20\x20\x20values: new Map(),\n\
@@ -2315,6 +2315,7 @@ pub(crate) const PAGE: &[u8] = b"<!doctype html>\n\
     \x20\x20// ---- object\n\
     \x20\x20function pick(id, back) {\n\
     \x20\x20\x20\x20if (!back && S.sel && S.sel !== id) S.trail.push(S.sel);\n\
+    \x20\x20\x20\x20if (S.sel !== id) S.most = SLOTS;\n\
     \x20\x20\x20\x20S.sel = id;\n\
     \x20\x20\x20\x20keepWatch(id);\n\
     \x20\x20\x20\x20S.path = new Set();\n\
@@ -2348,9 +2349,6 @@ pub(crate) const PAGE: &[u8] = b"<!doctype html>\n\
     \x20\x20\x20\x20keepFocus(box, () => box.replaceChildren(hint, sub, list));\n\
     \x20\x20\x20\x20$(\"inspnote\").textContent = S.at === null ? \"\" : `as it was at @${num(S.at)}`;\n\
     \x20\x20}\n\
-    \x20\x20// How many slots of an object are listed, at most.\n\
-    \x20\x20const mostSlots = (id) => S.slots.id === id ? S.slots.most : SLOTS;\n\
-    \n\
     \x20\x20// Asks for slots of an object: for so many from one on.\n\
     \x20\x20async function fieldsOf(id, first, count) {\n\
     \x20\x20\x20\x20const r = await ask(`show ${atWord()} ${id} ${first} ${count}`);\n\
@@ -2380,7 +2378,7 @@ pub(crate) const PAGE: &[u8] = b"<!doctype html>\n\
     \x20\x20\x20\x20\x20\x20word = atWord(),\n\
     \x20\x20\x20\x20\x20\x20live = S.at === null;\n\
     \x20\x20\x20\x20if (!quiet) box.replaceChildren(el(\"div\", \"empty\", \"\xe2\x80\xa6\"));\n\
-    \x20\x20\x20\x20const [me, born, path, refs] = await Promise.all([fieldsOf(id, 0, mostSlots(id)), live ? ask(\"born \" + id, true) : null, ask(`path ${atWord()} ${id}`, true),\n\
+    \x20\x20\x20\x20const [me, born, path, refs] = await Promise.all([fieldsOf(id, 0, S.most), live ? ask(\"born \" + id, true) : null, ask(`path ${atWord()} ${id}`, true),\n\
     \x20\x20\x20\x20\x20\x20ask(`referrers ${atWord()} ${id}`, true)\n\
     \x20\x20\x20\x20]);\n\
     \x20\x20\x20\x20const dropped = live && me && !path.ok ? await ask(\"dropped \" + id, true) : null;\n\
@@ -2467,7 +2465,7 @@ pub(crate) const PAGE: &[u8] = b"<!doctype html>\n\
     \x20\x20\x20\x20\x20\x20more = el(\"div\", \"empty\");\n\
     \x20\x20\x20\x20addSlots(list, me, me.slots, tell);\n\
     \x20\x20\x20\x20leadOn(id, me, more, async () => {\n\
-    \x20\x20\x20\x20\x20\x20S.slots = { id, most: me.slots.length + SLOTS };\n\
+    \x20\x20\x20\x20\x20\x20S.most = me.slots.length + SLOTS;\n\
     \x20\x20\x20\x20\x20\x20const next = await fieldsOf(id, me.slots.length, SLOTS);\n\
     \x20\x20\x20\x20\x20\x20if (!next || turn !== inspecting) return;\n\
     \x20\x20\x20\x20\x20\x20addSlots(list, me, next.slots, tell);\n\

@@ -103,12 +103,17 @@ fn commands_left<C: Drop>(
     ensures run { IfOk result (λ d. IsOk converted × (left ≡ Ok d)) }
     ensures fault { IfErr result (IsLoadFault converted left) }
 {
-    match (converted, left) {
-        (Ok(_), Ok(commands)) => Ok(commands),
-        (Err(Failure::Memory), _) => Err(Fault::Memory),
-        (Err(Failure::Header), _) => Err(Fault::Hprof),
-        (_, Err(ended)) => Err(fault_of_load(ended)),
-        (Err(Failure::Write), Ok(_)) => Err(Fault::Write),
+    match converted {
+        Ok(_) => match left {
+            Ok(commands) => Ok(commands),
+            Err(ended) => Err(fault_of_load(ended)),
+        },
+        Err(Failure::Header) => Err(Fault::Hprof),
+        Err(Failure::Memory) => Err(Fault::Memory),
+        Err(Failure::Write) => match left {
+            Ok(_) => Err(Fault::Write),
+            Err(ended) => Err(fault_of_load(ended)),
+        },
     }
 }
 

@@ -1,4 +1,4 @@
-use Rattle.std.proofs.Common.{◌≡◌, ◌∙◌, ◌+◌, ◌++◌, List, ℕ, ap, append_assoc, arith, drop, get_or, sym}
+use Rattle.std.proofs.Common.{◌∙◌, ◌+◌, ◌++◌, List, ℕ, ap, append_assoc, arith, drop, get_or, sym}
 use Rattle.std.proofs.lemmas.List.{append-nil, drop_all}
 use Rattle.question_text.specs.Objects.{element_row, element_rows, joined}
 use Rattle.question_text.proofs.SlotRows.{element_further, length_elements}

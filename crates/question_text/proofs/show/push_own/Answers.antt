@@ -1,4 +1,4 @@
-use Rattle.std.proofs.Common.{◌≡◌, ◌∙◌, ◌+◌, ◌++◌, List, ℕ, ap, append_assoc, arith, drop, get_or, length, sym}
+use Rattle.std.proofs.Common.{◌∙◌, ◌+◌, ◌++◌, List, ℕ, ap, append_assoc, arith, drop, get_or, length, sym}
 use Rattle.std.proofs.lemmas.List.{append-nil}
 use Rattle.heap_class.specs.Classes.{fields_of}
 use Rattle.question_text.specs.Objects.{field_row, field_rows, joined}

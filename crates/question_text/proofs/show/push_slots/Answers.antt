@@ -1,4 +1,4 @@
-use Rattle.std.proofs.Common.{◌≡◌, ◌∙◌, List, ℕ, ap₂, drop, subst, take}
+use Rattle.std.proofs.Common.{◌∙◌, List, ℕ, ap₂, drop, subst, take}
 use Rattle.heap_class.specs.declared.ObjKind.{ObjKind}
 use Rattle.question_text.specs.Appends.{Appends}
 use Rattle.question_text.specs.Objects.{joined, rows_in, slot_rows}

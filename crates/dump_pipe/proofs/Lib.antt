@@ -4,5 +4,5 @@ pub mod FeedSteps
 pub mod DrainSteps
 pub mod WatchedSources
 pub mod StreamEnds
-pub mod PageFilling
-pub mod PageStreams
+pub mod BatchFilling
+pub mod BatchStreams

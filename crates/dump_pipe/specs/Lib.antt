@@ -5,8 +5,8 @@ pub mod Feeds
 pub mod Drains
 pub mod Streams
 pub mod Watches
-pub mod Pages
-pub mod PagedSources
+pub mod Batches
+pub mod BatchedSources
 -- What clauses here, and proofs above, cite of the crates below.
 pub use Rattle.atomic_table.specs.Seated
 pub use Rattle.crossbeam_channel.specs.Claims

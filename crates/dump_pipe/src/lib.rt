@@ -1,7 +1,10 @@
-//! Dumps through a pipe: one thread asks a source for the parts, another puts them out, one by one or joined to pages. Two
+//! Dumps through a pipe: one thread asks a source for the parts, another puts them out, one by one or joined to batches. Two
 //! words that no lock guards say how far a dump has come, and whether it is cancelled.
 #![tactic(auto)]
 
+pub mod batch;
+pub mod batch_streams;
+pub mod batched_source;
 pub mod cancel;
 pub mod channel;
 pub mod counter;
@@ -11,9 +14,6 @@ pub mod feeder;
 pub mod message;
 pub mod meter;
 pub mod meter_view;
-pub mod page;
-pub mod page_streams;
-pub mod paged_source;
 pub mod progress;
 pub mod pumps;
 pub mod rule;
@@ -24,6 +24,8 @@ pub mod surplus;
 pub mod watched;
 pub mod word;
 
+pub use batch::BATCH_ROOM;
+pub use batch_streams::stream_batched;
 pub use cancel::Cancel;
 pub use channel::{BothEnds, End, Knowledge, Receiver, Sender, pipe};
 pub use counter::Counter;
@@ -31,8 +33,6 @@ pub use drainer::drain_pipe;
 pub use feeder::feed;
 pub use message::Message;
 pub use meter::{Meter, NewMeter};
-pub use page::PAGE_ROOM;
-pub use page_streams::stream_paged;
 pub use progress::Progress;
 pub use pumps::pump_counted;
 pub use seats::{AskSeat, FeedSeat, OutSeat, ReadSeat};

@@ -1,7 +1,7 @@
-//! The surplus: an answer of a source that is in no page yet.
+//! The surplus: an answer of a source that is in no batch yet.
 use dump_pump::Next;
 
-/// An answer of a source that is in no page yet, and the largest number of parts that it had left before.
+/// An answer of a source that is in no batch yet, and the largest number of parts that it had left before.
 #[derive(Drop)]
 pub struct Surplus {
     pub next: Next,

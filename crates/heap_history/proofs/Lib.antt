@@ -8,6 +8,6 @@ pub mod Plain
 pub mod Fields
 pub mod Refusals
 pub mod EventPacks
-pub mod WideDeeds
+pub mod LongDeeds
 pub mod Cases
 pub mod AuditLaws

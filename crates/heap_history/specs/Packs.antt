@@ -16,13 +16,13 @@ use Rattle.heap_history.specs.declared.pack.Deed.{Deed}
 use Rattle.heap_history.specs.declared.pack.Deed.TheVariants.{New, NewArray, NewPrim, Load, Store, Put, Move, Clear, Snap, Mark, Drain, Finish, Sweep, Rewind}
 use Rattle.heap_history.specs.declared.pack.DeedPack.{DeedPack}
 use Rattle.heap_history.specs.declared.pack.Form.{Form}
-use Rattle.heap_history.specs.declared.pack.Form.TheVariants.{Numbers, Wide, Nothing}
+use Rattle.heap_history.specs.declared.pack.Form.TheVariants.{Numbers, Long, Nothing}
 use Rattle.heap_history.specs.declared.pack.Pack.{Pack}
 use Rattle.heap_history.specs.declared.pack.Told.{Told}
 use Rattle.heap_history.specs.declared.pack.Told.TheVariants.{Class, Object, Null, Value, Done, Pushed, Condemned, Swept, Emptied, Place, Refused, RefusedInFull}
-use Rattle.heap_history.specs.declared.pack.WideDeed.{WideDeed}
-use Rattle.heap_history.specs.declared.pack.WideDeed.TheVariants as WideDeeds
-use Rattle.heap_history.specs.declared.pack.WidePack.{WidePack}
+use Rattle.heap_history.specs.declared.pack.LongDeed.{LongDeed}
+use Rattle.heap_history.specs.declared.pack.LongDeed.TheVariants as LongDeeds
+use Rattle.heap_history.specs.declared.pack.LongPack.{LongPack}
 use Rattle.heap_history.specs.Definitions.{name_of, fields_of}
 use Rattle.heap_history.specs.Details.{refusal_from}
 use Rattle.heap_history.specs.History.{entry}
@@ -119,22 +119,22 @@ entry_by p =
 abbrev pub TellsEntry : Pack → Entry → Type 0
 TellsEntry p e = (p.form ≡ Numbers) × (entry_by p ≡ e)
 
--- the action of a wide deed
-unfoldable pub wide_action : WideDeed → Action
-wide_action (WideDeeds.Numbers d) = action_by d
-wide_action (WideDeeds.Class sup d) = Step (Events.Class (name_of d) sup (fields_of d))
-wide_action (WideDeeds.ArrayClass d) = Step (Events.ArrayClass (name_of d))
+-- the action of a long deed
+unfoldable pub long_action : LongDeed → Action
+long_action (LongDeeds.Numbers d) = action_by d
+long_action (LongDeeds.Class sup d) = Step (Events.Class (name_of d) sup (fields_of d))
+long_action (LongDeeds.ArrayClass d) = Step (Events.ArrayClass (name_of d))
 
--- the entry that a wide pack tells
-unfoldable pub wide_entry : WidePack → Entry
-wide_entry w = entry w.seat (wide_action w.deed) (outcome_by w.answer)
+-- the entry that a long pack tells
+unfoldable pub long_entry : LongPack → Entry
+long_entry w = entry w.seat (long_action w.deed) (outcome_by w.answer)
 
 -- the entry of a pack of this form, if there is one
-abbrev pub entry_as : Form → List WidePack → Pack → Option Entry
-entry_as Numbers wides p = Some (entry_by p)
-entry_as Wide wides p = option_map wide_entry (slice_get wides p.first)
-entry_as Nothing wides p = None
+abbrev pub entry_as : Form → List LongPack → Pack → Option Entry
+entry_as Numbers longs p = Some (entry_by p)
+entry_as Long longs p = option_map long_entry (slice_get longs p.first)
+entry_as Nothing longs p = None
 
--- the entry that a pack tells by its numbers or by its place among wide ones, if it is kept
-unfoldable pub entry_in : List WidePack → Pack → Option Entry
-entry_in wides p = entry_as p.form wides p
+-- the entry that a pack tells by its numbers or by its place among long ones, if it is kept
+unfoldable pub entry_in : List LongPack → Pack → Option Entry
+entry_in longs p = entry_as p.form longs p

@@ -1,28 +1,28 @@
 //! Blocks of entries.
 ghost use Rattle.std.specs.Prelude.{◌≡◌, ◌≢◌, ◌↔◌, ◌<◌, ◌≤◌, ◌++◌, ◌∷◌, [], true, false, length, slice_get, Some, None, IfNone, IfSome, IsTrue, MatchBool, OnOk};
-ghost use Rattle.heap_history.specs.declared.pack.Form.TheVariants.{Nothing, Wide};
+ghost use Rattle.heap_history.specs.declared.pack.Form.TheVariants.{Nothing, Long};
 ghost use Rattle.heap_history.specs.Blocks.{HasPlace};
 ghost use Rattle.heap_history.specs.History.{entry};
 ghost use Rattle.heap_history.specs.Kept.{kept_of};
-ghost use Rattle.heap_history.specs.Packs.{entry_by, entry_in, TellsEntry, wide_entry};
+ghost use Rattle.heap_history.specs.Packs.{entry_by, entry_in, TellsEntry, long_entry};
 
 use crate::entry::{Entry, Outcome};
-use crate::pack::{Deed, Form, Pack, Told, WidePack};
+use crate::long::{is_long_pack_of, long_of};
+use crate::pack::{Deed, Form, LongPack, Pack, Told};
 use crate::packing::{fourth_beside, pack_of};
 use crate::same::{is_same_action, is_same_answer};
 use crate::unpacking::{action_in, outcome_in};
-use crate::wide::{is_wide_pack_of, wide_of};
 use heap_class::Kind;
 use heap_trail::Action;
 use std::alloc::{AllocError, Global};
 use std::marker::Model;
 
 // Entries in order. Contracts see what is kept of each, and how many more it has room for. An entry takes 48 bytes, and 176 more
-// if it has a wide pack.
+// if it has a long pack.
 #[derive(Drop)]
 pub(crate) struct EntryBlock {
     packs: Vec<Pack>,
-    wides: Vec<WidePack>,
+    longs: Vec<LongPack>,
 }
 
 impl Model for EntryBlock {
@@ -33,11 +33,11 @@ impl Model for EntryBlock {
 
     ghost view = { λ b.
         record {
-          entries = entries_in b.wides.items b.packs.items;
-          room = room_in b.wides b.packs;
+          entries = entries_in b.longs.items b.packs.items;
+          room = room_in b.longs b.packs;
         } };
 
-    ghost invariant = { λ b. AllPlaced (length b.wides.items) b.packs.items };
+    ghost invariant = { λ b. AllPlaced (length b.longs.items) b.packs.items };
 }
 
 // Returns a pack of this form that has a place.
@@ -61,23 +61,23 @@ fn pack_at(form: Form, place: u64) -> Pack
 
 // Returns whether the pack tells the entry of the seat, the action and the answer, or None if it tells none.
 fn tells(
-    wides: &[WidePack],
+    longs: &[LongPack],
     pack: &Pack,
     seat: u64,
     action: &Action,
     answer: Outcome,
 ) -> Option<bool>
-    requires { HasPlace (length wides.now) pack.now }
+    requires { HasPlace (length longs.now) pack.now }
     ensures kept { IfSome result
-        (λ b. (entry_in wides.now pack.now ≢ None)
-        × (IsTrue b ↔ (entry_in wides.now pack.now ≡ Some (entry seat action.now answer)))) }
-    ensures unkept { IfNone result (entry_in wides.now pack.now ≡ None) }
+        (λ b. (entry_in longs.now pack.now ≢ None)
+        × (IsTrue b ↔ (entry_in longs.now pack.now ≡ Some (entry seat action.now answer)))) }
+    ensures unkept { IfNone result (entry_in longs.now pack.now ≡ None) }
 {
     match pack.form {
         Form::Numbers => Some(is_of(&unpack(pack), seat, action, answer)),
-        Form::Wide => {
-            let wide = &wides[pack.first as usize];
-            Some(is_wide_pack_of(wide, seat, action, answer))
+        Form::Long => {
+            let long = &longs[pack.first as usize];
+            Some(is_long_pack_of(long, seat, action, answer))
         }
         Form::Nothing => None,
     }
@@ -124,7 +124,7 @@ impl EntryBlock {
     {
         EntryBlock {
             packs: Vec::new(alloc),
-            wides: Vec::new(alloc),
+            longs: Vec::new(alloc),
         }
     }
 
@@ -142,7 +142,7 @@ impl EntryBlock {
         ensures room { OnOk result (0 < self.new.room) }
     {
         self.packs.reserve(1)?;
-        self.wides.reserve(1)
+        self.longs.reserve(1)
     }
 
     // Removes all entries, and keeps the room.
@@ -152,7 +152,7 @@ impl EntryBlock {
         ensures room { self.old.room ≤ self.new.room }
     {
         self.packs.clear();
-        self.wides.clear();
+        self.longs.clear();
     }
 
     // Appends a pack, which tells this entry by its numbers.
@@ -166,14 +166,14 @@ impl EntryBlock {
         self.packs.push_reserved(pack);
     }
 
-    // Appends a wide pack, and a pack with its place.
-    fn push_wide(&mut self, wide: WidePack)
+    // Appends a long pack, and a pack with its place.
+    fn push_long(&mut self, long: LongPack)
         requires { 0 < self.old.room }
-        ensures { self.new.entries ≡ self.old.entries ++ Some (wide_entry wide) ∷ [] }
+        ensures { self.new.entries ≡ self.old.entries ++ Some (long_entry long) ∷ [] }
     {
-        let place = self.wides.len() as u64;
-        self.packs.push_reserved(pack_at(Form::Wide, place));
-        self.wides.push_reserved(wide);
+        let place = self.longs.len() as u64;
+        self.packs.push_reserved(pack_at(Form::Long, place));
+        self.longs.push_reserved(long);
     }
 
     // Appends a pack that tells nothing.
@@ -191,8 +191,8 @@ impl EntryBlock {
         requires { 0 < self.old.room }
         ensures { self.new.entries ≡ self.old.entries ++ kept_of entry.now ∷ [] }
     {
-        match wide_of(entry) {
-            Some(wide) => self.push_wide(wide),
+        match long_of(entry) {
+            Some(long) => self.push_long(long),
             None => self.push_nothing(),
         }
     }
@@ -239,6 +239,6 @@ impl EntryBlock {
             return Some(false);
         }
         let pack = &self.packs[at];
-        tells(self.wides.as_slice(), pack, seat, action, answer)
+        tells(self.longs.as_slice(), pack, seat, action, answer)
     }
 }

@@ -7,12 +7,12 @@ mod block;
 pub mod chronicle;
 pub mod definition;
 pub mod entry;
+pub mod long;
 pub mod pack;
 pub mod packing;
 pub mod receipt;
 pub mod same;
 pub mod unpacking;
-pub mod wide;
 
 pub use audits::Verdict;
 pub use chronicle::Chronicle;

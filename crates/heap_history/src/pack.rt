@@ -90,16 +90,16 @@ pub struct AnswerPack {
 pub enum Form {
     /// Its numbers.
     Numbers,
-    /// The place of its wide pack.
-    Wide,
+    /// The place of its long pack.
+    Long,
     /// Nothing: the entry isn't kept.
     Nothing,
 }
 
-/// An entry by its numbers or by the place of its wide pack, or in place of one that isn't kept.
+/// An entry by its numbers or by the place of its long pack, or in place of one that isn't kept.
 #[derive(Clone, Copy)]
 pub struct Pack {
-    /// The deed's first number, or the place of the wide pack.
+    /// The deed's first number, or the place of the long pack.
     pub first: u64,
     pub second: u64,
     pub third: u64,
@@ -118,7 +118,7 @@ pub struct Pack {
 
 /// A deed by its numbers, or the class that it defines.
 #[derive(Clone, Copy)]
-pub enum WideDeed {
+pub enum LongDeed {
     /// No definition.
     Numbers(DeedPack),
     /// A definition of an instance class.
@@ -132,13 +132,13 @@ pub enum WideDeed {
 
 /// An entry that has no room in a pack.
 #[derive(Clone, Copy)]
-pub struct WidePack {
+pub struct LongPack {
     pub seat: u64,
-    pub deed: WideDeed,
+    pub deed: LongDeed,
     pub answer: AnswerPack,
 }
 
-// The chronicle has a pack for each act, and a wide one for some.
+// The chronicle has a pack for each act, and a long one for some.
 const _: () = prove!(size_of::<Pack>() <= 48);
 
-const _: () = prove!(size_of::<WidePack>() <= 176);
+const _: () = prove!(size_of::<LongPack>() <= 176);

@@ -134,19 +134,19 @@ dump_with_bytes_has_begun m m' put f (Lost cause n) X some t =
     (more, λ is. absurd (positive_does_not_test_zero n more is))
 dump_with_bytes_has_begun m m' put f (Cancelled n) X some t = absurd t.1
 
-pub late_opening_lands_dump : {P O : Type 0} (was : P → Type 0) (makes : P → Option Outgoing → Type 0) (seen : O → Outgoing) (time : ℕ) (m m' : Machine) (place : P) (opening : Opening O) (put : List ℕ) (f : ℕ) (r : Pumped)
-    → IsLate was makes seen place opening put f → IsPlaceDumped time m m' empty_output (output_since_then put f) r → LandsLate was makes seen time m m' place (outlet_in opening) r
-late_opening_lands_dump was makes seen time m m' place Unasked put f r (before, empty, zero) d =
-    (place, before, lost_dump_lands_nowhere (makes place) time m m' put f r empty zero (place_dump_is_told time m m' put f r d) d, λ is. before)
-late_opening_lands_dump was makes seen time m m' place (Made o) put f r (first, before, (start, made, since), some) d =
-    let b = dump_with_bytes_has_begun m m' put f r (was place) some (place_dump_is_told time m m' put f r d) in
+pub late_opening_lands_dump : {P O : Type 0} (was : P → Type 0) (makes : P → Option Outgoing → Type 0) (seen : O → Outgoing) (time : ℕ) (m m' : Machine) (target : P) (opening : Opening O) (put : List ℕ) (f : ℕ) (r : Pumped)
+    → IsLate was makes seen target opening put f → IsPlaceDumped time m m' empty_output (output_since_then put f) r → LandsLate was makes seen time m m' target (outlet_in opening) r
+late_opening_lands_dump was makes seen time m m' target Unasked put f r (before, empty, zero) d =
+    (target, before, lost_dump_lands_nowhere (makes target) time m m' put f r empty zero (place_dump_is_told time m m' put f r d) d, λ is. before)
+late_opening_lands_dump was makes seen time m m' target (Made o) put f r (first, before, (start, made, since), some) d =
+    let b = dump_with_bytes_has_begun m m' put f r (was target) some (place_dump_is_told time m m' put f r d) in
     (first, before, (b.0, (start, made, place_dumped_on_top time m m' start (seen o) put f r since d)), b.1)
-late_opening_lands_dump was makes seen time m m' place Refused put f r (first, before, unmade, empty, some) d =
-    let b = failed_dump_lands_nowhere (makes first) time m m' put f r (was place) empty some unmade (place_dump_is_told time m m' put f r d) in
+late_opening_lands_dump was makes seen time m m' target Refused put f r (first, before, unmade, empty, some) d =
+    let b = failed_dump_lands_nowhere (makes first) time m m' put f r (was target) empty some unmade (place_dump_is_told time m m' put f r d) in
     (first, before, b.0, b.1)
 
--- the place and the outlet as they were handed out
-pub landing_with_handed_outlet : {P O : Type 0} (was : P → Type 0) (makes : P → Option Outgoing → Type 0) (seen : O → Outgoing) (time : ℕ) (m m' : Machine) (place place' : P) (outlet outlet' : Option O) (r : Pumped) → place' ≡ place → outlet' ≡ outlet
-    → LandsLate was makes seen time m m' place outlet r → LandsLate was makes seen time m m' place' outlet' r
-landing_with_handed_outlet was makes seen time m m' place place' outlet outlet' r here there h =
-    subst (λ p. LandsLate was makes seen time m m' p outlet' r) (sym here) (subst (λ o. LandsLate was makes seen time m m' place o r) (sym there) h)
+-- the target and the outlet as they were handed out
+pub landing_with_handed_outlet : {P O : Type 0} (was : P → Type 0) (makes : P → Option Outgoing → Type 0) (seen : O → Outgoing) (time : ℕ) (m m' : Machine) (target target' : P) (outlet outlet' : Option O) (r : Pumped) → target' ≡ target → outlet' ≡ outlet
+    → LandsLate was makes seen time m m' target outlet r → LandsLate was makes seen time m m' target' outlet' r
+landing_with_handed_outlet was makes seen time m m' target target' outlet outlet' r here there h =
+    subst (λ p. LandsLate was makes seen time m m' p outlet' r) (sym here) (subst (λ o. LandsLate was makes seen time m m' target o r) (sym there) h)

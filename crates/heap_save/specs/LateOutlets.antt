@@ -6,16 +6,16 @@ use Rattle.dump_pump.specs.Outlets.{Outgoing, IsPut}
 use Rattle.heap_save.specs.declared.late_outlet.Opening.{Opening}
 use Rattle.heap_save.specs.declared.late_outlet.Opening.TheVariants.{Unasked, Made, Refused}
 
--- a place, the outcome of asking it for its outlet, the bytes put out, and the number of puts that failed
+-- a target, the outcome of asking it for its outlet, the bytes put out, and the number of puts that failed
 pub record Late (P O : Type 0) : Type 0 where
-  pub place : P
+  pub target : P
   pub opening : Opening O
   pub put : List ℕ
   pub failures : ℕ
 
--- a place that was not asked
+-- a target that was not asked
 abbrev pub unasked : {P O : Type 0} → P → Late P O
-unasked place = record { place = place; opening = Unasked; put = []; failures = 0 }
+unasked target = record { target = target; opening = Unasked; put = []; failures = 0 }
 
 -- the outlet that was made
 abbrev pub outlet_in : {O : Type 0} → Opening O → Option O
@@ -28,28 +28,28 @@ abbrev pub Since : Outgoing → Outgoing → List ℕ → ℕ → Type 0
 Since start now put failures =
     (now.out ≡ start.out ++ put) × (now.failures ≡ start.failures + failures)
 
--- a place with this property before it was asked: it was not asked, and nothing was put out; or it made an outlet, for a put;
+-- a target with this property before it was asked: it was not asked, and nothing was put out; or it made an outlet, for a put;
 -- or it could make none, for a put, which failed
 abbrev pub IsLate : {P O : Type 0} → (P → Type 0) → (P → Option Outgoing → Type 0) → (O → Outgoing)
     → P → Opening O → List ℕ → ℕ → Type 0
-IsLate was makes seen place Unasked put failures = was place × (put ≡ []) × (failures ≡ 0)
-IsLate {P} was makes seen place (Made o) put failures =
+IsLate was makes seen target Unasked put failures = was target × (put ≡ []) × (failures ≡ 0)
+IsLate {P} was makes seen target (Made o) put failures =
     (first : P) × was first
     × ((start : Outgoing) × makes first (Some start) × Since start (seen o) put failures)
     × (0 < length put + failures)
-IsLate {P} was makes seen place Refused put failures =
+IsLate {P} was makes seen target Refused put failures =
     (first : P) × was first × makes first None × (put ≡ []) × (0 < failures)
 
 -- ---- a put
 
--- the place was asked, unless it had been
+-- the target was asked, unless it had been
 abbrev pub IsOutletAsked : {P O : Type 0} → (P → Option Outgoing → Type 0) → (O → Outgoing) → P → P
     → Opening O → Opening O → Type 0
-IsOutletAsked makes seen place place' Unasked Unasked = ⊥
-IsOutletAsked makes seen place place' Unasked (Made o) = makes place (Some (seen o))
-IsOutletAsked makes seen place place' Unasked Refused = makes place None
-IsOutletAsked makes seen place place' (Made o) now = (now ≡ Made o) × (place' ≡ place)
-IsOutletAsked makes seen place place' Refused now = (now ≡ Refused) × (place' ≡ place)
+IsOutletAsked makes seen target target' Unasked Unasked = ⊥
+IsOutletAsked makes seen target target' Unasked (Made o) = makes target (Some (seen o))
+IsOutletAsked makes seen target target' Unasked Refused = makes target None
+IsOutletAsked makes seen target target' (Made o) now = (now ≡ Made o) × (target' ≡ target)
+IsOutletAsked makes seen target target' Refused now = (now ≡ Refused) × (target' ≡ target)
 
 -- a put goes into the outlet, or fails if there is none
 abbrev pub IsPutThere : {O : Type 0} → (O → Outgoing) → List ℕ → Opening O → Opening O → Put

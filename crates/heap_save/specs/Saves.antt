@@ -40,7 +40,7 @@ IsUncancelled (Cancelled n) = ⊥
 
 -- ---- the dump
 
--- no outlet was made: the dump was lost before its first byte, or the place could make none for it
+-- no outlet was made: the dump was lost before its first byte, or the target could make none for it
 abbrev pub LandsNowhere : (Option Outgoing → Type 0) → ℕ → Machine → Machine → Pumped → Type 0
 LandsNowhere makes time m m' (Done n) = ⊥
 LandsNowhere makes time m m' (OutletFailed n) = (n ≡ 0) × makes None × (m' ≡ with_number_used m)
@@ -62,7 +62,7 @@ Lands makes time m m' None r = LandsNowhere makes time m m' r
 Lands makes time m m' (Some w') r =
     HasBegun r × ((w : Outgoing) × makes (Some w) × IsPlaceDumped time m m' w w' r)
 
--- whether the place was not asked for an outlet: the session has no dump, or one that was lost before its first byte
+-- whether the target was not asked for an outlet: the session has no dump, or one that was lost before its first byte
 abbrev pub is_unasked : Option Pumped → Bool
 is_unasked None = true
 is_unasked (Some (Done n)) = false
@@ -70,12 +70,12 @@ is_unasked (Some (OutletFailed n)) = false
 is_unasked (Some (Lost cause n)) = n == 0
 is_unasked (Some (Cancelled n)) = false
 
--- so it is with a place that had this property before it was asked
+-- so it is with a target that had this property before it was asked
 abbrev pub LandsLate : {P O : Type 0} → (P → Type 0) → (P → Option Outgoing → Type 0)
     → (O → Outgoing) → ℕ → Machine → Machine → P → Option O → Pumped → Type 0
-LandsLate {P} was makes seen time m m' place outlet r =
+LandsLate {P} was makes seen time m m' target outlet r =
     (first : P) × was first × Lands (makes first) time m m' (option_map seen outlet) r
-    × (is_unasked (Some r) ≡ true → was place)
+    × (is_unasked (Some r) ≡ true → was target)
 
 -- ---- the whole
 

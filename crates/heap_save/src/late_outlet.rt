@@ -8,31 +8,31 @@ use dump_pump::ledger::note_bytes;
 use dump_pump::{Log, Outlet, Put};
 use std::marker::{Brand, Model, PhantomData};
 
-// A fact about a place before it was asked. Each call picks it.
+// A fact about a target before it was asked. Each call picks it.
 pub(crate) trait Origin<P> {
     ghost was: { P → Type 0 };
 }
 
 impl<P> Origin<P> for Brand {
-    ghost was = { λ place. Unit {0} };
+    ghost was = { λ target. Unit {0} };
 }
 
-/// The outcome of asking a place for its outlet.
+/// The outcome of asking a target for its outlet.
 #[derive(Drop)]
 pub enum Opening<O> {
-    /// The place was not asked.
+    /// The target was not asked.
     Unasked,
-    /// The place made this outlet.
+    /// The target made this outlet.
     Made(O),
-    /// The place could make none.
+    /// The target could make none.
     Refused,
 }
 
-// An outlet of a place, which is asked to make it when there is a first put. Each put fails if the place could make none.
-// Contracts see the place, the outcome of asking it, the bytes put out, and the number of puts that failed.
+// An outlet of a target, which is asked to make it when there is a first put. Each put fails if the target could make none.
+// Contracts see the target, the outcome of asking it, the bytes put out, and the number of puts that failed.
 #[derive(Drop)]
 pub(crate) struct LateOutlet<P: Outlets, B: Origin<P>> {
-    place: P,
+    target: P,
     opening: Opening<P::Out>,
     written: Log<u8, ()>,
     failed: Log<(), ()>,
@@ -48,22 +48,22 @@ impl<P: Outlets, B: Origin<P>> Model for LateOutlet<P, B> {
 
     ghost view = { λ o.
         record {
-          place = o.place;
+          target = o.target;
           opening = o.opening;
           put = log_bytes o.written.items;
           failures = length o.failed.items;
         } };
 
-    ghost invariant = { λ o. IsLate B.was P.makes P.Out.seen o.place o.opening
+    ghost invariant = { λ o. IsLate B.was P.makes P.Out.seen o.target o.opening
         (log_bytes o.written.items) (length o.failed.items) };
 }
 
-// Asks a place for its outlet, unless it was asked before.
-fn ask<P: Outlets>(place: &mut P, opening: &mut Opening<P::Out>)
-    ensures { IsOutletAsked P.makes P.Out.seen place.old place.new opening.old opening.new }
+// Asks a target for its outlet, unless it was asked before.
+fn ask<P: Outlets>(target: &mut P, opening: &mut Opening<P::Out>)
+    ensures { IsOutletAsked P.makes P.Out.seen target.old target.new opening.old opening.new }
 {
     if let Opening::Unasked = opening {
-        *opening = match place.open() {
+        *opening = match target.open() {
             Some(outlet) => Opening::Made(outlet),
             None => Opening::Refused,
         };
@@ -95,13 +95,13 @@ fn note(written: &mut Log<u8, ()>, failed: &mut Log<(), ()>, given: &[u8], put: 
 }
 
 impl<P: Outlets, B: Origin<P>> LateOutlet<P, B> {
-    // Creates an outlet that has put out nothing. The place is not asked yet.
-    pub(crate) fn new(place: P) -> LateOutlet<P, B>
-        requires { B.was place }
-        ensures { result ≡ unasked place }
+    // Creates an outlet that has put out nothing. The target is not asked yet.
+    pub(crate) fn new(target: P) -> LateOutlet<P, B>
+        requires { B.was target }
+        ensures { result ≡ unasked target }
     {
         LateOutlet {
-            place,
+            target,
             opening: Opening::Unasked,
             written: Log::new(),
             failed: Log::new(),
@@ -109,23 +109,23 @@ impl<P: Outlets, B: Origin<P>> LateOutlet<P, B> {
         }
     }
 
-    // Returns the place, and the outlet that it made. The contract says what is known of both.
+    // Returns the target, and the outlet that it made. The contract says what is known of both.
     pub(crate) fn into_parts(self) -> (P, Option<P::Out>)
-        ensures place { result.0 ≡ self.place }
+        ensures target { result.0 ≡ self.target }
         ensures outlet { result.1 ≡ outlet_in self.opening }
-        ensures late { IsLate B.was P.makes P.Out.seen self.place self.opening self.put
+        ensures late { IsLate B.was P.makes P.Out.seen self.target self.opening self.put
             self.failures }
     {
         let LateOutlet {
-            place,
+            target,
             opening,
             written: _,
             failed: _,
             of: _,
         } = self;
         match opening {
-            Opening::Made(outlet) => (place, Some(outlet)),
-            Opening::Unasked | Opening::Refused => (place, None),
+            Opening::Made(outlet) => (target, Some(outlet)),
+            Opening::Unasked | Opening::Refused => (target, None),
         }
     }
 }
@@ -134,7 +134,7 @@ impl<P: Outlets, B: Origin<P>> Outlet for LateOutlet<P, B> {
     ghost seen = { λ o. record { out = o.put; failures = o.failures } };
 
     fn put(&mut self, given: &[u8]) -> Put {
-        ask(&mut self.place, &mut self.opening);
+        ask(&mut self.target, &mut self.opening);
         let put = put_there(&mut self.opening, given);
         note(&mut self.written, &mut self.failed, given, put);
         put

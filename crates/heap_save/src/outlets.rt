@@ -1,7 +1,7 @@
-//! The trait of places, which make the outlet of a save.
+//! The trait of targets, which make the outlet of a save.
 use dump_pump::Outlet;
 
-/// A place that makes the outlet of a save, such as a file of some name. Contracts see what it may make.
+/// A target that makes the outlet of a save, such as a file of some name. Contracts see what it may make.
 pub trait Outlets {
     ghost use Rattle.std.specs.Prelude.{Option, option_map};
     ghost use Rattle.dump_pump.specs.Outlets.{Outgoing};

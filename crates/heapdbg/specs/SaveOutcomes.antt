@@ -38,7 +38,7 @@ abbrev pub save_outcome : Fault → Bool → Ended → Option Pumped → Result 
 save_outcome unmade made ended pumped =
     unless_failed (outcome_of ended) (dump_outcome unmade made pumped)
 
--- a place may make any outlet, or none
+-- a target may make any outlet, or none
 abbrev pub any_outlet : Option Outgoing → Type 0
 any_outlet o = Unit {0}
 

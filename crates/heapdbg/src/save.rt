@@ -30,7 +30,7 @@ pub struct OutFile<'a, R> {
 impl<R: AllocGlobal + Eprint + Files> Outlets for OutFile<'_, R> {
     type Out = WriteOutlet<R::File>;
 
-    ghost makes = { λ place outlet. Unit {0} };
+    ghost makes = { λ target outlet. Unit {0} };
 
     fn open(&mut self) -> Option<WriteOutlet<R::File>> {
         match fs::create(self.rt, self.path) {
@@ -54,7 +54,7 @@ pub struct OutPort<'a, R> {
 impl<R: AllocGlobal + Eprint + Net> Outlets for OutPort<'_, R> {
     type Out = WriteOutlet<R::Stream>;
 
-    ghost makes = { λ place outlet. Unit {0} };
+    ghost makes = { λ target outlet. Unit {0} };
 
     fn open(&mut self) -> Option<WriteOutlet<R::Stream>> {
         match TcpStream::connect(self.rt, (Ipv4Addr::LOCALHOST, self.port)) {
@@ -70,8 +70,8 @@ impl<R: AllocGlobal + Eprint + Net> Outlets for OutPort<'_, R> {
 /// Where a dump goes, and the fault of a session whose dump can't go there.
 #[derive(Drop)]
 pub struct Destination<P> {
-    /// The place that makes its outlet.
-    pub place: P,
+    /// The target that makes its outlet.
+    pub target: P,
     /// The fault if it makes none.
     pub unmade: Fault,
 }
@@ -85,7 +85,7 @@ pub fn out_file<'a, R: AllocGlobal + Eprint + Files>(
     ensures { result.unmade ≡ Fault.Out }
 {
     Destination {
-        place: OutFile {
+        target: OutFile {
             rt,
             path,
             is_terminal,
@@ -103,7 +103,7 @@ pub fn peer<R: AllocGlobal + Eprint + Net>(
     ensures { result.unmade ≡ Fault.Connect }
 {
     Destination {
-        place: OutPort {
+        target: OutPort {
             rt,
             port,
             is_terminal,
@@ -113,7 +113,7 @@ pub fn peer<R: AllocGlobal + Eprint + Net>(
 }
 
 /// Runs a session, in which questions are answered if the settings say so, and dumps the state that it leaves to a destination,
-/// which a gauge sees. Fails as a session does, with `unmade` if the place makes no outlet, with Out if a write to it fails, and
+/// which a gauge sees. Fails as a session does, with `unmade` if the target makes no outlet, with Out if a write to it fails, and
 /// with Lost if the dump is lost. May wait.
 pub fn save<I: Inlet, O: Outlet, P: Outlets + Drop, G: Gauge, R>(
     rt: &R,
@@ -132,9 +132,13 @@ where
     let watch = Watch::new();
     match open(rt.alloc(), settings, &watch) {
         Ok(mut asking) => {
-            let Destination { place, unmade } = to;
+            let Destination { target, unmade } = to;
             let time = settings.time;
-            let dump = LastDump { place, gauge, time };
+            let dump = LastDump {
+                target,
+                gauge,
+                time,
+            };
             let saved = save_session(rt, settings, dump, reader, writer, &mut asking);
             save_outcome(unmade, saved.outlet.is_some(), saved.ended, saved.pumped)
         }

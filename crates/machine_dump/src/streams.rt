@@ -7,14 +7,14 @@ ghost use Rattle.machine_dump.specs.PinDumps.{PutsPin};
 ghost use Rattle.machine_dump.specs.HandedPieces.{ungiven};
 
 use crate::fresh_source::FreshSource;
-use dump_pipe::{Counter, stream_paged};
+use dump_pipe::{Counter, stream_batched};
 use dump_pump::{Outlet, Pumped};
 use std::alloc::Global;
 use std::sync::Wait;
 use std::thread::Threads;
 
-/// Puts out the pieces of a pin that has given none. A second thread asks for the pieces and joins them to pages, and the
-/// caller's puts each page out at once; without a pipe or such a thread, the caller's does both. The bytes put out are counted.
+/// Puts out the pieces of a pin that has given none. A second thread asks for the pieces and joins them to batches, and the
+/// caller's puts each batch out at once; without a pipe or such a thread, the caller's does both. The bytes put out are counted.
 /// Nothing of the machine changes but the number of pieces that the pin gave. Returns the source, too, with the machine. May
 /// wait. The sum has room for the bytes of a dump.
 pub fn stream_pin<'a, O: Outlet, R: Threads + Wait + Sync>(
@@ -33,5 +33,5 @@ pub fn stream_pin<'a, O: Outlet, R: Threads + Wait + Sync>(
     ensures machine { result.1.machine.ghost_name ≡ source.entry.machine.ghost_name }
     ensures counted { counter.new ≡ after_bytes counter.old (bytes_of result.0) }
 {
-    stream_paged(rt, alloc, source, outlet, counter)
+    stream_batched(rt, alloc, source, outlet, counter)
 }

@@ -11,7 +11,7 @@ use Rattle.dump_pump.specs.Outlets.{Outgoing}
 use Rattle.dump_pump.specs.Pumps.{FitsPump}
 use Rattle.dump_pipe.specs.Watches.{watched}
 use Rattle.dump_pipe.specs.Streams.{IsStreamed}
-use Rattle.dump_pipe.proofs.PageStreams.{some_piece_lists_equal}
+use Rattle.dump_pipe.proofs.BatchStreams.{some_piece_lists_equal}
 use Rattle.heap_lock.specs.Calls.{Call}
 use Rattle.heap_lock.specs.Dumpers.{DumperState}
 use Rattle.heap_lock.specs.Laws.{pieces_given}

@@ -11,7 +11,7 @@ use std::sync::Wait;
 use std::test::Fail;
 use std::thread::Threads;
 
-// A place that makes an outlet in memory.
+// A target that makes an outlet in memory.
 #[derive(Drop)]
 struct InMemory {
     alloc: Global,
@@ -20,7 +20,7 @@ struct InMemory {
 impl Outlets for InMemory {
     type Out = WriteOutlet<Vec<u8>>;
 
-    ghost makes = { λ place outlet. Unit {0} };
+    ghost makes = { λ target outlet. Unit {0} };
 
     fn open(&mut self) -> Option<WriteOutlet<Vec<u8>>> {
         Some(WriteOutlet::new(Vec::new(self.alloc)))
@@ -70,12 +70,12 @@ fn saves<R: Threads + Wait + Sync>(
 ) -> bool {
     let mut reader = ReadInlet::new(lines);
     let mut writer = WriteOutlet::new(Vec::new(alloc));
-    let place = InMemory { alloc };
+    let target = InMemory { alloc };
     let made = save_to(
         rt,
         alloc,
         local,
-        place,
+        target,
         &mut Silent,
         &mut reader,
         &mut writer,
@@ -88,18 +88,22 @@ fn saves<R: Threads + Wait + Sync>(
     dumped && writer.into_writer().as_slice() == told
 }
 
-// Saves a session to a place. Returns the outlet that the place made, if it made one.
+// Saves a session to a target. Returns the outlet that the target made, if it made one.
 fn save_to<P: Outlets + Drop, G: Gauge, I: Inlet, O: Outlet, R: Threads + Wait + Sync>(
     rt: &R,
     alloc: Global,
     local: &mut Local,
-    place: P,
+    target: P,
     gauge: &mut G,
     reader: &mut I,
     writer: &mut O,
 ) -> Option<P::Out> {
     let time = 0;
-    let dump = LastDump { place, gauge, time };
+    let dump = LastDump {
+        target,
+        gauge,
+        time,
+    };
     let saved = dump.save_into(rt, alloc, local, reader, writer, SessionLimits::Narrow);
     saved.outlet
 }

@@ -8,7 +8,7 @@ pub returns : goal.returns
 returns g c =
     let s = c.stream_place-pumped in
     let t = s.result.1 in
-    let e = c.into_parts-place.ensures in
+    let e = c.into_parts-target.ensures in
     let d = subst (λ v. IsPlaceDumped c.args.dump.time c.args.machine.now s.new.machine (record { out = v.put; failures = v.failures }) (record { out = t.put; failures = t.failures }) s.result.0) c.new-late.ensures s.ensures in
-    landing_with_handed_outlet g.B.Origin.was (g.P.Outlets.makes) g.P.Out.Outlet.seen c.args.dump.time c.args.machine.now s.new.machine t.place c.into_parts-place.result.0 (outlet_in t.opening) c.into_parts-place.result.1 s.result.0 e.place e.outlet
-    (late_opening_lands_dump g.B.Origin.was (g.P.Outlets.makes) g.P.Out.Outlet.seen c.args.dump.time c.args.machine.now s.new.machine t.place t.opening t.put t.failures s.result.0 e.late d)
+    landing_with_handed_outlet g.B.Origin.was (g.P.Outlets.makes) g.P.Out.Outlet.seen c.args.dump.time c.args.machine.now s.new.machine t.target c.into_parts-target.result.0 (outlet_in t.opening) c.into_parts-target.result.1 s.result.0 e.target e.outlet
+    (late_opening_lands_dump g.B.Origin.was (g.P.Outlets.makes) g.P.Out.Outlet.seen c.args.dump.time c.args.machine.now s.new.machine t.target t.opening t.put t.failures s.result.0 e.late d)

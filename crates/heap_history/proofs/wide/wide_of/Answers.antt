@@ -1,9 +1,0 @@
-use Rattle.heap_history.specs.History.{entry}
-use Rattle.heap_history.specs.Packs.{wide_entry}
-use Rattle.heap_history.proofs.wide.wide_of.Goals as goal
-
-pub returns : goal.returns
-unfolding wide_entry
-returns c =
-    let told = c.in_ok-deed.ensures in
-    (told.0, λ i. entry c.args.entry.now.seat (told.1 i) (c.pack_outcome.ensures i))

@@ -59,7 +59,7 @@ fn writes_wanted(pin: &Pin, world: &World, left: &Undo, wanted: Wanted) -> bool
 }
 
 // Returns the place of a state if something holds of it, else that of a newer one.
-fn place_if(holds: bool, place: u64, newer: Option<u64>) -> Option<u64>
+pub(crate) fn place_if(holds: bool, place: u64, newer: Option<u64>) -> Option<u64>
     ensures { result ≡ place_if holds place newer }
 {
     if holds { Some(place) } else { newer }

@@ -1,9 +1,9 @@
 -- How many live objects of a class a state has, and what a record tells of them.
 use Rattle.std.proofs.Common.{◌≡◌, ◌≢◌, ◌⊎◌, ℕ, zero, suc, ◌+◌, ◌-◌, ◌<◌, ◌≤◌, ◌==◌, ◌&&◌, Bool, true, false, cond, List, [], ◌∷◌, length, drop, take, ◌++◌, get_or, map, Option, Some, None, IsSome, refl, sym, ap, ap₂, ◌∙◌, subst, inl, inr, arith}
-use Rattle.std.specs.Prelude.{count_by, filter, flat_map, option_and_then, option_map, slice_get, slice_set, sum_by, ◌||◌}
+use Rattle.std.specs.Prelude.{count_by, filter, flat_map, nat_le, option_and_then, option_map, slice_get, slice_set, sum_by, ◌||◌}
 use Rattle.std.specs.List.{enumerate_from, filter_map}
 use Rattle.std.specs.Option.{option_map_or}
-use Rattle.std.proofs.lemmas.Bool.{cases_Bool, cases_eq, eq-eqb, false≢true, true≢false}
+use Rattle.std.proofs.lemmas.Bool.{cases_Bool, cases_eq, eq-eqb, false≢true, le-leb, leb-true, true≢false}
 use Rattle.std.proofs.lemmas.List.{length-append, take_all, take_more}
 use Rattle.std.proofs.lemmas.List.Elements.{filter-append}
 use Rattle.std.proofs.lemmas.List.Sums.{sum_by-append, sum_by-cons}
@@ -34,7 +34,7 @@ use Rattle.heap_trail.proofs.RetainedRecords.{HasRecord}
 use Rattle.heap_questions.specs.declared.wanted.Wanted.TheVariants.{OfClass}
 use Rattle.heap_questions.specs.Changes.{made_by}
 use Rattle.heap_questions.specs.declared.wanted.Wanted.{Wanted}
-use Rattle.heap_questions.specs.FirstPlaces.{HoldsAgo, IsFirstPlace, is_finish, made_place, makes_of_class, place_if}
+use Rattle.heap_questions.specs.FirstPlaces.{HasMany, HoldsAgo, IsFirstPlace, is_finish, made_place, makes_of_class, many_before, place_if}
 use Rattle.heap_questions.specs.Newest.{written_at}
 use Rattle.heap_questions.specs.ObjectLists.{objects_wanted}
 use Rattle.heap_questions.specs.PastTrails.{IsShownBeside}
@@ -371,6 +371,18 @@ one_made_less t n k left w p h r f =
     omega (arith, step, made, now, was)
 
 -- ---- one state after another
+
+-- how many there are before a step
+pub told_before : (t : Trail) (n k many : ℕ) (left : Undo) (made : Bool) → many ≡ many_ago t k n → (is_finish left ≡ false → many_ago t k n ≡ many_ago t k (n + 1) + cond made 1 0) → many_before (image_of (state_ago (n + 1) t)) left k many made ≡ many_ago t k (n + 1)
+told_before t n k many (Finish log) made m one = refl
+told_before t n k many left made m one = let o = one refl in omega (arith, m, o)
+
+-- whether there are enough
+pub many_enough : (t : Trail) (n k least many : ℕ) → many ≡ many_ago t k n → nat_le least many ≡ true → HoldsAgo (HasMany least (OfClass k)) t n
+many_enough t n k least many m h = omega (arith, m, leb-true least many h)
+
+pub enough_many : (t : Trail) (n k least many : ℕ) → many ≡ many_ago t k n → HoldsAgo (HasMany least (OfClass k)) t n → nat_le least many ≡ true
+enough_many t n k least many m h = le-leb least many (omega (arith, m, h))
 
 pub first_now : (P : Image → Type 0) (t : Trail) (place : ℕ) (b : Bool) → place ≡ t.place - 0 → (b ≡ true → HoldsAgo P t 0) → (HoldsAgo P t 0 → b ≡ true) → IsFirstPlace P t 0 (place_if b place None)
 first_now P t place true e here only = (0, let z : 0 ≤ 0 = omega arith in z, e, here refl, λ k a l. absurd (omega (arith, a, l)))

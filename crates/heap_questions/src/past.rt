@@ -14,8 +14,8 @@ mod suspects;
 mod trail;
 mod writes;
 
-pub use counts::first_many;
 pub use changes::{birth, last_write};
+pub use counts::first_many;
 pub use cycles::{EndedCycle, ended_cycles};
 pub use events::PastEvent;
 pub use firsts::first_wanted;

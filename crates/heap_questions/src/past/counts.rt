@@ -51,6 +51,36 @@ pub fn first_many(
     Ok(first)
 }
 
+// Returns how many objects of a view are wanted. Reads each object once. Takes no memory.
+fn count_wanted<V: View>(view: &V, wanted: Wanted) -> u64
+    ensures { result ≡ length (objects_wanted wanted (V.image view.now)) }
+{
+    let _classes = view.classes();
+    let mut count = 0u64;
+    let mut passed = 0usize;
+    let mut here = view.first();
+    while let Some(at) = here {
+        count += one_if(is_wanted(wanted, view.kind(at), view.words(at)));
+        passed += 1;
+        here = view.next(at);
+    }
+    count
+}
+
+// Returns 1 or 0.
+fn one_if(yes: bool) -> u64
+    ensures { result ≡ (if yes then 1 else 0) }
+{
+    if yes { 1 } else { 0 }
+}
+
+// Returns the place of a state if it has at least `least`, else that of a newer one.
+fn place_if_many(many: u64, least: u64, place: u64, newer: Option<u64>) -> Option<u64>
+    ensures { result ≡ place_if (nat_le least many) place newer }
+{
+    place_if(many >= least, place, newer)
+}
+
 // Tells whether the step that left this record made an object of a class. The pin must show the state after the step.
 fn makes_of_class(pin: &Pin, world: &World, left: &Undo, class: ClassNo) -> bool
     requires { SeesWritten pin.now world.now left.now }
@@ -82,34 +112,4 @@ fn many_before<V: View>(view: &V, left: &Undo, class: ClassNo, many: u64, made: 
         Undo::Finish { .. } => count_wanted(view, Wanted::OfClass(class)),
         _ => many - one_if(made),
     }
-}
-
-// Returns 1 or 0.
-fn one_if(yes: bool) -> u64
-    ensures { result ≡ (if yes then 1 else 0) }
-{
-    if yes { 1 } else { 0 }
-}
-
-// Returns the place of a state if it has at least `least`, else that of a newer one.
-fn place_if_many(many: u64, least: u64, place: u64, newer: Option<u64>) -> Option<u64>
-    ensures { result ≡ place_if (nat_le least many) place newer }
-{
-    place_if(many >= least, place, newer)
-}
-
-// Returns how many objects of a view are wanted. Reads each object once. Takes no memory.
-fn count_wanted<V: View>(view: &V, wanted: Wanted) -> u64
-    ensures { result ≡ length (objects_wanted wanted (V.image view.now)) }
-{
-    let _classes = view.classes();
-    let mut count = 0u64;
-    let mut passed = 0usize;
-    let mut here = view.first();
-    while let Some(at) = here {
-        count += one_if(is_wanted(wanted, view.kind(at), view.words(at)));
-        passed += 1;
-        here = view.next(at);
-    }
-    count
 }

@@ -18,7 +18,8 @@ loop-here-preserved g c =
     let at = c.in-Some.at in
     let e = sym c.loop-here.invariant.here ∙ c.in-Some.is in
     let h = viewed image places i _ at c.kind.result c.words.result.now c.loop-here.invariant.here c.in-Some.is c.classes-classes.ensures.limits c.classes-classes.ensures.placed c.kind.ensures c.words.ensures in
-    let wanted : c.is_wanted.result ≡ is_wanted c.args.wanted h.object.kind h.object.words = c.is_wanted.ensures ∙ ap₂ (is_wanted c.args.wanted) h.same_kind h.same_words in
+    let same : is_wanted c.args.wanted c.kind.result c.words.result.now ≡ is_wanted c.args.wanted h.object.kind h.object.words = ap₂ (is_wanted c.args.wanted) h.same_kind h.same_words in
+    let wanted : c.is_wanted.result ≡ is_wanted c.args.wanted h.object.kind h.object.words = c.is_wanted.ensures ∙ same in
     let one : c.one_if-count.result ≡ cond (is_wanted c.args.wanted h.object.kind h.object.words) 1 0 = c.one_if-count.ensures ∙ ap {B = ℕ} (λ (b : Bool). cond b 1 0) wanted in
     record {
       here = c.next-here.ensures i e;

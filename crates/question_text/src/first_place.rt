@@ -86,9 +86,9 @@ fn first_line(first: Result<Option<u64>, Refusal>) -> LineAnswer
     }
 }
 
-// Returns the answer of `when` about how many objects a class has: the first place at which it has at least `least` live ones. Refused
-// with NoClass if the class isn't there, with NotRetained if the state at a place isn't retained, and with NoMemory if an allocation
-// fails. Costs what `first_many` does.
+// Returns the answer of `when` about how many objects a class has: the first place at which it has at least `least` live ones.
+// Refused with NoClass if the class isn't there, with NotRetained if the state at a place isn't retained, and with NoMemory if an
+// allocation fails. Costs what `first_many` does.
 pub(crate) fn when_count_answer(
     alloc: Global,
     machine: &Machine,

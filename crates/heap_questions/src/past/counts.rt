@@ -19,10 +19,10 @@ use heap_world::World;
 use hprof_text::View;
 use std::alloc::Global;
 
-/// Returns the place of the oldest state that has at least `least` live objects of a class, of the state of `ago` steps ago and those
-/// of the `count` steps before it, or None if none of them has as many. They must be retained. Fails with NoMemory if an allocation
-/// fails. Reads each record since the oldest of these states once, and each object of the newest state and of each state before a
-/// step that ended a cycle once: a cycle takes a step for each object that it leaves.
+/// Returns the place of the oldest state that has at least `least` live objects of a class, of the state of `ago` steps ago and
+/// those of the `count` steps before it, or None if none of them has as many. They must be retained. Fails with NoMemory if an
+/// allocation fails. Reads each record since the oldest of these states once, and each object of the newest state, and of each
+/// before a step that ended a cycle, once.
 pub fn first_many(
     alloc: Global,
     machine: &Machine,

@@ -1,4 +1,4 @@
-use Rattle.std.proofs.Common.{◌≡◌, ◌≤◌, ℕ, ◌+◌, Bool, true, false, cond, sym, ap, ap₂, ◌∙◌, arith}
+use Rattle.std.proofs.Common.{◌≡◌, ◌≤◌, ℕ, Bool, true, false, cond, sym, ap, ap₂, ◌∙◌, arith}
 use Rattle.hprof_text.proofs.ViewedObjects.{all_objects_were_visited, number_after_place_within}
 use Rattle.heap_questions.specs.Wanted.{is_wanted}
 use Rattle.heap_questions.proofs.CountedObjects.{all_counted, one_counted}

@@ -1,5 +1,5 @@
 use Rattle.std.proofs.Common.{ℕ, ◌≡◌, ◌+◌, ◌-◌, ◌<◌, ◌≤◌, ◌∙◌, length, cond, sym, ap, subst, arith, refl}
-use Rattle.std.specs.Prelude.{None, nat_le}
+use Rattle.std.specs.Prelude.{nat_le}
 use Rattle.hprof_text.specs.Image.{Image}
 use Rattle.heap_pins.specs.Images.{image_of}
 use Rattle.heap_pins.specs.Pin.{pin_image}

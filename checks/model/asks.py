@@ -32,7 +32,7 @@ WANTED = {
     "wrote": ("ok place", "ok older", *UP_TO_A_PLACE, *BY_NAME, "no 9", "no 28"),
     "watch": ("ok nothing", "ok some", *UP_TO_A_PLACE, *BY_NAME, "no 9", "no 28"),
     "writes": ("ok nothing", "ok some", *UP_TO_A_PLACE[1:], *BY_NAME, "no 2", "no 9"),
-    "when": ("ok place", "ok never", *UP_TO_A_PLACE[1:], *BY_NAME, "no 2", "no 9"),
+    "when": ("ok place", "ok never", "ok count place", "ok count never", *UP_TO_A_PLACE[1:], *BY_NAME, "no 2", "no 9"),
     "dropped": ("ok place", "ok older", "ok reached", *UP_TO_A_PLACE, "no 28"),
     "history": ("ok", *UP_TO_A_PLACE),
     "life": ("ok nothing", "ok some", "ok several"),
@@ -70,6 +70,8 @@ def sorts(word, form, words, left_out, last, rows):
         yield ("ok nothing" if last[1] == "0" else "ok some") + below
         if word == b"dominators" and form.endswith("n") and last[1] != "0":
             yield "ok some of them" + below
+    elif word == b"when" and "#" in form and last[0] == "ok":
+        yield f"ok count {last[1]}"
     elif word == b"show" and form.endswith("nn") and last[0] == "ok":
         yield "ok some slots" if rows else "ok no slot"
     else:
@@ -154,6 +156,7 @@ class AskingDraw(Draw):
         draws = {"a": self.moment, "i": self.identifier, "c": self.asked_class, "s": self.asked_slot, "v": self.held_word}
         draws["p"] = lambda: self.lots.pick(["-", self.retained_place()])
         draws["n"] = lambda: self.lots.near(self.lots.below(8), 70)
+        draws["#"] = lambda: "count"
         if word == b"show":
             draws |= {"i": self.shown_object, "n": self.asked_index}
         form = "" if word == b"help" else self.lots.pick(QUESTIONS[word].split("|"))

@@ -14,3 +14,4 @@ pub mod QuickLines
 pub mod ActionLists
 pub mod OtherCommands
 pub mod ComputedSession
+pub mod WrittenDigits

@@ -14,4 +14,3 @@ pub mod QuickLines
 pub mod ActionLists
 pub mod OtherCommands
 pub mod ComputedSession
-pub mod WrittenDigits

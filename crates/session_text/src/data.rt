@@ -6,13 +6,15 @@ ghost use Rattle.hex.specs.Hex.{encode_lower};
 ghost use Rattle.session_text.specs.declared.page.TheConstants.{PAGE_LIMIT};
 ghost use Rattle.session_text.specs.declared.write.TheConstants.{LINE_START};
 
-use crate::digits::RUN;
 use crate::page::Page;
 use crate::write::make_room;
 use dump_pump::Outlet;
 
 // The largest number of bytes on a data line.
 const DATA_LIMIT: usize = 64;
+
+// The number of bytes whose digits are added at once.
+const RUN: usize = 16;
 
 /// Adds the data lines of a piece to a page, which is flushed whenever it is full. Returns false if a write failed.
 pub fn write_data<O: Outlet>(page: &mut Page, outlet: &mut O, bytes: &[u8]) -> bool
@@ -41,7 +43,7 @@ fn add_data_line(page: &mut Page, bytes: &[u8])
     page.add(b"\n");
 }
 
-// Adds the digits of some bytes. Their number in a run is a constant, so that the compiler knows that they are written at once.
+// Adds the digits of some bytes. Their number in a run is a constant, so that the library's loop over a run is unrolled whole.
 fn add_digits(page: &mut Page, bytes: &[u8])
     requires { length page.old + 2 * length bytes.now ≤ PAGE_LIMIT }
     ensures { page.new ≡ page.old ++ encode_lower bytes.now }

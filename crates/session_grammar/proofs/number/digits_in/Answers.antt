@@ -1,4 +1,4 @@
-use Rattle.std.proofs.Common.{◌≡◌, ◌+◌, ◌-◌, ◌*◌, ◌<◌, ◌≤◌, arith, length, refl, subst, take, drop}
+use Rattle.std.proofs.Common.{◌≡◌, ◌+◌, ◌-◌, ◌*◌, ◌<◌, arith, length, refl, subst, take, drop}
 use Rattle.session_grammar.proofs.NumberDigits.{IsReadTill, read_in_none, read_in_first_eight, read_in_eight, read_in_last}
 use Rattle.session_grammar.proofs.number.digits_in.Goals as goal
 

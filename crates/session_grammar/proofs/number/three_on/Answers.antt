@@ -1,4 +1,4 @@
-use Rattle.std.proofs.Common.{◌+◌, ◌*◌, ◌<◌, arith, length}
+use Rattle.std.proofs.Common.{◌+◌, ◌*◌, arith}
 use Rattle.session_grammar.proofs.NumberDigits.{read_in_digit}
 use Rattle.session_grammar.proofs.number.three_on.Goals as goal
 

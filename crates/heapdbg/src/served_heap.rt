@@ -1,7 +1,8 @@
 //! A heap that the sessions of clients share, after what is run first.
 ghost use Rattle.std.specs.Prelude.{◌≡◌, ◌∷◌, IfErr, IfOk, false, length, true};
 ghost use Rattle.session_text.specs.Limits.{session_limits};
-ghost use Rattle.heap_server.specs.Blanks.{IsNamed};
+ghost use Rattle.heap_server.specs.Blanks.{IsNamed, seat_model_of};
+ghost use Rattle.heap_server.specs.LockStates.{IsSeatModel};
 ghost use Rattle.heap_server.specs.Role.TheVariants.{User};
 ghost use Rattle.heap_server.specs.Tending.{AreStaff};
 ghost use Rattle.heapdbg.specs.Explorations.{IsHindrance, has_area};
@@ -11,8 +12,8 @@ use crate::failure::Fault;
 use crate::first_lines::run_first;
 use crate::request::Request;
 use heap_server::{
-    AskingSeat, Blank, Heap, Joined, Ports, Seat, Seats, Served, Shared, Staff, StayTended, Stayed,
-    Tended, Terms, UnnamedSeat, serve_clients, serve_staying, serve_staying_tended, serve_tended,
+    AskingSeat, Blank, Heap, Joined, Ports, Seat, Seats, Served, Shared, Staff, Stayed, Terms,
+    UnnamedSeat, serve_clients, serve_staying, serve_staying_tended, serve_tended,
 };
 use heapdbg_options::settings::{Origin, Service};
 use std::alloc::{AllocError, Global};
@@ -214,18 +215,9 @@ fn serve_once<L: Heap + Send + Sync, R: Clock + Eprint + Threads + Wait + Sync>(
         };
     }
     match serve_tended(rt, alloc, shared, staff, ports, terms) {
-        Ok(
-            Tended {
-                served,
-                marker,
-                sweeper,
-            },
-        ) => {
-            let left = WorkersLeft {
-                marker: marker.into_unnamed(),
-                sweeper: sweeper.into_unnamed(),
-            };
-            Ok((Sessions::Once(served), Some(left)))
+        Ok(tended) => {
+            let left = workers_left(tended.marker, tended.sweeper);
+            Ok((Sessions::Once(tended.served), Some(left)))
         }
         Err(error) => Err(error),
     }
@@ -254,19 +246,23 @@ fn serve_on<L: Heap + Send + Sync, R: Clock + Eprint + Print + Threads + Wait + 
         };
     }
     match serve_staying_tended(rt, alloc, shared, staff, ports, terms) {
-        Ok(
-            StayTended {
-                stayed,
-                marker,
-                sweeper,
-            },
-        ) => {
-            let left = WorkersLeft {
-                marker: marker.into_unnamed(),
-                sweeper: sweeper.into_unnamed(),
-            };
-            Ok((Sessions::Stayed(stayed), Some(left)))
+        Ok(stays) => {
+            let left = workers_left(stays.marker, stays.sweeper);
+            Ok((Sessions::Stayed(stays.stayed), Some(left)))
         }
         Err(error) => Err(error),
+    }
+}
+
+// Gives up the seats of the workers.
+fn workers_left<L: Heap>(marker: Seat<L>, sweeper: Seat<L>) -> WorkersLeft
+    ensures marker { seat_model_of result.marker ≡ marker }
+    ensures marker_seat { IsSeatModel L.tables result.marker.number result.marker.share }
+    ensures sweeper { seat_model_of result.sweeper ≡ sweeper }
+    ensures sweeper_seat { IsSeatModel L.tables result.sweeper.number result.sweeper.share }
+{
+    WorkersLeft {
+        marker: marker.into_unnamed(),
+        sweeper: sweeper.into_unnamed(),
     }
 }

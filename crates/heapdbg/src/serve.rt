@@ -55,7 +55,7 @@ impl ServiceEnd {
 /// or the page can be had, or the system gives no random bytes for the key, with Listen if a port can't be listened on, as
 /// `run_first` does, with Accept if a client could not be accepted, and else with Write if a write failed. Says on standard error
 /// that clients are accepted, or why a port can't be listened on, if that is a terminal. May wait.
-#[tactic(auto, using(crate::proofs::LoadedSeats::unopened_is_unserved))]
+#[tactic(auto, using(crate::proofs::LoadedSeats::unopened_is_unserved, crate::proofs::LoadedSeats::end_over_a_heap_is_served))]
 pub fn serve_port<R, O: Outlet>(
     rt: &R,
     request: Request<'_>,
@@ -114,7 +114,7 @@ where
 }
 
 // Creates a heap of the settings with the seats of a service. Fails with NoMemory.
-#[tactic(auto, using(crate::proofs::LoadedSeats::result_of_one_more))]
+#[tactic(auto, using(crate::proofs::LoadedSeats::heap_of_one_more))]
 fn blank_for(alloc: Global, settings: &Settings, service: Service) -> Result<Blank, Refusal>
     requires heap { IsHeapWithin settings.now }
     requires sessions { (1 ≤ service.sessions) × (service.sessions ≤ session_limit) }

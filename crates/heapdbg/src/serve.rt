@@ -53,8 +53,8 @@ impl ServiceEnd {
 /// them, and one answers the clients of the page if there is a port for it; the page's address, with its key, is said on standard
 /// error. Returns the heap that was served. Fails with Memory if the heap can't be allocated, no thread for the workers, the dumps
 /// or the page can be had, or the system gives no random bytes for the key, with Listen if a port can't be listened on, as
-/// `run_first` does, with Accept if a client could not be accepted, and else with Write if a write failed. Says on standard error
-/// that clients are accepted, or why a port can't be listened on, if that is a terminal. May wait.
+/// `run_first` does if that session can't be run, with Accept if a client could not be accepted, and else with Write if a write
+/// failed. Says on standard error that clients are accepted, or why a port can't be listened on, if that is a terminal. May wait.
 #[tactic(auto, using(crate::proofs::LoadedSeats::unopened_is_unserved, crate::proofs::LoadedSeats::end_over_a_heap_is_served))]
 pub fn serve_port<R, O: Outlet>(
     rt: &R,

@@ -1,30 +1,20 @@
 //! Sessions over one shared heap whose collector is tended in two threads.
-ghost use Rattle.std.specs.Prelude.{◌≡◌, ◌∷◌, ◌≤◌, IfOk, IfErr, length, replicate};
-ghost use Rattle.heap_lock.specs.Blanks.{IsNamed};
+ghost use Rattle.std.specs.Prelude.{◌≡◌, ◌∷◌, ◌+◌, ◌≤◌, IfOk, IfErr, length, replicate};
 ghost use Rattle.heap_lock.specs.Refusal.TheVariants.{NoMemory};
 ghost use Rattle.heap_lock.specs.declared.role.Role.TheVariants as role;
 ghost use Rattle.heap_server.specs.SessionSeats.{IsFor, session_limit};
-ghost use Rattle.heap_server.specs.Tending.{AreStaff, IsTendedOver, MarkRuns, SweepRuns};
+ghost use Rattle.heap_server.specs.Tending.{AreStaff, MarkRuns, SweepRuns};
 
-use crate::sessions::{Ports, Served, ServedHeap, ServicePlan, Terms, serve_clients};
+use crate::sessions::{Ports, Served, Terms, serve_clients};
 use crate::tending::{Duty, tend};
-use heap_lock::{Blank, Config, Heap, Refusal, Role, Seat, Seats, Shared, UnnamedSeat};
+use heap_lock::{Blank, Config, Heap, Refusal, Role, Seat, Seats, Shared};
 use std::alloc::{AllocError, Global};
-use std::marker::Brand;
 use std::snapshot::Snapshot;
 use std::sync::Wait;
 use std::sync::atomic::{AtomicBool, Ordering};
 use std::thread;
 use std::thread::{Promise, PromisedHandle, Scope, Threads};
 use std::time::Clock;
-
-/// How the sessions over a heap ended, and the two seats of its workers as their runs left them.
-#[derive(Drop)]
-pub struct TendedHeap {
-    pub heap: ServedHeap,
-    pub marker: UnnamedSeat,
-    pub sweeper: UnnamedSeat,
-}
 
 /// The seats of a heap whose collector is tended.
 #[derive(Drop)]
@@ -34,7 +24,7 @@ pub struct Staff<L: Heap> {
     pub users: Seats<L>,
 }
 
-/// How the sessions over a heap that a type names ended, and the seats of its workers.
+/// How the sessions over a heap ended, and the two seats of its workers as their runs left them.
 #[derive(Drop)]
 pub struct Tended<L: Heap> {
     pub served: Served,
@@ -62,10 +52,10 @@ impl<L: Heap> Promise<Seat<L>> for SweepsFrom<L> {
     ghost kept_by = { λ p seat. SweepRuns L.config p.0.value seat };
 }
 
-/// Creates a heap of these settings with the marker's seat, the sweeper's, and a user's for each of 1 to 1,000 sessions, in
-/// this order. Fails with NoMemory.
+/// Creates a heap of these settings with the marker's seat, the sweeper's, and a user's for each of 1 to 1,001 sessions, in
+/// this order: one more than are served, for a session that is run first. Fails with NoMemory.
 pub fn workers_and_users(alloc: Global, config: Config, sessions: u64) -> Result<Blank, Refusal>
-    requires { (1 ≤ sessions) × (sessions ≤ session_limit) }
+    requires { (1 ≤ sessions) × (sessions ≤ session_limit + 1) }
     ensures settings { IfOk result (λ b. b.config ≡ config) }
     ensures seats { IfOk result (λ b. AreStaff sessions b.seats) }
     ensures refused { IfErr result (λ e. e ≡ NoMemory) }
@@ -78,7 +68,7 @@ pub fn workers_and_users(alloc: Global, config: Config, sessions: u64) -> Result
 
 // Returns the roles of the marker, the sweeper and `sessions` users, in this order. Fails if they can't be allocated.
 fn roles(alloc: Global, sessions: u64) -> Result<Vec<Role>, AllocError>
-    requires { sessions ≤ session_limit }
+    requires { sessions ≤ session_limit + 1 }
     ensures { IfOk result
         (λ v. v.items ≡ role.Marker ∷ role.Sweeper ∷ replicate sessions role.User) }
 {
@@ -165,70 +155,4 @@ pub fn serve_tended<L: Heap + Send + Sync, R: Clock + Eprint + Threads + Wait + 
             })
         },
     )
-}
-
-/// Opens a heap, and serves as many clients as it has users' seats, as `serve_tended` does. May wait.
-pub fn serve_tended_heap<R: Clock + Eprint + Threads + Wait + Sync>(
-    rt: &R,
-    alloc: Global,
-    blank: Blank,
-    plan: ServicePlan,
-) -> Result<TendedHeap, AllocError>
-    requires { AreStaff plan.most blank.seats }
-    ensures { IfOk result (IsTendedOver blank plan.terms) }
-{
-    serve_staffed::<Brand, R>(rt, alloc, blank, plan)
-}
-
-// Opens a heap that a type names, and serves clients as `serve_tended_heap` does.
-fn serve_staffed<L: Heap + Send + Sync, R: Clock + Eprint + Threads + Wait + Sync>(
-    rt: &R,
-    alloc: Global,
-    blank: Blank,
-    plan: ServicePlan,
-) -> Result<TendedHeap, AllocError>
-    requires named { IsNamed L.config L.tables L.ledger L.rolls blank }
-    requires staff { AreStaff plan.most blank.seats }
-    ensures { IfOk result (IsTendedOver blank plan.terms) }
-{
-    let made = Snapshot::of(&blank);
-    let (shared, seats) = blank.open::<L>();
-    let ServicePlan { most, ports, terms } = plan;
-    let staff = staff_of(seats, most);
-    let own = &terms;
-    let Tended {
-        served,
-        marker,
-        sweeper,
-    } = serve_tended(rt, alloc, &shared, staff, ports, *own)?;
-    Ok(TendedHeap {
-        heap: ServedHeap {
-            served,
-            made,
-            terms: *own,
-        },
-        marker: marker.into_unnamed(),
-        sweeper: sweeper.into_unnamed(),
-    })
-}
-
-// Returns the marker's seat, the sweeper's, and those of `most` users.
-pub(crate) fn staff_of<L: Heap>(seats: Seats<L>, most: usize) -> Staff<L>
-    requires { AreStaff most seats }
-    ensures seats { seats ≡ result.marker ∷ result.sweeper ∷ result.users }
-    ensures staff { AreStaff most (result.marker ∷ result.sweeper ∷ result.users) }
-{
-    let _most = most;
-    let mut users = seats;
-    let Some(marker) = users.take() else {
-        unreachable!()
-    };
-    let Some(sweeper) = users.take() else {
-        unreachable!()
-    };
-    Staff {
-        marker,
-        sweeper,
-        users,
-    }
 }

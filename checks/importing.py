@@ -464,7 +464,7 @@ def differences(program, importer):
                 yield from alike(program, importer, dump, folder)
                 yield from alike(program, importer, dump, folder, *SMALL)
                 yield from served_alike(program, dump, *SMALL)
-        yield from served_alike(program, folder / "leak-8.hprof")
+        yield from served_alike(program, folder / "leak-8.hprof", *WIDE)
         yield from served_full(program, folder / "orders-8.hprof")
         yield from large_arrays(program, importer, folder)
         yield from changed(program, importer, folder / "leak-8.hprof", folder)

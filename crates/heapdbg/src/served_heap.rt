@@ -100,10 +100,11 @@ where
     };
     let first = seat.into_unnamed();
     announce(rt, service.port, is_terminal);
-    match serve_staff(rt, rt.alloc(), &shared, service, staff, ports, terms) {
+    let own = &terms;
+    match serve_staff(rt, rt.alloc(), &shared, service, staff, ports, *own) {
         Ok((sessions, workers)) => Ok(HeapServed {
             made,
-            terms,
+            terms: *own,
             first,
             workers,
             sessions,

@@ -17,5 +17,7 @@ pub mod Staying
 -- What clauses here, and proofs above, cite of the crates below.
 pub use Rattle.heap_lock.specs.Blanks
 pub use Rattle.heap_lock.specs.Calls
+pub use Rattle.heap_lock.specs.LockStates
+pub use Rattle.heap_lock.specs.Seated
 pub use Rattle.heap_lock.specs.declared.role.Role
 pub use Rattle.secret_word.specs.Words

@@ -29,7 +29,7 @@ pub use asking::AskingSeat;
 pub use client::{Asked, Client, SendsFrom, Sent, ask};
 pub use client_session::SessionEnd;
 pub use copy::{Copied, copy_all};
-pub use heap_lock::{Action, Blank, Heap, Refusal, Reply, Seat, Seats, Shared};
+pub use heap_lock::{Action, Blank, Heap, Refusal, Reply, Seat, Seats, Shared, UnnamedSeat};
 pub use heap_page::{PagePort, PageTerms};
 pub use joined::Joined;
 pub use laws::served_dumps_are_text;

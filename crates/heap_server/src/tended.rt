@@ -1,5 +1,5 @@
 //! Sessions over one shared heap whose collector is tended in two threads.
-ghost use Rattle.std.specs.Prelude.{◌≡◌, ◌∷◌, ◌≤◌, IfOk, IfErr, length, replicate};
+ghost use Rattle.std.specs.Prelude.{◌≡◌, ◌∷◌, ◌+◌, ◌≤◌, IfOk, IfErr, length, replicate};
 ghost use Rattle.heap_lock.specs.Blanks.{IsNamed};
 ghost use Rattle.heap_lock.specs.Refusal.TheVariants.{NoMemory};
 ghost use Rattle.heap_lock.specs.declared.role.Role.TheVariants as role;
@@ -62,10 +62,10 @@ impl<L: Heap> Promise<Seat<L>> for SweepsFrom<L> {
     ghost kept_by = { λ p seat. SweepRuns L.config p.0.value seat };
 }
 
-/// Creates a heap of these settings with the marker's seat, the sweeper's, and a user's for each of 1 to 1,000 sessions, in
-/// this order. Fails with NoMemory.
+/// Creates a heap of these settings with the marker's seat, the sweeper's, and a user's for each of 1 to 1,001 sessions, in
+/// this order: one more than are served, for a session that is run first. Fails with NoMemory.
 pub fn workers_and_users(alloc: Global, config: Config, sessions: u64) -> Result<Blank, Refusal>
-    requires { (1 ≤ sessions) × (sessions ≤ session_limit) }
+    requires { (1 ≤ sessions) × (sessions ≤ session_limit + 1) }
     ensures settings { IfOk result (λ b. b.config ≡ config) }
     ensures seats { IfOk result (λ b. AreStaff sessions b.seats) }
     ensures refused { IfErr result (λ e. e ≡ NoMemory) }
@@ -78,7 +78,7 @@ pub fn workers_and_users(alloc: Global, config: Config, sessions: u64) -> Result
 
 // Returns the roles of the marker, the sweeper and `sessions` users, in this order. Fails if they can't be allocated.
 fn roles(alloc: Global, sessions: u64) -> Result<Vec<Role>, AllocError>
-    requires { sessions ≤ session_limit }
+    requires { sessions ≤ session_limit + 1 }
     ensures { IfOk result
         (λ v. v.items ≡ role.Marker ∷ role.Sweeper ∷ replicate sessions role.User) }
 {

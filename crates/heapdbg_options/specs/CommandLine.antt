@@ -324,7 +324,7 @@ abbrev pub keep_in : Task → Bool → List Row → Option ℕ
 keep_in task wide rows =
     option_size (codes "keep") (keep_default task wide) 1 (most_kept wide) rows
 
--- the largest number of regions of the area of a heap with so many regions that is wide, or isn't
+-- the largest number of regions of the area of a heap with this many regions that is wide, or isn't
 abbrev pub most_area : Bool → ℕ → ℕ
 most_area wide regions = if wide then regions - 1 else 0
 
@@ -338,7 +338,7 @@ area_after Dump wide regions = if wide then regions / 4 else 0
 abbrev pub area_default : Task → Bool → ℕ → ℕ
 area_default task wide regions = area_after (origin_of task) wide regions
 
--- the area of a task's heap with so many regions that is wide, or isn't
+-- the area of a task's heap with this many regions that is wide, or isn't
 abbrev pub area_in : Task → Bool → ℕ → List Row → Option ℕ
 area_in task wide regions rows =
     option_size (codes "area") (area_default task wide regions) 0 (most_area wide regions) rows
@@ -601,7 +601,7 @@ IsTask (Fetch port secret) = (1 ≤ port) × (port ≤ port_limit)
 abbrev pub usual_limits : Bool → Limits
 usual_limits wide = if wide then wide_limits else narrow_limits
 
--- what a heap allows that has an area of so many regions, or none if they are 0, and is else as one with these limits
+-- what a heap allows that has an area of this many regions, or none if they are 0, and is else as one with these limits
 abbrev pub limits_with : ℕ → Limits → Limits
 limits_with area limits = if area == 0 then limits else with_area area limits
 

@@ -32,7 +32,7 @@ WANTED = {
     "wrote": ("ok place", "ok older", *UP_TO_A_PLACE, *BY_NAME, "no 9", "no 28"),
     "watch": ("ok nothing", "ok some", *UP_TO_A_PLACE, *BY_NAME, "no 9", "no 28"),
     "writes": ("ok nothing", "ok some", *UP_TO_A_PLACE[1:], *BY_NAME, "no 2", "no 9"),
-    "when": ("ok place", "ok never", *UP_TO_A_PLACE[1:], *BY_NAME, "no 2", "no 9"),
+    "when": ("ok place", "ok never", "ok count place", "ok count never", *UP_TO_A_PLACE[1:], *BY_NAME, "no 2", "no 9"),
     "dropped": ("ok place", "ok older", "ok reached", *UP_TO_A_PLACE, "no 28"),
     "history": ("ok", *UP_TO_A_PLACE),
     "life": ("ok nothing", "ok some", "ok several"),
@@ -71,6 +71,8 @@ def sorts(word, form, words, left_out, last, rows):
         yield ("ok nothing" if last[1] == "0" else "ok some") + below
         if word == b"dominators" and form.endswith("n") and last[1] != "0":
             yield "ok some of them" + below
+    elif word == b"when" and "#" in form and last[0] == "ok":
+        yield f"ok count {last[1]}"
     elif word == b"show" and form.endswith("nn") and last[0] == "ok":
         yield "ok some slots" if rows else "ok no slot"
     else:
@@ -156,6 +158,7 @@ class AskingDraw(Draw):
         draws["p"] = lambda: self.lots.pick(["-", self.retained_place()])
         draws["r"] = lambda: self.retained_place() if self.lots.once_in(5) else f"@{max(0, self.machine.place - self.lots.below(4))}"
         draws["n"] = lambda: self.lots.near(self.lots.below(8), 70)
+        draws["#"] = lambda: "count"
         if word == b"show":
             draws |= {"i": self.shown_object, "n": self.asked_index}
         form = "" if word == b"help" else self.lots.pick(QUESTIONS[word].split("|"))

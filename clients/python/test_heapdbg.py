@@ -643,6 +643,8 @@ class Names(unittest.TestCase):
             self.assertEqual((heap.writes(2, 1, Place(5)), heap.writes(2, 1, Place(0), Place(5))), ([(6, array, None, node)], []))
             self.assertEqual((heap.when(2, 1, node), heap.when("[null;", 1, None)), (("place", 6), ("place", 4)))
             self.assertEqual((heap.when(2, 1, None, Place(6)), heap.when(2, 1, node, Place(5), Place(4))), (("never",), ("never",)))
+            self.assertEqual((heap.when_count("[null;", 1), heap.when_count(2, 1, Place(5))), (("place", 4), ("place", 5)))
+            self.assertEqual((heap.when_count(2, 2), heap.when_count(2, 1, Place(3), Place(2))), (("never",), ("never",)))
             self.assertEqual((heap.values(None, 2, 1), heap.values("@5", 2, 1), heap.values(None, 2, 9)), ([(node, 1)], [(None, 1)], []))
             self.assertEqual((heap.retained(None, array), heap.retained(None, node)), ([(1, 16, "[null;")], [(1, 8, "2024")]))
             heap.clear(0, 1)

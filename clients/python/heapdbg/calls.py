@@ -297,6 +297,14 @@ class Calls:
             words += [word_of_moment(one), word_of_moment(other)]
         return self.send(" ".join(["when", *words]), place_or_older)
 
+    def when_count(self, of_class: Name, count: int, one: Moment = None, other: Moment = None) -> When:
+        """Returns the `When` of the first retained place at which a class had so many objects or more: ("place", P), or ("never",).
+        With a `Place` it is about the places from there to the current one, or to a second one."""
+        words = [word_of(str(of_class)), str(count)]
+        if one is not None:
+            words += [word_of_moment(one), word_of_moment(other)]
+        return self.send(" ".join(["when count", *words]), place_or_older)
+
     def born(self, of: int, moment: Moment = None) -> When:
         """Returns the `When` of the step that made an object: ("place", P), or ("older", P). With a `Place` it is about the object
         and the steps up to there."""

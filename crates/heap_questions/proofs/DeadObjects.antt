@@ -36,7 +36,7 @@ split : (ys : List (Option Object)) → count_by is_dead ys ≡ one (get_or ys 0
 split [] = refl
 split (y ∷ ys) = sum_by-cons one y ys
 
-later : (ys : List (Option Object)) (c : ℕ) → get_or (drop 1 ys) c None ≡ get_or ys (suc c) None
+pub later : (ys : List (Option Object)) (c : ℕ) → get_or (drop 1 ys) c None ≡ get_or ys (suc c) None
 later [] c = refl
 later (y ∷ ys) c = refl
 

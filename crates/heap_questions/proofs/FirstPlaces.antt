@@ -86,7 +86,7 @@ Was w at o = (p : Object) × (object_at w.regions at ≡ Some p) × (p.live ≡ 
 state_of_live : (x : Option Object) (o : Object) → x ≡ Some o → o.live ≡ true → cell_state x ≡ 1
 state_of_live x o e l = ap cell_state e ∙ ap (λ b. cond b 1 2) l
 
-live_of_state : (x : Option Object) → cell_state x ≡ 1 → (p : Object) × (x ≡ Some p) × (p.live ≡ true)
+pub live_of_state : (x : Option Object) → cell_state x ≡ 1 → (p : Object) × (x ≡ Some p) × (p.live ≡ true)
 live_of_state None e = absurd (omega (arith, e))
 live_of_state (Some p) e = elim (cases_Bool p.live) [
   | inl t ↦ (p, refl, t)
@@ -97,7 +97,7 @@ live_of_state (Some p) e = elim (cases_Bool p.live) [
     two e = absurd (omega (arith, e))
 
 -- the states of cells after a step
-abbrev states_after : HeapState → ObjRef → ℕ
+abbrev pub states_after : HeapState → ObjRef → ℕ
 states_after w b = cell_state (object_at w.regions b)
 
 untouched_was : (left : Undo) (before after : HeapState) (at : ObjRef) (o : Object) → TellsBefore left before after → touched left ≢ Some at.region → states_before left (states_after after) at ≡ 1 → object_at after.regions at ≡ Some o → Was before at o
@@ -152,7 +152,7 @@ made_but_one w m r n kind at b legal e same d =
     empty (inr e) = pool_is_empty (pool_of w) at legal.regions n e.1.0
 
 -- a step that makes an object makes no other one
-one_made : (e : Event) (before after : HeapState) (a : ObjRef) (fresh : Bool) (m r old : ℕ) (at : ObjRef) (o : Object) → IsStep e before after (New a fresh m r old) → made_by (New a fresh m r old) at ≡ true → a ≢ at → object_at after.regions at ≡ Some o → ⊥
+pub one_made : (e : Event) (before after : HeapState) (a : ObjRef) (fresh : Bool) (m r old : ℕ) (at : ObjRef) (o : Object) → IsStep e before after (New a fresh m r old) → made_by (New a fresh m r old) at ≡ true → a ≢ at → object_at after.regions at ≡ Some o → ⊥
 one_made e before after a false m r old at o s y n h =
     let p = and_parts (a.region == at.region) (a.cell == at.cell) y in
     n (same_place a at (eqb-true a.region at.region p.0) (eqb-true a.cell at.cell p.1))
@@ -223,7 +223,7 @@ live_before_write (Event.Sweep region) w at legal ok h = absurd (none-some at (s
     go false u dead = refl
 live_before_write e w at legal ok h = absurd (none-some at h)
 
-written_live : (e : Event) (before after : HeapState) (left : Undo) (at : ObjRef) → IsStep e before after left → written_at left ≡ Some at → (o : Object) × (object_at after.regions at ≡ Some o) × (o.live ≡ true)
+pub written_live : (e : Event) (before after : HeapState) (left : Undo) (at : ObjRef) → IsStep e before after left → written_at left ≡ Some at → (o : Object) × (object_at after.regions at ≡ Some o) × (o.live ≡ true)
 unfolding states_before new_object
 written_live e before after (Put a s old) at st h =
     let was = live_before_write e before at st.legal st.accepted (ap put_at (sym st.recorded) ∙ h) in
@@ -239,7 +239,7 @@ written_live e before after left at st h = absurd (none-some at h)
 
 -- ---- what a pin shows of it
 
-seen_as : (u w : HeapState) (p : PinContents) (at : ObjRef) (o : Object) → IsShownBeside w p u → object_at u.regions at ≡ Some o → seen_object p w at ≡ shown u.regions (at, o)
+pub seen_as : (u w : HeapState) (p : PinContents) (at : ObjRef) (o : Object) → IsShownBeside w p u → object_at u.regions at ≡ Some o → seen_object p w at ≡ shown u.regions (at, o)
 seen_as u w p at o h here = ap seen_or (object_seen_as_dump_shows p u w at o h.1 here)
 
 pub sees_written_or_made : (t : Trail) (n : ℕ) (left : Undo) (w : HeapState) (p : PinContents) → IsShownBeside w p (state_ago n t) → HasRecord t n left → SeesWritten p w left
@@ -280,7 +280,7 @@ IsFirstUnless P t n first = ¬ HoldsAgo P t n → IsFirstPlace P t n first
 pub none_yet : (P : Image → Type 0) (t : Trail) (first : Option ℕ) → first ≡ None → IsFirstUnless P t 0 first
 none_yet P t first e never = subst (IsFirstPlace P t 0) (sym e) (λ n l h. never (subst (HoldsAgo P t) (let z : n ≡ 0 = omega (arith, l) in z) h))
 
-one_older : (P : Image → Type 0) (t : Trail) (n : ℕ) (first : Option ℕ) → IsFirstPlace P t n first → ¬ HoldsAgo P t (n + 1) → IsFirstPlace P t (n + 1) first
+pub one_older : (P : Image → Type 0) (t : Trail) (n : ℕ) (first : Option ℕ) → IsFirstPlace P t n first → ¬ HoldsAgo P t (n + 1) → IsFirstPlace P t (n + 1) first
 one_older P t n None f never = λ k l. elim (cases_eq k (n + 1)) [
   | inl e ↦ subst (λ j. ¬ HoldsAgo P t j) (sym e) never
   | inr d ↦ f k (omega (arith, l, d))

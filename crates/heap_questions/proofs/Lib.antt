@@ -38,3 +38,4 @@ pub mod DeadObjects
 pub mod EndedCycles
 pub mod PastLives
 pub mod FirstPlaces
+pub mod CountedObjects

@@ -35,7 +35,7 @@ pub use objects::{ShownObject, object_with, slot_kind};
 pub use order::ranking;
 pub use past::{
     EndedCycle, Life, Loss, PastEvent, PastStep, PastTrail, SeenSlot, SlotChange, SlotWrite, birth,
-    ended_cycles, first_wanted, history, last_write, lives_of, loss_of, path_is_reach,
+    ended_cycles, first_many, first_wanted, history, last_write, lives_of, loss_of, path_is_reach,
     slot_changes, slot_now, slot_writes, unreached_stays,
 };
 pub use paths::{Path, shortest_path};

@@ -1,5 +1,6 @@
 //! Exact answers about the past that a machine retains. Most are a walk over its records, the newest first.
 mod changes;
+mod counts;
 mod cycles;
 mod events;
 mod firsts;
@@ -14,6 +15,7 @@ mod trail;
 mod writes;
 
 pub use changes::{birth, last_write};
+pub use counts::first_many;
 pub use cycles::{EndedCycle, ended_cycles};
 pub use events::PastEvent;
 pub use firsts::first_wanted;

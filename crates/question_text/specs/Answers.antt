@@ -8,7 +8,7 @@ use Rattle.hprof_text.specs.Image.{Image}
 use Rattle.question_text.specs.declared.answers.PairQuestion.{PairQuestion}
 use Rattle.question_text.specs.declared.answers.StateQuestion.{StateQuestion}
 use Rattle.question_text.specs.declared.question.Question.{Question}
-use Rattle.question_text.specs.declared.question.Question.TheVariants.{Histogram, Garbage, Growth, Kept, Diff, Registers, Classes, Objects, Values, Referrers, Path, Retained, Dominators, Dominated, Dominator, Show, Born, Wrote, Watch, Writes, When, Dropped, Life, History, Cycles, Pins, Cells, Regions, Status}
+use Rattle.question_text.specs.declared.question.Question.TheVariants.{Histogram, Garbage, Growth, Kept, Diff, Registers, Classes, Objects, Values, Referrers, Path, Retained, Dominators, Dominated, Dominator, Show, Born, Wrote, Watch, Writes, When, WhenCount, Dropped, Life, History, Cycles, Pins, Cells, Regions, Status}
 use Rattle.question_text.specs.Births.{IsBornText}
 use Rattle.question_text.specs.CellLists.{IsCellsText}
 use Rattle.question_text.specs.ClassLists.{IsClassesText}
@@ -16,7 +16,7 @@ use Rattle.question_text.specs.CycleLists.{IsCyclesText}
 use Rattle.question_text.specs.Diffs.{IsDiffText}
 use Rattle.question_text.specs.DominatorRows.{IsDominatedText, IsDominatorText, IsDominatorsText}
 use Rattle.question_text.specs.Histograms.{IsGarbageText, IsHistogramText, IsRetainedText}
-use Rattle.question_text.specs.FirstPlaces.{IsWhenText}
+use Rattle.question_text.specs.FirstPlaces.{IsWhenCountText, IsWhenText}
 use Rattle.question_text.specs.Moments.{IsAnswerAbout, IsAnswerBetween, image_at, refused_text}
 use Rattle.question_text.specs.Growths.{IsGrowthText}
 use Rattle.question_text.specs.Comments.{unasked_text}
@@ -96,6 +96,7 @@ IsAnswer (Wrote to x s) m acts text = IsAnswerSeen (IsWroteText x s) to m.trail 
 IsAnswer (Watch x s to) m acts text = IsAnswerSeen (IsWatchText x s) to m.trail text
 IsAnswer (Writes k s span) m acts text = IsWritesText k s span m.trail text
 IsAnswer (When wanted span) m acts text = IsWhenText wanted span m.trail text
+IsAnswer (WhenCount k n span) m acts text = IsWhenCountText k n span m.trail text
 IsAnswer (Dropped to x) m acts text = IsAnswerUpTo (IsDroppedText x) to m.trail text
 IsAnswer (Life x) m acts text = IsLifeText x m.trail text
 IsAnswer (History to count) m acts text = IsHistoryText to count m.trail text

@@ -1,10 +1,11 @@
--- The text of `when`.
+-- The texts of `when`.
 use Rattle.std.specs.Prelude.{◌≡◌, ℕ, ◌-◌, nat_lt, List, codes, Option, Some, None, Result, Ok, Err, if◌then◌else◌}
 use Rattle.heap_class.specs.declared.Refusal.{Refusal}
 use Rattle.heap_trail.specs.Trail.{Trail, retained, rewound}
 use Rattle.hprof_text.specs.Image.{Image}
 use Rattle.heap_questions.specs.declared.wanted.Wanted.{Wanted}
-use Rattle.heap_questions.specs.FirstPlaces.{HasWanted, IsFirstPlace}
+use Rattle.heap_questions.specs.declared.wanted.Wanted.TheVariants.{OfClass}
+use Rattle.heap_questions.specs.FirstPlaces.{HasMany, HasWanted, IsFirstPlace}
 use Rattle.question_text.specs.declared.question.Span.{Span}
 use Rattle.question_text.specs.declared.question.Span.TheVariants.{AllSteps, Between}
 use Rattle.question_text.specs.ClassSlots.{wanted_refusal}
@@ -59,3 +60,9 @@ abbrev pub IsWhenText : Wanted → Span → Trail → List ℕ → Type 0
 IsWhenText wanted span t text =
     IsFirstUnless (wanted_refusal t.current.classes wanted) (HasWanted wanted) t (states_of span t)
     text
+
+-- the answer of `when` about how many objects class k has: at least n
+abbrev pub IsWhenCountText : ℕ → ℕ → Span → Trail → List ℕ → Type 0
+IsWhenCountText k n span t text =
+    IsFirstUnless (wanted_refusal t.current.classes (OfClass k)) (HasMany n (OfClass k)) t
+    (states_of span t) text

@@ -38,7 +38,7 @@ question_forms =
     ∷ form_of (codes "watch") (codes "watch ID SLOT [@PLACE]") (codes "watch 0x10000020 next")
     ∷ form_of (codes "writes") (codes "writes CLASS SLOT [@PLACE [@PLACE]]")
     (codes "writes server/Entry state")
-    ∷ form_of (codes "when") (codes "when CLASS SLOT VALUE [@PLACE [@PLACE]]")
+    ∷ form_of (codes "when") (codes "when (CLASS SLOT VALUE | count CLASS N) [@PLACE [@PLACE]]")
     (codes "when server/Entry state 42")
     ∷ form_of (codes "dropped") (codes "dropped [@PLACE] ID") (codes "dropped 0x10000020")
     ∷ form_of (codes "life") (codes "life ID") (codes "life 0x10000020")

@@ -1,15 +1,16 @@
 -- Lines of questions that name classes and fields.
-use Rattle.std.specs.Prelude.{ℕ, List, [], ◌∷◌, codes, Option, None, option_map, option_and_then}
+use Rattle.std.specs.Prelude.{ℕ, List, [], ◌∷◌, codes, Option, None, option_map, option_and_then, if◌then◌else◌}
 use Rattle.std.specs.Option.{option_or}
+use Rattle.std.specs.Str.{bytes_eq}
 use Rattle.heap_class.specs.Classes.{Class}
 use Rattle.heap_world.specs.State.{HeapState}
 use Rattle.heap_questions.specs.declared.wanted.Wanted.{Wanted}
 use Rattle.heap_questions.specs.declared.wanted.Wanted.TheVariants.{OfClass, Holding}
-use Rattle.session_grammar.specs.Grammar.{at_end, words_of_line}
+use Rattle.session_grammar.specs.Grammar.{at_end, next_number, words_of_line}
 use Rattle.question_text.specs.declared.question.At.{At}
 use Rattle.question_text.specs.declared.question.At.TheVariants.{Current}
 use Rattle.question_text.specs.declared.question.Question.{Question}
-use Rattle.question_text.specs.declared.question.Question.TheVariants.{Objects, Values, Wrote, Watch, Writes, When}
+use Rattle.question_text.specs.declared.question.Question.TheVariants.{Objects, Values, Wrote, Watch, Writes, When, WhenCount}
 use Rattle.question_text.specs.declared.question.Span.{Span}
 use Rattle.question_text.specs.NameWords.{class_and_slot_named, class_of_word, id_and_slot_named}
 use Rattle.question_text.specs.Questions.{QuestionRule, at_of_word, place_of_word, question_by, question_of, span_of, value_of_word}
@@ -73,14 +74,29 @@ writes_named classes (w ∷ v ∷ ws) =
     option_and_then (λ slot. option_map (λ span. (slot, span)) (span_of ws))
     (class_and_slot_named classes w v)
 
--- the objects of a class with a value in a slot, and the places, that the words name
-unfoldable pub when_named : List Class → List (List ℕ) → Option (Wanted × Span)
-when_named classes [] = None
-when_named classes (k ∷ []) = None
-when_named classes (k ∷ s ∷ []) = None
-when_named classes (k ∷ s ∷ v ∷ ws) =
+-- the objects of class k with a value in a slot, and the places, that the words name
+abbrev pub holding_and_span_named : List Class → List ℕ → List (List ℕ) → Option (Wanted × Span)
+holding_and_span_named classes k [] = None
+holding_and_span_named classes k (s ∷ []) = None
+holding_and_span_named classes k (s ∷ v ∷ ws) =
     option_and_then (λ wanted. option_map (λ span. (wanted, span)) (span_of ws))
     (holding_named classes k s v)
+
+-- the class, how many objects it has at least, and the places, that the words name
+abbrev pub count_and_span_named : List Class → List (List ℕ) → Option ((ℕ × ℕ) × Span)
+count_and_span_named classes [] = None
+count_and_span_named classes (k ∷ ws) =
+    option_and_then
+    (λ k. option_and_then (λ n. option_map (λ span. ((k, n.0), span)) (span_of n.1)) (next_number ws))
+    (class_of_word classes k)
+
+-- after `count` a class and how many objects it has at least, else a class, a slot and a value; and the places
+unfoldable pub when_named : List Class → List (List ℕ) → Option Question
+when_named classes [] = None
+when_named classes (w ∷ ws) =
+    if bytes_eq w (codes "count")
+    then option_map (λ a. WhenCount a.0.0 a.0.1 a.1) (count_and_span_named classes ws)
+    else option_map (λ a. When a.0 a.1) (holding_and_span_named classes w ws)
 
 -- ---- the table of questions that take a class or a slot
 
@@ -91,7 +107,7 @@ named_rules state =
     ∷ (codes "wrote", λ ws. option_map (λ a. Wrote a.0 a.1.0 a.1.1) (write_named state ws))
     ∷ (codes "watch", λ ws. option_map (λ a. Watch a.0.0 a.0.1 a.1) (watch_named state ws))
     ∷ (codes "writes", λ ws. option_map (λ a. Writes a.0.0 a.0.1 a.1) (writes_named state.classes ws))
-    ∷ (codes "when", λ ws. option_map (λ a. When a.0 a.1) (when_named state.classes ws))
+    ∷ (codes "when", λ ws. when_named state.classes ws)
     ∷ []
 
 -- the question of these words, which may name classes and fields of a state

@@ -5,7 +5,7 @@ use Rattle.session_grammar.specs.Grammar.{at_end, next_number, number_of_word, w
 use Rattle.question_text.specs.declared.question.At.{At}
 use Rattle.question_text.specs.declared.question.At.TheVariants.{Current, Pin, Place}
 use Rattle.question_text.specs.declared.question.Question.{Question}
-use Rattle.question_text.specs.declared.question.Question.TheVariants.{Histogram, Garbage, Growth, Kept, Diff, Registers, Classes, Objects, Values, Referrers, Path, Retained, Dominators, Dominated, Dominator, Show, Born, Wrote, Watch, Writes, When, Dropped, Life, History, Cycles, Pins, Cells, Regions, Status}
+use Rattle.question_text.specs.declared.question.Question.TheVariants.{Histogram, Garbage, Growth, Kept, Diff, Registers, Classes, Objects, Values, Referrers, Path, Retained, Dominators, Dominated, Dominator, Show, Born, Wrote, Watch, Writes, When, WhenCount, Dropped, Life, History, Cycles, Pins, Cells, Regions, Status}
 use Rattle.question_text.specs.declared.question.SlotRange.{SlotRange}
 use Rattle.question_text.specs.declared.question.SlotRange.TheVariants.{AllSlots, FromSlot}
 use Rattle.question_text.specs.declared.question.Span.{Span}
@@ -128,11 +128,11 @@ span_of (w ∷ v ∷ ws) =
     option_and_then (λ after. option_and_then (λ to. at_end (Between after to) ws) (place_of_word v))
     (place_of_word w)
 
--- the class, the slot and the steps that the words name
-abbrev pub slot_and_span : List (List ℕ) → Option ((ℕ × ℕ) × Span)
-slot_and_span ws =
+-- the two numbers and the steps that the words name
+abbrev pub numbers_and_span : List (List ℕ) → Option ((ℕ × ℕ) × Span)
+numbers_and_span ws =
     option_and_then
-    (λ k. option_and_then (λ s. option_map (λ span. ((k.0, s.0), span)) (span_of s.1)) (next_number k.1))
+    (λ n. option_and_then (λ k. option_map (λ span. ((n.0, k.0), span)) (span_of k.1)) (next_number n.1))
     (next_number ws)
 
 -- the place and the number that the words name; without a place it is that of the current state
@@ -185,13 +185,22 @@ holding k s v =
     option_and_then (λ slot. option_map (λ x. Holding slot.0 slot.1 x) (value_of_word v))
     (class_and_slot k s)
 
--- these objects, and the places, that the words name
-abbrev pub holding_and_span : List (List ℕ) → Option (Wanted × Span)
-holding_and_span [] = None
-holding_and_span (k ∷ []) = None
-holding_and_span (k ∷ s ∷ []) = None
-holding_and_span (k ∷ s ∷ v ∷ ws) =
+-- ---- the words after `when`
+
+-- the objects of class k with a value in a slot, and the places, that the words name
+abbrev pub holding_and_span : List ℕ → List (List ℕ) → Option (Wanted × Span)
+holding_and_span k [] = None
+holding_and_span k (s ∷ []) = None
+holding_and_span k (s ∷ v ∷ ws) =
     option_and_then (λ wanted. option_map (λ span. (wanted, span)) (span_of ws)) (holding k s v)
+
+-- after `count` a class and how many objects it has at least, else a class, a slot and a value; and the places
+abbrev pub when_of : List (List ℕ) → Option Question
+when_of [] = None
+when_of (w ∷ ws) =
+    if bytes_eq w (codes "count")
+    then option_map (λ a. WhenCount a.0.0 a.0.1 a.1) (numbers_and_span ws)
+    else option_map (λ a. When a.0 a.1) (holding_and_span w ws)
 
 -- ---- the words after `dominators`
 
@@ -263,8 +272,8 @@ past_rules =
     ∷ (codes "history", λ ws. option_map (λ a. History a.0 a.1) (place_and_number ws))
     ∷ (codes "wrote", λ ws. option_map (λ a. Wrote a.0 a.1.0 a.1.1) (place_and_slot ws))
     ∷ (codes "watch", λ ws. option_map (λ a. Watch a.0.0 a.0.1 a.1) (slot_and_place ws))
-    ∷ (codes "writes", λ ws. option_map (λ a. Writes a.0.0 a.0.1 a.1) (slot_and_span ws))
-    ∷ (codes "when", λ ws. option_map (λ a. When a.0 a.1) (holding_and_span ws))
+    ∷ (codes "writes", λ ws. option_map (λ a. Writes a.0.0 a.0.1 a.1) (numbers_and_span ws))
+    ∷ (codes "when", λ ws. when_of ws)
     ∷ []
 
 -- all questions: those about a state first

@@ -13,7 +13,7 @@ use crate::comment::unasked_answer;
 use crate::cycle_list::cycles_answer;
 use crate::diff::diff_text;
 use crate::dominator_rows::{dominated_answer, dominator_answer, dominators_answer};
-use crate::first_place::when_answer;
+use crate::first_place::{when_answer, when_count_answer};
 use crate::growth::growth_answer;
 use crate::histogram::{garbage_text, histogram_text, retained_answer};
 use crate::history::history_answer;
@@ -151,6 +151,9 @@ pub fn answer(alloc: Global, machine: &Machine, acts: Option<u64>, question: Que
             line_answer(writes_answer(alloc, machine, class, slot, span))
         }
         Question::When { wanted, span } => when_answer(alloc, machine, wanted, span),
+        Question::WhenCount { class, least, span } => {
+            when_count_answer(alloc, machine, class, least, span)
+        }
         Question::Dropped { to, id } => dropped_answer(alloc, machine, to, id),
         Question::Life(id) => line_answer(life_answer(alloc, machine, id)),
         Question::History { to, count } => line_answer(history_answer(alloc, machine, to, count)),

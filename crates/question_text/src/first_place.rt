@@ -1,10 +1,11 @@
-//! The answer of `when`.
+//! The answers of `when`.
 ghost use Rattle.std.specs.Prelude.{◌≡◌, ◌≤◌, ◌+◌, IfOk};
 ghost use Rattle.heap_class.specs.declared.Refusal.TheVariants.{NoMemory};
-ghost use Rattle.heap_questions.specs.FirstPlaces.{HasWanted};
+ghost use Rattle.heap_questions.specs.declared.wanted.Wanted.TheVariants.{OfClass};
+ghost use Rattle.heap_questions.specs.FirstPlaces.{HasMany, HasWanted};
 ghost use Rattle.heap_trail.specs.Trail.{retained};
 ghost use Rattle.session_text.specs.Replies.{line_answer_text};
-ghost use Rattle.question_text.specs.FirstPlaces.{IsFirstIn, IsWhenText, first_or_refused, states_from, states_of};
+ghost use Rattle.question_text.specs.FirstPlaces.{IsFirstIn, IsWhenCountText, IsWhenText, first_or_refused, states_from, states_of};
 
 use crate::at::steps_ago;
 use crate::class_slot::wanted_refusal;
@@ -12,7 +13,7 @@ use crate::place::place_line;
 use crate::question::Span;
 use crate::rows::{Unanswered, reason_line};
 use heap_class::Refusal;
-use heap_questions::{Wanted, first_wanted};
+use heap_questions::{Wanted, first_many, first_wanted};
 use heap_trail::Machine;
 use session_text::LineAnswer;
 use std::alloc::Global;
@@ -81,6 +82,37 @@ fn first_line(first: Result<Option<u64>, Refusal>) -> LineAnswer
     match first {
         Ok(Some(place)) => place_line(place),
         Ok(None) => LineAnswer::Line(b"ok never\n"),
+        Err(refusal) => reason_line(Unanswered::Refused(refusal)),
+    }
+}
+
+// Returns the answer of `when` about how many objects a class has: the first place at which it has at least `least` live ones.
+// Refused with NoClass if the class isn't there, with NotRetained if the state at a place isn't retained, and with NoMemory if an
+// allocation fails. Costs what `first_many` does.
+pub(crate) fn when_count_answer(
+    alloc: Global,
+    machine: &Machine,
+    class: u64,
+    least: u64,
+    span: Span,
+) -> LineAnswer
+    ensures { IsWhenCountText class least span machine.now.trail (line_answer_text result) }
+{
+    let classes = machine.world().classes().all();
+    match wanted_refusal(&classes, Wanted::OfClass(class)) {
+        Some(refusal) => reason_line(Unanswered::Refused(refusal)),
+        None => count_line(alloc, machine, class, least, span),
+    }
+}
+
+// Returns the line of the first of some places at which a class has at least `least` live objects. Refused with NotRetained or
+// NoMemory.
+fn count_line(alloc: Global, machine: &Machine, class: u64, least: u64, span: Span) -> LineAnswer
+    ensures { IsFirstIn (HasMany least (OfClass class)) machine.now.trail
+        (states_of span machine.now.trail) (line_answer_text result) }
+{
+    match states_of(machine, span) {
+        Ok((ago, count)) => first_line(first_many(alloc, machine, ago, count, class, least)),
         Err(refusal) => reason_line(Unanswered::Refused(refusal)),
     }
 }

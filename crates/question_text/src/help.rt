@@ -34,7 +34,7 @@ pub fn question_help(word: &[u8]) -> Option<&'static [u8]>
         b"wrote" => Some(b"row wrote [@PLACE] ID SLOT\nrow wrote 0x10000020 next\nok\n"),
         b"watch" => Some(b"row watch ID SLOT [@PLACE]\nrow watch 0x10000020 next\nok\n"),
         b"writes" => Some(b"row writes CLASS SLOT [@PLACE [@PLACE]]\nrow writes server/Entry state\nok\n"),
-        b"when" => Some(b"row when CLASS SLOT VALUE [@PLACE [@PLACE]]\nrow when server/Entry state 42\nok\n"),
+        b"when" => Some(b"row when (CLASS SLOT VALUE | count CLASS N) [@PLACE [@PLACE]]\nrow when server/Entry state 42\nok\n"),
         b"dropped" => Some(b"row dropped [@PLACE] ID\nrow dropped 0x10000020\nok\n"),
         b"life" => Some(b"row life ID\nrow life 0x10000020\nok\n"),
         b"history" => Some(b"row history [@PLACE] N\nrow history 10\nok\n"),
@@ -101,7 +101,7 @@ pub fn all_help() -> &'static [u8]
         row rewind N|@P\nrow open AT\nrow piece PIN\nrow dump PIN\nrow close PIN\nrow end\n\
         row histogram [AT]\nrow garbage [AT]\nrow growth AT [AT]\nrow kept AT [AT]\nrow diff AT [AT]\nrow registers [AT]\nrow classes [AT]\n\
         row objects [AT] [CLASS [SLOT VALUE]]\nrow values [AT] CLASS SLOT\nrow referrers [AT] ID\nrow path [AT] ID\nrow retained [AT] ID\nrow dominators [AT] [ID] [N]\nrow dominator [AT] ID\nrow show [AT] ID [FROM N]\n\
-        row born [@PLACE] ID\nrow wrote [@PLACE] ID SLOT\nrow watch ID SLOT [@PLACE]\nrow writes CLASS SLOT [@PLACE [@PLACE]]\nrow when CLASS SLOT VALUE [@PLACE [@PLACE]]\nrow dropped [@PLACE] ID\nrow life ID\nrow history [@PLACE] N\nrow cycles\nrow pins\nrow cells\nrow regions\nrow status\nrow collect\n\
+        row born [@PLACE] ID\nrow wrote [@PLACE] ID SLOT\nrow watch ID SLOT [@PLACE]\nrow writes CLASS SLOT [@PLACE [@PLACE]]\nrow when (CLASS SLOT VALUE | count CLASS N) [@PLACE [@PLACE]]\nrow dropped [@PLACE] ID\nrow life ID\nrow history [@PLACE] N\nrow cycles\nrow pins\nrow cells\nrow regions\nrow status\nrow collect\n\
         row help WORD\nok\n"
 }
 

@@ -1,14 +1,14 @@
 //! Lines of questions that name classes and fields.
 ghost use Rattle.std.specs.Prelude.{◌≡◌};
 ghost use Rattle.session_grammar.specs.Grammar.{words_of_line};
-ghost use Rattle.question_text.specs.NamedLines.{holding_named, named_question_of_words, objects_named, question_in, values_named, watch_named, when_named, write_named, writes_named};
+ghost use Rattle.question_text.specs.NamedLines.{count_and_span_named, holding_and_span_named, holding_named, named_question_of_words, objects_named, question_in, values_named, watch_named, when_named, write_named, writes_named};
 
 use crate::name_words::{class_and_slot_named, class_of, id_and_slot_named};
 use crate::question::{At, Question, Span, at_of, place_of_word, question_of, span_of, value_of};
 use heap_class::FirstClasses;
 use heap_questions::Wanted;
 use heap_world::World;
-use session_grammar::command::at_end;
+use session_grammar::command::{at_end, next_number};
 use session_grammar::words::{Words, is_word};
 
 // Returns the question that a line asks: if it asks none by numbers alone, the one that it asks by names of the current state's
@@ -51,8 +51,7 @@ fn named_question(world: &World, line: &[u8]) -> Option<Question>
         return Some(Question::Writes { class, slot, span });
     }
     if is_word(keyword, b"when") {
-        let (wanted, span) = when_named(&classes, words)?;
-        return Some(Question::When { wanted, span });
+        return when_named(&classes, words);
     }
     None
 }
@@ -146,12 +145,38 @@ fn writes_named(classes: &FirstClasses<'_>, mut words: Words) -> Option<((u64, u
     Some((slot, span_of(words)?))
 }
 
-// Returns the objects of a class with a value in a slot, and the places, that the words name.
+// Reads the words behind `when`: behind `count` a class and a number of objects, else a class, a slot and a value; and the places.
 #[tactic(auto, unfolding(crate::specs::NamedLines::when_named))]
-fn when_named(classes: &FirstClasses<'_>, mut words: Words) -> Option<(Wanted, Span)>
+fn when_named(classes: &FirstClasses<'_>, mut words: Words) -> Option<Question>
     ensures { result ≡ when_named classes.now (words_of_line words.entry) }
 {
-    let class = words.next_word()?;
+    let word = words.next_word()?;
+    if is_word(word, b"count") {
+        let ((class, least), span) = count_and_span_named(classes, words)?;
+        return Some(Question::WhenCount { class, least, span });
+    }
+    let (wanted, span) = holding_and_span_named(classes, word, words)?;
+    Some(Question::When { wanted, span })
+}
+
+// Returns the class, the number of objects, and the places, that the words name.
+fn count_and_span_named(classes: &FirstClasses<'_>, mut words: Words) -> Option<((u64, u64), Span)>
+    ensures { result ≡ count_and_span_named classes.now (words_of_line words.entry) }
+{
+    let word = words.next_word()?;
+    let class = class_of(classes, word)?;
+    let least = next_number(&mut words)?;
+    Some(((class, least), span_of(words)?))
+}
+
+// Returns the objects of a class with a value in a slot, and the places, that the words name.
+fn holding_and_span_named(
+    classes: &FirstClasses<'_>,
+    class: &[u8],
+    mut words: Words,
+) -> Option<(Wanted, Span)>
+    ensures { result ≡ holding_and_span_named classes.now class.now (words_of_line words.entry) }
+{
     let slot = words.next_word()?;
     let value = words.next_word()?;
     let wanted = holding_named(classes, class, slot, value)?;

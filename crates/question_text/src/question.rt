@@ -2,7 +2,7 @@
 ghost use Rattle.std.specs.Prelude.{◌≡◌, drop};
 ghost use Rattle.session_grammar.specs.Grammar.{words_of_line};
 ghost use Rattle.question_text.specs.Ids.{id_of_word};
-ghost use Rattle.question_text.specs.Questions.{at_and_optional, at_and_slot, at_and_wanted, at_of_word, at_or_number, class_and_slot, dominated_by, dominators_by, dominators_of, holding, holding_and_span, id_and_number, one_id, optional_at, optional_at_and_id, past_rules, place_and_id, place_and_number, place_and_slot, place_of, place_of_word, question_by, question_of, question_rules, show_by, show_of, slot_and_place, slot_and_span, slots_named, span_of, value_of_word, wanted_of};
+ghost use Rattle.question_text.specs.Questions.{at_and_optional, at_and_slot, at_and_wanted, at_of_word, at_or_number, class_and_slot, dominated_by, dominators_by, dominators_of, holding, holding_and_span, id_and_number, numbers_and_span, one_id, optional_at, optional_at_and_id, past_rules, place_and_id, place_and_number, place_and_slot, place_of, place_of_word, question_by, question_of, question_rules, show_by, show_of, slot_and_place, slots_named, span_of, value_of_word, wanted_of, when_of};
 
 use crate::id::id_of;
 use heap_questions::Wanted;
@@ -84,6 +84,8 @@ pub enum Question {
     Writes { class: u64, slot: u64, span: Span },
     /// The first of some retained places at which an object is wanted: those that the steps led to, and the one before them.
     When { wanted: Wanted, span: Span },
+    /// The first of these places at which a class has at least so many live objects.
+    WhenCount { class: u64, least: u64, span: Span },
     /// When registers lost an object, by the steps up to a place, or to the current state.
     Dropped { to: Option<u64>, id: u64 },
     /// What the retained steps did to each object that had an id.
@@ -397,12 +399,11 @@ fn past_question(keyword: &[u8], words: Words) -> Option<Question>
         return Some(Question::Watch { id, slot, to });
     }
     if is_word(keyword, b"writes") {
-        let ((class, slot), span) = slot_and_span(words)?;
+        let ((class, slot), span) = numbers_and_span(words)?;
         return Some(Question::Writes { class, slot, span });
     }
     if is_word(keyword, b"when") {
-        let (wanted, span) = holding_and_span(words)?;
-        return Some(Question::When { wanted, span });
+        return when_of(words);
     }
     None
 }
@@ -468,20 +469,32 @@ fn slot_and_place(mut words: Words) -> Option<((u64, u64), Option<u64>)>
     at_end((id_and_number(word, second)?, place_of_word(third)?), words)
 }
 
-// Returns the class and the slot, and the steps, that the words name.
-fn slot_and_span(mut words: Words) -> Option<((u64, u64), Span)>
-    ensures { result ≡ slot_and_span (words_of_line words.entry) }
+// Returns the two numbers, and the steps, that the words name.
+fn numbers_and_span(mut words: Words) -> Option<((u64, u64), Span)>
+    ensures { result ≡ numbers_and_span (words_of_line words.entry) }
 {
-    let class = next_number(&mut words)?;
-    let slot = next_number(&mut words)?;
-    Some(((class, slot), span_of(words)?))
+    let first = next_number(&mut words)?;
+    let second = next_number(&mut words)?;
+    Some(((first, second), span_of(words)?))
+}
+
+// Reads the words behind `when`: behind `count` a class and a number of objects, else a class, a slot and a value; and the places.
+fn when_of(mut words: Words) -> Option<Question>
+    ensures { result ≡ when_of (words_of_line words.entry) }
+{
+    let word = words.next_word()?;
+    if is_word(word, b"count") {
+        let ((class, least), span) = numbers_and_span(words)?;
+        return Some(Question::WhenCount { class, least, span });
+    }
+    let (wanted, span) = holding_and_span(word, words)?;
+    Some(Question::When { wanted, span })
 }
 
 // Returns the objects of a class with a value in a slot, and the places, that the words name.
-fn holding_and_span(mut words: Words) -> Option<(Wanted, Span)>
-    ensures { result ≡ holding_and_span (words_of_line words.entry) }
+fn holding_and_span(class: &[u8], mut words: Words) -> Option<(Wanted, Span)>
+    ensures { result ≡ holding_and_span class.now (words_of_line words.entry) }
 {
-    let class = words.next_word()?;
     let slot = words.next_word()?;
     let value = words.next_word()?;
     let wanted = holding(class, slot, value)?;

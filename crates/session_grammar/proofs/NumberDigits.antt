@@ -7,7 +7,7 @@ use Rattle.std.proofs.lemmas.List.{length-drop, length-take-le, get_or-drop, get
 use Rattle.std.proofs.lemmas.List.Elements.{All-nil, All-cons, All-append}
 use Rattle.std.specs.Char.{is_ascii_digit}
 use Rattle.session_grammar.specs.Lines.{NoLf}
-use Rattle.session_grammar.specs.Reads.{with_digit, IsReadTo, IsReadIn, IsNumberAt, IsNumberThen, AreDigits, four_value, BeginsWithEight}
+use Rattle.session_grammar.specs.Reads.{with_digit, IsReadTo, IsReadIn, IsNumberAt, IsNumberThen, IsDigit, AreDigits, four_value, BeginsWithEight}
 use Rattle.session_grammar.proofs.Firsts.{drop_at_is_byte_and_rest}
 use Rattle.session_grammar.proofs.Numbers.{nothing_read_yet_is_zero, one_digit_read_further, digit_more_stays_below_limit, read_to_space, read_to_end, number_and_words_behind_it}
 
@@ -100,8 +100,8 @@ read_in_four t at i size value a b c d e lt few ia ib ic id are h =
     subst (λ v. IsReadTill t at v (size + 4)) (value_with_four_digits_more value (a - 48) (b - 48) (c - 48) (d - 48)) (subst (λ n. IsReadTill t at (v3 * 10 + (d - 48)) n) more four)
 
 -- eight more digits
-pub read_in_eight : (t r : List ℕ) (at size value eight : ℕ) → at + size ≤ length t → size ≤ 8 → r ≡ take (length t - (at + size)) (drop (at + size) t) → BeginsWithEight r eight → IsReadIn t at value size → value < 10 ^ size
-    → IsReadIn t at (value * 100000000 + eight) (size + 8) × (value * 100000000 + eight < 10 ^ (size + 8)) × (value * 100000000 + eight < 2 ^ 64)
+pub read_in_eight : (t r : List ℕ) (at size value eight : ℕ) → at + size ≤ length t → size ≤ 11 → r ≡ take (length t - (at + size)) (drop (at + size) t) → BeginsWithEight r eight → IsReadIn t at value size → value < 10 ^ size
+    → IsReadTill t at (value * 100000000 + eight) (size + 8)
 read_in_eight t r at size value eight le few is h read less =
     let i = at + size in
     let rest : r ≡ drop i t = is ∙ take_all (length t - i) (drop i t) (omega (arith, length-drop i t)) in
@@ -113,15 +113,20 @@ read_in_eight t r at size value eight le few is h read less =
     let back = read_in_four t at (i + 4) (size + 4) (value * 10000 + four_value (get_or r 0 0) (get_or r 1 0) (get_or r 2 0) (get_or r 3 0)) (get_or r 4 0) (get_or r 5 0) (get_or r 6 0) (get_or r 7 0) (omega arith) (omega (arith, long)) (omega (arith, few)) (get 4) (next 1 5 (omega arith)) (next 2 6 (omega arith)) (next 3 7 (omega arith)) h.2 front in
     let more : size + 4 + 4 ≡ size + 8 = omega arith in
     let whole = value_with_eight_digits_more value (four_value (get_or r 0 0) (get_or r 1 0) (get_or r 2 0) (get_or r 3 0)) (four_value (get_or r 4 0) (get_or r 5 0) (get_or r 6 0) (get_or r 7 0)) ∙ ap (λ v. value * 100000000 + v) (sym h.3) in
-    let done = subst (λ v. IsReadTill t at v (size + 8)) whole (subst (λ n. IsReadTill t at ((value * 10000 + four_value (get_or r 0 0) (get_or r 1 0) (get_or r 2 0) (get_or r 3 0)) * 10000 + four_value (get_or r 4 0) (get_or r 5 0) (get_or r 6 0) (get_or r 7 0)) n) more back) in
-    let fits = digit_more_stays_below_limit (size + 8) (value * 100000000 + eight) 0 (omega (arith, few)) done.1 (omega arith) in
-    (done.0, done.1, omega (arith, fits.0))
+    subst (λ v. IsReadTill t at v (size + 8)) whole (subst (λ n. IsReadTill t at ((value * 10000 + four_value (get_or r 0 0) (get_or r 1 0) (get_or r 2 0) (get_or r 3 0)) * 10000 + four_value (get_or r 4 0) (get_or r 5 0) (get_or r 6 0) (get_or r 7 0)) n) more back)
   where
     start : (i : ℕ) → i ≡ i + 0
     start i = omega arith
 
     shift : (i k m : ℕ) → k + 4 ≡ m → i + 4 + k ≡ i + m
     shift i k m e = omega (arith, e)
+
+-- the first eight digits
+pub read_in_first_eight : (t : List ℕ) (at eight : ℕ) → at ≤ length t → BeginsWithEight (take (length t - at) (drop at t)) eight → IsReadTill t at eight 8
+read_in_first_eight t at eight le h =
+    let same : at ≡ at + 0 = omega arith in
+    let value : 0 * 100000000 + eight ≡ eight = omega arith in
+    subst (λ v. IsReadTill t at v 8) value (read_in_eight t (take (length t - at) (drop at t)) at 0 0 eight (omega (arith, le)) (omega arith) (ap (λ n. take (length t - n) (drop n t)) same) h (read_in_none t at le) (omega arith))
 
 accepted_digit_not_below_zero : (value b whole : ℕ) → Some whole ≡ with_digit value b → 48 ≤ b
 accepted_digit_not_below_zero value b whole h = go (is_ascii_digit b) refl (h)
@@ -133,6 +138,13 @@ accepted_digit_not_below_zero value b whole h = go (is_ascii_digit b) refl (h)
 -- the 20th
 pub read_in_last : (t : List ℕ) (at size value whole : ℕ) → at + size < length t → size ≤ 19 → Some whole ≡ with_digit value (get_or t (at + size) 0) → IsReadIn t at value size → IsReadIn t at whole (size + 1)
 read_in_last t at size value whole lt few digit h = read_in_more t at size value whole lt (omega (arith, few)) digit (accepted_digit_not_below_zero value (get_or t (at + size) 0) whole digit) h
+
+-- one digit more, after the first few
+pub read_in_digit : (t : List ℕ) (at size value digit : ℕ) → at + size < length t → size < 19 → IsDigit (get_or t (at + size) 0) digit → IsReadTill t at value size → IsReadTill t at (value * 10 + digit) (size + 1)
+read_in_digit t at size value digit lt few is h =
+    let b = get_or t (at + size) 0 in
+    let both = and_parts _ _ is.0 in
+    subst (λ d. IsReadTill t at (value * 10 + d) (size + 1)) (sym is.1) (read_in_sure t at size value lt few (leb-true 48 b both.0) (leb-true b 57 both.1) h.0 h.1)
 
 -- one digit
 pub read_in_one : (t : List ℕ) (at : ℕ) → at < length t → is_ascii_digit (get_or t at 0) ≡ true → IsReadIn t at (get_or t at 0 - 48) 1

@@ -114,13 +114,40 @@ pub fn number_then(text: &[u8], at: usize, ender: u8) -> (u64, usize)
     (value, end)
 }
 
-// Returns the value of the digits at a place, and their number: at most 20, with a value below 2^64.
+// Returns the value of the digits at a place, and their number: at most 20, with a value below 2^64. Eight digits are read at
+// once, then up to three one by one, which are all that a number below 2^32 has, and then eight more.
 fn digits_in(text: &[u8], at: usize) -> (u64, usize)
     requires { at ≤ length text.now }
     ensures { IsReadIn text.now at result.0 result.1 }
 {
+    if text.len() - at < DIGIT_LIMIT {
+        return digits_on(text, at, 0, 0);
+    }
+    let Some(eight) = first_eight(&text[at..]) else {
+        return digits_on(text, at, 0, 0);
+    };
+    let (value, size) = three_on(text, at, eight);
+    if size < 11 {
+        return (value, size);
+    }
+    let Some(eight) = first_eight(&text[at + 11..]) else {
+        return digits_on(text, at, value, 11);
+    };
+    let value = value * 100_000_000 + eight;
+    match with_digit(value, text[at + SURE_DIGITS]) {
+        Some(whole) => (whole, DIGIT_LIMIT),
+        None => (value, SURE_DIGITS),
+    }
+}
+
+// Returns the value of the digits at a place, and their number, given those of the first few.
+#[inline(never)]
+fn digits_on(text: &[u8], at: usize, value: u64, size: usize) -> (u64, usize)
+    requires { IsReadIn text.now at value size × (value < 10 ^ size) × (size ≤ 11) }
+    ensures { IsReadIn text.now at result.0 result.1 }
+{
     let sure = (text.len() - at).min(SURE_DIGITS);
-    let (mut value, mut size) = eights_in(text, at);
+    let (mut value, mut size) = (value, size);
     while size < sure {
         let b = u64::from(text[at + size]);
         if b < 48 || b > 57 {
@@ -138,24 +165,36 @@ fn digits_in(text: &[u8], at: usize) -> (u64, usize)
     }
 }
 
-// Returns the value of the digits at a place, read eight by eight while there are as many, and their number: 0, 8 or 16.
+// Returns the value of the digits at a place, and their number, given the value of the first eight: up to three more are read.
 #[inline(always)]
-fn eights_in(text: &[u8], at: usize) -> (u64, usize)
-    requires within { at ≤ length text.now }
-    ensures read { IsReadIn text.now at result.0 result.1 }
-    ensures most { result.1 ≤ 16 }
-    ensures small { result.0 < 10 ^ result.1 }
+fn three_on(text: &[u8], at: usize, value: u64) -> (u64, usize)
+    requires { (at + 11 ≤ length text.now) × IsReadIn text.now at value 8 × (value < 10 ^ 8) }
+    ensures { IsReadIn text.now at result.0 result.1 × (result.0 < 10 ^ result.1)
+        × (result.1 ≤ 11) }
 {
-    let mut value: u64 = 0;
-    let mut size = 0;
-    while size <= 8 {
-        let Some(eight) = first_eight(&text[at + size..]) else {
-            return (value, size);
-        };
-        value = value * 100_000_000 + eight;
-        size += 8;
+    let Some(digit) = digit_of(text[at + 8]) else {
+        return (value, 8);
+    };
+    let value = value * 10 + digit;
+    let Some(digit) = digit_of(text[at + 9]) else {
+        return (value, 9);
+    };
+    let value = value * 10 + digit;
+    let Some(digit) = digit_of(text[at + 10]) else {
+        return (value, 10);
+    };
+    (value * 10 + digit, 11)
+}
+
+// Returns the digit that a byte is, or None if it is no digit.
+#[inline(always)]
+fn digit_of(b: u8) -> Option<u64>
+    ensures { IfSome result (λ d. IsDigit b d) }
+{
+    if !b.is_ascii_digit() {
+        return None;
     }
-    (value, size)
+    Some(u64::from(b - b'0'))
 }
 
 // Returns the value of the eight digits that a text begins with, or None if it begins with fewer.

@@ -58,13 +58,6 @@ fn writes_wanted(pin: &Pin, world: &World, left: &Undo, wanted: Wanted) -> bool
     }
 }
 
-// Returns the place of a state if something holds of it, else that of a newer one.
-fn place_if(holds: bool, place: u64, newer: Option<u64>) -> Option<u64>
-    ensures { result ≡ place_if holds place newer }
-{
-    if holds { Some(place) } else { newer }
-}
-
 // Tells whether a view has an object that is wanted. Reads each object at most once. Takes no memory.
 fn has_wanted<V: View>(view: &V, wanted: Wanted) -> bool
     ensures { IsTrue result ↔ HasWanted wanted (V.image view.now) }
@@ -80,4 +73,11 @@ fn has_wanted<V: View>(view: &V, wanted: Wanted) -> bool
         here = view.next(at);
     }
     false
+}
+
+// Returns the place of a state if something holds of it, else that of a newer one.
+pub(crate) fn place_if(holds: bool, place: u64, newer: Option<u64>) -> Option<u64>
+    ensures { result ≡ place_if holds place newer }
+{
+    if holds { Some(place) } else { newer }
 }

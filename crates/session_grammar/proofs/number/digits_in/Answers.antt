@@ -1,35 +1,35 @@
-use Rattle.std.proofs.Common.{◌+◌, ◌-◌, ◌<◌, ◌≤◌, arith, get_or, length}
-use Rattle.session_grammar.proofs.Numbers.{digit_more_stays_below_limit, short_value_times_ten_fits}
-use Rattle.session_grammar.proofs.NumberDigits.{read_in_sure, read_in_last}
+use Rattle.std.proofs.Common.{◌≡◌, ◌+◌, ◌-◌, ◌*◌, ◌<◌, arith, length, refl, subst, take, drop}
+use Rattle.session_grammar.proofs.NumberDigits.{IsReadTill, read_in_none, read_in_first_eight, read_in_eight, read_in_last}
 use Rattle.session_grammar.proofs.number.digits_in.Goals as goal
 
-pub loop-size-init : goal.loop-size-init
-loop-size-init c = (c.eights_in-value.ensures.read, grind (arith, c.eights_in-value.ensures.read.0, c.eights_in-value.ensures.most, c.min-sure.ensures), c.eights_in-value.ensures.small)
+pub digits_on-requires : goal.digits_on-requires
+digits_on-requires c = (read_in_none c.args.text.now c.args.at c.requires, omega arith, omega arith)
 
-pub overflow_mul-value : goal.overflow_mul-value
-overflow_mul-value c = omega (arith, short_value_times_ten_fits c.loop-size.size c.loop-size.value (grind (arith, c.loop-size-test.true, c.min-sure.ensures)) c.loop-size.invariant.2)
+pub digits_on-requires-in_default : goal.digits_on-requires-in_default
+digits_on-requires-in_default c = (read_in_none c.args.text.now c.args.at c.requires, omega arith, omega arith)
 
-pub returns-in-Some : goal.returns-in-Some
-returns-in-Some c =
-    let i = c.loop-size.invariant in
-    let lt : c.args.at + c.loop-size.size < length c.args.text.now = grind (arith, i.0.0, c.if-at-size.false) in
-    let most : c.loop-size.size ≤ 19 = grind (arith, i.1, c.min-sure.ensures) in
-    read_in_last c.args.text.now c.args.at c.loop-size.size c.loop-size.value c.in-Some.whole lt most c.in-Some.ensures i.0
+pub three_on-value-requires : goal.three_on-value-requires
+three_on-value-requires c =
+    let first = read_in_first_eight c.args.text.now c.args.at c.in-Some.eight c.requires c.in-Some.ensures in
+    (omega (arith, c.requires, c.if-text-at-lt-DIGIT_LIMIT.false), first.0, first.1)
 
-pub overflow_add-value : goal.overflow_add-value
-overflow_add-value c =
-    let i = c.loop-size.invariant in
-    let few : c.loop-size.size < 19 = grind (arith, c.loop-size-test.true, c.min-sure.ensures) in
-    let high : c.from-b.result ≤ 57 = omega (arith, c.if-b-gt57.false) in
-    let sure = digit_more_stays_below_limit c.loop-size.size c.loop-size.value (c.from-b.result - 48) few i.2 (omega (arith, high)) in
-    omega (arith, sure.0)
+pub returns-in-Some-with_digit : goal.returns-in-Some-with_digit
+returns-in-Some-with_digit c =
+    let t = c.args.text.now in
+    let at = c.args.at in
+    let value = c.three_on-value.result.0 in
+    let long : at + 19 < length t = omega (arith, c.requires, c.if-text-at-lt-DIGIT_LIMIT.false) in
+    let is : c.three_on-value.result.1 ≡ 11 = omega (arith, c.three_on-value.ensures.2, c.if-size-lt11.false) in
+    let till : IsReadTill t at value 11 = subst (λ n. IsReadTill t at value n) is (c.three_on-value.ensures.0, c.three_on-value.ensures.1) in
+    let sure = read_in_eight t (take (length t - (at + 11)) (drop (at + 11) t)) at 11 value c.in-Some-first_eight.eight (omega (arith, long)) (omega arith) refl c.in-Some-first_eight.ensures till.0 till.1 in
+    read_in_last t at 19 (value * 100000000 + c.in-Some-first_eight.eight) c.in-Some-with_digit.whole long (omega arith) c.in-Some-with_digit.ensures sure.0
 
-pub loop-size-preserved : goal.loop-size-preserved
-loop-size-preserved c =
-    let i = c.loop-size.invariant in
-    let lt : c.args.at + c.loop-size.size < length c.args.text.now = grind (arith, c.loop-size-test.true, c.min-sure.ensures) in
-    let few : c.loop-size.size < 19 = grind (arith, c.loop-size-test.true, c.min-sure.ensures) in
-    let low : 48 ≤ get_or c.args.text.now (c.args.at + c.loop-size.size) 0 = omega (arith, c.if-b-lt48.false, c.from-b.ensures) in
-    let high : get_or c.args.text.now (c.args.at + c.loop-size.size) 0 ≤ 57 = omega (arith, c.if-b-gt57.false, c.from-b.ensures) in
-    let more = read_in_sure c.args.text.now c.args.at c.loop-size.size c.loop-size.value lt few low high i.0 i.2 in
-    rw c.from-b.ensures (more.0, omega (arith, c.loop-size-test.true), more.1)
+pub returns-in-None : goal.returns-in-None
+returns-in-None c =
+    let t = c.args.text.now in
+    let at = c.args.at in
+    let value = c.three_on-value.result.0 in
+    let is : c.three_on-value.result.1 ≡ 11 = omega (arith, c.three_on-value.ensures.2, c.if-size-lt11.false) in
+    let till : IsReadTill t at value 11 = subst (λ n. IsReadTill t at value n) is (c.three_on-value.ensures.0, c.three_on-value.ensures.1) in
+    let sure = read_in_eight t (take (length t - (at + 11)) (drop (at + 11) t)) at 11 value c.in-Some-first_eight.eight (omega (arith, c.requires, c.if-text-at-lt-DIGIT_LIMIT.false)) (omega arith) refl c.in-Some-first_eight.ensures till.0 till.1 in
+    sure.0

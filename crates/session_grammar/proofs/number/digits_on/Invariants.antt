@@ -1,6 +1,6 @@
 use Rattle.std.proofs.Common.{◌^◌, ◌-◌, ◌≤◌, ◌<◌}
 use Rattle.session_grammar.specs.Reads.{IsReadIn}
-use Rattle.session_grammar.proofs.number.digits_in.Given as goal
+use Rattle.session_grammar.proofs.number.digits_on.Given as goal
 
 abbrev pub invariant-loop-size : goal.invariant-loop-size
 invariant-loop-size l = IsReadIn l.text l.at l.value l.size × (l.size ≤ l.sure) × (l.value < 10 ^ l.size)

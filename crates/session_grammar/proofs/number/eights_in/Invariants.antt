@@ -1,9 +1,0 @@
-use Rattle.std.proofs.Common.{◌^◌, ◌-◌, ◌≤◌, ◌<◌}
-use Rattle.session_grammar.specs.Reads.{IsReadIn}
-use Rattle.session_grammar.proofs.number.eights_in.Given as goal
-
-abbrev pub invariant-loop-size : goal.invariant-loop-size
-invariant-loop-size l = IsReadIn l.text l.at l.value l.size × (l.size ≤ 16) × (l.value < 10 ^ l.size)
-
-abbrev pub decreases-loop-size : goal.decreases-loop-size
-decreases-loop-size l = 9 - l.size

@@ -2,7 +2,7 @@
 
 // The policy of the page.
 pub(crate) const POLICY: &str =
-    "default-src 'none'; script-src 'sha256-23QoXPplB4rtFI4PQJkFGsnqxvW7XSSzqmQ99oNgtWY='; style-src 'sha256-rwptB6V3j7C9RUYU45deu6HKvCkiW6lYFRte+Sm6CU4='; img-src data:; connect-src 'self'; base-uri 'none'; form-action 'none'; frame-ancestors 'none'";
+    "default-src 'none'; script-src 'sha256-Bue9Vg3tSI4RrvnyGymz7tmc4yiFjL51tI80d+yYcyk='; style-src 'sha256-rwptB6V3j7C9RUYU45deu6HKvCkiW6lYFRte+Sm6CU4='; img-src data:; connect-src 'self'; base-uri 'none'; form-action 'none'; frame-ancestors 'none'";
 
 // The page.
 pub(crate) const PAGE: &[u8] = b"<!doctype html>\n\
@@ -2349,7 +2349,7 @@ pub(crate) const PAGE: &[u8] = b"<!doctype html>\n\
     \x20\x20\x20\x20keepFocus(box, () => box.replaceChildren(hint, sub, list));\n\
     \x20\x20\x20\x20$(\"inspnote\").textContent = S.at === null ? \"\" : `as it was at @${num(S.at)}`;\n\
     \x20\x20}\n\
-    \x20\x20// Asks for slots of an object: for so many from one on.\n\
+    \x20\x20// Asks for `count` slots of an object, from slot `first` on.\n\
     \x20\x20async function fieldsOf(id, first, count) {\n\
     \x20\x20\x20\x20const r = await ask(`show ${atWord()} ${id} ${first} ${count}`);\n\
     \x20\x20\x20\x20return r.ok ? {\n\

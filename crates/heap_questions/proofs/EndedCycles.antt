@@ -109,7 +109,7 @@ made_at : (p : Option (ObjRef × Bool)) (k s old : ℕ) (at : ObjRef) (fresh : B
 made_at None k s old at fresh e = e
 made_at (Some p) k s old at fresh e = e
 
--- an event made an object of so many slots at the place
+-- an event made an object with a number of slots at the place
 abbrev pub IsMadeAt : Event → HeapState → ObjRef → Bool → Type 0
 IsMadeAt e w at fresh = (m : ℕ) × (r : ℕ) × (n : ℕ) × (kind : ObjKind) × (state_after e w ≡ after_new m r kind n w) × (new_place n (pool_of w) ≡ Some (at, fresh))
 

@@ -43,7 +43,7 @@ abbrev pub wide_limits : Limits
 wide_limits =
     record { classes = widest_classes; pins = pin_limit; elements = array_limit; area = 0 }
 
--- what a heap with these limits allows if it has an area of so many regions
+-- what a heap with these limits allows if its area has this number of regions
 abbrev pub with_area : ℕ → Limits → Limits
 with_area regions limits = record limits { elements = large_array_limit; area = regions }
 

@@ -428,7 +428,7 @@ fn area_after(origin: Origin, wide: bool, regions: u64) -> u64
     }
 }
 
-// Returns the largest number of regions of the area of a heap with so many regions that is wide, or isn't.
+// Returns the largest number of regions of the area of a heap with these regions that is wide, or isn't.
 fn most_area(wide: bool, regions: u64) -> u64
     ensures { result ≡ most_area wide regions }
 {

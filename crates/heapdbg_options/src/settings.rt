@@ -165,7 +165,7 @@ fn config_of_numbers(settings: &Settings) -> Option<Config>
     }
 }
 
-// Returns the same configuration with an area of so many regions, or with none if they are 0.
+// Returns the same configuration with an area of `area` regions, or with no area if that is 0.
 fn with_area(config: Config, area: u64) -> Config
     requires { area < config.regions }
     ensures { result ≡ record config { limits = limits_with area config.limits } }

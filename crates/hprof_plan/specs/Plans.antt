@@ -59,7 +59,7 @@ planned_classes limits f =
     and_arrays limits (and_statics limits f of_dump (planned_statics limits f)) root_names
 
 -- the plan of the session of a dump: its classes, of which a heap with these limits refuses none, their lines, and the kinds of
--- fields and the static fields that they stand for. The 10 classes of roots come last. Arrays have at most so many elements
+-- fields and the static fields that they stand for. The 10 classes of roots come last. Arrays have at most `most` elements
 pub record IsPlan (limits : ClassLimits) (most : ℕ) (f : Found) (p : Plan) : Type 0 where
   pub classes : p.classes ≡ planned_classes limits f
   pub kinds : kinds_told p.kinds.entries ≡ map (λ id. (id, kinds_in f id)) (planned_ids limits f)

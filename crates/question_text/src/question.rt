@@ -84,7 +84,7 @@ pub enum Question {
     Writes { class: u64, slot: u64, span: Span },
     /// The first of some retained places at which an object is wanted: those that the steps led to, and the one before them.
     When { wanted: Wanted, span: Span },
-    /// The first of these places at which a class has at least so many live objects.
+    /// The first of these places at which a class has at least `least` live objects.
     WhenCount { class: u64, least: u64, span: Span },
     /// When registers lost an object, by the steps up to a place, or to the current state.
     Dropped { to: Option<u64>, id: u64 },

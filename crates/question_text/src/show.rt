@@ -144,8 +144,8 @@ fn push_fields(
     Ok(())
 }
 
-// Appends the rows of the slots from `first` on that are own fields of a class, but for so many of these fields. Fails if an
-// allocation fails.
+// Appends the rows of the slots from `first` on that are own fields of a class, without the first `skipped` of these fields. Fails
+// if an allocation fails.
 fn push_own(
     text: &mut Vec<u8>,
     classes: &FirstClasses<'_>,

@@ -165,38 +165,6 @@ fn digits_on(text: &[u8], at: usize, value: u64, size: usize) -> (u64, usize)
     }
 }
 
-// Returns the value of the digits at a place, and their number, given the value of the first eight: up to three more are read.
-#[inline(always)]
-fn three_on(text: &[u8], at: usize, value: u64) -> (u64, usize)
-    requires { (at + 11 ≤ length text.now) × IsReadIn text.now at value 8 × (value < 10 ^ 8) }
-    ensures { IsReadIn text.now at result.0 result.1 × (result.0 < 10 ^ result.1)
-        × (result.1 ≤ 11) }
-{
-    let Some(digit) = digit_of(text[at + 8]) else {
-        return (value, 8);
-    };
-    let value = value * 10 + digit;
-    let Some(digit) = digit_of(text[at + 9]) else {
-        return (value, 9);
-    };
-    let value = value * 10 + digit;
-    let Some(digit) = digit_of(text[at + 10]) else {
-        return (value, 10);
-    };
-    (value * 10 + digit, 11)
-}
-
-// Returns the digit that a byte is, or None if it is no digit.
-#[inline(always)]
-fn digit_of(b: u8) -> Option<u64>
-    ensures { IfSome result (λ d. IsDigit b d) }
-{
-    if !b.is_ascii_digit() {
-        return None;
-    }
-    Some(u64::from(b - b'0'))
-}
-
 // Returns the value of the eight digits that a text begins with, or None if it begins with fewer.
 #[inline(always)]
 fn first_eight(text: &[u8]) -> Option<u64>
@@ -230,6 +198,38 @@ fn four_value(a: u8, b: u8, c: u8, d: u8) -> u64
 {
     let front = u64::from(a - b'0') * 10 + u64::from(b - b'0');
     (front * 10 + u64::from(c - b'0')) * 10 + u64::from(d - b'0')
+}
+
+// Returns the value of the digits at a place, and their number, given the value of the first eight: up to three more are read.
+#[inline(always)]
+fn three_on(text: &[u8], at: usize, value: u64) -> (u64, usize)
+    requires { (at + 11 ≤ length text.now) × IsReadIn text.now at value 8 × (value < 10 ^ 8) }
+    ensures { IsReadIn text.now at result.0 result.1 × (result.0 < 10 ^ result.1)
+        × (result.1 ≤ 11) }
+{
+    let Some(digit) = digit_of(text[at + 8]) else {
+        return (value, 8);
+    };
+    let value = value * 10 + digit;
+    let Some(digit) = digit_of(text[at + 9]) else {
+        return (value, 9);
+    };
+    let value = value * 10 + digit;
+    let Some(digit) = digit_of(text[at + 10]) else {
+        return (value, 10);
+    };
+    (value * 10 + digit, 11)
+}
+
+// Returns the digit that a byte is, or None if it is no digit.
+#[inline(always)]
+fn digit_of(b: u8) -> Option<u64>
+    ensures { IfSome result (λ d. IsDigit b d) }
+{
+    if !b.is_ascii_digit() {
+        return None;
+    }
+    Some(u64::from(b - b'0'))
 }
 
 /// Returns the number that the text's first word holds, or None from a `-`, and its size. Returns None if it holds neither.

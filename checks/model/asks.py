@@ -42,6 +42,7 @@ WANTED = {
     "regions": ("ok",),
     "status": ("ok",),
     "collect": ("ok",),
+    "rewind": ("ok place", "no 24"),
     "help": ("ok", "bad"),
     "comment": ("nothing",),
 }
@@ -155,6 +156,7 @@ class AskingDraw(Draw):
         word = self.lots.pick([*QUESTIONS, b"show", b"watch", b"writes", b"help"])
         draws = {"a": self.moment, "i": self.identifier, "c": self.asked_class, "s": self.asked_slot, "v": self.held_word}
         draws["p"] = lambda: self.lots.pick(["-", self.retained_place()])
+        draws["r"] = lambda: self.retained_place() if self.lots.once_in(5) else f"@{max(0, self.machine.place + 1 - self.lots.below(5))}"
         draws["n"] = lambda: self.lots.near(self.lots.below(8), 70)
         draws["#"] = lambda: "count"
         if word == b"show":

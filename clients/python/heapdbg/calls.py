@@ -163,9 +163,9 @@ class Calls:
 
     # ---- the past and dumps
 
-    def rewind(self, count: int) -> int:
-        """Undoes the last steps, and returns the place."""
-        return self.send(f"rewind {count}", number)
+    def rewind(self, by: Union[int, Place]) -> int:
+        """Undoes this many of the last steps, or those since a place, and returns the place."""
+        return self.send(f"rewind {by}", number)
 
     def open(self, place: Union[Place, Now, int, None] = None) -> PinAt:
         """Opens a pin on a retained place, or on the current state, and returns a `PinAt`."""

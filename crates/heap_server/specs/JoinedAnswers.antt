@@ -1,19 +1,27 @@
--- What a seat at a shared heap answers a question, and `collect`.
-use Rattle.std.specs.Prelude.{◌≡◌, ℕ, ◌+◌, ◌++◌, Bool, true, false, List, length, map, Result, Some}
+-- What a seat at a shared heap answers a question, `collect` and `rewind @P`.
+use Rattle.std.specs.Prelude.{◌≡◌, ℕ, ◌+◌, ◌++◌, List, length, map, Option, Some, None, Result, Ok, Err}
 use Rattle.std.specs.List.{enumerate_from}
 use mathlib.Core.List.{IsPrefix}
 use Rattle.heap_lock.specs.Refusal.{Refusal}
 use Rattle.heap_lock.specs.HeapLimits.{HeapSettings}
 use Rattle.heap_lock.specs.Calls.{Call, IsHeapLedger, call_of}
 use Rattle.heap_lock.specs.Machine.{Machine}
-use Rattle.heap_lock.specs.Action.TheVariants.{Step}
+use Rattle.heap_lock.specs.Action.TheVariants.{Step, Rewind}
 use Rattle.heap_lock.specs.Entry.{Entry}
 use Rattle.heap_lock.specs.Outcome.TheVariants.{Answered}
 use Rattle.heap_lock.specs.History.{entry, entries_by}
-use Rattle.heap_lock.specs.LockStates.{SeatModel, IsNoEntry, LockState}
+use Rattle.heap_lock.specs.Receipt.{Receipt}
+use Rattle.heap_lock.specs.Reply.{Reply}
+use Rattle.heap_lock.specs.Reply.TheVariants.{Refused}
+use Rattle.heap_lock.specs.LockStates.{SeatModel, IsHeldAct, IsNoEntry, LockState}
+use Rattle.session_text.specs.Replies.{reply_text}
 use Rattle.question_text.specs.Answers.{IsAnswerOfLine}
 use Rattle.question_text.specs.declared.cycle.CycleCounts.{CycleCounts}
 use Rattle.question_text.specs.Collections.{IsCycleAnswer, RunsCycle, TakenStep}
+use Rattle.question_text.specs.Histories.{steps_ago}
+use Rattle.question_text.specs.declared.order.Order.{Order}
+use Rattle.question_text.specs.declared.order.Order.TheVariants.{Collect, RewindTo}
+use Rattle.heap_server.specs.JoinedActs.{IsReply}
 
 -- the calls lead to this machine and are those of this chronicle, which has of the seat just its share
 abbrev pub IsHeapOfSeat : HeapSettings → Machine → List Entry → List Call → SeatModel → Type 0
@@ -65,10 +73,36 @@ IsCollectionOfHeap config s seen text s' seen' =
     (cycle : Result CycleCounts Refusal) × RunsCycleOfHeap config s seen cycle s' seen'
     × IsCycleAnswer cycle text
 
--- the answer of a line that the grammar of sessions doesn't know: `collect` acts, and no other
-abbrev pub AnswersForSeat : HeapSettings → Bool → List ℕ → SeatModel → List Call → List ℕ → SeatModel
+-- a rewind of this many steps by one who holds the lock, as an act of the seat, and its reply; or a refusal, and nothing is done
+abbrev pub RewindsHeld : HeapSettings → Result ℕ Refusal → LockState → SeatModel → Reply → LockState
+    → SeatModel
+    → Type 0
+RewindsHeld config (Ok n) k s r k' s' =
+    (done : Result Receipt Refusal) × IsHeldAct config (Rewind n) k s done k' s' × IsReply done r
+RewindsHeld config (Err e) k s r k' s' = (r ≡ Refused e) × (k' ≡ k) × (s' ≡ s)
+
+-- the answer of a rewind to the state at a place: of as many steps as lead from it to the heap's current state, under one lock,
+-- from when the witness had seen all calls so far, to when it has seen all again
+pub record RewindsHeapTo (config : HeapSettings) (place : ℕ) (s : SeatModel) (seen : List Call)
+    (text : List ℕ) (s' : SeatModel) (seen' : List Call) : Type 0 where
+  pub first : LockState
+  pub reply : Reply
+  pub last : LockState
+  pub begins : IsPrefix seen first.ledger
+  pub from : IsHeapOfSeat config first.machine first.chronicle first.ledger s
+  pub rewinds : RewindsHeld config (steps_ago (Some place) first.machine.trail) first s reply last s'
+  pub to : IsHeapOfSeat config last.machine last.chronicle last.ledger s'
+  pub sees : seen' ≡ last.ledger
+  pub says : text ≡ reply_text reply
+
+-- the answer of a line that the grammar of sessions doesn't know: `collect` and `rewind @P` act, and no other
+abbrev pub AnswersForSeat : HeapSettings → Option Order → List ℕ → SeatModel → List Call → List ℕ
+    → SeatModel
     → List Call
     → Type 0
-AnswersForSeat config true l s seen text s' seen' = IsCollectionOfHeap config s seen text s' seen'
-AnswersForSeat config false l s seen text s' seen' =
+AnswersForSeat config (Some Collect) l s seen text s' seen' =
+    IsCollectionOfHeap config s seen text s' seen'
+AnswersForSeat config (Some (RewindTo place)) l s seen text s' seen' =
+    RewindsHeapTo config place s seen text s' seen'
+AnswersForSeat config None l s seen text s' seen' =
     IsAnswerOfHeap config s seen l text seen' × (s' ≡ s)

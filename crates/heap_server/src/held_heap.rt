@@ -1,11 +1,13 @@
-//! A shared heap as its holder has it, on which `collect` takes its steps.
-ghost use Rattle.std.specs.Prelude.{◌≡◌};
+//! A shared heap as its holder has it, on which `collect` takes its steps and `rewind @P` undoes some.
+ghost use Rattle.std.specs.Prelude.{◌≡◌, Some};
 ghost use Rattle.session_text.specs.Replies.{line_answer_text};
 ghost use Rattle.heap_lock.specs.declared.role.Role.TheVariants.{User};
-ghost use Rattle.heap_server.specs.JoinedAnswers.{IsCollectionOfHeap, RunsCycleOfHeap};
+ghost use Rattle.heap_server.specs.JoinedAnswers.{IsCollectionOfHeap, RewindsHeapTo, RewindsHeld, RunsCycleOfHeap};
+ghost use Rattle.question_text.specs.Histories.{steps_ago};
 
-use heap_lock::{Answer, Event, Heap, Kept, Machine, Outcome, Refusal, Seat, Witness};
-use question_text::{CycleCounts, Steps, collect_answer, run_cycle};
+use crate::joined::reply_to_act;
+use heap_lock::{Answer, Event, Heap, Kept, Machine, Outcome, Refusal, Reply, Seat, Witness};
+use question_text::{CycleCounts, Steps, collect_answer, run_cycle, steps_ago};
 use session_text::LineAnswer;
 use std::alloc::Global;
 
@@ -81,4 +83,38 @@ fn cycle_from<L: Heap>(
     held.kept.agree(seat);
     held.kept.show(witness);
     cycle
+}
+
+// Rewinds the heap to the state at a place for one who holds the lock, as an act of the seat, and returns its answer. The witness
+// sees the calls before it, and then that of the rewind.
+pub(crate) fn rewind_held_to<L: Heap>(
+    kept: &mut Kept<L>,
+    seat: &mut Seat<L>,
+    witness: &mut Witness<L>,
+    place: u64,
+) -> LineAnswer
+    requires { seat.old.role ≡ User }
+    ensures rewinds { RewindsHeapTo L.config place seat.old witness.old (line_answer_text result)
+        seat.new witness.new }
+    ensures role { seat.new.role ≡ User }
+{
+    kept.agree(seat);
+    kept.show(witness);
+    let reply = reply_to_rewind(kept, seat, place);
+    kept.agree(seat);
+    kept.show(witness);
+    LineAnswer::Known(reply)
+}
+
+// Rewinds the heap to the state at a place for one who holds the lock, and returns the reply.
+fn reply_to_rewind<L: Heap>(kept: &mut Kept<L>, seat: &mut Seat<L>, place: u64) -> Reply
+    requires { seat.old.role ≡ User }
+    ensures rewinds { RewindsHeld L.config (steps_ago (Some place) kept.old.machine.trail) kept.old
+        seat.old result kept.new seat.new }
+    ensures role { seat.new.role ≡ User }
+{
+    match steps_ago(kept.machine(), Some(place)) {
+        Ok(count) => reply_to_act(kept.rewind_held(seat, count)),
+        Err(refusal) => Reply::Refused(refusal),
+    }
 }

@@ -1,9 +1,9 @@
 -- A session with questions, and the lines of it that are no questions.
-use Rattle.std.proofs.Common.{◌≡◌, ◌∙◌, ℕ, Bool, true, false, cond, List, [], ◌∷◌, ◌++◌, refl, sym, ap, subst, true≢false}
+use Rattle.std.proofs.Common.{◌≡◌, ◌∙◌, ℕ, Bool, true, false, cond, Option, Some, None, List, [], ◌∷◌, ◌++◌, refl, sym, ap, subst, true≢false}
 use Rattle.std.specs.Prelude.{◌||◌, Result, Ok, Err}
 use Rattle.std.proofs.lemmas.List.{append-nil}
 use Rattle.heap_class.specs.declared.Refusal.{Refusal}
-use Rattle.heap_trail.specs.declared.Action.TheVariants.{Step}
+use Rattle.heap_trail.specs.declared.Action.TheVariants.{Step, Rewind}
 use Rattle.heap_trail.specs.declared.Reply.TheVariants.{Answered}
 use Rattle.heap_trail.specs.Machine.{Machine}
 use Rattle.heap_trail.proofs.ActionLists.{driven_more, driven_none}
@@ -21,8 +21,12 @@ use Rattle.session_text.proofs.SessionCommands.{acts, parts, talk}
 use Rattle.session_text.proofs.SessionLines.{nothing_left_is_eof, answered_lines_pass}
 use Rattle.question_text.specs.declared.asking.Asking.{Asking}
 use Rattle.question_text.specs.declared.cycle.CycleCounts.{CycleCounts}
-use Rattle.question_text.specs.Collections.{AreNext, NoneDenies, RunsCycle, TakenStep, ends_cycle, is_collect}
-use Rattle.question_text.specs.Sessions.{AnswersEach, AnswersLine, AskingActs, AskingAnswers, IsDriven, IsSessionOf, AnswersAlone, NoneCollects, is_known, known_of, lines_of, texts_of}
+use Rattle.question_text.specs.Collections.{AreNext, NoneDenies, RunsCycle, TakenStep, ends_cycle}
+use Rattle.question_text.specs.declared.order.Order.{Order}
+use Rattle.question_text.specs.declared.order.Order.TheVariants.{Collect, RewindTo}
+use Rattle.question_text.specs.Histories.{steps_ago}
+use Rattle.question_text.specs.Orders.{RewindsBy, order_of}
+use Rattle.question_text.specs.Sessions.{AnswersEach, AnswersLine, AskingActs, AskingAnswers, IsDriven, IsSessionOf, AnswersAlone, NoneOrders, is_known, known_of, lines_of, texts_of}
 
 -- ---- the text of each line
 
@@ -46,9 +50,9 @@ unknown_is _ h = absurd (true≢false h)
 -- ---- without questions
 
 -- a question leaves the machine and its pins
-question_leaves : (b : Bool) (l text : List ℕ) (c d : Local) → b ≡ false → AnswersLine b l c text d → d ≡ c
-question_leaves true l text c d e h = absurd (true≢false e)
-question_leaves false l text c d e h = h.1
+question_leaves : (order : Option Order) (l text : List ℕ) (c d : Local) → order ≡ None → AnswersLine order l c text d → d ≡ c
+question_leaves (Some o) l text c d e h = absurd (cc e)
+question_leaves None l text c d e h = h.1
 
 abbrev pub Says : ℕ → AnswerRelation Asking
 Says time = AnswersCommand AskingActs AskingAnswers time
@@ -56,7 +60,7 @@ Says time = AnswersCommand AskingActs AskingAnswers time
 abbrev pub Alone : ℕ → AnswerRelation Local
 Alone time = AnswersCommand acts all_bad time
 
-one_known : (limits : SessionLimits) (time : ℕ) (a : List ℕ × List ℕ) (c between : Asking) (d : Local) (known : List (List ℕ × List ℕ)) → IsLine limits a.0 → is_collect (without_cr a.0) ≡ false → Says time a.0 c a.1 between
+one_known : (limits : SessionLimits) (time : ℕ) (a : List ℕ × List ℕ) (c between : Asking) (d : Local) (known : List (List ℕ × List ℕ)) → IsLine limits a.0 → order_of (without_cr a.0) ≡ None → Says time a.0 c a.1 between
     → AnswersAll limits (Alone time) (lines_of known) between.local (texts_of known) d → (b : Bool) → is_known (command_of a.0) ≡ b
     → AnswersAll limits (Alone time) (lines_of (cond b (a ∷ known) known)) c.local (texts_of (cond b (a ∷ known) known)) d
 one_known limits time a c between d known line none says rest true h = (
@@ -70,10 +74,10 @@ one_known limits time a c between d known line none says rest true h = (
 )
 one_known limits time a c between d known line none says rest false h =
     let unknown : AskingAnswers (without_cr a.0) c a.1 between = subst (λ (k : Command). AnswersTo AskingActs (AskingAnswers (without_cr a.0)) time k c a.1 between) (unknown_is (command_of a.0) h) says in
-    let same = question_leaves (is_collect (without_cr a.0)) (without_cr a.0) a.1 c.local between.local none unknown.0 in
+    let same = question_leaves (order_of (without_cr a.0)) (without_cr a.0) a.1 c.local between.local none unknown.0 in
     subst (λ (x : Local). AnswersAll limits (Alone time) (lines_of known) x (texts_of known) d) same rest
 
-known_answers : (limits : SessionLimits) (time : ℕ) (answered : List (List ℕ × List ℕ)) (c d : Asking) → NoneCollects (lines_of answered) → AnswersEach limits (Says time) answered c d
+known_answers : (limits : SessionLimits) (time : ℕ) (answered : List (List ℕ × List ℕ)) (c d : Asking) → NoneOrders (lines_of answered) → AnswersEach limits (Says time) answered c d
     → AnswersAll limits (Alone time) (lines_of (known_of answered)) c.local (texts_of (known_of answered)) d.local
 known_answers limits time [] c d none t = (refl, ap (λ (x : Asking). x.local) t)
 known_answers limits time (a ∷ answered) c d none t =
@@ -90,10 +94,10 @@ session_alone limits time answered c d t =
       ap (λ (bytes : List ℕ). talked limits time Over (parts bytes) (talk c.machine (g.found ++ []) [])) (sym all) ∙ g.so Over [] [] [] ∙ nothing_left_is_eof limits time (talk d.machine [] (texts_of answered)),
     )
 
-pub left_out : (limits : SessionLimits) (time : ℕ) (lines : List (List ℕ)) (text : List ℕ) (c d : Asking) → NoneCollects lines → AnswersAll limits (Says time) lines c text d → AnswersAlone limits time c.local.machine lines text d.local.machine
+pub left_out : (limits : SessionLimits) (time : ℕ) (lines : List (List ℕ)) (text : List ℕ) (c d : Asking) → NoneOrders lines → AnswersAll limits (Says time) lines c text d → AnswersAlone limits time c.local.machine lines text d.local.machine
 left_out limits time lines text c d none t =
     let e = each_of limits (Says time) lines c text d t in
-    let few = subst NoneCollects (sym e.1) none in
+    let few = subst NoneOrders (sym e.1) none in
     (e.0, e.1, e.2, session_alone limits time (known_of e.0) c.local d.local (known_answers limits time e.0 c d few e.3))
 
 -- ---- a list of actions
@@ -107,16 +111,21 @@ cycle_driven : (m x n : Machine) (steps : List TakenStep) (cycle : Result CycleC
 cycle_driven m x n steps (Ok c) h d = driven_on m false true x n steps h.0.0 d
 cycle_driven m x n steps (Err e) h d = driven_on m false h.0 x n steps h.1 d
 
-unknown_driven : (m : Machine) (b : Bool) (l text : List ℕ) (c d : Local) → AnswersLine b l c text d → IsDriven m c.machine → IsDriven m d.machine
-unknown_driven m true l text c d h p = cycle_driven m c.machine d.machine h.0.0 h.0.1 h.0.2 p
-unknown_driven m false l text c d h p = subst (λ (x : Local). IsDriven m x.machine) (sym h.1) p
+rewind_driven : (m x n : Machine) (back : Result ℕ Refusal) (text : List ℕ) → RewindsBy back x text n → IsDriven m x → IsDriven m n
+rewind_driven m x n (Ok count) text h d = (d.0 ++ Rewind count ∷ [], d.1 ++ h.0 ∷ [], driven_more m d.0 d.1 x n (Rewind count) h.0 d.2 h.1)
+rewind_driven m x n (Err e) text h d = subst (IsDriven m) (sym h.1) d
+
+unknown_driven : (m : Machine) (order : Option Order) (l text : List ℕ) (c d : Local) → AnswersLine order l c text d → IsDriven m c.machine → IsDriven m d.machine
+unknown_driven m (Some Collect) l text c d h p = cycle_driven m c.machine d.machine h.0.0 h.0.1 h.0.2 p
+unknown_driven m (Some (RewindTo place)) l text c d h p = rewind_driven m c.machine d.machine (steps_ago (Some place) c.machine.trail) text h.0 p
+unknown_driven m None l text c d h p = subst (λ (x : Local). IsDriven m x.machine) (sym h.1) p
 
 line_driven : (m : Machine) (time : ℕ) (l : List ℕ) (c : Asking) (text : List ℕ) (d : Asking) (b : Bool) → is_known (command_of l) ≡ b → Says time l c text d → IsDriven m c.local.machine → IsDriven m d.local.machine
 line_driven m time l c text d true h says p =
     answer_keeps AskingActs (AskingAnswers (without_cr l)) (λ (x : Asking). IsDriven m x.local.machine) (λ x a r y e q. (q.0 ++ a ∷ [], q.1 ++ r ∷ [], driven_more m q.0 q.1 x.local.machine y.local.machine a r q.2 e.0)) time (command_of l) c text d (known_is (command_of l) h) says p
 line_driven m time l c text d false h says p =
     let unknown : AskingAnswers (without_cr l) c text d = subst (λ (k : Command). AnswersTo AskingActs (AskingAnswers (without_cr l)) time k c text d) (unknown_is (command_of l) h) says in
-    unknown_driven m (is_collect (without_cr l)) (without_cr l) text c.local d.local unknown.0 p
+    unknown_driven m (order_of (without_cr l)) (without_cr l) text c.local d.local unknown.0 p
 
 lines_driven : (limits : SessionLimits) (m : Machine) (time : ℕ) (lines : List (List ℕ)) (c : Asking) (text : List ℕ) (d : Asking) → AnswersAll limits (Says time) lines c text d → IsDriven m c.local.machine → IsDriven m d.local.machine
 lines_driven limits m time [] c text d t p = subst (λ (x : Asking). IsDriven m x.local.machine) (sym t.1) p

@@ -1,7 +1,6 @@
 -- The steps of `collect`, and its answer.
 use Rattle.std.specs.Prelude.{◌≡◌, ◌⊎◌, ◌≤◌, ◌<◌, ℕ, ◌+◌, ◌*◌, Bool, true, false, not, ◌||◌, nat_lt, Result, Ok, Err, Option, Some, None, List, [], ◌∷◌, ◌++◌, codes, drop, length, slice_get, sum_by, if◌then◌else◌}
 use Rattle.std.specs.Option.{option_map_or}
-use Rattle.std.specs.Str.{bytes_eq}
 use Rattle.heap_class.specs.declared.Refusal.{Refusal}
 use Rattle.heap_class.specs.declared.Refusal.TheVariants.{NoMemory, ChronicleFull}
 use Rattle.heap_mark.specs.MarkSteps.{is_marking, pending_regions}
@@ -16,21 +15,10 @@ use Rattle.heap_trail.specs.Limits.{last_place}
 use Rattle.heap_trail.specs.Machine.{Machine, MayFail, MayReply}
 use Rattle.heap_world.specs.RegionLimits.{cell_limit, region_limit}
 use Rattle.heap_world.specs.State.{HeapState}
-use Rattle.session_grammar.specs.Grammar.{words_of_line}
 use Rattle.session_text.specs.Replies.{and_number, line}
 use Rattle.question_text.specs.declared.cycle.CycleCounts.{CycleCounts}
 use Rattle.question_text.specs.Moments.{refused_text}
 use Rattle.question_text.specs.Places.{IsTextOrNoMemory}
-
--- these are the one word `collect`
-abbrev pub is_collect_words : List (List ℕ) → Bool
-is_collect_words [] = false
-is_collect_words (w ∷ []) = bytes_eq w (codes "collect")
-is_collect_words (w ∷ v ∷ ws) = false
-
--- the line is `collect`
-abbrev pub is_collect : List ℕ → Bool
-is_collect l = is_collect_words (words_of_line l)
 
 -- ---- the next step
 

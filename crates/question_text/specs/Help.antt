@@ -60,7 +60,7 @@ act_forms =
     ∷ form_of (codes "drain") (codes "drain") (codes "drain")
     ∷ form_of (codes "finish") (codes "finish") (codes "finish")
     ∷ form_of (codes "sweep") (codes "sweep REGION") (codes "sweep 0")
-    ∷ form_of (codes "rewind") (codes "rewind N") (codes "rewind 1")
+    ∷ form_of (codes "rewind") (codes "rewind N|@P") (codes "rewind 1")
     ∷ form_of (codes "open") (codes "open AT") (codes "open -")
     ∷ form_of (codes "piece") (codes "piece PIN") (codes "piece 1")
     ∷ form_of (codes "dump") (codes "dump PIN") (codes "dump 1")

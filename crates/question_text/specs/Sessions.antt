@@ -1,5 +1,5 @@
 -- Sessions with questions.
-use Rattle.std.specs.Prelude.{◌≡◌, ℕ, Bool, true, false, List, [], ◌∷◌, None, filter, flat_map, map}
+use Rattle.std.specs.Prelude.{◌≡◌, ℕ, Bool, true, false, List, [], ◌∷◌, Option, Some, None, filter, flat_map, map}
 use Rattle.std.specs.List.{AllByRecursion}
 use Rattle.heap_trail.specs.declared.Action.{Action}
 use Rattle.heap_trail.specs.declared.Reply.{Reply}
@@ -21,23 +21,28 @@ use Rattle.session_text.specs.declared.commands.Local.{Local}
 use Rattle.session_text.specs.declared.limits.SessionLimits.{SessionLimits}
 use Rattle.question_text.specs.declared.asking.Asking.{Asking}
 use Rattle.question_text.specs.Answers.{IsAnswerOfLine}
-use Rattle.question_text.specs.Collections.{Collects, NoneDenies, is_collect}
+use Rattle.question_text.specs.Collections.{Collects, NoneDenies}
+use Rattle.question_text.specs.declared.order.Order.{Order}
+use Rattle.question_text.specs.declared.order.Order.TheVariants.{Collect, RewindTo}
+use Rattle.question_text.specs.Orders.{RewindsTo, order_of}
 
 -- an action, as without questions
 abbrev pub AskingActs : Acts Asking
 AskingActs c a r d =
     LocalActs c.local.machine a r d.local.machine × (d.local.first_pin ≡ c.local.first_pin)
 
--- `collect` takes steps, and no other line changes anything
-abbrev pub AnswersLine : Bool → AnswerRelation Local
-AnswersLine true l c text d =
+-- `collect` takes steps, `rewind @P` undoes some, and no other line changes anything
+abbrev pub AnswersLine : Option Order → AnswerRelation Local
+AnswersLine (Some Collect) l c text d =
     Collects NoneDenies c.machine text d.machine × (d.first_pin ≡ c.first_pin)
-AnswersLine false l c text d = IsAnswerOfLine l c.machine None text × (d ≡ c)
+AnswersLine (Some (RewindTo place)) l c text d =
+    RewindsTo place c.machine text d.machine × (d.first_pin ≡ c.first_pin)
+AnswersLine None l c text d = IsAnswerOfLine l c.machine None text × (d ≡ c)
 
 -- the answer of a line that the grammar of sessions doesn't know
 abbrev pub AskingAnswers : AnswerRelation Asking
 AskingAnswers l c text d =
-    AnswersLine (is_collect l) l c.local text d.local × (d.watch ≡ c.watch)
+    AnswersLine (order_of l) l c.local text d.local × (d.watch ≡ c.watch)
 
 -- a session with questions, which may have at most this
 abbrev pub ServesAsking : SessionLimits → ℕ → Incoming → Incoming → Asking → Outgoing → Asking
@@ -72,9 +77,9 @@ texts_of answered = flat_map (λ a. a.1) answered
 abbrev pub known_of : List (List ℕ × List ℕ) → List (List ℕ × List ℕ)
 known_of answered = filter (λ a. is_known (command_of a.0)) answered
 
--- no line is `collect`
-abbrev pub NoneCollects : List (List ℕ) → Type 0
-NoneCollects lines = AllByRecursion (λ (l : List ℕ). is_collect (without_cr l) ≡ false) lines
+-- no line is `collect` or `rewind @P`
+abbrev pub NoneOrders : List (List ℕ) → Type 0
+NoneOrders lines = AllByRecursion (λ (l : List ℕ). order_of (without_cr l) ≡ None) lines
 
 -- these lines alone, under some marks of failed allocations, make the session that leads from m to n and has these answers
 abbrev pub IsSessionOf : SessionLimits → ℕ → Machine → List (List ℕ × List ℕ) → Machine → Type 0

@@ -1,17 +1,18 @@
 //! Commands with questions.
 ghost use Rattle.session_text.specs.Replies.{line_answer_text};
-ghost use Rattle.question_text.specs.Collections.{is_collect};
+ghost use Rattle.question_text.specs.Orders.{order_of};
 ghost use Rattle.question_text.specs.Sessions.{AnswersLine};
 
 use crate::answers::answer_line;
-use crate::cycle::{collect, is_collect};
+use crate::cycle::collect;
+use crate::order::{Order, order_of, rewind_to};
 use crate::watch::Watch;
 use heap_step::IntoEvent;
 use heap_trail::{Action, Reply};
 use session_text::{Commands, LineAnswer, Local};
 use std::alloc::Global;
 
-/// A private machine that acts on the lines of a session, and answers questions about itself, `collect` and `help`.
+/// A private machine that acts on the lines of a session, and answers questions about itself, `collect`, `rewind @P` and `help`.
 #[derive(Drop)]
 pub struct Asking<'a> {
     /// The machine.
@@ -22,13 +23,14 @@ pub struct Asking<'a> {
 
 // Answers a line that the grammar of sessions doesn't know.
 fn answer_question(alloc: Global, local: &mut Local, line: &[u8]) -> LineAnswer
-    ensures { AnswersLine (is_collect line.now) line.now local.old (line_answer_text result)
+    ensures { AnswersLine (order_of line.now) line.now local.old (line_answer_text result)
         local.new }
 {
-    if is_collect(line) {
-        return collect(alloc, &mut local.machine);
+    match order_of(line) {
+        Some(Order::Collect) => collect(alloc, &mut local.machine),
+        Some(Order::RewindTo(place)) => rewind_to(&mut local.machine, place),
+        None => answer_line(alloc, &local.machine, None, line),
     }
-    answer_line(alloc, &local.machine, None, line)
 }
 
 impl Commands for Asking<'_> {

@@ -21,9 +21,9 @@ pub(crate) enum Moment {
     Open(u64),
 }
 
-// Returns how many steps ago the state at a place was, or 0 if no place is given. Fails with NotRetained if it isn't retained.
+/// Returns how many steps ago the state at a place was, or 0 if no place is given. Fails with NotRetained if it isn't retained.
 #[tactic(auto, unfolding(crate::specs::Histories::steps_ago))]
-pub(crate) fn steps_ago(machine: &Machine, to: Option<u64>) -> Result<u64, Refusal>
+pub fn steps_ago(machine: &Machine, to: Option<u64>) -> Result<u64, Refusal>
     ensures steps { result ≡ steps_ago to machine.now.trail }
     ensures within { IfOk result (λ ago. ago ≤ retained machine.now.trail) }
 {

@@ -4,7 +4,7 @@ ghost use Rattle.heap_class.specs.declared.Refusal.TheVariants.{NoMemory};
 ghost use Rattle.heap_mark.specs.MarkSteps.{pending_regions};
 ghost use Rattle.session_text.specs.Replies.{line_answer_text};
 ghost use Rattle.question_text.specs.Appends.{ReturnsText};
-ghost use Rattle.question_text.specs.Collections.{AreSwept, AreTaken, Collects, IsCycleAnswer, IsSwept, LeadOn, MarksLead, MayStop, MovesOn, NoneDenies, RunsCycle, StopsAt, collected_text, condemned_of, is_collect, ends_cycle, next_mark, swept_of, waiting_region};
+ghost use Rattle.question_text.specs.Collections.{AreSwept, AreTaken, Collects, IsCycleAnswer, IsSwept, LeadOn, MarksLead, MayStop, MovesOn, NoneDenies, RunsCycle, StopsAt, collected_text, condemned_of, ends_cycle, next_mark, swept_of, waiting_region};
 
 use crate::rows::{push_number, push_words};
 use crate::steps::Steps;
@@ -13,23 +13,8 @@ use heap_mark::first_pending;
 use heap_step::{Answer, Event};
 use heap_trail::{Machine, Reply};
 use heap_world::World;
-use session_grammar::words::{Words, is_word};
 use session_text::LineAnswer;
 use std::alloc::Global;
-
-/// Tells whether a line is `collect`.
-pub fn is_collect(line: &[u8]) -> bool
-    ensures { result ≡ is_collect line.now }
-{
-    let mut words = Words::new(line);
-    let Some(word) = words.next_word() else {
-        return false;
-    };
-    if words.front().is_some() {
-        return false;
-    }
-    is_word(word, b"collect")
-}
 
 /// What a cycle did. Contracts see the record itself.
 #[derive(Clone, Copy)]

@@ -80,7 +80,7 @@ fn act_help(word: &[u8]) -> Option<&'static [u8]>
         b"drain" => Some(b"row drain\nrow drain\nok\n"),
         b"finish" => Some(b"row finish\nrow finish\nok\n"),
         b"sweep" => Some(b"row sweep REGION\nrow sweep 0\nok\n"),
-        b"rewind" => Some(b"row rewind N\nrow rewind 1\nok\n"),
+        b"rewind" => Some(b"row rewind N|@P\nrow rewind 1\nok\n"),
         b"open" => Some(b"row open AT\nrow open -\nok\n"),
         b"piece" => Some(b"row piece PIN\nrow piece 1\nok\n"),
         b"dump" => Some(b"row dump PIN\nrow dump 1\nok\n"),
@@ -98,7 +98,7 @@ pub fn all_help() -> &'static [u8]
     b"row class NAME SUPER FIELD ..\nrow array NAME\nrow new M R CLASS\nrow newarray M R CLASS LEN\nrow newprim M R KIND LEN\n\
         row load M TO FROM SLOT\nrow store M TARGET SLOT SOURCE\nrow put M TARGET SLOT VALUE\nrow move M TO FROM_M FROM\nrow clear M R\n\
         row snap\nrow mark\nrow drain\nrow finish\nrow sweep REGION\n\
-        row rewind N\nrow open AT\nrow piece PIN\nrow dump PIN\nrow close PIN\nrow end\n\
+        row rewind N|@P\nrow open AT\nrow piece PIN\nrow dump PIN\nrow close PIN\nrow end\n\
         row histogram [AT]\nrow garbage [AT]\nrow growth AT [AT]\nrow kept AT [AT]\nrow diff AT [AT]\nrow registers [AT]\nrow classes [AT]\n\
         row objects [AT] [CLASS [SLOT VALUE]]\nrow values [AT] CLASS SLOT\nrow referrers [AT] ID\nrow path [AT] ID\nrow retained [AT] ID\nrow dominators [AT] [ID] [N]\nrow dominator [AT] ID\nrow show [AT] ID [FROM N]\n\
         row born [@PLACE] ID\nrow wrote [@PLACE] ID SLOT\nrow watch ID SLOT [@PLACE]\nrow writes CLASS SLOT [@PLACE [@PLACE]]\nrow when (CLASS SLOT VALUE | count CLASS N) [@PLACE [@PLACE]]\nrow dropped [@PLACE] ID\nrow life ID\nrow history [@PLACE] N\nrow cycles\nrow pins\nrow cells\nrow regions\nrow status\nrow collect\n\

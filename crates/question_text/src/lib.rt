@@ -1,7 +1,7 @@
 //! Questions as lines, and their answers.
 #![tactic(auto)]
 
-ghost use Rattle.std.specs.Prelude.{◌≡◌, ℕ, List, [], Some, codes, false, true};
+ghost use Rattle.std.specs.Prelude.{◌≡◌, ℕ, List, [], Some, None, codes, true};
 ghost use Rattle.heap_trail.specs.Machine.{Machine};
 ghost use Rattle.heap_world.specs.State.{HeapState};
 ghost use Rattle.session_grammar.specs.declared.command.Command.TheVariants.{Bad};
@@ -9,12 +9,14 @@ ghost use Rattle.std.specs.List.{AllByRecursion};
 ghost use Rattle.session_grammar.specs.Grammar.{Rule, all_rules, command_of_text};
 ghost use Rattle.question_text.specs.declared.question.Question.{Question};
 ghost use Rattle.question_text.specs.declared.asking.Asking.{Asking};
-ghost use Rattle.question_text.specs.Collections.{IsWholeCycle, TakenStep, is_collect};
+ghost use Rattle.question_text.specs.Collections.{IsWholeCycle, TakenStep};
 ghost use Rattle.question_text.specs.Comments.{is_comment};
 ghost use Rattle.question_text.specs.Help.{HasForm, help_of};
 ghost use Rattle.question_text.specs.NamedLines.{question_in};
+ghost use Rattle.question_text.specs.declared.order.Order.{Order};
+ghost use Rattle.question_text.specs.Orders.{order_of};
 ghost use Rattle.question_text.specs.Questions.{QuestionRule, question_of, question_rules};
-ghost use Rattle.question_text.specs.Sessions.{AnswersAlone, AskingActs, AskingAnswers, IsDriven, NoneCollects};
+ghost use Rattle.question_text.specs.Sessions.{AnswersAlone, AskingActs, AskingAnswers, IsDriven, NoneOrders};
 ghost use Rattle.session_text.specs.Answers.{AnswersCommand};
 ghost use Rattle.session_text.specs.declared.limits.SessionLimits.{SessionLimits};
 ghost use Rattle.session_text.specs.Talks.{AnswersAll};
@@ -44,6 +46,7 @@ mod name_words;
 mod named_line;
 mod names;
 mod object_list;
+mod order;
 mod path;
 mod pin_list;
 mod place;
@@ -65,9 +68,11 @@ mod write;
 
 pub use answers::{answer, answer_line};
 pub use asking::Asking;
-pub use cycle::{CycleCounts, collect_answer, is_collect, run_cycle};
+pub use at::steps_ago;
+pub use cycle::{CycleCounts, collect_answer, run_cycle};
 pub use help::{all_help, keyword_help, question_help};
 pub use names::push_row_name;
+pub use order::{Order, order_of};
 pub use question::{At, Question, at_of, question_of};
 pub use session::serve_asking;
 pub use state_dump::dump_at;
@@ -94,9 +99,9 @@ pub fn help_is_new()
     ensures { (l text : List ℕ) → help_of l ≡ Some text → command_of_text l ≡ Bad }
 {}
 
-/// States the same of the line `collect`.
-pub fn collect_is_new()
-    ensures { (l : List ℕ) → is_collect l ≡ true → command_of_text l ≡ Bad }
+/// States the same of the lines `collect` and `rewind @P`.
+pub fn orders_are_new()
+    ensures { (l : List ℕ) (o : Order) → order_of l ≡ Some o → command_of_text l ≡ Bad }
 {}
 
 /// States the same of a comment: a line whose first word begins with `#`.
@@ -111,14 +116,14 @@ pub fn comments_are_silent()
 {}
 
 /// States that a question and a line that asks for help change nothing, nor does any other line that the grammar of sessions
-/// doesn't know, but `collect`.
+/// doesn't know, but `collect` and `rewind @P`.
 pub fn questions_change_nothing()
     ensures questions { (l text : List ℕ) (q : Question) (c d : Asking)
         → question_of l ≡ Some q → AskingAnswers l c text d → d ≡ c }
     ensures help { (l text answer : List ℕ) (c d : Asking)
         → help_of l ≡ Some answer → AskingAnswers l c text d → d ≡ c }
     ensures others { (l text : List ℕ) (c d : Asking)
-        → is_collect l ≡ false → AskingAnswers l c text d → d ≡ c }
+        → order_of l ≡ None → AskingAnswers l c text d → d ≡ c }
 {}
 
 /// States that the state determines the steps of `collect`: from one state two whole cycles take the same steps with the same
@@ -132,15 +137,16 @@ pub fn collect_is_determined()
 {}
 
 /// States that the lines of a session with questions that the grammar of sessions knows are answered, and leave the machine, as
-/// a session of these lines alone does, if none is `collect`.
+/// a session of these lines alone does, if none is `collect` or `rewind @P`.
 pub fn questions_can_be_left_out()
     ensures { (limits : SessionLimits) (time : ℕ) (lines : List (List ℕ)) (text : List ℕ)
-        (c d : Asking) → NoneCollects lines
+        (c d : Asking) → NoneOrders lines
         → AnswersAll limits (AnswersCommand AskingActs AskingAnswers time) lines c text d
         → AnswersAlone limits time c.local.machine lines text d.local.machine }
 {}
 
-/// States that some list of actions leads to the machine that a session with questions leaves, `collect` included.
+/// States that some list of actions leads to the machine that a session with questions leaves, `collect` and
+/// `rewind @P` included.
 pub fn asking_session_is_list()
     ensures { (limits : SessionLimits) (time : ℕ) (lines : List (List ℕ)) (text : List ℕ)
         (c d : Asking) → AnswersAll limits

@@ -6,8 +6,9 @@ in Java, where `javac` and `java` are installed. A reader of HPROF of its own re
 must have the class, the values and the references of its like, but for arrays of more than 1,024 elements, which are cut unless
 the heap has an area. Bad files and bad words must be refused; what is left out must be told. `explore --hprof` must answer, and
 report, just as `explore --from` does with the session of the dump, also of dumps that are cut or have a byte changed. So must
-`run --hprof` and `draw --hprof`, which draws what `draw` draws after the lines of the session. Prints a line for each thing that is
-otherwise than it must be, and ends with status 1 then."""
+`run --hprof` and `draw --hprof`, which draws what `draw` draws after the lines of the session. Two sessions of `serve --hprof`, one
+after the other, must be answered as one of `explore --hprof` is, and so must the page. Prints a line for each thing that is otherwise
+than it must be, and ends with status 1 then."""
 import pathlib
 import re
 import shutil
@@ -16,6 +17,11 @@ import sys
 import tempfile
 
 TOP = pathlib.Path(__file__).resolve().parent.parent
+sys.path[:0] = [str(TOP / "checks/page"), str(TOP / "checks/model")]
+
+from asking import Page  # noqa: E402
+from served import Server, exchanged, free_port  # noqa: E402
+
 LIMIT = 120
 SESSIONS = ("leak", "orders", "services", "point")
 MOST_ELEMENTS, MOST_WITH_AREA, MOST_FIELDS = 1024, 2_097_147, 64
@@ -30,6 +36,8 @@ ROOTS = {0x01: (-1, "JNI_global"), 0x02: (8, "JNI_local"), 0x03: (8, "Java_frame
 QUESTIONS = b"status\nclasses\nregions\nregisters\nhistogram\ndump -\ncollect\nhistogram\ndominators 20\n"
 WIDE = ("--wide", "--regions", "2048", "--area", "600", "--keep", "16")
 SMALL = ("--wide", "0", "--regions", "16", "--keep", "16")
+# A heap that is too small for a dump.
+FULL = ("--wide", "0", "--regions", "1", "--keep", "16")
 # What `--hprof` stands for, beside the dump.
 USUAL = ("--wide", "--regions", "65536", "--area", "16384", "--keep", "65536")
 # The lines that `run` answers without `--questions`, too.
@@ -54,6 +62,11 @@ put 0 4 69999 65
 store 0 0 0 2
 """
 LARGE_HEAP = ("--wide", "--regions", "128", "--area", "100")
+# What a session of a heap that is served asks, and then another: with `status` a served heap tells its acts, too.
+ASKED_FIRST = b"classes\nregions\nregisters\nhistogram\ndump -\n"
+ASKED_THEN = b"collect\nhistogram\ndominators 20\n"
+# How a heap is served, beside the options of the heap.
+SERVICES = (), ("--stay",), ("--workers",), ("--workers", "--stay"), ("--roll",)
 # How many refused lines of a dump's session are reported.
 REPORTED = 8
 REFUSED = re.compile(rb":\d+: (no \d|bad command)")
@@ -298,6 +311,39 @@ def alike(program, importer, dump, folder, *words):
         yield f"{dump.name} {' '.join(words)}: draw --hprof draws another picture than draw does of the session"
 
 
+def served(program, dump, words, service):
+    """Returns the answers of two sessions of `serve --hprof`, that of its page between them, and what it reported at its end."""
+    page = Page()
+    page.port = free_port()
+    with Server(program, 2, *words, *service, "--questions", "--page", str(page.port), "--hprof", str(dump)) as server:
+        page.read_address(server.run.stderr)
+        first, shown = exchanged(server, ASKED_FIRST), page.asked("histogram").encode()
+        then = exchanged(server, ASKED_THEN)
+        if "--stay" in service:
+            server.run.kill()
+        server.run.wait(LIMIT)
+        return first + then, shown, server.run.stderr.read()
+
+
+def served_alike(program, dump, *words):
+    """Yields how `serve --hprof` differs from `explore --hprof`."""
+    _, wanted, reports = told(program, "--hprof", dump, words, lines=ASKED_FIRST + ASKED_THEN)
+    histogram = told(program, "--hprof", dump, words, lines=b"histogram\n")[1]
+    for service in SERVICES:
+        got = served(program, dump, words, service)
+        if got != (wanted, histogram, reports):
+            yield f"{dump.name} {' '.join((*words, *service))}: serve --hprof: {got}, and explore --hprof: {wanted, histogram, reports}"
+
+
+def served_full(program, dump):
+    """Yields what is wrong with `serve --hprof` of a heap that is too small: lines are refused, and then clients are served."""
+    with Server(program, 1, *FULL, "--hprof", str(dump)) as server:
+        got = exchanged(server, PLAIN), server.run.communicate(timeout=LIMIT)[1]
+    wanted = told(program, "--hprof", dump, FULL, lines=PLAIN)[1:]
+    if got != wanted or b" HeapFull: " not in got[1]:
+        yield f"serve --hprof of a heap that is too small: {got}, and explore --hprof: {wanted}"
+
+
 def limited(reports, dump):
     """Returns the reports of a session's lines as they are of the session of a dump: of the refused ones only the first, and a count."""
     lines = reports.splitlines(keepends=True)
@@ -334,7 +380,7 @@ def changed(program, importer, dump, folder):
 def unread(program, dump, folder):
     """Yields what is wrong with how `explore --hprof` refuses files that can't be read, and words."""
     picture = folder / "no.svg"
-    commands = ("explore",), ("run",), ("run", "--questions"), ("draw", "--out", str(picture))
+    commands = ("explore",), ("run",), ("run", "--questions"), ("draw", "--out", str(picture)), ("serve", "--port", str(free_port()))
     for command in commands:
         for path in folder / "missing", folder:
             ran = told(program, "--hprof", path, (), command=command)
@@ -417,6 +463,9 @@ def differences(program, importer):
                 yield from explored(program, importer, dump, folder, *SMALL)
                 yield from alike(program, importer, dump, folder)
                 yield from alike(program, importer, dump, folder, *SMALL)
+                yield from served_alike(program, dump, *SMALL)
+        yield from served_alike(program, folder / "leak-8.hprof", *WIDE)
+        yield from served_full(program, folder / "orders-8.hprof")
         yield from large_arrays(program, importer, folder)
         yield from changed(program, importer, folder / "leak-8.hprof", folder)
         yield from unread(program, folder / "leak-8.hprof", folder)

@@ -37,7 +37,7 @@ _heapdbg() {
         explore) options="$heap --from --hprof --port --page --secret" ;;
         draw) options="$heap --out --hprof" ;;
         save) options="$heap --out --to --questions" ;;
-        serve) options="$heap --port --sessions --workers --dumps --page --questions --roll --stay --idle --secret" ;;
+        serve) options="$heap --port --sessions --workers --dumps --page --questions --roll --stay --idle --secret --hprof" ;;
         ask) options="--port --secret" ;;
         fetch) options="--port --out --secret" ;;
         *) return ;;

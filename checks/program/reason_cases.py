@@ -25,6 +25,7 @@ def reasons(program):
             (["explore", "--hprof", missing], b"", lacks, b"hprof"),
             (["run", "--hprof", missing], b"", lacks, b"hprof"),
             (["draw", "--out", "x.svg", "--hprof", missing], b"", lacks, b"hprof"),
+            (["serve", "--port", str(free), "--hprof", missing], b"", lacks, b"hprof"),
             (["explore", "--hprof", folder], b"", b"%s: Is a directory" % folder.encode(), b"hprof"),
             (["draw", "--out", missing], POINT_MADE, lacks, b"out"),
             (["draw", "--out", folder], POINT_MADE, b"%s: Is a directory" % folder.encode(), b"out"),

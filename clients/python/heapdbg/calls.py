@@ -250,7 +250,7 @@ class Calls:
 
     def dominators(self, moment: Moment = None, most: Optional[int] = None, of: Optional[int] = None) -> list[Holding]:
         """Returns a `Holding` for each object that a register reaches and no other object dominates, or, with an object, for each
-        that it dominates immediately: the most bytes first; at most so many, or all. These rows overlap nowhere."""
+        that it dominates immediately: the most bytes first; at most `most`, or all. These rows overlap nowhere."""
         word = word_of_moment(moment)
         if of is not None:
             word = f"{word} {ObjectId(of)}"

@@ -15,7 +15,7 @@ class Now:
 
 @dataclass(frozen=True)
 class Place:
-    """The retained state that so many steps led to."""
+    """The retained state that this many steps led to."""
 
     number: int
 

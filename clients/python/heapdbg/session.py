@@ -322,7 +322,7 @@ class Session(Calls):
         self.broken = False
 
     def read_bytes(self, size: int) -> bytes:
-        """Reads so many bytes, or fewer if no more come."""
+        """Reads this many bytes, or fewer if no more come."""
         try:
             return self.reader.read(size)
         except ConnectionError:

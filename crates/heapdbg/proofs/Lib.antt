@@ -1,3 +1,4 @@
 pub mod SavedRuns
 pub mod PageHindrances
 pub mod RunDumps
+pub mod LoadedSeats

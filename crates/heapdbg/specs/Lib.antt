@@ -1,6 +1,7 @@
 -- What the program's tasks do, and the endings of the program.
 pub mod Endings
 pub mod ServeOutcomes
+pub mod ServedHeaps
 pub mod Services
 pub mod FetchOutcomes
 pub mod SaveOutcomes

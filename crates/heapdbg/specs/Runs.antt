@@ -17,7 +17,7 @@ use Rattle.question_text.specs.Sessions.{ServesAsking}
 use Rattle.heapdbg.specs.declared.failure.Fault.{Fault}
 use Rattle.heapdbg.specs.declared.failure.Fault.TheVariants.{Memory}
 use Rattle.heapdbg.specs.declared.failure.Failure.{Failure}
-use Rattle.heapdbg.specs.declared.serve.HeapServed.{HeapServed}
+use Rattle.heapdbg.specs.declared.served_heap.HeapServed.{HeapServed}
 use Rattle.heapdbg_options.specs.declared.settings.LineFault.{LineFault}
 use Rattle.heapdbg_options.specs.declared.settings.Origin.{Origin}
 use Rattle.heapdbg_options.specs.declared.settings.Service.{Service}

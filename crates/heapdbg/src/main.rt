@@ -21,6 +21,7 @@ mod run;
 mod save;
 mod secret_file;
 mod serve;
+mod served_heap;
 mod task;
 mod terminals;
 mod watched_seat;

@@ -1,24 +1,23 @@
 //! Sessions over one shared heap, for clients of this computer.
-ghost use Rattle.std.specs.Prelude.{◌≡◌, ◌⊎◌, ◌≤◌, [], Err, None, IfErr, IfOk, length};
-ghost use Rattle.heap_server.specs.SessionSeats.{AreUsers, session_limit};
-ghost use Rattle.heap_server.specs.Tending.{AreStaff};
+ghost use Rattle.std.specs.Prelude.{◌≡◌, ◌⊎◌, ◌≤◌, [], Err, None, IfErr, IfOk};
+ghost use Rattle.heap_server.specs.SessionSeats.{session_limit};
 ghost use Rattle.heapdbg_options.specs.CommandLine.{IsHeapWithin};
 ghost use Rattle.heapdbg.specs.declared.failure.Fault.TheVariants.{Listen, Memory};
+ghost use Rattle.heapdbg.specs.ServedHeaps.{AreSeatsFor};
 ghost use Rattle.heapdbg.specs.Services.{IsOpened};
-ghost use Rattle.heapdbg.specs.ServeOutcomes.{IsReportTold, IsServed, IsStayEnd, IsStayTendedEnd, IsTendedEnd, IsUntendedEnd, config_of, served_outcome, terms_of};
+ghost use Rattle.heapdbg.specs.ServeOutcomes.{AreEndsTold, IsReportTold, IsServed, IsServiceEnd, config_of, served_outcome, terms_of};
 
 use crate::failure::Fault;
 use crate::ports::{dump_listener, listener, page_port};
+use crate::request::Request;
+use crate::served_heap::{HeapServed, Sessions, serve_blank};
 use dump_pump::Outlet;
-use heap_server::{
-    Blank, Ports, Refusal, Served, ServedHeap, ServicePlan, StayTendedHeap, StayedHeap, TendedHeap,
-    Terms, serve_heap, serve_staying_heap, serve_staying_tended_heap, serve_tended_heap,
-    tell_sessions, users, workers_and_users,
-};
+use heap_server::{Blank, Ports, Refusal, Served, Terms, tell_sessions, workers_and_users};
 use heapdbg_options::settings::{Service, Settings, config};
 use secret_word::Secret;
 use session_text::{session_limits, write_all};
 use std::alloc::Global;
+use std::fs::Files;
 use std::net::{Net, TcpListener, TcpStream};
 use std::random::RandomSource;
 use std::sync::Wait;
@@ -28,21 +27,8 @@ use std::time::Clock;
 // The size in bytes of the longest line of the report: `session 1000 memory` and its end.
 const LINE: usize = 20;
 
-/// A heap that was served: how its sessions ended, with what went through each one's socket, and its seats as they left them.
-#[derive(Drop)]
-pub enum HeapServed {
-    /// Nobody tended its collector.
-    Untended(ServedHeap),
-    /// Two threads tended its collector.
-    Tended(TendedHeap),
-    /// Its seats served one session after another, for as long as clients could be accepted.
-    Stayed(StayedHeap),
-    /// Its seats did so, and two threads tended its collector.
-    StayedTended(StayTendedHeap),
-}
-
 /// The end of a service: its outcome, and the heap that it served. It served none if there was no memory for the heap or a thread,
-/// or if a port couldn't be listened on.
+/// if a port couldn't be listened on, or if what is run first wasn't run.
 #[derive(Drop)]
 pub struct ServiceEnd {
     pub outcome: Result<(), Fault>,
@@ -62,16 +48,17 @@ impl ServiceEnd {
 }
 
 /// Serves sessions to clients of a port, and puts out how each session ended; a heap that stays says it on standard output as each
-/// ends. Two threads tend the collector meanwhile if there are workers, three send dumps if there is a port for them, and one
-/// answers the clients of the page if there is a port for it; the page's address, with its key, is said on standard error. Returns
-/// the heap that was served. Fails with Memory if the heap can't be allocated, no thread for the workers, the dumps or the page can
-/// be had, or the system gives no random bytes for the key, with Listen if a port can't be listened on, with Accept if a client
-/// could not be accepted, and else with Write if a write failed. Says on standard error that it listens, or why it can't, if that
-/// is a terminal. May wait.
+/// ends. If the service says so, the session of a dump is run first, as by `explore`: the ports are listened on before, and clients
+/// wait until it has been. Two threads tend the collector meanwhile if there are workers, three send dumps if there is a port for
+/// them, and one answers the clients of the page if there is a port for it; the page's address, with its key, is said on standard
+/// error. Returns the heap that was served. Fails with Memory if the heap can't be allocated, no thread for the workers, the dumps
+/// or the page can be had, or the system gives no random bytes for the key, with Listen if a port can't be listened on, as
+/// `run_first` does if that session can't be run, with Accept if a client could not be accepted, and else with Write if a write
+/// failed. Says on standard error that clients are accepted, or why a port can't be listened on, if that is a terminal. May wait.
+#[tactic(auto, using(crate::proofs::LoadedSeats::end_over_a_heap_is_served, crate::proofs::PageHindrances::page_hinders))]
 pub fn serve_port<R, O: Outlet>(
     rt: &R,
-    alloc: Global,
-    settings: &Settings,
+    request: Request<'_>,
     service: Service,
     secret: Option<Secret>,
     writer: &mut O,
@@ -79,21 +66,16 @@ pub fn serve_port<R, O: Outlet>(
 ) -> ServiceEnd
 where
     R: Net<Listener = TcpListener, Stream = TcpStream> + Threads + Wait + Sync,
-    R: AllocGlobal + Clock + Eprint + Print + RandomSource,
-    requires heap { IsHeapWithin settings.now }
+    R: AllocGlobal + Clock + Eprint + Files + Print + RandomSource,
+    requires heap { IsHeapWithin request.settings }
     requires sessions { (1 ≤ service.sessions) × (service.sessions ≤ session_limit) }
-    ensures { IsServed service secret settings.now (O.seen writer.old) (O.seen writer.new)
+    ensures { IsServed service secret request.entry.settings (O.seen writer.old) (O.seen writer.new)
         result.heap result.outcome }
 {
-    let opened = match open_service(rt, alloc, settings, service, secret, is_terminal) {
-        Ok(opened) => opened,
-        Err(fault) => return ServiceEnd::without_heap(fault),
-    };
-    match (service.stays, service.workers) {
-        (false, 0) => serve_untended(rt, alloc, opened, writer),
-        (false, _) => serve_with_workers(rt, alloc, opened, writer),
-        (true, 0) => serve_stay(rt, alloc, opened),
-        (true, _) => serve_stay_with_workers(rt, alloc, opened),
+    let settings = request.settings;
+    match open_service(rt, rt.alloc(), &settings, service, secret, is_terminal) {
+        Ok(opened) => serve_opened(rt, request, service, opened, writer, is_terminal),
+        Err(fault) => ServiceEnd::without_heap(fault),
     }
 }
 
@@ -119,14 +101,11 @@ where
     blank.set_rolls(settings.rolls || service.stays || settings.wide);
     match listen(rt, alloc, service, settings.time, is_terminal) {
         Ok((ports, report)) => {
-            let plan = ServicePlan {
-                most: service.sessions as usize,
-                ports,
-                terms: terms(settings, service, secret),
-            };
+            let terms = terms(settings, service, secret);
             Ok(Opened {
                 blank,
-                plan,
+                ports,
+                terms,
                 report,
             })
         }
@@ -135,19 +114,14 @@ where
 }
 
 // Creates a heap of the settings with the seats of a service. Fails with NoMemory.
+#[tactic(auto, using(crate::proofs::LoadedSeats::heap_of_one_more))]
 fn blank_for(alloc: Global, settings: &Settings, service: Service) -> Result<Blank, Refusal>
     requires heap { IsHeapWithin settings.now }
     requires sessions { (1 ≤ service.sessions) × (service.sessions ≤ session_limit) }
     ensures settings { IfOk result (λ b. b.config ≡ config_of settings.now) }
-    ensures users { IfOk result (λ b. service.workers ≡ 0
-        → AreUsers b.seats × (length b.seats ≡ service.sessions)) }
-    ensures staff { IfOk result (λ b. 1 ≤ service.workers → AreStaff service.sessions b.seats) }
+    ensures seats { IfOk result (λ b. AreSeatsFor service.sessions b.seats) }
 {
-    if service.workers > 0 {
-        workers_and_users(alloc, config(settings), service.sessions)
-    } else {
-        users(alloc, config(settings), service.sessions)
-    }
+    workers_and_users(alloc, config(settings), service.sessions + 1)
 }
 
 // Listens on the ports, and returns an empty report with room for the lines of all sessions. Fails with Memory or Listen.
@@ -176,10 +150,6 @@ where
         None => None,
     };
     let sessions = listener(rt, service.port, is_terminal)?;
-    if is_terminal {
-        let port = service.port;
-        let _ = eprintln!(rt; "heapdbg: listening on 127.0.0.1:{port}");
-    }
     let ports = Ports {
         sessions,
         dumps,
@@ -202,34 +172,56 @@ fn terms(settings: &Settings, service: Service, secret: Option<Secret>) -> Terms
     }
 }
 
-// A service that listens: its heap, what the heap is opened for, and an empty report with room for the lines of all sessions.
+// A service that listens: its heap, the ports, the terms of the sessions, and an empty report with room for the lines of all.
 #[derive(Drop)]
 struct Opened {
     blank: Blank,
-    plan: ServicePlan,
+    ports: Ports,
+    terms: Terms,
     report: Vec<u8>,
 }
 
-// Serves the clients of a service without workers, and puts out how each session ended.
-fn serve_untended<R, O: Outlet>(rt: &R, alloc: Global, opened: Opened, writer: &mut O) -> ServiceEnd
+// Serves the clients of a service that listens, after what is run first, and puts out how each session ended.
+fn serve_opened<R, O: Outlet>(
+    rt: &R,
+    request: Request<'_>,
+    service: Service,
+    opened: Opened,
+    writer: &mut O,
+    is_terminal: bool,
+) -> ServiceEnd
 where
-    R: Clock + Eprint + Threads + Wait + Sync,
-    requires users { AreUsers opened.blank.seats }
+    R: AllocGlobal + Clock + Eprint + Files + Print + Threads + Wait + Sync,
+    requires seats { AreSeatsFor service.sessions opened.blank.seats }
     requires report { opened.report.items ≡ [] }
-    ensures { IsUntendedEnd opened.blank opened.plan.terms (O.seen writer.old) (O.seen writer.new)
-        result.heap result.outcome }
+    ensures { IsServiceEnd request.entry.settings service opened.blank opened.terms
+        (O.seen writer.old) (O.seen writer.new) result.heap result.outcome }
 {
     let Opened {
         blank,
-        plan,
+        ports,
+        terms,
         report,
     } = opened;
-    let Ok(heap) = serve_heap(rt, alloc, blank, plan) else {
-        return ServiceEnd::without_heap(Fault::Memory);
-    };
-    let outcome = tell(&heap.served, report, writer);
-    let heap = Some(HeapServed::Untended(heap));
-    ServiceEnd { outcome, heap }
+    match serve_blank(rt, request, service, blank, ports, terms, is_terminal) {
+        Ok(heap) => {
+            let outcome = tell_ends(&heap.sessions, report, writer);
+            let heap = Some(heap);
+            ServiceEnd { outcome, heap }
+        }
+        Err(fault) => ServiceEnd::without_heap(fault),
+    }
+}
+
+// Puts out how sessions ended, by way of a report that is still empty; those of a heap that stays have told it.
+fn tell_ends<O: Outlet>(sessions: &Sessions, report: Vec<u8>, writer: &mut O) -> Result<(), Fault>
+    requires { report.items ≡ [] }
+    ensures { AreEndsTold sessions.now (O.seen writer.old) (O.seen writer.new) result }
+{
+    match sessions {
+        Sessions::Once(served) => tell(served, report, writer),
+        Sessions::Stayed(_) => Err(Fault::Accept),
+    }
 }
 
 // Puts out how sessions ended, by way of a report that is still empty.
@@ -253,72 +245,4 @@ fn outcome(refused: bool, written: bool) -> Result<(), Fault>
         return Err(Fault::Accept);
     }
     if written { Ok(()) } else { Err(Fault::Write) }
-}
-
-// Serves the clients of a service with workers, and puts out how each session ended.
-fn serve_with_workers<R, O: Outlet>(
-    rt: &R,
-    alloc: Global,
-    opened: Opened,
-    writer: &mut O,
-) -> ServiceEnd
-where
-    R: Clock + Eprint + Threads + Wait + Sync,
-    requires staff { AreStaff opened.plan.most opened.blank.seats }
-    requires report { opened.report.items ≡ [] }
-    ensures { IsTendedEnd opened.blank opened.plan.terms (O.seen writer.old) (O.seen writer.new)
-        result.heap result.outcome }
-{
-    let Opened {
-        blank,
-        plan,
-        report,
-    } = opened;
-    let Ok(tended) = serve_tended_heap(rt, alloc, blank, plan) else {
-        return ServiceEnd::without_heap(Fault::Memory);
-    };
-    let outcome = tell(&tended.heap.served, report, writer);
-    let heap = Some(HeapServed::Tended(tended));
-    ServiceEnd { outcome, heap }
-}
-
-// Serves clients from seats that serve one after another, for as long as clients can be accepted. How each session ended is said on
-// standard output as it ends.
-fn serve_stay<R>(rt: &R, alloc: Global, opened: Opened) -> ServiceEnd
-where
-    R: Clock + Eprint + Print + Threads + Wait + Sync,
-    requires users { AreUsers opened.blank.seats }
-    ensures { IsStayEnd opened.blank opened.plan.terms result.heap result.outcome }
-{
-    let Opened {
-        blank,
-        plan,
-        report: _,
-    } = opened;
-    let Ok(heap) = serve_staying_heap(rt, alloc, blank, plan) else {
-        return ServiceEnd::without_heap(Fault::Memory);
-    };
-    let outcome = Err(Fault::Accept);
-    let heap = Some(HeapServed::Stayed(heap));
-    ServiceEnd { outcome, heap }
-}
-
-// The same with two threads that tend the collector.
-fn serve_stay_with_workers<R>(rt: &R, alloc: Global, opened: Opened) -> ServiceEnd
-where
-    R: Clock + Eprint + Print + Threads + Wait + Sync,
-    requires staff { AreStaff opened.plan.most opened.blank.seats }
-    ensures { IsStayTendedEnd opened.blank opened.plan.terms result.heap result.outcome }
-{
-    let Opened {
-        blank,
-        plan,
-        report: _,
-    } = opened;
-    let Ok(heap) = serve_staying_tended_heap(rt, alloc, blank, plan) else {
-        return ServiceEnd::without_heap(Fault::Memory);
-    };
-    let outcome = Err(Fault::Accept);
-    let heap = Some(HeapServed::StayedTended(heap));
-    ServiceEnd { outcome, heap }
 }

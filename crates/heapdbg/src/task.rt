@@ -189,6 +189,7 @@ fn first_of_task<'a>(alloc: Global, line: &'a [&'a str], task: Task) -> Option<&
         Task::Run(origin) | Task::Explore { origin, .. } | Task::Draw(origin) => {
             path_of_origin(alloc, line, origin)
         }
+        Task::Serve(service) => path_of_origin(alloc, line, service.origin),
         _ => None,
     }
 }
@@ -306,7 +307,7 @@ fn file_of<'a, R: AllocGlobal + Eprint + Files>(
 // The text for a word that is no UTF-8.
 const NOT_UTF8: &str = "error: a word of the command line is not UTF-8\n";
 
-// Serves sessions over one shared heap, to clients who know the secret, if there is one.
+// Serves sessions over one shared heap, after what is run first, to clients who know the secret, if there is one.
 fn serve<R, O: Outlet>(
     rt: &R,
     request: Request<'_>,
@@ -323,17 +324,7 @@ where
         result }
 {
     let secret = secret_for(rt, service.secret, request.secret, is_terminal)?;
-    let settings = request.settings;
-    serve_port(
-        rt,
-        rt.alloc(),
-        &settings,
-        service,
-        secret,
-        writer,
-        is_terminal,
-    )
-    .outcome
+    serve_port(rt, request, service, secret, writer, is_terminal).outcome
 }
 
 // Sends all input to the session on a port, behind the secret, if there is one.

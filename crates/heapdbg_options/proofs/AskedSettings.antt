@@ -312,7 +312,7 @@ idle_within None n e = let same : 0 ≡ n = cc in rw (← same) (omega arith)
 idle_within (Some text) n e = (number_setting_within_bounds 1 idle_limit text n e).1
 
 -- a served heap has what its options say
-pub record IsServeOf (p n w : Option ℕ) (d g : Option (Option ℕ)) (i : Option ℕ) (y : Option Bool) (x : Bool) (task : Task) : Type 0 where
+pub record IsServeOf (p n w : Option ℕ) (d g : Option (Option ℕ)) (i : Option ℕ) (y : Option Bool) (x : Bool) (o : Origin) (task : Task) : Type 0 where
   pub service : Service
   pub is : task ≡ Serve service
   pub port : p ≡ Some service.port
@@ -323,16 +323,17 @@ pub record IsServeOf (p n w : Option ℕ) (d g : Option (Option ℕ)) (i : Optio
   pub idle : i ≡ Some service.idle
   pub stays : y ≡ Some service.stays
   pub secret : x ≡ service.secret
+  pub origin : o ≡ service.origin
 
-serve_settings_make_task : (p n w : Option ℕ) (d g : Option (Option ℕ)) (i : Option ℕ) (y : Option Bool) (x : Bool) (task : Task) → serve_with p n w d g i y x ≡ Some task → IsServeOf p n w d g i y x task
-serve_settings_make_task None n w d g i y x task e = cc
-serve_settings_make_task (Some port) None w d g i y x task e = cc
-serve_settings_make_task (Some port) (Some sessions) None d g i y x task e = cc
-serve_settings_make_task (Some port) (Some sessions) (Some workers) None g i y x task e = cc
-serve_settings_make_task (Some port) (Some sessions) (Some workers) (Some dumps) None i y x task e = cc
-serve_settings_make_task (Some port) (Some sessions) (Some workers) (Some dumps) (Some page) None y x task e = cc
-serve_settings_make_task (Some port) (Some sessions) (Some workers) (Some dumps) (Some page) (Some idle) None x task e = cc
-serve_settings_make_task (Some port) (Some sessions) (Some workers) (Some dumps) (Some page) (Some idle) (Some stays) x task e =
+serve_settings_make_task : (p n w : Option ℕ) (d g : Option (Option ℕ)) (i : Option ℕ) (y : Option Bool) (x : Bool) (o : Origin) (task : Task) → serve_with p n w d g i y x o ≡ Some task → IsServeOf p n w d g i y x o task
+serve_settings_make_task None n w d g i y x o task e = cc
+serve_settings_make_task (Some port) None w d g i y x o task e = cc
+serve_settings_make_task (Some port) (Some sessions) None d g i y x o task e = cc
+serve_settings_make_task (Some port) (Some sessions) (Some workers) None g i y x o task e = cc
+serve_settings_make_task (Some port) (Some sessions) (Some workers) (Some dumps) None i y x o task e = cc
+serve_settings_make_task (Some port) (Some sessions) (Some workers) (Some dumps) (Some page) None y x o task e = cc
+serve_settings_make_task (Some port) (Some sessions) (Some workers) (Some dumps) (Some page) (Some idle) None x o task e = cc
+serve_settings_make_task (Some port) (Some sessions) (Some workers) (Some dumps) (Some page) (Some idle) (Some stays) x o task e =
     let made : Service =
     record {
       port = port;
@@ -343,17 +344,18 @@ serve_settings_make_task (Some port) (Some sessions) (Some workers) (Some dumps)
       idle = idle;
       stays = stays;
       secret = x;
+      origin = o;
     }
     in
     let same : Serve made ≡ task = cc in
-    record { service = made; is = sym same; port = refl; sessions = refl; workers = refl; dumps = refl; page = refl; idle = refl; stays = refl; secret = refl }
+    record { service = made; is = sym same; port = refl; sessions = refl; workers = refl; dumps = refl; page = refl; idle = refl; stays = refl; secret = refl; origin = refl }
 
 -- what the rows say of a served heap
 abbrev IsServedByRows : List Row → Task → Type 0
-IsServedByRows rows task = IsServeOf (port_in rows) (sessions_in rows) (workers_in rows) (dumps_in rows) (page_in rows) (idle_in rows) (stays_in rows) (has_secret rows) task
+IsServedByRows rows task = IsServeOf (port_in rows) (sessions_in rows) (workers_in rows) (dumps_in rows) (page_in rows) (idle_in rows) (stays_in rows) (has_secret rows) (dump_origin (has_dump rows)) task
 
 serve_rows_make_task : (rows : List Row) (task : Task) → serve_in rows ≡ Some task → IsServedByRows rows task
-serve_rows_make_task rows task e = serve_settings_make_task (port_in rows) (sessions_in rows) (workers_in rows) (dumps_in rows) (page_in rows) (idle_in rows) (stays_in rows) (has_secret rows) task e
+serve_rows_make_task rows task e = serve_settings_make_task (port_in rows) (sessions_in rows) (workers_in rows) (dumps_in rows) (page_in rows) (idle_in rows) (stays_in rows) (has_secret rows) (dump_origin (has_dump rows)) task e
 
 -- the port for dumps is read beside the port that was read
 dumps_port_beside_served_port : (rows : List Row) (task : Task) (served : IsServedByRows rows task) → dumps_with served.service.port (first_of (codes "dumps") rows) ≡ Some served.service.dumps
@@ -672,10 +674,10 @@ defaults_of words s e =
           (λ is. default_page rows s.task (unnamed_option_has_no_row (codes "page") words asked.found refl asked.is asked.named other) is) asked.task;
       from = λ other. each_task_has_property (λ t. runs_lines t ≡ false) (bytes_eq name (codes "run")) (bytes_eq name (codes "explore")) (bytes_eq name (codes "draw")) (bytes_eq name (codes "save")) (bytes_eq name (codes "serve")) (bytes_eq name (codes "ask")) (bytes_eq name (codes "fetch")) rows s.task
           (dump_session_is_no_file (has_dump rows)) (λ origin p is at. ungiven_lines_are_unread (is_some (first_of (codes "from") rows)) (is_some (first_of (codes "hprof") rows)) origin (ungiven_file_is_unread (first_of (codes "from") rows) (unnamed_option_has_no_row (codes "from") words asked.found refl asked.is asked.named other)) is) (dump_session_is_no_file (has_dump rows)) (λ target. refl) (λ port. refl) (λ port. refl)
-          (λ is. let served = serve_rows_make_task rows s.task is in by_service runs_lines rows s.task served false (refl)) asked.task;
+          (λ is. let served = serve_rows_make_task rows s.task is in by_service runs_lines rows s.task served false (ap is_lines (sym served.origin) ∙ dump_session_is_no_file (has_dump rows))) asked.task;
       hprof = λ other. each_task_has_property (λ t. runs_dump t ≡ false) (bytes_eq name (codes "run")) (bytes_eq name (codes "explore")) (bytes_eq name (codes "draw")) (bytes_eq name (codes "save")) (bytes_eq name (codes "serve")) (bytes_eq name (codes "ask")) (bytes_eq name (codes "fetch")) rows s.task
           (no_dump_given_none_run rows (unnamed_option_has_no_row (codes "hprof") words asked.found refl asked.is asked.named other)) (λ origin p is at. ungiven_dump_is_unread (is_some (first_of (codes "from") rows)) (is_some (first_of (codes "hprof") rows)) origin (ungiven_file_is_unread (first_of (codes "hprof") rows) (unnamed_option_has_no_row (codes "hprof") words asked.found refl asked.is asked.named other)) is) (no_dump_given_none_run rows (unnamed_option_has_no_row (codes "hprof") words asked.found refl asked.is asked.named other)) (λ target. refl) (λ port. refl) (λ port. refl)
-          (λ is. let served = serve_rows_make_task rows s.task is in by_service runs_dump rows s.task served false (refl)) asked.task;
+          (λ is. let served = serve_rows_make_task rows s.task is in by_service runs_dump rows s.task served false (ap is_dump (sym served.origin) ∙ no_dump_given_none_run rows (unnamed_option_has_no_row (codes "hprof") words asked.found refl asked.is asked.named other))) asked.task;
       idle = λ other. each_task_has_property (λ t. idle_of t ≡ 0) (bytes_eq name (codes "run")) (bytes_eq name (codes "explore")) (bytes_eq name (codes "draw")) (bytes_eq name (codes "save")) (bytes_eq name (codes "serve")) (bytes_eq name (codes "ask")) (bytes_eq name (codes "fetch")) rows s.task
           refl (λ origin p is at. refl) refl (λ target. refl) (λ port. refl) (λ port. refl)
           (λ is. let served = serve_rows_make_task rows s.task is in by_service idle_of rows s.task served 0 (ungiven_number_is_default (codes "idle") 0 1 idle_limit words asked.found served.service.idle refl asked.is asked.named served.idle other)) asked.task;

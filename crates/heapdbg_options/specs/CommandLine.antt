@@ -124,9 +124,11 @@ answering_line =
 abbrev pub serve_line : App
 serve_line =
     with_rule
+    (with_rule
     (with_rule (with_rule answering_line (flag_option (codes "stay")))
     (value_option (codes "idle")))
-    secret_option
+    secret_option)
+    dump_option
 
 -- the command `ask`
 abbrev pub ask_line : App
@@ -283,6 +285,7 @@ abbrev pub origin_of : Task → Origin
 origin_of (Run origin) = origin
 origin_of (Explore origin page) = origin
 origin_of (Draw origin) = origin
+origin_of (Serve service) = service.origin
 origin_of _ = Fresh
 
 -- the number of steps that can be undone in a heap of no dump, if the option is not given: of `explore` the most that there may be
@@ -476,11 +479,15 @@ idle_in rows = option_value (codes "idle") 0 1 idle_limit rows
 abbrev pub stays_in : List Row → Option Bool
 stays_in rows = flag_in (codes "stay") rows
 
+-- what is run before a session, if a dump is given, or isn't
+abbrev pub dump_origin : Bool → Origin
+dump_origin dump = if dump then Dump else Fresh
+
 -- a served heap, if each option has a value in its range
 abbrev pub serve_with : Option ℕ → Option ℕ → Option ℕ → Option (Option ℕ) → Option (Option ℕ)
-    → Option ℕ → Option Bool → Bool → Option Task
+    → Option ℕ → Option Bool → Bool → Origin → Option Task
 serve_with (Some port) (Some sessions) (Some workers) (Some dumps) (Some page) (Some idle)
-    (Some stays) secret =
+    (Some stays) secret origin =
     Some (Serve (record {
       port = port;
       sessions = sessions;
@@ -490,14 +497,15 @@ serve_with (Some port) (Some sessions) (Some workers) (Some dumps) (Some page) (
       idle = idle;
       stays = stays;
       secret = secret;
+      origin = origin;
     }))
-serve_with _ _ _ _ _ _ _ _ = None
+serve_with _ _ _ _ _ _ _ _ _ = None
 
 -- the task of the options of `serve`
 abbrev pub serve_in : List Row → Option Task
 serve_in rows =
     serve_with (port_in rows) (sessions_in rows) (workers_in rows) (dumps_in rows) (page_in rows)
-    (idle_in rows) (stays_in rows) (has_secret rows)
+    (idle_in rows) (stays_in rows) (has_secret rows) (dump_origin (has_dump rows))
 
 -- the task of the options of `ask`
 abbrev pub ask_in : List Row → Option Task
@@ -516,10 +524,6 @@ is_task name =
     || (bytes_eq name (codes "save")
     || (bytes_eq name (codes "serve")
     || (bytes_eq name (codes "ask") || bytes_eq name (codes "fetch"))))))
-
--- what is run before a session, if a dump is given, or isn't
-abbrev pub dump_origin : Bool → Origin
-dump_origin dump = if dump then Dump else Fresh
 
 -- the task of the options of `run`
 abbrev pub run_in : List Row → Option Task

@@ -259,6 +259,7 @@ fn origin_of(task: Task) -> Origin
 {
     match task {
         Task::Run(origin) | Task::Explore { origin, .. } | Task::Draw(origin) => origin,
+        Task::Serve(service) => service.origin,
         _ => Origin::Fresh,
     }
 }

@@ -117,6 +117,39 @@ pub(crate) const SECRET: OptionRow = OptionRow {
     is_flag: false,
 };
 
+// The option `--regions N` of a command that takes a dump.
+pub(crate) const DUMP_REGIONS: OptionRow = OptionRow {
+    help: "Regions of the heap, 1 to 256, or to 65536 with --wide 1 [default: 16, or with --hprof the most]",
+    ..REGIONS
+};
+
+// The option `--keep N` of a command that takes a dump, but of `explore`.
+pub(crate) const DUMP_KEEP: OptionRow = OptionRow {
+    help: "Steps that can be undone, 1 to 65536, or to 16777216 with --wide 1 [default: 1024, or with --hprof 65536]",
+    ..KEEP
+};
+
+// The option `--wide [N]` of a command that takes a dump.
+pub(crate) const DUMP_WIDE: OptionRow = OptionRow {
+    help: "Whether the heap has wider limits, of classes, names and pins too, 0 or 1 [default: 0, or with --hprof 1]",
+    ..WIDE
+};
+
+// The option `--area N` of a command that takes a dump.
+pub(crate) const DUMP_AREA: OptionRow = OptionRow {
+    help: "Last regions of the heap, which hold arrays of more than 1024 elements, fewer than all; with --wide 1 alone [default: 0, or with --hprof a quarter]",
+    ..AREA
+};
+
+// The option `--hprof PATH`.
+pub(crate) const HPROF: OptionRow = OptionRow {
+    name: "hprof",
+    value: "PATH",
+    help: "File of a heap dump in HPROF, whose heap is made first",
+    is_required: false,
+    is_flag: false,
+};
+
 // Returns the parser with the commands of these rows added in turn.
 pub(crate) fn with_commands<'a>(
     alloc: Global,

@@ -8,45 +8,13 @@ ghost use Rattle.heapdbg_options.specs.declared.settings.Task.TheVariants.{Explo
 
 use crate::command_line::has_dump;
 use crate::option_rows::{
-    AREA, CommandRow, IDS, KEEP, MUTATORS, OptionRow, PAGE, QUESTIONS, REGIONS, TIME, WIDE,
+    CommandRow, DUMP_AREA, DUMP_KEEP, DUMP_REGIONS, DUMP_WIDE, HPROF, IDS, KEEP, MUTATORS,
+    OptionRow, PAGE, QUESTIONS, TIME,
 };
 use crate::refusal::Mistake;
 use crate::settings::{Origin, Task};
 use crate::socket_options::{has_secret, port_of};
 use clap::ArgMatches;
-
-// The option `--regions N` of a command that takes a dump.
-const DUMP_REGIONS: OptionRow = OptionRow {
-    help: "Regions of the heap, 1 to 256, or to 65536 with --wide 1 [default: 16, or with --hprof the most]",
-    ..REGIONS
-};
-
-// The option `--keep N` of a command that takes a dump, but of `explore`.
-const DUMP_KEEP: OptionRow = OptionRow {
-    help: "Steps that can be undone, 1 to 65536, or to 16777216 with --wide 1 [default: 1024, or with --hprof 65536]",
-    ..KEEP
-};
-
-// The option `--wide [N]` of a command that takes a dump.
-const DUMP_WIDE: OptionRow = OptionRow {
-    help: "Whether the heap has wider limits, of classes, names and pins too, 0 or 1 [default: 0, or with --hprof 1]",
-    ..WIDE
-};
-
-// The option `--area N` of a command that takes a dump.
-const DUMP_AREA: OptionRow = OptionRow {
-    help: "Last regions of the heap, which hold arrays of more than 1024 elements, fewer than all; with --wide 1 alone [default: 0, or with --hprof a quarter]",
-    ..AREA
-};
-
-// The option `--hprof PATH`.
-const HPROF: OptionRow = OptionRow {
-    name: "hprof",
-    value: "PATH",
-    help: "File of a heap dump in HPROF, whose heap is made first",
-    is_required: false,
-    is_flag: false,
-};
 
 // The command `run`.
 pub(crate) const RUN: CommandRow = CommandRow {
@@ -143,7 +111,7 @@ pub(crate) fn run_task(options: &ArgMatches<'_>) -> Task
 }
 
 // Returns what is run before a session, if a dump is given, or isn't.
-fn dump_origin(dump: bool) -> Origin
+pub(crate) fn dump_origin(dump: bool) -> Origin
     ensures { result ≡ dump_origin dump }
 {
     if dump { Origin::Dump } else { Origin::Fresh }

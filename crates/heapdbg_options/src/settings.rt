@@ -36,9 +36,11 @@ pub struct Service {
     pub stays: bool,
     /// Whether each client has to begin with the word in the file that the command line names.
     pub secret: bool,
+    /// What is run before the first client is accepted: nothing, or the session of a dump.
+    pub origin: Origin,
 }
 
-/// What is run before a session over a heap of its own.
+/// What is run before a session over a heap of its own, or before the first over a served one.
 #[derive(Clone, Copy)]
 pub enum Origin {
     /// Nothing.

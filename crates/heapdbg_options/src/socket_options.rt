@@ -4,11 +4,13 @@ ghost use Rattle.clap.specs.Words.{first_of, found_of, rows_of};
 ghost use Rattle.heapdbg_options.specs.CommandLine.{ask_in, dumps_with, fetch_in, has_secret, number_in, other_port, page_with, port_in, port_limit, serve_in, third_port};
 ghost use Rattle.heapdbg_options.specs.Refusals.{IsTaskOrMistake};
 
-use crate::command_line::{flag_from, number, option_value};
+use crate::command_line::{flag_from, has_dump, number, option_value};
 use crate::option_rows::{
-    AREA, CommandRow, IDS, KEEP, MUTATORS, OptionRow, PAGE, QUESTIONS, REGIONS, SECRET, TIME, WIDE,
+    CommandRow, DUMP_AREA, DUMP_KEEP, DUMP_REGIONS, DUMP_WIDE, HPROF, IDS, MUTATORS, OptionRow,
+    PAGE, QUESTIONS, SECRET, TIME,
 };
 use crate::refusal::Mistake;
+use crate::session_options::dump_origin;
 use crate::settings::{Service, Task};
 use clap::ArgMatches;
 
@@ -39,11 +41,11 @@ pub(crate) const SERVE: CommandRow = CommandRow {
     about: "Serves sessions over one heap to clients on 127.0.0.1, and tells how each ended",
     usage: None,
     options: &[
-        REGIONS,
+        DUMP_REGIONS,
         MUTATORS,
-        KEEP,
-        WIDE,
-        AREA,
+        DUMP_KEEP,
+        DUMP_WIDE,
+        DUMP_AREA,
         TIME,
         IDS,
         PORT,
@@ -92,6 +94,7 @@ pub(crate) const SERVE: CommandRow = CommandRow {
             is_flag: false,
         },
         SECRET,
+        HPROF,
     ],
 };
 
@@ -155,6 +158,7 @@ pub(crate) fn serve_task(options: &ArgMatches<'_>) -> Result<Task, Mistake>
         idle,
         stays,
         secret: has_secret(options),
+        origin: dump_origin(has_dump(options)),
     }))
 }
 

@@ -65,9 +65,8 @@ fn way_back(word: &[u8]) -> Option<Order>
 pub(crate) fn rewind_to(machine: &mut Machine, place: u64) -> LineAnswer
     ensures { RewindsTo place machine.old (line_answer_text result) machine.new }
 {
-    let reply = match steps_ago(machine, Some(place)) {
-        Ok(count) => machine.act(&Action::Rewind(count)),
-        Err(refusal) => Reply::Refused(refusal),
-    };
-    LineAnswer::Known(reply)
+    match steps_ago(machine, Some(place)) {
+        Ok(count) => LineAnswer::Known(machine.act(&Action::Rewind(count))),
+        Err(refusal) => LineAnswer::Known(Reply::Refused(refusal)),
+    }
 }

@@ -43,6 +43,7 @@ fn order_of_words(mut words: Words) -> Option<Order>
 }
 
 // Returns what a word asks to be done that stands alone.
+#[tactic(auto, unfolding(crate::specs::Orders::order_of_words))]
 fn collection_by(keyword: &[u8]) -> Option<Order>
     ensures { result ≡ order_of_words (keyword.now ∷ []) }
 {

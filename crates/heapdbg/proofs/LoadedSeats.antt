@@ -1,5 +1,5 @@
 -- Heaps that are served after what is run first.
-use Rattle.std.proofs.Common.{◌≡◌, ◌∙◌, ℕ, ◌+◌, Bool, true, List, [], ◌∷◌, Option, None, Some, Result, Ok, Err, IfOk, absurd, ap, arith, inl, subst, sym}
+use Rattle.std.proofs.Common.{◌≡◌, ◌∙◌, ℕ, ◌+◌, Bool, true, List, [], ◌∷◌, Option, None, Some, Result, Ok, Err, IfOk, ap, arith, inl, subst, sym}
 use Rattle.dump_pump.specs.Outlets.{Outgoing}
 use Rattle.session_text.specs.Answers.{AnswersCommand, Begins}
 use Rattle.session_text.specs.declared.limits.SessionLimits.{SessionLimits}

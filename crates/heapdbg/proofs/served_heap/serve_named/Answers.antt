@@ -12,8 +12,7 @@ returns-in-Ok-serve_staff-clause-served g c =
     let first = c.seats_for-seat.result.0 in
     let staff = c.seats_for-seat.result.1 in
     used_seats_served s c.args.service c.args.blank c.args.terms g.L.Heap.config g.L.Heap.tables _ _ _ staff.marker staff.sweeper first staff.users c.requires.named
-    (sym c.open-shared.ensures ∙ c.seats_for-seat.ensures.seats)
-    (
+    (sym c.open-shared.ensures ∙ c.seats_for-seat.ensures.seats) (
       c.into_unnamed-first.ensures.seat,
       subst (λ (m : SeatModel). IsSeatLoaded (session_limits s.wide) (has_area s) g.L.Heap.config c.args.service.origin s.time first m) (sym c.into_unnamed-first.ensures.seat_model) c.in-Ok.ensures.loaded,
     )

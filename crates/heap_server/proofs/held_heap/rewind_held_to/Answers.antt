@@ -1,19 +1,12 @@
-use Rattle.std.proofs.Common.{◌∙◌, ap}
-use Rattle.heap_lock.specs.LockStates.{SeatModel}
-use Rattle.heap_server.proofs.HeldSteps.{heap_rewind}
+use Rattle.std.proofs.Common.{◌∙◌, refl, sym, subst}
+use Rattle.heap_server.specs.JoinedAnswers.{RewindsHeld}
+use Rattle.heap_server.proofs.HeldSteps.{held_act_keeps_role}
 use Rattle.heap_server.proofs.held_heap.rewind_held_to.Goals as goal
 
-pub reply_to_rewind-reply-requires : goal.reply_to_rewind-reply-requires
-reply_to_rewind-reply-requires g c = ap (λ (s : SeatModel). s.role) c.agree.ensures.seat ∙ c.requires
+pub returns-in-Ok-clause-rewinds : goal.returns-in-Ok-clause-rewinds
+returns-in-Ok-clause-rewinds g c =
+    subst (λ x. RewindsHeld g.L.Heap.config x c.args.kept.now c.args.seat.now _ c.rewind_held.new.self c.rewind_held.new.seat) (sym c.in-Ok.is ∙ c.steps_ago.ensures.steps)
+    (c.rewind_held.result, c.reply_to_act.result, c.rewind_held.ensures, c.reply_to_act.ensures.reply, refl)
 
-pub returns-clause-rewinds : goal.returns-clause-rewinds
-returns-clause-rewinds g c =
-    heap_rewind g.L.Heap.config c.args.witness.now c.show-2.new.witness c.args.place c.reply_to_rewind-reply.result
-    c.args.kept.now c.agree.new.self c.show.new.self c.reply_to_rewind-reply.new.kept c.agree-2.new.self
-    c.args.seat.now c.agree.new.seat c.reply_to_rewind-reply.new.seat c.agree-2.new.seat
-    c.agree.ensures.share c.agree.ensures.same c.agree.ensures.seat c.show.ensures.heap c.show.ensures.begins c.show.ensures.same
-    c.reply_to_rewind-reply.ensures.rewinds
-    c.agree-2.ensures.share c.agree-2.ensures.same c.agree-2.ensures.seat c.show-2.ensures.heap c.show-2.ensures.witness
-
-pub returns-clause-role : goal.returns-clause-role
-returns-clause-role g c = ap (λ (s : SeatModel). s.role) c.agree-2.ensures.seat ∙ c.reply_to_rewind-reply.ensures.role
+pub returns-in-Ok-clause-role : goal.returns-in-Ok-clause-role
+returns-in-Ok-clause-role g c = held_act_keeps_role _ _ _ _ c.rewind_held.result _ _ c.rewind_held.ensures ∙ c.requires

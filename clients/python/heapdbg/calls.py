@@ -107,7 +107,7 @@ class Calls:
         """Defines a class of object arrays, and returns its number."""
         return self.send(f"array {word_of(name)}", number)
 
-    def new(self, m: int, r: int, of_class: Union[int, str]) -> ObjectId:
+    def new(self, m: int, r: int, of_class: Name) -> ObjectId:
         """Makes an instance of a class in register `r` of mutator `m`, and returns its id."""
         return self.send(f"new {m} {r} {word_of(str(of_class))}", loaded)
 

@@ -43,7 +43,7 @@ WANTED = {
     "status": ("ok",),
     "collect": ("ok",),
     "rewind": ("ok place", "no 24"),
-    "new": (*BY_NAME, "no"),
+    "new": (*BY_NAME, "no 7", "no 10"),
     "help": ("ok", "bad"),
     "comment": ("nothing",),
 }

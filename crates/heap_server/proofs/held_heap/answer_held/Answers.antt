@@ -1,5 +1,6 @@
 use Rattle.std.proofs.Common.{◌∙◌, ap}
 use Rattle.heap_lock.specs.LockStates.{SeatModel}
+use Rattle.session_text.specs.Replies.{line_answer_text}
 use Rattle.heap_server.proofs.HeldSteps.{answer_under_lock}
 use Rattle.heap_server.proofs.held_heap.answer_held.Goals as goal
 
@@ -8,7 +9,7 @@ answer_order-answer-requires g c = ap (λ (s : SeatModel). s.role) c.agree.ensur
 
 pub returns-clause-answers : goal.returns-clause-answers
 returns-clause-answers g c =
-    answer_under_lock g.L.Heap.config c.args.obeys c.args.line.now c.args.witness.now c.show-2.new.witness c.order_obeyed-order.result _
+    answer_under_lock g.L.Heap.config c.args.obeys c.args.line.now c.args.witness.now c.show-2.new.witness c.order_obeyed-order.result (line_answer_text c.answer_order-answer.result)
     c.args.kept.now c.agree.new.self c.show.new.self c.answer_order-answer.new.kept c.agree-2.new.self
     c.args.seat.now c.agree.new.seat c.answer_order-answer.new.seat c.agree-2.new.seat
     c.agree.ensures.share c.agree.ensures.same c.agree.ensures.seat c.show.ensures.heap c.show.ensures.begins c.show.ensures.same

@@ -7,7 +7,7 @@ use Rattle.heap_lock.specs.Refusal.{Refusal}
 use Rattle.heap_lock.specs.Refusal.TheVariants.{NoMemory, ChronicleFull}
 use mathlib.Core.List.{IsPrefix}
 use Rattle.heap_lock.specs.HeapLimits.{HeapSettings}
-use Rattle.heap_lock.specs.Calls.{Call, IsHeapLedger, call_of}
+use Rattle.heap_lock.specs.Calls.{Call, call_of}
 use Rattle.heap_lock.specs.State.{HeapState}
 use Rattle.heap_lock.specs.Apply.{applied, refusal_of}
 use Rattle.heap_lock.specs.Answer.{Answer}
@@ -30,7 +30,7 @@ use Rattle.question_text.specs.declared.cycle.CycleCounts.{CycleCounts}
 use Rattle.question_text.specs.Collections.{IsShortage, TakenStep}
 use Rattle.question_text.specs.declared.order.Order.{Order}
 use Rattle.question_text.proofs.CycleSteps.{short}
-use Rattle.heap_server.specs.JoinedAnswers.{AnswersForSeat, AnswersHeld, Gains, IsHeapOfSeat, entries_of_steps, order_obeyed}
+use Rattle.heap_server.specs.JoinedAnswers.{AnswersForSeat, AnswersHeld, Gains, IsHeapOfSeat, LeavesSeen, entries_of_steps, order_obeyed}
 
 -- a step that is refused leaves the machine
 refused_step_leaves_machine : (m n : Machine) (e : Event) (r : Refusal) → acted m (Step e) ≡ (n, Refused r) → n ≡ m
@@ -139,29 +139,29 @@ none_gained k s steps l t l' t' lock seat g =
 
 -- ---- an answer
 
-abbrev IsHeapUnderLock : HeapSettings → LockState → Type 0
-IsHeapUnderLock config k = IsHeapLedger config k.machine k.chronicle k.ledger
-
 -- an act under the lock leaves the seat its role
 pub held_act_keeps_role : (config : HeapSettings) (action : Action) (k : LockState) (s : SeatModel) (done : Result Receipt Refusal) (k' : LockState) (s' : SeatModel) → IsHeldAct config action k s done k' s' → s'.role ≡ s.role
 held_act_keeps_role config action k s (Ok r) k' s' h = ap (λ (x : SeatModel). x.role) h.act.5
 held_act_keeps_role config action k s (Err e) k' s' h = ap (λ (x : SeatModel). x.role) h.unchanged.1
 
--- an answer between two moments under one lock, at each of which chronicle and seat were compared and the witness saw all calls
-pub answer_under_lock : (config : HeapSettings) (obeys : Bool) (line : List ℕ) (seen seen' : List Call) (order : Option Order) (text : List ℕ) (k k1 k2 l l1 : LockState) (s s1 t t1 : SeatModel) → entries_by s.number k.chronicle ≡ s.share → k1 ≡ k → s1 ≡ s → IsHeapUnderLock config k1 → IsPrefix seen k1.ledger → k2 ≡ k1
-    → order ≡ order_obeyed obeys k2.machine.trail.current line → AnswersHeld config order line k2 s1 text l t → entries_by t.number l.chronicle ≡ t.share → l1 ≡ l → t1 ≡ t → IsHeapUnderLock config l1 → seen' ≡ l1.ledger → AnswersForSeat config obeys line s seen text t1 seen'
-answer_under_lock config obeys line seen seen' order text k k1 k2 l l1 s s1 t t1 share same seat heap begins shown asked answers share' same' seat' heap' sees =
-    let to : IsHeapOfSeat config l.machine l.chronicle l.ledger t = (subst (IsHeapUnderLock config) same' heap', share') in
-    let held : AnswersHeld config (order_obeyed obeys k2.machine.trail.current line) line k2 s1 text l t = subst (λ (o : Option Order). AnswersHeld config o line k2 s1 text l t) asked answers in
+-- a heap that was seen, where the seat stays as it is then
+pub leaves_seen : (config : HeapSettings) (Leads : LockState → SeatModel → Type 0) (last : LockState) (s s' : SeatModel) (seen : List Call) → Leads last s → IsHeapOfSeat config last.machine last.chronicle last.ledger s → s' ≡ s → seen ≡ last.ledger → LeavesSeen config (λ (k : LockState). Leads k s') s' seen
+leaves_seen config Leads last s s' seen leads heap same sees =
+    (last, subst (Leads last) (sym same) leads, subst (λ (x : SeatModel). IsHeapOfSeat config last.machine last.chronicle last.ledger x) (sym same) heap, sees)
+
+-- an answer that one gives who saw the heap before, under the same lock
+pub answer_under_lock : (config : HeapSettings) (obeys : Bool) (line : List ℕ) (seen seen' : List Call) (order : Option Order) (text : List ℕ) (k k1 : LockState) (s s1 s' : SeatModel) → IsHeapOfSeat config k.machine k.chronicle k.ledger s → IsPrefix seen k.ledger → k1 ≡ k → s1 ≡ s → order ≡ order_obeyed obeys k1.machine.trail.current line
+    → LeavesSeen config (λ (last : LockState). AnswersHeld config order line k1 s1 text last s') s' seen' → AnswersForSeat config obeys line s seen text s' seen'
+answer_under_lock config obeys line seen seen' order text k k1 s s1 s' heap begins same seat asked h =
     record {
       first = k;
-      last = l;
-      begins = subst (λ (x : LockState). IsPrefix seen x.ledger) same begins;
-      from = (subst (IsHeapUnderLock config) same heap, share);
+      last = h.0;
+      begins = begins;
+      from = heap;
       answers =
-          subst (λ (x : SeatModel). AnswersHeld config (order_obeyed obeys k.machine.trail.current line) line k s text l x) (sym seat')
-          (subst (λ (x : SeatModel). AnswersHeld config (order_obeyed obeys k.machine.trail.current line) line k x text l t) seat
-          (subst (λ (x : LockState). AnswersHeld config (order_obeyed obeys x.machine.trail.current line) line x s1 text l t) (shown ∙ same) held));
-      to = subst (λ (x : SeatModel). IsHeapOfSeat config l.machine l.chronicle l.ledger x) (sym seat') to;
-      sees = sees ∙ ap (λ (x : LockState). x.ledger) same';
+          subst (λ (x : SeatModel). AnswersHeld config (order_obeyed obeys k.machine.trail.current line) line k x text h.0 s') seat
+          (subst (λ (x : LockState). AnswersHeld config (order_obeyed obeys x.machine.trail.current line) line x s1 text h.0 s') same
+          (subst (λ (o : Option Order). AnswersHeld config o line k1 s1 text h.0 s') asked h.1));
+      to = h.2;
+      sees = h.3;
     }

@@ -86,6 +86,12 @@ AnswersHeld config (Some (Act e)) l k s text k' s' = ActsHeld config (Step e) k 
 AnswersHeld config None l k s text k' s' =
     IsAnswerOfLine l k.machine (Some (length k.chronicle)) text × (k' ≡ k) × (s' ≡ s)
 
+-- someone who held the lock led to this heap of the seat, all of whose calls are seen
+abbrev pub LeavesSeen : HeapSettings → (LockState → Type 0) → SeatModel → List Call → Type 0
+LeavesSeen config Leads s seen =
+    (last : LockState) × Leads last × IsHeapOfSeat config last.machine last.chronicle last.ledger s
+    × (seen ≡ last.ledger)
+
 -- what a line asks to be done, if lines may ask that here
 abbrev pub order_obeyed : Bool → HeapState → List ℕ → Option Order
 order_obeyed true state l = order_in state l

@@ -1,11 +1,11 @@
 //! A shared heap as its holder has it, about which questions are answered, and on which other lines act.
-ghost use Rattle.std.specs.Prelude.{◌≡◌, Some, length};
+ghost use Rattle.std.specs.Prelude.{◌≡◌, None, Some};
 ghost use Rattle.session_text.specs.Replies.{line_answer_text};
 ghost use Rattle.heap_lock.specs.declared.role.Role.TheVariants.{User};
 ghost use Rattle.heap_lock.specs.Action.TheVariants.{Step};
-ghost use Rattle.question_text.specs.Answers.{IsAnswerOfLine};
+ghost use mathlib.Core.List.{IsPrefix};
 ghost use Rattle.question_text.specs.Histories.{steps_ago};
-ghost use Rattle.heap_server.specs.JoinedAnswers.{ActsHeld, AnswersForSeat, AnswersHeld, CollectsHeld, RewindsHeld, RunsCycleHeld, order_obeyed};
+ghost use Rattle.heap_server.specs.JoinedAnswers.{ActsHeld, AnswersForSeat, AnswersHeld, CollectsHeld, IsHeapOfSeat, LeavesSeen, RewindsHeld, RunsCycleHeld, order_obeyed};
 
 use crate::joined::reply_to_act;
 use heap_lock::{Answer, Event, Heap, Kept, Machine, Outcome, Refusal, Reply, Seat, Witness};
@@ -67,13 +67,9 @@ pub(crate) fn answer_held<L: Heap>(
         (line_answer_text result) seat.new witness.new }
     ensures role { seat.new.role ≡ User }
 {
-    kept.agree(seat);
-    kept.show(witness);
+    see_all(kept, seat, witness);
     let order = order_obeyed(kept, obeys, line);
-    let answer = answer_order(alloc, kept, seat, order, line);
-    kept.agree(seat);
-    kept.show(witness);
-    answer
+    answer_order(alloc, kept, seat, witness, order, line)
 }
 
 // Returns what a line asks to be done, if `obeys` says that it may ask that.
@@ -92,44 +88,76 @@ fn answer_order<L: Heap>(
     alloc: Global,
     kept: &mut Kept<L>,
     seat: &mut Seat<L>,
+    witness: &mut Witness<L>,
     order: Option<Order>,
     line: &[u8],
 ) -> LineAnswer
     requires { seat.old.role ≡ User }
-    ensures answers { AnswersHeld L.config order line.now kept.old seat.old
-        (line_answer_text result) kept.new seat.new }
+    ensures answers { LeavesSeen L.config (λ last. AnswersHeld L.config order line.now kept.old
+        seat.old (line_answer_text result) last seat.new) seat.new witness.new }
     ensures role { seat.new.role ≡ User }
 {
     match order {
-        Some(Order::Collect) => collect_held(alloc, kept, seat),
-        Some(Order::RewindTo(place)) => rewind_held_to(kept, seat, place),
-        Some(Order::Act(event)) => take_held(kept, seat, event),
-        None => answer_question(alloc, kept, line),
+        Some(Order::Collect) => collect_held(alloc, kept, seat, witness),
+        Some(Order::RewindTo(place)) => rewind_held_to(kept, seat, witness, place),
+        Some(Order::Act(event)) => take_held(kept, seat, witness, event),
+        None => answer_question(alloc, kept, seat, witness, line),
     }
 }
 
 // Takes the steps of `collect` for one who holds the lock, each an act of the seat, and returns its answer.
-fn collect_held<L: Heap>(alloc: Global, kept: &mut Kept<L>, seat: &mut Seat<L>) -> LineAnswer
+fn collect_held<L: Heap>(
+    alloc: Global,
+    kept: &mut Kept<L>,
+    seat: &mut Seat<L>,
+    witness: &mut Witness<L>,
+) -> LineAnswer
     requires { seat.old.role ≡ User }
-    ensures collects { CollectsHeld kept.old seat.old (line_answer_text result) kept.new seat.new }
+    ensures collects { LeavesSeen L.config (λ last. CollectsHeld kept.old seat.old
+        (line_answer_text result) last seat.new) seat.new witness.new }
     ensures role { seat.new.role ≡ User }
 {
-    let cycle = run_cycle_held(kept, seat);
+    let cycle = run_cycle_held(kept, seat, witness);
     collect_answer(alloc, cycle)
 }
 
 // Runs a cycle for one who holds the lock.
-fn run_cycle_held<L: Heap>(kept: &mut Kept<L>, seat: &mut Seat<L>) -> Result<CycleCounts, Refusal>
+fn run_cycle_held<L: Heap>(
+    kept: &mut Kept<L>,
+    seat: &mut Seat<L>,
+    witness: &mut Witness<L>,
+) -> Result<CycleCounts, Refusal>
     requires { seat.old.role ≡ User }
-    ensures runs { RunsCycleHeld kept.old seat.old result kept.new seat.new }
+    ensures runs { LeavesSeen L.config (λ last. RunsCycleHeld kept.old seat.old result last
+        seat.new) seat.new witness.new }
     ensures role { seat.new.role ≡ User }
 {
     let mut held: HeldHeap<'_, L> = HeldHeap { kept };
-    run_cycle(&mut held, seat)
+    let cycle = run_cycle(&mut held, seat);
+    see_all(&mut *held.kept, seat, witness);
+    cycle
 }
 
 // Rewinds the heap to the state at a place for one who holds the lock, as an act of the seat.
-fn rewind_held_to<L: Heap>(kept: &mut Kept<L>, seat: &mut Seat<L>, place: u64) -> LineAnswer
+fn rewind_held_to<L: Heap>(
+    kept: &mut Kept<L>,
+    seat: &mut Seat<L>,
+    witness: &mut Witness<L>,
+    place: u64,
+) -> LineAnswer
+    requires { seat.old.role ≡ User }
+    ensures rewinds { LeavesSeen L.config (λ last. RewindsHeld L.config
+        (steps_ago (Some place) kept.old.machine.trail) kept.old seat.old
+        (line_answer_text result) last seat.new) seat.new witness.new }
+    ensures role { seat.new.role ≡ User }
+{
+    let answer = answer_to_rewind(kept, seat, place);
+    see_all(kept, seat, witness);
+    answer
+}
+
+// Rewinds the heap to the state at a place for one who holds the lock, as an act of the seat that the witness doesn't see.
+fn answer_to_rewind<L: Heap>(kept: &mut Kept<L>, seat: &mut Seat<L>, place: u64) -> LineAnswer
     requires { seat.old.role ≡ User }
     ensures rewinds { RewindsHeld L.config (steps_ago (Some place) kept.old.machine.trail) kept.old
         seat.old (line_answer_text result) kept.new seat.new }
@@ -142,20 +170,48 @@ fn rewind_held_to<L: Heap>(kept: &mut Kept<L>, seat: &mut Seat<L>, place: u64) -
 }
 
 // Takes a step for one who holds the lock, as an act of the seat.
-fn take_held<L: Heap>(kept: &mut Kept<L>, seat: &mut Seat<L>, event: Event) -> LineAnswer
+fn take_held<L: Heap>(
+    kept: &mut Kept<L>,
+    seat: &mut Seat<L>,
+    witness: &mut Witness<L>,
+    event: Event,
+) -> LineAnswer
     requires { seat.old.role ≡ User }
-    ensures acts { ActsHeld L.config (Step event) kept.old seat.old (line_answer_text result)
-        kept.new seat.new }
+    ensures acts { LeavesSeen L.config (λ last. ActsHeld L.config (Step event) kept.old seat.old
+        (line_answer_text result) last seat.new) seat.new witness.new }
     ensures role { seat.new.role ≡ User }
 {
-    LineAnswer::Known(reply_to_act(kept.act_held(seat, event)))
+    let reply = reply_to_act(kept.act_held(seat, event));
+    see_all(kept, seat, witness);
+    LineAnswer::Known(reply)
 }
 
 // Answers a question about the heap.
-fn answer_question<L: Heap>(alloc: Global, kept: &Kept<L>, line: &[u8]) -> LineAnswer
-    ensures { IsAnswerOfLine line.now kept.now.machine (Some (length kept.now.chronicle))
-        (line_answer_text result) }
+fn answer_question<L: Heap>(
+    alloc: Global,
+    kept: &mut Kept<L>,
+    seat: &mut Seat<L>,
+    witness: &mut Witness<L>,
+    line: &[u8],
+) -> LineAnswer
+    ensures answers { LeavesSeen L.config (λ last. AnswersHeld L.config None line.now kept.old
+        seat.old (line_answer_text result) last seat.new) seat.new witness.new }
+    ensures seat { seat.new ≡ seat.old }
 {
+    see_all(kept, seat, witness);
     let acts = kept.chronicle().len() as u64;
     answer_line(alloc, kept.machine(), Some(acts), line)
+}
+
+// Compares the chronicle with the seat, and has the witness see all calls.
+fn see_all<L: Heap>(kept: &mut Kept<L>, seat: &mut Seat<L>, witness: &mut Witness<L>)
+    ensures heap { IsHeapOfSeat L.config kept.old.machine kept.old.chronicle kept.old.ledger
+        seat.old }
+    ensures begins { IsPrefix witness.old kept.old.ledger }
+    ensures sees { witness.new ≡ kept.old.ledger }
+    ensures same { kept.new ≡ kept.old }
+    ensures seat { seat.new ≡ seat.old }
+{
+    kept.agree(seat);
+    kept.show(witness);
 }

@@ -1,5 +1,5 @@
 -- What an act under the lock is as a step of the machine.
-use Rattle.std.proofs.Common.{◌≡◌, ◌∙◌, ℕ, ◌+◌, Bool, true, false, Some, None, refl, sym, ap, ap₂, subst, inl, inr, List, [], ◌∷◌, ◌++◌, length, map, arith}
+use Rattle.std.proofs.Common.{◌≡◌, ◌∙◌, ℕ, ◌+◌, Bool, true, false, None, refl, sym, ap, ap₂, subst, inl, inr, List, [], ◌∷◌, ◌++◌, length, map, arith}
 use Rattle.std.specs.Prelude.{Option, Result, Ok, Err, nat_le}
 use Rattle.std.specs.List.{enumerate_from}
 use Rattle.std.proofs.lemmas.List.{append_assoc, append-nil, length-append, length_push, map-append}
@@ -22,11 +22,10 @@ use Rattle.heap_lock.specs.Outcome.{Outcome}
 use Rattle.heap_lock.specs.Entry.{Entry}
 use Rattle.heap_lock.specs.Outcome.TheVariants as outcome
 use Rattle.heap_lock.specs.Receipt.{Receipt}
-use Rattle.heap_lock.specs.History.{MayEnter, entry, reply_of, entries_by}
+use Rattle.heap_lock.specs.History.{MayEnter, entry, reply_of}
 use Rattle.heap_lock.specs.LockStates.{SeatModel, IsAct, IsHeldAct, IsNoEntry, IsRefused, LockState}
 use Rattle.heap_lock.proofs.Histories.{numbered_entries_of_one_more}
 use Rattle.heap_lock.proofs.StepReplies.{step_replies_no_place}
-use Rattle.question_text.specs.declared.cycle.CycleCounts.{CycleCounts}
 use Rattle.question_text.specs.Collections.{IsShortage, TakenStep}
 use Rattle.question_text.specs.declared.order.Order.{Order}
 use Rattle.question_text.proofs.CycleSteps.{short}

@@ -9,7 +9,9 @@ ghost use Rattle.heap_server.specs.JoinedAnswers.{ActsHeld, AnswersForSeat, Answ
 
 use crate::joined::reply_to_act;
 use heap_lock::{Answer, Event, Heap, Kept, Machine, Outcome, Refusal, Reply, Seat, Witness};
-use question_text::{CycleCounts, Order, Steps, answer_line, collect_answer, order_in, run_cycle, steps_ago};
+use question_text::{
+    CycleCounts, Order, Steps, answer_line, collect_answer, order_in, run_cycle, steps_ago,
+};
 use session_text::LineAnswer;
 use std::alloc::Global;
 

@@ -107,9 +107,9 @@ class Calls:
         """Defines a class of object arrays, and returns its number."""
         return self.send(f"array {word_of(name)}", number)
 
-    def new(self, m: int, r: int, class_number: int) -> ObjectId:
-        """Makes an instance in register `r` of mutator `m`, and returns its id."""
-        return self.send(f"new {m} {r} {class_number}", loaded)
+    def new(self, m: int, r: int, of_class: Name) -> ObjectId:
+        """Makes an instance of a class in register `r` of mutator `m`, and returns its id."""
+        return self.send(f"new {m} {r} {word_of(str(of_class))}", loaded)
 
     def new_array(self, m: int, r: int, class_number: int, length: int) -> ObjectId:
         """Makes an object array, and returns its id."""

@@ -23,9 +23,9 @@ use Rattle.question_text.specs.declared.asking.Asking.{Asking}
 use Rattle.question_text.specs.declared.cycle.CycleCounts.{CycleCounts}
 use Rattle.question_text.specs.Collections.{AreNext, NoneDenies, RunsCycle, TakenStep, ends_cycle}
 use Rattle.question_text.specs.declared.order.Order.{Order}
-use Rattle.question_text.specs.declared.order.Order.TheVariants.{Collect, RewindTo}
+use Rattle.question_text.specs.declared.order.Order.TheVariants.{Act, Collect, RewindTo}
 use Rattle.question_text.specs.Histories.{steps_ago}
-use Rattle.question_text.specs.Orders.{RewindsBy, order_of}
+use Rattle.question_text.specs.Orders.{RewindsBy, order_in}
 use Rattle.question_text.specs.Sessions.{AnswersEach, AnswersLine, AskingActs, AskingAnswers, IsDriven, IsSessionOf, AnswersAlone, NoneOrders, is_known, known_of, lines_of, texts_of}
 
 -- ---- the text of each line
@@ -60,7 +60,7 @@ Says time = AnswersCommand AskingActs AskingAnswers time
 abbrev pub Alone : ℕ → AnswerRelation Local
 Alone time = AnswersCommand acts all_bad time
 
-one_known : (limits : SessionLimits) (time : ℕ) (a : List ℕ × List ℕ) (c between : Asking) (d : Local) (known : List (List ℕ × List ℕ)) → IsLine limits a.0 → order_of (without_cr a.0) ≡ None → Says time a.0 c a.1 between
+one_known : (limits : SessionLimits) (time : ℕ) (a : List ℕ × List ℕ) (c between : Asking) (d : Local) (known : List (List ℕ × List ℕ)) → IsLine limits a.0 → order_in c.local.machine.trail.current (without_cr a.0) ≡ None → Says time a.0 c a.1 between
     → AnswersAll limits (Alone time) (lines_of known) between.local (texts_of known) d → (b : Bool) → is_known (command_of a.0) ≡ b
     → AnswersAll limits (Alone time) (lines_of (cond b (a ∷ known) known)) c.local (texts_of (cond b (a ∷ known) known)) d
 one_known limits time a c between d known line none says rest true h = (
@@ -74,14 +74,14 @@ one_known limits time a c between d known line none says rest true h = (
 )
 one_known limits time a c between d known line none says rest false h =
     let unknown : AskingAnswers (without_cr a.0) c a.1 between = subst (λ (k : Command). AnswersTo AskingActs (AskingAnswers (without_cr a.0)) time k c a.1 between) (unknown_is (command_of a.0) h) says in
-    let same = question_leaves (order_of (without_cr a.0)) (without_cr a.0) a.1 c.local between.local none unknown.0 in
+    let same = question_leaves (order_in c.local.machine.trail.current (without_cr a.0)) (without_cr a.0) a.1 c.local between.local none unknown.0 in
     subst (λ (x : Local). AnswersAll limits (Alone time) (lines_of known) x (texts_of known) d) same rest
 
 known_answers : (limits : SessionLimits) (time : ℕ) (answered : List (List ℕ × List ℕ)) (c d : Asking) → NoneOrders (lines_of answered) → AnswersEach limits (Says time) answered c d
     → AnswersAll limits (Alone time) (lines_of (known_of answered)) c.local (texts_of (known_of answered)) d.local
 known_answers limits time [] c d none t = (refl, ap (λ (x : Asking). x.local) t)
 known_answers limits time (a ∷ answered) c d none t =
-    one_known limits time a c t.0 d.local (known_of answered) t.1 none.0 t.2 (known_answers limits time answered t.0 d none.1 t.3) (is_known (command_of a.0)) refl
+    one_known limits time a c t.0 d.local (known_of answered) t.1 (none.0 c.local.machine.trail.current) t.2 (known_answers limits time answered t.0 d none.1 t.3) (is_known (command_of a.0)) refl
 
 session_alone : (limits : SessionLimits) (time : ℕ) (answered : List (List ℕ × List ℕ)) (c d : Local) → AnswersAll limits (Alone time) (lines_of answered) c (texts_of answered) d → IsSessionOf limits time c.machine answered d.machine
 unfolding session_of
@@ -118,6 +118,7 @@ rewind_driven m x n (Err e) text h d = subst (IsDriven m) (sym h.1) d
 unknown_driven : (m : Machine) (order : Option Order) (l text : List ℕ) (c d : Local) → AnswersLine order l c text d → IsDriven m c.machine → IsDriven m d.machine
 unknown_driven m (Some Collect) l text c d h p = cycle_driven m c.machine d.machine h.0.0 h.0.1 h.0.2 p
 unknown_driven m (Some (RewindTo place)) l text c d h p = rewind_driven m c.machine d.machine (steps_ago (Some place) c.machine.trail) text h.0 p
+unknown_driven m (Some (Act e)) l text c d h p = (p.0 ++ Step e ∷ [], p.1 ++ h.0.0 ∷ [], driven_more m p.0 p.1 c.machine d.machine (Step e) h.0.0 p.2 h.0.1)
 unknown_driven m None l text c d h p = subst (λ (x : Local). IsDriven m x.machine) (sym h.1) p
 
 line_driven : (m : Machine) (time : ℕ) (l : List ℕ) (c : Asking) (text : List ℕ) (d : Asking) (b : Bool) → is_known (command_of l) ≡ b → Says time l c text d → IsDriven m c.local.machine → IsDriven m d.local.machine
@@ -125,7 +126,7 @@ line_driven m time l c text d true h says p =
     answer_keeps AskingActs (AskingAnswers (without_cr l)) (λ (x : Asking). IsDriven m x.local.machine) (λ x a r y e q. (q.0 ++ a ∷ [], q.1 ++ r ∷ [], driven_more m q.0 q.1 x.local.machine y.local.machine a r q.2 e.0)) time (command_of l) c text d (known_is (command_of l) h) says p
 line_driven m time l c text d false h says p =
     let unknown : AskingAnswers (without_cr l) c text d = subst (λ (k : Command). AnswersTo AskingActs (AskingAnswers (without_cr l)) time k c text d) (unknown_is (command_of l) h) says in
-    unknown_driven m (order_of (without_cr l)) (without_cr l) text c.local d.local unknown.0 p
+    unknown_driven m (order_in c.local.machine.trail.current (without_cr l)) (without_cr l) text c.local d.local unknown.0 p
 
 lines_driven : (limits : SessionLimits) (m : Machine) (time : ℕ) (lines : List (List ℕ)) (c : Asking) (text : List ℕ) (d : Asking) → AnswersAll limits (Says time) lines c text d → IsDriven m c.local.machine → IsDriven m d.local.machine
 lines_driven limits m time [] c text d t p = subst (λ (x : Asking). IsDriven m x.local.machine) (sym t.1) p

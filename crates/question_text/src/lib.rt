@@ -14,7 +14,7 @@ ghost use Rattle.question_text.specs.Comments.{is_comment};
 ghost use Rattle.question_text.specs.Help.{HasForm, help_of};
 ghost use Rattle.question_text.specs.NamedLines.{question_in};
 ghost use Rattle.question_text.specs.declared.order.Order.{Order};
-ghost use Rattle.question_text.specs.Orders.{order_of};
+ghost use Rattle.question_text.specs.Orders.{order_in};
 ghost use Rattle.question_text.specs.Questions.{QuestionRule, question_of, question_rules};
 ghost use Rattle.question_text.specs.Sessions.{AnswersAlone, AskingActs, AskingAnswers, IsDriven, NoneOrders};
 ghost use Rattle.session_text.specs.Answers.{AnswersCommand};
@@ -72,7 +72,7 @@ pub use at::steps_ago;
 pub use cycle::{CycleCounts, collect_answer, run_cycle};
 pub use help::{all_help, keyword_help, question_help};
 pub use names::push_row_name;
-pub use order::{Order, order_of};
+pub use order::{Order, order_in};
 pub use question::{At, Question, at_of, question_of};
 pub use session::serve_asking;
 pub use state_dump::dump_at;
@@ -99,9 +99,10 @@ pub fn help_is_new()
     ensures { (l text : List ℕ) → help_of l ≡ Some text → command_of_text l ≡ Bad }
 {}
 
-/// States the same of the lines `collect` and `rewind @P`.
+/// States the same of the lines `collect`, `rewind @P` and `new M R NAME`.
 pub fn orders_are_new()
-    ensures { (l : List ℕ) (o : Order) → order_of l ≡ Some o → command_of_text l ≡ Bad }
+    ensures { (state : HeapState) (l : List ℕ) (o : Order)
+        → order_in state l ≡ Some o → command_of_text l ≡ Bad }
 {}
 
 /// States the same of a comment: a line whose first word begins with `#`.
@@ -116,14 +117,14 @@ pub fn comments_are_silent()
 {}
 
 /// States that a question and a line that asks for help change nothing, nor does any other line that the grammar of sessions
-/// doesn't know, but `collect` and `rewind @P`.
+/// doesn't know, but `collect`, `rewind @P` and `new M R NAME`.
 pub fn questions_change_nothing()
     ensures questions { (l text : List ℕ) (q : Question) (c d : Asking)
         → question_of l ≡ Some q → AskingAnswers l c text d → d ≡ c }
     ensures help { (l text answer : List ℕ) (c d : Asking)
         → help_of l ≡ Some answer → AskingAnswers l c text d → d ≡ c }
     ensures others { (l text : List ℕ) (c d : Asking)
-        → order_of l ≡ None → AskingAnswers l c text d → d ≡ c }
+        → order_in c.local.machine.trail.current l ≡ None → AskingAnswers l c text d → d ≡ c }
 {}
 
 /// States that the state determines the steps of `collect`: from one state two whole cycles take the same steps with the same
@@ -137,7 +138,8 @@ pub fn collect_is_determined()
 {}
 
 /// States that the lines of a session with questions that the grammar of sessions knows are answered, and leave the machine, as
-/// a session of these lines alone does, if none is `collect` or `rewind @P`.
+/// a session of these lines alone does, if none is `collect`, `rewind @P` or
+/// `new M R NAME`.
 pub fn questions_can_be_left_out()
     ensures { (limits : SessionLimits) (time : ℕ) (lines : List (List ℕ)) (text : List ℕ)
         (c d : Asking) → NoneOrders lines

@@ -1,40 +1,100 @@
--- Lines that change the heap, though they are none of the grammar of sessions: `collect` and `rewind @P`.
-use Rattle.std.specs.Prelude.{◌≡◌, ℕ, List, [], ◌∷◌, codes, Option, Some, None, option_map, option_and_then, Result, Ok, Err, if◌then◌else◌}
+-- Lines that change the heap, though they are none of the grammar of sessions: `collect`, `rewind @P`, `forward N` and
+-- `forward @P`.
+use Rattle.std.specs.Prelude.{◌≡◌, ℕ, ◌-◌, nat_le, List, [], ◌∷◌, codes, Option, Some, None, option_map, option_and_then, Result, Ok, Err, if◌then◌else◌}
+use Rattle.std.specs.Option.{option_or}
 use Rattle.std.specs.Str.{bytes_eq}
 use Rattle.heap_class.specs.declared.Refusal.{Refusal}
+use Rattle.heap_class.specs.declared.Refusal.TheVariants.{NotRetained}
 use Rattle.heap_trail.specs.declared.Action.TheVariants.{Rewind}
 use Rattle.heap_trail.specs.declared.Reply.{Reply}
 use Rattle.heap_trail.specs.Machine.{Machine}
-use Rattle.session_grammar.specs.Grammar.{at_end, words_of_line}
+use Rattle.heap_trail.specs.Trail.{Trail}
+use Rattle.session_grammar.specs.Grammar.{at_end, number_of_word, words_of_line}
 use Rattle.session_text.specs.Local.{LocalActs}
 use Rattle.session_text.specs.Replies.{reply_text}
+use Rattle.question_text.specs.declared.cycle.CycleCounts.{CycleCounts}
 use Rattle.question_text.specs.declared.order.Order.{Order}
-use Rattle.question_text.specs.declared.order.Order.TheVariants.{Collect, RewindTo}
+use Rattle.question_text.specs.declared.order.Order.TheVariants.{Collect, Forward, ForwardTo, RewindTo}
+use Rattle.question_text.specs.Collections.{IsCycleAnswer, NoneDenies, RunsCycle, TakenStep}
 use Rattle.question_text.specs.Histories.{steps_ago}
 use Rattle.question_text.specs.Moments.{refused_text}
 use Rattle.question_text.specs.Questions.{place_of_word}
+use Rattle.question_text.specs.Redos.{GoesForward, Redo, noted, with_steps}
+
+-- ---- the line
+
+-- what is asked to be done with the place that a word names as `@P`
+abbrev pub to_place : (ℕ → Order) → List ℕ → Option Order
+to_place order w =
+    option_and_then (λ to. option_map (λ place. order place) to) (place_of_word w)
 
 -- the rewind to the place that a word names as `@P`
 abbrev pub way_back : List ℕ → Option Order
-way_back w = option_and_then (λ to. option_map (λ place. RewindTo place) to) (place_of_word w)
+way_back w = to_place RewindTo w
+
+-- the steps forward that a word counts, or those to the place that it names as `@P`
+abbrev pub way_on : List ℕ → Option Order
+way_on w = option_or (option_map (λ n. Forward n) (number_of_word w)) (to_place ForwardTo w)
+
+-- what a keyword and the word behind it ask to be done
+unfoldable pub order_of_two : List ℕ → List ℕ → Option Order
+order_of_two w v =
+    if bytes_eq w (codes "rewind") then way_back v
+    else (if bytes_eq w (codes "forward") then way_on v else None)
 
 -- what the words ask to be done
 unfoldable pub order_of_words : List (List ℕ) → Option Order
 order_of_words [] = None
 order_of_words (w ∷ []) = if bytes_eq w (codes "collect") then Some Collect else None
-order_of_words (w ∷ v ∷ ws) =
-    if bytes_eq w (codes "rewind") then option_and_then (λ back. at_end back ws) (way_back v)
-    else None
+order_of_words (w ∷ v ∷ ws) = option_and_then (λ order. at_end order ws) (order_of_two w v)
 
 -- what a line asks to be done
 abbrev pub order_of : List ℕ → Option Order
 order_of l = order_of_words (words_of_line l)
 
+-- ---- what it does
+
+-- what changes a machine and the steps that can be taken again, and is answered with a text
+abbrev pub Deed : Type 1
+Deed = Machine → Redo → List ℕ → Machine → Redo → Type 0
+
+-- nothing is done, for this reason
+abbrev pub IsRefusedDeed : Refusal → Deed
+IsRefusedDeed e m r text m' r' = (text ≡ refused_text e) × (m' ≡ m) × (r' ≡ r)
+
+-- `collect` takes steps: those of a whole cycle, or up to one that was refused, whose refusal is the answer
+abbrev pub Collects : Deed
+Collects m r text m' r' =
+    (steps : List TakenStep) × (cycle : Result CycleCounts Refusal)
+    × RunsCycle NoneDenies m steps cycle m' × IsCycleAnswer cycle text × (r' ≡ with_steps steps r)
+
 -- a rewind of this many steps, and its reply; or a refusal, and nothing is done
-abbrev pub RewindsBy : Result ℕ Refusal → Machine → List ℕ → Machine → Type 0
-RewindsBy (Ok n) m text m' = (r : Reply) × LocalActs m (Rewind n) r m' × (text ≡ reply_text r)
-RewindsBy (Err e) m text m' = (text ≡ refused_text e) × (m' ≡ m)
+abbrev pub RewindsBy : Result ℕ Refusal → Deed
+RewindsBy (Ok n) m r text m' r' =
+    (reply : Reply) × LocalActs m (Rewind n) reply m' × (text ≡ reply_text reply)
+    × (r' ≡ noted (Rewind n) reply r)
+RewindsBy (Err e) m r text m' r' = IsRefusedDeed e m r text m' r'
 
 -- a rewind of as many steps as lead from the state at a place to the current one; or that state isn't retained
-abbrev pub RewindsTo : ℕ → Machine → List ℕ → Machine → Type 0
-RewindsTo place m text m' = RewindsBy (steps_ago (Some place) m.trail) m text m'
+abbrev pub RewindsTo : ℕ → Deed
+RewindsTo place m r text m' r' = RewindsBy (steps_ago (Some place) m.trail) m r text m' r'
+
+-- how many steps lead on to a place, which isn't behind the current one
+unfoldable pub steps_on : ℕ → Trail → Result ℕ Refusal
+steps_on place t = if nat_le t.place place then Ok (place - t.place) else Err NotRetained
+
+-- this many undone steps are taken again; or a refusal, and nothing is done
+abbrev pub GoesForwardBy : Result ℕ Refusal → Deed
+GoesForwardBy (Ok n) m r text m' r' = GoesForward n m r text m' r'
+GoesForwardBy (Err e) m r text m' r' = IsRefusedDeed e m r text m' r'
+
+-- as many undone steps are taken again as lead on to a place; or it is behind the current one
+abbrev pub GoesForwardTo : ℕ → Deed
+GoesForwardTo place m r text m' r' = GoesForwardBy (steps_on place m.trail) m r text m' r'
+
+-- what is asked to be done
+abbrev pub Does : Order → Deed
+Does Collect = Collects
+Does (RewindTo place) = RewindsTo place
+Does (Forward n) = GoesForward n
+Does (ForwardTo place) = GoesForwardTo place

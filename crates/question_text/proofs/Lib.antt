@@ -22,5 +22,7 @@ pub mod StatusRows
 pub mod WaitingRegions
 pub mod CycleSteps
 pub mod KeptPins
+pub mod RetakenSteps
 pub mod QuestionsLeftOut
+pub mod KeptRedos
 pub mod JoinedDump

@@ -1,7 +1,6 @@
 -- The steps that rewinds undid, which can be taken again.
-use Rattle.std.specs.Prelude.{◌≡◌, ◌⊎◌, ⊤, ℕ, zero, suc, ◌+◌, ◌-◌, ◌≤◌, ◌<◌, nat_le, List, [], ◌∷◌, ◌++◌, codes, drop, length, take, min, slice_get, Option, Some, None, if◌then◌else◌}
+use Rattle.std.specs.Prelude.{◌≡◌, ◌⊎◌, ⊤, ℕ, zero, suc, ◌+◌, ◌-◌, ◌≤◌, ◌<◌, nat_le, List, [], ◌∷◌, ◌++◌, codes, drop, length, take, slice_get, Option, Some, None, if◌then◌else◌}
 use Rattle.heap_class.specs.declared.Refusal.{Refusal}
-use Rattle.heap_class.specs.declared.Refusal.TheVariants.{NoMemory}
 use Rattle.heap_world.specs.State.{HeapState}
 use Rattle.heap_step.specs.declared.Answer.{Answer}
 use Rattle.heap_step.specs.declared.Event.{Event}
@@ -115,12 +114,20 @@ AreLastEvents (e ∷ events) w (v ∷ past) (left ∷ records) =
     IsStep e v w left × AreLastEvents events v past records
 AreLastEvents (e ∷ events) w past records = ⊥
 
--- the undone steps lead from a machine on to some trail, whose newest steps are those of the events
-pub record IsRedoOf (m : Machine) (r : Redo) : Type 0 where
-  pub last : Trail
+-- the undone steps lead from a machine on to this trail, of which the events are the last
+pub record LeadsTo (m : Machine) (r : Redo) (last : Trail) : Type 0 where
   pub legal : IsTrail m.keep last
   pub placed : last.place ≤ last_place
   pub events : AreLastEvents r.events last.current last.past last.records
   pub undone : m.trail ≡ rewound r.ahead last
   pub few : r.ahead ≤ length r.events
   pub kept : r.limit ≤ m.keep
+
+-- the undone steps lead from a machine on to some trail
+abbrev pub IsRedoOf : Machine → Redo → Type 0
+IsRedoOf m r = (last : Trail) × LeadsTo m r last
+
+-- a machine and its undone steps are as they were, and the answer is the place there
+abbrev pub IsBackAt : Machine → Redo → List ℕ → Machine → Redo → Type 0
+IsBackAt m r text m' r' =
+    (m'.trail ≡ m.trail) × (r' ≡ r) × (text ≡ reply_text (Place m.trail.place))

@@ -1,8 +1,9 @@
--- What a seat at a shared heap answers a question, `collect` and `rewind @P`.
+-- What a seat at a shared heap answers a question and an order.
 use Rattle.std.specs.Prelude.{◌≡◌, ℕ, ◌+◌, ◌++◌, List, length, map, Option, Some, None, Result, Ok, Err}
 use Rattle.std.specs.List.{enumerate_from}
 use mathlib.Core.List.{IsPrefix}
 use Rattle.heap_lock.specs.Refusal.{Refusal}
+use Rattle.heap_lock.specs.Refusal.TheVariants.{NotRetained}
 use Rattle.heap_lock.specs.HeapLimits.{HeapSettings}
 use Rattle.heap_lock.specs.Calls.{Call, IsHeapLedger, call_of}
 use Rattle.heap_lock.specs.Machine.{Machine}
@@ -20,7 +21,10 @@ use Rattle.question_text.specs.declared.cycle.CycleCounts.{CycleCounts}
 use Rattle.question_text.specs.Collections.{IsCycleAnswer, RunsCycle, TakenStep}
 use Rattle.question_text.specs.Histories.{steps_ago}
 use Rattle.question_text.specs.declared.order.Order.{Order}
-use Rattle.question_text.specs.declared.order.Order.TheVariants.{Collect, RewindTo}
+use Rattle.question_text.specs.declared.order.Order.TheVariants.{Collect, Forward, ForwardTo, RewindTo}
+use Rattle.question_text.specs.Moments.{refused_text}
+use Rattle.question_text.specs.Places.{IsTextOrNoMemory}
+use Rattle.question_text.specs.Redos.{nothing_to_redo_text}
 use Rattle.heap_server.specs.JoinedActs.{IsReply}
 
 -- the calls lead to this machine and are those of this chronicle, which has of the seat just its share
@@ -95,7 +99,8 @@ pub record RewindsHeapTo (config : HeapSettings) (place : ℕ) (s : SeatModel) (
   pub sees : seen' ≡ last.ledger
   pub says : text ≡ reply_text reply
 
--- the answer of a line that the grammar of sessions doesn't know: `collect` and `rewind @P` act, and no other
+-- the answer of a line that the grammar of sessions doesn't know: `collect` and `rewind @P` act, and no other. A shared heap keeps
+-- no undone steps
 abbrev pub AnswersForSeat : HeapSettings → Option Order → List ℕ → SeatModel → List Call → List ℕ
     → SeatModel
     → List Call
@@ -104,5 +109,9 @@ AnswersForSeat config (Some Collect) l s seen text s' seen' =
     IsCollectionOfHeap config s seen text s' seen'
 AnswersForSeat config (Some (RewindTo place)) l s seen text s' seen' =
     RewindsHeapTo config place s seen text s' seen'
+AnswersForSeat config (Some (Forward n)) l s seen text s' seen' =
+    IsTextOrNoMemory (λ t. t ≡ nothing_to_redo_text n 0) text × (s' ≡ s) × (seen' ≡ seen)
+AnswersForSeat config (Some (ForwardTo place)) l s seen text s' seen' =
+    (text ≡ refused_text NotRetained) × (s' ≡ s) × (seen' ≡ seen)
 AnswersForSeat config None l s seen text s' seen' =
     IsAnswerOfHeap config s seen l text seen' × (s' ≡ s)

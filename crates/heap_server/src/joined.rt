@@ -12,7 +12,7 @@ ghost use Rattle.heap_server.specs.StayingSeats.{AreStillOpen, is_open};
 
 use crate::held_heap::{collect_held, rewind_held_to};
 use heap_lock::{Action, Heap, Machine, Outcome, Receipt, Refusal, Reply, Seat, Shared, Witness};
-use question_text::{Order, answer_line};
+use question_text::{Order, answer_line, nothing_to_redo};
 use session_text::{Commands, LineAnswer};
 use std::alloc::Global;
 use std::marker::Model;
@@ -211,7 +211,8 @@ impl<'a, L: Heap, R: Wait> Joined<'a, L, R> {
         answer
     }
 
-    // Answers a line that the grammar of sessions doesn't know, and does what it asks to be done, if that is anything.
+    // Answers a line that the grammar of sessions doesn't know, and does what it asks to be done, if that is anything. No steps are
+    // kept to be taken again.
     pub(crate) fn answer_unknown_line(
         &mut self,
         alloc: Global,
@@ -224,6 +225,8 @@ impl<'a, L: Heap, R: Wait> Joined<'a, L, R> {
         match order {
             Some(Order::Collect) => self.collect(alloc),
             Some(Order::RewindTo(place)) => self.rewind_to(place),
+            Some(Order::Forward(count)) => nothing_to_redo(alloc, count, 0),
+            Some(Order::ForwardTo(_)) => LineAnswer::Known(Reply::Refused(Refusal::NotRetained)),
             None => self.answer(alloc, line),
         }
     }

@@ -27,7 +27,7 @@ use Rattle.question_text.specs.declared.order.Order.TheVariants.{Collect, Forwar
 use Rattle.question_text.specs.Collections.{AreNext, NoneDenies, RunsCycle, TakenStep, ends_cycle}
 use Rattle.question_text.specs.Histories.{steps_ago}
 use Rattle.question_text.specs.Moments.{refused_text}
-use Rattle.question_text.specs.Orders.{Does, GoesForwardBy, RewindsBy, order_of, steps_on}
+use Rattle.question_text.specs.Orders.{Does, GoesOnBy, RewindsBy, order_of, steps_on}
 use Rattle.question_text.specs.Redos.{GoesForward, GoesOn, IsBackAt, IsRedoOf, LeadsTo, Redo, StopsBefore, TakesAgain, no_redo, noted, with_step, with_steps, with_undone}
 use Rattle.question_text.specs.Sessions.{AnswersLine, AskingActs, AskingAnswers, is_known}
 use Rattle.question_text.proofs.QuestionsLeftOut.{known_is, unknown_is}
@@ -63,15 +63,15 @@ forward_keeps : (count : ℕ) (m n : Machine) (r s : Redo) (text : List ℕ) →
 forward_keeps count m n r s text (inl h) l = on_keeps count m n r s text h.1 l
 forward_keeps count m n r s text (inr h) l = nothing_keeps m n r s h.2 h.3 l
 
-forward_to_keeps : (on : Result ℕ Refusal) (m n : Machine) (r s : Redo) (text : List ℕ) → GoesForwardBy on m r text n s → IsRedoOf m r → IsRedoOf n s
-forward_to_keeps (Ok count) m n r s text h l = forward_keeps count m n r s text h l
+forward_to_keeps : (on : Result ℕ Refusal) (m n : Machine) (r s : Redo) (text : List ℕ) → GoesOnBy on m r text n s → IsRedoOf m r → IsRedoOf n s
+forward_to_keeps (Ok count) m n r s text h l = on_keeps count m n r s text h l
 forward_to_keeps (Err e) m n r s text h l = nothing_keeps m n r s h.1 h.2 l
 
 order_keeps : (order : Order) (m n : Machine) (r s : Redo) (text : List ℕ) → Does order m r text n s → IsRedoOf m r → IsRedoOf n s
 order_keeps Collect m n r s text h l = subst (λ (x : Redo). IsRedoOf n x) (sym h.4) (cycle_keeps m n r h.0 h.1 h.2 l)
 order_keeps (RewindTo place) m n r s text h l = rewinds_keep m n r s (steps_ago (Some place) m.trail) text h l
 order_keeps (Forward count) m n r s text h l = forward_keeps count m n r s text h l
-order_keeps (ForwardTo place) m n r s text h l = forward_to_keeps (steps_on place m.trail) m n r s text h l
+order_keeps (ForwardTo place) m n r s text h l = forward_to_keeps (steps_on place m.trail r) m n r s text h l
 
 -- ---- lines
 

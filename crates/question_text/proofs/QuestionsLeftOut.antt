@@ -25,7 +25,7 @@ use Rattle.question_text.specs.Collections.{AreNext, NoneDenies, RunsCycle, Take
 use Rattle.question_text.specs.declared.order.Order.{Order}
 use Rattle.question_text.specs.declared.order.Order.TheVariants.{Collect, Forward, ForwardTo, RewindTo}
 use Rattle.question_text.specs.Histories.{steps_ago}
-use Rattle.question_text.specs.Orders.{Does, GoesForwardBy, RewindsBy, order_of, steps_on}
+use Rattle.question_text.specs.Orders.{Does, GoesOnBy, RewindsBy, order_of, steps_on}
 use Rattle.question_text.specs.Redos.{GoesForward, GoesOn, Redo, TakesAgain, retaken}
 use Rattle.question_text.specs.Sessions.{AnswersEach, AnswersLine, AskingActs, AskingAnswers, IsDriven, IsSessionOf, AnswersAlone, NoneOrders, is_known, known_of, lines_of, texts_of}
 
@@ -129,15 +129,15 @@ forward_driven : (count : ℕ) (m x n : Machine) (r r' : Redo) (text : List ℕ)
 forward_driven count m x n r r' text (inl h) d = on_driven count m x n r r' text h.1 d
 forward_driven count m x n r r' text (inr h) d = subst (IsDriven m) (sym h.2) d
 
-forward_to_driven : (on : Result ℕ Refusal) (m x n : Machine) (r r' : Redo) (text : List ℕ) → GoesForwardBy on x r text n r' → IsDriven m x → IsDriven m n
-forward_to_driven (Ok count) m x n r r' text h d = forward_driven count m x n r r' text h d
+forward_to_driven : (on : Result ℕ Refusal) (m x n : Machine) (r r' : Redo) (text : List ℕ) → GoesOnBy on x r text n r' → IsDriven m x → IsDriven m n
+forward_to_driven (Ok count) m x n r r' text h d = on_driven count m x n r r' text h d
 forward_to_driven (Err e) m x n r r' text h d = subst (IsDriven m) (sym h.1) d
 
 order_driven : (m : Machine) (order : Order) (x n : Machine) (r r' : Redo) (text : List ℕ) → Does order x r text n r' → IsDriven m x → IsDriven m n
 order_driven m Collect x n r r' text h d = cycle_driven m x n h.0 h.1 h.2 d
 order_driven m (RewindTo place) x n r r' text h d = rewind_driven m x n r r' (steps_ago (Some place) x.trail) text h d
 order_driven m (Forward count) x n r r' text h d = forward_driven count m x n r r' text h d
-order_driven m (ForwardTo place) x n r r' text h d = forward_to_driven (steps_on place x.trail) m x n r r' text h d
+order_driven m (ForwardTo place) x n r r' text h d = forward_to_driven (steps_on place x.trail r) m x n r r' text h d
 
 unknown_driven : (m : Machine) (order : Option Order) (l text : List ℕ) (c d : Asking) → AnswersLine order l c text d → IsDriven m c.local.machine → IsDriven m d.local.machine
 unknown_driven m (Some order) l text c d h p = order_driven m order c.local.machine d.local.machine c.redo d.redo text h.0 p

@@ -1,6 +1,6 @@
 -- Lines that change the heap, though they are none of the grammar of sessions: `collect`, `rewind @P`, `forward N` and
 -- `forward @P`.
-use Rattle.std.specs.Prelude.{◌≡◌, ℕ, ◌-◌, nat_le, List, [], ◌∷◌, codes, Option, Some, None, option_map, option_and_then, Result, Ok, Err, if◌then◌else◌}
+use Rattle.std.specs.Prelude.{◌≡◌, ℕ, ◌-◌, ◌&&◌, nat_le, List, [], ◌∷◌, codes, Option, Some, None, option_map, option_and_then, Result, Ok, Err, if◌then◌else◌}
 use Rattle.std.specs.Option.{option_or}
 use Rattle.std.specs.Str.{bytes_eq}
 use Rattle.heap_class.specs.declared.Refusal.{Refusal}
@@ -19,7 +19,7 @@ use Rattle.question_text.specs.Collections.{IsCycleAnswer, NoneDenies, RunsCycle
 use Rattle.question_text.specs.Histories.{steps_ago}
 use Rattle.question_text.specs.Moments.{refused_text}
 use Rattle.question_text.specs.Questions.{place_of_word}
-use Rattle.question_text.specs.Redos.{GoesForward, Redo, noted, with_steps}
+use Rattle.question_text.specs.Redos.{GoesForward, GoesOn, Redo, noted, with_steps}
 
 -- ---- the line
 
@@ -79,18 +79,20 @@ RewindsBy (Err e) m r text m' r' = IsRefusedDeed e m r text m' r'
 abbrev pub RewindsTo : ℕ → Deed
 RewindsTo place m r text m' r' = RewindsBy (steps_ago (Some place) m.trail) m r text m' r'
 
--- how many steps lead on to a place, which isn't behind the current one
-unfoldable pub steps_on : ℕ → Trail → Result ℕ Refusal
-steps_on place t = if nat_le t.place place then Ok (place - t.place) else Err NotRetained
+-- how many undone steps lead on to a place, if it is the current one or they do
+unfoldable pub steps_on : ℕ → Trail → Redo → Result ℕ Refusal
+steps_on place t r =
+    if nat_le t.place place && nat_le (place - t.place) r.ahead then Ok (place - t.place)
+    else Err NotRetained
 
 -- this many undone steps are taken again; or a refusal, and nothing is done
-abbrev pub GoesForwardBy : Result ℕ Refusal → Deed
-GoesForwardBy (Ok n) m r text m' r' = GoesForward n m r text m' r'
-GoesForwardBy (Err e) m r text m' r' = IsRefusedDeed e m r text m' r'
+abbrev pub GoesOnBy : Result ℕ Refusal → Deed
+GoesOnBy (Ok n) m r text m' r' = GoesOn n m r text m' r'
+GoesOnBy (Err e) m r text m' r' = IsRefusedDeed e m r text m' r'
 
--- as many undone steps are taken again as lead on to a place; or it is behind the current one
+-- as many undone steps are taken again as lead on to a place; or none do
 abbrev pub GoesForwardTo : ℕ → Deed
-GoesForwardTo place m r text m' r' = GoesForwardBy (steps_on place m.trail) m r text m' r'
+GoesForwardTo place m r text m' r' = GoesOnBy (steps_on place m.trail r) m r text m' r'
 
 -- what is asked to be done
 abbrev pub Does : Order → Deed

@@ -63,9 +63,7 @@ impl<'a> Asking<'a> {
             Order::Forward(count) => {
                 forward(alloc, &mut self.local.machine, &mut self.redo, count)
             }
-            Order::ForwardTo(place) => {
-                forward_to(alloc, &mut self.local.machine, &mut self.redo, place)
-            }
+            Order::ForwardTo(place) => forward_to(&mut self.local.machine, &mut self.redo, place),
         }
     }
 

@@ -1,10 +1,10 @@
 //! `forward`: steps that rewinds undid are taken again.
 ghost use Rattle.std.specs.Prelude.{◌≡◌, ◌<◌, ◌≤◌, IfErr, IfOk, OnErr};
-ghost use Rattle.session_text.specs.Replies.{line_answer_text};
+ghost use Rattle.session_text.specs.Replies.{line_answer_text, reply_text};
 ghost use Rattle.question_text.specs.Appends.{ReturnsText};
 ghost use Rattle.question_text.specs.Orders.{GoesForwardTo, steps_on};
 ghost use Rattle.question_text.specs.Places.{IsTextOrNoMemory};
-ghost use Rattle.question_text.specs.Redos.{GoesForward, IsStopped, StopsBefore, TakesAgain, nothing_to_redo_text};
+ghost use Rattle.question_text.specs.Redos.{GoesForward, GoesOn, IsStopped, StopsBefore, TakesAgain, nothing_to_redo_text};
 
 use crate::redo::Redo;
 use crate::rows::{push_number, push_words};
@@ -13,29 +13,26 @@ use heap_trail::{Machine, Reply};
 use session_text::LineAnswer;
 use std::alloc::Global;
 
-// Takes as many of the undone steps again as lead on to a place. Refused with NotRetained if it is behind the current one.
-pub(crate) fn forward_to(
-    alloc: Global,
-    machine: &mut Machine,
-    redo: &mut Redo,
-    place: u64,
-) -> LineAnswer
+// Takes as many of the undone steps again as lead on to a place, and returns the answer. Refused with NotRetained if none do, and
+// it isn't the current one. Takes memory as the steps do.
+pub(crate) fn forward_to(machine: &mut Machine, redo: &mut Redo, place: u64) -> LineAnswer
     ensures { GoesForwardTo place machine.old redo.old (line_answer_text result) machine.new
         redo.new }
 {
-    match steps_on(machine, place) {
-        Ok(count) => forward(alloc, machine, redo, count),
+    match steps_on(machine, redo, place) {
+        Ok(count) => LineAnswer::Known(go_on(machine, redo, count)),
         Err(refusal) => LineAnswer::Known(Reply::Refused(refusal)),
     }
 }
 
-// Returns how many steps lead on to a place. Fails with NotRetained if it is behind the current one.
+// Returns how many undone steps lead on to a place. Fails with NotRetained if none do, and it isn't the current one.
 #[tactic(auto, unfolding(crate::specs::Orders::steps_on))]
-fn steps_on(machine: &Machine, place: u64) -> Result<u64, Refusal>
-    ensures { result ≡ steps_on place machine.now.trail }
+fn steps_on(machine: &Machine, redo: &Redo, place: u64) -> Result<u64, Refusal>
+    ensures count { result ≡ steps_on place machine.now.trail redo.now }
+    ensures few { IfOk result (λ n. n ≤ redo.now.ahead) }
 {
     let current = machine.place();
-    if current <= place {
+    if current <= place && place - current <= redo.ahead() {
         Ok(place - current)
     } else {
         Err(Refusal::NotRetained)
@@ -53,12 +50,21 @@ pub(crate) fn forward(
         redo.new }
 {
     let left = redo.ahead();
-    if count > left {
-        return nothing_to_redo(alloc, count, left);
+    if count <= left {
+        LineAnswer::Known(go_on(machine, redo, count))
+    } else {
+        nothing_to_redo(alloc, count, left)
     }
+}
+
+// Takes `count` of the undone steps again, and returns the reply.
+fn go_on(machine: &mut Machine, redo: &mut Redo, count: u64) -> Reply
+    requires { count ≤ redo.old.ahead }
+    ensures { GoesOn count machine.old redo.old (reply_text result) machine.new redo.new }
+{
     match retake(machine, redo, count) {
-        Ok(()) => LineAnswer::Known(Reply::Place(machine.place())),
-        Err(refusal) => LineAnswer::Known(Reply::Refused(refusal)),
+        Ok(()) => Reply::Place(machine.place()),
+        Err(refusal) => Reply::Refused(refusal),
     }
 }
 

@@ -27,7 +27,7 @@ use Rattle.heap_trail.proofs.RetainedStates.{recorded_state_is_legal}
 use Rattle.heap_trail.proofs.Rewinds.{retained_after_rewind}
 use Rattle.heap_trail.proofs.RewoundMachines.{machine_refuses_far_rewind, rewind_done, rewound_more, rewound_none}
 use Rattle.session_text.specs.Local.{LocalActs}
-use Rattle.question_text.specs.Redos.{AreLastEvents, IsRedoOf, IsStopped, LeadsTo, Redo, TakesAgain, event_at, next_undone, no_redo, noted, retaken, with_step, with_undone}
+use Rattle.question_text.specs.Redos.{AreLastEvents, IsRedoOf, IsStopped, LeadsTo, Redo, StopsBefore, TakesAgain, event_at, next_undone, no_redo, noted, retaken, with_step, with_undone}
 
 -- ---- what a step and a rewind make of a trail
 
@@ -254,9 +254,22 @@ again_up (suc n) m r k s last l h =
     (more.0, more.1 ∙ ap (λ (x : ℕ). record r { ahead = x }) (let e : r.ahead - 1 - n ≡ r.ahead - suc n = omega arith in e))
 
 -- one more, at the end
-pub again_more : (n : ℕ) (m : Machine) (r : Redo) (k : Machine) (s : Redo) (l : Machine) (t : Redo) → TakesAgain n m r k s → TakesAgain 1 k s l t → TakesAgain (suc n) m r l t
+again_more : (n : ℕ) (m : Machine) (r : Redo) (k : Machine) (s : Redo) (l : Machine) (t : Redo) → TakesAgain n m r k s → TakesAgain 1 k s l t → TakesAgain (suc n) m r l t
 again_more zero m r k s l t h one = subst (λ (x : Redo). TakesAgain 1 m x l t) h.1 (subst (λ (x : Machine). TakesAgain 1 x s l t) h.0 one)
 again_more (suc n) m r k s l t h one = (h.0, h.1, h.2, h.3, h.4, again_more n h.2 (retaken r) k s l t h.5 one)
+
+pub again_next : (n : ℕ) (m : Machine) (r : Redo) (k : Machine) (s : Redo) (l : Machine) (t : Redo) → TakesAgain n m r k s → TakesAgain 1 k s l t → TakesAgain (n + 1) m r l t
+again_next n m r k s l t h one =
+    subst (λ (x : ℕ). TakesAgain x m r l t) (let e : suc n ≡ n + 1 = omega arith in e) (again_more n m r k s l t h one)
+
+-- the next is refused, and leaves all
+pub stops_before : (count n : ℕ) (m : Machine) (r : Redo) (k : Machine) (s : Redo) (l : Machine) (t : Redo) (e : Refusal) → n < count → TakesAgain n m r k s → l ≡ k → t ≡ s → IsStopped k s e → StopsBefore count m r e l t
+stops_before count n m r k s l t e lt h same redo stopped = (
+  n,
+  lt,
+  subst (λ (x : Redo). TakesAgain n m r l x) (sym redo) (subst (λ (x : Machine). TakesAgain n m r x s) (sym same) h),
+  subst (λ (x : Redo). IsStopped l x e) (sym redo) (subst (λ (x : Machine). IsStopped x s e) (sym same) stopped),
+)
 
 -- ---- a refusal
 

@@ -140,12 +140,18 @@ forward_back n last m x k r u s text l is j (inr h) =
     let fewer = h.0 in
     absurd (omega (arith, ahead, fewer))
 
-pub forward_takes_back : (n place : ℕ) (m x k : Machine) (r u s : Redo) (text : List ℕ) → IsRedoOf m r → r.ahead + n ≤ length r.events → LocalActs m (Rewind n) (Place place) x → u ≡ noted (Rewind n) (Place place) r → GoesForward n x u text k s
+forward_takes_back : (n place : ℕ) (m x k : Machine) (r u s : Redo) (text : List ℕ) → IsRedoOf m r → r.ahead + n ≤ length r.events → LocalActs m (Rewind n) (Place place) x → u ≡ noted (Rewind n) (Place place) r → GoesForward n x u text k s
     → IsBackAt m r text k s ⊎ (text ≡ refused_text NoMemory)
 forward_takes_back n place m x k r u s text l few acts is h =
     let all = is ∙ noted_all n r few in
     let j = rewind_leads m x r n l.0 few (undone m x n place acts) l.1 in
     forward_back n l.0 m x k r u s text l.1 all (subst (λ (y : Redo). LeadsTo x y l.0) (sym all) j) h
+
+pub line_takes_back : (n place : ℕ) (l text : List ℕ) (c d e : Asking) → Keeps c → c.redo.ahead + n ≤ length c.redo.events → AskingActs c (Rewind n) (Place place) d → order_of l ≡ Some (Forward n) → AskingAnswers l d text e
+    → IsBackAt c.local.machine c.redo text e.local.machine e.redo ⊎ (text ≡ refused_text NoMemory)
+line_takes_back n place l text c d e k few acts is says =
+    let answers : AnswersLine (Some (Forward n)) l d text e = subst (λ (o : Option Order). AnswersLine o l d text e) is says.0 in
+    forward_takes_back n place c.local.machine d.local.machine e.local.machine c.redo d.redo e.redo text k few acts.0 acts.2 answers.0
 
 -- a step that is taken again is refused for lack of memory alone
 pub stops_for_memory : (n : ℕ) (m k : Machine) (r s : Redo) (e : Refusal) → IsRedoOf m r → StopsBefore n m r e k s → e ≡ NoMemory

@@ -319,14 +319,14 @@ same_lead m k r same l = (
   },
 )
 
+legal_after_rewind : (there : Machine) (n : ℕ) → IsTrail there.keep there.trail → IsTrail (acted there (Rewind n)).0.keep (acted there (Rewind n)).0.trail
+unfolding machine_after acted_under
+legal_after_rewind there n legal = trails_stay there ((Rewind n, Granted) ∷ []) legal
+
 rewound_legal : (m : Machine) (n : ℕ) (last : Trail) → n ≤ retained last → IsTrail m.keep last → IsTrail m.keep (rewound n last)
 rewound_legal m n last few legal =
     let there : Machine = record m { trail = last } in
-    subst (λ (p : Machine × Reply). IsTrail p.0.keep p.0.trail) (rewind_done there n few) (trail_after there n legal)
-  where
-    trail_after : (there : Machine) (n : ℕ) → IsTrail there.keep there.trail → IsTrail (acted there (Rewind n)).0.keep (acted there (Rewind n)).0.trail
-    unfolding machine_after acted_under
-    trail_after there n legal = trails_stay there ((Rewind n, Granted) ∷ []) legal
+    subst (λ (p : Machine × Reply). IsTrail p.0.keep p.0.trail) (rewind_done there n few) (legal_after_rewind there n legal)
 
 legal_here : (m : Machine) (r : Redo) (last : Trail) → LeadsTo m r last → IsTrail m.keep m.trail
 legal_here m r last l =

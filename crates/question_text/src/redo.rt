@@ -1,5 +1,5 @@
 //! The steps that rewinds undid, which can be taken again.
-ghost use Rattle.std.specs.Prelude.{◌≡◌, ◌-◌, ◌<◌, ◌≤◌, ℕ, length, min, option_copied, IfErr, IfOk};
+ghost use Rattle.std.specs.Prelude.{◌≡◌, ◌<◌, drop, option_copied, IfErr, IfOk};
 ghost use Rattle.heap_class.specs.declared.Refusal.TheVariants.{NoMemory};
 ghost use Rattle.question_text.specs.Redos.{next_undone, no_redo, noted, retaken, with_step, with_undone};
 
@@ -9,6 +9,10 @@ use heap_step::Event;
 use heap_trail::{Action, Reply};
 use std::alloc::Global;
 use std::marker::Model;
+use std::mem::size_of;
+
+// A session has room for one for each step that can be taken again.
+const _: () = prove!(size_of::<Event>() <= 72);
 
 /// The events of the newest steps, newest first, of which the first `ahead` are undone. Contracts see them, and how many are kept
 /// at most.
@@ -52,9 +56,17 @@ impl Redo {
     pub(crate) fn note(&mut self, action: Action, reply: &Reply)
         ensures { self.new ≡ noted action reply.now self.old }
     {
-        match (action, reply) {
-            (Action::Step(event), Reply::Answered(_)) => self.note_step(event),
-            (Action::Rewind(n), Reply::Place(_)) => self.note_rewind(n),
+        match action {
+            Action::Step(event) => {
+                if matches!(reply, Reply::Answered(_)) {
+                    self.note_step(event);
+                }
+            }
+            Action::Rewind(n) => {
+                if matches!(reply, Reply::Place(_)) {
+                    self.note_rewind(n);
+                }
+            }
             _ => {}
         }
     }
@@ -72,7 +84,10 @@ impl Redo {
 
     // Forgets the undone steps.
     #[inline(never)]
-    fn forget_undone(&mut self) {
+    fn forget_undone(&mut self)
+        ensures { self.new
+            ≡ record self.old { events = drop self.old.ahead self.old.events; ahead = 0 } }
+    {
         let made = self.events.len() - self.ahead;
         self.events.truncate_front(made);
         self.ahead = 0;

@@ -243,6 +243,16 @@ next_up : (m k : Machine) (r : Redo) (last : Trail) (n : ℕ) (e : Event) → r.
 next_up m k r last zero e ahead l is d = absurd (cc is)
 next_up m k r last (suc n) e ahead l is d = up_by_one m k r last n e ahead l is d
 
+-- the event that is next
+pub event_there : (n : ℕ) (events : List Event) (e : Event) → 0 < n → slice_get events (n - 1) ≡ Some e → event_at n events ≡ Some e
+event_there zero events e some is = absurd (omega (arith, some))
+event_there (suc n) events e some is = is
+
+pub none_is_past : (n : ℕ) (events : List Event) → slice_get events n ≡ None → length events ≤ n
+none_is_past n [] is = omega arith
+none_is_past zero (e ∷ events) is = absurd (cc is)
+none_is_past (suc n) (e ∷ events) is = let past = none_is_past n events is in omega (arith, past)
+
 -- ---- several
 
 pub again_up : (n : ℕ) (m : Machine) (r : Redo) (k : Machine) (s : Redo) (last : Trail) → LeadsTo m r last → TakesAgain n m r k s → LeadsTo k s last × (s ≡ record r { ahead = r.ahead - n })

@@ -89,10 +89,7 @@ fn retake_next(machine: &mut Machine, redo: &mut Redo) -> Result<(), Refusal>
     ensures stopped { IfErr result (IsStopped machine.old redo.old) }
     ensures unchanged { OnErr result ((machine.new ≡ machine.old) × (redo.new ≡ redo.old)) }
 {
-    match redo.next() {
-        Some(event) => machine.step(event)?,
-        None => unreachable!(),
-    };
+    machine.step(redo.next())?;
     redo.note_retaken();
     Ok(())
 }

@@ -1,5 +1,5 @@
 //! The steps that rewinds undid, which can be taken again.
-ghost use Rattle.std.specs.Prelude.{◌≡◌, ◌<◌, drop, option_copied, IfErr, IfOk};
+ghost use Rattle.std.specs.Prelude.{◌≡◌, ◌<◌, drop, Some, IfErr, IfOk};
 ghost use Rattle.heap_class.specs.declared.Refusal.TheVariants.{NoMemory};
 ghost use Rattle.question_text.specs.Redos.{next_undone, no_redo, noted, retaken, with_step, with_undone};
 
@@ -107,13 +107,14 @@ impl Redo {
         }
     }
 
-    // Returns the step that was undone last, if one is undone.
-    pub(crate) fn next(&self) -> Option<&Event>
-        ensures { option_copied result ≡ next_undone self.now }
+    // Returns the step that was undone last.
+    pub(crate) fn next(&self) -> &Event
+        requires { 0 < self.now.ahead }
+        ensures { next_undone self.now ≡ Some result.now }
     {
-        match self.ahead {
-            0 => None,
-            ahead => self.events.nth_front(ahead - 1),
+        match self.events.nth_front(self.ahead - 1) {
+            Some(event) => event,
+            None => unreachable!(),
         }
     }
 

@@ -64,8 +64,12 @@ impl Steps for Asking<'_> {
     }
 
     fn take(&mut self, _by: &mut (), event: Event) -> Result<Answer, Refusal> {
-        let answer = self.local.machine.step(&event)?;
-        self.redo.note_step(event);
-        Ok(answer)
+        match self.local.machine.step(&event) {
+            Ok(answer) => {
+                self.redo.note_step(event);
+                Ok(answer)
+            }
+            Err(refusal) => Err(refusal),
+        }
     }
 }

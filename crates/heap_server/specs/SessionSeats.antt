@@ -3,12 +3,10 @@ use Rattle.std.specs.Prelude.{◌≡◌, ℕ, false, List, [], ◌∷◌, Option
 use Rattle.heap_lock.specs.Seated.{TableId}
 use Rattle.heap_lock.specs.HeapLimits.{HeapSettings}
 use Rattle.heap_lock.specs.declared.role.Role.TheVariants.{User}
-use Rattle.heap_lock.specs.Blanks.{Maker}
 use Rattle.heap_lock.specs.LockStates.{SeatModel}
 use Rattle.heap_server.specs.Stations.{IsSeatEnd, InTurn}
 use Rattle.heap_server.specs.declared.sessions.SeatEnd.{SeatEnd}
 use Rattle.heap_server.specs.declared.sessions.Served.{Served}
-use Rattle.heap_server.specs.declared.sessions.ServedHeap.{ServedHeap}
 use Rattle.heap_server.specs.declared.sessions.Terms.{Terms}
 
 -- the most sessions
@@ -63,9 +61,3 @@ abbrev pub IsFor : HeapSettings → List TableId → Terms → List SeatModel �
 IsFor config tables terms seats s =
     (rest : List SeatModel) × InTurn (IsSeatEnd config tables terms) seats s.sessions.items rest
     × (s.refused ≡ false → rest ≡ [])
-
--- these sessions were from all seats of this heap, on these terms
-abbrev pub IsOver : Maker → Terms → ServedHeap → Type 0
-IsOver blank terms h =
-    (h.made.value ≡ blank) × (h.terms ≡ terms)
-    × IsFor blank.config blank.tables terms blank.seats h.served

@@ -2,7 +2,7 @@
 use Rattle.std.specs.Prelude.{◌≡◌, List, [], ◌∷◌, ◌++◌, Option, Some, None, IfSome}
 use Rattle.heap_lock.specs.Seated.{TableId}
 use Rattle.heap_lock.specs.HeapLimits.{HeapSettings}
-use Rattle.heap_lock.specs.Blanks.{Maker, seat_model_of}
+use Rattle.heap_lock.specs.Blanks.{seat_model_of}
 use Rattle.heap_lock.specs.LockStates.{SeatModel, IsSeatModel}
 use Rattle.heap_lock.specs.declared.unnamed_seat.UnnamedSeat.{UnnamedSeat}
 use Rattle.heap_server.specs.SocketTraffic.{Traffic}
@@ -10,9 +10,6 @@ use Rattle.heap_server.specs.Stations.{InTurn, IsClientOf}
 use Rattle.heap_server.specs.declared.client_session.SessionEnd.{SessionEnd}
 use Rattle.heap_server.specs.declared.sessions.Terms.{Terms}
 use Rattle.heap_server.specs.declared.staying.SeatStay.{SeatStay}
-use Rattle.heap_server.specs.declared.staying.StayedHeap.{StayedHeap}
-use Rattle.heap_server.specs.declared.staying_tended.StayTendedHeap.{StayTendedHeap}
-use Rattle.heap_server.specs.Tending.{IsSeatAfterRuns, MarkRuns, SweepRuns}
 
 -- how a session ended, and what went through its socket
 abbrev pub SocketSession : Type 0
@@ -48,29 +45,6 @@ abbrev pub ServesNext : HeapSettings → Terms → SeatModel → List SocketSess
     → Type 0
 ServesNext config terms s es s' es' =
     (e : SocketSession) × IsClientOf config terms s s' e.0 e.1 × (es' ≡ es ++ e ∷ [])
-
--- ---- a heap
-
--- these are the sessions of all seats of this heap, on these terms
-abbrev pub IsStayedOver : Maker → Terms → StayedHeap → Type 0
-IsStayedOver blank terms h =
-    (h.made.value ≡ blank) × (h.terms ≡ terms)
-    × AreStays blank.config blank.tables terms blank.seats h.stayed.seats.items
-
--- the first two of these seats, as the runs of their workers left them, and the sessions of the others, on these terms
-abbrev pub AreTendedStays : HeapSettings → List TableId → Terms → List SeatModel → StayTendedHeap
-    → Type 0
-AreTendedStays config tables terms (marker ∷ sweeper ∷ users) h =
-    IsSeatAfterRuns tables (MarkRuns config marker) h.marker
-    × IsSeatAfterRuns tables (SweepRuns config sweeper) h.sweeper
-    × AreStays config tables terms users h.heap.stayed.seats.items
-AreTendedStays config tables terms seats h = ⊥
-
--- these are the sessions of all users' seats of this heap, on these terms, and this is what its workers did
-abbrev pub IsStayTendedOver : Maker → Terms → StayTendedHeap → Type 0
-IsStayTendedOver blank terms h =
-    (h.heap.made.value ≡ blank) × (h.heap.terms ≡ terms)
-    × AreTendedStays blank.config blank.tables terms blank.seats h
 
 -- if a thread was started for a seat, it was for this one and on these terms
 abbrev pub IsStayBegun : Terms → SeatModel → Option (SeatModel × Terms) → Type 0

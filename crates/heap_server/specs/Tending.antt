@@ -11,15 +11,13 @@ use Rattle.heap_lock.specs.declared.role.Role.{Role}
 use Rattle.heap_lock.specs.declared.role.Role.TheVariants.{Marker, Sweeper}
 use Rattle.heap_lock.specs.declared.unnamed_seat.UnnamedSeat.{UnnamedSeat}
 use Rattle.heap_lock.specs.ChronicleLimits.{chronicle_limit}
-use Rattle.heap_lock.specs.Blanks.{Maker, seat_model_of}
+use Rattle.heap_lock.specs.Blanks.{seat_model_of}
 use Rattle.heap_lock.specs.LockStates.{SeatModel, IsSeatModel}
 use Rattle.heap_work.specs.declared.MarkEnd.{MarkEnd}
 use Rattle.heap_work.specs.declared.SweepEnd.{SweepEnd}
 use Rattle.heap_work.specs.Rule.{BeginsNoCycle, IsResumedWork}
 use Rattle.heap_work.specs.PendingSweeps.{IsPendingWork}
-use Rattle.heap_server.specs.SessionSeats.{AreUsers, IsFor}
-use Rattle.heap_server.specs.declared.sessions.Terms.{Terms}
-use Rattle.heap_server.specs.declared.tended.TendedHeap.{TendedHeap}
+use Rattle.heap_server.specs.SessionSeats.{AreUsers}
 use Rattle.heap_server.specs.declared.tending.Duty.{Duty}
 use Rattle.heap_server.specs.declared.tending.Duty.TheVariants.{Mark, Sweep}
 
@@ -95,17 +93,3 @@ AreStaff most seats = ⊥
 -- a seat of the heap with these tables, as runs of a worker left it
 abbrev pub IsSeatAfterRuns : List TableId → (SeatModel → Type 0) → UnnamedSeat → Type 0
 IsSeatAfterRuns tables Runs unnamed_seat = IsSeatModel tables unnamed_seat.number unnamed_seat.share × Runs (seat_model_of unnamed_seat)
-
--- the first two of these seats of a heap, as the runs of their workers left them, and sessions from the others, on these terms
-abbrev pub AreTended : HeapSettings → List TableId → Terms → List SeatModel → TendedHeap → Type 0
-AreTended config tables terms (marker ∷ sweeper ∷ users) h =
-    IsSeatAfterRuns tables (MarkRuns config marker) h.marker
-    × IsSeatAfterRuns tables (SweepRuns config sweeper) h.sweeper
-    × IsFor config tables terms users h.heap.served
-AreTended config tables terms seats h = ⊥
-
--- these sessions were from the users' seats of this heap, on these terms, and this is what its workers did
-abbrev pub IsTendedOver : Maker → Terms → TendedHeap → Type 0
-IsTendedOver blank terms h =
-    (h.heap.made.value ≡ blank) × (h.heap.terms ≡ terms)
-    × AreTended blank.config blank.tables terms blank.seats h

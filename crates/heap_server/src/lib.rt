@@ -36,15 +36,11 @@ pub use laws::served_dumps_are_text;
 pub use page_session::serve_beside_page;
 pub use report::{tell_sessions, word};
 pub use secret_word::Secret;
-pub use sessions::{
-    Ports, SeatEnd, Served, ServedHeap, ServicePlan, Terms, serve_clients, serve_heap, users,
-};
+pub use sessions::{Ports, SeatEnd, Served, Terms, serve_clients, users};
 pub use shared_dump::DumpListener;
 pub use socket::{Half, SocketTraffic, halves};
 pub use socket_outlet::SocketOutlet;
-pub use staying::{SeatStay, Stayed, StayedHeap, serve_staying, serve_staying_heap};
-pub use staying_tended::{
-    StayTended, StayTendedHeap, serve_staying_tended, serve_staying_tended_heap,
-};
-pub use tended::{Staff, Tended, TendedHeap, serve_tended, serve_tended_heap, workers_and_users};
+pub use staying::{SeatStay, Stayed, serve_staying};
+pub use staying_tended::{StayTended, serve_staying_tended};
+pub use tended::{Staff, Tended, serve_tended, workers_and_users};
 pub use tending::{Duty, tend};

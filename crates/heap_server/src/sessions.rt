@@ -1,9 +1,8 @@
 //! Sessions over one shared heap.
 ghost use Rattle.std.specs.Prelude.{◌≡◌, ◌≤◌, IfOk, IfErr, length};
-ghost use Rattle.heap_lock.specs.Blanks.{IsNamed};
 ghost use Rattle.heap_lock.specs.Refusal.TheVariants.{NoMemory};
 ghost use Rattle.heap_lock.specs.declared.role.Role.TheVariants.{User};
-ghost use Rattle.heap_server.specs.SessionSeats.{AreUsers, IsFor, IsOver, session_limit};
+ghost use Rattle.heap_server.specs.SessionSeats.{AreUsers, IsFor, session_limit};
 ghost use Rattle.heap_server.specs.Clients.{IsToldAs};
 ghost use Rattle.heap_server.specs.Stations.{IsAttended, IsAttendedOn, IsAttendedStaying, IsClientOf};
 
@@ -24,7 +23,6 @@ use secret_word::Secret;
 use session_text::{Ended, Inlet, SessionLimits};
 use shared_dump::DumpListener;
 use std::alloc::{AllocError, Global};
-use std::marker::Brand;
 use std::net::{TcpListener, TcpStream};
 use std::snapshot::Snapshot;
 use std::sync::Wait;
@@ -59,14 +57,6 @@ pub struct Terms {
     pub limits: SessionLimits,
 }
 
-/// What a heap is opened for: the number of sessions, the listeners for their clients, and what the sessions have in common.
-#[derive(Drop)]
-pub struct ServicePlan {
-    pub most: usize,
-    pub ports: Ports,
-    pub terms: Terms,
-}
-
 /// How a session ended, what went through its socket, and its seat as it left it. A session without memory for its socket has no
 /// traffic, and one without a thread no seat either.
 #[derive(Drop)]
@@ -81,14 +71,6 @@ pub struct SeatEnd {
 pub struct Served {
     pub sessions: Vec<SeatEnd>,
     pub refused: bool,
-}
-
-/// How the sessions over a heap ended. Contracts see the heap as it was made, and the terms of the sessions.
-#[derive(Drop)]
-pub struct ServedHeap {
-    pub served: Served,
-    pub made: Snapshot<Blank>,
-    pub terms: Terms,
 }
 
 /// Creates a heap of these settings with a user's seat for each of 1 to 1,000 sessions. Fails with NoMemory.
@@ -352,40 +334,4 @@ fn serve_seats<'s, E, L: Heap + Send + Sync, R: Clock + Threads + Wait + Sync>(
     drop(listener);
     await_all(rt, sittings, &mut sessions);
     Ok(Served { sessions, refused })
-}
-
-/// Opens a heap, and serves as many clients as it has seats, as `serve_clients` does. May wait.
-pub fn serve_heap<R: Clock + Eprint + Threads + Wait + Sync>(
-    rt: &R,
-    alloc: Global,
-    blank: Blank,
-    plan: ServicePlan,
-) -> Result<ServedHeap, AllocError>
-    requires users { AreUsers blank.seats }
-    ensures { IfOk result (IsOver blank plan.terms) }
-{
-    serve_opened::<Brand, R>(rt, alloc, blank, plan)
-}
-
-// Opens a heap that a type names, and serves clients as `serve_heap` does.
-fn serve_opened<L: Heap + Send + Sync, R: Clock + Eprint + Threads + Wait + Sync>(
-    rt: &R,
-    alloc: Global,
-    blank: Blank,
-    plan: ServicePlan,
-) -> Result<ServedHeap, AllocError>
-    requires named { IsNamed L.config L.tables L.ledger L.rolls blank }
-    requires users { AreUsers blank.seats }
-    ensures { IfOk result (IsOver blank plan.terms) }
-{
-    let made = Snapshot::of(&blank);
-    let (shared, seats) = blank.open::<L>();
-    let ServicePlan { ports, terms, .. } = plan;
-    let own = &terms;
-    let served = serve_clients(rt, alloc, &shared, seats, ports, *own)?;
-    Ok(ServedHeap {
-        served,
-        made,
-        terms: *own,
-    })
 }

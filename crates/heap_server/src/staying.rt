@@ -1,25 +1,24 @@
 //! Seats that serve one client after another, for as long as the program runs.
 ghost use Rattle.std.specs.Prelude.{◌≡◌, ◌≤◌, [], IfOk, length, vec_capacity, vec_len};
-ghost use Rattle.heap_lock.specs.Blanks.{IsNamed};
 ghost use Rattle.heap_lock.specs.declared.role.Role.TheVariants.{User};
 ghost use Rattle.heap_server.specs.SessionSeats.{AreUsers};
-ghost use Rattle.heap_server.specs.Staying.{AreSessions, AreStays, IsStayBegun, IsStayedOver, ServesNext, StayAs, StaysAs};
+ghost use Rattle.heap_server.specs.Staying.{AreSessions, AreStays, IsStayBegun, ServesNext, StayAs, StaysAs};
 ghost use Rattle.heap_server.specs.Stations.{InTurn};
 
 use crate::beside::Beside;
 use crate::client_session::SessionEnd;
 use crate::report::word;
-use crate::sessions::{Ports, ServicePlan, SocketEnd, Terms, session};
+use crate::sessions::{Ports, SocketEnd, Terms, session};
 use crate::sittings::STACK_SIZE;
 use crate::socket::SocketTraffic;
 use core::thread::Stack;
 use crossbeam_channel::{Receiver, Sender, bounded};
 use dump_pump::Log;
-use heap_lock::{Blank, Heap, Seat, Seats, Shared, UnnamedSeat};
+use heap_lock::{Heap, Seat, Seats, Shared, UnnamedSeat};
 use std::alloc::{AllocError, Global};
 use std::collections::VecDeque;
 use std::io::ErrorKind;
-use std::marker::{Brand, Model};
+use std::marker::Model;
 use std::net::{TcpListener, TcpStream};
 use std::snapshot::Snapshot;
 use std::sync::atomic::AtomicBool;
@@ -364,48 +363,4 @@ fn await_stay<L: Heap, R: Threads>(rt: &R, standing: Standing<L>) -> SeatStay
             unnamed_seat: None,
         },
     }
-}
-
-/// What the seats of a heap did that stays. Contracts see the heap as it was made, and the terms of the sessions.
-#[derive(Drop)]
-pub struct StayedHeap {
-    pub stayed: Stayed,
-    pub made: Snapshot<Blank>,
-    pub terms: Terms,
-}
-
-/// Opens a heap, and serves clients from all its seats at a time, as `serve_staying` does. May wait.
-pub fn serve_staying_heap<R: Clock + Eprint + Print + Threads + Wait + Sync>(
-    rt: &R,
-    alloc: Global,
-    blank: Blank,
-    plan: ServicePlan,
-) -> Result<StayedHeap, AllocError>
-    requires users { AreUsers blank.seats }
-    ensures { IfOk result (IsStayedOver blank plan.terms) }
-{
-    stay_opened::<Brand, R>(rt, alloc, blank, plan)
-}
-
-// Opens a heap that a type names, and serves clients as `serve_staying_heap` does.
-fn stay_opened<L: Heap + Send + Sync, R: Clock + Eprint + Print + Threads + Wait + Sync>(
-    rt: &R,
-    alloc: Global,
-    blank: Blank,
-    plan: ServicePlan,
-) -> Result<StayedHeap, AllocError>
-    requires named { IsNamed L.config L.tables L.ledger L.rolls blank }
-    requires users { AreUsers blank.seats }
-    ensures { IfOk result (IsStayedOver blank plan.terms) }
-{
-    let made = Snapshot::of(&blank);
-    let (shared, seats) = blank.open::<L>();
-    let ServicePlan { ports, terms, .. } = plan;
-    let own = &terms;
-    let stayed = serve_staying(rt, alloc, &shared, seats, ports, *own)?;
-    Ok(StayedHeap {
-        stayed,
-        made,
-        terms: *own,
-    })
 }

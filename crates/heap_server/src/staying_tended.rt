@@ -1,16 +1,13 @@
 //! Seats that serve one client after another, over a heap whose collector is tended in two threads.
 ghost use Rattle.std.specs.Prelude.{◌≡◌, ◌∷◌, IfOk, length};
-ghost use Rattle.heap_lock.specs.Blanks.{IsNamed};
-ghost use Rattle.heap_server.specs.Staying.{AreStays, IsStayTendedOver};
+ghost use Rattle.heap_server.specs.Staying.{AreStays};
 ghost use Rattle.heap_server.specs.Tending.{AreStaff, MarkRuns, SweepRuns};
 
-use crate::sessions::{Ports, ServicePlan, Terms};
-use crate::staying::{Stayed, StayedHeap, serve_staying};
-use crate::tended::{Staff, begin_workers, staff_of};
-use heap_lock::{Blank, Heap, Seat, Shared, UnnamedSeat};
+use crate::sessions::{Ports, Terms};
+use crate::staying::{Stayed, serve_staying};
+use crate::tended::{Staff, begin_workers};
+use heap_lock::{Heap, Seat, Shared};
 use std::alloc::{AllocError, Global};
-use std::marker::Brand;
-use std::snapshot::Snapshot;
 use std::sync::Wait;
 use std::sync::atomic::{AtomicBool, Ordering};
 use std::thread;
@@ -23,14 +20,6 @@ pub struct StayTended<L: Heap> {
     pub stayed: Stayed,
     pub marker: Seat<L>,
     pub sweeper: Seat<L>,
-}
-
-/// The same of a heap that no type names.
-#[derive(Drop)]
-pub struct StayTendedHeap {
-    pub heap: StayedHeap,
-    pub marker: UnnamedSeat,
-    pub sweeper: UnnamedSeat,
 }
 
 /// Serves clients from all users' seats at a time as `serve_staying` does, while two threads tend the collector. They begin before
@@ -78,49 +67,4 @@ pub fn serve_staying_tended<
             })
         },
     )
-}
-
-/// Opens a heap, and serves clients from all its users' seats at a time, as `serve_staying_tended` does. May wait.
-pub fn serve_staying_tended_heap<R: Clock + Eprint + Print + Threads + Wait + Sync>(
-    rt: &R,
-    alloc: Global,
-    blank: Blank,
-    plan: ServicePlan,
-) -> Result<StayTendedHeap, AllocError>
-    requires { AreStaff plan.most blank.seats }
-    ensures { IfOk result (IsStayTendedOver blank plan.terms) }
-{
-    stay_staffed::<Brand, R>(rt, alloc, blank, plan)
-}
-
-// Opens a heap that a type names, and serves clients as `serve_staying_tended_heap` does.
-fn stay_staffed<L: Heap + Send + Sync, R: Clock + Eprint + Print + Threads + Wait + Sync>(
-    rt: &R,
-    alloc: Global,
-    blank: Blank,
-    plan: ServicePlan,
-) -> Result<StayTendedHeap, AllocError>
-    requires named { IsNamed L.config L.tables L.ledger L.rolls blank }
-    requires staff { AreStaff plan.most blank.seats }
-    ensures { IfOk result (IsStayTendedOver blank plan.terms) }
-{
-    let made = Snapshot::of(&blank);
-    let (shared, seats) = blank.open::<L>();
-    let ServicePlan { most, ports, terms } = plan;
-    let staff = staff_of(seats, most);
-    let own = &terms;
-    let StayTended {
-        stayed,
-        marker,
-        sweeper,
-    } = serve_staying_tended(rt, alloc, &shared, staff, ports, *own)?;
-    Ok(StayTendedHeap {
-        heap: StayedHeap {
-            stayed,
-            made,
-            terms: *own,
-        },
-        marker: marker.into_unnamed(),
-        sweeper: sweeper.into_unnamed(),
-    })
 }

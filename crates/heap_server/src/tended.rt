@@ -1,30 +1,20 @@
 //! Sessions over one shared heap whose collector is tended in two threads.
 ghost use Rattle.std.specs.Prelude.{◌≡◌, ◌∷◌, ◌+◌, ◌≤◌, IfOk, IfErr, length, replicate};
-ghost use Rattle.heap_lock.specs.Blanks.{IsNamed};
 ghost use Rattle.heap_lock.specs.Refusal.TheVariants.{NoMemory};
 ghost use Rattle.heap_lock.specs.declared.role.Role.TheVariants as role;
 ghost use Rattle.heap_server.specs.SessionSeats.{IsFor, session_limit};
-ghost use Rattle.heap_server.specs.Tending.{AreStaff, IsTendedOver, MarkRuns, SweepRuns};
+ghost use Rattle.heap_server.specs.Tending.{AreStaff, MarkRuns, SweepRuns};
 
-use crate::sessions::{Ports, Served, ServedHeap, ServicePlan, Terms, serve_clients};
+use crate::sessions::{Ports, Served, Terms, serve_clients};
 use crate::tending::{Duty, tend};
-use heap_lock::{Blank, Config, Heap, Refusal, Role, Seat, Seats, Shared, UnnamedSeat};
+use heap_lock::{Blank, Config, Heap, Refusal, Role, Seat, Seats, Shared};
 use std::alloc::{AllocError, Global};
-use std::marker::Brand;
 use std::snapshot::Snapshot;
 use std::sync::Wait;
 use std::sync::atomic::{AtomicBool, Ordering};
 use std::thread;
 use std::thread::{Promise, PromisedHandle, Scope, Threads};
 use std::time::Clock;
-
-/// How the sessions over a heap ended, and the two seats of its workers as their runs left them.
-#[derive(Drop)]
-pub struct TendedHeap {
-    pub heap: ServedHeap,
-    pub marker: UnnamedSeat,
-    pub sweeper: UnnamedSeat,
-}
 
 /// The seats of a heap whose collector is tended.
 #[derive(Drop)]
@@ -165,70 +155,4 @@ pub fn serve_tended<L: Heap + Send + Sync, R: Clock + Eprint + Threads + Wait + 
             })
         },
     )
-}
-
-/// Opens a heap, and serves as many clients as it has users' seats, as `serve_tended` does. May wait.
-pub fn serve_tended_heap<R: Clock + Eprint + Threads + Wait + Sync>(
-    rt: &R,
-    alloc: Global,
-    blank: Blank,
-    plan: ServicePlan,
-) -> Result<TendedHeap, AllocError>
-    requires { AreStaff plan.most blank.seats }
-    ensures { IfOk result (IsTendedOver blank plan.terms) }
-{
-    serve_staffed::<Brand, R>(rt, alloc, blank, plan)
-}
-
-// Opens a heap that a type names, and serves clients as `serve_tended_heap` does.
-fn serve_staffed<L: Heap + Send + Sync, R: Clock + Eprint + Threads + Wait + Sync>(
-    rt: &R,
-    alloc: Global,
-    blank: Blank,
-    plan: ServicePlan,
-) -> Result<TendedHeap, AllocError>
-    requires named { IsNamed L.config L.tables L.ledger L.rolls blank }
-    requires staff { AreStaff plan.most blank.seats }
-    ensures { IfOk result (IsTendedOver blank plan.terms) }
-{
-    let made = Snapshot::of(&blank);
-    let (shared, seats) = blank.open::<L>();
-    let ServicePlan { most, ports, terms } = plan;
-    let staff = staff_of(seats, most);
-    let own = &terms;
-    let Tended {
-        served,
-        marker,
-        sweeper,
-    } = serve_tended(rt, alloc, &shared, staff, ports, *own)?;
-    Ok(TendedHeap {
-        heap: ServedHeap {
-            served,
-            made,
-            terms: *own,
-        },
-        marker: marker.into_unnamed(),
-        sweeper: sweeper.into_unnamed(),
-    })
-}
-
-// Returns the marker's seat, the sweeper's, and those of `most` users.
-pub(crate) fn staff_of<L: Heap>(seats: Seats<L>, most: usize) -> Staff<L>
-    requires { AreStaff most seats }
-    ensures seats { seats ≡ result.marker ∷ result.sweeper ∷ result.users }
-    ensures staff { AreStaff most (result.marker ∷ result.sweeper ∷ result.users) }
-{
-    let _most = most;
-    let mut users = seats;
-    let Some(marker) = users.take() else {
-        unreachable!()
-    };
-    let Some(sweeper) = users.take() else {
-        unreachable!()
-    };
-    Staff {
-        marker,
-        sweeper,
-        users,
-    }
 }

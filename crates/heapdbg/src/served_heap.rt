@@ -193,37 +193,6 @@ where
     }
 }
 
-// Serves one session from each seat.
-fn serve_once<L: Heap + Send + Sync, R: Clock + Eprint + Threads + Wait + Sync>(
-    rt: &R,
-    alloc: Global,
-    shared: &Shared<L>,
-    workers: u64,
-    staff: Staff<L>,
-    ports: Ports,
-    terms: Terms,
-) -> Result<(Sessions, Option<WorkersLeft>), AllocError>
-    requires { AreStaff (length staff.users) (staff.marker ∷ staff.sweeper ∷ staff.users) }
-    ensures sessions { IfOk result
-        (λ r. AreSessionsFrom false L.config L.tables terms staff.users r.0) }
-    ensures workers { IfOk result (λ r. AreWorkersLeft workers L.config L.tables staff.marker
-        staff.sweeper r.1) }
-{
-    if workers == 0 {
-        return match serve_clients(rt, alloc, shared, staff.users, ports, terms) {
-            Ok(served) => Ok((Sessions::Once(served), None)),
-            Err(error) => Err(error),
-        };
-    }
-    match serve_tended(rt, alloc, shared, staff, ports, terms) {
-        Ok(tended) => {
-            let left = workers_left(tended.marker, tended.sweeper);
-            Ok((Sessions::Once(tended.served), Some(left)))
-        }
-        Err(error) => Err(error),
-    }
-}
-
 // Serves one session after another from each seat.
 fn serve_on<L: Heap + Send + Sync, R: Clock + Eprint + Print + Threads + Wait + Sync>(
     rt: &R,
@@ -265,5 +234,36 @@ fn workers_left<L: Heap>(marker: Seat<L>, sweeper: Seat<L>) -> WorkersLeft
     WorkersLeft {
         marker: marker.into_unnamed(),
         sweeper: sweeper.into_unnamed(),
+    }
+}
+
+// Serves one session from each seat.
+fn serve_once<L: Heap + Send + Sync, R: Clock + Eprint + Threads + Wait + Sync>(
+    rt: &R,
+    alloc: Global,
+    shared: &Shared<L>,
+    workers: u64,
+    staff: Staff<L>,
+    ports: Ports,
+    terms: Terms,
+) -> Result<(Sessions, Option<WorkersLeft>), AllocError>
+    requires { AreStaff (length staff.users) (staff.marker ∷ staff.sweeper ∷ staff.users) }
+    ensures sessions { IfOk result
+        (λ r. AreSessionsFrom false L.config L.tables terms staff.users r.0) }
+    ensures workers { IfOk result (λ r. AreWorkersLeft workers L.config L.tables staff.marker
+        staff.sweeper r.1) }
+{
+    if workers == 0 {
+        return match serve_clients(rt, alloc, shared, staff.users, ports, terms) {
+            Ok(served) => Ok((Sessions::Once(served), None)),
+            Err(error) => Err(error),
+        };
+    }
+    match serve_tended(rt, alloc, shared, staff, ports, terms) {
+        Ok(tended) => {
+            let left = workers_left(tended.marker, tended.sweeper);
+            Ok((Sessions::Once(tended.served), Some(left)))
+        }
+        Err(error) => Err(error),
     }
 }

@@ -39,24 +39,6 @@ fn steps_on(machine: &Machine, redo: &Redo, place: u64) -> Result<u64, Refusal>
     }
 }
 
-// Takes `count` of the undone steps again, and returns the answer. If fewer are undone, nothing is done.
-pub(crate) fn forward(
-    alloc: Global,
-    machine: &mut Machine,
-    redo: &mut Redo,
-    count: u64,
-) -> LineAnswer
-    ensures { GoesForward count machine.old redo.old (line_answer_text result) machine.new
-        redo.new }
-{
-    let left = redo.ahead();
-    if count <= left {
-        LineAnswer::Known(go_on(machine, redo, count))
-    } else {
-        nothing_to_redo(alloc, count, left)
-    }
-}
-
 // Takes `count` of the undone steps again, and returns the reply.
 fn go_on(machine: &mut Machine, redo: &mut Redo, count: u64) -> Reply
     requires { count ≤ redo.old.ahead }
@@ -92,6 +74,24 @@ fn retake_next(machine: &mut Machine, redo: &mut Redo) -> Result<(), Refusal>
     machine.step(redo.next())?;
     redo.note_retaken();
     Ok(())
+}
+
+// Takes `count` of the undone steps again, and returns the answer. If fewer are undone, nothing is done.
+pub(crate) fn forward(
+    alloc: Global,
+    machine: &mut Machine,
+    redo: &mut Redo,
+    count: u64,
+) -> LineAnswer
+    ensures { GoesForward count machine.old redo.old (line_answer_text result) machine.new
+        redo.new }
+{
+    let left = redo.ahead();
+    if count <= left {
+        LineAnswer::Known(go_on(machine, redo, count))
+    } else {
+        nothing_to_redo(alloc, count, left)
+    }
 }
 
 /// Returns the answer of a `forward` of more steps than are undone.

@@ -3,6 +3,7 @@ use Rattle.std.proofs.Common.{◌≡◌, ◌∙◌, ℕ, zero, suc, ◌+◌, ◌
 use Rattle.std.specs.Prelude.{◌⊎◌, Result, Ok, Err, nat_le, slice_get, slice_index_or}
 use Rattle.std.proofs.lemmas.Bool.{leb-false, leb-true}
 use Rattle.std.proofs.lemmas.List.{take_all}
+use Rattle.circular_buffer.specs.Buffer.{Buffer, buffer, keep_last}
 use Rattle.heap_class.specs.declared.Refusal.{Refusal}
 use Rattle.heap_class.specs.declared.Refusal.TheVariants.{ChronicleFull, NoMemory}
 use Rattle.heap_world.specs.State.{HeapState}
@@ -54,22 +55,22 @@ step_acted m e = at (nat_le last_place m.trail.place) refl
     of : (x : Option Refusal) → m.trail.place < last_place → refusal_of e m.trail.current ≡ x
         → ComesOfStep m e (after_result e m (applied_unless x e m.trail.current)).0 (after_result e m (applied_unless x e m.trail.current)).1
     of None lt h = inl (answer_of e m.trail.current (state_after e m.trail.current), refl, record { free = h; below = lt; trail = refl; keep = refl })
-    of (Some x) lt h = inr (x, refl, refl, refl)
+    of (Some x) lt h = inr (x, refl, (refl, refl))
 
     at : (b : Bool) → nat_le last_place m.trail.place ≡ b → ComesOfStep m e (after_step_at b e m).0 (after_step_at b e m).1
-    at true h = inr (ChronicleFull, refl, refl, refl)
+    at true h = inr (ChronicleFull, refl, (refl, refl))
     at false h = of (refusal_of e m.trail.current) (leb-false last_place m.trail.place h) refl
 
 step_loses : (m n : Machine) (e : Event) (r : Reply) (pins : Pins) → ComesOfStep m e n r → ComesOfStep m e (record n { pins = pins }) r
 step_loses m n e r pins (inl h) =
     inl (h.0, h.1, record { free = h.2.free; below = h.2.below; trail = h.2.trail; keep = h.2.keep })
-step_loses m n e r pins (inr h) = inr (h.0, h.1, h.2, h.3)
+step_loses m n e r pins (inr h) = inr (h.0, h.1, h.2)
 
 step_comes : (m n : Machine) (e : Event) (r : Reply) (mark : Allocation) → acted_under m (Step e, mark) ≡ (n, r) → ComesOfStep m e n r
 unfolding acted_under
 step_comes m n e r Granted is = subst (λ (p : Machine × Reply). ComesOfStep m e p.0 p.1) is (step_acted m e)
 step_comes m n e r Denied is =
-    inr (NoMemory, sym (ap (λ (p : Machine × Reply). p.1) is), sym (ap (λ (p : Machine × Reply). p.0.trail) is), sym (ap (λ (p : Machine × Reply). p.0.keep) is))
+    inr (NoMemory, sym (ap (λ (p : Machine × Reply). p.1) is), (sym (ap (λ (p : Machine × Reply). p.0.trail) is), sym (ap (λ (p : Machine × Reply). p.0.keep) is)))
 step_comes m n e r (LosesPins pins) is =
     subst (λ (p : Machine × Reply). ComesOfStep m e p.0 p.1) is (step_loses m (acted m (Step e)).0 e (acted m (Step e)).1 _ (step_acted m e))
 
@@ -99,17 +100,17 @@ rewind_acted m count = go (nat_le count (retained m.trail)) refl
         let few = leb-true count (retained m.trail) h in
         subst (λ (p : Machine × Reply). ComesOfRewind m count p.0 p.1) (sym (rewind_done m count few)) (inl (_, refl, record { few = few; trail = refl; keep = refl }))
     go false h =
-        subst (λ (p : Machine × Reply). ComesOfRewind m count p.0 p.1) (sym (machine_refuses_far_rewind m count (leb-false count (retained m.trail) h))) (inr (_, refl, refl, refl))
+        subst (λ (p : Machine × Reply). ComesOfRewind m count p.0 p.1) (sym (machine_refuses_far_rewind m count (leb-false count (retained m.trail) h))) (inr (_, refl, (refl, refl)))
 
 rewind_loses : (m n : Machine) (count : ℕ) (r : Reply) (pins : Pins) → ComesOfRewind m count n r → ComesOfRewind m count (record n { pins = pins }) r
 rewind_loses m n count r pins (inl h) = inl (h.0, h.1, record { few = h.2.few; trail = h.2.trail; keep = h.2.keep })
-rewind_loses m n count r pins (inr h) = inr (h.0, h.1, h.2, h.3)
+rewind_loses m n count r pins (inr h) = inr (h.0, h.1, h.2)
 
 rewind_comes : (m n : Machine) (count : ℕ) (r : Reply) (mark : Allocation) → acted_under m (Rewind count, mark) ≡ (n, r) → ComesOfRewind m count n r
 unfolding acted_under
 rewind_comes m n count r Granted is = subst (λ (p : Machine × Reply). ComesOfRewind m count p.0 p.1) is (rewind_acted m count)
 rewind_comes m n count r Denied is =
-    inr (NoMemory, sym (ap (λ (p : Machine × Reply). p.1) is), sym (ap (λ (p : Machine × Reply). p.0.trail) is), sym (ap (λ (p : Machine × Reply). p.0.keep) is))
+    inr (NoMemory, sym (ap (λ (p : Machine × Reply). p.1) is), (sym (ap (λ (p : Machine × Reply). p.0.trail) is), sym (ap (λ (p : Machine × Reply). p.0.keep) is)))
 rewind_comes m n count r (LosesPins pins) is =
     subst (λ (p : Machine × Reply). ComesOfRewind m count p.0 p.1) is (rewind_loses m (acted m (Rewind count)).0 count (acted m (Rewind count)).1 _ (rewind_acted m count))
 
@@ -123,6 +124,18 @@ undone m n count p h = placed_is_undone m n count p (rewind_comes m n count (Pla
 stays_legal : (m n : Machine) (a : Action) (r : Reply) → LocalActs m a r n → IsTrail m.keep m.trail → IsTrail n.keep n.trail
 unfolding machine_after
 stays_legal m n a r h t = subst (λ (p : Machine × Reply). IsTrail p.0.keep p.0.trail) h.2 (trails_stay m ((a, h.0) ∷ []) t)
+
+-- ---- what is forgotten
+
+-- what a buffer holds, of which nothing is undone
+abbrev of_buffer : Buffer Event → Redo
+of_buffer b = record { events = b.items; ahead = 0; limit = b.capacity }
+
+pub undone_forgotten : (b cut : Buffer Event) (ahead len : ℕ) (r : Redo) → cut ≡ buffer (keep_last (len - ahead) b.items) b.capacity → len ≡ length b.items → ahead ≤ length b.items → record { events = b.items; ahead = ahead; limit = b.capacity } ≡ r
+    → record { events = cut.items; ahead = 0; limit = cut.capacity } ≡ record r { events = drop r.ahead r.events; ahead = 0 }
+undone_forgotten b cut ahead len r told is few shown =
+    let first : length b.items - (len - ahead) ≡ ahead = omega (arith, is, few) in
+    ap of_buffer (told ∙ ap (λ (n : ℕ). buffer (drop n b.items) b.capacity) first) ∙ ap (λ (x : Redo). record x { events = drop x.ahead x.events; ahead = 0 }) shown
 
 -- ---- lists of events
 
@@ -159,27 +172,28 @@ same_length w (v ∷ past) [] s = absurd s
 record LeadsUp (n keep : ℕ) (e : Event) (w d : HeapState) (past : List HeapState) (records : List Undo) : Type 0 where
   free : refusal_of e (slice_index_or (w ∷ past) (suc n) d) ≡ None
   state : state_after e (slice_index_or (w ∷ past) (suc n) d) ≡ slice_index_or (w ∷ past) n d
-  past : take keep (slice_index_or (w ∷ past) (suc n) d ∷ drop (suc n) past) ≡ drop n past
-  records : take keep (undo_record e (slice_index_or (w ∷ past) (suc n) d) ∷ drop (suc n) records) ≡ drop n records
+  states : take keep (slice_index_or (w ∷ past) (suc n) d ∷ drop (suc n) past) ≡ drop n past
+  lefts : take keep (undo_record e (slice_index_or (w ∷ past) (suc n) d) ∷ drop (suc n) records) ≡ drop n records
   there : n < length past
 
 leads_up : (n keep : ℕ) (e : Event) (events : List Event) (w d : HeapState) (past : List HeapState) (records : List Undo) → length past ≤ keep → length records ≤ keep
     → AreLastEvents events w past records → slice_get events n ≡ Some e → LeadsUp n keep e w d past records
-leads_up n keep e [] w d past records few light h is = absurd (cc is)
+leads_up zero keep e [] w d past records few light h is = absurd (cc is)
+leads_up (suc n) keep e [] w d past records few light h is = absurd (cc is)
 leads_up zero keep e (x ∷ events) w d (v ∷ past) (left ∷ records) few light h is =
     let same : x ≡ e = cc is in
     let step : IsStep e v w left = subst (λ (y : Event). IsStep y v w left) same h.0 in
     record {
       free = step.accepted;
       state = sym step.gave;
-      past = take_all keep (v ∷ past) few;
-      records = ap (λ (y : Undo). take keep (y ∷ records)) (sym step.recorded) ∙ take_all keep (left ∷ records) light;
+      states = take_all keep (v ∷ past) few;
+      lefts = ap (λ (y : Undo). take keep (y ∷ records)) (sym step.recorded) ∙ take_all keep (left ∷ records) light;
       there = omega arith;
     }
 leads_up (suc n) keep e (x ∷ events) w d (v ∷ past) (left ∷ records) few light h is =
     let u = leads_up n keep e events v d past records (omega (arith, few)) (omega (arith, light)) h.1 is in
     let there = u.there in
-    record { free = u.free; state = u.state; past = u.past; records = u.records; there = omega (arith, there) }
+    record { free = u.free; state = u.state; states = u.states; lefts = u.lefts; there = omega (arith, there) }
 leads_up n keep e (x ∷ events) w d [] records few light h is = absurd h
 leads_up n keep e (x ∷ events) w d (v ∷ past) [] few light h is = absurd h
 
@@ -209,8 +223,8 @@ unfolding stepped rewound state_ago
 stepped_up n keep place e last lt is u = λ i. record {
   place = (let p : last.place - suc n + 1 ≡ last.place - n = omega (arith, lt, is) in p) i;
   current = u.state i;
-  past = u.past i;
-  records = u.records i;
+  past = u.states i;
+  records = u.lefts i;
 }
 
 current_before : (m : Machine) (n : ℕ) (last : Trail) → m.trail ≡ rewound n last → m.trail.current ≡ slice_index_or (last.current ∷ last.past) n last.current
@@ -234,7 +248,7 @@ up_by_one m k r last n e ahead l is d =
       legal = subst (λ (keep : ℕ). IsTrail keep last) (sym d.keep) l.legal;
       placed = l.placed;
       events = l.events;
-      undone = d.trail ∙ ap (λ (t : Trail). stepped m.keep (undo_record e t.current) (state_after e t.current) t) before ∙ up ∙ ap (λ (x : ℕ). rewound (x - 1) last) (sym ahead);
+      undone = d.trail ∙ ap (λ (t : Trail). stepped m.keep (undo_record e t.current) (state_after e t.current) t) before ∙ up ∙ ap (λ (x : ℕ). rewound x last) (let one : n ≡ r.ahead - 1 = omega (arith, ahead) in one);
       few = omega (arith, few);
       kept = subst (λ (keep : ℕ). r.limit ≤ keep) (sym d.keep) l.kept;
     }
@@ -246,7 +260,7 @@ next_up m k r last (suc n) e ahead l is d = up_by_one m k r last n e ahead l is 
 -- the event that is next
 pub event_there : (n : ℕ) (events : List Event) (e : Event) → 0 < n → slice_get events (n - 1) ≡ Some e → event_at n events ≡ Some e
 event_there zero events e some is = absurd (omega (arith, some))
-event_there (suc n) events e some is = is
+event_there (suc n) events e some is = ap (slice_get events) (let one : n ≡ suc n - 1 = omega arith in one) ∙ is
 
 pub none_is_past : (n : ℕ) (events : List Event) → slice_get events n ≡ None → length events ≤ n
 none_is_past n [] is = omega arith
@@ -410,11 +424,11 @@ rewind_noted m k r count legal d l = go (nat_le (r.ahead + count) (length r.even
 
 step_keeps : (m k : Machine) (r : Redo) (e : Event) (reply : Reply) → IsTrail k.keep k.trail → ComesOfStep m e k reply → IsRedoOf m r → IsRedoOf k (noted (Step e) reply r)
 step_keeps m k r e reply legal (inl h) l = subst (λ (x : Reply). IsRedoOf k (noted (Step e) x r)) (sym h.1) (step_noted m k r e legal h.2 l)
-step_keeps m k r e reply legal (inr h) l = subst (λ (x : Reply). IsRedoOf k (noted (Step e) x r)) (sym h.1) (same_lead m k r (h.2, h.3) l)
+step_keeps m k r e reply legal (inr h) l = subst (λ (x : Reply). IsRedoOf k (noted (Step e) x r)) (sym h.1) (same_lead m k r h.2 l)
 
 rewind_keeps : (m k : Machine) (r : Redo) (count : ℕ) (reply : Reply) → IsTrail k.keep k.trail → ComesOfRewind m count k reply → IsRedoOf m r → IsRedoOf k (noted (Rewind count) reply r)
 rewind_keeps m k r count reply legal (inl h) l = subst (λ (x : Reply). IsRedoOf k (noted (Rewind count) x r)) (sym h.1) (rewind_noted m k r count legal h.2 l)
-rewind_keeps m k r count reply legal (inr h) l = subst (λ (x : Reply). IsRedoOf k (noted (Rewind count) x r)) (sym h.1) (same_lead m k r (h.2, h.3) l)
+rewind_keeps m k r count reply legal (inr h) l = subst (λ (x : Reply). IsRedoOf k (noted (Rewind count) x r)) (sym h.1) (same_lead m k r h.2 l)
 
 dump_keeps : (m k : Machine) (r : Redo) (a : Action) (reply : Reply) → is_dump_action a ≡ true → LocalActs m a reply k → IsRedoOf m r → IsRedoOf k r
 dump_keeps m k r a reply dump h l = let same = dumps_leave m k a h.0 reply dump h.2 in same_lead m k r (same.0, same.1) l

@@ -5,7 +5,7 @@ use Rattle.question_text.proofs.RetakenSteps.{again_next, stops_before}
 use Rattle.question_text.proofs.forward.retake.Goals as goal
 
 pub loop-done-init : goal.loop-done-init
-loop-done-init c = record { taken = (refl, refl); ahead = refl }
+loop-done-init c = record { taken = (refl, refl); ahead = omega arith }
 
 pub retake_next-requires : goal.retake_next-requires
 retake_next-requires c = omega (arith, c.loop-done.invariant.ahead, c.loop-done-test.true, c.requires)

@@ -5,7 +5,7 @@ use Rattle.heap_trail.specs.Machine.{Machine, MayFail}
 use Rattle.question_text.proofs.forward.retake_next.Goals as goal
 
 pub returns-clause-taken : goal.returns-clause-taken
-returns-clause-taken c = (c.next.result.now, c.in_ok-step.field-0.0, c.step.new.machine, c.next.ensures, c.in_ok-step.ensures.done, (refl, c.note_retaken.ensures))
+returns-clause-taken c = (c.next.result.now, c.in_ok-step.field-0, c.step.new.self, c.next.ensures, c.in_ok-step.ensures.done, (refl, c.note_retaken.ensures))
 
 pub returns-in_err-step-clause-stopped : goal.returns-in_err-step-clause-stopped
 returns-in_err-step-clause-stopped c =

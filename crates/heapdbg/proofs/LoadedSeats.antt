@@ -1,5 +1,5 @@
 -- Heaps that are served after what is run first.
-use Rattle.std.proofs.Common.{◌≡◌, ◌∙◌, ℕ, ◌+◌, Bool, true, List, [], ◌∷◌, Option, None, Some, Result, Ok, Err, IfOk, absurd, ap, arith, inl, subst, sym}
+use Rattle.std.proofs.Common.{◌≡◌, ◌∙◌, ℕ, ◌+◌, Bool, true, List, [], ◌∷◌, Option, None, Some, Result, Ok, Err, IfOk, ap, arith, inl, subst, sym}
 use Rattle.dump_pump.specs.Outlets.{Outgoing}
 use Rattle.session_text.specs.Answers.{AnswersCommand, Begins}
 use Rattle.session_text.specs.declared.limits.SessionLimits.{SessionLimits}
@@ -30,7 +30,7 @@ staff_of_one_more : (n : ℕ) (seats : List SeatModel) → AreStaff (n + 1) seat
 staff_of_one_more n [] staff = absurd staff
 staff_of_one_more n (marker ∷ []) staff = absurd staff
 staff_of_one_more n (marker ∷ sweeper ∷ []) staff = absurd (omega (arith, staff.3))
-staff_of_one_more n (marker ∷ sweeper ∷ first ∷ users) staff = (staff.2.0, staff.0, staff.1, staff.2.1, omega (arith, staff.3))
+staff_of_one_more n (marker ∷ sweeper ∷ first ∷ users) staff = (staff.2.0, (staff.0, staff.1, staff.2.1, omega (arith, staff.3)))
 
 -- so it is of those of a heap, if it was made
 pub heap_of_one_more : {E : Type 0} (n : ℕ) (made : Result Maker E) → IfOk made (λ b. AreStaff (n + 1) b.seats) → IfOk made (λ b. AreSeatsFor n b.seats)

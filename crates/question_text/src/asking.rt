@@ -34,7 +34,7 @@ pub struct Asking<'a> {
 }
 
 impl<'a> Asking<'a> {
-    /// Creates the commands of a machine that retains up to `keep` steps. As many can be taken again, but at most 65,536. Fails with
+    /// Creates the commands of a machine that retains up to `keep` steps. As many can be taken again, at most 65,536. Fails with
     /// NoMemory.
     pub fn new(
         alloc: Global,

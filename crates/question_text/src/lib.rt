@@ -184,8 +184,8 @@ pub fn undone_steps_lead_on()
         → IsRedoOf c.local.machine c.redo → IsRedoOf d.local.machine d.redo }
 {}
 
-/// States that a rewind of steps that are all kept, and then a `forward` of as many, give back the trail, with its place, states and
-/// records, and the undone steps, unless memory is refused to a step. Nothing else stops a `forward`.
+/// States that a rewind of steps that are all kept, and then a `forward` of as many, give back the trail, with its place, states
+/// and records, and the undone steps, unless memory is refused to a step. Nothing else stops a `forward`.
 pub fn forward_takes_back()
     ensures back { (n place : ℕ) (l text : List ℕ) (c d e : Asking)
         → IsRedoOf c.local.machine c.redo → c.redo.ahead + n ≤ length c.redo.events

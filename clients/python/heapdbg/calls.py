@@ -167,6 +167,11 @@ class Calls:
         """Undoes this many of the last steps, or those since a place, and returns the place."""
         return self.send(f"rewind {by}", number)
 
+    def forward(self, by: Union[int, Place]) -> int:
+        """Takes this many of the steps again that rewinds undid, or those up to a place, and returns the place. The heap has to answer
+        questions: `explore`, or `serve --questions 1`; a served heap refuses it."""
+        return self.send(f"forward {by}", number)
+
     def open(self, place: Union[Place, Now, int, None] = None) -> PinAt:
         """Opens a pin on a retained place, or on the current state, and returns a `PinAt`."""
         return self.send(f"open {word_of_moment(place)}", pinned)
@@ -347,6 +352,6 @@ class Calls:
         return self.send("status", facts_by_name)
 
     def collect(self) -> Collected:
-        """Runs a whole cycle, or finishes the one that runs, and returns what it did as `Collected`. The only question that
-        changes the heap."""
+        """Runs a whole cycle, or finishes the one that runs, and returns what it did as `Collected`. It changes the
+        heap."""
         return self.send("collect", collected)

@@ -3,6 +3,7 @@ use Rattle.std.specs.Prelude.{◌≡◌, ℕ, ◌+◌, ◌++◌, Bool, true, fal
 use Rattle.std.specs.List.{enumerate_from}
 use mathlib.Core.List.{IsPrefix}
 use Rattle.heap_lock.specs.Refusal.{Refusal}
+use Rattle.heap_lock.specs.Refusal.TheVariants.{NotRetained}
 use Rattle.heap_lock.specs.HeapLimits.{HeapSettings}
 use Rattle.heap_lock.specs.Calls.{Call, IsHeapLedger, call_of}
 use Rattle.heap_lock.specs.Machine.{Machine}
@@ -21,9 +22,11 @@ use Rattle.question_text.specs.declared.cycle.CycleCounts.{CycleCounts}
 use Rattle.question_text.specs.Collections.{IsCycleAnswer, RunsCycle, TakenStep}
 use Rattle.question_text.specs.Histories.{steps_ago}
 use Rattle.question_text.specs.declared.order.Order.{Order}
-use Rattle.question_text.specs.declared.order.Order.TheVariants.{Act, Collect, RewindTo}
+use Rattle.question_text.specs.declared.order.Order.TheVariants.{Act, Collect, Forward, ForwardTo, RewindTo}
 use Rattle.question_text.specs.Moments.{refused_text}
 use Rattle.question_text.specs.Orders.{order_in}
+use Rattle.question_text.specs.Places.{IsTextOrNoMemory}
+use Rattle.question_text.specs.Redos.{nothing_to_redo_text}
 use Rattle.heap_server.specs.JoinedActs.{IsReply}
 
 -- the calls lead to this machine and are those of this chronicle, which has of the seat just its share
@@ -67,12 +70,21 @@ ActsHeld config a k s text k' s' =
     (done : Result Receipt Refusal) × (r : Reply) × IsHeldAct config a k s done k' s'
     × IsReply done r × (text ≡ reply_text r)
 
+-- nothing is done, for this reason
+abbrev pub IsRefusedHeld : Refusal → LockState → SeatModel → List ℕ → LockState → SeatModel → Type 0
+IsRefusedHeld e k s text k' s' = (text ≡ refused_text e) × (k' ≡ k) × (s' ≡ s)
+
 -- a rewind of this many steps, as such an act; or a refusal, and nothing is done
 abbrev pub RewindsHeld : HeapSettings → Result ℕ Refusal → LockState → SeatModel → List ℕ → LockState
     → SeatModel
     → Type 0
 RewindsHeld config (Ok n) k s text k' s' = ActsHeld config (Rewind n) k s text k' s'
-RewindsHeld config (Err e) k s text k' s' = (text ≡ refused_text e) × (k' ≡ k) × (s' ≡ s)
+RewindsHeld config (Err e) k s text k' s' = IsRefusedHeld e k s text k' s'
+
+-- no steps that were undone are kept of a shared heap, so none of this many is taken again
+abbrev pub LacksUndone : ℕ → LockState → SeatModel → List ℕ → LockState → SeatModel → Type 0
+LacksUndone n k s text k' s' =
+    IsTextOrNoMemory (λ text. text ≡ nothing_to_redo_text n 0) text × (k' ≡ k) × (s' ≡ s)
 
 -- what one who holds the lock does by a line that the grammar of sessions doesn't know, and its answer: what it asks to be done, as
 -- acts of the seat; else nothing, and the answer of a question is about the heap's machine and the length of its chronicle
@@ -82,6 +94,9 @@ abbrev pub AnswersHeld : HeapSettings → Option Order → List ℕ → LockStat
 AnswersHeld config (Some Collect) l k s text k' s' = CollectsHeld k s text k' s'
 AnswersHeld config (Some (RewindTo place)) l k s text k' s' =
     RewindsHeld config (steps_ago (Some place) k.machine.trail) k s text k' s'
+AnswersHeld config (Some (Forward n)) l k s text k' s' = LacksUndone n k s text k' s'
+AnswersHeld config (Some (ForwardTo place)) l k s text k' s' =
+    IsRefusedHeld NotRetained k s text k' s'
 AnswersHeld config (Some (Act e)) l k s text k' s' = ActsHeld config (Step e) k s text k' s'
 AnswersHeld config None l k s text k' s' =
     IsAnswerOfLine l k.machine (Some (length k.chronicle)) text × (k' ≡ k) × (s' ≡ s)

@@ -5,12 +5,13 @@ ghost use Rattle.heap_lock.specs.declared.role.Role.TheVariants.{User};
 ghost use Rattle.heap_lock.specs.Action.TheVariants.{Step};
 ghost use mathlib.Core.List.{IsPrefix};
 ghost use Rattle.question_text.specs.Histories.{steps_ago};
-ghost use Rattle.heap_server.specs.JoinedAnswers.{ActsHeld, AnswersForSeat, AnswersHeld, CollectsHeld, IsHeapOfSeat, LeavesSeen, RewindsHeld, RunsCycleHeld, order_obeyed};
+ghost use Rattle.heap_server.specs.JoinedAnswers.{ActsHeld, AnswersForSeat, AnswersHeld, CollectsHeld, IsHeapOfSeat, IsRefusedHeld, LacksUndone, LeavesSeen, RewindsHeld, RunsCycleHeld, order_obeyed};
 
 use crate::joined::reply_to_act;
 use heap_lock::{Answer, Event, Heap, Kept, Machine, Outcome, Refusal, Reply, Seat, Witness};
 use question_text::{
-    CycleCounts, Order, Steps, answer_line, collect_answer, order_in, run_cycle, steps_ago,
+    CycleCounts, Order, Steps, answer_line, collect_answer, nothing_to_redo, order_in, run_cycle,
+    steps_ago,
 };
 use session_text::LineAnswer;
 use std::alloc::Global;
@@ -102,6 +103,8 @@ fn answer_order<L: Heap>(
     match order {
         Some(Order::Collect) => collect_held(alloc, kept, seat, witness),
         Some(Order::RewindTo(place)) => rewind_held_to(kept, seat, witness, place),
+        Some(Order::Forward(count)) => lack_undone(alloc, kept, seat, witness, count),
+        Some(Order::ForwardTo(_)) => refuse_held(kept, seat, witness, Refusal::NotRetained),
         Some(Order::Act(event)) => take_held(kept, seat, witness, event),
         None => answer_question(alloc, kept, seat, witness, line),
     }
@@ -186,6 +189,37 @@ fn take_held<L: Heap>(
     let reply = reply_to_act(kept.act_held(seat, event));
     see_all(kept, seat, witness);
     LineAnswer::Known(reply)
+}
+
+// Answers `forward` of this many steps: no steps that were undone are kept.
+fn lack_undone<L: Heap>(
+    alloc: Global,
+    kept: &mut Kept<L>,
+    seat: &mut Seat<L>,
+    witness: &mut Witness<L>,
+    count: u64,
+) -> LineAnswer
+    ensures lacks { LeavesSeen L.config (λ last. LacksUndone count kept.old seat.old
+        (line_answer_text result) last seat.new) seat.new witness.new }
+    ensures seat { seat.new ≡ seat.old }
+{
+    see_all(kept, seat, witness);
+    nothing_to_redo(alloc, count, 0)
+}
+
+// Refuses a line for this reason.
+fn refuse_held<L: Heap>(
+    kept: &mut Kept<L>,
+    seat: &mut Seat<L>,
+    witness: &mut Witness<L>,
+    refusal: Refusal,
+) -> LineAnswer
+    ensures refused { LeavesSeen L.config (λ last. IsRefusedHeld refusal kept.old seat.old
+        (line_answer_text result) last seat.new) seat.new witness.new }
+    ensures seat { seat.new ≡ seat.old }
+{
+    see_all(kept, seat, witness);
+    LineAnswer::Known(Reply::Refused(refusal))
 }
 
 // Answers a question about the heap.

@@ -1,5 +1,5 @@
 -- No line that asks a question is one of the grammar of sessions.
-use Rattle.std.proofs.Common.{◌≡◌, ◌∙◌, ap, ap₂, ℕ, Bool, true, false, cond, List, [], ◌∷◌, Some, None, refl, sym, subst}
+use Rattle.std.proofs.Common.{◌≡◌, ◌∙◌, ap, ℕ, Bool, true, false, cond, List, [], ◌∷◌, Some, None, refl, sym, subst}
 use Rattle.std.specs.Prelude.{Option, codes, drop, find, if◌then◌else◌, is_some, ◌&&◌, length, nat_le, nat_lt, option_and_then, option_map, slice_index, take}
 use Rattle.std.specs.List.{AllByRecursion}
 use Rattle.std.specs.Option.{option_or}
@@ -12,14 +12,13 @@ use Rattle.heap_step.specs.declared.Event.TheVariants.{New}
 use Rattle.heap_trail.specs.declared.Action.TheVariants.{Rewind, Step}
 use Rattle.session_grammar.specs.declared.command.Command.TheVariants.{Ask, Bad}
 use Rattle.session_grammar.specs.Grammar.{access_rules, all_rules, at_end, by_rule, class_rules, command_of_text, command_of_words, is_plain, making_rules, marking_rules, next_number, number_of_word, session_rules, words_of_line}
-use Rattle.session_text.specs.declared.commands.Local.{Local}
 use Rattle.question_text.specs.declared.asking.Asking.{Asking}
 use Rattle.question_text.specs.declared.question.Question.{Question}
 use Rattle.question_text.specs.declared.order.Order.{Order}
 use Rattle.question_text.specs.declared.order.Order.TheVariants.{Act, Collect, RewindTo}
 use Rattle.question_text.specs.declared.question.At.{At}
 use Rattle.question_text.specs.declared.question.At.TheVariants.{Current, Pin, Place}
-use Rattle.question_text.specs.Orders.{class_by_name, new_by_name, new_of, order_in, order_of_words, way_back}
+use Rattle.question_text.specs.Orders.{class_by_name, new_by_name, new_of, order_in, order_of_two, order_of_words, way_back, way_on}
 use Rattle.question_text.specs.Help.{help_about, help_of, help_of_words}
 use Rattle.question_text.specs.NameWords.{class_named}
 use Rattle.question_text.specs.NamedLines.{named_question_of_words, named_rules, question_in}
@@ -147,12 +146,25 @@ unfolding by_rule class_rules making_rules access_rules marking_rules session_ru
 no_rewind_without_number v ws e =
     ap (λ (o : Option ℕ). option_map (λ n. Ask (Rewind n)) (option_and_then (λ (a : ℕ × List (List ℕ)). at_end a.0 a.1) (option_map (λ n. (n, ws)) o))) e
 
-goes_back_beside : (w v : List ℕ) (ws : List (List ℕ)) (o : Order) (back : Option Order) → bytes_eq w (codes "rewind") ≡ true → way_back v ≡ back
-    → option_and_then (λ (b : Order). at_end b ws) back ≡ Some o → command_of_words (w ∷ v ∷ ws) ≡ Bad
-goes_back_beside w v ws o None word is e = absurd (cc e)
-goes_back_beside w v ws o (Some b) word is e =
-    let none = subst (λ (x : List ℕ). by_rule all_rules x (v ∷ ws) ≡ None) (sym ((bytes_eq-Decides w (codes "rewind")).0 word)) (no_rewind_without_number v ws (way_back_is_no_number v b is)) in
-    rw none refl
+forward_new : IsNew (codes "forward")
+unfolding by_rule class_rules making_rules access_rules marking_rules session_rules
+forward_new ws = refl
+
+two_no_command : (w v : List ℕ) (ws : List (List ℕ)) (o : Order) → order_of_two w v ≡ Some o → command_of_words (w ∷ v ∷ ws) ≡ Bad
+unfolding order_of_two
+two_no_command w v ws o e = go (bytes_eq w (codes "rewind")) (bytes_eq w (codes "forward")) refl refl e
+  where
+    go : (back on : Bool) → bytes_eq w (codes "rewind") ≡ back → bytes_eq w (codes "forward") ≡ on
+        → cond back (way_back v) (cond on (way_on v) None) ≡ Some o → command_of_words (w ∷ v ∷ ws) ≡ Bad
+    go true on h k e =
+        let none = subst (λ (x : List ℕ). by_rule all_rules x (v ∷ ws) ≡ None) (sym ((bytes_eq-Decides w (codes "rewind")).0 h)) (no_rewind_without_number v ws (way_back_is_no_number v o e)) in
+        rw none refl
+    go false true h k e = let none = subst IsNew (sym ((bytes_eq-Decides w (codes "forward")).0 k)) forward_new (v ∷ ws) in rw none refl
+    go false false h k e = absurd (cc e)
+
+order_beside : (w v : List ℕ) (ws : List (List ℕ)) (o : Order) (two : Option Order) → order_of_two w v ≡ two → option_and_then (λ (p : Order). at_end p ws) two ≡ Some o → command_of_words (w ∷ v ∷ ws) ≡ Bad
+order_beside w v ws o None is e = absurd (cc e)
+order_beside w v ws o (Some p) is e = two_no_command w v ws p is
 
 -- a name is no number
 name_is_no_number : (classes : List Class) (name : List ℕ) (k : ℕ) → class_by_name classes name ≡ Some k → number_of_word name ≡ None
@@ -214,13 +226,12 @@ by_order classes (w ∷ []) o e = go (bytes_eq w (codes "collect")) refl e
     go : (b : Bool) → bytes_eq w (codes "collect") ≡ b → cond b (Some Collect) None ≡ Some o → command_of_words (w ∷ []) ≡ Bad
     go true h e = collects_alone w h
     go false h e = absurd (cc e)
-by_order classes (w ∷ v ∷ ws) o e = go (bytes_eq w (codes "rewind")) (bytes_eq w (codes "new")) refl refl e
+by_order classes (w ∷ v ∷ ws) o e = go (bytes_eq w (codes "new")) refl e
   where
-    go : (a b : Bool) → bytes_eq w (codes "rewind") ≡ a → bytes_eq w (codes "new") ≡ b
-        → cond a (option_and_then (λ (back : Order). at_end back ws) (way_back v)) (cond b (new_by_name classes v ws) None) ≡ Some o → command_of_words (w ∷ v ∷ ws) ≡ Bad
-    go true b h i e = goes_back_beside w v ws o (way_back v) h refl e
-    go false true h i e = by_new classes w v ws o i e
-    go false false h i e = absurd (cc e)
+    go : (b : Bool) → bytes_eq w (codes "new") ≡ b
+        → cond b (new_by_name classes v ws) (option_and_then (λ (p : Order). at_end p ws) (order_of_two w v)) ≡ Some o → command_of_words (w ∷ v ∷ ws) ≡ Bad
+    go true h e = by_new classes w v ws o h e
+    go false h e = order_beside w v ws o (order_of_two w v) refl e
 
 pub orders_no_command : (state : HeapState) (l : List ℕ) (o : Order) → order_in state l ≡ Some o → command_of_text l ≡ Bad
 orders_no_command state l o e = bad_words l (by_order state.classes (words_of_line l) o e)
@@ -248,6 +259,24 @@ new_asks_nothing ws = record { question = refl; help = refl }
 word_asks_nothing : (w key : List ℕ) (ws : List (List ℕ)) → bytes_eq w key ≡ true → AsksNothing key ws → AsksNothing w ws
 word_asks_nothing w key ws word none = subst (λ (x : List ℕ). AsksNothing x ws) (sym ((bytes_eq-Decides w key).0 word)) none
 
+forward_asks_nothing : (ws : List (List ℕ)) → AsksNothing (codes "forward") ws
+unfolding question_of_words question_rules past_rules
+forward_asks_nothing ws = record { question = refl; help = refl }
+
+two_asks_nothing : (w v : List ℕ) (ws : List (List ℕ)) (o : Order) → order_of_two w v ≡ Some o → AsksNothing w (v ∷ ws)
+unfolding order_of_two
+two_asks_nothing w v ws o e = go (bytes_eq w (codes "rewind")) (bytes_eq w (codes "forward")) refl refl e
+  where
+    go : (back on : Bool) → bytes_eq w (codes "rewind") ≡ back → bytes_eq w (codes "forward") ≡ on
+        → cond back (way_back v) (cond on (way_on v) None) ≡ Some o → AsksNothing w (v ∷ ws)
+    go true on h k e = word_asks_nothing w (codes "rewind") (v ∷ ws) h (rewind_asks_nothing (v ∷ ws))
+    go false true h k e = word_asks_nothing w (codes "forward") (v ∷ ws) k (forward_asks_nothing (v ∷ ws))
+    go false false h k e = absurd (cc e)
+
+order_beside_asks_nothing : (w v : List ℕ) (ws : List (List ℕ)) (o : Order) (two : Option Order) → order_of_two w v ≡ two → option_and_then (λ (p : Order). at_end p ws) two ≡ Some o → AsksNothing w (v ∷ ws)
+order_beside_asks_nothing w v ws o None is e = absurd (cc e)
+order_beside_asks_nothing w v ws o (Some p) is e = two_asks_nothing w v ws p is
+
 order_asks_nothing : (classes : List Class) (ws : List (List ℕ)) (o : Order) → order_of_words classes ws ≡ Some o → (question_of_words ws ≡ None) × (help_of_words ws ≡ None)
 unfolding order_of_words
 order_asks_nothing classes [] o e = absurd (cc e)
@@ -256,22 +285,20 @@ order_asks_nothing classes (w ∷ []) o e = go (bytes_eq w (codes "collect")) re
     go : (b : Bool) → bytes_eq w (codes "collect") ≡ b → cond b (Some Collect) None ≡ Some o → (question_of_words (w ∷ []) ≡ None) × (help_of_words (w ∷ []) ≡ None)
     go true h e = let a = word_asks_nothing w (codes "collect") [] h collect_asks_nothing in (a.question, a.help)
     go false h e = absurd (cc e)
-order_asks_nothing classes (w ∷ v ∷ ws) o e = go (bytes_eq w (codes "rewind")) (bytes_eq w (codes "new")) refl refl e
+order_asks_nothing classes (w ∷ v ∷ ws) o e = go (bytes_eq w (codes "new")) refl e
   where
-    go : (a b : Bool) → bytes_eq w (codes "rewind") ≡ a → bytes_eq w (codes "new") ≡ b
-        → cond a (option_and_then (λ (back : Order). at_end back ws) (way_back v)) (cond b (new_by_name classes v ws) None) ≡ Some o
+    go : (b : Bool) → bytes_eq w (codes "new") ≡ b
+        → cond b (new_by_name classes v ws) (option_and_then (λ (p : Order). at_end p ws) (order_of_two w v)) ≡ Some o
         → (question_of_words (w ∷ v ∷ ws) ≡ None) × (help_of_words (w ∷ v ∷ ws) ≡ None)
-    go true b h i e = let a = word_asks_nothing w (codes "rewind") (v ∷ ws) h (rewind_asks_nothing (v ∷ ws)) in (a.question, a.help)
-    go false true h i e = let a = word_asks_nothing w (codes "new") (v ∷ ws) i (new_asks_nothing (v ∷ ws)) in (a.question, a.help)
-    go false false h i e = absurd (cc e)
+    go true h e = let a = word_asks_nothing w (codes "new") (v ∷ ws) h (new_asks_nothing (v ∷ ws)) in (a.question, a.help)
+    go false h e = let a = order_beside_asks_nothing w v ws o (order_of_two w v) refl e in (a.question, a.help)
 
-same_local : (order : Option Order) (l text : List ℕ) (c d : Local) → ((o : Order) → order ≡ Some o → ⊥) → AnswersLine order l c text d → d ≡ c
-same_local (Some o) l text c d h a = absurd (h o refl)
-same_local None l text c d h a = a.1
+same_asking : (order : Option Order) (l text : List ℕ) (c d : Asking) → ((o : Order) → order ≡ Some o → ⊥) → AnswersLine order l c text d → d ≡ c
+same_asking (Some o) l text c d h a = absurd (h o refl)
+same_asking None l text c d h a = a.1
 
 unchanged : (l text : List ℕ) (c d : Asking) → ((o : Order) → order_in c.local.machine.trail.current l ≡ Some o → ⊥) → AskingAnswers l c text d → d ≡ c
-unchanged l text c d h a =
-    ap₂ (λ local watch. record { local = local; watch = watch }) (same_local (order_in c.local.machine.trail.current l) l text c.local d.local h a.0) a.1
+unchanged l text c d h a = same_asking (order_in c.local.machine.trail.current l) l text c d h a.0
 
 pub question_changes_nothing : (l text : List ℕ) (q : Question) (c d : Asking) → question_of l ≡ Some q → AskingAnswers l c text d → d ≡ c
 question_changes_nothing l text q c d e a =

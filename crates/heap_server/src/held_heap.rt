@@ -75,6 +75,19 @@ pub(crate) fn answer_held<L: Heap>(
     answer_order(alloc, kept, seat, witness, order, line)
 }
 
+// Compares the chronicle with the seat, and has the witness see all calls.
+fn see_all<L: Heap>(kept: &mut Kept<L>, seat: &mut Seat<L>, witness: &mut Witness<L>)
+    ensures heap { IsHeapOfSeat L.config kept.old.machine kept.old.chronicle kept.old.ledger
+        seat.old }
+    ensures begins { IsPrefix witness.old kept.old.ledger }
+    ensures sees { witness.new ≡ kept.old.ledger }
+    ensures same { kept.new ≡ kept.old }
+    ensures seat { seat.new ≡ seat.old }
+{
+    kept.agree(seat);
+    kept.show(witness);
+}
+
 // Returns what a line asks to be done, if `obeys` says that it may ask that.
 fn order_obeyed<L: Heap>(kept: &Kept<L>, obeys: bool, line: &[u8]) -> Option<Order>
     ensures { result ≡ order_obeyed obeys kept.now.machine.trail.current line.now }
@@ -174,23 +187,6 @@ fn answer_to_rewind<L: Heap>(kept: &mut Kept<L>, seat: &mut Seat<L>, place: u64)
     }
 }
 
-// Takes a step for one who holds the lock, as an act of the seat.
-fn take_held<L: Heap>(
-    kept: &mut Kept<L>,
-    seat: &mut Seat<L>,
-    witness: &mut Witness<L>,
-    event: Event,
-) -> LineAnswer
-    requires { seat.old.role ≡ User }
-    ensures acts { LeavesSeen L.config (λ last. ActsHeld L.config (Step event) kept.old seat.old
-        (line_answer_text result) last seat.new) seat.new witness.new }
-    ensures role { seat.new.role ≡ User }
-{
-    let reply = reply_to_act(kept.act_held(seat, event));
-    see_all(kept, seat, witness);
-    LineAnswer::Known(reply)
-}
-
 // Answers `forward` of this many steps: no steps that were undone are kept.
 fn lack_undone<L: Heap>(
     alloc: Global,
@@ -222,6 +218,23 @@ fn refuse_held<L: Heap>(
     LineAnswer::Known(Reply::Refused(refusal))
 }
 
+// Takes a step for one who holds the lock, as an act of the seat.
+fn take_held<L: Heap>(
+    kept: &mut Kept<L>,
+    seat: &mut Seat<L>,
+    witness: &mut Witness<L>,
+    event: Event,
+) -> LineAnswer
+    requires { seat.old.role ≡ User }
+    ensures acts { LeavesSeen L.config (λ last. ActsHeld L.config (Step event) kept.old seat.old
+        (line_answer_text result) last seat.new) seat.new witness.new }
+    ensures role { seat.new.role ≡ User }
+{
+    let reply = reply_to_act(kept.act_held(seat, event));
+    see_all(kept, seat, witness);
+    LineAnswer::Known(reply)
+}
+
 // Answers a question about the heap.
 fn answer_question<L: Heap>(
     alloc: Global,
@@ -237,17 +250,4 @@ fn answer_question<L: Heap>(
     see_all(kept, seat, witness);
     let acts = kept.chronicle().len() as u64;
     answer_line(alloc, kept.machine(), Some(acts), line)
-}
-
-// Compares the chronicle with the seat, and has the witness see all calls.
-fn see_all<L: Heap>(kept: &mut Kept<L>, seat: &mut Seat<L>, witness: &mut Witness<L>)
-    ensures heap { IsHeapOfSeat L.config kept.old.machine kept.old.chronicle kept.old.ledger
-        seat.old }
-    ensures begins { IsPrefix witness.old kept.old.ledger }
-    ensures sees { witness.new ≡ kept.old.ledger }
-    ensures same { kept.new ≡ kept.old }
-    ensures seat { seat.new ≡ seat.old }
-{
-    kept.agree(seat);
-    kept.show(witness);
 }

@@ -153,8 +153,7 @@ pub fn collect_is_determined()
 {}
 
 /// States that the lines of a session with questions that the grammar of sessions knows are answered, and leave the machine, as
-/// a session of these lines alone does, if none is `collect`, `rewind @P`, `forward` or
-/// `new M R NAME`.
+/// a session of these lines alone does, if none is `collect`, `rewind @P`, `forward` or `new M R NAME`.
 pub fn questions_can_be_left_out()
     ensures { (limits : SessionLimits) (time : ℕ) (lines : List (List ℕ)) (text : List ℕ)
         (c d : Asking) → NoneOrders lines
@@ -162,8 +161,8 @@ pub fn questions_can_be_left_out()
         → AnswersAlone limits time c.local.machine lines text d.local.machine }
 {}
 
-/// States that some list of actions leads to the machine that a session with questions leaves, `collect`, `rewind @P` and `forward`
-/// included.
+/// States that some list of actions leads to the machine that a session with questions leaves, `collect`, `rewind @P`, `forward` and
+/// `new M R NAME` included.
 pub fn asking_session_is_list()
     ensures { (limits : SessionLimits) (time : ℕ) (lines : List (List ℕ)) (text : List ℕ)
         (c d : Asking) → AnswersAll limits
@@ -191,7 +190,8 @@ pub fn undone_steps_lead_on()
 pub fn forward_takes_back()
     ensures back { (n place : ℕ) (l text : List ℕ) (c d e : Asking)
         → IsRedoOf c.local.machine c.redo → c.redo.ahead + n ≤ length c.redo.events
-        → AskingActs c (Rewind n) (Place place) d → order_in d.local.machine.trail.current l ≡ Some (Forward n)
+        → AskingActs c (Rewind n) (Place place) d
+        → order_in d.local.machine.trail.current l ≡ Some (Forward n)
         → AskingAnswers l d text e
         → IsBackAt c.local.machine c.redo text e.local.machine e.redo
         ⊎ (text ≡ refused_text NoMemory) }

@@ -71,6 +71,36 @@ fn collection_by(keyword: &[u8]) -> Option<Order>
     }
 }
 
+// Reads the words of `new M R NAME`, the first of which is read.
+fn new_by_name(classes: &FirstClasses<'_>, m: &[u8], mut words: Words) -> Option<Order>
+    ensures { result ≡ new_by_name classes.now m.now (words_of_line words.entry) }
+{
+    let r = words.next_word()?;
+    let name = words.next_word()?;
+    let event = new_of(classes, m, r, name)?;
+    at_end(Order::Act(event), words)
+}
+
+// Returns the new object that three words ask for: the numbers of a mutator and its register, and the name of a class.
+fn new_of(classes: &FirstClasses<'_>, m: &[u8], r: &[u8], name: &[u8]) -> Option<Event>
+    ensures { result ≡ new_of classes.now m.now r.now name.now }
+{
+    let m = number_of(m)?;
+    let r = number_of(r)?;
+    let class = class_by_name(classes, name)?;
+    Some(Event::New { m, r, class })
+}
+
+// Returns the class with this name. A number names none.
+fn class_by_name(classes: &FirstClasses<'_>, word: &[u8]) -> Option<u64>
+    ensures { result ≡ class_by_name classes.now word.now }
+{
+    if number_of(word).is_some() {
+        return None;
+    }
+    class_named(classes, word)
+}
+
 // Returns what a keyword and the word behind it ask to be done.
 #[tactic(auto, unfolding(crate::specs::Orders::order_of_two))]
 fn order_of_two(keyword: &[u8], word: &[u8]) -> Option<Order>
@@ -111,36 +141,6 @@ fn way_on_to(word: &[u8]) -> Option<Order>
     Some(Order::ForwardTo(place))
 }
 
-// Reads the words of `new M R NAME`, the first of which is read.
-fn new_by_name(classes: &FirstClasses<'_>, m: &[u8], mut words: Words) -> Option<Order>
-    ensures { result ≡ new_by_name classes.now m.now (words_of_line words.entry) }
-{
-    let r = words.next_word()?;
-    let name = words.next_word()?;
-    let event = new_of(classes, m, r, name)?;
-    at_end(Order::Act(event), words)
-}
-
-// Returns the new object that three words ask for: the numbers of a mutator and its register, and the name of a class.
-fn new_of(classes: &FirstClasses<'_>, m: &[u8], r: &[u8], name: &[u8]) -> Option<Event>
-    ensures { result ≡ new_of classes.now m.now r.now name.now }
-{
-    let m = number_of(m)?;
-    let r = number_of(r)?;
-    let class = class_by_name(classes, name)?;
-    Some(Event::New { m, r, class })
-}
-
-// Returns the class with this name. A number names none.
-fn class_by_name(classes: &FirstClasses<'_>, word: &[u8]) -> Option<u64>
-    ensures { result ≡ class_by_name classes.now word.now }
-{
-    if number_of(word).is_some() {
-        return None;
-    }
-    class_named(classes, word)
-}
-
 // Rewinds a machine to the state at a place. Refused with NotRetained if this state isn't retained. Takes no memory.
 pub(crate) fn rewind_to(machine: &mut Machine, redo: &mut Redo, place: u64) -> LineAnswer
     ensures { RewindsTo place machine.old redo.old (line_answer_text result) machine.new redo.new }
@@ -151,14 +151,6 @@ pub(crate) fn rewind_to(machine: &mut Machine, redo: &mut Redo, place: u64) -> L
     }
 }
 
-// Has a machine take a step, and returns the answer.
-pub(crate) fn take_step(machine: &mut Machine, redo: &mut Redo, event: Event) -> LineAnswer
-    ensures { ActsOnce (Step event) machine.old redo.old (line_answer_text result) machine.new
-        redo.new }
-{
-    LineAnswer::Known(act_and_note(machine, redo, Action::Step(event)))
-}
-
 // Has a machine act, notes that, and returns the reply.
 fn act_and_note(machine: &mut Machine, redo: &mut Redo, action: Action) -> Reply
     ensures acts { LocalActs machine.old action result machine.new }
@@ -167,4 +159,12 @@ fn act_and_note(machine: &mut Machine, redo: &mut Redo, action: Action) -> Reply
     let reply = machine.act(&action);
     redo.note(action, &reply);
     reply
+}
+
+// Has a machine take a step, and returns the answer.
+pub(crate) fn take_step(machine: &mut Machine, redo: &mut Redo, event: Event) -> LineAnswer
+    ensures { ActsOnce (Step event) machine.old redo.old (line_answer_text result) machine.new
+        redo.new }
+{
+    LineAnswer::Known(act_and_note(machine, redo, Action::Step(event)))
 }

@@ -1,7 +1,7 @@
 -- What a session keeps of its undone steps.
-use Rattle.std.proofs.Common.{◌≡◌, ◌∙◌, ℕ, zero, suc, ◌+◌, ◌-◌, ◌<◌, ◌≤◌, Bool, true, false, cond, List, [], ◌∷◌, length, Option, Some, None, refl, sym, ap, subst, inl, inr, arith}
+use Rattle.std.proofs.Common.{◌≡◌, ◌∙◌, ℕ, ◌+◌, ◌-◌, ◌≤◌, Bool, true, false, cond, List, [], ◌∷◌, length, Option, Some, None, refl, sym, ap, subst, inl, inr, arith}
 use Rattle.std.specs.Prelude.{◌⊎◌, ◌||◌, Result, Ok, Err, nat_le}
-use Rattle.std.proofs.lemmas.Bool.{leb-false, leb-true}
+use Rattle.std.proofs.lemmas.Bool.{leb-false}
 use Rattle.heap_class.specs.declared.Refusal.{Refusal}
 use Rattle.heap_class.specs.declared.Refusal.TheVariants.{NoMemory}
 use Rattle.heap_trail.specs.declared.Action.{Action}
@@ -31,7 +31,7 @@ use Rattle.question_text.specs.Orders.{ActsOnce, Does, GoesOnBy, RewindsBy, orde
 use Rattle.question_text.specs.Redos.{GoesForward, GoesOn, IsBackAt, IsRedoOf, LeadsTo, Redo, StopsBefore, TakesAgain, no_redo, noted, with_step, with_steps, with_undone}
 use Rattle.question_text.specs.Sessions.{AnswersLine, AskingActs, AskingAnswers, is_known}
 use Rattle.question_text.proofs.QuestionsLeftOut.{known_is, unknown_is}
-use Rattle.question_text.proofs.RetakenSteps.{IsUndone, action_keeps, again_up, leads_here, rewind_leads, stopped_for_memory, undone}
+use Rattle.question_text.proofs.RetakenSteps.{action_keeps, again_up, leads_here, rewind_leads, stopped_for_memory, undone}
 
 -- ---- orders
 

@@ -1,6 +1,6 @@
 -- Steps that are undone and taken again.
-use Rattle.std.proofs.Common.{◌≡◌, ◌∙◌, ℕ, zero, suc, ◌+◌, ◌-◌, ◌<◌, ◌≤◌, Bool, true, false, cond, List, [], ◌∷◌, ◌++◌, length, length-drop, take, drop, Option, Some, None, refl, sym, ap, subst, inl, inr, arith}
-use Rattle.std.specs.Prelude.{◌⊎◌, Result, Ok, Err, nat_le, slice_get, slice_index_or}
+use Rattle.std.proofs.Common.{◌≡◌, ◌∙◌, ℕ, zero, suc, ◌+◌, ◌-◌, ◌<◌, ◌≤◌, Bool, true, false, cond, List, [], ◌∷◌, length, take, drop, Option, Some, None, refl, sym, ap, subst, inl, inr, arith}
+use Rattle.std.specs.Prelude.{◌⊎◌, nat_le, slice_get, slice_index_or}
 use Rattle.std.proofs.lemmas.Bool.{leb-false, leb-true}
 use Rattle.std.proofs.lemmas.List.{take_all}
 use Rattle.circular_buffer.specs.Buffer.{Buffer, buffer, keep_last}
@@ -28,7 +28,7 @@ use Rattle.heap_trail.proofs.RetainedStates.{recorded_state_is_legal}
 use Rattle.heap_trail.proofs.Rewinds.{retained_after_rewind}
 use Rattle.heap_trail.proofs.RewoundMachines.{machine_refuses_far_rewind, rewind_done, rewound_more, rewound_none}
 use Rattle.session_text.specs.Local.{LocalActs}
-use Rattle.question_text.specs.Redos.{AreLastEvents, IsRedoOf, IsStopped, LeadsTo, Redo, StopsBefore, TakesAgain, event_at, next_undone, no_redo, noted, retaken, with_step, with_undone}
+use Rattle.question_text.specs.Redos.{AreLastEvents, IsRedoOf, IsStopped, LeadsTo, Redo, StopsBefore, TakesAgain, event_at, no_redo, noted, retaken, with_step, with_undone}
 
 -- ---- what a step and a rewind make of a trail
 

@@ -18,7 +18,6 @@ use Rattle.session_text.specs.Dumps.{Acts}
 use Rattle.session_text.specs.Inlets.{Incoming}
 use Rattle.session_text.specs.Local.{LocalActs}
 use Rattle.session_text.specs.Talks.{IsLine, Serves, stream}
-use Rattle.session_text.specs.declared.commands.Local.{Local}
 use Rattle.session_text.specs.declared.limits.SessionLimits.{SessionLimits}
 use Rattle.question_text.specs.declared.asking.Asking.{Asking}
 use Rattle.question_text.specs.Answers.{IsAnswerOfLine}

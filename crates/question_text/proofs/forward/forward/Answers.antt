@@ -1,4 +1,4 @@
-use Rattle.std.proofs.Common.{◌≡◌, ◌<◌, ◌≤◌, List, ℕ, arith, inl, inr, refl, subst}
+use Rattle.std.proofs.Common.{◌≡◌, List, ℕ, arith, inl, inr, refl, subst}
 use Rattle.session_text.specs.Replies.{line_answer_text}
 use Rattle.question_text.specs.Places.{IsTextOrNoMemory}
 use Rattle.question_text.specs.Redos.{nothing_to_redo_text}

@@ -1,6 +1,6 @@
-use Rattle.std.proofs.Common.{◌≡◌, ◌+◌, ◌-◌, ◌<◌, ◌≤◌, ℕ, refl, sym, ap, subst, ◌∙◌, arith}
+use Rattle.std.proofs.Common.{◌≡◌, ℕ, refl, ap, subst, arith}
 use Rattle.std.proofs.lemmas.Result.{err_from_is_err_and}
-use Rattle.question_text.specs.Redos.{Redo, TakesAgain, retaken}
+use Rattle.question_text.specs.Redos.{Redo, TakesAgain}
 use Rattle.question_text.proofs.RetakenSteps.{again_next, stops_before}
 use Rattle.question_text.proofs.forward.retake.Goals as goal
 

@@ -1,4 +1,4 @@
-use Rattle.std.proofs.Common.{◌≡◌, ◌∙◌, ◌-◌, ◌<◌, ◌≤◌, ap, arith, sym}
+use Rattle.std.proofs.Common.{◌∙◌, ◌-◌, ap, arith, sym}
 use Rattle.std.specs.Option.{option_copied}
 use Rattle.question_text.specs.Redos.{Redo, next_undone}
 use Rattle.question_text.proofs.RetakenSteps.{event_there, none_is_past}

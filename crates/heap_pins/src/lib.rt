@@ -9,7 +9,9 @@ ghost use Rattle.heap_pins.specs.WalkedPins.{WalkHolds, WalksOn};
 ghost use Rattle.heap_pins.specs.Laws.{KeepsOthers, EventKeeps, EventExtends, IsRecordTold, HoldsOn, HoldsImage, HoldsBack};
 
 mod cells;
+mod kept;
 mod pin;
+mod reads;
 mod view;
 mod walk;
 

@@ -235,7 +235,7 @@ cell_states_before_step e before x (Reclaim region storage) s b = cell_states_be
 
 -- ---- outside the region that a record names
 
-other_region_keeps_states : (left : Undo) (r : ℕ) (f : ObjRef → ℕ) (b : ObjRef) → touched left ≡ Some r → b.region ≢ r → states_before left f b ≡ f b
+pub other_region_keeps_states : (left : Undo) (r : ℕ) (f : ObjRef → ℕ) (b : ObjRef) → touched left ≡ Some r → b.region ≢ r → states_before left f b ≡ f b
 unfolding states_before touched
 other_region_keeps_states left r f b t ne = by_region (λ u. touched u ≡ Some r → states_before u f b ≡ f b)
     (λ at slot old e. refl)

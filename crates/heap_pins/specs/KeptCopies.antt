@@ -73,7 +73,7 @@ abbrev pub with_byte : ObjRef → Bool → ℕ → PinContents → PinContents
 with_byte at fresh byte p =
     record p {
       cells = slice_set p.cells at.region
-          (bytes_with at.cell fresh byte (slice_index_or p.cells at.region []))
+          (bytes_with at.cell fresh byte (slice_index_or p.cells at.region []));
     }
 
 -- ---- a step

@@ -106,7 +106,7 @@ impl KeptRegions {
         requires cell { cell < 256 }
         ensures { self.new ≡ record self.old {
           cells = slice_set self.old.cells region
-              (slice_set (slice_index_or self.old.cells region []) cell byte)
+              (slice_set (slice_index_or self.old.cells region []) cell byte);
         } }
     {
         let slot = slot_for(&mut self.slots, &mut self.kept, region as usize);

@@ -113,16 +113,17 @@ new_step_keeps : (left : Undo) (v : HeapState) (p : PinContents) (at : ObjRef) (
 new_step_keeps left v p at fresh none cells true shows = untouching_step_keeps left v p p none refl refl refl cells shows
 new_step_keeps left v p at fresh none cells false shows = untouching_step_keeps left v p (with_byte at fresh 1 p) none refl refl refl (cells_with_byte_are_cells at fresh 1 p (length p.copies) cells) shows
 
+-- each step
+keeps_by_record : (left : Undo) (v : HeapState) (p : PinContents) → length p.copies ≡ length (undone left v).regions → AreCells p.cells (length p.copies) → ShowsCells left v p (kept left v p) → KeepsFor left v p (kept left v p)
+unfolding kept kept_if touched
+keeps_by_record (New at fresh m k old) v p sized cells shows = new_step_keeps (New at fresh m k old) v p at fresh refl cells (has_copy at.region p) shows
+keeps_by_record (Finish log) v p sized cells shows = untouching_step_keeps (Finish log) v p (record p { ended = true }) refl refl refl refl cells shows
+keeps_by_record (Put at slot old) v p sized cells shows = touching_step_keeps (Put at slot old) v p sized cells at.region refl shows
+keeps_by_record (Store at slot old logged) v p sized cells shows = touching_step_keeps (Store at slot old logged) v p sized cells at.region refl shows
+keeps_by_record (Sweep region dead) v p sized cells shows = touching_step_keeps (Sweep region dead) v p sized cells region refl shows
+keeps_by_record (Reclaim region storage) v p sized cells shows = touching_step_keeps (Reclaim region storage) v p sized cells region refl shows
+keeps_by_record left v p sized cells shows = untouching_step_keeps left v p p refl refl refl refl cells shows
+
 -- a pin with a place for each region keeps what it has to
 pub kept_pin_keeps_for_step : (left : Undo) (v : HeapState) (p : PinContents) → length p.copies ≡ length (undone left v).regions → AreCells p.cells (length p.copies) → KeepsFor left v p (kept left v p)
-kept_pin_keeps_for_step left v p sized cells = by_record left sized (λ at lt. kept_cell_is_shown left v p at sized cells lt)
-  where
-    by_record : (u : Undo) → length p.copies ≡ length (undone u v).regions → ShowsCells u v p (kept u v p) → KeepsFor u v p (kept u v p)
-    unfolding kept kept_if touched
-    by_record (New at fresh m k old) s shows = new_step_keeps (New at fresh m k old) v p at fresh refl cells (has_copy at.region p) shows
-    by_record (Finish log) s shows = untouching_step_keeps (Finish log) v p (record p { ended = true }) refl refl refl refl cells shows
-    by_record (Put at slot old) s shows = touching_step_keeps (Put at slot old) v p s cells at.region refl shows
-    by_record (Store at slot old logged) s shows = touching_step_keeps (Store at slot old logged) v p s cells at.region refl shows
-    by_record (Sweep region dead) s shows = touching_step_keeps (Sweep region dead) v p s cells region refl shows
-    by_record (Reclaim region storage) s shows = touching_step_keeps (Reclaim region storage) v p s cells region refl shows
-    by_record u s shows = untouching_step_keeps u v p p refl refl refl refl cells shows
+kept_pin_keeps_for_step left v p sized cells = keeps_by_record left v p sized cells (λ at lt. kept_cell_is_shown left v p at sized cells lt)

@@ -24,3 +24,4 @@ pub mod WalkInvariants
 pub mod Walkable
 pub mod RecordWalks
 pub mod PinViews
+pub mod SlotTables

@@ -18,6 +18,16 @@ touched (Sweep region dead) = Some region
 touched (Reclaim region storage) = Some region
 touched left = None
 
+-- the region of which a pin without a copy keeps something of the step: the touched one, or that of a new object
+unfoldable pub noted : Undo → Option ℕ
+noted (New at fresh m r old) = Some at.region
+noted left = touched left
+
+-- whether the step ended a cycle
+unfoldable pub ends_cycle : Undo → Bool
+ends_cycle (Finish log) = true
+ends_cycle left = false
+
 -- ---- copies
 
 -- the copy with the dead objects back in their cells

@@ -15,15 +15,18 @@ abbrev pub item_bytes : Option KeptRegion → List ℕ
 item_bytes None = blank
 item_bytes (Some k) = k.cells
 
--- the copy that a number leads to
-unfoldable pub copy_in : List KeptRegion → ℕ → Option Frozen
-copy_in kept zero = None
-copy_in kept (suc i) = item_copy (slice_get kept i)
+-- the item that a number leads to
+unfoldable pub item_at : List KeptRegion → ℕ → Option KeptRegion
+item_at kept zero = None
+item_at kept (suc i) = slice_get kept i
 
--- the bytes that a number leads to
-unfoldable pub bytes_in : List KeptRegion → ℕ → List ℕ
-bytes_in kept zero = blank
-bytes_in kept (suc i) = item_bytes (slice_get kept i)
+-- the copy in it
+abbrev pub copy_in : List KeptRegion → ℕ → Option Frozen
+copy_in kept slot = item_copy (item_at kept slot)
+
+-- the bytes in it
+abbrev pub bytes_in : List KeptRegion → ℕ → List ℕ
+bytes_in kept slot = item_bytes (item_at kept slot)
 
 -- how many numbers aren't 0
 unfoldable pub count_used : List ℕ → ℕ
@@ -45,6 +48,7 @@ pub record IsSlotFor (old : List ℕ) (before : List KeptRegion) (slots : List �
     (kept : List KeptRegion) (r i : ℕ) : Type 0 where
   pub slot : slice_index_or slots r 0 ≡ suc i
   pub within : i < length kept
+  pub count : length slots ≡ length old
   pub copies : map (copy_in kept) slots ≡ map (copy_in before) old
   pub cells : map (bytes_in kept) slots ≡ map (bytes_in before) old
 

@@ -1,18 +1,13 @@
 -- The states of the cells of a region, as they are found.
-use Rattle.std.specs.Prelude.{◌≡◌, ◌≢◌, ◌≤◌, ◌<◌, ℕ, false, List, length, Option, Some, None, option_map, slice_index_or}
+use Rattle.std.specs.Prelude.{◌≡◌, ◌≢◌, ◌≤◌, ◌<◌, ℕ, Bool, List, length, Option, Some, None, option_map, slice_index_or}
 use Rattle.heap_class.specs.declared.ObjRef.{ObjRef}
 use Rattle.heap_region.specs.Regions.{Object, UsedRegion, Region, cell_object, object_at}
 use Rattle.heap_region.specs.RegionCopies.{frozen, frozen_word_set, region_frozen}
-use Rattle.heap_region.specs.Live.{is_live}
 use Rattle.heap_step.specs.declared.Undo.TheVariants.{Sweep}
 use Rattle.heap_world.specs.State.{HeapState}
 use Rattle.heap_pins.specs.KeptCopies.{has_copy, kept_at, with_dead}
 use Rattle.heap_pins.specs.Pin.{PinContents, byte_in, cell_state, place, state_kept, states_of_region}
 use Rattle.heap_pins.specs.Walk.{dead_state, states_before}
-
--- no object of the region is live
-abbrev pub HasNoLive : UsedRegion → Type 0
-HasNoLive u = (cell : ℕ) → is_live (cell_object u cell) ≡ false
 
 -- a cell of region r
 abbrev pub cell_of : ℕ → ℕ → ObjRef
@@ -85,3 +80,10 @@ abbrev pub kept_region : ℕ → UsedRegion → PinContents → PinContents
 kept_region r storage p =
     kept_at r (Some (frozen storage)) (states_of_region (state_in_storage p storage) r)
     (has_copy r p) p
+
+-- the states of the cells of a region without a copy, by their bytes and the old ones
+pub record AreSettled (ended : Bool) (bytes old states : List ℕ) : Type 0 where
+  pub count : length states ≡ length old
+  pub each : (c : ℕ) → c < 256
+      → slice_index_or states c 0
+      ≡ state_kept ended (slice_index_or bytes c 0) (slice_index_or old c 0)

@@ -1,8 +1,9 @@
 //! The states of cells: a cell is empty, has a live object, or has one that is not live.
 ghost use Rattle.std.specs.Prelude.{◌≡◌, ◌<◌, ℕ, length, if◌then◌else◌, All};
-ghost use Rattle.heap_region.specs.Regions.{cell_object, object_at};
+ghost use Rattle.heap_region.specs.Limits.{cell_limit};
+ghost use Rattle.heap_region.specs.Regions.{cell_object};
 ghost use Rattle.heap_pins.specs.Pin.{cell_state, state_kept};
-ghost use Rattle.heap_pins.specs.States.{HasNoLive, cell_of};
+ghost use Rattle.heap_pins.specs.States.{AreOf, AreRestored, AreSettled, cell_states, storage_states};
 
 use heap_region::{ObjectCopy, Regions, Storage};
 
@@ -18,16 +19,26 @@ const DEAD: u8 = 2;
 // The byte of a cell that was taken since the pin was opened, if its region has no copy.
 pub(crate) const TAKEN: u8 = 1;
 
-// Returns the state of a cell as it is now.
-#[inline(always)]
-pub(crate) fn state_now(regions: &Regions, region: u64, cell: u64) -> u8
+// Returns the states of the cells of a region as they are now.
+pub(crate) fn states_now(regions: &Regions, region: u64) -> [u8; 256]
     requires { region < length regions.now.regions }
-    ensures { result ≡ cell_state (object_at regions.now.regions (cell_of region cell)) }
+    ensures { AreOf (cell_states regions.now.regions) region cell_limit result }
 {
     match regions.region(region) {
-        Some(storage) => storage_state(storage, cell),
-        None => EMPTY,
+        Some(storage) => storage_states(storage),
+        None => [EMPTY; 256],
     }
+}
+
+// Returns the states of the cells of a region in use.
+pub(crate) fn storage_states(storage: &Storage) -> [u8; 256]
+    ensures { (r : ℕ) → AreOf (storage_states storage.now) r cell_limit result }
+{
+    let mut states = [EMPTY; 256];
+    for cell in 0..256 {
+        states[cell] = storage_state(storage, cell as u64);
+    }
+    states
 }
 
 // Returns the state of a cell of a region in use.
@@ -42,22 +53,29 @@ pub(crate) fn storage_state(storage: &Storage, cell: u64) -> u8
     }
 }
 
+// Writes the states of dead objects that are back in a region.
+pub(crate) fn restore_dead(states: &mut [u8; 256], dead: &[(u64, ObjectCopy)])
+    requires within { All (λ d. d.0 < cell_limit) dead.now }
+    ensures { AreRestored dead.now states.old states.new }
+{
+    for (cell, object) in dead {
+        states[*cell as usize] = object_state(object);
+    }
+}
+
 // Returns the state of the cell of this object.
-pub(crate) fn object_state(object: &ObjectCopy) -> u8
+fn object_state(object: &ObjectCopy) -> u8
     ensures { result ≡ (if object.now.live then 1 else 2) }
 {
     if object.bits().0 { LIVE } else { DEAD }
 }
 
-// Returns the state of a cell of a region that has no live object.
-pub(crate) fn dead_state(storage: &Storage, cell: u64) -> u8
-    requires { HasNoLive storage.now }
-    ensures { result ≡ cell_state (cell_object storage.now cell) }
+// Makes of the states of the cells of a region without a copy those that they had, by their bytes.
+pub(crate) fn settle(ended: bool, bytes: &[u8; 256], states: &mut [u8; 256])
+    ensures { AreSettled ended bytes.now states.old states.new }
 {
-    if storage.has_object(cell) {
-        DEAD
-    } else {
-        EMPTY
+    for cell in 0..256 {
+        states[cell] = state_kept(ended, bytes[cell], states[cell]);
     }
 }
 

@@ -1,5 +1,5 @@
 //! A pin: a past state as a dump needs it, kept beside the heap that goes on.
-ghost use Rattle.std.specs.Prelude.{◌≡◌, ◌<◌, false, length, None, IsSome, IfSome, IfOk, IfErr, OnOk, OnErr, slice_index_or, is_some, All, if◌then◌else◌};
+ghost use Rattle.std.specs.Prelude.{◌≡◌, ◌<◌, [], length, None, IsSome, IfSome, IfOk, IfErr, OnOk, OnErr, slice_index_or, is_some, All, if◌then◌else◌};
 ghost use Rattle.heap_class.specs.declared.Refusal.TheVariants.{NoMemory};
 ghost use Rattle.heap_region.specs.Limits.{cell_limit};
 ghost use Rattle.heap_region.specs.Regions.{object_at, used_at};
@@ -8,12 +8,12 @@ ghost use Rattle.heap_world.specs.State.{HeapState};
 ghost use Rattle.heap_step.specs.declared.Event.{Event};
 ghost use Rattle.heap_step.specs.Laws.{IsStep};
 ghost use Rattle.heap_pins.specs.Pin.{state_seen};
-ghost use Rattle.heap_pins.specs.KeptCopies.{has_copy, kept, touched, with_byte, with_dead};
+ghost use Rattle.heap_pins.specs.KeptCopies.{ends_cycle, has_copy, kept, noted, touched, with_byte, with_dead};
 ghost use Rattle.heap_pins.specs.Shows.{AreFit, FitIn};
-ghost use Rattle.heap_pins.specs.States.{AreOf, HasNoLive, cell_of, kept_dead, kept_region, kept_word, state_in_storage, state_with_dead};
+ghost use Rattle.heap_pins.specs.States.{AreOf, kept_dead, kept_region, kept_word};
 ghost use Rattle.heap_pins.specs.WalkedPins.{IsFreshPin};
 
-use crate::cells::{TAKEN, dead_state, object_state, state_kept, state_now};
+use crate::cells::{EMPTY, TAKEN, restore_dead, settle, states_now, storage_states};
 use crate::kept::KeptRegions;
 use heap_class::{ObjRef, Refusal};
 use heap_region::{FrozenRegion, ObjectCopy, Storage};
@@ -61,6 +61,29 @@ pub fn touched_region(left: &Undo) -> Option<u64>
         Undo::Sweep { region, .. } | Undo::Reclaim { region, .. } => Some(*region as u64),
         _ => None,
     }
+}
+
+/// Returns the region of which a pin without a copy keeps something of a step with this record: that of a new object, or the
+/// one that `touched_region` returns. Takes no memory.
+#[inline(always)]
+#[tactic(auto, unfolding(crate::specs::KeptCopies::noted, crate::specs::KeptCopies::touched))]
+pub fn noted_region(left: &Undo) -> Option<u64>
+    ensures { result ≡ noted left.now }
+{
+    match left {
+        Undo::Put { at, .. } | Undo::Store { at, .. } | Undo::New { at, .. } => Some(at.region as u64),
+        Undo::Sweep { region, .. } | Undo::Reclaim { region, .. } => Some(*region as u64),
+        _ => None,
+    }
+}
+
+/// Tells whether a step with this record ended a cycle, which each pin notes.
+#[inline(always)]
+#[tactic(auto, unfolding(crate::specs::KeptCopies::ends_cycle))]
+pub fn ends_cycle(left: &Undo) -> bool
+    ensures { result ≡ ends_cycle left.now }
+{
+    matches!(left, Undo::Finish { .. })
 }
 
 impl Pin {
@@ -180,7 +203,9 @@ impl Pin {
         }
         let mut copy = world.regions().freeze(region as u64)?;
         put_dead(&mut copy, dead.as_slice());
-        let states = self.states_with(world, region as u64, dead.as_slice());
+        let mut states = states_now(world.regions(), region as u64);
+        restore_dead(&mut states, dead.as_slice());
+        settle(self.ended, &self.bytes(region as u64), &mut states);
         self.kept.put(region as u64, copy, &states);
         Ok(())
     }
@@ -188,7 +213,6 @@ impl Pin {
     // Copies a region that was moved out.
     fn keep_region(&mut self, world: &World, region: u16, storage: &Storage) -> Result<(), Refusal>
         requires sized { region < length self.old.copies }
-        requires dead { HasNoLive storage.now }
         ensures kept { OnOk result (self.new ≡ kept_region region storage.now self.old) }
         ensures unchanged { OnErr result (self.new ≡ self.old) }
         ensures refused { IfErr result (λ e. e ≡ NoMemory) }
@@ -197,7 +221,8 @@ impl Pin {
             return Ok(());
         }
         let copy = storage.freeze(world.regions().allocator())?;
-        let states = self.states_of(region as u64, storage);
+        let mut states = storage_states(storage);
+        settle(self.ended, &self.bytes(region as u64), &mut states);
         self.kept.put(region as u64, copy, &states);
         Ok(())
     }
@@ -208,57 +233,24 @@ impl Pin {
         requires sized { length self.now.copies ≡ length world.now.regions }
         ensures { AreOf (state_seen self.now world.now.regions) region cell_limit result }
     {
-        let mut states = [0; 256];
-        for cell in 0..256 {
-            states[cell] = self.state(world, region, cell as u64);
-        }
-        states
-    }
-
-    // Returns the state of a cell as the pin shows it beside the current state.
-    #[inline(always)]
-    fn state(&self, world: &World, region: u64, cell: u64) -> u8
-        requires region { region < length self.now.copies }
-        requires sized { length self.now.copies ≡ length world.now.regions }
-        requires cell { cell < cell_limit }
-        ensures { result ≡ state_seen self.now world.now.regions (cell_of region cell) }
-    {
-        let byte = self.kept.byte(region, cell);
+        let bytes = self.bytes(region);
         if self.has_copy(region) {
-            byte
-        } else {
-            state_kept(self.ended, byte, state_now(world.regions(), region, cell))
+            return bytes;
         }
-    }
-
-    // Returns the states that the cells of a region without a copy had before it lost these dead objects.
-    fn states_with(&self, world: &World, region: u64, dead: &[(u64, ObjectCopy)]) -> [u8; 256]
-        requires region { region < length self.now.copies }
-        requires sized { length self.now.copies ≡ length world.now.regions }
-        requires none { has_copy region self.now ≡ false }
-        requires within { All (λ d. d.0 < cell_limit) dead.now }
-        ensures { AreOf (state_with_dead self.now world.now region dead.now) region cell_limit result }
-    {
-        let mut states = self.states(world, region);
-        for (cell, object) in dead {
-            let byte = self.kept.byte(region, *cell);
-            states[*cell as usize] = state_kept(self.ended, byte, object_state(object));
-        }
+        let mut states = states_now(world.regions(), region);
+        settle(self.ended, &bytes, &mut states);
         states
     }
 
-    // Returns the states that the cells of a region without a copy had before it was moved out.
-    fn states_of(&self, region: u64, storage: &Storage) -> [u8; 256]
-        requires region { region < length self.now.copies }
-        requires dead { HasNoLive storage.now }
-        ensures { AreOf (state_in_storage self.now storage.now) region cell_limit result }
+    // Returns the bytes of a region.
+    fn bytes(&self, region: u64) -> [u8; 256]
+        requires { region < length self.now.copies }
+        ensures { result ≡ slice_index_or self.now.cells region [] }
     {
-        let mut states = [0; 256];
-        for cell in 0..256 {
-            let byte = self.kept.byte(region, cell as u64);
-            states[cell] = state_kept(self.ended, byte, dead_state(storage, cell as u64));
+        match self.kept.bytes(region) {
+            Some(bytes) => *bytes,
+            None => [EMPTY; 256],
         }
-        states
     }
 }
 

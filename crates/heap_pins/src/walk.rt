@@ -1,19 +1,17 @@
 //! The walk back: a pin is taken from the current state to a past one, record by record.
-ghost use Rattle.std.specs.Prelude.{◌≡◌, ℕ, ◌<◌, All, length, None, IsSome, IfOk, IfErr, OnOk, slice_set};
+ghost use Rattle.std.specs.Prelude.{◌≡◌, ◌<◌, All, length, IsSome, IfOk, IfErr, OnOk};
 ghost use Rattle.heap_class.specs.declared.Refusal.TheVariants.{NoMemory};
 ghost use Rattle.heap_world.specs.State.{register_index};
 ghost use Rattle.heap_step.specs.declared.Undo.TheVariants.{Reclaim, Sweep};
-ghost use Rattle.heap_pins.specs.Pin.{region_seen, state_seen};
-ghost use Rattle.heap_pins.specs.States.{AreOf, AreRestored, HasNoLive, storage_states};
-ghost use Rattle.heap_pins.specs.Walk.{states_before};
+ghost use Rattle.heap_pins.specs.Pin.{region_seen};
 ghost use Rattle.heap_pins.specs.WalkedPins.{CanWalk, IsRevived, IsWalkedBack};
 ghost use Rattle.heap_pins.specs.WalkedPins.{Sees, SeesRoom, SeesSlot, with_copy_before, with_old_register, with_old_word, without_copy, without_new};
 ghost use Rattle.heap_region.specs.Limits.{cell_limit};
 
-use crate::cells::{EMPTY, TAKEN, dead_state, object_state};
+use crate::cells::{EMPTY, TAKEN, restore_dead, storage_states};
 use crate::pin::{Pin, put_dead};
 use heap_class::{ObjRef, Refusal};
-use heap_region::{FrozenRegion, ObjectCopy, Storage};
+use heap_region::{FrozenRegion, Storage};
 use heap_step::Undo;
 use heap_sweep::DeadCells;
 use heap_world::World;
@@ -140,35 +138,12 @@ impl Pin {
     // Puts back a region that was moved out. Fails with NoMemory if a copy of the region can't be allocated.
     fn unreclaim(&mut self, world: &World, region: u16, storage: &Storage) -> Result<(), Refusal>
         requires region { region < length self.old.copies }
-        requires dead { HasNoLive storage.now }
         ensures reclaimed { OnOk result
             (self.new ≡ with_copy_before (Reclaim region storage.now) world.now region self.old) }
         ensures refused { IfErr result (λ e. e ≡ NoMemory) }
     {
         let copy = storage.freeze(world.regions().allocator())?;
-        self.kept.put(region as u64, copy, &dead_states(storage));
+        self.kept.put(region as u64, copy, &storage_states(storage));
         Ok(())
     }
-}
-
-// Writes the states of dead objects that are back in a region.
-fn restore_dead(states: &mut [u8; 256], dead: &[(u64, ObjectCopy)])
-    requires within { All (λ d. d.0 < cell_limit) dead.now }
-    ensures { AreRestored dead.now states.old states.new }
-{
-    for (cell, object) in dead {
-        states[*cell as usize] = object_state(object);
-    }
-}
-
-// Returns the states of the cells of a region that has no live object.
-fn dead_states(storage: &Storage) -> [u8; 256]
-    requires dead { HasNoLive storage.now }
-    ensures { (r : ℕ) → AreOf (storage_states storage.now) r cell_limit result }
-{
-    let mut states = [EMPTY; 256];
-    for cell in 0..256 {
-        states[cell] = dead_state(storage, cell as u64);
-    }
-    states
 }

@@ -67,7 +67,7 @@ byte_of_written_region cells r bytes b lt e =
 pub nothing_was_nothing : (ended : Bool) (byte : ℕ) → state_kept ended byte 0 ≡ 0
 nothing_was_nothing ended byte = go (byte == 0) ended
   where
-    go : (b e : Bool) → (if b then (if e then (if 0 == 0 then 0 else 1) else 0) else 0) ≡ 0
+    go : (b e : Bool) → ◌≡◌ {A = ℕ} (if b then (if e then (if 0 == 0 then 0 else 1) else 0) else 0) 0
     go true true = refl
     go true false = refl
     go false e = refl
@@ -152,7 +152,7 @@ taken_cell_is_shown p q w v b free taken none empty = record { shown = at v; sti
 ended_kept : (ended : Bool) (byte after : ℕ) → state_kept true byte after ≡ state_kept ended byte (if after == 0 then 0 else 1)
 ended_kept ended byte after = go (byte == 0) ended (after == 0)
   where
-    go : (b e z : Bool) → (if b then (if z then 0 else 1) else 0) ≡ (if b then (if e then (if (if z then 0 else 1) == 0 then 0 else 1) else (if z then 0 else 1)) else 0)
+    go : (b e z : Bool) → ◌≡◌ {A = ℕ} (if b then (if z then 0 else 1) else 0) (if b then (if e then (if (if z then 0 else 1) == 0 then 0 else 1) else (if z then 0 else 1)) else 0)
     go true true true = refl
     go true true false = refl
     go true false z = refl
@@ -161,15 +161,14 @@ ended_kept ended byte after = go (byte == 0) ended (after == 0)
 ended_still : (ended : Bool) (byte after x : ℕ) → state_kept ended byte x ≡ state_kept ended byte (if after == 0 then 0 else 1) → state_kept true byte x ≡ state_kept ended byte (if after == 0 then 0 else 1)
 ended_still ended byte after x = go (byte == 0) ended (after == 0)
   where
-    go : (b e z : Bool) → (if b then (if e then (if x == 0 then 0 else 1) else x) else 0) ≡ (if b then (if e then (if (if z then 0 else 1) == 0 then 0 else 1) else (if z then 0 else 1)) else 0)
-        → (if b then (if x == 0 then 0 else 1) else 0) ≡ (if b then (if e then (if (if z then 0 else 1) == 0 then 0 else 1) else (if z then 0 else 1)) else 0)
+    go : (b e z : Bool) → ◌≡◌ {A = ℕ} (if b then (if e then (if x == 0 then 0 else 1) else x) else 0) (if b then (if e then (if (if z then 0 else 1) == 0 then 0 else 1) else (if z then 0 else 1)) else 0)
+        → ◌≡◌ {A = ℕ} (if b then (if x == 0 then 0 else 1) else 0) (if b then (if e then (if (if z then 0 else 1) == 0 then 0 else 1) else (if z then 0 else 1)) else 0)
     go true true z h = h
     go true false true h = ap (λ n. if n == 0 then 0 else 1) h
     go true false false h = ap (λ n. if n == 0 then 0 else 1) h
     go false e z h = refl
 
 pub ended_cell_is_shown : (p : PinContents) (w v : List Region) (b : ObjRef) → cell_states w b ≡ (if cell_states v b == 0 then 0 else 1) → ShowsCell p (record p { ended = true }) w v b
-unfolding state_seen state_beside
 ended_cell_is_shown p w v b e = go (slice_index_or p.copies b.region None) refl
   where
     go : (c : Option Frozen) → slice_index_or p.copies b.region None ≡ c → ShowsCell p (record p { ended = true }) w v b

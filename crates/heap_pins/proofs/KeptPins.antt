@@ -50,9 +50,11 @@ module _ (left : Undo) (v : HeapState) (p : PinContents) (sized : length p.copie
   made_each q t e states None is r = inl refl
   made_each q t e states (Some f) is r = elim (same_or_not r q) [
     | inl same ↦ elim (cases_lt q (length p.copies)) [
-      | inl lt ↦ inr (ap (copy_at p.copies) same ∙ not_some_copy_is_none (copy_at p.copies q) e,
-          subst (λ k. Covers (region_frozen (undone left v).regions k) (copy_at (set p.copies q (Some f)) k)) (sym same)
-          (subst (Covers (region_frozen (undone left v).regions q)) (is ∙ sym (get_or-set_same p.copies q (Some f) None lt)) (copy_covers left v q t)))
+      | inl lt ↦ inr (
+        ap (copy_at p.copies) same ∙ not_some_copy_is_none (copy_at p.copies q) e,
+        subst (λ k. Covers (region_frozen (undone left v).regions k) (copy_at (set p.copies q (Some f)) k)) (sym same)
+            (subst (Covers (region_frozen (undone left v).regions q)) (is ∙ sym (get_or-set_same p.copies q (Some f) None lt)) (copy_covers left v q t)),
+      )
       | inr past ↦ inl (ap (λ l. copy_at l r) (set_past p.copies q (Some f) past))
     ]
     | inr ne ↦ inl (get_or-set_other p.copies q r (Some f) None ne)

@@ -51,6 +51,9 @@ cells_with_copy_are_cells r (Some f) states p n sized h = written_cells_are_cell
 
 -- ---- one byte
 
+true_is_not_false : true ≡ false → ⊥
+true_is_not_false e = cc
+
 -- a cell whose byte is written
 pub byte_is_written : (at : ObjRef) (fresh : Bool) (byte : ℕ) (p : PinContents) (b : ObjRef) → at.region < length p.cells → length (get_or p.cells at.region []) ≡ 256 → b.cell < 256 → b.region ≡ at.region → (fresh ≡ false → b.cell ≡ at.cell) → byte_in (with_byte at fresh byte p).cells b ≡ byte
 unfolding bytes_with
@@ -64,7 +67,7 @@ byte_is_written at false byte p b lt sized few e d =
 pub other_byte_stays : (at : ObjRef) (fresh : Bool) (byte : ℕ) (p : PinContents) (b : ObjRef) → (b.region ≢ at.region) ⊎ ((fresh ≡ false) × (b.cell ≢ at.cell)) → byte_in (with_byte at fresh byte p).cells b ≡ byte_in p.cells b
 unfolding bytes_with
 other_byte_stays at fresh byte p b (inl ne) = byte_of_other_region p.cells at.region (bytes_with at.cell fresh byte (get_or p.cells at.region [])) b ne
-other_byte_stays at true byte p b (inr h) = cc
+other_byte_stays at true byte p b (inr h) = absurd (true_is_not_false h.0)
 other_byte_stays at false byte p b (inr h) = go (same_or_not b.region at.region) (cases_lt at.region (length p.cells))
   where
     bytes : List ℕ
@@ -80,11 +83,11 @@ past_byte_stays at fresh byte p b past = ap (λ l. byte_in l b) (set_past p.cell
 
 -- ---- a new object
 
-no_named_region : {r : ℕ} → None ≢ Some r
+no_named_region : {r : ℕ} → None ≡ Some r → ⊥
 no_named_region e = cc
 
 -- what was taken, by the record: a cell, or a region
-pub IsTaken : ObjRef → Bool → ObjRef → Type 0
+abbrev pub IsTaken : ObjRef → Bool → ObjRef → Type 0
 IsTaken at fresh b = (b.region ≡ at.region) × (fresh ≡ false → b.cell ≡ at.cell)
 
 pub taken_or_not : (at : ObjRef) (fresh : Bool) (b : ObjRef) → IsTaken at fresh b ⊎ ((b.region ≢ at.region) ⊎ ((fresh ≡ false) × (b.cell ≢ at.cell)))
@@ -93,7 +96,7 @@ taken_or_not at fresh b = go fresh (same_or_not b.region at.region) (same_or_not
     go : (f : Bool) → (b.region ≡ at.region) ⊎ (b.region ≢ at.region) → (b.cell ≡ at.cell) ⊎ (b.cell ≢ at.cell) → IsTaken at f b ⊎ ((b.region ≢ at.region) ⊎ ((f ≡ false) × (b.cell ≢ at.cell)))
     go f (inr ne) d = inr (inl ne)
     go f (inl e) (inl d) = inl (e, λ q. d)
-    go true (inl e) (inr nd) = inl (e, λ q. cc)
+    go true (inl e) (inr nd) = inl (e, λ q. absurd (true_is_not_false q))
     go false (inl e) (inr nd) = inr (inr (refl, nd))
 
 -- before the step the taken cells were empty
@@ -106,7 +109,7 @@ taken_state_was_empty at false m k old f b h = ap (λ t. if t then 0 else f b) (
 pub other_state_was_same : (at : ObjRef) (fresh : Bool) (m k old : ℕ) (f : ObjRef → ℕ) (b : ObjRef) → (b.region ≢ at.region) ⊎ ((fresh ≡ false) × (b.cell ≢ at.cell)) → states_before (New at fresh m k old) f b ≡ f b
 unfolding states_before
 other_state_was_same at true m k old f b (inl ne) = ap (λ t. if t then 0 else f b) (ne_eqb b.region at.region ne)
-other_state_was_same at true m k old f b (inr h) = cc
+other_state_was_same at true m k old f b (inr h) = absurd (true_is_not_false h.0)
 other_state_was_same at false m k old f b (inl ne) = ap (λ t. if t then 0 else f b) (unequal_places_not_same_place b at (λ e. ne (ap (λ (r : ObjRef). r.region) e)))
 other_state_was_same at false m k old f b (inr h) = ap (λ t. if t then 0 else f b) (unequal_places_not_same_place b at (λ e. h.1 (ap (λ (r : ObjRef). r.cell) e)))
 
@@ -182,6 +185,10 @@ unfolding with_copy
 copy_leaves_others r None states p b ne = (refl, refl, refl)
 copy_leaves_others r (Some f) states p b ne = (get_or-set_other p.copies r b.region (Some f) None ne, byte_of_other_region p.cells r states b ne, refl)
 
+nothing_is_copied : (r : ℕ) (states : List ℕ) (p : PinContents) → with_copy r None states p ≡ p
+unfolding with_copy
+nothing_is_copied r states p = refl
+
 copy_past_the_list : (r : ℕ) (copy : Option Frozen) (states : List ℕ) (p : PinContents) → length p.copies ≤ r → length p.cells ≤ r → with_copy r copy states p ≡ p
 unfolding with_copy
 copy_past_the_list r None states p a b = refl
@@ -231,10 +238,6 @@ copy_is_shown left v p r b t sized cells few = go (has_copy r p) refl
       | inr ne ↦ other ne
     ])
     go false h = made (copy_for left v r) refl
-
-nothing_is_copied : (r : ℕ) (states : List ℕ) (p : PinContents) → with_copy r None states p ≡ p
-unfolding with_copy
-nothing_is_copied r states p = refl
 
 -- a step that touches no region, takes none and ends no cycle
 quiet_is_shown : (left : Undo) (v : HeapState) (p : PinContents) (b : ObjRef) → touched left ≡ None → ((f : ObjRef → ℕ) → states_before left f b ≡ f b) → ShowsCell p p (undone left v).regions v.regions b

@@ -25,3 +25,4 @@ pub mod Walkable
 pub mod RecordWalks
 pub mod PinViews
 pub mod SlotTables
+pub mod KeptSteps

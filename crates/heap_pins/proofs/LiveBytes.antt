@@ -16,7 +16,7 @@ live_byte o = if is_live o then 1 else 0
 
 -- the bytes of n cells from that of byte k
 abbrev pub bytes_from : List Region → ℕ → ℕ → List ℕ
-bytes_from regions = states_from (λ at. live_byte (object_at regions at))
+bytes_from regions k n = states_from (λ at. live_byte (object_at regions at)) k n
 
 -- the bytes of all regions
 unfoldable pub live_bytes : List Region → List ℕ

@@ -18,7 +18,7 @@ opened_pin_has_no_copy zero r = refl
 opened_pin_has_no_copy (suc n) zero = refl
 opened_pin_has_no_copy (suc n) (suc r) = opened_pin_has_no_copy n r
 
-zero_in_zeros : (n c : ℕ) → get_or (replicate n 0) c 0 ≡ 0
+zero_in_zeros : (n c : ℕ) → get_or {A = ℕ} (replicate n 0) c 0 ≡ 0
 zero_in_zeros zero c = refl
 zero_in_zeros (suc n) zero = refl
 zero_in_zeros (suc n) (suc c) = zero_in_zeros n c
@@ -29,7 +29,7 @@ zero_in_blank c = zero_in_zeros 256 c
 
 length_of_blank : length blank ≡ 256
 unfolding blank
-length_of_blank = length-replicate 256 0
+length_of_blank = length-replicate {A = ℕ} 256 0
 
 opened_pin_has_zeros : (n r c : ℕ) → get_or (get_or (replicate n blank) r []) c 0 ≡ 0
 opened_pin_has_zeros zero r c = refl

@@ -170,10 +170,10 @@ class_back left w p i is cells same = subst (λ l. IsWalkedBack l w p (record i 
 kept_once_ended : (ended : Bool) (byte now : ℕ) → state_kept true byte now ≡ (if state_kept ended byte now == 0 then 0 else 1)
 kept_once_ended ended byte now = go (byte == 0) ended (now == 0) refl
   where
-    go : (b e z : Bool) → (now == 0) ≡ z → (if b then (if z then 0 else 1) else 0) ≡ (if (if b then (if e then (if z then 0 else 1) else now) else 0) == 0 then 0 else 1)
+    go : (b e z : Bool) → (now == 0) ≡ z → ◌≡◌ {A = ℕ} (if b then (if z then 0 else 1) else 0) (if (if b then (if e then (if z then 0 else 1) else now) else 0) == 0 then 0 else 1)
     go true true true i = refl
     go true true false i = refl
-    go true false z i = ap (λ t. if t then 0 else 1) (sym i)
+    go true false z i = ap {B = ℕ} (λ t. if t then 0 else 1) (sym i)
     go false e z i = refl
 
 finish_walks_back : (log : List ℕ) (w : HeapState) (p q : PinContents) → IsRevived p q → ShowsBack (Finish log) w p q

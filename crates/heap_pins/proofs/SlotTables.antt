@@ -199,14 +199,14 @@ unseen_change_shows_nothing g slots kept room r i y x t lt e there is same =
 
 pub no_slots_are_slots : (n room : ℕ) → n ≤ 65536 → n ≤ room → AreSlots (replicate n 0) [] room
 no_slots_are_slots n room few fits = record {
-  few = omega (arith, few, length-replicate n 0);
-  room = omega (arith, fits, length-replicate n 0);
+  few = omega (arith, few, length-replicate {A = ℕ} n 0);
+  room = omega (arith, fits, length-replicate {A = ℕ} n 0);
   count = sym (zeros_are_not_used n);
   within = λ r. omega (arith, zero_in_zeros n r);
   apart = λ q r same. inl (zero_in_zeros n r);
 }
   where
-    zero_in_zeros : (n c : ℕ) → get_or (replicate n 0) c 0 ≡ 0
+    zero_in_zeros : (n c : ℕ) → get_or {A = ℕ} (replicate n 0) c 0 ≡ 0
     zero_in_zeros zero c = refl
     zero_in_zeros (suc n) zero = refl
     zero_in_zeros (suc n) (suc c) = zero_in_zeros n c

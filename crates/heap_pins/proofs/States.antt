@@ -140,10 +140,10 @@ release_state at s b = choice_by_equal_numbers b.region at.region 0 (cell_states
 
 -- ---- a test of places
 
-equal_places_are_same_place : (a b : ObjRef) → a ≡ b → same_place a b ≡ true
+pub equal_places_are_same_place : (a b : ObjRef) → a ≡ b → same_place a b ≡ true
 equal_places_are_same_place a b e = rw (eq-eqb a.region b.region (ap (λ (r : ObjRef). r.region) e), eq-eqb a.cell b.cell (ap (λ (r : ObjRef). r.cell) e)) refl
 
-unequal_places_not_same_place : (a b : ObjRef) → a ≢ b → same_place a b ≡ false
+pub unequal_places_not_same_place : (a b : ObjRef) → a ≢ b → same_place a b ≡ false
 unequal_places_not_same_place a b ne = go (a.region == b.region) (a.cell == b.cell) refl refl
   where
     go : (x y : Bool) → (a.region == b.region) ≡ x → (a.cell == b.cell) ≡ y → (x && y) ≡ false

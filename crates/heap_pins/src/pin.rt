@@ -71,7 +71,9 @@ pub fn noted_region(left: &Undo) -> Option<u64>
     ensures { result ≡ noted left.now }
 {
     match left {
-        Undo::Put { at, .. } | Undo::Store { at, .. } | Undo::New { at, .. } => Some(at.region as u64),
+        Undo::Put { at, .. } | Undo::Store { at, .. } | Undo::New { at, .. } => Some(
+            at.region as u64,
+        ),
         Undo::Sweep { region, .. } | Undo::Reclaim { region, .. } => Some(*region as u64),
         _ => None,
     }

@@ -1,5 +1,5 @@
 -- The states of cells, in lists and as a pin shows them.
-use Rattle.std.proofs.Common.{◌≡◌, ◌≢◌, ◌⊎◌, ℕ, zero, suc, ◌+◌, ◌*◌, ◌/◌, ◌%◌, ◌<◌, ◌≤◌, Bool, true, false, List, [], ◌∷◌, length, set, get_or, drop, Option, Some, None, refl, sym, ap, ◌∙◌, arith}
+use Rattle.std.proofs.Common.{◌≡◌, ◌≢◌, ◌⊎◌, ℕ, zero, suc, ◌+◌, ◌*◌, ◌/◌, ◌%◌, ◌<◌, ◌≤◌, Bool, true, false, List, [], ◌∷◌, length, length-set, set, get_or, drop, Option, Some, None, refl, sym, ap, ◌∙◌, arith}
 use mathlib.Core.Logic.{inl, inr}
 use Rattle.std.specs.Prelude.{◌==◌, is_some, slice_index_or, slice_set, if◌then◌else◌}
 use Rattle.std.proofs.lemmas.List.{ext_get_or, get_or-set_same, get_or-set_other}
@@ -37,6 +37,19 @@ state_in_region f r c lt = state_in_list f (256 * r) 256 c lt ∙ ap f (place_of
 pub bytes_are_states : (f : ObjRef → ℕ) (r : ℕ) (bytes : List ℕ) → AreOf f r 256 bytes → bytes ≡ states_of_region f r
 bytes_are_states f r bytes a = ext_get_or 0 bytes (states_of_region f r) (a.count ∙ sym (length_states f (256 * r) 256))
     (λ i lt. a.each i (omega (arith, lt, a.count)) ∙ sym (state_in_region f r i (omega (arith, lt, a.count))))
+
+-- the first bytes of a region, one by one
+pub no_bytes_are_of : (f : ObjRef → ℕ) (r : ℕ) (bytes : List ℕ) → length bytes ≡ 256 → AreOf f r 0 bytes
+no_bytes_are_of f r bytes e = record { count = e; each = λ c lt. absurd (omega (arith, lt)) }
+
+pub one_more_byte_is_of : (f : ObjRef → ℕ) (r n : ℕ) (bytes : List ℕ) (y : ℕ) → AreOf f r n bytes → n < 256 → y ≡ f (cell_of r n) → AreOf f r (n + 1) (set bytes n y)
+one_more_byte_is_of f r n bytes y a lt e = record {
+  count = length-set bytes n y ∙ a.count;
+  each = λ c less. elim (same_or_not c n) [
+    | inl same ↦ ap (λ j. get_or (set bytes n y) j 0) same ∙ get_or-set_same bytes n y 0 (omega (arith, lt, a.count)) ∙ e ∙ ap (λ j. f (cell_of r j)) (sym same)
+    | inr ne ↦ get_or-set_other bytes n c y 0 ne ∙ a.each c (omega (arith, less, ne))
+  ];
+}
 
 -- what gives the same states of a region's cells gives the same list
 pub same_states_same_list : (f g : ObjRef → ℕ) (r : ℕ) → ((c : ℕ) → c < 256 → f (cell_of r c) ≡ g (cell_of r c)) → states_of_region f r ≡ states_of_region g r

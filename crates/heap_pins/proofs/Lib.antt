@@ -26,3 +26,4 @@ pub mod RecordWalks
 pub mod PinViews
 pub mod SlotTables
 pub mod KeptSteps
+pub mod FirstCells

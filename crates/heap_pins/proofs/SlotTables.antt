@@ -2,6 +2,7 @@
 use Rattle.std.proofs.Common.{◌≡◌, ◌≢◌, ◌⊎◌, ℕ, zero, suc, ◌+◌, ◌<◌, ◌≤◌, List, [], ◌∷◌, ◌++◌, length, length-set, length-append, map, set, get_or, replicate, Option, Some, None, refl, sym, ap, subst, ◌∙◌, arith}
 use mathlib.Core.Logic.{inl, inr}
 use Rattle.std.specs.Prelude.{slice_get}
+use Rattle.std.proofs.lemmas.Bool.{cases_lt}
 use Rattle.std.proofs.lemmas.List.{ext_get_or, get_or-set_same, get_or-set_other, get_or_past, length-map, length-replicate, set-get_or}
 use Rattle.std.proofs.Math.ListN.{get_or-map}
 use Rattle.std.proofs.lemmas.Option.{get_set_other}
@@ -236,3 +237,69 @@ bytes_of_region kept slots r lt = any_default (map (bytes_in kept) slots) r [] b
 
 no_bytes_past_the_list : (kept : List KeptRegion) (slots : List ℕ) (r : ℕ) → length slots ≤ r → get_or (map (bytes_in kept) slots) r [] ≡ []
 no_bytes_past_the_list kept slots r le = get_or_past (map (bytes_in kept) slots) r [] (omega (arith, le, length-map slots (bytes_in kept)))
+
+-- ---- what is kept of one region
+
+abbrev pub contents_of : List KeptRegion → List ℕ → KeptContents
+contents_of kept slots = record { copies = map (copy_in kept) slots; cells = map (bytes_in kept) slots }
+
+-- a region without an item
+pub nothing_is_kept_of_region : (kept : List KeptRegion) (slots : List ℕ) (r : ℕ) → r < length slots → get_or slots r 0 ≡ 0 → (get_or (map (copy_in kept) slots) r None ≡ None) × (get_or (map (bytes_in kept) slots) r [] ≡ blank)
+nothing_is_kept_of_region kept slots r lt e = (
+  item_of_region item_copy kept slots r ∙ ap item_copy (ap (item_at kept) e ∙ item_of_zero kept),
+  bytes_of_region kept slots r lt ∙ ap item_bytes (ap (item_at kept) e ∙ item_of_zero kept),
+)
+
+-- a region with one
+pub item_is_kept_of_region : (kept : List KeptRegion) (slots : List ℕ) (r i : ℕ) (x : KeptRegion) → r < length slots → get_or slots r 0 ≡ suc i → slice_get kept i ≡ Some x → (get_or (map (copy_in kept) slots) r None ≡ x.copy) × (get_or (map (bytes_in kept) slots) r [] ≡ x.cells)
+item_is_kept_of_region kept slots r i x lt e is = (
+  item_of_region item_copy kept slots r ∙ ap item_copy (ap (item_at kept) e ∙ item_of_next kept i ∙ is),
+  bytes_of_region kept slots r lt ∙ ap item_bytes (ap (item_at kept) e ∙ item_of_next kept i ∙ is),
+)
+
+-- an item is written
+pub item_is_written : (old : List ℕ) (before : List KeptRegion) (slots : List ℕ) (kept : List KeptRegion) (room r i : ℕ) (y : KeptRegion) → AreSlots slots kept room → r < length slots → IsSlotFor old before slots kept r i
+    → contents_of (set kept i y) slots ≡ record { copies = set (map (copy_in before) old) r y.copy; cells = set (map (bytes_in before) old) r y.cells }
+item_is_written old before slots kept room r i y t lt s = λ j. record {
+  copies = (written_item_is_seen item_copy slots kept room r i y t lt s.slot s.within ∙ ap (λ l. set l r y.copy) s.copies) j;
+  cells = (written_item_is_seen item_bytes slots kept room r i y t lt s.slot s.within ∙ ap (λ l. set l r y.cells) s.cells) j;
+}
+
+-- its copy stays
+pub same_copy_is_written : (copies : List (Option Frozen)) (r : ℕ) (c : Option Frozen) → get_or copies r None ≡ c → set copies r c ≡ copies
+same_copy_is_written copies r c e = ap (set copies r) (sym e) ∙ set-get_or copies r None
+
+-- its bytes stay
+pub same_bytes_are_written : (cells : List (List ℕ)) (r : ℕ) (bytes : List ℕ) → get_or cells r [] ≡ bytes → set cells r bytes ≡ cells
+same_bytes_are_written cells r bytes e = ap (set cells r) (sym e) ∙ set-get_or cells r []
+
+-- all objects of the regions with a copy are live
+pub revived_items_are_seen : (kept more : List KeptRegion) (slots : List ℕ) → AreRevived kept more → IsRevivedTable (contents_of kept slots) (contents_of more slots)
+revived_items_are_seen kept more slots h = record {
+  copies = seen_are_same item_copy more kept slots slots refl (λ r. (revived_item kept more (get_or slots r 0) h).copy);
+  count = length-map slots (bytes_in more) ∙ sym (length-map slots (bytes_in kept));
+  sizes = λ r. sizes r (cases_lt r (length slots));
+  bytes = λ at. bytes at (cases_lt at.region (length slots));
+}
+  where
+    sizes : (r : ℕ) → (r < length slots) ⊎ (length slots ≤ r) → length (get_or (map (bytes_in more) slots) r []) ≡ length (get_or (map (bytes_in kept) slots) r [])
+    sizes r (inl lt) = ap length (bytes_of_region more slots r lt) ∙ (revived_item kept more (get_or slots r 0) h).count ∙ sym (ap length (bytes_of_region kept slots r lt))
+    sizes r (inr past) = ap length (no_bytes_past_the_list more slots r past ∙ sym (no_bytes_past_the_list kept slots r past))
+
+    no_copy_past : (r : ℕ) → length slots ≤ r → get_or (map (copy_in kept) slots) r None ≡ None
+    no_copy_past r past = get_or_past (map (copy_in kept) slots) r None (omega (arith, past, length-map slots (copy_in kept)))
+
+    bytes : (at : ObjRef) → (at.region < length slots) ⊎ (length slots ≤ at.region)
+        → byte_in (map (bytes_in more) slots) at ≡ byte_revived (get_or (map (copy_in kept) slots) at.region None) (byte_in (map (bytes_in kept) slots) at)
+    bytes at (inl lt) =
+        ap (λ l. get_or l at.cell 0) (bytes_of_region more slots at.region lt)
+        ∙ (revived_item kept more (get_or slots at.region 0) h).bytes at.cell
+        ∙ (λ j. byte_revived (sym (item_of_region item_copy kept slots at.region) j) (get_or (sym (bytes_of_region kept slots at.region lt) j) at.cell 0))
+    bytes at (inr past) =
+        ap (λ l. get_or l at.cell 0) (no_bytes_past_the_list more slots at.region past ∙ sym (no_bytes_past_the_list kept slots at.region past))
+        ∙ ap (λ c. byte_revived c (byte_in (map (bytes_in kept) slots) at)) (sym (no_copy_past at.region past))
+
+-- ---- the items, one by one
+
+pub item_stays_unrevived : (x : Option KeptRegion) → item_copy x ≡ None → IsItemRevived x x
+item_stays_unrevived x none = record { copy = refl; count = refl; bytes = λ c. ap (λ z. byte_revived z (get_or (item_bytes x) c 0)) (sym none) }

@@ -35,9 +35,9 @@ count_used (zero ∷ slots) = count_used slots
 count_used (suc i ∷ slots) = suc (count_used slots)
 
 -- each number leads to an item of its own, and there is room for an item for each region
-pub record AreSlots (slots : List ℕ) (kept : List KeptRegion) (room : ℕ) : Type 0 where
+pub record AreSlots (slots : List ℕ) (kept : List KeptRegion) (capacity : ℕ) : Type 0 where
   pub few : length slots ≤ region_limit
-  pub room : length slots ≤ room
+  pub room : length slots ≤ capacity
   pub count : length kept ≡ count_used slots
   pub within : (r : ℕ) → slice_index_or slots r 0 ≤ length kept
   pub apart : (q r : ℕ) → slice_index_or slots q 0 ≡ slice_index_or slots r 0

@@ -1,5 +1,5 @@
 //! The states of cells: a cell is empty, has a live object, or has one that is not live.
-ghost use Rattle.std.specs.Prelude.{◌≡◌, ◌<◌, ℕ, length, if◌then◌else◌, All};
+ghost use Rattle.std.specs.Prelude.{◌≡◌, ◌<◌, ℕ, if◌then◌else◌, All};
 ghost use Rattle.heap_region.specs.Limits.{cell_limit};
 ghost use Rattle.heap_region.specs.Regions.{cell_object};
 ghost use Rattle.heap_pins.specs.Pin.{cell_state, state_kept};
@@ -21,7 +21,6 @@ pub(crate) const TAKEN: u8 = 1;
 
 // Returns the states of the cells of a region as they are now.
 pub(crate) fn states_now(regions: &Regions, region: u64) -> [u8; 256]
-    requires { region < length regions.now.regions }
     ensures { AreOf (cell_states regions.now.regions) region cell_limit result }
 {
     match regions.region(region) {

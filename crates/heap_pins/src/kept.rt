@@ -178,8 +178,9 @@ fn slot_for(slots: &mut Vec<u32>, kept: &mut Vec<KeptRegion>, region: usize) -> 
 }
 
 // Makes the objects live of each item with a copy.
-fn revive_each(kept: &mut [KeptRegion])
-    ensures { AreRevived kept.old kept.new }
+fn revive_each(kept: &mut Vec<KeptRegion>)
+    ensures items { AreRevived kept.old.items kept.new.items }
+    ensures capacity { vec_capacity kept.new ≡ vec_capacity kept.old }
 {
     for i in 0..kept.len() {
         if kept[i].copy.is_some() {

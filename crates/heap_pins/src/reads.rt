@@ -48,19 +48,19 @@ impl Pin {
     }
 
     // Returns the place of the first live object from a cell of a region on.
-    fn first_from(&self, world: &World, region: u64, from: u64) -> Option<ObjRef>
+    fn first_from(&self, world: &World, region: u64, cell: u64) -> Option<ObjRef>
         requires sized { length self.now.copies ≡ length world.now.regions }
-        requires cell { from ≤ cell_limit }
+        requires cell { cell ≤ cell_limit }
         requires region { region ≤ region_limit }
         ensures { IsFirstPlace (state_seen self.now world.now.regions)
-            (256 * length world.now.regions) (256 * region + from) result }
+            (256 * length world.now.regions) (256 * region + cell) result }
     {
-        let mut from = from;
+        let mut from = cell;
         for r in region..world.regions().count() {
-            if let Some(cell) = self.first_in(world, r, from) {
+            if let Some(found) = self.first_in(world, r, from) {
                 return Some(ObjRef {
                     region: r as u16,
-                    cell: cell as u16,
+                    cell: found as u16,
                 });
             }
             from = 0;

@@ -103,3 +103,9 @@ first_place_is_found f n k result h = elim (cases_lt k (suc n)) [
     nothing : (x : Option ObjRef) → IsFirstPlace f n k x → n ≤ k → x ≡ slice_get (places_from k []) 0
     nothing None h le = no_place_of_no_states k
     nothing (Some at) h le = absurd (omega (arith, h.1, h.2, le))
+
+-- a listed place is one of 256 cells
+pub listed_cell_below_256 : (states : List ℕ) (i : ℕ) (at : ObjRef) → slice_get (places_from 0 states) i ≡ Some at → at.cell < 256
+listed_cell_below_256 states i at h =
+    let c : ComesAfter 0 states i at = each_place_has_a_successor 0 states i at h in
+    omega (arith, ap (λ (b : ObjRef). b.cell) c.here)

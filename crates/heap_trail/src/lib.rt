@@ -148,7 +148,12 @@ fn are_settled(pins: &[NumberedPin], world: &World, left: &Undo) -> bool
             }
             true
         }
-        None => !ends_cycle(left) || pins.is_empty(),
+        None => {
+            if ends_cycle(left) {
+                return pins.is_empty();
+            }
+            true
+        }
     }
 }
 

@@ -1,0 +1,5 @@
+use Rattle.heap_pins.specs.States.{HasNone, state_in_storage}
+use Rattle.heap_pins.proofs.pin.Pin.first_of.Given as goal
+
+abbrev pub invariant-loop-cell : goal.invariant-loop-cell
+invariant-loop-cell l = HasNone (state_in_storage l.self l.storage) l.region l.from l.cell

@@ -13,13 +13,14 @@ use Rattle.heap_region.proofs.ShownRegions.{object_of_used}
 use Rattle.heap_world.specs.State.{HeapState}
 use Rattle.heap_step.specs.declared.Undo.TheVariants.{Sweep}
 use Rattle.heap_pins.specs.KeptCopies.{has_copy, kept_at, with_copy, with_dead}
-use Rattle.heap_pins.specs.KeptRegions.{KeptContents}
+use Rattle.heap_pins.specs.KeptRegions.{KeptContents, blank}
 use Rattle.heap_pins.specs.Pin.{PinContents, cell_state, state_kept, state_seen, states_of_region}
 use Rattle.heap_pins.specs.Shows.{AreFit}
-use Rattle.heap_pins.specs.States.{AreOf, AreRestored, AreSettled, cell_of, cell_states, states_by}
+use Rattle.heap_pins.specs.States.{AreOf, AreRestored, AreSettled, cell_of, cell_states, states_by, storage_states}
 use Rattle.heap_pins.specs.Walk.{dead_state, states_before}
 use Rattle.heap_pins.proofs.CellStates.{bytes_are_states, copied_cell_has_its_byte, free_cell_is_kept}
 use Rattle.heap_pins.proofs.CopiedRegions.{is_not_none, not_some_copy_is_none}
+use Rattle.heap_pins.proofs.OpenedPins.{length_of_blank, zero_in_blank}
 
 -- ---- a copy is put
 
@@ -75,6 +76,19 @@ copied_bytes_are_seen p regions r bytes some count e = go (slice_index_or p.copi
       count = count;
       each = λ c lt. ap (λ l. slice_index_or l c 0) e ∙ sym (copied_cell_has_its_byte p regions (cell_of r c) f is);
     }
+
+-- the states of a region in use, and of one that is not
+pub states_of_region_in_use : (regions : List Region) (r : ℕ) (u : UsedRegion) (bytes : List ℕ) → used_at regions r ≡ Some u → AreOf (storage_states u) r 256 bytes → AreOf (cell_states regions) r 256 bytes
+states_of_region_in_use regions r u bytes used a = record {
+  count = a.count;
+  each = λ c lt. a.each c lt ∙ sym (ap cell_state (object_of_used regions (cell_of r c) ∙ ap (λ s. slot_object s c) used));
+}
+
+pub states_of_unused_region : (regions : List Region) (r : ℕ) (bytes : List ℕ) → used_at regions r ≡ None → bytes ≡ blank → AreOf (cell_states regions) r 256 bytes
+states_of_unused_region regions r bytes unused is = record {
+  count = ap length is ∙ length_of_blank;
+  each = λ c lt. ap (λ l. slice_index_or l c 0) is ∙ zero_in_blank c ∙ sym (ap cell_state (object_of_used regions (cell_of r c) ∙ ap (λ s. slot_object s c) unused));
+}
 
 -- ---- dead objects back
 

@@ -23,11 +23,11 @@ zero_in_zeros zero c = refl
 zero_in_zeros (suc n) zero = refl
 zero_in_zeros (suc n) (suc c) = zero_in_zeros n c
 
-zero_in_blank : (c : ℕ) → get_or blank c 0 ≡ 0
+pub zero_in_blank : (c : ℕ) → get_or blank c 0 ≡ 0
 unfolding blank
 zero_in_blank c = zero_in_zeros 256 c
 
-length_of_blank : length blank ≡ 256
+pub length_of_blank : length blank ≡ 256
 unfolding blank
 length_of_blank = length-replicate {A = ℕ} 256 0
 

@@ -1,11 +1,11 @@
 -- The table of what is kept: an item is added or written.
-use Rattle.std.proofs.Common.{◌≡◌, ◌≢◌, ◌⊎◌, ℕ, zero, suc, ◌+◌, ◌<◌, ◌≤◌, List, [], ◌∷◌, ◌++◌, length, length-set, length-append, map, set, get_or, replicate, Option, Some, None, refl, sym, ap, subst, ◌∙◌, arith}
+use Rattle.std.proofs.Common.{◌≡◌, ◌≢◌, ◌⊎◌, ℕ, zero, suc, ◌+◌, ◌<◌, ◌≤◌, List, [], ◌∷◌, ◌++◌, length, length-set, map, set, get_or, replicate, Option, Some, None, refl, sym, ap, subst, ◌∙◌, arith}
 use mathlib.Core.Logic.{inl, inr}
 use Rattle.std.specs.Prelude.{slice_get}
 use Rattle.std.proofs.lemmas.Bool.{cases_lt}
-use Rattle.std.proofs.lemmas.List.{ext_get_or, get_or-set_same, get_or-set_other, get_or_past, length-map, length-replicate, set-get_or}
+use Rattle.std.proofs.lemmas.List.{ext_get_or, length-append, get_or-set_same, get_or-set_other, get_or_past, length-map, length-replicate, set-get_or}
 use Rattle.std.proofs.Math.ListN.{get_or-map}
-use Rattle.std.proofs.lemmas.Option.{get_set_other}
+use Rattle.heap_region.proofs.References.{get_set_other}
 use Rattle.heap_class.specs.declared.ObjRef.{ObjRef}
 use Rattle.heap_region.specs.RegionCopies.{Frozen}
 use Rattle.heap_region.proofs.ChangedLookups.{same_or_not}
@@ -90,7 +90,7 @@ other_item_stays kept i y (suc j) ne = get_set_other kept i j y (λ e. ne (ap su
 -- ---- what is seen through the numbers
 
 -- g of each region's item
-pub seen_by : {T : Type 0} → (Option KeptRegion → T) → List KeptRegion → List ℕ → List T
+abbrev pub seen_by : {T : Type 0} → (Option KeptRegion → T) → List KeptRegion → List ℕ → List T
 seen_by g kept slots = map (λ s. g (item_at kept s)) slots
 
 pub item_of_region : {T : Type 0} (g : Option KeptRegion → T) (kept : List KeptRegion) (slots : List ℕ) (r : ℕ) → get_or (seen_by g kept slots) r (g None) ≡ g (item_at kept (get_or slots r 0))
@@ -303,3 +303,41 @@ revived_items_are_seen kept more slots h = record {
 
 pub item_stays_unrevived : (x : Option KeptRegion) → item_copy x ≡ None → IsItemRevived x x
 item_stays_unrevived x none = record { copy = refl; count = refl; bytes = λ c. ap (λ z. byte_revived z (get_or (item_bytes x) c 0)) (sym none) }
+
+-- an item that is read
+pub item_is_read : (kept : List KeptRegion) (i : ℕ) (x : KeptRegion) → i < length kept → x ≡ get_or kept i x → slice_get kept i ≡ Some x
+item_is_read [] i x lt e = absurd (omega (arith, lt))
+item_is_read (k ∷ kept) zero x lt e = ap Some (sym e)
+item_is_read (k ∷ kept) (suc i) x lt e = item_is_read kept i x (omega (arith, lt)) e
+
+-- the first i items are revived, and the others are as they were
+pub record AreRevivedUpTo (old kept : List KeptRegion) (i : ℕ) : Type 0 where
+  pub count : length kept ≡ length old
+  pub done : (j : ℕ) → j < i → IsItemRevived (slice_get old j) (slice_get kept j)
+  pub others : (j : ℕ) → i ≤ j → slice_get kept j ≡ slice_get old j
+
+pub next_item_is_revived : (old kept : List KeptRegion) (i : ℕ) (x y : KeptRegion) → i < length kept → x ≡ get_or kept i x → IsItemRevived (Some x) (Some y) → length kept ≡ length old → ((j : ℕ) → j < i → IsItemRevived (slice_get old j) (slice_get kept j)) → ((j : ℕ) → i ≤ j → slice_get kept j ≡ slice_get old j)
+    → AreRevivedUpTo old (set kept i y) (i + 1)
+next_item_is_revived old kept i x y lt e h count done others = record {
+  count = length-set kept i y ∙ count;
+  done = λ j less. elim (same_or_not j i) [
+    | inl same ↦ subst (λ k. IsItemRevived (slice_get old k) (slice_get (set kept i y) k)) (sym same)
+        (subst (λ z. IsItemRevived z (slice_get (set kept i y) i)) (sym (item_is_read kept i x lt e) ∙ others i (omega arith)) (subst (IsItemRevived (Some x)) (sym (item_set_there kept i y lt)) h))
+    | inr ne ↦ subst (IsItemRevived (slice_get old j)) (sym (get_set_other kept i j y ne)) (done j (omega (arith, less, ne)))
+  ];
+  others = λ j more. get_set_other kept i j y (λ q. omega (arith, more, q)) ∙ others j (omega (arith, more));
+}
+
+pub all_items_are_revived : (old kept : List KeptRegion) (i : ℕ) → length kept ≤ i → length kept ≡ length old → ((j : ℕ) → j < i → IsItemRevived (slice_get old j) (slice_get kept j)) → AreRevived old kept
+all_items_are_revived old kept i le count done = record {
+  count = count;
+  each = λ j. elim (cases_lt j i) [
+    | inl lt ↦ done j lt
+    | inr past ↦ subst (λ z. IsItemRevived z (slice_get kept j)) (sym (no_item_past old j (omega (arith, past, le, count)))) (subst (IsItemRevived None) (sym (no_item_past kept j (omega (arith, past, le)))) (record { copy = refl; count = refl; bytes = λ c. refl }))
+  ];
+}
+  where
+    no_item_past : (items : List KeptRegion) (j : ℕ) → length items ≤ j → slice_get items j ≡ None
+    no_item_past [] j le = refl
+    no_item_past (k ∷ items) zero le = absurd (omega (arith, le))
+    no_item_past (k ∷ items) (suc j) le = no_item_past items j (omega (arith, le))

@@ -5,6 +5,7 @@ ghost use Rattle.heap_region.specs.Regions.{cell_object};
 ghost use Rattle.heap_pins.specs.Pin.{cell_state, state_kept};
 ghost use Rattle.heap_pins.specs.States.{AreOf, AreRestored, AreSettled, cell_states, storage_states};
 
+use crate::kept::blank;
 use heap_region::{ObjectCopy, Regions, Storage};
 
 // The state of an empty cell.
@@ -25,7 +26,7 @@ pub(crate) fn states_now(regions: &Regions, region: u64) -> [u8; 256]
 {
     match regions.region(region) {
         Some(storage) => storage_states(storage),
-        None => [EMPTY; 256],
+        None => blank(),
     }
 }
 

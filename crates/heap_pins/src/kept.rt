@@ -4,7 +4,7 @@ ghost use Rattle.std.specs.Vec.{vec_capacity};
 ghost use Rattle.heap_class.specs.declared.Refusal.TheVariants.{NoMemory};
 ghost use Rattle.heap_region.specs.Limits.{region_limit};
 ghost use Rattle.heap_pins.specs.KeptRegions.{IsRevivedTable, blank, nothing_kept};
-ghost use Rattle.heap_pins.specs.Slots.{AreRevived, AreSlots, IsByteRevived, IsSlotFor};
+ghost use Rattle.heap_pins.specs.Slots.{AreRevived, AreSlots, IsByteRevived, IsItemRevived, IsSlotFor};
 ghost use Rattle.heap_pins.specs.Pin.{byte_in};
 ghost use Rattle.heap_pins.specs.States.{cell_of};
 
@@ -131,8 +131,10 @@ impl KeptRegions {
         } }
     {
         let slot = slot_for(&mut self.slots, &mut self.kept, region as usize);
-        self.kept[slot].copy = Some(copy);
-        self.kept[slot].cells = *bytes;
+        self.kept[slot] = KeptRegion {
+            copy: Some(copy),
+            cells: *bytes,
+        };
     }
 
     // Takes the copy of a region out, if there is one.
@@ -168,7 +170,7 @@ fn slot_for(slots: &mut Vec<u32>, kept: &mut Vec<KeptRegion>, region: usize) -> 
             let slot = kept.len();
             kept.push_reserved(KeptRegion {
                 copy: None,
-                cells: [0; 256],
+                cells: blank(),
             });
             slots[region] = slot as u32 + 1;
             slot
@@ -183,9 +185,16 @@ fn revive_each(kept: &mut Vec<KeptRegion>)
     ensures capacity { vec_capacity kept.new ≡ vec_capacity kept.old }
 {
     for i in 0..kept.len() {
-        if kept[i].copy.is_some() {
-            make_live(&mut kept[i].cells);
-        }
+        revive_item(&mut kept[i]);
+    }
+}
+
+// Makes the objects live of an item with a copy.
+fn revive_item(item: &mut KeptRegion)
+    ensures { IsItemRevived (Some item.old) (Some item.new) }
+{
+    if item.copy.is_some() {
+        make_live(&mut item.cells);
     }
 }
 
@@ -198,4 +207,12 @@ fn make_live(bytes: &mut [u8; 256])
             bytes[k] = 1;
         }
     }
+}
+
+// Returns the bytes of a region of which nothing is kept.
+#[tactic(auto, unfolding(crate::specs::KeptRegions::blank))]
+pub(crate) fn blank() -> [u8; 256]
+    ensures { result ≡ blank }
+{
+    [0; 256]
 }

@@ -13,8 +13,8 @@ ghost use Rattle.heap_pins.specs.Shows.{AreFit, FitIn};
 ghost use Rattle.heap_pins.specs.States.{AreOf, kept_dead, kept_region, kept_word};
 ghost use Rattle.heap_pins.specs.WalkedPins.{IsFreshPin};
 
-use crate::cells::{EMPTY, TAKEN, restore_dead, settle, states_now, storage_states};
-use crate::kept::KeptRegions;
+use crate::cells::{TAKEN, restore_dead, settle, states_now, storage_states};
+use crate::kept::{KeptRegions, blank};
 use heap_class::{ObjRef, Refusal};
 use heap_region::{FrozenRegion, ObjectCopy, Storage};
 use heap_step::Undo;
@@ -251,7 +251,7 @@ impl Pin {
     {
         match self.kept.bytes(region) {
             Some(bytes) => *bytes,
-            None => [EMPTY; 256],
+            None => blank(),
         }
     }
 }

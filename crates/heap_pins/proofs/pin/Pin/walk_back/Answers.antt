@@ -1,4 +1,4 @@
-use Rattle.std.proofs.Common.{◌<◌, ℕ, List, length, sym, subst, ap, arith}
+use Rattle.std.proofs.Common.{◌<◌, ◌∙◌, ℕ, List, length, sym, subst, ap, arith}
 use Rattle.heap_world.specs.State.{register_index}
 use Rattle.heap_pins.specs.Pin.{PinContents}
 use Rattle.heap_step.proofs.Steps.{put_record_names_an_object, put_record_slot_within_object, store_there, store_within, reg_register, new_record_names_an_object, new_register, class_record_has_a_class}
@@ -162,7 +162,7 @@ returns-in-Sweep-clause-walked c =
 pub unreclaim-requires : goal.unreclaim-requires
 unreclaim-requires c =
     let (x, e, s, pin, shows) = c.requires in
-    subst (λ n. c.in-Reclaim.region < n) (sym pin.copies) (reclaim_within e _ x c.args.left.now s c.in-Reclaim.region c.in-Reclaim.storage c.in-Reclaim.is)
+    record { region = subst (λ n. c.in-Reclaim.region < n) (sym pin.copies) (reclaim_within e _ x c.args.left.now s c.in-Reclaim.region c.in-Reclaim.storage c.in-Reclaim.is) }
 
 pub returns-in-Reclaim-clause-walked : goal.returns-in-Reclaim-clause-walked
 returns-in-Reclaim-clause-walked c =

@@ -3,7 +3,7 @@ use Rattle.std.proofs.Common.{◌≡◌, ◌≢◌, ◌⊎◌, ℕ, zero, suc, �
 use mathlib.Core.Logic.{inl, inr}
 use Rattle.std.specs.Prelude.{◌==◌, slice_index_or, option_map, Result, Ok, Err, OnErr, if◌then◌else◌}
 use Rattle.std.proofs.lemmas.Bool.{eq-eqb, ne_eqb}
-use Rattle.std.proofs.lemmas.List.{get_or-set_same, get_or-set_other}
+use Rattle.std.proofs.lemmas.List.{get_or-set_same, get_or-set_other, set-set}
 use Rattle.heap_class.specs.declared.ObjRef.{ObjRef}
 use Rattle.heap_region.specs.Regions.{Object, UsedRegion, Region, FitsWords, object_at, used_at, cell_object, slot_object}
 use Rattle.heap_region.specs.Layout.{words_of}
@@ -11,13 +11,14 @@ use Rattle.heap_region.specs.RegionCopies.{Frozen, frozen, frozen_words, frozen_
 use Rattle.heap_region.proofs.ChangedLookups.{same_or_not}
 use Rattle.heap_region.proofs.ShownRegions.{object_of_used}
 use Rattle.heap_world.specs.State.{HeapState}
-use Rattle.heap_step.specs.declared.Undo.TheVariants.{Sweep}
-use Rattle.heap_pins.specs.KeptCopies.{has_copy, kept_at, with_copy, with_dead}
-use Rattle.heap_pins.specs.KeptRegions.{KeptContents, blank}
-use Rattle.heap_pins.specs.Pin.{PinContents, cell_state, state_kept, state_seen, states_of_region}
+use Rattle.heap_step.specs.declared.Undo.TheVariants.{Reclaim, Sweep}
+use Rattle.heap_pins.specs.KeptCopies.{bytes_with, has_copy, kept_at, with_byte, with_copy, with_dead}
+use Rattle.heap_pins.specs.KeptRegions.{IsRevivedTable, KeptContents, blank}
+use Rattle.heap_pins.specs.Pin.{PinContents, cell_state, copy_or_now, region_seen, state_kept, state_seen, states_of_region}
 use Rattle.heap_pins.specs.Shows.{AreFit}
 use Rattle.heap_pins.specs.States.{AreOf, AreRestored, AreSettled, cell_of, cell_states, states_by, storage_states}
 use Rattle.heap_pins.specs.Walk.{dead_state, states_before}
+use Rattle.heap_pins.specs.WalkedPins.{IsRevived, without_copy}
 use Rattle.heap_pins.proofs.CellStates.{bytes_are_states, copied_cell_has_its_byte, free_cell_is_kept}
 use Rattle.heap_pins.proofs.CopiedRegions.{is_not_none, not_some_copy_is_none}
 use Rattle.heap_pins.proofs.OpenedPins.{length_of_blank, zero_in_blank}
@@ -42,6 +43,36 @@ copy_is_put p i k r f c states wanted is put made same =
 pub free_pin_keeps : (r : ℕ) (c : Option Frozen) (states : List ℕ) (p : PinContents) → has_copy r p ≡ false → with_copy r c states p ≡ kept_at r c states (has_copy r p) p
 unfolding kept_at
 free_pin_keeps r c states p free = sym (ap (λ b. kept_at r c states b p) free)
+
+-- a copy is put where one was taken out
+pub copy_is_put_back : (p i : PinContents) (k : KeptContents) (r : ℕ) (f : Frozen) (c : Option Frozen) (states wanted : List ℕ) → i ≡ without_copy r p → k ≡ record { copies = set i.copies r (Some f); cells = set i.cells r states } → c ≡ Some f → states ≡ wanted
+    → record i { copies = k.copies; cells = k.cells } ≡ with_copy r c wanted p
+unfolding with_copy
+copy_is_put_back p i k r f c states wanted is put made same =
+    copy_is_put (without_copy r p) i k r f (Some f) states wanted is put refl same
+    ∙ ap (λ l. (let t : PinContents = record p { copies = l; cells = set p.cells r wanted } in t)) (set-set p.copies r None (Some f))
+    ∙ sym (ap (λ x. with_copy r x wanted p) made)
+
+-- bytes are written
+pub bytes_are_set : (p i : PinContents) (k : KeptContents) (at : ObjRef) (fresh : Bool) (byte : ℕ) (bytes : List ℕ) → i ≡ p → k ≡ record { copies = i.copies; cells = set i.cells at.region bytes } → bytes ≡ bytes_with at.cell fresh byte (slice_index_or i.cells at.region [])
+    → record i { copies = k.copies; cells = k.cells } ≡ with_byte at fresh byte p
+bytes_are_set p i k at fresh byte bytes is put same =
+    ap (λ (z : KeptContents). (let t : PinContents = record i { copies = z.copies; cells = z.cells } in t)) put
+    ∙ ap (λ l. (let t : PinContents = record i { cells = set i.cells at.region l } in t)) same
+    ∙ ap (with_byte at fresh byte) is
+
+-- what the pin sees of a region, by its copy
+pub region_seen_by : (p : PinContents) (regions : List Region) (r : ℕ) (x : Option Frozen) → slice_index_or p.copies r None ≡ x → region_seen p regions r ≡ copy_or_now x (region_frozen regions r)
+unfolding region_seen
+region_seen_by p regions r x e = ap (λ z. copy_or_now z (region_frozen regions r)) e
+
+pub frozen_used : (regions : List Region) (r : ℕ) → IsSome (region_frozen regions r) → IsSome (used_at regions r)
+unfolding region_frozen
+frozen_used regions r some = go (used_at regions r) some
+  where
+    go : (x : Option UsedRegion) → IsSome (option_map frozen x) → IsSome x
+    go None some = some
+    go (Some u) some = search
 
 -- ---- the states of a region without a copy
 
@@ -104,6 +135,13 @@ restored_states_are_before w r dead g old states a s = record {
   each = λ c lt. s.each c ∙ ap (dead_state dead c) (a.each c lt) ∙ ap (λ t. if t then dead_state dead c (g (cell_of r c)) else g (cell_of r c)) (sym (eq-eqb r r refl));
 }
 
+pub reclaimed_states_are_before : (r : ℕ) (storage : UsedRegion) (g : ObjRef → ℕ) (states : List ℕ) → AreOf (storage_states storage) r 256 states → states ≡ states_of_region (states_before (Reclaim r storage) g) r
+unfolding states_before
+reclaimed_states_are_before r storage g states a = bytes_are_states (states_before (Reclaim r storage) g) r states (record {
+  count = a.count;
+  each = λ c lt. a.each c lt ∙ ap (λ t. if t then storage_states storage (cell_of r c) else g (cell_of r c)) (sym (eq-eqb r r refl));
+})
+
 -- the next of the dead objects is written
 pub dead_state_is_written : (dead : List (ℕ × Object)) (i : ℕ) (d : ℕ × Object) (y : ℕ) (old states : List ℕ) → i < length dead → d ≡ slice_index_or dead i d → d.0 < length states → y ≡ cell_state (Some d.1)
     → ((c : ℕ) → dead_state (drop i dead) c (slice_index_or states c 0) ≡ dead_state dead c (slice_index_or old c 0))
@@ -156,3 +194,12 @@ next_dead_is_put dead i d f g lt e fit is =
 pub truth_holds_at_refusal : {A E P : Type 0} (r : Result A E) → P → OnErr r P
 truth_holds_at_refusal (Ok a) p = tt
 truth_holds_at_refusal (Err e) p = p
+
+-- ---- all objects are live
+
+pub table_revived_is_pin_revived : (p i : PinContents) (k : KeptContents) → i ≡ p → IsRevivedTable (record { copies = i.copies; cells = i.cells }) k → IsRevived p (record i { ended = true; copies = k.copies; cells = k.cells })
+table_revived_is_pin_revived p i k is h = subst (λ (q : PinContents). IsRevivedTable (record { copies = q.copies; cells = q.cells }) k → IsRevived p (record q { ended = true; copies = k.copies; cells = k.cells })) (sym is) (λ t. record {
+  rest = λ j. record p { ended = true; copies = t.copies j; cells = k.cells };
+  cells = λ n cells. record { count = t.count ∙ cells.count; each = λ r lt. t.sizes r ∙ cells.each r lt };
+  bytes = λ at few. t.bytes at;
+}) h

@@ -1,6 +1,6 @@
 -- What a pin makes of a step is what it has to keep of it.
 use Rattle.std.proofs.Common.{◌≡◌, ℕ, ◌<◌, Bool, true, false, List, Option, Some, None, refl, sym, ap, ◌∙◌}
-use Rattle.std.specs.Prelude.{slice_index_or, if◌then◌else◌}
+use Rattle.std.specs.Prelude.{slice_index_or, Result, Ok, Err, OnOk, if◌then◌else◌}
 use Rattle.std.proofs.lemmas.Bool.{eq-eqb}
 use Rattle.heap_class.specs.declared.ObjRef.{ObjRef}
 use Rattle.heap_region.specs.Regions.{Object, UsedRegion}
@@ -60,3 +60,8 @@ other_records_keep_the_pin (Reclaim region storage) v p a b c d e f = absurd (d 
 other_records_keep_the_pin (New at fresh m r old) v p a b c d e f = absurd (e at fresh m r old refl)
 other_records_keep_the_pin (Finish log) v p a b c d e f = absurd (f log refl)
 other_records_keep_the_pin left v p a b c d e f = refl
+
+-- what an Ok of a part says of the whole
+pub ok_is_kept : {A E : Type 0} {P Q : Type 0} (r : Result A E) (q : PinContents) → (P → Q) → OnOk r P → OnOk r Q
+ok_is_kept (Ok a) q f h = f h
+ok_is_kept (Err e) q f h = tt

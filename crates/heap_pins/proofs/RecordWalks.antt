@@ -193,10 +193,10 @@ finish_walks_back log w p q h x b few same = go (slice_index_or p.copies b.regio
         ∙ kept_once_ended p.ended (byte_in p.cells b) (cell_states x.regions b)
         ∙ ap (λ s. if s == 0 then 0 else 1) (sym (free_cell_is_kept p x.regions b e) ∙ same)
 
-pub walk_back_over_finish : (left : Undo) (w : HeapState) (p q : PinContents) (log : List ℕ) → left ≡ Finish log → IsRevived p q → IsWalkedBack left w p q
+pub walk_back_over_finish : (left : Undo) (w : HeapState) (p q : PinContents) (log : List ℕ) → left ≡ Finish log → AreCells p.cells (length p.copies) → IsRevived p q → IsWalkedBack left w p q
 unfolding touched registers_before classes_before
-walk_back_over_finish left w p q log is h = subst (λ l. IsWalkedBack l w p q) (sym is)
-    (walk_back_without_copy (Finish log) w p q refl (ap (λ (z : PinContents). z.classes) h.rest) (ap (λ (z : PinContents). z.registers) h.rest) (ap (λ (z : PinContents). z.copies) h.rest) h.cells (finish_walks_back log w p q h))
+walk_back_over_finish left w p q log is cells h = subst (λ l. IsWalkedBack l w p q) (sym is)
+    (walk_back_without_copy (Finish log) w p q refl (ap (λ (z : PinContents). z.classes) h.rest) (ap (λ (z : PinContents). z.registers) h.rest) (ap (λ (z : PinContents). z.copies) h.rest) (h.cells (length p.copies) cells) (finish_walks_back log w p q h))
 
 pub walk_back_over_sweep : (left : Undo) (w : HeapState) (p q : PinContents) (region : ℕ) (dead : List (ℕ × Object)) (f : Frozen) → left ≡ Sweep region dead → region < length p.copies → AreCells p.cells (length p.copies) → region_seen p w.regions region ≡ Some f
     → q ≡ with_copy_before (Sweep region dead) w region p → IsWalkedBack left w p q

@@ -10,6 +10,10 @@ use Rattle.heap_region.specs.RegionCopies.{Frozen, frozen, frozen_words, region_
 use Rattle.heap_region.proofs.ShownRegions.{object_of_used}
 use Rattle.heap_world.specs.State.{HeapState, is_register, register_index}
 use Rattle.heap_world.specs.Legal.{IsLegal}
+use Rattle.heap_step.specs.declared.Event.{Event}
+use Rattle.heap_step.specs.declared.Undo.{Undo}
+use Rattle.heap_step.specs.Laws.{IsStep}
+use Rattle.heap_step.proofs.EventLaws.{keeps_legal}
 use Rattle.heap_pins.specs.Covers.{HasAll, Covers}
 use Rattle.heap_pins.specs.Pin.{PinContents, region_seen}
 use Rattle.heap_pins.specs.Shows.{ShowsState, AreFit, FitIn}
@@ -56,6 +60,11 @@ dead_within x region dead legal some fit = go (used_at x.regions region) refl so
     go : (s : Option UsedRegion) → used_at x.regions region ≡ s → IsSome s → FitIn (option_map frozen s) dead → All (λ d. d.0 < 256) dead
     go None e some fit = absurd (cc)
     go (Some u) e some fit = fitting_dead_cells_below_256 u.cell_size (length u.cells) dead (cell_table_below_257_cells u (legal.regions.tables region u e)) (fit (frozen u) refl)
+
+-- ---- the state after a step
+
+pub after_legal : (e : Event) (before after : HeapState) (left : Undo) → IsStep e before after left → IsLegal after
+after_legal e before after left s = subst IsLegal (sym s.gave) (keeps_legal e before s.legal s.accepted)
 
 -- ---- cells and registers
 

@@ -98,7 +98,7 @@ without_new at fresh p = with_byte at fresh (if has_copy at.region p then 0 else
 -- q is p with all objects live
 pub record IsRevived (p q : PinContents) : Type 0 where
   pub rest : q ≡ record p { ended = true; cells = q.cells }
-  pub cells : AreCells q.cells (length p.copies)
+  pub cells : (n : ℕ) → AreCells p.cells n → AreCells q.cells n
   pub bytes : (at : ObjRef) → at.cell < 256
       → byte_in q.cells at
       ≡ byte_revived (slice_index_or p.copies at.region None) (byte_in p.cells at)

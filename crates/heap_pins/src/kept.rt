@@ -1,8 +1,8 @@
 //! What a pin keeps of the regions: copies, and a byte for each cell.
-ghost use Rattle.std.specs.Prelude.{◌≡◌, ◌<◌, ◌≤◌, ℕ, [], length, None, Some, IfOk, IfErr, MatchOption, slice_index_or, slice_set};
+ghost use Rattle.std.specs.Prelude.{◌≡◌, ◌<◌, ◌≤◌, ℕ, [], length, None, Some, IfOk, IfErr, MatchOption, replicate, slice_index_or, slice_set};
 ghost use Rattle.std.specs.Vec.{vec_capacity};
 ghost use Rattle.heap_class.specs.declared.Refusal.TheVariants.{NoMemory};
-ghost use Rattle.heap_region.specs.Limits.{region_limit};
+ghost use Rattle.heap_region.specs.Limits.{cell_limit, region_limit};
 ghost use Rattle.heap_pins.specs.KeptRegions.{IsRevivedTable, blank, nothing_kept};
 ghost use Rattle.heap_pins.specs.Slots.{AreRevived, AreSlots, IsByteRevived, IsItemRevived, IsSlotFor};
 ghost use Rattle.heap_pins.specs.Pin.{byte_in};
@@ -215,4 +215,11 @@ pub(crate) fn blank() -> [u8; 256]
     ensures { result ≡ blank }
 {
     [0; 256]
+}
+
+// Returns 256 times this byte.
+pub(crate) fn filled(byte: u8) -> [u8; 256]
+    ensures { result ≡ replicate cell_limit byte }
+{
+    [byte; 256]
 }

@@ -14,7 +14,7 @@ ghost use Rattle.heap_pins.specs.States.{AreOf, kept_dead, kept_region, kept_wor
 ghost use Rattle.heap_pins.specs.WalkedPins.{IsFreshPin};
 
 use crate::cells::{TAKEN, restore_dead, settle, states_now, storage_states};
-use crate::kept::{KeptRegions, blank};
+use crate::kept::{KeptRegions, blank, filled};
 use heap_class::{ObjRef, Refusal};
 use heap_region::{FrozenRegion, ObjectCopy, Storage};
 use heap_step::Undo;
@@ -164,7 +164,7 @@ impl Pin {
         ensures { self.new ≡ with_byte at fresh byte self.old }
     {
         if fresh {
-            self.kept.set_bytes(at.region as u64, &[byte; 256]);
+            self.kept.set_bytes(at.region as u64, &filled(byte));
         } else {
             self.kept.set_byte(at.region as u64, at.cell as u64, byte);
         }
@@ -247,7 +247,8 @@ impl Pin {
     // Returns the bytes of a region.
     fn bytes(&self, region: u64) -> [u8; 256]
         requires { region < length self.now.copies }
-        ensures { result ≡ slice_index_or self.now.cells region [] }
+        ensures value { result ≡ slice_index_or self.now.cells region [] }
+        ensures count { length result ≡ cell_limit }
     {
         match self.kept.bytes(region) {
             Some(bytes) => *bytes,

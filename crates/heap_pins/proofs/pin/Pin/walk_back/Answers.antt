@@ -111,7 +111,9 @@ returns-in-Class-clause-walked c =
 -- ---- the marker's records
 
 pub returns-in-Finish-clause-walked : goal.returns-in-Finish-clause-walked
-returns-in-Finish-clause-walked c = walk_back_over_finish c.args.left.now c.args.world.now c.args.self.now c.revive.new.self c.in-Finish.log c.in-Finish.is c.revive.ensures
+returns-in-Finish-clause-walked c =
+    let (x, e, s, pin, shows) = c.requires in
+    walk_back_over_finish c.args.left.now c.args.world.now c.args.self.now c.revive.new.self c.in-Finish.log c.in-Finish.is (cells_of_pin c.args.self.now x pin) c.revive.ensures
 
 pub returns-in-Snap-clause-walked : goal.returns-in-Snap-clause-walked
 returns-in-Snap-clause-walked c =

@@ -104,7 +104,7 @@ seen_are_same g kept more slots others same each = ext_get_or (g None) (seen_by 
 -- ---- an item is added
 
 module _ (slots : List ℕ) (kept : List KeptRegion) (room r : ℕ) (k : KeptRegion) (t : AreSlots slots kept room) (lt : r < length slots) (e : get_or slots r 0 ≡ 0) where
-  added : List ℕ
+  abbrev pub added : List ℕ
   added = set slots r (length kept + 1)
 
   number_there : (q : ℕ) → q ≡ r → get_or added q 0 ≡ length kept + 1

@@ -130,11 +130,17 @@ impl KeptRegions {
           cells = slice_set self.old.cells region bytes.now;
         } }
     {
+        self.set_bytes(region, bytes);
+        self.set_copy(region, copy);
+    }
+
+    // Puts a copy of a region in. Takes no memory.
+    fn set_copy(&mut self, region: u64, copy: FrozenRegion)
+        requires { region < length self.old.copies }
+        ensures { self.new ≡ record self.old { copies = slice_set self.old.copies region (Some copy) } }
+    {
         let slot = slot_for(&mut self.slots, &mut self.kept, region as usize);
-        self.kept[slot] = KeptRegion {
-            copy: Some(copy),
-            cells: *bytes,
-        };
+        let _old = self.kept[slot].copy.replace(copy);
     }
 
     // Takes the copy of a region out, if there is one.

@@ -40,9 +40,9 @@ returns-clause-kept c =
     let copied : region_frozen regions r ≡ Some c.in_ok-copy.copy = ap (λ (s : RegionPool). region_frozen s.regions r) (sym c.regions.ensures) ∙ c.in_ok-copy.ensures.copied in
     let made : option_map (with_dead c.args.dead.now) (region_frozen regions r) ≡ Some c.put_dead.new.copy = ap (option_map (with_dead c.args.dead.now)) copied ∙ ap (λ ds. Some (with_dead ds c.in_ok-copy.copy)) (sym c.as_slice.ensures) ∙ ap Some (sym c.put_dead.ensures) in
     let before = restored_states_are_before c.args.world.now r c.args.dead.now (cell_states regions) c.states_now-states.result c.restore_dead.new.states
-        (subst (λ (s : RegionPool). AreOf (cell_states s.regions) r 256 c.states_now-states.result) c.regions-2.ensures c.states_now-states.ensures)
-        (subst (λ (ds : List (ℕ × Object)). AreRestored ds c.states_now-states.result c.restore_dead.new.states) c.as_slice-2.ensures c.restore_dead.ensures) in
+    (subst (λ (s : RegionPool). AreOf (cell_states s.regions) r 256 c.states_now-states.result) c.regions-2.ensures c.states_now-states.ensures)
+    (subst (λ (ds : List (ℕ × Object)). AreRestored ds c.states_now-states.result c.restore_dead.new.states) c.as_slice-2.ensures c.restore_dead.ensures) in
     let settled = settled_states_are_kept p (states_before (Sweep r c.args.dead.now) (cell_states regions)) r c.bytes.result c.restore_dead.new.states c.settle.new.states before
-        (subst (λ (q : PinContents). AreSettled q.ended c.bytes.result c.restore_dead.new.states c.settle.new.states) c.self.view_is c.settle.ensures) c.bytes.ensures.value in
+    (subst (λ (q : PinContents). AreSettled q.ended c.bytes.result c.restore_dead.new.states c.settle.new.states) c.self.view_is c.settle.ensures) c.bytes.ensures.value in
     copy_is_put p _ c.put.new.self r c.put_dead.new.copy _ c.settle.new.states _ c.self.view_is c.put.ensures made settled
     ∙ free_pin_keeps r _ _ p free

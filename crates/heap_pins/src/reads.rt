@@ -1,5 +1,5 @@
 //! What a dump reads of a pin, beside the current state.
-ghost use Rattle.std.specs.Prelude.{◌≡◌, ◌+◌, ◌<◌, ◌≤◌, ◌*◌, length, None, Some, IfSome, slice_get, slice_index_or, MatchOption};
+ghost use Rattle.std.specs.Prelude.{◌≡◌, ℕ, ◌+◌, ◌<◌, ◌≤◌, ◌*◌, length, None, Some, IfSome, slice_get, slice_index_or, MatchOption};
 ghost use Rattle.memchr.specs.Find.{IsFirstByte, is_byte};
 ghost use Rattle.heap_region.specs.Limits.{cell_limit, region_limit};
 ghost use Rattle.heap_pins.specs.Pin.{IsPlaceAfter, byte_in, object_seen, places_seen, state_seen, states_seen};
@@ -92,10 +92,7 @@ impl Pin {
         ensures { IsFirstIn (byte_in self.now.cells) region from result }
     {
         match self.kept.bytes(region) {
-            Some(bytes) => match first_live(&bytes[from as usize..]) {
-                Some(found) => Some(from + found as u64),
-                None => None,
-            },
+            Some(bytes) => first_state(bytes, from),
             None => None,
         }
     }
@@ -159,6 +156,18 @@ impl Pin {
             Some(copy) => copy.words(at.cell as u64),
             None => world.regions().words(at),
         }
+    }
+}
+
+// Returns the first of these states from one on that is that of a live object.
+#[inline]
+fn first_state(states: &[u8; 256], from: u64) -> Option<u64>
+    requires { from ≤ cell_limit }
+    ensures { (r : ℕ) → IsFirstIn (λ at. slice_index_or states.now at.cell 0) r from result }
+{
+    match first_live(&states[from as usize..]) {
+        Some(found) => Some(from + found as u64),
+        None => None,
     }
 }
 

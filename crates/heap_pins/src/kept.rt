@@ -229,3 +229,11 @@ pub(crate) fn filled(byte: u8) -> [u8; 256]
 {
     [byte; 256]
 }
+
+// Returns a copy of these bytes.
+pub(crate) fn copied(bytes: &[u8; 256]) -> [u8; 256]
+    ensures value { result ≡ bytes.now }
+    ensures count { length result ≡ cell_limit }
+{
+    *bytes
+}

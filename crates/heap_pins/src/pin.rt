@@ -14,7 +14,7 @@ ghost use Rattle.heap_pins.specs.States.{AreOf, kept_dead, kept_region, kept_wor
 ghost use Rattle.heap_pins.specs.WalkedPins.{IsFreshPin};
 
 use crate::cells::{TAKEN, restore_dead, settle, states_now, storage_states};
-use crate::kept::{KeptRegions, blank, filled};
+use crate::kept::{KeptRegions, blank, copied, filled};
 use heap_class::{ObjRef, Refusal};
 use heap_region::{FrozenRegion, ObjectCopy, Storage};
 use heap_step::Undo;
@@ -251,7 +251,7 @@ impl Pin {
         ensures count { length result ≡ cell_limit }
     {
         match self.kept.bytes(region) {
-            Some(bytes) => *bytes,
+            Some(bytes) => copied(bytes),
             None => blank(),
         }
     }

@@ -22,6 +22,10 @@ unfolding IsFirstIn
 first_in_same_states f g r from None same h = λ c low lt e. h c low lt (same c lt ∙ e)
 first_in_same_states f g r from (Some c) same h = (h.0, h.1, sym (same c h.1) ∙ h.2, λ i low lt e. h.3 i low lt (same i (omega (arith, lt, h.1)) ∙ e))
 
+pub first_cell_is_small : (f : ObjRef → ℕ) (r from c : ℕ) → IsFirstIn f r from (Some c) → c < 256
+unfolding IsFirstIn
+first_cell_is_small f r from c h = h.1
+
 -- a region with a copy
 pub first_in_copy : (p : PinContents) (regions : List Region) (r from : ℕ) (f : Frozen) (x : Option ℕ) → slice_index_or p.copies r None ≡ Some f → IsFirstIn (byte_in p.cells) r from x → IsFirstIn (state_seen p regions) r from x
 first_in_copy p regions r from f x is h = first_in_same_states (byte_in p.cells) (state_seen p regions) r from x (λ c lt. sym (copied_cell_has_its_byte p regions (cell_of r c) f is)) h

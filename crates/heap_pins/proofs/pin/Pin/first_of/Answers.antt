@@ -20,5 +20,5 @@ loop-cell-preserved c =
       none = none_of_storage_goes_on c.args.self.now c.args.storage.now c.args.region c.args.from c.loop-cell.cell c.state_kept.result c.loop-cell.invariant.none is c.if-state_kept-eq-LIVE.false;
     }
 
-pub returns-after-loop-cell : goal.returns-after-loop-cell
-returns-after-loop-cell c = none_of_storage c.args.self.now c.args.storage.now c.args.region c.args.from c.loop-cell.cell (omega (arith, c.loop-cell-test.false, c.cells-cell-end.ensures.value)) c.loop-cell.invariant.none
+pub returns : goal.returns
+returns c = none_of_storage c.args.self.now c.args.storage.now c.args.region c.args.from c.loop-cell.cell (omega (arith, c.loop-cell-test.false, c.cells-cell-end.ensures.value)) c.loop-cell.invariant.none

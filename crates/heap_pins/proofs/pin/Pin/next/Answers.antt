@@ -11,5 +11,5 @@ returns c i h =
     first_place_is_found (state_seen c.args.self.now regions) (256 * length regions) (256 * c.args.at.region + (c.args.at.cell + 1)) c.first_from.result c.first_from.ensures
     ∙ sym (next_live_place_from_number (states_seen c.args.self.now regions) i (256 * c.args.at.region + (c.args.at.cell + 1)) c.args.at (omega arith) h).1
 
-pub returns-then-at-cell : goal.returns-then-at-cell
-returns-then-at-cell c i h = absurd (omega (arith, listed_cell_below_256 (states_seen c.args.self.now c.args.world.now.regions) i c.args.at h, c.if-at-cell.true))
+pub returns-then-at-ge256 : goal.returns-then-at-ge256
+returns-then-at-ge256 c i h = absurd (omega (arith, listed_cell_below_256 (states_seen c.args.self.now c.args.world.now.regions) i c.args.at h, c.if-at-ge256.true))

@@ -1,5 +1,5 @@
 -- What the calls on one pin give.
-use Rattle.std.proofs.Common.{◌≡◌, ℕ, ◌<◌, ◌≤◌, Bool, true, false, sym, ap, subst, ◌∙◌, arith, refl, inl, inr, Some, None, Result, Ok, Err}
+use Rattle.std.proofs.Common.{◌≡◌, ℕ, List, ◌<◌, ◌≤◌, Bool, true, false, sym, ap, subst, ◌∙◌, arith, refl, inl, inr, Some, None, Result, Ok, Err}
 use Rattle.std.specs.Prelude.{nat_lt, slice_index_or, is_some, if◌then◌else◌, IsSome, OnErr, OnOk}
 use Rattle.std.specs.Result.{is_err}
 use Rattle.heap_class.specs.declared.LostCause.{LostCause}
@@ -45,12 +45,16 @@ settled_touched_pin : (left : Undo) (v : HeapState) (r : ℕ) (p : PinContents) 
 unfolding kept_if kept_at
 settled_touched_pin left v r p at some = ap (λ t. kept_if t left v p) at ∙ ap (λ b. kept_at r (copy_for left v r) (states_before_step left v r p) b p) some
 
+finish_touches_nothing : (log : List ℕ) (r : ℕ) → touched (Finish log) ≡ Some r → ⊥
+unfolding touched
+finish_touches_nothing log r e = cc
+
 settled_pin : (left : Undo) (v : HeapState) (r : ℕ) (p : PinContents) → noted left ≡ Some r → is_some (slice_index_or p.copies r None) ≡ true → kept left v p ≡ p
 unfolding kept noted
 settled_pin (New at fresh m k old) v r p named some =
     let same : at.region ≡ r = cc in
     ap (λ b. if b then p else with_byte at fresh 1 p) (ap (λ j. is_some (slice_index_or p.copies j None)) same ∙ some)
-settled_pin (Finish log) v r p named some = cc
+settled_pin (Finish log) v r p named some = absurd (finish_touches_nothing log r named)
 settled_pin left v r p named some = settled_touched_pin left v r p named some
 
 settled_held_is_unchanged : (left : Undo) (v : HeapState) (r : ℕ) (h : Held) → noted left ≡ Some r → is_settled r h ≡ true → h ≡ held_kept left v h
@@ -70,7 +74,10 @@ touched_is_noted left r t = t
 -- a step that touches no region is never refused
 pub untouching_step_is_kept : {A E P : Type 0} (x : Result A E) (left : Undo) → touched left ≡ None → OnErr x (IsSome (touched left)) → OnOk x P → P
 untouching_step_is_kept (Ok a) left none refused p = p
-untouching_step_is_kept {A} {E} {P} (Err e) left none refused p = absurd (subst IsSome none refused)
+untouching_step_is_kept {A} {E} {P} (Err e) left none refused p = absurd (no_region (subst IsSome none refused))
+  where
+    no_region : IsSome {T = ℕ} None → ⊥
+    no_region e = cc
 
 -- a pin with a place for the copy of each region has one for this
 pub held_pin_has_region_place : (n r : ℕ) (h : Held) → IsSizedHeld n h → r < n → IsRegionWithin r h

@@ -16,5 +16,5 @@ loop-i-preserved c =
     (pins_kept_one_further c.args.left.now c.args.world.now c.loop-i.i c.args.pins.now c.loop-i.pins c.index-pins-i.result c.note.new.self c.loop-i.invariant (omega (arith, c.loop-i-test.true, c.loop-i.auto.pins)) c.index-pins-i.is
     (subst (λ (s : NumberedPin). MayKeep c.args.left.now c.args.world.now s c.note.new.self) (sym c.index-pins-i.is) c.note.ensures))
 
-pub returns-after-loop-i : goal.returns-after-loop-i
-returns-after-loop-i c = pins_kept_to_the_end c.args.left.now c.args.world.now c.loop-i.i c.args.pins.now c.loop-i.pins c.loop-i.invariant (omega (arith, c.loop-i-test.false, c.loop-i.auto.pins))
+pub returns : goal.returns
+returns c = pins_kept_to_the_end c.args.left.now c.args.world.now c.loop-i.i c.args.pins.now c.loop-i.pins c.loop-i.invariant (omega (arith, c.loop-i-test.false, c.loop-i.auto.pins))

@@ -1,0 +1,16 @@
+use Rattle.std.proofs.Common.{◌≡◌, ◌∙◌, false, sym, ap, subst}
+use Rattle.heap_region.specs.Pool.{RegionPool}
+use Rattle.heap_pins.specs.KeptCopies.{has_copy}
+use Rattle.heap_pins.specs.Pin.{PinContents}
+use Rattle.heap_pins.specs.States.{AreOf, AreSettled, cell_states}
+use Rattle.heap_pins.proofs.AddedCopies.{copied_bytes_are_seen, settled_states_are_seen}
+use Rattle.heap_pins.proofs.pin.Pin.states.Goals as goal
+
+pub returns-then-has_copy : goal.returns-then-has_copy
+returns-then-has_copy c = copied_bytes_are_seen c.args.self.now c.args.world.now.regions c.args.region c.bytes-bytes.result (sym c.has_copy.ensures ∙ c.if-has_copy.true) c.bytes-bytes.ensures.count c.bytes-bytes.ensures.value
+
+pub returns : goal.returns
+returns c = settled_states_are_seen c.args.self.now c.args.world.now.regions c.args.region c.bytes-bytes.result c.states_now-states.result c.settle.new.states (sym c.if-has_copy.ensures)
+    (subst (λ (s : RegionPool). AreOf (cell_states s.regions) c.args.region 256 c.states_now-states.result) c.regions.ensures c.states_now-states.ensures)
+    (subst (λ (p : PinContents). AreSettled p.ended c.bytes-bytes.result c.states_now-states.result c.settle.new.states) c.self.view_is c.settle.ensures)
+    c.bytes-bytes.ensures.value

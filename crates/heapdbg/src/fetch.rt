@@ -48,9 +48,9 @@ impl<S: Read, F: Write> FetchEnd<S, F> {
 
 /// Sends the secret, if there is one, to a port, fetches the dump that it gives into a file, and puts out a last line: `fetched`,
 /// or `cut` if what came is no whole dump, or `failed` if a write to the file failed, and the number of bytes that the file took.
-/// Returns socket and file. Shows its progress on standard error if `shows` says so. Fails with Connect if no connection can be made
-/// and with Out if no file can be made, and then puts out nothing, and says why on standard error, if that is a terminal; else with
-/// Write if the last line can't be put out, with Cut, or with Out. May wait.
+/// Returns socket and file. Shows its progress on standard error if `shows` says so. Fails with Connect if no connection can be
+/// made and with Out if no file can be made, and then puts out nothing, and says why on standard error, if that is a terminal; else
+/// with Write if the last line can't be put out, with Cut, or with Out. May wait.
 pub fn fetch_port<R, O: Outlet>(
     rt: &R,
     port: u16,

@@ -1,10 +1,9 @@
 #!/usr/bin/env python3
 """Puts the functions of each source file in the order of STYLE.md: an entry first, and below it what it calls.
 
-`order.py` writes the files, each function right below the first that calls it. `order.py fit` only names the functions that stand
-above all that call them, and ends with status 1 if there are any. Functions change places with each other alone: types, impls and
-all else stay where they are. An entry is a function that other files can name, one that only impls call, or a test; entries stay
-in the order in which they stand."""
+`order.py` writes the files; `order.py fit` only names those that are in another order, and ends with status 1 if there are any.
+Functions change places with each other alone: types, impls and all else stay where they are. An entry is a function that other
+files can name, one that only impls call, or a test; entries stay in the order in which they stand."""
 import pathlib
 import re
 import sys
@@ -87,18 +86,6 @@ def ordered(functions):
     return list(found.values())
 
 
-def misplaced(text):
-    """Returns the names of the functions of a file that stand above all functions of it that call them, and are no entries."""
-    functions = [item for item in items_of(text)[0] if item.function]
-    names = {each.name: each for each in functions}
-    first = {}
-    for place, each in enumerate(functions):
-        for name in each.calls(names):
-            first.setdefault(name, place)
-    inner = (each for each in functions if not each.is_test and not each.function["pub"])
-    return [each.name for each in inner if first.get(each.name, 0) > functions.index(each)]
-
-
 def in_order(text):
     """Returns the text of a file with its functions in order."""
     items, behind = items_of(text)
@@ -117,15 +104,14 @@ def main(writes):
     status = 0
     for file in sorted(TOP.glob("crates/*/src/**/*.rt")):
         text = file.read_text()
-        if file == LEFT_OUT:
+        if file == LEFT_OUT or (wanted := in_order(text)) == text:
             continue
-        if not writes:
-            for name in misplaced(text):
-                print(f"{file.relative_to(TOP)}: {name} stands above all that call it")
-                status = 1
-        elif (wanted := in_order(text)) != text:
-            assert sorted(wanted.split("\n")) == sorted(text.split("\n")), file
+        assert sorted(wanted.split("\n")) == sorted(text.split("\n")), file
+        if writes:
             file.write_text(wanted)
+        else:
+            print(f"{file.relative_to(TOP)}: the functions are in another order than `scripts/order.py` puts them in")
+            status = 1
     return status
 
 

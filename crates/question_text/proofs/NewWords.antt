@@ -1,6 +1,6 @@
 -- No line that asks a question is one of the grammar of sessions.
-use Rattle.std.proofs.Common.{◌≡◌, ◌∙◌, ap, ap₂, ℕ, suc, Bool, true, false, cond, List, [], ◌∷◌, Some, None, refl, sym, subst}
-use Rattle.std.specs.Prelude.{Option, codes, drop, find, length, nat_le, option_and_then, option_map, slice_index, take}
+use Rattle.std.proofs.Common.{◌≡◌, ◌∙◌, ap, ap₂, ℕ, Bool, true, false, cond, List, [], ◌∷◌, Some, None, refl, sym, subst}
+use Rattle.std.specs.Prelude.{Option, codes, drop, find, ◌&&◌, length, nat_le, nat_lt, option_and_then, option_map, slice_index, take}
 use Rattle.std.specs.List.{AllByRecursion}
 use Rattle.std.specs.Option.{option_or}
 use Rattle.std.specs.Str.{bytes_eq}
@@ -106,13 +106,13 @@ collect_new ws = refl
 collects_alone : (w : List ℕ) → bytes_eq w (codes "collect") ≡ true → command_of_words (w ∷ []) ≡ Bad
 collects_alone w e = let none = subst IsNew (sym ((bytes_eq-Decides w (codes "collect")).0 e)) collect_new [] in rw none refl
 
+none_either_way : (b : Bool) → ◌≡◌ {A = Option ℕ} (cond b None None) None
+none_either_way true = refl
+none_either_way false = refl
+
 no_number_after_at_sign : (v : List ℕ) → number_of_word (64 ∷ v) ≡ None
 unfolding number_of_word
-no_number_after_at_sign v = either (nat_le (suc (length v)) 20)
-  where
-    either : (b : Bool) → cond b (None {A = ℕ}) None ≡ None
-    either true = refl
-    either false = refl
+no_number_after_at_sign v = none_either_way (nat_lt 0 (length (64 ∷ v)) && nat_le (length (64 ∷ v)) 20)
 
 begins_with_at_sign : (w : List ℕ) → bytes_eq (take 1 w) (codes "@") ≡ true → number_of_word w ≡ None
 begins_with_at_sign [] e = absurd (cc e)

@@ -43,6 +43,7 @@ fn order_of_words(mut words: Words) -> Option<Order>
 }
 
 // Returns what a word asks to be done that stands alone.
+#[tactic(auto, unfolding(crate::specs::Orders::order_of_words))]
 fn collection_by(keyword: &[u8]) -> Option<Order>
     ensures { result ≡ order_of_words (keyword.now ∷ []) }
 {
@@ -65,9 +66,8 @@ fn way_back(word: &[u8]) -> Option<Order>
 pub(crate) fn rewind_to(machine: &mut Machine, place: u64) -> LineAnswer
     ensures { RewindsTo place machine.old (line_answer_text result) machine.new }
 {
-    let reply = match steps_ago(machine, Some(place)) {
-        Ok(count) => machine.act(&Action::Rewind(count)),
-        Err(refusal) => Reply::Refused(refusal),
-    };
-    LineAnswer::Known(reply)
+    match steps_ago(machine, Some(place)) {
+        Ok(count) => LineAnswer::Known(machine.act(&Action::Rewind(count))),
+        Err(refusal) => LineAnswer::Known(Reply::Refused(refusal)),
+    }
 }

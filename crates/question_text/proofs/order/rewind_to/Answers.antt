@@ -1,0 +1,17 @@
+use Rattle.std.proofs.Common.{◌∙◌, ℕ, refl, subst, sym}
+use Rattle.std.specs.Prelude.{Result}
+use Rattle.heap_class.specs.declared.Refusal.{Refusal}
+use Rattle.session_text.specs.Replies.{reply_text}
+use Rattle.question_text.specs.Moments.{refused_text}
+use Rattle.question_text.specs.Orders.{RewindsBy}
+use Rattle.question_text.proofs.order.rewind_to.Goals as goal
+
+pub returns-in-Ok : goal.returns-in-Ok
+returns-in-Ok c =
+    subst (λ (x : Result ℕ Refusal). RewindsBy x c.args.machine.now (reply_text c.act.result) c.act.new.self) (sym c.in-Ok.is ∙ c.steps_ago.ensures.steps)
+    (c.act.result, c.act.ensures.reply, refl)
+
+pub returns-in-Err : goal.returns-in-Err
+returns-in-Err c =
+    subst (λ (x : Result ℕ Refusal). RewindsBy x c.args.machine.now (refused_text c.in-Err.refusal) c.args.machine.now) (sym c.in-Err.is ∙ c.steps_ago.ensures.steps)
+    (refl, refl)

@@ -164,7 +164,10 @@ fn settings_from(task: Task, options: &ArgMatches<'_>) -> Result<Settings, Mista
     let Some(wide) = wide_from(options) else {
         return Err(Mistake::Wide);
     };
-    match settings_over(task, options, wide) {
+    let Some(quiet) = flag_from(options, "quiet") else {
+        return Err(Mistake::Quiet);
+    };
+    match settings_over(task, options, wide, quiet) {
         Ok(settings) => settings_with_area(settings, options),
         Err(mistake) => Err(mistake),
     }
@@ -185,11 +188,16 @@ fn wide_default(dump: bool) -> u64
     if dump { 1 } else { 0 }
 }
 
-// Returns the settings of a task's options over a heap that is wide, or isn't, without an area, or the option whose value is out of
-// its range.
-fn settings_over(task: Task, options: &ArgMatches<'_>, wide: bool) -> Result<Settings, Mistake>
+// Returns the settings of a task's options over a heap that is wide, or isn't, without an area, with progress shown or not, or the
+// option whose value is out of its range.
+fn settings_over(
+    task: Task,
+    options: &ArgMatches<'_>,
+    wide: bool,
+    quiet: bool,
+) -> Result<Settings, Mistake>
     requires { wide_in (rows_of (found_of options.now)) ≡ Some wide }
-    ensures { IsValueOrMistake (settings_over task (rows_of (found_of options.now)) wide)
+    ensures { IsValueOrMistake (settings_over task (rows_of (found_of options.now)) wide quiet)
         (λ m. IsMistakeIn m (rows_of (found_of options.now))) result }
 {
     let usual = regions_default(task, wide);
@@ -226,6 +234,7 @@ fn settings_over(task: Task, options: &ArgMatches<'_>, wide: bool) -> Result<Set
         ids,
         questions,
         rolls,
+        quiet,
     })
 }
 

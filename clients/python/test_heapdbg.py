@@ -802,6 +802,16 @@ class Refusals(unittest.TestCase):
             with self.refused(23, "Lost", "Rewound"):
                 heap.dump(pin)
 
+    def test_rewinds_to_a_place(self):
+        with session("--questions", "1") as heap:
+            heap.define_class("Node", NODE)
+            heap.new(0, 0, 0)
+            heap.new(0, 1, 0)
+            self.assertEqual(heap.rewind(Place(1)), 1)
+            with self.refused(24, "NotRetained"):
+                heap.rewind(Place(2))
+            self.assertEqual(heap.rewind(Place(1)), 1)
+
     def test_of_streams(self):
         heap = canned("no 1 NoMemory", "no 26 ChronicleFull", "data 4a41", "no 23 Lost Memory", "no 27 Unreachable", "no 28 NoObject")
         with self.refused(1, "NoMemory"):

@@ -1,6 +1,0 @@
-#!/bin/bash
-f=$1; log=$2; shift 2
-O=""
-for n in "$@"; do O="$O --only heap_server::$n"; done
-cd $f/crates/heap_server
-( time RLIBS=/work/rlibs-b JOBS=2 timeout 3400 /work/tools/chk $f/crates/heap_server $O ) > $log 2>&1

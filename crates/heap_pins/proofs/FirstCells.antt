@@ -1,11 +1,11 @@
 -- The first cell with a live object, region by region.
-use Rattle.std.proofs.Common.{◌≡◌, ◌≢◌, ◌⊎◌, ℕ, zero, suc, ◌+◌, ◌-◌, ◌*◌, ◌<◌, ◌≤◌, Bool, true, false, List, [], ◌∷◌, length, length-drop, drop, get_or, Option, Some, None, refl, sym, ap, subst, ◌∙◌, arith}
+use Rattle.std.proofs.Common.{◌≡◌, ◌≢◌, ℕ, ◌+◌, ◌-◌, ◌*◌, ◌<◌, ◌≤◌, Bool, true, List, [], length, length-drop, drop, get_or, Option, Some, None, refl, sym, ap, ◌∙◌, arith}
 use mathlib.Core.Logic.{inl, inr}
-use Rattle.std.specs.Prelude.{◌==◌, is_some, slice_index_or}
+use Rattle.std.specs.Prelude.{is_some, slice_index_or}
 use Rattle.std.proofs.lemmas.Bool.{cases_lt, eqb-true, eq-eqb}
 use Rattle.std.proofs.lemmas.List.{get_or-drop, get_or_past}
 use Rattle.heap_class.specs.declared.ObjRef.{ObjRef}
-use Rattle.heap_region.specs.Regions.{Object, UsedRegion, Region, cell_object, object_at, slot_object, used_at}
+use Rattle.heap_region.specs.Regions.{UsedRegion, Region, slot_object, used_at}
 use Rattle.heap_region.specs.RegionCopies.{Frozen}
 use Rattle.heap_region.proofs.ShownRegions.{object_of_used}
 use Rattle.heap_pins.specs.KeptRegions.{blank}
@@ -13,7 +13,7 @@ use Rattle.heap_pins.proofs.CopiedRegions.{is_not_none}
 use Rattle.heap_pins.proofs.OpenedPins.{zero_in_blank}
 use Rattle.memchr.specs.Find.{IsFirstByte, is_byte}
 use Rattle.heap_pins.specs.Pin.{PinContents, byte_in, cell_state, place, state_kept, state_seen}
-use Rattle.heap_pins.specs.States.{HasNone, IsFirstIn, IsFirstPlace, cell_of, cell_states, state_by, state_in_storage, storage_states}
+use Rattle.heap_pins.specs.States.{HasNone, IsFirstIn, IsFirstPlace, cell_of, state_by, state_in_storage, storage_states}
 use Rattle.heap_pins.proofs.CellStates.{copied_cell_has_its_byte, empty_cell_was_empty, free_cell_is_kept, nothing_was_nothing, place_of_number_by_cell}
 
 -- what has the same states has the same first cell

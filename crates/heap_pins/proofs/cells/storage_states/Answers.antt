@@ -1,4 +1,4 @@
-use Rattle.std.proofs.Common.{◌≡◌, ◌∙◌, ap, arith, length, slice_index_or}
+use Rattle.std.proofs.Common.{◌∙◌, ap, arith, length, slice_index_or}
 use Rattle.std.proofs.lemmas.List.{get_or-set_other}
 use Rattle.heap_pins.specs.States.{storage_states}
 use Rattle.heap_pins.proofs.AddedCopies.{states_of_all_cells}

@@ -1,4 +1,4 @@
-use Rattle.std.proofs.Common.{◌≡◌, ◌<◌, ◌-◌, ◌∙◌, [], None, Some, length, suc, sym, ap, arith, slice_index_or}
+use Rattle.std.proofs.Common.{◌≡◌, ◌<◌, ◌-◌, ◌∙◌, [], length, suc, sym, ap, arith, slice_index_or}
 use Rattle.std.proofs.lemmas.List.{get_or_read, length-map}
 use Rattle.heap_pins.specs.KeptRegions.{KeptContents}
 use Rattle.heap_pins.specs.Slots.{copy_in}

@@ -1,4 +1,4 @@
-use Rattle.std.proofs.Common.{◌≡◌, ◌<◌, ◌∙◌, None, false, length, ap, arith, slice_index_or}
+use Rattle.std.proofs.Common.{◌<◌, ◌∙◌, None, false, length, ap, arith, slice_index_or}
 use Rattle.std.specs.Prelude.{is_some}
 use Rattle.std.specs.Vec.{vec_capacity}
 use Rattle.std.proofs.lemmas.List.{get_or_read, length-map}

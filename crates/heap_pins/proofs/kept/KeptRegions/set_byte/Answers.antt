@@ -1,10 +1,10 @@
-use Rattle.std.proofs.Common.{◌≡◌, ◌<◌, ◌∙◌, [], None, Some, length, map, sym, ap, arith, slice_index_or}
+use Rattle.std.proofs.Common.{◌≡◌, ◌<◌, ◌∙◌, [], None, length, map, sym, ap, arith, slice_index_or}
 use Rattle.std.specs.Prelude.{slice_set}
 use Rattle.std.specs.Vec.{vec_capacity}
 use Rattle.std.proofs.lemmas.List.{length-map}
 use Rattle.heap_pins.specs.KeptRegions.{KeptContents}
 use Rattle.heap_pins.specs.Slots.{bytes_in, copy_in}
-use Rattle.heap_pins.proofs.SlotTables.{item_is_kept_of_region, item_is_read, item_is_written, same_bytes_are_written, same_copy_is_written, written_table_is_table}
+use Rattle.heap_pins.proofs.SlotTables.{item_is_kept_of_region, item_is_read, item_is_written, same_copy_is_written, written_table_is_table}
 use Rattle.heap_pins.proofs.kept.KeptRegions.set_byte.Goals as goal
 
 pub returns : goal.returns

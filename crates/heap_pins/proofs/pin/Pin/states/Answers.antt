@@ -1,9 +1,7 @@
-use Rattle.std.proofs.Common.{◌≡◌, ◌∙◌, [], refl, false, sym, ap, subst}
+use Rattle.std.proofs.Common.{◌∙◌, [], refl, sym, subst}
 use Rattle.heap_region.specs.Pool.{RegionPool}
 use Rattle.std.specs.Prelude.{slice_index_or}
-use Rattle.heap_pins.specs.KeptCopies.{has_copy}
-use Rattle.heap_pins.specs.Pin.{PinContents}
-use Rattle.heap_pins.specs.States.{AreOf, AreSettled, cell_states}
+use Rattle.heap_pins.specs.States.{AreOf, cell_states}
 use Rattle.heap_pins.proofs.AddedCopies.{copied_bytes_are_seen, settled_states_are_seen}
 use Rattle.heap_pins.proofs.pin.Pin.states.Goals as goal
 

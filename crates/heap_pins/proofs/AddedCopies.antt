@@ -1,9 +1,9 @@
 -- A pin with a copy more.
-use Rattle.std.proofs.Common.{◌≡◌, ◌≢◌, ◌⊎◌, ℕ, zero, suc, ◌+◌, ◌<◌, Bool, true, false, List, [], ◌∷◌, length, drop, set, Option, Some, None, IsSome, IfSome, refl, sym, ap, subst, ◌∙◌, arith, length-set}
+use Rattle.std.proofs.Common.{◌≡◌, ◌≢◌, ◌⊎◌, ℕ, zero, suc, ◌+◌, ◌<◌, ◌≤◌, Bool, true, false, List, [], ◌∷◌, length, drop, set, Option, Some, None, IsSome, IfSome, refl, sym, ap, subst, ◌∙◌, arith, length-set}
 use mathlib.Core.Logic.{inl, inr}
 use Rattle.std.specs.Prelude.{◌==◌, slice_index_or, option_map, Result, Ok, Err, OnErr, if◌then◌else◌}
-use Rattle.std.proofs.lemmas.Bool.{eq-eqb, ne_eqb}
-use Rattle.std.proofs.lemmas.List.{get_or-set_same, get_or-set_other, set-set}
+use Rattle.std.proofs.lemmas.Bool.{cases_lt, eq-eqb, ne_eqb}
+use Rattle.std.proofs.lemmas.List.{get_or_past, get_or-set_same, get_or-set_other, set-set}
 use Rattle.heap_class.specs.declared.ObjRef.{ObjRef}
 use Rattle.heap_region.specs.Regions.{Object, UsedRegion, Region, FitsWords, object_at, used_at, cell_object, slot_object}
 use Rattle.heap_region.specs.Layout.{words_of}
@@ -97,6 +97,19 @@ settled_states_are_seen p regions r bytes old states free a s e = record {
   each = λ c lt. s.each c lt ∙ (λ i. state_kept p.ended (slice_index_or (e i) c 0) (a.each c lt i)) ∙ sym (free_cell_is_kept p regions (cell_of r c) (not_some_copy_is_none (slice_index_or p.copies r None) free));
 }
 
+-- where nothing is kept of the region
+pub live_states_are_settled : (ended : Bool) (bytes old states : List ℕ) → ended ≡ true → bytes ≡ blank → length states ≡ length old → ((k : ℕ) → slice_index_or states k 0 ≡ (if slice_index_or old k 0 == 0 then 0 else 1)) → AreSettled ended bytes old states
+live_states_are_settled ended bytes old states is nothing count each = record {
+  count = count;
+  each = λ c lt. each c ∙ sym (λ i. state_kept (is i) ((ap (λ l. slice_index_or l c 0) nothing ∙ zero_in_blank c) i) (slice_index_or old c 0));
+}
+
+pub states_are_settled : (ended : Bool) (bytes states : List ℕ) → ended ≡ false → bytes ≡ blank → AreSettled ended bytes states states
+states_are_settled ended bytes states is nothing = record {
+  count = refl;
+  each = λ c lt. sym (λ i. state_kept (is i) ((ap (λ l. slice_index_or l c 0) nothing ∙ zero_in_blank c) i) (slice_index_or states c 0));
+}
+
 -- the bytes of a region with a copy are its states
 pub copied_bytes_are_seen : (p : PinContents) (regions : List Region) (r : ℕ) (bytes : List ℕ) → has_copy r p ≡ true → length bytes ≡ 256 → bytes ≡ slice_index_or p.cells r [] → AreOf (state_seen p regions) r 256 bytes
 copied_bytes_are_seen p regions r bytes some count e = go (slice_index_or p.copies r None) refl
@@ -107,6 +120,16 @@ copied_bytes_are_seen p regions r bytes some count e = go (slice_index_or p.copi
       count = count;
       each = λ c lt. ap (λ l. slice_index_or l c 0) e ∙ sym (copied_cell_has_its_byte p regions (cell_of r c) f is);
     }
+
+-- the states of its cells are those of all 256
+pub states_of_all_cells : (u : UsedRegion) (r n : ℕ) (states : List ℕ) → length u.cells ≤ n → AreOf (storage_states u) r n states → ((c : ℕ) → n ≤ c → slice_index_or states c 0 ≡ 0) → AreOf (storage_states u) r 256 states
+states_of_all_cells u r n states past a others = record {
+  count = a.count;
+  each = λ c lt. elim (cases_lt c n) [
+    | inl less ↦ a.each c less
+    | inr more ↦ others c more ∙ sym (ap cell_state (get_or_past u.cells c None (omega (arith, past, more))))
+  ];
+}
 
 -- the states of a region in use, and of one that is not
 pub states_of_region_in_use : (regions : List Region) (r : ℕ) (u : UsedRegion) (bytes : List ℕ) → used_at regions r ≡ Some u → AreOf (storage_states u) r 256 bytes → AreOf (cell_states regions) r 256 bytes

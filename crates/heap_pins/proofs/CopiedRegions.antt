@@ -1,7 +1,7 @@
 -- What a pin copies is the region as it was before the step.
-use Rattle.std.proofs.Common.{◌≡◌, ◌⊎◌, ℕ, zero, suc, ◌≤◌, Bool, true, false, List, [], ◌∷◌, length, set, fold, Option, Some, None, refl, sym, ap, subst, ◌∙◌, arith, length-set}
+use Rattle.std.proofs.Common.{◌≡◌, ◌⊎◌, ℕ, zero, suc, ◌≤◌, true, false, List, [], ◌∷◌, length, set, fold, Option, Some, None, refl, sym, ap, subst, ◌∙◌, arith}
 use mathlib.Core.Logic.{inl, inr}
-use Rattle.std.specs.Prelude.{slice_index_or, slice_set, option_map, is_some}
+use Rattle.std.specs.Prelude.{slice_set, option_map, is_some}
 use Rattle.heap_class.specs.declared.ObjRef.{ObjRef}
 use Rattle.heap_region.specs.Regions.{Object, UsedRegion, Region, InUse, used_at, with_object, with_word, updated}
 use Rattle.heap_region.specs.Layout.{word_set}

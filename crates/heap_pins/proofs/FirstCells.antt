@@ -1,11 +1,11 @@
 -- The first cell with a live object, region by region.
-use Rattle.std.proofs.Common.{◌≡◌, ◌≢◌, ◌⊎◌, ℕ, zero, suc, ◌+◌, ◌-◌, ◌*◌, ◌<◌, ◌≤◌, Bool, true, false, List, [], ◌∷◌, length, length-drop, drop, get_or, Option, Some, None, refl, sym, ap, subst, ◌∙◌, arith}
+use Rattle.std.proofs.Common.{◌≡◌, ◌≢◌, ℕ, ◌+◌, ◌-◌, ◌*◌, ◌<◌, ◌≤◌, Bool, true, List, [], length, length-drop, drop, get_or, Option, Some, None, refl, sym, ap, ◌∙◌, arith}
 use mathlib.Core.Logic.{inl, inr}
-use Rattle.std.specs.Prelude.{◌==◌, is_some, slice_index_or}
+use Rattle.std.specs.Prelude.{is_some, slice_index_or}
 use Rattle.std.proofs.lemmas.Bool.{cases_lt, eqb-true, eq-eqb}
 use Rattle.std.proofs.lemmas.List.{get_or-drop, get_or_past}
 use Rattle.heap_class.specs.declared.ObjRef.{ObjRef}
-use Rattle.heap_region.specs.Regions.{Object, UsedRegion, Region, cell_object, object_at, slot_object, used_at}
+use Rattle.heap_region.specs.Regions.{UsedRegion, Region, slot_object, used_at}
 use Rattle.heap_region.specs.RegionCopies.{Frozen}
 use Rattle.heap_region.proofs.ShownRegions.{object_of_used}
 use Rattle.heap_pins.specs.KeptRegions.{blank}
@@ -13,7 +13,7 @@ use Rattle.heap_pins.proofs.CopiedRegions.{is_not_none}
 use Rattle.heap_pins.proofs.OpenedPins.{zero_in_blank}
 use Rattle.memchr.specs.Find.{IsFirstByte, is_byte}
 use Rattle.heap_pins.specs.Pin.{PinContents, byte_in, cell_state, place, state_kept, state_seen}
-use Rattle.heap_pins.specs.States.{HasNone, IsFirstIn, IsFirstPlace, cell_of, cell_states, state_in_storage, storage_states}
+use Rattle.heap_pins.specs.States.{HasNone, IsFirstIn, IsFirstPlace, cell_of, state_by, state_in_storage, storage_states}
 use Rattle.heap_pins.proofs.CellStates.{copied_cell_has_its_byte, empty_cell_was_empty, free_cell_is_kept, nothing_was_nothing, place_of_number_by_cell}
 
 -- what has the same states has the same first cell
@@ -53,26 +53,34 @@ none_in_unused_region p regions r from none unused = λ c low lt e. zero_is_not_
     zero_is_not_one e = omega (arith, e)
 
 -- past the cells of a region there is nothing
-pub none_past_cells : (p : PinContents) (u : UsedRegion) (r c : ℕ) → length u.cells ≤ c → state_in_storage p u (cell_of r c) ≢ 1
-none_past_cells p u r c past e = absurd (omega (arith, e, ap (λ o. state_kept p.ended (byte_in p.cells (cell_of r c)) (cell_state o)) (get_or_past u.cells c None past) ∙ nothing_was_nothing p.ended (byte_in p.cells (cell_of r c))))
+pub none_past_cells : (ended : Bool) (bytes : List ℕ) (u : UsedRegion) (r c : ℕ) → length u.cells ≤ c → state_by ended bytes u (cell_of r c) ≢ 1
+none_past_cells ended bytes u r c past e = absurd (omega (arith, e, ap (λ o. state_kept ended (slice_index_or bytes c 0) (cell_state o)) (get_or_past u.cells c None past) ∙ nothing_was_nothing ended (slice_index_or bytes c 0)))
 
 -- a search of the cells of a region in use
-pub first_of_storage : (p : PinContents) (u : UsedRegion) (r from c s : ℕ) → from ≤ c → c < 256 → HasNone (state_in_storage p u) r from c → s ≡ state_in_storage p u (cell_of r c) → s ≡ 1 → IsFirstIn (state_in_storage p u) r from (Some c)
+pub first_of_storage : (f : ObjRef → ℕ) (r from c s : ℕ) → from ≤ c → c < 256 → HasNone f r from c → s ≡ f (cell_of r c) → s ≡ 1 → IsFirstIn f r from (Some c)
 unfolding IsFirstIn
-first_of_storage p u r from c s low few none is one = (low, few, sym is ∙ one, none)
+first_of_storage f r from c s low few none is one = (low, few, sym is ∙ one, none)
 
-pub none_of_storage_goes_on : (p : PinContents) (u : UsedRegion) (r from c s : ℕ) → HasNone (state_in_storage p u) r from c → s ≡ state_in_storage p u (cell_of r c) → s ≢ 1 → HasNone (state_in_storage p u) r from (c + 1)
-none_of_storage_goes_on p u r from c s none is other i low lt e = elim (cases_lt i c) [
+pub none_of_storage_goes_on : (f : ObjRef → ℕ) (r from c s : ℕ) → HasNone f r from c → s ≡ f (cell_of r c) → s ≢ 1 → HasNone f r from (c + 1)
+none_of_storage_goes_on f r from c s none is other i low lt e = elim (cases_lt i c) [
   | inl less ↦ none i low less e
-  | inr past ↦ other (is ∙ ap (λ j. state_in_storage p u (cell_of r j)) (let same : c ≡ i = omega (arith, past, lt) in same) ∙ e)
+  | inr past ↦ other (is ∙ ap (λ j. f (cell_of r j)) (let same : c ≡ i = omega (arith, past, lt) in same) ∙ e)
 ]
 
-pub none_of_storage : (p : PinContents) (u : UsedRegion) (r from c : ℕ) → length u.cells ≤ c → HasNone (state_in_storage p u) r from c → IsFirstIn (state_in_storage p u) r from None
+pub none_of_storage : (ended : Bool) (bytes : List ℕ) (u : UsedRegion) (r from c : ℕ) → length u.cells ≤ c → HasNone (state_by ended bytes u) r from c → IsFirstIn (state_by ended bytes u) r from None
 unfolding IsFirstIn
-none_of_storage p u r from c past none i low lt e = elim (cases_lt i c) [
+none_of_storage ended bytes u r from c past none i low lt e = elim (cases_lt i c) [
   | inl less ↦ none i low less e
-  | inr more ↦ none_past_cells p u r i (omega (arith, past, more)) e
+  | inr more ↦ none_past_cells ended bytes u r i (omega (arith, past, more)) e
 ]
+
+-- what was found by the bytes is what the pin shows
+pub first_by_bytes : (p : PinContents) (u : UsedRegion) (r from : ℕ) (bytes : List ℕ) (x : Option ℕ) → slice_index_or p.cells r [] ≡ bytes → IsFirstIn (state_by p.ended bytes u) r from x → IsFirstIn (state_in_storage p u) r from x
+first_by_bytes p u r from bytes x is h = first_in_same_states (state_by p.ended bytes u) (state_in_storage p u) r from x (λ c lt. ap (λ l. state_kept p.ended (slice_index_or l c 0) (storage_states u (cell_of r c))) (sym is)) h
+
+pub first_by_no_bytes : (p : PinContents) (u : UsedRegion) (r from : ℕ) (x : Option ℕ) → slice_index_or p.cells r [] ≡ blank → IsFirstIn (state_by p.ended [] u) r from x → IsFirstIn (state_in_storage p u) r from x
+first_by_no_bytes p u r from x is h = first_in_same_states (state_by p.ended [] u) (state_in_storage p u) r from x
+    (λ c lt. ap (λ b. state_kept p.ended b (storage_states u (cell_of r c))) (sym (ap (λ l. slice_index_or l c 0) is ∙ zero_in_blank c))) h
 
 -- the cell that a search from one on found
 unfoldable pub go_on : ℕ → Option ℕ → Option ℕ

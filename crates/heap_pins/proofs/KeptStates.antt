@@ -1,12 +1,12 @@
 -- A pin that keeps what a step did goes on showing the state of each cell.
-use Rattle.std.proofs.Common.{◌≡◌, ◌≢◌, ◌⊎◌, ℕ, ◌<◌, ◌≤◌, Bool, true, false, ◌&&◌, List, [], ◌∷◌, length, length-set, set, get_or, replicate, Option, Some, None, refl, sym, ap, subst, ◌∙◌, arith}
+use Rattle.std.proofs.Common.{◌≡◌, ◌≢◌, ◌⊎◌, ℕ, ◌<◌, ◌≤◌, Bool, true, false, List, [], length, length-set, set, get_or, replicate, Option, Some, None, refl, sym, ap, subst, ◌∙◌, arith}
 use mathlib.Core.Logic.{inl, inr}
-use Rattle.std.specs.Prelude.{◌==◌, is_some, slice_index_or, slice_set, option_map, if◌then◌else◌}
+use Rattle.std.specs.Prelude.{is_some, slice_index_or, option_map, if◌then◌else◌}
 use Rattle.std.proofs.lemmas.List.{get_or-set_same, get_or-set_other, get_or-replicate, length-replicate, set_past}
 use Rattle.std.proofs.lemmas.Bool.{cases_lt, eq-eqb, ne_eqb}
 use Rattle.heap_class.specs.declared.ObjRef.{ObjRef}
-use Rattle.heap_region.specs.Regions.{Object, UsedRegion, Region}
-use Rattle.heap_region.specs.RegionCopies.{Frozen, frozen, region_frozen}
+use Rattle.heap_region.specs.Regions.{Region}
+use Rattle.heap_region.specs.RegionCopies.{Frozen, region_frozen}
 use Rattle.heap_region.proofs.ChangedLookups.{same_or_not}
 use Rattle.heap_world.specs.State.{HeapState}
 use Rattle.heap_step.specs.declared.Undo.{Undo}
@@ -15,13 +15,13 @@ use Rattle.heap_step.specs.Records.{undone}
 use Rattle.heap_pins.specs.KeptCopies.{touched, patched, copy_for, with_copy, kept_at, has_copy, states_before_step, kept_if, bytes_with, with_byte, kept}
 use Rattle.heap_pins.specs.Pin.{PinContents, byte_in, state_seen, states_of_region}
 use Rattle.heap_pins.specs.Shows.{AreCells}
-use Rattle.heap_pins.specs.States.{cell_of, cell_states}
-use Rattle.heap_pins.specs.Walk.{same_place, states_before}
-use Rattle.heap_pins.proofs.CellStates.{length_states, state_in_region, byte_of_other_region, byte_of_written_region, same_cell_same_state, same_pin_same_state, copied_state_is_everywhere, ShowsCell, unchanged_cell_is_shown, copied_cell_is_shown, taken_cell_is_shown, ended_cell_is_shown}
+use Rattle.heap_pins.specs.States.{cell_states}
+use Rattle.heap_pins.specs.Walk.{states_before}
+use Rattle.heap_pins.proofs.CellStates.{state_in_region, byte_of_other_region, byte_of_written_region, same_cell_same_state, same_pin_same_state, copied_state_is_everywhere, ShowsCell, unchanged_cell_is_shown, copied_cell_is_shown, taken_cell_is_shown, ended_cell_is_shown}
 use Rattle.heap_pins.proofs.CopiedRegions.{copy_covers, not_some_copy_is_none}
 use Rattle.heap_pins.proofs.CoveringCopies.{covered_by_none_is_none}
 use Rattle.heap_pins.proofs.Others.{undoing_keeps_region_count}
-use Rattle.heap_pins.proofs.RecordCases.{by_region, equal_options_name_same_region, record_that_touches_no_region}
+use Rattle.heap_pins.proofs.RecordCases.{by_region, record_that_touches_no_region}
 use Rattle.heap_pins.proofs.States.{cell_states_before_elsewhere, cell_states_stay_elsewhere, no_state_past_the_list, no_state_without_copy, equal_places_are_same_place, unequal_places_not_same_place}
 
 -- ---- 256 bytes for each region

@@ -1,5 +1,5 @@
 -- What a pin makes of a step is what it has to keep of it.
-use Rattle.std.proofs.Common.{◌≡◌, ℕ, ◌<◌, Bool, true, false, List, Option, Some, None, refl, sym, ap, ◌∙◌}
+use Rattle.std.proofs.Common.{◌≡◌, ℕ, Bool, true, false, List, Option, None, refl, sym, ap, ◌∙◌}
 use Rattle.std.specs.Prelude.{slice_index_or, Result, Ok, Err, OnOk, if◌then◌else◌}
 use Rattle.std.proofs.lemmas.Bool.{eq-eqb}
 use Rattle.heap_class.specs.declared.ObjRef.{ObjRef}
@@ -8,11 +8,11 @@ use Rattle.heap_region.specs.RegionCopies.{Frozen}
 use Rattle.heap_world.specs.State.{HeapState}
 use Rattle.heap_step.specs.declared.Event.{Event}
 use Rattle.heap_step.specs.declared.Undo.{Undo}
-use Rattle.heap_step.specs.declared.Undo.TheVariants.{Put, Store, Reg, New, Class, Snap, Mark, Drain, Finish, Sweep, Reclaim}
-use Rattle.heap_step.specs.Laws.{IsStep, IsTakenBack}
+use Rattle.heap_step.specs.declared.Undo.TheVariants.{Put, Store, New, Finish, Sweep, Reclaim}
+use Rattle.heap_step.specs.Laws.{IsStep}
 use Rattle.heap_step.specs.Records.{undone}
-use Rattle.heap_pins.specs.KeptCopies.{copy_for, has_copy, kept, kept_at, kept_if, patched, states_before_step, touched, with_dead}
-use Rattle.heap_pins.specs.Pin.{PinContents, byte_in, cell_state, state_kept, state_seen, states_of_region}
+use Rattle.heap_pins.specs.KeptCopies.{copy_for, has_copy, kept, kept_at, kept_if, patched, states_before_step, touched}
+use Rattle.heap_pins.specs.Pin.{PinContents, byte_in, state_kept, state_seen, states_of_region}
 use Rattle.heap_pins.specs.States.{cell_of, cell_states, kept_dead, kept_region, kept_word, states_by, storage_states}
 use Rattle.heap_pins.specs.Walk.{states_before}
 use Rattle.heap_pins.proofs.CellStates.{free_cell_is_kept, same_states_same_list}

@@ -1,12 +1,11 @@
 -- A pin that was just opened shows the state as it is.
-use Rattle.std.proofs.Common.{◌≡◌, ℕ, zero, suc, ◌<◌, Bool, false, List, [], length, replicate, get_or, Option, None, refl, sym, ap, ◌∙◌, arith}
+use Rattle.std.proofs.Common.{◌≡◌, ℕ, zero, suc, false, List, [], length, replicate, get_or, Option, None, refl, ap, ◌∙◌}
 use Rattle.std.specs.Prelude.{slice_index_or}
 use Rattle.std.proofs.lemmas.List.{get_or-replicate, length-replicate}
-use Rattle.heap_class.specs.declared.ObjRef.{ObjRef}
 use Rattle.heap_region.specs.RegionCopies.{Frozen, region_frozen}
 use Rattle.heap_world.specs.State.{HeapState}
 use Rattle.heap_pins.specs.KeptRegions.{blank}
-use Rattle.heap_pins.specs.Pin.{PinContents, byte_in, copy_or_now, region_seen, state_kept, state_seen}
+use Rattle.heap_pins.specs.Pin.{PinContents, byte_in, copy_or_now, region_seen, state_kept}
 use Rattle.heap_pins.specs.Shows.{AreCells, ShowsState}
 use Rattle.heap_pins.specs.States.{cell_states}
 use Rattle.heap_pins.proofs.CellStates.{free_cell_is_kept}

@@ -1,9 +1,9 @@
 -- The table of what is kept: an item is added or written.
-use Rattle.std.proofs.Common.{◌≡◌, ◌≢◌, ◌⊎◌, ℕ, zero, suc, ◌+◌, ◌<◌, ◌≤◌, List, [], ◌∷◌, ◌++◌, length, length-set, map, set, get_or, replicate, Option, Some, None, refl, sym, ap, subst, ◌∙◌, arith}
+use Rattle.std.proofs.Common.{◌≡◌, ◌≢◌, ◌⊎◌, ℕ, zero, suc, Bool, false, ◌+◌, ◌<◌, ◌≤◌, List, [], ◌∷◌, ◌++◌, length, length-set, map, set, get_or, replicate, Option, Some, None, refl, sym, ap, subst, ◌∙◌, arith}
 use mathlib.Core.Logic.{inl, inr}
-use Rattle.std.specs.Prelude.{slice_get}
+use Rattle.std.specs.Prelude.{is_some, slice_get}
 use Rattle.std.proofs.lemmas.Bool.{cases_lt}
-use Rattle.std.proofs.lemmas.List.{ext_get_or, length-append, get_or-set_same, get_or-set_other, get_or_past, length-map, length-replicate, set-get_or}
+use Rattle.std.proofs.lemmas.List.{ext_get_or, length-append, get_or-set_same, get_or-set_other, get_or_past, length-map, length-replicate, map-set, set-get_or}
 use Rattle.std.proofs.Math.ListN.{get_or-map}
 use Rattle.heap_region.proofs.References.{get_set_other}
 use Rattle.heap_class.specs.declared.ObjRef.{ObjRef}
@@ -12,7 +12,7 @@ use Rattle.heap_region.proofs.ChangedLookups.{same_or_not}
 use Rattle.heap_pins.specs.declared.kept.KeptRegion.{KeptRegion}
 use Rattle.heap_pins.specs.KeptRegions.{IsRevivedTable, KeptContents, blank, byte_revived, nothing_kept}
 use Rattle.heap_pins.specs.Pin.{byte_in}
-use Rattle.heap_pins.specs.Slots.{AreRevived, AreSlots, IsItemRevived, IsSlotFor, bytes_in, copy_in, count_used, item_at, item_bytes, item_copy}
+use Rattle.heap_pins.specs.Slots.{AreRevived, AreSlots, IsItemRevived, IsSlotFor, IsTable, bytes_in, copy_in, count_used, item_at, item_bytes, item_copy}
 
 -- ---- how many numbers are used
 
@@ -341,3 +341,51 @@ all_items_are_revived old kept i le count done = record {
     no_item_past [] j le = refl
     no_item_past (k ∷ items) zero le = absurd (omega (arith, le))
     no_item_past (k ∷ items) (suc j) le = no_item_past items j (omega (arith, le))
+
+-- ---- the flags
+
+pub flags_are_as_many : (copied : List Bool) (slots : List ℕ) (kept : List KeptRegion) (room : ℕ) → IsTable copied slots kept room → length copied ≡ length slots
+flags_are_as_many copied slots kept room t = ap length t.flags ∙ length-map (map (copy_in kept) slots) is_some ∙ length-map slots (copy_in kept)
+
+pub flag_tells : (copied : List Bool) (slots : List ℕ) (kept : List KeptRegion) (room r : ℕ) → IsTable copied slots kept room → get_or copied r false ≡ is_some (get_or (map (copy_in kept) slots) r None)
+flag_tells copied slots kept room r t = ap (λ l. get_or l r false) t.flags ∙ get_or-map is_some (map (copy_in kept) slots) r None
+
+pub flag_is_set : (copied : List Bool) (copies : List (Option Frozen)) (r : ℕ) (c : Option Frozen) → copied ≡ map is_some copies → set copied r (is_some c) ≡ map is_some (set copies r c)
+flag_is_set copied copies r c is = ap (λ l. set l r (is_some c)) is ∙ sym (map-set is_some copies r c)
+
+-- nothing is flagged at first
+pub no_flags_at_first : (n : ℕ) → replicate n false ≡ map is_some (map (copy_in []) (replicate n 0))
+no_flags_at_first n = sym (ap (map is_some) (seen_in_nothing item_copy n) ∙ none_are_flagged n)
+  where
+    none_are_flagged : (n : ℕ) → map is_some (replicate {A = Option Frozen} n None) ≡ replicate n false
+    none_are_flagged zero = refl
+    none_are_flagged (suc n) = ap (λ l. false ∷ l) (none_are_flagged n)
+
+-- an item is written, and its copy stays
+pub written_table_is_table : (copied : List Bool) (old : List ℕ) (before : List KeptRegion) (slots : List ℕ) (kept : List KeptRegion) (room r i : ℕ) (y : KeptRegion) → copied ≡ map is_some (map (copy_in before) old) → AreSlots slots kept room → r < length slots → IsSlotFor old before slots kept r i
+    → get_or (map (copy_in before) old) r None ≡ y.copy → IsTable copied slots (set kept i y) room
+written_table_is_table copied old before slots kept room r i y is t lt s same = record {
+  table = written_slots_are_slots slots kept room i y t;
+  flags = is ∙ sym (ap (map is_some) (ap (λ (k : KeptContents). k.copies) (item_is_written old before slots kept room r i y t lt s) ∙ same_copy_is_written (map (copy_in before) old) r y.copy same));
+}
+
+-- an item is written, and the region's flag
+pub flagged_table_is_table : (copied : List Bool) (old : List ℕ) (before : List KeptRegion) (slots : List ℕ) (kept : List KeptRegion) (room r i : ℕ) (y : KeptRegion) (b : Bool) → copied ≡ map is_some (map (copy_in before) old) → AreSlots slots kept room → r < length slots → IsSlotFor old before slots kept r i
+    → is_some y.copy ≡ b → IsTable (set copied r b) slots (set kept i y) room
+flagged_table_is_table copied old before slots kept room r i y b is t lt s same = record {
+  table = written_slots_are_slots slots kept room i y t;
+  flags = ap (set copied r) (sym same) ∙ flag_is_set copied (map (copy_in before) old) r y.copy is ∙ sym (ap (map is_some) (ap (λ (k : KeptContents). k.copies) (item_is_written old before slots kept room r i y t lt s)));
+}
+
+-- all objects of the regions with a copy are live
+pub revived_table_is_table : (copied : List Bool) (slots : List ℕ) (kept more : List KeptRegion) (room : ℕ) → IsTable copied slots kept room → AreRevived kept more → IsTable copied slots more room
+revived_table_is_table copied slots kept more room t h = record {
+  table = record {
+    few = t.table.few;
+    room = t.table.room;
+    count = h.count ∙ t.table.count;
+    within = λ q. omega (arith, t.table.within q, h.count);
+    apart = t.table.apart;
+  };
+  flags = t.flags ∙ ap (map is_some) (sym (revived_items_are_seen kept more slots h).copies);
+}

@@ -4,7 +4,7 @@ use Rattle.std.specs.Prelude.{nat_lt, slice_index_or, option_map}
 use Rattle.std.proofs.lemmas.Bool.{ltb-true}
 use Rattle.std.proofs.lemmas.Option.{slice_get_within}
 use Rattle.heap_class.specs.declared.ObjRef.{ObjRef}
-use Rattle.heap_region.specs.Regions.{Object, UsedRegion, Region, used_at, object_at, cell_object, slot_object}
+use Rattle.heap_region.specs.Regions.{Object, UsedRegion, used_at, object_at, cell_object, slot_object}
 use Rattle.heap_region.specs.Layout.{words_of}
 use Rattle.heap_region.specs.RegionCopies.{Frozen, frozen, frozen_words, region_frozen}
 use Rattle.heap_region.proofs.ShownRegions.{object_of_used}

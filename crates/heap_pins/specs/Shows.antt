@@ -1,5 +1,5 @@
 -- Pins that show a state.
-use Rattle.std.specs.Prelude.{◌≡◌, ◌⊎◌, ℕ, zero, suc, ◌*◌, ◌<◌, length, take, List, [], ◌∷◌, Option, Some, None, IsSome, slice_index_or}
+use Rattle.std.specs.Prelude.{◌≡◌, ◌⊎◌, ℕ, zero, suc, ◌<◌, length, take, List, [], ◌∷◌, Option, Some, None, IsSome, slice_index_or}
 use Rattle.heap_class.specs.declared.ObjRef.{ObjRef}
 use Rattle.heap_region.specs.Regions.{Object, Region, FitsWords, object_at}
 use Rattle.heap_region.specs.RegionCopies.{Frozen, frozen_object, region_frozen}

@@ -1,5 +1,5 @@
 -- The table of what is kept: for each region a number, 0 for nothing and suc i for the item of index i.
-use Rattle.std.specs.Prelude.{◌≡◌, ◌⊎◌, ◌<◌, ◌≤◌, ◌==◌, ℕ, zero, suc, List, [], ◌∷◌, length, map, Option, Some, None, slice_get, slice_index_or, if◌then◌else◌}
+use Rattle.std.specs.Prelude.{◌≡◌, ◌⊎◌, ◌<◌, ◌≤◌, ◌==◌, ℕ, zero, suc, Bool, List, [], ◌∷◌, length, map, Option, Some, None, is_some, slice_get, slice_index_or, if◌then◌else◌}
 use Rattle.heap_region.specs.Limits.{region_limit}
 use Rattle.heap_region.specs.RegionCopies.{Frozen}
 use Rattle.heap_pins.specs.KeptRegions.{blank, byte_revived}
@@ -42,6 +42,11 @@ pub record AreSlots (slots : List ℕ) (kept : List KeptRegion) (capacity : ℕ)
   pub within : (r : ℕ) → slice_index_or slots r 0 ≤ length kept
   pub apart : (q r : ℕ) → slice_index_or slots q 0 ≡ slice_index_or slots r 0
       → (slice_index_or slots r 0 ≡ 0) ⊎ (q ≡ r)
+
+-- each region's flag tells whether it has a copy
+pub record IsTable (copied : List Bool) (slots : List ℕ) (kept : List KeptRegion) (capacity : ℕ) : Type 0 where
+  pub table : AreSlots slots kept capacity
+  pub flags : copied ≡ map is_some (map (copy_in kept) slots)
 
 -- the numbers and items after a change show the same copies and bytes, and the number of region r leads to item i
 pub record IsSlotFor (old : List ℕ) (before : List KeptRegion) (slots : List ℕ)

@@ -53,6 +53,11 @@ state_with_dead p w r dead = states_by p (states_before (Sweep r dead) (cell_sta
 abbrev pub storage_states : UsedRegion → ObjRef → ℕ
 storage_states storage at = cell_state (cell_object storage at.cell)
 
+-- the states that a pin shows of the cells of a region in use without a copy, by their bytes
+abbrev pub state_by : Bool → List ℕ → UsedRegion → ObjRef → ℕ
+state_by ended bytes storage at =
+    state_kept ended (slice_index_or bytes at.cell 0) (storage_states storage at)
+
 -- the states in a region that was moved out
 abbrev pub state_in_storage : PinContents → UsedRegion → ObjRef → ℕ
 state_in_storage p storage = states_by p (storage_states storage)

@@ -1,12 +1,11 @@
 -- Pins that were walked back to a past state.
-use Rattle.std.specs.Prelude.{◌≡◌, ℕ, ◌+◌, ◌<◌, ◌==◌, Bool, true, List, ◌∷◌, length, Option, Some, None, option_map, slice_get, slice_index_or, slice_set, if◌then◌else◌}
+use Rattle.std.specs.Prelude.{◌≡◌, ℕ, ◌+◌, ◌<◌, Bool, true, List, ◌∷◌, length, Some, None, option_map, slice_get, slice_index_or, slice_set, if◌then◌else◌}
 use Rattle.heap_class.specs.declared.ObjRef.{ObjRef}
-use Rattle.heap_region.specs.Regions.{Object, UsedRegion, Region}
-use Rattle.heap_region.specs.RegionCopies.{Frozen, frozen, frozen_words, frozen_word_set}
+use Rattle.heap_region.specs.Regions.{Object, Region}
+use Rattle.heap_region.specs.RegionCopies.{Frozen, frozen_words, frozen_word_set}
 use Rattle.heap_world.specs.State.{HeapState, register_index}
 use Rattle.heap_step.specs.declared.Event.{Event}
 use Rattle.heap_step.specs.declared.Undo.{Undo}
-use Rattle.heap_step.specs.declared.Undo.TheVariants.{Sweep, Reclaim}
 use Rattle.heap_step.specs.Laws.{IsStep}
 use Rattle.heap_step.specs.Records.{undone}
 use Rattle.heap_pins.specs.KeptRegions.{byte_revived}

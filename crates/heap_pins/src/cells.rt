@@ -34,9 +34,9 @@ pub(crate) fn states_now(regions: &Regions, region: u64) -> [u8; 256]
 pub(crate) fn storage_states(storage: &Storage) -> [u8; 256]
     ensures { (r : ℕ) → AreOf (storage_states storage.now) r cell_limit result }
 {
-    let mut states = [EMPTY; 256];
-    for cell in 0..256 {
-        states[cell] = storage_state(storage, cell as u64);
+    let mut states = blank();
+    for cell in 0..storage.cells() {
+        states[cell as usize] = storage_state(storage, cell);
     }
     states
 }
@@ -71,7 +71,7 @@ fn object_state(object: &ObjectCopy) -> u8
 }
 
 // Makes of the states of the cells of a region without a copy those that they had, by their bytes.
-pub(crate) fn settle(ended: bool, bytes: &[u8; 256], states: &mut [u8; 256])
+pub(crate) fn settle_states(ended: bool, bytes: &[u8; 256], states: &mut [u8; 256])
     ensures { AreSettled ended bytes.now states.old states.new }
 {
     for cell in 0..256 {

@@ -1,12 +1,10 @@
 //! What a pin keeps of the regions: copies, and a byte for each cell.
-ghost use Rattle.std.specs.Prelude.{◌≡◌, ◌<◌, ◌≤◌, ℕ, [], length, None, Some, IfOk, IfErr, MatchOption, replicate, slice_index_or, slice_set};
+ghost use Rattle.std.specs.Prelude.{◌≡◌, ◌<◌, ◌≤◌, ℕ, [], length, None, Some, IfOk, IfErr, MatchOption, is_some, replicate, slice_index_or, slice_set};
 ghost use Rattle.std.specs.Vec.{vec_capacity};
 ghost use Rattle.heap_class.specs.declared.Refusal.TheVariants.{NoMemory};
 ghost use Rattle.heap_region.specs.Limits.{cell_limit, region_limit};
 ghost use Rattle.heap_pins.specs.KeptRegions.{IsRevivedTable, blank, nothing_kept};
 ghost use Rattle.heap_pins.specs.Slots.{AreRevived, AreSlots, IsByteRevived, IsItemRevived, IsSlotFor};
-ghost use Rattle.heap_pins.specs.Pin.{byte_in};
-ghost use Rattle.heap_pins.specs.States.{cell_of};
 
 use heap_class::Refusal;
 use heap_region::FrozenRegion;
@@ -24,6 +22,8 @@ pub(crate) struct KeptRegion {
 // is kept of a region.
 #[derive(Drop)]
 pub(crate) struct KeptRegions {
+    // For each region whether there is a copy of it.
+    copied: Vec<bool>,
     // For each region one more than the index of what is kept of it, or 0 if nothing is.
     slots: Vec<u32>,
     kept: Vec<KeptRegion>,
@@ -33,7 +33,7 @@ impl Model for KeptRegions {
     ghost use Rattle.std.specs.Prelude.{map};
     ghost use Rattle.std.specs.Vec.{vec_capacity};
     ghost use Rattle.heap_pins.specs.KeptRegions.{KeptContents};
-    ghost use Rattle.heap_pins.specs.Slots.{AreSlots, bytes_in, copy_in};
+    ghost use Rattle.heap_pins.specs.Slots.{IsTable, bytes_in, copy_in};
 
     ghost Value = { KeptContents };
 
@@ -43,7 +43,7 @@ impl Model for KeptRegions {
           cells = map (bytes_in t.kept.items) t.slots.items;
         } };
 
-    ghost invariant = { λ t. AreSlots t.slots.items t.kept.items (vec_capacity t.kept) };
+    ghost invariant = { λ t. IsTable t.copied.items t.slots.items t.kept.items (vec_capacity t.kept) };
 }
 
 impl KeptRegions {
@@ -53,9 +53,23 @@ impl KeptRegions {
         ensures made { IfOk result (λ k. k ≡ nothing_kept count) }
         ensures refused { IfErr result (λ e. e ≡ NoMemory) }
     {
+        let copied = vec![in alloc; false; count as usize]?;
         let slots = vec![in alloc; 0; count as usize]?;
         let kept = Vec::with_capacity(alloc, count as usize)?;
-        Ok(KeptRegions { slots, kept })
+        Ok(KeptRegions {
+            copied,
+            slots,
+            kept,
+        })
+    }
+
+    // Tells whether there is a copy of a region.
+    #[inline(always)]
+    pub(crate) fn has_copy(&self, region: u64) -> bool
+        requires { region < length self.now.copies }
+        ensures { result ≡ is_some (slice_index_or self.now.copies region None) }
+    {
+        self.copied[region as usize]
     }
 
     // Returns the copy of a region, if there is one.
@@ -71,19 +85,6 @@ impl KeptRegions {
                 Some(copy) => Some(copy),
                 None => None,
             },
-        }
-    }
-
-    // Returns the byte of a cell.
-    #[inline(always)]
-    pub(crate) fn byte(&self, region: u64, cell: u64) -> u8
-        requires region { region < length self.now.copies }
-        requires cell { cell < 256 }
-        ensures { result ≡ byte_in self.now.cells (cell_of region cell) }
-    {
-        match self.slots[region as usize] {
-            0 => 0,
-            slot => self.kept[slot as usize - 1].cells[cell as usize],
         }
     }
 
@@ -141,6 +142,7 @@ impl KeptRegions {
     {
         let slot = slot_for(&mut self.slots, &mut self.kept, region as usize);
         let _old = self.kept[slot].copy.replace(copy);
+        self.copied[region as usize] = true;
     }
 
     // Takes the copy of a region out, if there is one.
@@ -151,7 +153,11 @@ impl KeptRegions {
     {
         match self.slots[region as usize] {
             0 => None,
-            slot => self.kept[slot as usize - 1].copy.take(),
+            slot => {
+                let taken = self.kept[slot as usize - 1].copy.take();
+                self.copied[region as usize] = false;
+                taken
+            }
         }
     }
 
@@ -205,8 +211,9 @@ fn revive_item(item: &mut KeptRegion)
 }
 
 // Makes 1 of each byte that isn't 0.
-fn make_live(bytes: &mut [u8; 256])
-    ensures { (k : ℕ) → IsByteRevived (slice_index_or bytes.old k 0) (slice_index_or bytes.new k 0) }
+pub(crate) fn make_live(bytes: &mut [u8; 256])
+    ensures bytes { (k : ℕ) → IsByteRevived (slice_index_or bytes.old k 0) (slice_index_or bytes.new k 0) }
+    ensures count { length bytes.new ≡ length bytes.old }
 {
     for k in 0..256 {
         if bytes[k] != 0 {

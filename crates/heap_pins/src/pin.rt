@@ -10,11 +10,11 @@ ghost use Rattle.heap_step.specs.Laws.{IsStep};
 ghost use Rattle.heap_pins.specs.Pin.{state_seen};
 ghost use Rattle.heap_pins.specs.KeptCopies.{ends_cycle, has_copy, kept, noted, touched, with_byte, with_dead};
 ghost use Rattle.heap_pins.specs.Shows.{AreFit, FitIn};
-ghost use Rattle.heap_pins.specs.States.{AreOf, kept_dead, kept_region, kept_word};
+ghost use Rattle.heap_pins.specs.States.{AreOf, AreSettled, kept_dead, kept_region, kept_word};
 ghost use Rattle.heap_pins.specs.WalkedPins.{IsFreshPin};
 
-use crate::cells::{TAKEN, restore_dead, settle, states_now, storage_states};
-use crate::kept::{KeptRegions, blank, copied, filled};
+use crate::cells::{TAKEN, restore_dead, settle_states, states_now, storage_states};
+use crate::kept::{KeptRegions, blank, copied, filled, make_live};
 use heap_class::{ObjRef, Refusal};
 use heap_region::{FrozenRegion, ObjectCopy, Storage};
 use heap_step::Undo;
@@ -112,7 +112,7 @@ impl Pin {
         requires { region < length self.now.copies }
         ensures { result ≡ is_some (slice_index_or self.now.copies region None) }
     {
-        self.kept.copy(region).is_some()
+        self.kept.has_copy(region)
     }
 
     /// Keeps of a step what the pin needs of it, by the step's record: a copy of the region that it overwrote or reclaimed, if
@@ -207,7 +207,7 @@ impl Pin {
         put_dead(&mut copy, dead.as_slice());
         let mut states = states_now(world.regions(), region as u64);
         restore_dead(&mut states, dead.as_slice());
-        settle(self.ended, &self.bytes(region as u64), &mut states);
+        self.settle(region as u64, &mut states);
         self.kept.put(region as u64, copy, &states);
         Ok(())
     }
@@ -224,7 +224,7 @@ impl Pin {
         }
         let copy = storage.freeze(world.regions().allocator())?;
         let mut states = storage_states(storage);
-        settle(self.ended, &self.bytes(region as u64), &mut states);
+        self.settle(region as u64, &mut states);
         self.kept.put(region as u64, copy, &states);
         Ok(())
     }
@@ -235,13 +235,28 @@ impl Pin {
         requires sized { length self.now.copies ≡ length world.now.regions }
         ensures { AreOf (state_seen self.now world.now.regions) region cell_limit result }
     {
-        let bytes = self.bytes(region);
         if self.has_copy(region) {
-            return bytes;
+            return self.bytes(region);
         }
         let mut states = states_now(world.regions(), region);
-        settle(self.ended, &bytes, &mut states);
+        self.settle(region, &mut states);
         states
+    }
+
+    // Makes of the states of the cells of a region without a copy those that the pin shows.
+    fn settle(&self, region: u64, states: &mut [u8; 256])
+        requires { region < length self.now.copies }
+        ensures { AreSettled self.now.ended (slice_index_or self.now.cells region [])
+            states.old states.new }
+    {
+        match self.kept.bytes(region) {
+            Some(bytes) => settle_states(self.ended, bytes, states),
+            None => {
+                if self.ended {
+                    make_live(states);
+                }
+            }
+        }
     }
 
     // Returns the bytes of a region.

@@ -1,12 +1,12 @@
 //! What a dump reads of a pin, beside the current state.
-ghost use Rattle.std.specs.Prelude.{◌≡◌, ℕ, ◌+◌, ◌<◌, ◌≤◌, ◌*◌, length, None, Some, IfSome, slice_get, slice_index_or, MatchOption};
+ghost use Rattle.std.specs.Prelude.{◌≡◌, ℕ, ◌+◌, ◌<◌, ◌≤◌, ◌*◌, [], length, None, Some, IfSome, slice_get, slice_index_or, MatchOption};
 ghost use Rattle.memchr.specs.Find.{IsFirstByte, is_byte};
 ghost use Rattle.heap_region.specs.Limits.{cell_limit, region_limit};
 ghost use Rattle.heap_pins.specs.Pin.{IsPlaceAfter, byte_in, object_seen, places_seen, state_seen, states_seen};
 ghost use Rattle.heap_pins.specs.Shows.{IsSeen};
-ghost use Rattle.heap_pins.specs.States.{IsFirstIn, IsFirstPlace, state_in_storage};
+ghost use Rattle.heap_pins.specs.States.{IsFirstIn, IsFirstPlace, state_by, state_in_storage};
 
-use crate::cells::{LIVE, state_kept, storage_state};
+use crate::cells::{EMPTY, LIVE, state_kept, storage_state};
 use crate::pin::Pin;
 use heap_class::{ObjKind, ObjRef};
 use heap_region::{FrozenRegion, OBJECT_BASE, REGION_WORDS, Storage};
@@ -102,13 +102,10 @@ impl Pin {
         requires region { region < length self.now.copies }
         ensures { IsFirstIn (state_in_storage self.now storage.now) region from result }
     {
-        for cell in from..storage.cells() {
-            let byte = self.kept.byte(region, cell);
-            if state_kept(self.ended, byte, storage_state(storage, cell)) == LIVE {
-                return Some(cell);
-            }
+        match self.kept.bytes(region) {
+            Some(bytes) => first_by(self.ended, bytes, storage, from),
+            None => first_untaken(self.ended, storage, from),
         }
-        None
     }
 
     // Returns the copy of a region, if the pin has one. The region must be one of the heap's.
@@ -157,6 +154,30 @@ impl Pin {
             None => world.regions().words(at),
         }
     }
+}
+
+// Returns the first cell of a region in use from one on that had a live object, by the bytes of its cells.
+fn first_by(ended: bool, bytes: &[u8; 256], storage: &Storage, from: u64) -> Option<u64>
+    ensures { (r : ℕ) → IsFirstIn (state_by ended bytes.now storage.now) r from result }
+{
+    for cell in from..storage.cells() {
+        if state_kept(ended, bytes[cell as usize], storage_state(storage, cell)) == LIVE {
+            return Some(cell);
+        }
+    }
+    None
+}
+
+// Returns the first cell of a region in use from one on that had a live object, if no cell was taken since.
+fn first_untaken(ended: bool, storage: &Storage, from: u64) -> Option<u64>
+    ensures { (r : ℕ) → IsFirstIn (state_by ended [] storage.now) r from result }
+{
+    for cell in from..storage.cells() {
+        if state_kept(ended, EMPTY, storage_state(storage, cell)) == LIVE {
+            return Some(cell);
+        }
+    }
+    None
 }
 
 // Returns the first of these states from one on that is that of a live object.

@@ -139,6 +139,9 @@ fn are_settled(pins: &[NumberedPin], world: &World, left: &Undo) -> bool
     requires sized { EachSized (length world.now.regions) pins.now }
     ensures { result ≡ true → EachMayKeep left.now world.now pins.now pins.now }
 {
+    if pins.is_empty() {
+        return true;
+    }
     match noted_region(left) {
         Some(region) => {
             for i in 0..pins.len() {
@@ -148,12 +151,7 @@ fn are_settled(pins: &[NumberedPin], world: &World, left: &Undo) -> bool
             }
             true
         }
-        None => {
-            if ends_cycle(left) {
-                return pins.is_empty();
-            }
-            true
-        }
+        None => !ends_cycle(left),
     }
 }
 

@@ -1,4 +1,4 @@
-use Rattle.std.proofs.Common.{◌≡◌, ◌+◌, length, sym, subst, arith, suc, ◌∙◌}
+use Rattle.std.proofs.Common.{◌≡◌, ◌+◌, Bool, true, false, not, length, refl, sym, subst, arith, suc, ◌∙◌}
 use Rattle.std.proofs.lemmas.Bool.{eqb-true}
 use Rattle.heap_pins.proofs.RoomForCopies.{noted_region_is_in_heap}
 use Rattle.heap_trail.proofs.EachPin.{KeptUpTo, pin_of_list_is_sized, pins_kept_past_unchanged, pins_kept_to_the_end, no_pins_keep, unnoted_record_leaves_pins}
@@ -21,8 +21,12 @@ loop-i-preserved c =
 pub returns-after-loop-i : goal.returns-after-loop-i
 returns-after-loop-i c settled = pins_kept_to_the_end c.args.left.now c.args.world.now c.loop-i.i c.args.pins.now c.args.pins.now c.loop-i.invariant c.loop-i-test.false
 
-pub returns-then-ends_cycle : goal.returns-then-ends_cycle
-returns-then-ends_cycle c settled = no_pins_keep c.args.left.now c.args.world.now c.args.pins.now (eqb-true (length c.args.pins.now) 0 (sym c.is_empty.ensures ∙ settled))
+pub returns-then-is_empty : goal.returns-then-is_empty
+returns-then-is_empty c settled = no_pins_keep c.args.left.now c.args.world.now c.args.pins.now (eqb-true (length c.args.pins.now) 0 (sym c.is_empty.ensures ∙ c.if-is_empty.true))
 
-pub returns-else-ends_cycle : goal.returns-else-ends_cycle
-returns-else-ends_cycle c settled = unnoted_record_leaves_pins c.args.left.now c.args.world.now c.args.pins.now (sym c.noted_region.ensures ∙ c.in-None.is) (sym c.ends_cycle.ensures ∙ c.if-ends_cycle.false)
+pub returns-in-None : goal.returns-in-None
+returns-in-None c settled = unnoted_record_leaves_pins c.args.left.now c.args.world.now c.args.pins.now (sym c.noted_region.ensures ∙ c.in-None.is) (sym c.ends_cycle.ensures ∙ false_by_not c.ends_cycle.result settled)
+  where
+    false_by_not : (b : Bool) → not b ≡ true → b ≡ false
+    false_by_not true e = absurd (cc)
+    false_by_not false e = refl

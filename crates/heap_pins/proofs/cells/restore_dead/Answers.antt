@@ -1,4 +1,4 @@
-use Rattle.std.proofs.Common.{◌≡◌, ◌<◌, ◌∙◌, ℕ, length, length-set, sym, subst, arith, slice_index_or}
+use Rattle.std.proofs.Common.{◌<◌, ◌∙◌, ℕ, length-set, sym, subst, arith, slice_index_or}
 use Rattle.std.proofs.lemmas.List.{at_drop_all}
 use Rattle.std.proofs.lemmas.List.Elements.{All-get_or}
 use Rattle.heap_region.specs.Regions.{Object}

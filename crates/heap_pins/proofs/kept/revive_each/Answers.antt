@@ -1,4 +1,4 @@
-use Rattle.std.proofs.Common.{◌≡◌, arith}
+use Rattle.std.proofs.Common.{arith}
 use Rattle.heap_pins.proofs.SlotTables.{all_items_are_revived, next_item_is_revived}
 use Rattle.heap_pins.proofs.kept.revive_each.Goals as goal
 

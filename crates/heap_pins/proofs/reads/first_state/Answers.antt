@@ -1,4 +1,4 @@
-use Rattle.std.proofs.Common.{◌≡◌, ◌<◌, None, Some, length, length-drop, drop, arith}
+use Rattle.std.proofs.Common.{None, Some, length-drop, drop, arith}
 use Rattle.std.proofs.lemmas.List.{take_all}
 use Rattle.heap_pins.proofs.FirstCells.{first_byte_is_first, go_on}
 use Rattle.heap_pins.proofs.reads.first_state.Goals as goal

@@ -1,4 +1,4 @@
-use Rattle.std.proofs.Common.{◌≡◌, ◌<◌, ◌-◌, ◌∙◌, [], None, Some, length, suc, sym, ap, arith, slice_index_or}
+use Rattle.std.proofs.Common.{◌≡◌, ◌<◌, ◌-◌, ◌∙◌, [], length, suc, sym, ap, arith, slice_index_or}
 use Rattle.std.proofs.lemmas.List.{get_or_read, length-map}
 use Rattle.heap_pins.specs.KeptRegions.{KeptContents}
 use Rattle.heap_pins.specs.Slots.{copy_in}
@@ -22,5 +22,5 @@ returns-in_default c =
     let number = get_or_read slots c.args.region c.index.result.now lt c.index.ensures 0 in
     let i = c.index.result.now - 1 in
     let at : slice_index_or slots c.args.region 0 ≡ suc (c.index.result.now - 1) = omega (arith, number, c.in_default) in
-    let item = item_is_kept_of_region kept slots c.args.region i c.index-in_default.result.now lt at (item_is_read kept i c.index-in_default.result.now (omega (arith, at, c.self.invariant.within c.args.region)) c.index-in_default.ensures) in
+    let item = item_is_kept_of_region kept slots c.args.region i c.index-in_default.result.now lt at (item_is_read kept i c.index-in_default.result.now (omega (arith, at, c.self.invariant.table.within c.args.region)) c.index-in_default.ensures) in
     ap (λ (k : KeptContents). slice_index_or k.cells c.args.region []) (sym c.self.view_is) ∙ item.1

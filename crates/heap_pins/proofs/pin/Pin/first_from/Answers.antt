@@ -1,4 +1,4 @@
-use Rattle.std.proofs.Common.{◌≡◌, ◌*◌, ◌+◌, length, ap, arith, ◌∙◌}
+use Rattle.std.proofs.Common.{◌*◌, ◌+◌, length, ap, arith}
 use Rattle.heap_region.specs.Pool.{RegionPool}
 use Rattle.heap_pins.specs.Pin.{state_seen}
 use Rattle.heap_pins.proofs.FirstCells.{first_cell_is_small, first_in_region_is_first, none_in_region_goes_on, none_in_regions_is_none}

@@ -1,24 +1,16 @@
-use Rattle.std.proofs.Common.{◌≡◌, ◌∙◌, sym, ap, arith}
-use Rattle.heap_pins.specs.Pin.{PinContents, byte_in, state_kept}
-use Rattle.heap_pins.specs.States.{cell_of, state_in_storage}
-use Rattle.heap_pins.proofs.FirstCells.{first_of_storage, none_of_storage, none_of_storage_goes_on}
+use Rattle.std.proofs.Common.{◌∙◌, [], ap, sym, subst}
+use Rattle.std.specs.Prelude.{slice_index_or}
+use Rattle.heap_pins.specs.Pin.{PinContents}
+use Rattle.heap_pins.specs.States.{IsFirstIn, state_by}
+use Rattle.heap_pins.proofs.FirstCells.{first_by_bytes, first_by_no_bytes}
 use Rattle.heap_pins.proofs.pin.Pin.first_of.Goals as goal
 
-pub returns-then-state_kept-eq-LIVE : goal.returns-then-state_kept-eq-LIVE
-returns-then-state_kept-eq-LIVE c =
-    let is : c.state_kept.result ≡ state_in_storage c.args.self.now c.args.storage.now (cell_of c.args.region c.loop-cell.cell) = c.state_kept.ensures
-    ∙ (λ j. state_kept (c.self.view_is j).ended ((c.byte-byte.ensures ∙ ap (λ (p : PinContents). byte_in p.cells (cell_of c.args.region c.loop-cell.cell)) c.self.view_is) j) (c.storage_state.ensures j)) in
-    first_of_storage c.args.self.now c.args.storage.now c.args.region c.args.from c.loop-cell.cell c.state_kept.result c.loop-cell.invariant.low
-    (omega (arith, c.loop-cell-test.true, c.cells-cell-end.ensures.limit)) c.loop-cell.invariant.none is (omega (arith, c.if-state_kept-eq-LIVE.true))
+pub returns-in-Some : goal.returns-in-Some
+returns-in-Some c = first_by_bytes c.args.self.now c.args.storage.now c.args.region c.args.from c.in-Some.bytes.now c.first_by.result
+    (ap (λ (p : PinContents). slice_index_or p.cells c.args.region []) (sym c.self.view_is) ∙ c.in-Some.ensures)
+    (subst (λ (p : PinContents). IsFirstIn (state_by p.ended c.in-Some.bytes.now c.args.storage.now) c.args.region c.args.from c.first_by.result) c.self.view_is (c.first_by.ensures c.args.region))
 
-pub loop-cell-preserved : goal.loop-cell-preserved
-loop-cell-preserved c =
-    let is : c.state_kept.result ≡ state_in_storage c.args.self.now c.args.storage.now (cell_of c.args.region c.loop-cell.cell) = c.state_kept.ensures
-    ∙ (λ j. state_kept (c.self.view_is j).ended ((c.byte-byte.ensures ∙ ap (λ (p : PinContents). byte_in p.cells (cell_of c.args.region c.loop-cell.cell)) c.self.view_is) j) (c.storage_state.ensures j)) in
-    record {
-      low = omega (arith, c.loop-cell.invariant.low);
-      none = none_of_storage_goes_on c.args.self.now c.args.storage.now c.args.region c.args.from c.loop-cell.cell c.state_kept.result c.loop-cell.invariant.none is c.if-state_kept-eq-LIVE.false;
-    }
-
-pub returns : goal.returns
-returns c = none_of_storage c.args.self.now c.args.storage.now c.args.region c.args.from c.loop-cell.cell (omega (arith, c.loop-cell-test.false, c.cells-cell-end.ensures.value)) c.loop-cell.invariant.none
+pub returns-in-None : goal.returns-in-None
+returns-in-None c = first_by_no_bytes c.args.self.now c.args.storage.now c.args.region c.args.from c.first_untaken.result
+    (ap (λ (p : PinContents). slice_index_or p.cells c.args.region []) (sym c.self.view_is) ∙ c.in-None.ensures)
+    (subst (λ (p : PinContents). IsFirstIn (state_by p.ended [] c.args.storage.now) c.args.region c.args.from c.first_untaken.result) c.self.view_is (c.first_untaken.ensures c.args.region))

@@ -1,7 +1,6 @@
 use Rattle.std.proofs.Common.{◌<◌, ◌∙◌, sym, ap, subst, true, arith}
 use Rattle.heap_step.specs.Laws.{IsStep}
-use Rattle.heap_pins.specs.KeptCopies.{touched, patched, copy_for, kept_if, kept}
-use Rattle.heap_region.proofs.Lookups.{used_region_is_listed}
+use Rattle.heap_pins.specs.KeptCopies.{touched, kept}
 use Rattle.heap_pins.proofs.RoomForCopies.{object_within, sweep_used, sweep_fit, reclaim_within}
 use Rattle.heap_pins.proofs.AddedCopies.{truth_holds_at_refusal}
 use Rattle.heap_pins.proofs.KeptSteps.{ok_is_kept, put_is_kept, store_is_kept, sweep_is_kept, reclaim_is_kept, other_records_keep_the_pin}

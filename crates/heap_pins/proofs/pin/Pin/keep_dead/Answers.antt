@@ -1,4 +1,4 @@
-use Rattle.std.proofs.Common.{◌≡◌, ◌<◌, ℕ, List, length, Some, false, IsSome, sym, ap, subst, ◌∙◌, arith}
+use Rattle.std.proofs.Common.{◌≡◌, ℕ, List, [], length, refl, Some, false, IsSome, sym, ap, subst, ◌∙◌, arith}
 use Rattle.std.specs.Prelude.{option_map, slice_index_or}
 use Rattle.heap_region.specs.Pool.{RegionPool}
 use Rattle.heap_region.specs.Regions.{Object, used_at}
@@ -8,7 +8,7 @@ use Rattle.heap_step.specs.declared.Undo.TheVariants.{Sweep}
 use Rattle.heap_pins.specs.KeptCopies.{has_copy, with_dead}
 use Rattle.heap_pins.specs.Pin.{PinContents}
 use Rattle.heap_pins.specs.Shows.{AreFit}
-use Rattle.heap_pins.specs.States.{AreOf, AreRestored, AreSettled, cell_states}
+use Rattle.heap_pins.specs.States.{AreOf, AreRestored, cell_states}
 use Rattle.heap_pins.specs.Walk.{states_before}
 use Rattle.heap_pins.proofs.AddedCopies.{copy_is_put, free_pin_keeps, restored_states_are_before, settled_pin_stays, settled_states_are_kept}
 use Rattle.heap_pins.proofs.pin.Pin.keep_dead.Goals as goal
@@ -25,8 +25,8 @@ freeze-requires c = subst (λ (s : RegionPool). IsSome (used_at s.regions c.args
 pub put_dead-requires : goal.put_dead-requires
 put_dead-requires c = subst (λ ds. AreFit c.in_ok-copy.copy.cell_size (length c.in_ok-copy.copy.cells) ds) (sym c.as_slice.ensures) (c.requires.fit c.in_ok-copy.copy (ap (λ (s : RegionPool). region_frozen s.regions c.args.region) (sym c.regions.ensures) ∙ c.in_ok-copy.ensures.copied))
 
-pub bytes-requires : goal.bytes-requires
-bytes-requires c = omega (arith, c.requires.sized, used_region_is_listed c.args.world.now.regions c.args.region c.requires.used)
+pub settle-requires : goal.settle-requires
+settle-requires c = omega (arith, c.requires.sized, used_region_is_listed c.args.world.now.regions c.args.region c.requires.used)
 
 pub put-requires : goal.put-requires
 put-requires c = omega (arith, c.requires.sized, used_region_is_listed c.args.world.now.regions c.args.region c.requires.used, ap (λ (p : PinContents). length p.copies) c.self.view_is)
@@ -42,7 +42,7 @@ returns-clause-kept c =
     let before = restored_states_are_before c.args.world.now r c.args.dead.now (cell_states regions) c.states_now-states.result c.restore_dead.new.states
     (subst (λ (s : RegionPool). AreOf (cell_states s.regions) r 256 c.states_now-states.result) c.regions-2.ensures c.states_now-states.ensures)
     (subst (λ (ds : List (ℕ × Object)). AreRestored ds c.states_now-states.result c.restore_dead.new.states) c.as_slice-2.ensures c.restore_dead.ensures) in
-    let settled = settled_states_are_kept p (states_before (Sweep r c.args.dead.now) (cell_states regions)) r c.bytes.result c.restore_dead.new.states c.settle.new.states before
-    (subst (λ (q : PinContents). AreSettled q.ended c.bytes.result c.restore_dead.new.states c.settle.new.states) c.self.view_is c.settle.ensures) c.bytes.ensures.value in
+    let settled = settled_states_are_kept p (states_before (Sweep r c.args.dead.now) (cell_states regions)) r (slice_index_or p.cells r []) c.restore_dead.new.states c.settle.new.states before
+    c.settle.ensures refl in
     copy_is_put p _ c.put.new.self r c.put_dead.new.copy _ c.settle.new.states _ c.self.view_is c.put.ensures made settled
     ∙ free_pin_keeps r _ _ p free

@@ -1,7 +1,8 @@
-use Rattle.std.proofs.Common.{◌≡◌, ◌<◌, length, Some, false, sym, ap, subst, ◌∙◌, arith}
+use Rattle.std.proofs.Common.{◌≡◌, [], length, refl, Some, false, sym, ap, ◌∙◌, arith}
+use Rattle.std.specs.Prelude.{slice_index_or}
 use Rattle.heap_pins.specs.KeptCopies.{has_copy}
 use Rattle.heap_pins.specs.Pin.{PinContents}
-use Rattle.heap_pins.specs.States.{AreSettled, storage_states}
+use Rattle.heap_pins.specs.States.{storage_states}
 use Rattle.heap_pins.proofs.AddedCopies.{copy_is_put, free_pin_keeps, settled_pin_stays, settled_states_are_kept}
 use Rattle.heap_pins.proofs.pin.Pin.keep_region.Goals as goal
 
@@ -17,6 +18,6 @@ returns-clause-kept c =
     let p = c.args.self.now in
     let free : has_copy r p ≡ false = sym c.if-has_copy.ensures in
     copy_is_put p _ c.put.new.self r c.in_ok-copy.copy _ c.settle.new.states _ c.self.view_is c.put.ensures (ap Some (sym c.in_ok-copy.ensures))
-    (settled_states_are_kept p (storage_states c.args.storage.now) r c.bytes.result c.storage_states-states.result c.settle.new.states (c.storage_states-states.ensures r)
-    (subst (λ (q : PinContents). AreSettled q.ended c.bytes.result c.storage_states-states.result c.settle.new.states) c.self.view_is c.settle.ensures) c.bytes.ensures.value)
+    (settled_states_are_kept p (storage_states c.args.storage.now) r (slice_index_or p.cells r []) c.storage_states-states.result c.settle.new.states (c.storage_states-states.ensures r)
+    c.settle.ensures refl)
     ∙ free_pin_keeps r _ _ p free

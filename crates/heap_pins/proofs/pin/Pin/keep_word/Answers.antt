@@ -1,5 +1,5 @@
-use Rattle.std.proofs.Common.{◌≡◌, ◌<◌, length, Some, false, IsSome, sym, ap, subst, ◌∙◌, arith}
-use Rattle.std.specs.Prelude.{option_map, slice_index_or}
+use Rattle.std.proofs.Common.{◌≡◌, length, Some, false, IsSome, sym, ap, subst, ◌∙◌, arith}
+use Rattle.std.specs.Prelude.{option_map}
 use Rattle.heap_region.specs.Pool.{RegionPool}
 use Rattle.heap_region.specs.Regions.{used_at}
 use Rattle.heap_region.specs.RegionCopies.{frozen_word_set, region_frozen}

@@ -1,4 +1,4 @@
-use Rattle.std.proofs.Common.{◌≡◌, ◌*◌, ◌+◌, length, sym, ap, ◌∙◌, arith}
+use Rattle.std.proofs.Common.{◌*◌, ◌+◌, length, sym, ◌∙◌, arith}
 use Rattle.heap_pins.specs.Pin.{state_seen, states_seen}
 use Rattle.heap_pins.proofs.NextPlace.{first_place_is_found, listed_cell_below_256}
 use Rattle.heap_pins.proofs.ObjectReads.{next_live_place_from_number}

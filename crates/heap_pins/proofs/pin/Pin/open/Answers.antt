@@ -1,4 +1,4 @@
-use Rattle.std.proofs.Common.{◌≡◌, ◌∙◌, List, length, replicate, Option, None, ap, refl}
+use Rattle.std.proofs.Common.{◌∙◌, List, length, replicate, Option, None, ap, refl}
 use Rattle.heap_class.specs.Classes.{Class}
 use Rattle.heap_region.specs.Pool.{RegionPool}
 use Rattle.heap_region.specs.RegionCopies.{Frozen}

@@ -1,4 +1,4 @@
-use Rattle.std.proofs.Common.{◌≡◌, ◌∙◌, [], ap, sym}
+use Rattle.std.proofs.Common.{◌∙◌, [], ap, sym}
 use Rattle.std.specs.Prelude.{slice_index_or, slice_set}
 use Rattle.heap_pins.specs.KeptCopies.{bytes_with}
 use Rattle.heap_pins.proofs.AddedCopies.{bytes_are_set}

@@ -1,6 +1,6 @@
 use Rattle.std.proofs.Common.{◌≡◌, ◌<◌, ◌≤◌, ℕ, length, slice_index_or}
 use Rattle.heap_pins.specs.Pin.{state_kept}
-use Rattle.heap_pins.proofs.cells.settle.Given as goal
+use Rattle.heap_pins.proofs.cells.settle_states.Given as goal
 
 abbrev pub invariant-loop-cell : goal.invariant-loop-cell
 invariant-loop-cell l = record {

@@ -204,25 +204,15 @@ fn settings_over(
     let Some(regions) = option_size(options, "regions", usual, 1, most_regions(wide)) else {
         return Err(regions_mistake(wide));
     };
-    let Some(mutators) = option_value(options, "mutators", 2, 1, MUTATOR_LIMIT) else {
-        return Err(Mistake::Mutators);
-    };
+    let mutators = option_value(options, "mutators", 2, 1, MUTATOR_LIMIT).ok_or(Mistake::Mutators)?;
     let kept = keep_default(task, wide);
     let Some(keep) = option_size(options, "keep", kept, 1, most_kept(wide)) else {
         return Err(keep_mistake(wide));
     };
-    let Some(time) = option_value(options, "time", 0, 0, u64::MAX) else {
-        return Err(Mistake::Time);
-    };
-    let Some(ids) = id_size_from(options) else {
-        return Err(Mistake::Ids);
-    };
-    let Some(questions) = flag_from(options, "questions") else {
-        return Err(Mistake::Questions);
-    };
-    let Some(rolls) = flag_from(options, "roll") else {
-        return Err(Mistake::Roll);
-    };
+    let time = option_value(options, "time", 0, 0, u64::MAX).ok_or(Mistake::Time)?;
+    let ids = id_size_from(options).ok_or(Mistake::Ids)?;
+    let questions = flag_from(options, "questions").ok_or(Mistake::Questions)?;
+    let rolls = flag_from(options, "roll").ok_or(Mistake::Roll)?;
     Ok(Settings {
         task,
         wide,

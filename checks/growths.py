@@ -49,7 +49,8 @@ QUESTIONS = """class Node - next:object v:long, array Nodes, new 0 0 0, new 0 1 
     put 0 1 1 7, store 0 3 1 0, clear 0 1, clear 0 2, clear 0 3, put 0 0 1 5, open -, histogram, garbage, growth @3, kept @3, diff @3, path 0x10000020,
     retained 0x10000020, dominators, dominators 1, dominators 0x10000000, dominator 0x10000020, referrers 0x10000000, registers, classes, objects,
     objects 1 0 1 7, values 0 1, values 1 1 0, show 0x10000000, show @9 0x10000020, watch 0x10000020 1, writes 0 1, when 0 1 7, dropped 0x10000040,
-    history 9, history @9 3, life 0x10000000, cycles, pins, cells, regions, status, show 0x10000060 1 1, when count 0 2"""
+    history 9, history @9 3, life 0x10000000, cycles, pins, cells, regions, status, show 0x10000060 1 1, when count 0 2,
+    rewind 3, forward 2, forward 9"""
 
 # A session of a wide heap: as many classes and regions as make each table grow, names longer and pins more than other heaps allow, and a
 # cycle beside these pins.
@@ -409,11 +410,12 @@ def wrong_saves(program, library, lines):
 # The most bytes that a session asks for at once, by what the documents say, and by how much a request may be larger. What comes
 # is read by up to 65,536 bytes, also what is read ahead of a served session, to know its first line; a line of 32,768 bytes has
 # at most 8,192 fields, and where one stands takes 6 bytes; parts of a saved dump are joined to 64 KiB; a record of the ring
-# takes at most 32 bytes, and it has room for up to 64 records more than are kept; the parser of the command line asks up to
-# three times for a list of the options of `serve`, with room for 32 of 608 bytes. Nothing else is larger than a region's box,
-# which has 1,024 words and room for 256 headers of 16 bytes: not a part of a dump of these heaps, a page of answers, the gray
-# stack (8 bytes for each of 256 cells of a region), or lists of at most 256 regions or 3 sessions.
-READ, FIELDS, PAGE, RECORD, BOX = 65_536, 8192 * 6, 65_536, 32, 8192 + 4096
+# takes at most 32 bytes, and it has room for up to 64 records more than are kept; a step that can be taken again takes at most 72
+# bytes where questions may be answered, as in `save`; the parser of the command line asks up to three times for a list of the
+# options of `serve`, with room for 32 of 608 bytes. Nothing else is larger than a region's box, which has 1,024 words and room for
+# 256 headers of 16 bytes: not a part of a dump of these heaps, a page of answers, the gray stack (8 bytes for each of 256 cells of
+# a region), or lists of at most 256 regions or 3 sessions.
+READ, FIELDS, PAGE, RECORD, EVENT, BOX = 65_536, 8192 * 6, 65_536, 32, 72, 8192 + 4096
 OPTIONS = [32 * 608] * 3
 MARGIN = 1.25
 
@@ -459,12 +461,12 @@ def wrong_sizes(program, library, lines):
     given = b"".join(line + b"\n" for line in lines)
     for regions, keep in ((1, 1), (2, 1000)):
         words = ["--regions", str(regions), "--keep", str(keep)]
-        ring = RECORD * (keep + min(keep, 64))
+        ring, redo = RECORD * (keep + min(keep, 64)), EVENT * keep
         with tempfile.TemporaryDirectory() as folder:
             saving = [program, "save", "--out", os.path.join(folder, "out.hprof"), *words]
             told = (
                 ("run", sizes_of_run([program, "run", *words], library, given), [READ, FIELDS, *OPTIONS, ring]),
-                ("save", sizes_of_run(saving, library, given), [READ, FIELDS, *OPTIONS, ring, PAGE]),
+                ("save", sizes_of_run(saving, library, given), [READ, FIELDS, *OPTIONS, ring, redo, PAGE]),
                 ("serve", sizes_of_server(program, library, words, [given] * 3), [*[READ, READ, FIELDS] * 3, *OPTIONS, ring]),
             )
         for task, sizes, large in told:

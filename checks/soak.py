@@ -49,11 +49,12 @@ QUIET = os.environ.get("QUIET") == "1"
 END = b"\x2c" + bytes(8)
 NUMBER = r"(0|[1-9][0-9]*)"
 ID = r"0x[0-9a-f]{8}"
-FACTS = {18: f" {NUMBER} {NUMBER}", 19: f" {NUMBER}", 20: f" {NUMBER}", 21: f" {NUMBER} {NUMBER}", 23: " (Rewound|Memory)"}
+FACTS = {18: f" {NUMBER} {NUMBER}", 19: f" {NUMBER}", 20: f" {NUMBER}", 21: f" {NUMBER} {NUMBER}", 23: " (Rewound|Memory)",
+    29: f" {NUMBER} {NUMBER}"}
 NAMED = r"[^ ]+"
 NAMES = """NoMemory NoClass ClassLimit BadName DuplicateName FieldLimit BadRegister NullRegister BadSlot WrongKind OutOfRange TooLarge HeapFull
 AlreadyMarking NotMarking NothingToMark NothingToDrain NotDone SweepPending NothingToSweep TooFar NoPin Lost NotRetained PinLimit
-ChronicleFull Unreachable NoObject""".split()
+ChronicleFull Unreachable NoObject NothingToRedo""".split()
 REFUSED = "|".join(f"no {number} {name}{FACTS.get(number, '')}" for number, name in enumerate(NAMES, 1))
 # What a line may be answered if it is not refused, by its first word.
 ANSWERS = {
@@ -67,7 +68,7 @@ ANSWERS = {
     "dominators": f"ok {NUMBER}", "dominator": f"ok {NUMBER}", "show": f"ok object {NAMED} {NUMBER}( marked)?",
     "regions": f"ok {NUMBER}", "cycles": f"ok {NUMBER}", "life": f"ok {NUMBER}", "kept": f"ok {NUMBER} {NUMBER}", "diff": f"ok {NUMBER}",
     "retained": f"ok {NUMBER} {NUMBER}", "watch": f"ok {NUMBER}", "writes": f"ok {NUMBER}", "when": f"ok (place {NUMBER}|never)", "values": f"ok {NUMBER}",
-    "collect": f"ok condemned {NUMBER} swept {NUMBER}",
+    "collect": f"ok condemned {NUMBER} swept {NUMBER}", "forward": f"no 29 NothingToRedo {NUMBER} 0|no 24 NotRetained",
 }
 # A row of the answer to a question, by its first word.
 ROWS = {
@@ -88,7 +89,7 @@ PATTERNS = {word: re.compile(f"({answer})|{REFUSED}") for word, answer in ANSWER
 DATA = re.compile("data ([0-9a-f]{2}){1,64}")
 BEFORE = {"dump": DATA, "piece": DATA} | {word: re.compile(f"row {row}") for word, row in ROWS.items()}
 # What adds nothing to the chronicle, by its first word; and how many entries `collect` adds, about.
-NO_ACTS = {"open", "dump", "piece", "close", "what", "when", *ROWS}
+NO_ACTS = {"open", "dump", "piece", "close", "what", "when", "forward", *ROWS}
 COLLECTED = 300
 
 
@@ -109,7 +110,7 @@ def line_by_lot(lot):
         (6, f"clear {mutator} {register}"),
         (3, "snap"), (12, "mark"), (8, "drain"), (3, "finish"), (6, f"sweep {lot.randrange(16)}"),
         (1, f"rewind {lot.randrange(1, 30) if lot.randrange(4) == 0 else 2000}"),
-        (1, "what is this"), (0.1, "collect"), (1, "histogram -"), (1, "garbage -"), (1, f"kept @{lot.randrange(3000)}"), (1, "registers -"), (1, "pins"),
+        (1, "what is this"), (0.1, "collect"), (0.3, f"forward {lot.choice(['1', '@'])}{lot.randrange(30)}"), (1, "histogram -"), (1, "garbage -"), (1, f"kept @{lot.randrange(3000)}"), (1, "registers -"), (1, "pins"),
         (1, "objects -"), (1, "cells"), (1, "regions"), (1, "cycles"), (1, "status"),
         (1, f"path - 0x{0x10000000 + lot.randrange(1 << 12) * 8:08x}"),
         (1, f"retained {lot.choice(['', '- '])}0x{0x10000000 + lot.randrange(1 << 12) * 8:08x}"),

@@ -2,7 +2,7 @@
 
 _heapdbg() {
     local word=${COMP_WORDS[COMP_CWORD]} before=${COMP_WORDS[COMP_CWORD - 1]}
-    local heap="--regions --mutators --keep --wide --area --time --ids" commands="run explore draw save serve ask fetch" options
+    local heap="--regions --mutators --keep --wide --area --time --ids --quiet" commands="run explore draw save serve ask fetch" options
     COMPREPLY=()
     case $before in
         --ids)
@@ -14,7 +14,7 @@ _heapdbg() {
             mapfile -t COMPREPLY < <(compgen -f -- "$word")
             return
             ;;
-        --questions | --roll | --stay | --wide | --workers)
+        --questions | --quiet | --roll | --stay | --wide | --workers)
             [[ $word == -* ]] || {
                 mapfile -t COMPREPLY < <(compgen -W "0 1" -- "$word")
                 return
@@ -39,7 +39,7 @@ _heapdbg() {
         save) options="$heap --out --to --questions" ;;
         serve) options="$heap --port --sessions --workers --dumps --page --questions --roll --stay --idle --secret --hprof" ;;
         ask) options="--port --secret" ;;
-        fetch) options="--port --out --secret" ;;
+        fetch) options="--port --out --secret --quiet" ;;
         *) return ;;
     esac
     mapfile -t COMPREPLY < <(compgen -W "$options --help" -- "$word")

@@ -43,6 +43,8 @@ WANTED = {
     "status": ("ok",),
     "collect": ("ok",),
     "rewind": ("ok place", "no 24"),
+    "new": (*BY_NAME, "no 7", "no 10"),
+    "forward": ("ok place", "no 24", "no 29"),
     "help": ("ok", "bad"),
     "comment": ("nothing",),
 }
@@ -58,7 +60,7 @@ def sorts(word, form, words, left_out, last, rows):
         yield "ok without AT"
     if word in PAST and any(str(each).startswith("@") for each in words) and last[0] == "ok":
         yield "ok up to a place"
-    if any(sort in "cs" and not str(each).isdigit() for sort, each in zip(form, words)) and last[0] in ("ok", "bad"):
+    if any(sort in "cks" and not str(each).isdigit() for sort, each in zip(form, words)) and last[0] in ("ok", "bad"):
         yield f"{last[0]} by name"
     if word == b"retained" and last[0] == "ok":
         yield "ok " + {"0": "nothing", "1": "itself"}.get(last[1], "more")
@@ -151,12 +153,24 @@ class AskingDraw(Draw):
         held = [str(word) for _, thing in self.state.objects() for word in thing.words[-1:]]
         return self.lots.pick(["null", "0", "7", self.identifier(), *held[-9:]])
 
+    def way_on(self):
+        """Returns a word for a way forward: a number of steps, or a place. Mostly as many steps are undone."""
+        lots, machine = self.lots, self.machine
+        count = lots.below(len(machine.undone) + 2)
+        if lots.once_in(2):
+            return lots.near(count, 70)
+        return f"@{max(0, machine.place - 1 - lots.below(3)) if lots.once_in(6) else machine.place + count}"
+
     def ask(self):
         """Asks a question, or for help."""
         word = self.lots.pick([*QUESTIONS, b"show", b"watch", b"writes", b"help"])
+        if self.machine.undone and self.lots.once_in(2):
+            word = b"forward"
         draws = {"a": self.moment, "i": self.identifier, "c": self.asked_class, "s": self.asked_slot, "v": self.held_word}
         draws["p"] = lambda: self.lots.pick(["-", self.retained_place()])
+        draws["k"] = lambda: self.lots.pick([*(each.name.decode() for each in self.state.classes), "absent"])
         draws["r"] = lambda: self.retained_place() if self.lots.once_in(5) else f"@{max(0, self.machine.place + 1 - self.lots.below(5))}"
+        draws["w"] = self.way_on
         draws["n"] = lambda: self.lots.near(self.lots.below(8), 70)
         draws["#"] = lambda: "count"
         if word == b"show":

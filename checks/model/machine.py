@@ -26,6 +26,8 @@ class Machine:
         self.states = [State(regions, mutators, self.limits, area)]
         # The events that led to all states but the oldest.
         self.events = []
+        # The events that rewinds undid, the next one last.
+        self.undone = []
         self.pins = {}
         self.next_pin = 1
 
@@ -44,6 +46,7 @@ class Machine:
         after, answer = applied(self.state, event)
         self.states = [*self.states, after][-(self.keep + 1) :]
         self.events = [*self.events, event][-self.keep :]
+        self.undone = []
         self.place += 1
         return answer
 
@@ -51,11 +54,21 @@ class Machine:
         """Undoes `count` steps, and returns the place."""
         refuse_if(count > self.retained, 21, count, self.retained)
         self.states = self.states[: len(self.states) - count]
+        self.undone = [*self.undone, *reversed(self.events[len(self.events) - count :])]
         self.events = self.events[: len(self.events) - count]
         self.place -= count
         for pin in self.pins.values():
             if pin.place > self.place:
                 pin.lost = pin.lost or "Rewound"
+        return self.place
+
+    def forward(self, count):
+        """Takes `count` of the undone steps again, and returns the place."""
+        refuse_if(count > len(self.undone), 29, count, len(self.undone))
+        for _ in range(count):
+            undone = self.undone
+            self.step(undone[-1])
+            self.undone = undone[:-1]
         return self.place
 
     def open(self, at=None):

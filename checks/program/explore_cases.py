@@ -63,14 +63,14 @@ def slowly(path):
         pipe.write(b"\n" * 1024 + b"snap\n\nmar")
 
 
-def counted(program, by):
-    """Returns what `explore` shows of a file that comes slowly, with PATH for its name, by one of two ways to run it."""
+def counted(program, by, *words):
+    """Returns what `explore` with these words shows of a file that comes slowly, with PATH for its name, by one of two ways to run it."""
     with tempfile.TemporaryDirectory() as folder:
         path = os.path.join(folder, "pipe")
         os.mkfifo(path)
         writer = threading.Thread(target=slowly, args=(path,))
         writer.start()
-        ran = by(program, ["explore", "--from", path], b"mark\n")
+        ran = by(program, ["explore", "--from", path, *words], b"mark\n")
         writer.join()
         return (*ran[:2], ran[2].replace(path.encode(), b"PATH"))
 
@@ -83,6 +83,7 @@ def counts_of_lines(program):
     said = b"no 16 NothingToMark\n"
     yield "a slow file", counted(program, run), (0, said, refused + cut)
     yield "a slow file at a terminal", counted(program, run_by_terminal), (0, said, b"\r2048 lines\n" + refused + cut)
+    yield "a slow file at a quiet terminal", counted(program, run_by_terminal, "--quiet"), (0, said, refused + cut)
 
 
 def files_first(program):

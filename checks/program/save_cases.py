@@ -179,15 +179,16 @@ def shown_on(terminal, last=b""):
     return shown
 
 
-def saved_late(program, error, terminal=None):
-    """Returns the status of a large save to a pipe that is read late, what is on a terminal meanwhile, and how much came out."""
+def saved_late(program, error, terminal=None, words=()):
+    """Returns the status of a large save by these words to a pipe that is read late, what is on a terminal meanwhile, and how much came
+    out."""
     got = []
     with tempfile.TemporaryDirectory() as folder:
         path = os.path.join(folder, "pipe")
         os.mkfifo(path)
         reader = threading.Thread(target=late, args=(path, terminal, got))
         reader.start()
-        words = ["heapdbg", "save", "--out", path, "--regions=256"]
+        words = ["heapdbg", "save", "--out", path, "--regions=256", *words]
         given = b"newprim 0 0 long 1024\n" * 256
         ran = subprocess.run(words, executable=program, input=given, stdout=subprocess.PIPE, stderr=error, timeout=SECONDS)
         reader.join()
@@ -204,6 +205,17 @@ def saved_beside_a_terminal(program):
     os.close(error)
     os.close(terminal)
     return status, size, [int(line.split()[0]) for line in early.split(b"\r") if line], early + rest
+
+
+def saved_quietly(program):
+    """Returns the status of a large save with `--quiet` whose standard error is a terminal, how much came out of it, and what the terminal
+    shows after it."""
+    terminal, error = os.openpty()
+    status, _, size = saved_late(program, error, words=["--quiet"])
+    shown = os.read(terminal, 65536) if select.select([terminal], [], [], 0)[0] else b""
+    os.close(error)
+    os.close(terminal)
+    return status, size, shown
 
 
 def saved_to_listeners(program):
@@ -231,3 +243,4 @@ def saved_on_terminals(program):
         status, _, came = saved_late(program, error)
         error.seek(0)
         yield "saved beside a file", (status, came, error.read()), (0, size, b"")
+    yield "saved beside a quiet terminal", saved_quietly(program), (0, size, b"")

@@ -251,6 +251,14 @@ class Replies(unittest.TestCase):
             self.assertEqual(heap.life(heap.new(0, 1, 0)), [("Node", 3, 4, 8), ("Node", 9, None, None)])
             self.assertEqual([row.born for row in heap.life(lost)], [3, 9])
 
+    def test_forward(self):
+        heap = canned("ok place 7", "ok place 9", "no 29 NothingToRedo 3 1")
+        self.assertEqual((heap.forward(2), heap.forward(Place(9))), (7, 9))
+        with self.assertRaises(Refused) as raised:
+            heap.forward(3)
+        self.assertEqual((raised.exception.facts.asked, raised.exception.facts.left), (3, 1))
+        self.assertEqual(heap.writer.getvalue(), b"forward 2\nforward @9\nforward 3\n")
+
     def test_cycles(self):
         heap = canned("row 9 2 2", "row 17 3 0", "ok 2", "ok 0")
         rows = heap.cycles()

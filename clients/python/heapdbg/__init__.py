@@ -5,7 +5,7 @@ a value. A refusal is raised as `Refused`, a session that ended as `Ended`, a li
 `BadCommand`. Objects are their ids, as `ObjectId`; null is None. A moment of the heap is `Now()`, `Place(816)` or `Pin(1)`.
 A `Recorder` writes what a program does with its objects as lines. Needs Python 3.9 and its standard library alone."""
 from .connections import fetch
-from .faults import BadCommand, Ended, LostFact, NotDoneFacts, Refused, RegionFact, TooFarFacts
+from .faults import BadCommand, Ended, LostFact, NotDoneFacts, NothingToRedoFacts, Refused, RegionFact, TooFarFacts
 from .mirror import UnknownName
 from .moments import Moment, Now, Pin, PinAt, Place
 from .recorder import Call, Cost, Recorder
@@ -45,7 +45,7 @@ from .rows import (
 from .session import Batch, Later, Session
 
 __all__ = ["Session", "Batch", "Later", "Refused", "Ended", "BadCommand", "fetch"]
-__all__ += ["NotDoneFacts", "RegionFact", "TooFarFacts", "LostFact"]
+__all__ += ["NotDoneFacts", "RegionFact", "TooFarFacts", "LostFact", "NothingToRedoFacts"]
 __all__ += ["Moment", "Now", "Place", "Pin", "PinAt", "ObjectId", "Swept", "Collected", "Piece"]
 __all__ += ["Cells", "ClassCount", "ClassGrowth", "ClassRow", "Dominator", "Field", "HeldPin", "Holding", "LostPin", "ListedObject"]
 __all__ += ["NullRegister", "Register", "PastStep", "RegisterReference", "RegisterStep", "SlotChange", "SlotReference", "SlotRow"]

@@ -107,9 +107,9 @@ class Calls:
         """Defines a class of object arrays, and returns its number."""
         return self.send(f"array {word_of(name)}", number)
 
-    def new(self, m: int, r: int, class_number: int) -> ObjectId:
-        """Makes an instance in register `r` of mutator `m`, and returns its id."""
-        return self.send(f"new {m} {r} {class_number}", loaded)
+    def new(self, m: int, r: int, of_class: Name) -> ObjectId:
+        """Makes an instance of a class in register `r` of mutator `m`, and returns its id."""
+        return self.send(f"new {m} {r} {word_of(str(of_class))}", loaded)
 
     def new_array(self, m: int, r: int, class_number: int, length: int) -> ObjectId:
         """Makes an object array, and returns its id."""
@@ -166,6 +166,11 @@ class Calls:
     def rewind(self, by: Union[int, Place]) -> int:
         """Undoes this many of the last steps, or those since a place, and returns the place."""
         return self.send(f"rewind {by}", number)
+
+    def forward(self, by: Union[int, Place]) -> int:
+        """Takes this many of the steps again that rewinds undid, or those up to a place, and returns the place. The heap has to answer
+        questions: `explore`, or `serve --questions 1`; a served heap refuses it."""
+        return self.send(f"forward {by}", number)
 
     def open(self, place: Union[Place, Now, int, None] = None) -> PinAt:
         """Opens a pin on a retained place, or on the current state, and returns a `PinAt`."""
@@ -347,6 +352,6 @@ class Calls:
         return self.send("status", facts_by_name)
 
     def collect(self) -> Collected:
-        """Runs a whole cycle, or finishes the one that runs, and returns what it did as `Collected`. The only question that
-        changes the heap."""
+        """Runs a whole cycle, or finishes the one that runs, and returns what it did as `Collected`. It changes the
+        heap."""
         return self.send("collect", collected)

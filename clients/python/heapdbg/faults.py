@@ -8,7 +8,7 @@ from typing import Iterable, NamedTuple, Optional, Union
 LINE = re.compile(r"[ -~]*")
 WORD = re.compile(r"[!-~]+")
 QUESTIONS = """show registers classes objects values histogram growth kept diff path retained dominators dominator referrers garbage wrote watch writes when born dropped
-life history cycles pins cells regions status collect help""".split()
+life history cycles pins cells regions status collect forward help""".split()
 
 
 class NotDoneFacts(NamedTuple):
@@ -31,6 +31,13 @@ class TooFarFacts(NamedTuple):
     retained: int
 
 
+class NothingToRedoFacts(NamedTuple):
+    """The facts of 29 NothingToRedo: how many steps were to be taken again, and how many are undone."""
+
+    asked: int
+    left: int
+
+
 class LostFact(NamedTuple):
     """The fact of 23 Lost: `Rewound`, `Memory`, or of a served heap `Closed`."""
 
@@ -38,7 +45,7 @@ class LostFact(NamedTuple):
 
 
 # The facts of a refusal, by its number. Refusals of other numbers have none.
-FACTS = {18: NotDoneFacts, 19: RegionFact, 20: RegionFact, 21: TooFarFacts, 23: LostFact}
+FACTS = {18: NotDoneFacts, 19: RegionFact, 20: RegionFact, 21: TooFarFacts, 23: LostFact, 29: NothingToRedoFacts}
 
 
 def facts_of(number: int, words: Iterable[str]) -> tuple[Union[int, str], ...]:

@@ -78,11 +78,16 @@ fn nearest(alloc: Global, word: &str) -> Result<Option<&'static str>, AllocError
 
 // Returns how far a word may be from a keyword that it stands for.
 fn reach(keyword: &str) -> usize {
-    if question_help(keyword.as_bytes()).is_some() && keyword != "collect" {
+    if question_help(keyword.as_bytes()).is_some() && !changes(keyword) {
         NEAR
     } else {
         NEAREST
     }
+}
+
+// Tells whether a line with this keyword of a question changes the heap.
+fn changes(keyword: &str) -> bool {
+    keyword == "collect" || keyword == "forward"
 }
 
 // Returns how a line of this form names a state, or None if it names none.

@@ -14,8 +14,8 @@ use std::time::Clock;
 
 /// Serves the lines of a file as a session of these commands, within these limits, whose answers go nowhere. Reports on
 /// standard error, by the file's name and the line's number, answer and text, each line that is no command or is refused, and
-/// why reading ended early; and, if that is a terminal, about once a second how many lines were read. Fails if an allocation
-/// for reading the file fails, and reads nothing.
+/// why reading ended early; and, if `counts` says so, about once a second how many lines were read. Fails if an allocation for
+/// reading the file fails, and reads nothing.
 pub fn load_lines<F: Read + Drop, R: Clock + Eprint, C: Commands>(
     rt: &R,
     alloc: Global,
@@ -24,7 +24,7 @@ pub fn load_lines<F: Read + Drop, R: Clock + Eprint, C: Commands>(
     commands: &mut C,
     time: u64,
     limits: SessionLimits,
-    is_terminal: bool,
+    counts: bool,
 ) -> Result<Ended, AllocError>
     ensures { IfOk result
         (IsLoaded limits (AnswersCommand C.acts C.unknown time) (Begins C.acts C.unknown time)
@@ -32,7 +32,7 @@ pub fn load_lines<F: Read + Drop, R: Clock + Eprint, C: Commands>(
 {
     let newest = NewestLine::new(alloc);
     let mut lines = LineInlet::new(rt, alloc, &newest, name, file)?;
-    if is_terminal {
+    if counts {
         lines.reports.begin_count();
     }
     let mut answers = NotingOutlet::new(Discard::new(), &newest);

@@ -1,34 +1,183 @@
 -- A pin with a copy more.
-use Rattle.std.proofs.Common.{◌≡◌, ◌≢◌, ℕ, zero, suc, ◌+◌, ◌<◌, Bool, true, false, List, [], ◌∷◌, length, drop, set, Option, Some, None, IsSome, IfSome, refl, sym, ap, subst, ◌∙◌, arith, length-set}
-use Rattle.std.specs.Prelude.{slice_index_or, option_map, is_some, Result, Ok, Err, OnErr}
+use Rattle.std.proofs.Common.{◌≡◌, ◌≢◌, ◌⊎◌, ℕ, zero, suc, ◌+◌, ◌<◌, ◌≤◌, Bool, true, false, List, [], ◌∷◌, length, drop, set, Option, Some, None, IsSome, IfSome, refl, sym, ap, subst, ◌∙◌, arith, length-set}
+use mathlib.Core.Logic.{inl, inr}
+use Rattle.std.specs.Prelude.{◌==◌, slice_index_or, option_map, Result, Ok, Err, OnErr, if◌then◌else◌}
+use Rattle.std.proofs.lemmas.Bool.{cases_lt, eq-eqb, ne_eqb}
+use Rattle.std.proofs.lemmas.List.{get_or_past, get_or-set_same, get_or-set_other, set-set}
 use Rattle.heap_class.specs.declared.ObjRef.{ObjRef}
 use Rattle.heap_region.specs.Regions.{Object, UsedRegion, Region, FitsWords, object_at, used_at, cell_object, slot_object}
 use Rattle.heap_region.specs.Layout.{words_of}
 use Rattle.heap_region.specs.RegionCopies.{Frozen, frozen, frozen_words, frozen_with, region_frozen}
+use Rattle.heap_region.proofs.ChangedLookups.{same_or_not}
 use Rattle.heap_region.proofs.ShownRegions.{object_of_used}
-use Rattle.heap_pins.specs.Pin.{PinContents}
 use Rattle.heap_world.specs.State.{HeapState}
-use Rattle.heap_step.specs.declared.Undo.{Undo}
-use Rattle.heap_step.specs.declared.Undo.TheVariants.{Put, Store, Sweep, Reclaim}
-use Rattle.heap_pins.specs.KeptCopies.{kept_at, with_dead, kept_if, kept}
+use Rattle.heap_step.specs.declared.Undo.TheVariants.{Reclaim, Sweep}
+use Rattle.heap_pins.specs.KeptCopies.{bytes_with, has_copy, kept_at, with_byte, with_copy, with_dead}
+use Rattle.heap_pins.specs.KeptRegions.{IsRevivedTable, KeptContents, blank}
+use Rattle.heap_pins.specs.Pin.{PinContents, cell_state, copy_or_now, region_seen, state_kept, state_seen, states_of_region}
 use Rattle.heap_pins.specs.Shows.{AreFit}
-use Rattle.heap_pins.proofs.RecordCases.{by_region}
+use Rattle.heap_pins.specs.States.{AreOf, AreRestored, AreSettled, cell_of, cell_states, states_by, storage_states}
+use Rattle.heap_pins.specs.Walk.{dead_state, states_before}
+use Rattle.heap_pins.specs.WalkedPins.{IsRevived, without_copy}
+use Rattle.heap_pins.proofs.CellStates.{bytes_are_states, copied_cell_has_its_byte, free_cell_is_kept}
+use Rattle.heap_pins.proofs.CopiedRegions.{is_not_none, not_some_copy_is_none}
+use Rattle.heap_pins.proofs.OpenedPins.{length_of_blank, zero_in_blank}
 
--- an item of the copies that is known to be there
-pub copy_is : (copies : List (Option Frozen)) (r : ℕ) (x : Option Frozen) → r < length copies → x ≡ slice_index_or copies r x → slice_index_or copies r None ≡ x
-copy_is [] r x lt e = absurd (omega (arith, lt))
-copy_is (y ∷ copies) zero x lt e = sym e
-copy_is (y ∷ copies) (suc r) x lt e = copy_is copies r x (omega (arith, lt)) e
+-- ---- a copy is put
 
--- there was one
-pub had_copy : (r : ℕ) (c x : Option Frozen) (p : PinContents) → r < length p.copies → x ≡ slice_index_or p.copies r x → is_some x ≡ true → p ≡ kept_at r c (is_some (slice_index_or p.copies r None)) p
+-- the pin has a copy
+pub settled_pin_stays : (r : ℕ) (copy : Option Frozen) (states : List ℕ) (p : PinContents) → has_copy r p ≡ true → p ≡ kept_at r copy states (has_copy r p) p
 unfolding kept_at
-had_copy r c x p lt e some = rw (copy_is p.copies r x lt e, some) refl
+settled_pin_stays r copy states p some = sym (ap (λ b. kept_at r copy states b p) some)
 
--- there was none
-pub has_copy : (r : ℕ) (c x : Option Frozen) (p : PinContents) → r < length p.copies → x ≡ slice_index_or p.copies r x → is_some x ≡ false → record p { copies = set p.copies r c } ≡ kept_at r c (is_some (slice_index_or p.copies r None)) p
+-- the pin has none, and a copy and states are put
+pub copy_is_put : (p i : PinContents) (k : KeptContents) (r : ℕ) (f : Frozen) (c : Option Frozen) (states wanted : List ℕ) → i ≡ p → k ≡ record { copies = set i.copies r (Some f); cells = set i.cells r states } → c ≡ Some f → states ≡ wanted
+    → record i { copies = k.copies; cells = k.cells } ≡ with_copy r c wanted p
+unfolding with_copy
+copy_is_put p i k r f c states wanted is put made same =
+    ap (λ (z : KeptContents). (let t : PinContents = record i { copies = z.copies; cells = z.cells } in t)) put
+    ∙ ap (λ (q : PinContents). (let t : PinContents = record q { copies = set q.copies r (Some f); cells = set q.cells r states } in t)) is
+    ∙ ap (λ l. (let t : PinContents = record p { copies = set p.copies r (Some f); cells = set p.cells r l } in t)) same
+    ∙ sym (ap (λ x. with_copy r x wanted p) made)
+
+pub free_pin_keeps : (r : ℕ) (c : Option Frozen) (states : List ℕ) (p : PinContents) → has_copy r p ≡ false → with_copy r c states p ≡ kept_at r c states (has_copy r p) p
 unfolding kept_at
-has_copy r c x p lt e none = rw (copy_is p.copies r x lt e, none) refl
+free_pin_keeps r c states p free = sym (ap (λ b. kept_at r c states b p) free)
+
+-- a copy is put where one was taken out
+pub copy_is_put_back : (p i : PinContents) (k : KeptContents) (r : ℕ) (f : Frozen) (c : Option Frozen) (states wanted : List ℕ) → i ≡ without_copy r p → k ≡ record { copies = set i.copies r (Some f); cells = set i.cells r states } → c ≡ Some f → states ≡ wanted
+    → record i { copies = k.copies; cells = k.cells } ≡ with_copy r c wanted p
+unfolding with_copy
+copy_is_put_back p i k r f c states wanted is put made same =
+    copy_is_put (without_copy r p) i k r f (Some f) states wanted is put refl same
+    ∙ ap (λ l. (let t : PinContents = record p { copies = l; cells = set p.cells r wanted } in t)) (set-set p.copies r None (Some f))
+    ∙ sym (ap (λ x. with_copy r x wanted p) made)
+
+-- bytes are written
+pub bytes_are_set : (p i : PinContents) (k : KeptContents) (at : ObjRef) (fresh : Bool) (byte : ℕ) (bytes : List ℕ) → i ≡ p → k ≡ record { copies = i.copies; cells = set i.cells at.region bytes } → bytes ≡ bytes_with at.cell fresh byte (slice_index_or i.cells at.region [])
+    → record i { copies = k.copies; cells = k.cells } ≡ with_byte at fresh byte p
+bytes_are_set p i k at fresh byte bytes is put same =
+    ap (λ (z : KeptContents). (let t : PinContents = record i { copies = z.copies; cells = z.cells } in t)) put
+    ∙ ap (λ l. (let t : PinContents = record i { cells = set i.cells at.region l } in t)) same
+    ∙ ap (with_byte at fresh byte) is
+
+-- what the pin sees of a region, by its copy
+pub region_seen_by : (p : PinContents) (regions : List Region) (r : ℕ) (x : Option Frozen) → slice_index_or p.copies r None ≡ x → region_seen p regions r ≡ copy_or_now x (region_frozen regions r)
+unfolding region_seen
+region_seen_by p regions r x e = ap (λ z. copy_or_now z (region_frozen regions r)) e
+
+pub frozen_used : (regions : List Region) (r : ℕ) → IsSome (region_frozen regions r) → IsSome (used_at regions r)
+unfolding region_frozen
+frozen_used regions r some = go (used_at regions r) some
+  where
+    go : (x : Option UsedRegion) → IsSome (option_map frozen x) → IsSome x
+    go None some = some
+    go (Some u) some = search
+
+-- ---- the states of a region without a copy
+
+-- the states that a pin shows beside the heap as it is
+pub free_states_are_kept : (p : PinContents) (regions : List Region) (r : ℕ) (bytes : List ℕ) → has_copy r p ≡ false → AreOf (state_seen p regions) r 256 bytes → bytes ≡ states_of_region (states_by p (cell_states regions)) r
+free_states_are_kept p regions r bytes free a = bytes_are_states (states_by p (cell_states regions)) r bytes (record {
+  count = a.count;
+  each = λ c lt. a.each c lt ∙ free_cell_is_kept p regions (cell_of r c) (not_some_copy_is_none (slice_index_or p.copies r None) free);
+})
+
+-- those that it shows if the cells have these states
+pub settled_states_are_kept : (p : PinContents) (g : ObjRef → ℕ) (r : ℕ) (bytes old states : List ℕ) → AreOf g r 256 old → AreSettled p.ended bytes old states → bytes ≡ slice_index_or p.cells r [] → states ≡ states_of_region (states_by p g) r
+settled_states_are_kept p g r bytes old states a s e = bytes_are_states (states_by p g) r states (record {
+  count = s.count ∙ a.count;
+  each = λ c lt. s.each c lt ∙ (λ i. state_kept p.ended (slice_index_or (e i) c 0) (a.each c lt i));
+})
+
+-- the states of all cells, where the region has none
+pub settled_states_are_seen : (p : PinContents) (regions : List Region) (r : ℕ) (bytes old states : List ℕ) → has_copy r p ≡ false → AreOf (cell_states regions) r 256 old → AreSettled p.ended bytes old states → bytes ≡ slice_index_or p.cells r [] → AreOf (state_seen p regions) r 256 states
+settled_states_are_seen p regions r bytes old states free a s e = record {
+  count = s.count ∙ a.count;
+  each = λ c lt. s.each c lt ∙ (λ i. state_kept p.ended (slice_index_or (e i) c 0) (a.each c lt i)) ∙ sym (free_cell_is_kept p regions (cell_of r c) (not_some_copy_is_none (slice_index_or p.copies r None) free));
+}
+
+-- where nothing is kept of the region
+pub live_states_are_settled : (ended : Bool) (bytes old states : List ℕ) → ended ≡ true → bytes ≡ blank → length states ≡ length old → ((k : ℕ) → slice_index_or states k 0 ≡ (if slice_index_or old k 0 == 0 then 0 else 1)) → AreSettled ended bytes old states
+live_states_are_settled ended bytes old states is nothing count each = record {
+  count = count;
+  each = λ c lt. each c ∙ sym (λ i. state_kept (is i) ((ap (λ l. slice_index_or l c 0) nothing ∙ zero_in_blank c) i) (slice_index_or old c 0));
+}
+
+pub states_are_settled : (ended : Bool) (bytes states : List ℕ) → ended ≡ false → bytes ≡ blank → AreSettled ended bytes states states
+states_are_settled ended bytes states is nothing = record {
+  count = refl;
+  each = λ c lt. sym (λ i. state_kept (is i) ((ap (λ l. slice_index_or l c 0) nothing ∙ zero_in_blank c) i) (slice_index_or states c 0));
+}
+
+-- the bytes of a region with a copy are its states
+pub copied_bytes_are_seen : (p : PinContents) (regions : List Region) (r : ℕ) (bytes : List ℕ) → has_copy r p ≡ true → length bytes ≡ 256 → bytes ≡ slice_index_or p.cells r [] → AreOf (state_seen p regions) r 256 bytes
+copied_bytes_are_seen p regions r bytes some count e = go (slice_index_or p.copies r None) refl
+  where
+    go : (c : Option Frozen) → slice_index_or p.copies r None ≡ c → AreOf (state_seen p regions) r 256 bytes
+    go None is = absurd (is_not_none (slice_index_or p.copies r None) some is)
+    go (Some f) is = record {
+      count = count;
+      each = λ c lt. ap (λ l. slice_index_or l c 0) e ∙ sym (copied_cell_has_its_byte p regions (cell_of r c) f is);
+    }
+
+-- the states of its cells are those of all 256
+pub states_of_all_cells : (u : UsedRegion) (r n : ℕ) (states : List ℕ) → length u.cells ≤ n → AreOf (storage_states u) r n states → ((c : ℕ) → n ≤ c → slice_index_or states c 0 ≡ 0) → AreOf (storage_states u) r 256 states
+states_of_all_cells u r n states past a others = record {
+  count = a.count;
+  each = λ c lt. elim (cases_lt c n) [
+    | inl less ↦ a.each c less
+    | inr more ↦ others c more ∙ sym (ap cell_state (get_or_past u.cells c None (omega (arith, past, more))))
+  ];
+}
+
+-- the states of a region in use, and of one that is not
+pub states_of_region_in_use : (regions : List Region) (r : ℕ) (u : UsedRegion) (bytes : List ℕ) → used_at regions r ≡ Some u → AreOf (storage_states u) r 256 bytes → AreOf (cell_states regions) r 256 bytes
+states_of_region_in_use regions r u bytes used a = record {
+  count = a.count;
+  each = λ c lt. a.each c lt ∙ sym (ap cell_state (object_of_used regions (cell_of r c) ∙ ap (λ s. slot_object s c) used));
+}
+
+pub states_of_unused_region : (regions : List Region) (r : ℕ) (bytes : List ℕ) → used_at regions r ≡ None → bytes ≡ blank → AreOf (cell_states regions) r 256 bytes
+states_of_unused_region regions r bytes unused is = record {
+  count = ap length is ∙ length_of_blank;
+  each = λ c lt. ap (λ l. slice_index_or l c 0) is ∙ zero_in_blank c ∙ sym (ap cell_state (object_of_used regions (cell_of r c) ∙ ap (λ s. slot_object s c) unused));
+}
+
+-- ---- dead objects back
+
+pub drop_here : (xs : List (ℕ × Object)) (i : ℕ) (x : ℕ × Object) → i < length xs → x ≡ slice_index_or xs i x → drop i xs ≡ x ∷ drop (i + 1) xs
+drop_here [] i x lt e = absurd (omega (arith, lt))
+drop_here (y ∷ xs) zero x lt e = ap (λ z. z ∷ xs) (sym e)
+drop_here (y ∷ xs) (suc i) x lt e = drop_here xs i x (omega (arith, lt)) e ∙ ap (λ n. x ∷ drop n (y ∷ xs)) (let z : suc (i + 1) ≡ suc i + 1 = omega arith in z)
+
+pub restored_states_are_before : (w : HeapState) (r : ℕ) (dead : List (ℕ × Object)) (g : ObjRef → ℕ) (old states : List ℕ) → AreOf g r 256 old → AreRestored dead old states → AreOf (states_before (Sweep r dead) g) r 256 states
+unfolding states_before
+restored_states_are_before w r dead g old states a s = record {
+  count = s.count ∙ a.count;
+  each = λ c lt. s.each c ∙ ap (dead_state dead c) (a.each c lt) ∙ ap (λ t. if t then dead_state dead c (g (cell_of r c)) else g (cell_of r c)) (sym (eq-eqb r r refl));
+}
+
+pub reclaimed_states_are_before : (r : ℕ) (storage : UsedRegion) (g : ObjRef → ℕ) (states : List ℕ) → AreOf (storage_states storage) r 256 states → states ≡ states_of_region (states_before (Reclaim r storage) g) r
+unfolding states_before
+reclaimed_states_are_before r storage g states a = bytes_are_states (states_before (Reclaim r storage) g) r states (record {
+  count = a.count;
+  each = λ c lt. a.each c lt ∙ ap (λ t. if t then storage_states storage (cell_of r c) else g (cell_of r c)) (sym (eq-eqb r r refl));
+})
+
+-- the next of the dead objects is written
+pub dead_state_is_written : (dead : List (ℕ × Object)) (i : ℕ) (d : ℕ × Object) (y : ℕ) (old states : List ℕ) → i < length dead → d ≡ slice_index_or dead i d → d.0 < length states → y ≡ cell_state (Some d.1)
+    → ((c : ℕ) → dead_state (drop i dead) c (slice_index_or states c 0) ≡ dead_state dead c (slice_index_or old c 0))
+    → (c : ℕ) → dead_state (drop (i + 1) dead) c (slice_index_or (set states d.0 y) c 0) ≡ dead_state dead c (slice_index_or old c 0)
+unfolding dead_state
+dead_state_is_written dead i d y old states lt is within e h c =
+    ap (dead_state (drop (i + 1) dead) c) (written (same_or_not d.0 c))
+    ∙ sym (ap (λ ds. dead_state ds c (slice_index_or states c 0)) (drop_here dead i d lt is))
+    ∙ h c
+  where
+    written : (d.0 ≡ c) ⊎ (d.0 ≢ c) → slice_index_or (set states d.0 y) c 0 ≡ (if d.0 == c then cell_state (Some d.1) else slice_index_or states c 0)
+    written (inl s) = ap (λ j. slice_index_or (set states d.0 y) j 0) (sym s) ∙ get_or-set_same states d.0 y 0 within ∙ e ∙ ap (λ t. if t then cell_state (Some d.1) else slice_index_or states c 0) (sym (eq-eqb d.0 c s))
+    written (inr ne) = get_or-set_other states d.0 c y 0 (λ q. ne (sym q)) ∙ ap (λ t. if t then cell_state (Some d.1) else slice_index_or states c 0) (sym (ne_eqb d.0 c ne))
 
 -- the slot of an object is one of the copy's
 pub slot_copied : (regions : List Region) (at : ObjRef) (slot : ℕ) (f : Frozen) → region_frozen regions at.region ≡ Some f → IsSome (object_at regions at) → IfSome (object_at regions at) (λ o. slot < length o.words) → slot < length (frozen_words f at.cell)
@@ -44,11 +193,6 @@ slot_copied regions at slot f copied some within = go (used_at regions at.region
     go (Some u) e some within = (let same : frozen u ≡ f = cc in subst (λ g. slot < length (frozen_words g at.cell)) same (known (cell_object u at.cell) some within))
 
 -- ---- dead objects, one by one
-
-pub drop_here : (xs : List (ℕ × Object)) (i : ℕ) (x : ℕ × Object) → i < length xs → x ≡ slice_index_or xs i x → drop i xs ≡ x ∷ drop (i + 1) xs
-drop_here [] i x lt e = absurd (omega (arith, lt))
-drop_here (y ∷ xs) zero x lt e = ap (λ z. z ∷ xs) (sym e)
-drop_here (y ∷ xs) (suc i) x lt e = drop_here xs i x (omega (arith, lt)) e ∙ ap (λ n. x ∷ drop n (y ∷ xs)) (let z : suc (i + 1) ≡ suc i + 1 = omega arith in z)
 
 -- the first of those that are left is put into its cell
 pub record PutsNext (dead : List (ℕ × Object)) (i : ℕ) (d : ℕ × Object) (f g : Frozen) : Type 0 where
@@ -69,20 +213,16 @@ next_dead_is_put dead i d f g lt e fit is =
       rest = ap (with_dead (drop (i + 1) dead)) is ∙ ap (λ ds. with_dead ds f) (sym here);
     }
 
--- ---- a record that touches no region
-
-pub other_records_keep_the_pin : (left : Undo) (v : HeapState) (p : PinContents) → ((at : ObjRef) (slot old : ℕ) → left ≢ Put at slot old) → ((at : ObjRef) (slot old : ℕ) (logged : Bool) → left ≢ Store at slot old logged)
-    → ((region : ℕ) (dead : List (ℕ × Object)) → left ≢ Sweep region dead) → ((region : ℕ) (storage : UsedRegion) → left ≢ Reclaim region storage) → p ≡ kept left v p
-unfolding kept kept_if
-other_records_keep_the_pin left v p a b c d = by_region (λ u. left ≡ u → p ≡ kept u v p)
-    (λ at slot old e. absurd (a at slot old e))
-    (λ at slot old logged e. absurd (b at slot old logged e))
-    (λ region dead e. absurd (c region dead e))
-    (λ region storage e. absurd (d region storage e))
-    (λ u n e. ap (λ x. kept_if x u v p) (sym n.none))
-    left refl
-
 -- what holds anyhow holds at a refusal
 pub truth_holds_at_refusal : {A E P : Type 0} (r : Result A E) → P → OnErr r P
 truth_holds_at_refusal (Ok a) p = tt
 truth_holds_at_refusal (Err e) p = p
+
+-- ---- all objects are live
+
+pub table_revived_is_pin_revived : (p i : PinContents) (k : KeptContents) → i ≡ p → IsRevivedTable (record { copies = i.copies; cells = i.cells }) k → IsRevived p (record i { ended = true; copies = k.copies; cells = k.cells })
+table_revived_is_pin_revived p i k is h = subst (λ (q : PinContents). IsRevivedTable (record { copies = q.copies; cells = q.cells }) k → IsRevived p (record q { ended = true; copies = k.copies; cells = k.cells })) (sym is) (λ t. record {
+  rest = λ j. record p { ended = true; copies = t.copies j; cells = k.cells };
+  cells = λ n cells. record { count = t.count ∙ cells.count; each = λ r lt. t.sizes r ∙ cells.each r lt };
+  bytes = λ at few. t.bytes at;
+}) h

@@ -1,15 +1,12 @@
 -- What a pin copies is the region as it was before the step.
-use Rattle.std.proofs.Common.{◌≡◌, ◌⊎◌, ℕ, zero, suc, ◌≤◌, Bool, true, false, List, [], ◌∷◌, length, set, fold, Option, Some, None, refl, sym, ap, subst, ◌∙◌, arith, length-set}
+use Rattle.std.proofs.Common.{◌≡◌, ◌⊎◌, ℕ, zero, suc, ◌≤◌, true, false, List, [], ◌∷◌, length, set, fold, Option, Some, None, refl, sym, ap, subst, ◌∙◌, arith}
 use mathlib.Core.Logic.{inl, inr}
-use Rattle.std.proofs.lemmas.Bool.{cases_lt}
-use Rattle.std.specs.Prelude.{slice_index_or, slice_set, option_map, is_some}
-use Rattle.std.proofs.lemmas.List.{get_or-set_same, get_or-set_other}
+use Rattle.std.specs.Prelude.{slice_set, option_map, is_some}
 use Rattle.heap_class.specs.declared.ObjRef.{ObjRef}
 use Rattle.heap_region.specs.Regions.{Object, UsedRegion, Region, InUse, used_at, with_object, with_word, updated}
 use Rattle.heap_region.specs.Layout.{word_set}
 use Rattle.heap_region.specs.Pool.{RegionPool, restored}
 use Rattle.heap_region.specs.RegionCopies.{Frozen, frozen, frozen_word_set, region_frozen}
-use Rattle.heap_region.proofs.ChangedLookups.{same_or_not}
 use Rattle.heap_region.proofs.Lookups.{used_region_after_its_change}
 use Rattle.heap_region.proofs.ShownRegions.{updated_cells}
 use Rattle.heap_sweep.specs.Sweep.{unswept, unswept_region}
@@ -17,11 +14,9 @@ use Rattle.heap_world.specs.State.{HeapState, pool_of}
 use Rattle.heap_step.specs.declared.Undo.{Undo}
 use Rattle.heap_step.specs.Records.{undone}
 use Rattle.heap_pins.specs.Covers.{Covers}
-use Rattle.heap_pins.specs.Pin.{PinContents}
-use Rattle.heap_pins.specs.KeptCopies.{touched, with_dead, patched, copy_for, kept_at, kept_if, kept}
-use Rattle.heap_pins.specs.Shows.{KeepsRegion, KeepsFor}
-use Rattle.heap_pins.proofs.CoveringCopies.{same_copy_covers, absent_copy_is_covered, covered_by_none_is_none}
-use Rattle.heap_pins.proofs.RecordCases.{by_region, equal_options_name_same_region, no_region_is_named, record_that_touches_no_region}
+use Rattle.heap_pins.specs.KeptCopies.{touched, with_dead, patched, copy_for}
+use Rattle.heap_pins.proofs.CoveringCopies.{same_copy_covers, absent_copy_is_covered}
+use Rattle.heap_pins.proofs.RecordCases.{by_region, equal_options_name_same_region, record_that_touches_no_region}
 
 -- ---- the touched region
 
@@ -73,72 +68,18 @@ copy_covers left v r = by_region (λ u. touched u ≡ Some r → Covers (region_
     word : (at : ObjRef) (slot old : ℕ) → Some at.region ≡ Some r → Covers (region_frozen (with_word at slot old v.regions) r) (option_map (frozen_word_set at.cell slot old) (region_frozen v.regions r))
     word at slot old t = subst (λ q. Covers (region_frozen (with_word at slot old v.regions) q) (option_map (frozen_word_set at.cell slot old) (region_frozen v.regions q))) (equal_options_name_same_region at.region r t) (same_copy_covers _ _ (sym (word_copied at slot old v.regions)))
 
--- ---- the pin with it
+-- ---- none
 
-no_region_past_the_list : (regions : List Region) (r : ℕ) → length regions ≤ r → region_frozen regions r ≡ None
+pub no_region_past_the_list : (regions : List Region) (r : ℕ) → length regions ≤ r → region_frozen regions r ≡ None
 unfolding region_frozen used_at
 no_region_past_the_list [] r h = refl
 no_region_past_the_list (x ∷ regions) zero h = absurd (omega (arith, h))
 no_region_past_the_list (x ∷ regions) (suc r) h = no_region_past_the_list regions r (omega (arith, h))
 
-abbrev copy_at : List (Option Frozen) → ℕ → Option Frozen
-copy_at copies r = slice_index_or copies r None
-
-copy_set_past_the_list : (copies : List (Option Frozen)) (q r : ℕ) (c : Option Frozen) → length copies ≤ q → copy_at (slice_set copies q c) r ≡ copy_at copies r
-copy_set_past_the_list [] q r c h = refl
-copy_set_past_the_list (x ∷ copies) zero r c h = absurd (omega (arith, h))
-copy_set_past_the_list (x ∷ copies) (suc q) zero c h = refl
-copy_set_past_the_list (x ∷ copies) (suc q) (suc r) c h = copy_set_past_the_list copies q r c (omega (arith, h))
-
-not_some_copy_is_none : (x : Option Frozen) → is_some x ≡ false → x ≡ None
+pub not_some_copy_is_none : (x : Option Frozen) → is_some x ≡ false → x ≡ None
 not_some_copy_is_none None e = refl
 not_some_copy_is_none (Some f) e = cc
 
-is_not_none : (x : Option Frozen) → is_some x ≡ true → x ≡ None → ⊥
+pub is_not_none : (x : Option Frozen) → is_some x ≡ true → x ≡ None → ⊥
 is_not_none None e n = cc
 is_not_none (Some f) e n = cc
-
-module _ (left : Undo) (v : HeapState) (p : PinContents) (sized : length p.copies ≡ length (undone left v).regions) where
-  each_at : (q : ℕ) → touched left ≡ Some q → (b : Bool) → is_some (copy_at p.copies q) ≡ b → (r : ℕ) → KeepsRegion p (kept_at q (copy_for left v q) b p) (undone left v) r
-  unfolding kept_at
-  each_at q t true e r = inl refl
-  each_at q t false e r = elim (same_or_not r q) [
-    | inl same ↦ elim (cases_lt q (length p.copies)) [
-      | inl lt ↦ inr (ap (copy_at p.copies) same ∙ not_some_copy_is_none (copy_at p.copies q) e, rw same (subst (Covers (region_frozen (undone left v).regions q)) (sym (get_or-set_same p.copies q (copy_for left v q) None lt)) (copy_covers left v q t)))
-      | inr past ↦ inl (copy_set_past_the_list p.copies q r (copy_for left v q) (omega arith))
-    ]
-    | inr ne ↦ inl (get_or-set_other p.copies q r (copy_for left v q) None ne)
-  ]
-
-  done_at : (q : ℕ) → touched left ≡ Some q → (b : Bool) → is_some (copy_at p.copies q) ≡ b → copy_at (kept_at q (copy_for left v q) b p).copies q ≡ None → region_frozen (undone left v).regions q ≡ None
-  unfolding kept_at
-  done_at q t true e none = absurd (is_not_none (copy_at p.copies q) e none)
-  done_at q t false e none = elim (cases_lt q (length p.copies)) [
-    | inl lt ↦ covered_by_none_is_none (region_frozen (undone left v).regions q) (copy_for left v q) (sym (get_or-set_same p.copies q (copy_for left v q) None lt) ∙ none) (copy_covers left v q t)
-    | inr past ↦ no_region_past_the_list (undone left v).regions q (omega (arith, sized))
-  ]
-
-  alike_at : (q : ℕ) (c : Option Frozen) (b : Bool) → ((kept_at q c b p).classes ≡ p.classes) × ((kept_at q c b p).registers ≡ p.registers) × ((kept_at q c b p).live ≡ p.live) × (length (kept_at q c b p).copies ≡ length p.copies)
-  unfolding kept_at
-  alike_at q c true = (refl, refl, refl, refl)
-  alike_at q c false = (refl, refl, refl, length-set p.copies q c)
-
-  keeps_if : (x : Option ℕ) → touched left ≡ x → KeepsFor left v p (kept_if x left v p)
-  unfolding kept_if
-  keeps_if None t = record { classes = refl; registers = refl; live = refl; as_many = refl; each = λ r. inl refl; done = λ r e. no_region_is_named r _ (sym t ∙ e) }
-  keeps_if (Some q) t =
-      let b : Bool = is_some (copy_at p.copies q) in
-      let a = alike_at q (copy_for left v q) b in
-      record {
-        classes = a.0;
-        registers = a.1;
-        live = a.2;
-        as_many = a.3;
-        each = each_at q t b refl;
-        done = λ r e none. (let same : q ≡ r = equal_options_name_same_region q r (sym t ∙ e) in subst (λ k. region_frozen (undone left v).regions k ≡ None) same (done_at q t b refl (subst (λ k. copy_at (kept_at q (copy_for left v q) b p).copies k ≡ None) (sym same) none)));
-      }
-
--- a pin with a place for each region keeps what it has to
-pub kept_pin_keeps_for_step : (left : Undo) (v : HeapState) (p : PinContents) → length p.copies ≡ length (undone left v).regions → KeepsFor left v p (kept left v p)
-unfolding kept
-kept_pin_keeps_for_step left v p sized = keeps_if left v p sized (touched left) refl

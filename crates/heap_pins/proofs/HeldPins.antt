@@ -1,15 +1,17 @@
 -- A pin through steps and rewinds.
-use Rattle.std.proofs.Common.{◌≡◌, ℕ, zero, suc, List, [], ◌∷◌, length, take, sym, ap, ◌∙◌}
+use Rattle.std.proofs.Common.{◌≡◌, ℕ, zero, suc, List, [], ◌∷◌, take, sym, subst, ◌∙◌}
 use Rattle.heap_world.specs.State.{HeapState}
 use Rattle.heap_step.specs.declared.Undo.{Undo}
 use Rattle.heap_step.specs.Records.{undone}
 use Rattle.heap_pins.specs.Images.{image_of}
-use Rattle.heap_pins.specs.Pin.{PinContents, places_from, pin_image}
+use Rattle.heap_pins.specs.Pin.{PinContents, pin_image, places_seen}
 use Rattle.heap_pins.specs.KeptCopies.{kept}
-use Rattle.heap_pins.specs.Shows.{IsPinOf, ShowsState, KeepsFor, OfFirst, Holds}
+use Rattle.heap_pins.specs.Shows.{AreCells, IsPinOf, ShowsState, KeepsFor, OfFirst, Holds}
 use Rattle.heap_pins.proofs.ShownStates.{kept_pin_shows_state_before, kept_pin_shows_state_after}
-use Rattle.heap_pins.proofs.CopiedRegions.{kept_pin_keeps_for_step}
+use Rattle.heap_pins.proofs.KeptPins.{kept_pin_keeps_for_step}
+use Rattle.heap_region.specs.Regions.{live_places}
 use Rattle.heap_pins.proofs.ShownImages.{image_is}
+use Rattle.heap_pins.proofs.ShownPlaces.{shown_places_are_live}
 
 weaker_property_of_first_states : (P Q : HeapState → Type 0) → ((x : HeapState) → P x → Q x) → (n : ℕ) (xs : List HeapState) → OfFirst P n xs → OfFirst Q n xs
 weaker_property_of_first_states P Q f n [] h = tt
@@ -31,15 +33,18 @@ property_of_first_state P (suc n) x xs h = h.0
 pub held_image : (p : PinContents) (u : HeapState) (n : ℕ) (w : HeapState) (past : List HeapState) → Holds p u n (w ∷ past) → pin_image p w ≡ image_of u
 held_image p u n w past h = image_is p u w h.pin (property_of_first_state (ShowsState p u) n w past h.shows)
 
+-- and the places that it shows are those of its state's live objects
+pub held_places : (p : PinContents) (u : HeapState) (n : ℕ) (w : HeapState) (past : List HeapState) → Holds p u n (w ∷ past) → places_seen p w.regions ≡ live_places u.regions
+held_places p u n w past h = shown_places_are_live p u w h.pin (property_of_first_state (ShowsState p u) n w past h.shows)
+
 -- the pin keeps what it has to
 still_pin : (left : Undo) (v : HeapState) (p q : PinContents) (u : HeapState) → KeepsFor left v p q → IsPinOf p u → IsPinOf q u
 still_pin left v p q u k i = record {
   legal = i.legal;
   classes = k.classes ∙ i.classes;
   registers = k.registers ∙ i.registers;
-  live = ap (places_from 0) k.live ∙ i.live;
-  bytes = ap length k.live ∙ i.bytes;
   copies = k.as_many ∙ i.copies;
+  cells = subst (AreCells q.cells) i.copies k.cells;
 }
 
 -- a step that left this record and the state v, of which k states are retained
@@ -48,7 +53,7 @@ pin_stepped left v p u n k past h =
     let w : HeapState = undone left v in
     let q : PinContents = kept left v p in
     let before : ShowsState p u w = property_of_first_state (ShowsState p u) n w past h.shows in
-    let keeps : KeepsFor left v p q = kept_pin_keeps_for_step left v p (h.pin.copies ∙ sym before.count) in
+    let keeps : KeepsFor left v p q = kept_pin_keeps_for_step left v p (h.pin.copies ∙ sym before.count) (subst (AreCells p.cells) (sym h.pin.copies) h.pin.cells) in
     record {
       pin = still_pin left v p q u keeps h.pin;
       shows = (

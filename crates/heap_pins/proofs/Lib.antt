@@ -2,11 +2,15 @@ pub mod RecordCases
 pub mod CoveringCopies
 pub mod Others
 pub mod Classes
+pub mod CellStates
 pub mod ShownStates
 pub mod LiveCounts
 pub mod DumpLimits
+pub mod ShownPlaces
 pub mod ShownImages
 pub mod CopiedRegions
+pub mod KeptStates
+pub mod KeptPins
 pub mod LiveBytes
 pub mod AddedCopies
 pub mod RoomForCopies
@@ -17,8 +21,9 @@ pub mod States
 pub mod NextPlace
 pub mod ObjectReads
 pub mod WalkInvariants
-pub mod Bytes
-pub mod PatchedPins
 pub mod Walkable
 pub mod RecordWalks
 pub mod PinViews
+pub mod SlotTables
+pub mod KeptSteps
+pub mod FirstCells

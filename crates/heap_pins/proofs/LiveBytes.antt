@@ -1,13 +1,13 @@
 -- The places with byte 1 are those of the live objects.
-use Rattle.std.proofs.Common.{◌≡◌, ℕ, zero, suc, ◌+◌, ◌*◌, ◌/◌, ◌%◌, ◌<◌, ◌≤◌, Bool, true, false, List, [], ◌∷◌, ◌++◌, length, get_or, Option, None, refl, sym, ap, ◌∙◌, arith}
+use Rattle.std.proofs.Common.{◌≡◌, ℕ, zero, suc, ◌+◌, ◌*◌, ◌<◌, ◌≤◌, Bool, true, false, List, [], ◌∷◌, ◌++◌, length, get_or, Option, None, refl, sym, ap, ◌∙◌, arith}
 use Rattle.std.specs.Prelude.{slice_get, option_and_then, ◌==◌, if◌then◌else◌}
-use Rattle.std.proofs.lemmas.Nat.{div-mul-add, mod-mul-add}
 use Rattle.heap_region.specs.Regions.{Object, Region, Empty, InUse, used_part, used_at, object_at, live_places, slot_object}
 use Rattle.heap_region.specs.Legal.{EachUsed, IsCellTable}
 use Rattle.heap_region.specs.Live.{is_live, live_cells, cells_of, live_regions, live_from}
 use Rattle.heap_region.proofs.ShownRegions.{object_of_used}
 use Rattle.heap_region.proofs.Live.{live_places_from_region_zero}
-use Rattle.heap_pins.specs.Pin.{place, places_from}
+use Rattle.heap_pins.specs.Pin.{place, places_from, states_from}
+use Rattle.heap_pins.proofs.CellStates.{place_of_number_by_cell}
 use Rattle.heap_pins.proofs.LiveCounts.{cell_table_below_257_cells}
 
 -- 1 for a live object
@@ -15,22 +15,15 @@ abbrev pub live_byte : Option Object → ℕ
 live_byte o = if is_live o then 1 else 0
 
 -- the bytes of n cells from that of byte k
-unfoldable pub bytes_from : List Region → ℕ → ℕ → List ℕ
-bytes_from regions k zero = []
-bytes_from regions k (suc n) = live_byte (object_at regions (place k)) ∷ bytes_from regions (k + 1) n
+abbrev pub bytes_from : List Region → ℕ → ℕ → List ℕ
+bytes_from regions k n = states_from (λ at. live_byte (object_at regions at)) k n
 
 -- the bytes of all regions
 unfoldable pub live_bytes : List Region → List ℕ
 live_bytes regions = bytes_from regions 0 (256 * length regions)
 
-pub place_of_number_by_cell : (r c k : ℕ) → c < 256 → k ≡ 256 * r + c → place k ≡ record { region = r; cell = c }
-place_of_number_by_cell r c k few e =
-    let d : k / 256 ≡ r = ap (λ n. n / 256) (e ∙ omega arith) ∙ div-mul-add r 256 c few in
-    let m : k % 256 ≡ c = ap (λ n. n % 256) (e ∙ omega arith) ∙ mod-mul-add r 256 c few in
-    λ i. record { region = d i; cell = m i }
-
 pub bytes_joined : (regions : List Region) (k m n : ℕ) → bytes_from regions k (m + n) ≡ bytes_from regions k m ++ bytes_from regions (k + m) n
-unfolding bytes_from
+unfolding states_from
 bytes_joined regions k zero n = λ i. bytes_from regions ((let e : k ≡ k + 0 = omega arith in e) i) ((let e : 0 + n ≡ n = omega arith in e) i)
 bytes_joined regions k (suc m) n =
     let e : k + 1 + m ≡ k + suc m = omega arith in
@@ -38,11 +31,11 @@ bytes_joined regions k (suc m) n =
     ∙ ap (λ xs. live_byte (object_at regions (place k)) ∷ xs) (bytes_joined regions (k + 1) m n ∙ ap (λ j. bytes_from regions (k + 1) m ++ bytes_from regions j n) e)
 
 pub bytes_more : (regions : List Region) (n : ℕ) → bytes_from regions 0 (n + 1) ≡ bytes_from regions 0 n ++ live_byte (object_at regions (place n)) ∷ []
-unfolding bytes_from
+unfolding states_from
 bytes_more regions n = bytes_joined regions 0 n 1 ∙ ap (λ j. bytes_from regions 0 n ++ bytes_from regions j 1) (let e : 0 + n ≡ n = omega arith in e)
 
 pub length_bytes : (regions : List Region) (k n : ℕ) → length (bytes_from regions k n) ≡ n
-unfolding bytes_from
+unfolding states_from
 length_bytes regions k zero = refl
 length_bytes regions k (suc n) = ap suc (length_bytes regions (k + 1) n)
 
@@ -62,7 +55,7 @@ byte_is false = refl
 -- a region's cells from one on
 cells_placed : (regions : List Region) (r c n k : ℕ) (cells : List (Option Object)) → c + n ≡ 256 → length cells ≤ n → k ≡ 256 * r + c → ((i : ℕ) → i < n → object_at regions (record { region = r; cell = c + i }) ≡ get_or cells i None)
     → places_from k (bytes_from regions k n) ≡ live_cells r c cells
-unfolding places_from bytes_from live_cells
+unfolding places_from states_from live_cells
 cells_placed regions r c zero k [] all few e here = refl
 cells_placed regions r c zero k (o ∷ os) all few e here = absurd (omega (arith, few))
 cells_placed regions r c (suc n) k [] all few e here =
@@ -84,7 +77,7 @@ slot_object_is_its_cell (InUse u) c = refl
 
 regions_placed : (regions : List Region) (r k : ℕ) (rest : List Region) → EachUsed regions (λ r u. IsCellTable u) → k ≡ 256 * r → ((i : ℕ) → slice_get regions (r + i) ≡ slice_get rest i)
     → places_from k (bytes_from regions k (256 * length rest)) ≡ live_regions r rest
-unfolding places_from bytes_from live_regions used_at
+unfolding places_from states_from live_regions used_at
 regions_placed regions r k [] tables e same = refl
 regions_placed regions r k (x ∷ rest) tables e same =
     let later : places_from (k + 256) (bytes_from regions (k + 256) (256 * length rest)) ≡ live_regions (r + 1) rest

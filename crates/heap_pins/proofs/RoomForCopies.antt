@@ -20,8 +20,9 @@ use Rattle.heap_step.specs.declared.Event.{Event}
 use Rattle.heap_step.specs.declared.Undo.{Undo}
 use Rattle.heap_step.specs.Laws.{IsStep}
 use Rattle.heap_step.proofs.Fits.{IsSwept}
-use Rattle.heap_step.proofs.Steps.{put_record_names_an_object, store_there, sweep_before, reclaim_empty}
-use Rattle.heap_pins.specs.KeptCopies.{touched}
+use Rattle.heap_step.proofs.Steps.{new_record_names_an_object, put_record_names_an_object, store_there, sweep_before, reclaim_empty}
+use Rattle.heap_step.specs.declared.Undo.TheVariants.{New}
+use Rattle.heap_pins.specs.KeptCopies.{noted, touched}
 use Rattle.heap_pins.proofs.RecordCases.{by_region, equal_options_name_same_region, record_that_touches_no_region}
 use Rattle.heap_pins.specs.Shows.{AreFit, FitIn}
 use Rattle.heap_region.proofs.ShownRegions.{used_by_object}
@@ -102,3 +103,10 @@ touched_region_is_in_heap e before after left s region = by_region (λ u. left �
   where
     within : (x : ℕ) → Some x ≡ Some region → x < length after.regions → region < length after.regions
     within x is lt = subst (λ n. n < length after.regions) (equal_options_name_same_region x region is) lt
+
+-- so is that of which pins keep something
+pub noted_region_is_in_heap : (e : Event) (before after : HeapState) (left : Undo) → IsStep e before after left → (region : ℕ) → noted left ≡ Some region → region < length after.regions
+unfolding noted touched
+noted_region_is_in_heap e before after (New at fresh m k old) s region named =
+    subst (λ n. n < length after.regions) (equal_options_name_same_region at.region region named) (object_within after.regions at (new_record_names_an_object e before after (New at fresh m k old) s at fresh m k old refl))
+noted_region_is_in_heap e before after left s region named = touched_region_is_in_heap e before after left s region named

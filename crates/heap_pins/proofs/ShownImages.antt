@@ -14,6 +14,7 @@ use Rattle.heap_pins.specs.Images.{dumped_objects, image_of}
 use Rattle.heap_pins.specs.Pin.{PinContents, region_seen, cell_dumped, object_seen, pin_image}
 use Rattle.heap_pins.specs.Shows.{IsPinOf, ShowsState}
 use Rattle.heap_pins.proofs.LiveCounts.{Stands, live_stand, standing_object_is_in_cell}
+use Rattle.heap_pins.proofs.ShownPlaces.{shown_places_are_live}
 
 -- an object as a dump shows it
 abbrev pub shown : List Region → ObjRef × Object → DumpedObject
@@ -56,5 +57,5 @@ unfolding pin_image image_of dumped_objects live_places
 image_is p u v i s = λ j. record {
   classes = (ap (λ n. take n v.classes) i.classes ∙ s.classes) j;
   registers = i.registers j;
-  objects = (ap (filter_map (object_seen p v.regions)) i.live ∙ all_standing_objects_are_seen (object_seen p v.regions) u.regions (live_objects u.regions) (λ at o. object_seen_as_dump_shows p u v at o s) (live_stand u.regions)) j;
+  objects = (ap (filter_map (object_seen p v.regions)) (shown_places_are_live p u v i s) ∙ all_standing_objects_are_seen (object_seen p v.regions) u.regions (live_objects u.regions) (λ at o. object_seen_as_dump_shows p u v at o s) (live_stand u.regions)) j;
 }

@@ -47,6 +47,7 @@ kept_pin_shows_state_before left v p q u x k before here = record {
   count = here.count;
   classes = here.classes;
   objects = λ r. kept_region (slice_index_or p.copies r None) (slice_index_or q.copies r None) (region_frozen x.regions r) (region_frozen (undone left v).regions r) (region_frozen u.regions r) (k.each r) (before.objects r) (here.objects r);
+  states = λ at lt. k.still x at lt (here.states at lt ∙ sym (before.states at lt)) ∙ before.states at lt;
 }
 
 -- ---- the state after
@@ -63,6 +64,7 @@ kept_pin_shows_state_after left v p q u k before = record {
   count = undoing_keeps_region_count left v ∙ before.count;
   classes = first_classes u.classes w.classes v.classes before.classes (record_extends left v);
   objects = λ r. objects r (slice_index_or q.copies r None) refl;
+  states = λ at lt. k.shown at lt ∙ before.states at lt;
 }
   where
     w : HeapState

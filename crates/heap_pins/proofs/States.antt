@@ -1,5 +1,5 @@
 -- Walking back: registers, classes, and what is there and live.
-use Rattle.std.proofs.Common.{◌≡◌, ◌≢◌, ◌⊎◌, ℕ, zero, suc, ◌-◌, ◌<◌, Bool, true, false, ◌&&◌, List, [], ◌∷◌, length, set, get_or, map, fold, take, Option, Some, None, IsSome, refl, sym, ap, subst, ◌∙◌, arith, length-take, length-set}
+use Rattle.std.proofs.Common.{◌≡◌, ◌≢◌, ◌⊎◌, ℕ, zero, suc, ◌-◌, ◌<◌, ◌≤◌, Bool, true, false, ◌&&◌, List, [], ◌∷◌, length, set, get_or, map, fold, take, Option, Some, None, IsSome, refl, sym, ap, subst, ◌∙◌, arith, length-take, length-set}
 use mathlib.Core.Logic.{inl, inr}
 use Rattle.std.specs.Prelude.{◌==◌, slice_set, option_and_then, option_map, if◌then◌else◌}
 use Rattle.std.specs.Option.{option_map_or}
@@ -29,7 +29,8 @@ use Rattle.heap_pins.specs.Shows.{AreFit, FitIn}
 use Rattle.heap_pins.proofs.RoomForCopies.{sweep_used, sweep_fit, reclaim_within}
 use Rattle.heap_pins.specs.Walk.{cell_state, same_place, dead_state, states_before, registers_before, classes_before, TellsBefore}
 use Rattle.heap_pins.proofs.Others.{keeps_others, region_set_empty_is_unused}
-use Rattle.heap_pins.proofs.RecordCases.{records_by_lists_they_keep}
+use Rattle.heap_pins.proofs.RecordCases.{by_region, equal_options_name_same_region, record_that_touches_no_region, records_by_lists_they_keep}
+use Rattle.heap_pins.specs.KeptCopies.{touched}
 use Rattle.heap_pins.proofs.WalkSteps.{walked_copy_covers_state_before}
 
 -- ---- registers and classes
@@ -54,7 +55,7 @@ classes_are left x = records_by_lists_they_keep (λ u. length (undone u x).class
 
 -- ---- what is there
 
-abbrev cell_states_of_regions : List Region → ObjRef → ℕ
+abbrev pub cell_states_of_regions : List Region → ObjRef → ℕ
 cell_states_of_regions regions b = cell_state (object_at regions b)
 
 -- a change of an object that keeps `live`
@@ -139,10 +140,10 @@ release_state at s b = choice_by_equal_numbers b.region at.region 0 (cell_states
 
 -- ---- a test of places
 
-equal_places_are_same_place : (a b : ObjRef) → a ≡ b → same_place a b ≡ true
+pub equal_places_are_same_place : (a b : ObjRef) → a ≡ b → same_place a b ≡ true
 equal_places_are_same_place a b e = rw (eq-eqb a.region b.region (ap (λ (r : ObjRef). r.region) e), eq-eqb a.cell b.cell (ap (λ (r : ObjRef). r.cell) e)) refl
 
-unequal_places_not_same_place : (a b : ObjRef) → a ≢ b → same_place a b ≡ false
+pub unequal_places_not_same_place : (a b : ObjRef) → a ≢ b → same_place a b ≡ false
 unequal_places_not_same_place a b ne = go (a.region == b.region) (a.cell == b.cell) refl refl
   where
     go : (x y : Bool) → (a.region == b.region) ≡ x → (a.cell == b.cell) ≡ y → (x && y) ≡ false
@@ -218,7 +219,7 @@ cell_states_before_reclaim region storage s b lt = choice_by_equal_numbers b.reg
 
 -- ---- each record of a step
 
-cell_states_before_step : (e : Event) (before x : HeapState) (left : Undo) → IsStep e before x left → (b : ObjRef) → cell_states_of_regions (undone left x).regions b ≡ states_before left (cell_states_of_regions x.regions) b
+pub cell_states_before_step : (e : Event) (before x : HeapState) (left : Undo) → IsStep e before x left → (b : ObjRef) → cell_states_of_regions (undone left x).regions b ≡ states_before left (cell_states_of_regions x.regions) b
 unfolding undone unsnapped unmarked undrained unshaded unfinished states_before
 cell_states_before_step e before x (Put at slot old) s b = word_state at slot old x.regions b
 cell_states_before_step e before x (Store at slot old logged) s b = word_state at slot old x.regions b
@@ -231,6 +232,62 @@ cell_states_before_step e before x (Drain pushed) s b = marks_keep_cell_states (
 cell_states_before_step e before x (Finish log) s b = cell_states_before_finish x.regions b
 cell_states_before_step e before x (Sweep region dead) s b = cell_states_before_sweep region dead (pool_of x) b (sweep_used e before x (Sweep region dead) s region dead refl) (sweep_fit e before x (Sweep region dead) s region dead refl)
 cell_states_before_step e before x (Reclaim region storage) s b = cell_states_before_reclaim region storage (pool_of x) b (reclaim_within e before x (Reclaim region storage) s region storage refl)
+
+-- ---- outside the region that a record names
+
+pub other_region_keeps_states : (left : Undo) (r : ℕ) (f : ObjRef → ℕ) (b : ObjRef) → touched left ≡ Some r → b.region ≢ r → states_before left f b ≡ f b
+unfolding states_before touched
+other_region_keeps_states left r f b t ne = by_region (λ u. touched u ≡ Some r → states_before u f b ≡ f b)
+    (λ at slot old e. refl)
+    (λ at slot old logged e. refl)
+    (λ region dead e. ap (λ t. if t then dead_state dead b.cell (f b) else f b) (ne_eqb b.region region (λ q. ne (q ∙ equal_options_name_same_region region r e))))
+    (λ region storage e. ap (λ t. if t then cell_state (cell_object storage b.cell) else f b) (ne_eqb b.region region (λ q. ne (q ∙ equal_options_name_same_region region r e))))
+    (λ u n. record_that_touches_no_region u n r _)
+    left t
+
+-- whatever the step was, its record tells the states before it of the cells of each other region
+pub cell_states_before_elsewhere : (left : Undo) (x : HeapState) (b : ObjRef) → touched left ≢ Some b.region → cell_states_of_regions (undone left x).regions b ≡ states_before left (cell_states_of_regions x.regions) b
+unfolding undone unsnapped unmarked undrained unshaded unfinished unswept restored states_before touched
+cell_states_before_elsewhere (Put at slot old) x b ne = word_state at slot old x.regions b
+cell_states_before_elsewhere (Store at slot old logged) x b ne = word_state at slot old x.regions b
+cell_states_before_elsewhere (Reg m k old) x b ne = refl
+cell_states_before_elsewhere (New at fresh m k old) x b ne = unalloc_state (New at fresh m k old) at fresh m k old x b
+cell_states_before_elsewhere Class x b ne = refl
+cell_states_before_elsewhere Snap x b ne = snap_state x.regions b
+cell_states_before_elsewhere (Mark parent pushed) x b ne = marks_keep_cell_states (take pushed x.gray) x.regions b
+cell_states_before_elsewhere (Drain pushed) x b ne = marks_keep_cell_states (take pushed x.gray) x.regions b
+cell_states_before_elsewhere (Finish log) x b ne = cell_states_before_finish x.regions b
+cell_states_before_elsewhere (Sweep region dead) x b ne =
+    equal_regions_have_equal_states (with_region region (unswept_region dead) x.regions) x.regions b (used_region_after_other_change region b.region (unswept_region dead) x.regions (λ e. ne (ap Some e)))
+    ∙ sym (other_region_keeps_states (Sweep region dead) region (cell_states_of_regions x.regions) b refl (λ e. ne (ap Some (sym e))))
+cell_states_before_elsewhere (Reclaim region storage) x b ne =
+    equal_regions_have_equal_states (set x.regions region (InUse storage)) x.regions b (restored_elsewhere region b.region storage (pool_of x) (λ e. ne (ap Some e)))
+    ∙ sym (other_region_keeps_states (Reclaim region storage) region (cell_states_of_regions x.regions) b refl (λ e. ne (ap Some (sym e))))
+
+-- a step leaves the states of the cells of each region but the one that its record names, if it names one
+pub cell_states_stay_elsewhere : (left : Undo) (x : HeapState) (r : ℕ) (b : ObjRef) → touched left ≡ Some r → b.region ≢ r → cell_states_of_regions (undone left x).regions b ≡ cell_states_of_regions x.regions b
+cell_states_stay_elsewhere left x r b t ne =
+    cell_states_before_elsewhere left x b (λ e. ne (equal_options_name_same_region b.region r (sym e ∙ t)))
+    ∙ other_region_keeps_states left r (cell_states_of_regions x.regions) b t ne
+
+-- ---- regions that aren't there
+
+no_used_region_past_the_list : (regions : List Region) (r : ℕ) → length regions ≤ r → used_at regions r ≡ None
+unfolding used_at
+no_used_region_past_the_list [] r h = refl
+no_used_region_past_the_list (x ∷ regions) zero h = absurd (omega (arith, h))
+no_used_region_past_the_list (x ∷ regions) (suc r) h = no_used_region_past_the_list regions r (omega (arith, h))
+
+pub no_state_past_the_list : (regions : List Region) (b : ObjRef) → length regions ≤ b.region → cell_states_of_regions regions b ≡ 0
+no_state_past_the_list regions b h = unused_region_has_state_zero regions b (no_used_region_past_the_list regions b.region h)
+
+pub no_state_without_copy : (regions : List Region) (b : ObjRef) → region_frozen regions b.region ≡ None → cell_states_of_regions regions b ≡ 0
+unfolding region_frozen
+no_state_without_copy regions b none = unused_region_has_state_zero regions b (go (used_at regions b.region) none)
+  where
+    go : (x : Option UsedRegion) → option_map frozen x ≡ None → x ≡ None
+    go None e = refl
+    go (Some u) e = cc
 
 -- ---- all that a record tells
 

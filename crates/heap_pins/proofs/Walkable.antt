@@ -4,16 +4,19 @@ use Rattle.std.specs.Prelude.{nat_lt, slice_index_or, option_map}
 use Rattle.std.proofs.lemmas.Bool.{ltb-true}
 use Rattle.std.proofs.lemmas.Option.{slice_get_within}
 use Rattle.heap_class.specs.declared.ObjRef.{ObjRef}
-use Rattle.heap_region.specs.Regions.{Object, UsedRegion, Region, used_at, object_at, cell_object, slot_object}
+use Rattle.heap_region.specs.Regions.{Object, UsedRegion, used_at, object_at, cell_object, slot_object}
 use Rattle.heap_region.specs.Layout.{words_of}
 use Rattle.heap_region.specs.RegionCopies.{Frozen, frozen, frozen_words, region_frozen}
 use Rattle.heap_region.proofs.ShownRegions.{object_of_used}
 use Rattle.heap_world.specs.State.{HeapState, is_register, register_index}
 use Rattle.heap_world.specs.Legal.{IsLegal}
+use Rattle.heap_step.specs.declared.Event.{Event}
+use Rattle.heap_step.specs.declared.Undo.{Undo}
+use Rattle.heap_step.specs.Laws.{IsStep}
+use Rattle.heap_step.proofs.EventLaws.{keeps_legal}
 use Rattle.heap_pins.specs.Covers.{HasAll, Covers}
 use Rattle.heap_pins.specs.Pin.{PinContents, region_seen}
 use Rattle.heap_pins.specs.Shows.{ShowsState, AreFit, FitIn}
-use Rattle.heap_pins.specs.States.{AreStates, HasRegion}
 use Rattle.heap_pins.specs.WalkedPins.{SeesSlot, SeesRoom}
 use Rattle.heap_pins.proofs.LiveCounts.{cell_table_below_257_cells, standing_object_is_in_cell}
 
@@ -58,10 +61,12 @@ dead_within x region dead legal some fit = go (used_at x.regions region) refl so
     go None e some fit = absurd (cc)
     go (Some u) e some fit = fitting_dead_cells_below_256 u.cell_size (length u.cells) dead (cell_table_below_257_cells u (legal.regions.tables region u e)) (fit (frozen u) refl)
 
--- ---- bytes and registers
+-- ---- the state after a step
 
-pub region_bytes : (bytes : List ℕ) (regions : List Region) (r : ℕ) → AreStates bytes regions → r < length regions → HasRegion bytes r
-region_bytes bytes regions r s lt = omega (arith, s.count, lt)
+pub after_legal : (e : Event) (before after : HeapState) (left : Undo) → IsStep e before after left → IsLegal after
+after_legal e before after left s = subst IsLegal (sym s.gave) (keeps_legal e before s.legal s.accepted)
+
+-- ---- cells and registers
 
 pub cell_of_object_below_256 : (x : HeapState) (at : ObjRef) → IsLegal x → IsSome (object_at x.regions at) → at.cell < 256
 cell_of_object_below_256 x at legal some = go (object_at x.regions at) refl some

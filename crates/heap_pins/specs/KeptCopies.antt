@@ -1,12 +1,14 @@
--- The copies that a pin makes of a region that a step overwrote or reclaimed.
-use Rattle.std.specs.Prelude.{ℕ, Bool, true, false, List, fold, Option, Some, None, is_some, option_map, slice_index_or, slice_set}
+-- What a pin keeps of a step: a copy of the region that it overwrote or reclaimed, the cells that it took, and whether it ended
+-- a cycle.
+use Rattle.std.specs.Prelude.{ℕ, Bool, true, false, List, [], fold, Option, Some, None, is_some, option_map, replicate, slice_index_or, slice_set, if◌then◌else◌}
 use Rattle.heap_region.specs.Regions.{Object}
 use Rattle.heap_region.specs.RegionCopies.{Frozen, frozen, frozen_with, frozen_word_set, region_frozen}
 use Rattle.heap_class.specs.declared.ObjRef.{ObjRef}
 use Rattle.heap_world.specs.State.{HeapState}
 use Rattle.heap_step.specs.declared.Undo.{Undo}
-use Rattle.heap_step.specs.declared.Undo.TheVariants.{Put, Store, Sweep, Reclaim}
-use Rattle.heap_pins.specs.Pin.{PinContents}
+use Rattle.heap_step.specs.declared.Undo.TheVariants.{Put, Store, New, Finish, Sweep, Reclaim}
+use Rattle.heap_step.specs.Records.{undone}
+use Rattle.heap_pins.specs.Pin.{PinContents, state_seen, states_of_region}
 
 -- the region of which a step with this record overwrote a word or reclaimed an object
 unfoldable pub touched : Undo → Option ℕ
@@ -15,6 +17,18 @@ touched (Store at slot old logged) = Some at.region
 touched (Sweep region dead) = Some region
 touched (Reclaim region storage) = Some region
 touched left = None
+
+-- the region of which a pin without a copy keeps something of the step: the touched one, or that of a new object
+unfoldable pub noted : Undo → Option ℕ
+noted (New at fresh m r old) = Some at.region
+noted left = touched left
+
+-- whether the step ended a cycle
+unfoldable pub ends_cycle : Undo → Bool
+ends_cycle (Finish log) = true
+ends_cycle left = false
+
+-- ---- copies
 
 -- the copy with the dead objects back in their cells
 unfoldable pub with_dead : List (ℕ × Object) → Frozen → Frozen
@@ -32,31 +46,50 @@ unfoldable pub copy_for : Undo → HeapState → ℕ → Option Frozen
 copy_for (Reclaim region storage) v r = Some (frozen storage)
 copy_for left v r = option_map (patched left) (region_frozen v.regions r)
 
--- the pin with this copy of region r, unless it has one (the flag)
-unfoldable pub kept_at : ℕ → Option Frozen → Bool → PinContents → PinContents
-kept_at r copy true p = p
-kept_at r copy false p = record p { copies = slice_set p.copies r copy }
+-- the pin with this copy of region r, if there is one, and with these states of its cells
+unfoldable pub with_copy : ℕ → Option Frozen → List ℕ → PinContents → PinContents
+with_copy r None states p = p
+with_copy r (Some f) states p =
+    record p { copies = slice_set p.copies r (Some f); cells = slice_set p.cells r states }
 
--- the pin with this copy of region r, unless it has one
-abbrev pub kept_copy : ℕ → Option Frozen → PinContents → PinContents
-kept_copy r copy p = kept_at r copy (is_some (slice_index_or p.copies r None)) p
+-- the pin with this copy of region r and with these states, unless it has one (the flag)
+unfoldable pub kept_at : ℕ → Option Frozen → List ℕ → Bool → PinContents → PinContents
+kept_at r copy states true p = p
+kept_at r copy states false p = with_copy r copy states p
 
--- the pin with a copy of a region, unless it has one, with the old word in its slot
-abbrev pub kept_word : HeapState → ObjRef → ℕ → ℕ → PinContents → PinContents
-kept_word w at slot old p =
-    kept_copy at.region
-    (option_map (frozen_word_set at.cell slot old) (region_frozen w.regions at.region)) p
+-- whether the pin has a copy of region r
+abbrev pub has_copy : ℕ → PinContents → Bool
+has_copy r p = is_some (slice_index_or p.copies r None)
 
--- the pin with a copy of a region, unless it has one, with the dead objects in their cells
-abbrev pub kept_dead : HeapState → ℕ → List (ℕ × Object) → PinContents → PinContents
-kept_dead w r dead p = kept_copy r (option_map (with_dead dead) (region_frozen w.regions r)) p
+-- the states of the cells of region r before the step that left this record and the state v, as the pin shows them
+abbrev pub states_before_step : Undo → HeapState → ℕ → PinContents → List ℕ
+states_before_step left v r p = states_of_region (state_seen p (undone left v).regions) r
 
 -- the pin with a copy of the touched region, if there is one, unless it has one
 unfoldable pub kept_if : Option ℕ → Undo → HeapState → PinContents → PinContents
 kept_if None left v p = p
 kept_if (Some r) left v p =
-    kept_at r (copy_for left v r) (is_some (slice_index_or p.copies r None)) p
+    kept_at r (copy_for left v r) (states_before_step left v r p) (has_copy r p) p
+
+-- ---- taken cells
+
+-- the bytes of a region with this byte for a cell, or for all cells if the region was taken from the pool (the flag)
+unfoldable pub bytes_with : ℕ → Bool → ℕ → List ℕ → List ℕ
+bytes_with cell true byte bytes = replicate 256 byte
+bytes_with cell false byte bytes = slice_set bytes cell byte
+
+-- the pin with this byte for the cell, or for all cells of its region
+abbrev pub with_byte : ObjRef → Bool → ℕ → PinContents → PinContents
+with_byte at fresh byte p =
+    record p {
+      cells = slice_set p.cells at.region
+          (bytes_with at.cell fresh byte (slice_index_or p.cells at.region []));
+    }
+
+-- ---- a step
 
 -- the pin after the step that left this record and the state v
 unfoldable pub kept : Undo → HeapState → PinContents → PinContents
+kept (New at fresh m r old) v p = if has_copy at.region p then p else with_byte at fresh 1 p
+kept (Finish log) v p = record p { ended = true }
 kept left v p = kept_if (touched left) left v p

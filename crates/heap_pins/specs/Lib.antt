@@ -1,6 +1,8 @@
 pub mod Covers
 pub mod Images
 pub mod Pin
+pub mod KeptRegions
+pub mod Slots
 pub mod KeptCopies
 pub mod Laws
 pub mod Shows

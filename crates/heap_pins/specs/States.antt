@@ -1,57 +1,94 @@
--- The byte of each cell: 0 for nothing, 1 for a live object, 2 for one that isn't live.
-use Rattle.std.specs.Prelude.{◌≡◌, ◌⊎◌, ◌≤◌, ℕ, ◌+◌, ◌*◌, ◌/◌, ◌<◌, ◌==◌, false, List, length, slice_index_or, if◌then◌else◌}
-use Rattle.heap_region.specs.Regions.{UsedRegion, Region, used_at, object_at, cell_object}
-use Rattle.heap_region.specs.Live.{is_live, cells_of}
-use Rattle.heap_step.specs.declared.Undo.{Undo}
-use Rattle.heap_pins.specs.Pin.{PinContents, place}
-use Rattle.heap_pins.specs.Walk.{cell_state, states_before}
+-- The states of the cells of a region, as they are found.
+use Rattle.std.specs.Prelude.{◌≡◌, ◌≢◌, ◌≤◌, ◌<◌, ℕ, Bool, List, length, Option, Some, None, option_map, slice_index_or}
+use Rattle.heap_class.specs.declared.ObjRef.{ObjRef}
+use Rattle.heap_region.specs.Regions.{Object, UsedRegion, Region, cell_object, object_at}
+use Rattle.heap_region.specs.RegionCopies.{frozen, frozen_word_set, region_frozen}
+use Rattle.heap_step.specs.declared.Undo.TheVariants.{Sweep}
+use Rattle.heap_world.specs.State.{HeapState}
+use Rattle.heap_pins.specs.KeptCopies.{has_copy, kept_at, with_dead}
+use Rattle.heap_pins.specs.Pin.{PinContents, byte_in, cell_state, place, state_kept, states_of_region}
+use Rattle.heap_pins.specs.Walk.{dead_state, states_before}
 
--- n bytes from `start` on have the values of f, the others their old ones
-pub record IsSetFrom (f : ℕ → ℕ) (start n : ℕ) (old bytes : List ℕ) : Type 0 where
-  pub within : (c : ℕ) → c < n → slice_index_or bytes (start + c) 0 ≡ f c
-  pub others : (k : ℕ) → (k < start) ⊎ (start + n ≤ k)
-      → slice_index_or bytes k 0 ≡ slice_index_or old k 0
+-- a cell of region r
+abbrev pub cell_of : ℕ → ℕ → ObjRef
+cell_of r c = record { region = r; cell = c }
 
--- each byte is the state of its cell
-pub record AreStates (bytes : List ℕ) (regions : List Region) : Type 0 where
-  pub count : length bytes ≡ 256 * length regions
-  pub each : (k : ℕ) → k < length bytes
-      → slice_index_or bytes k 0 ≡ cell_state (object_at regions (place k))
+-- the first n of 256 bytes are f of the cells of region r
+pub record AreOf (f : ObjRef → ℕ) (r n : ℕ) (bytes : List ℕ) : Type 0 where
+  pub count : length bytes ≡ 256
+  pub each : (c : ℕ) → c < n → slice_index_or bytes c 0 ≡ f (cell_of r c)
 
--- each byte is that of an empty cell
-abbrev pub AreEmpty : List ℕ → Type 0
-AreEmpty bytes = (k : ℕ) → slice_index_or bytes k 0 ≡ 0
+-- none of the cells of region r from one to another has state 1 by f
+abbrev pub HasNone : (ObjRef → ℕ) → ℕ → ℕ → ℕ → Type 0
+HasNone f r from to = (c : ℕ) → from ≤ c → c < to → f (cell_of r c) ≢ 1
 
--- the bytes of the cells of region r are their states, the others have their old values
-abbrev pub AreBytesWritten : List Region → ℕ → List ℕ → List ℕ → Type 0
-AreBytesWritten regions r old bytes =
-    IsSetFrom (λ cell. cell_state (object_at regions (place (256 * r + cell)))) (256 * r)
-    (length (cells_of (used_at regions r))) old bytes
+-- the result is the first cell of region r from one on that has state 1 by f
+unfoldable pub IsFirstIn : (ObjRef → ℕ) → ℕ → ℕ → Option ℕ → Type 0
+IsFirstIn f r from None = HasNone f r from 256
+IsFirstIn f r from (Some c) =
+    (from ≤ c) × (c < 256) × (f (cell_of r c) ≡ 1) × HasNone f r from c
 
--- byte k before the step that left this record, from what it is after the step
-abbrev pub byte_before : Undo → ℕ → ℕ → ℕ
-byte_before left k byte = states_before left (λ at. byte) (place k)
+-- the result is the first of n cells, by number, from number k on that has state 1 by f
+unfoldable pub IsFirstPlace : (ObjRef → ℕ) → ℕ → ℕ → Option ObjRef → Type 0
+IsFirstPlace f n k None = (j : ℕ) → k ≤ j → j < n → f (place j) ≢ 1
+IsFirstPlace f n k (Some at) =
+    (j : ℕ) × (k ≤ j) × (j < n) × (at ≡ place j) × (f at ≡ 1)
+    × ((i : ℕ) → k ≤ i → i < j → f (place i) ≢ 1)
 
--- each byte of the second list is the one before the step, if each of the first is the one after it
-abbrev pub AreBefore : Undo → List ℕ → List ℕ → Type 0
-AreBefore left bytes before =
-    (k : ℕ) → slice_index_or before k 0 ≡ byte_before left k (slice_index_or bytes k 0)
+-- ---- the states of a region without a copy, by what the step's record has of it
 
--- the bytes of the region are 0, the others have their old values
-abbrev pub IsCleared : ℕ → List ℕ → List ℕ → Type 0
-IsCleared region old bytes =
-    (k : ℕ) → slice_index_or bytes k 0 ≡ (if k / 256 == region then 0 else slice_index_or old k 0)
+-- the states of all cells of these regions
+abbrev pub cell_states : List Region → ObjRef → ℕ
+cell_states regions at = cell_state (object_at regions at)
 
--- the pin q is p with the bytes of the state before the step
-pub record HasBytesBefore (left : Undo) (p q : PinContents) : Type 0 where
-  pub rest : q ≡ record p { live = q.live }
-  pub count : length q.live ≡ length p.live
-  pub each : AreBefore left p.live q.live
+-- the states that the pin shows if the cells have these now
+abbrev pub states_by : PinContents → (ObjRef → ℕ) → ObjRef → ℕ
+states_by p now at = state_kept p.ended (byte_in p.cells at) (now at)
 
--- no object of the region is live
-abbrev pub HasNoLive : UsedRegion → Type 0
-HasNoLive u = (cell : ℕ) → is_live (cell_object u cell) ≡ false
+-- the states after the dead objects are back
+abbrev pub state_with_dead : PinContents → HeapState → ℕ → List (ℕ × Object) → ObjRef → ℕ
+state_with_dead p w r dead = states_by p (states_before (Sweep r dead) (cell_states w.regions))
 
--- there is a byte for each of the 256 cells of the region
-abbrev pub HasRegion : List ℕ → ℕ → Type 0
-HasRegion bytes region = 256 * region + 255 < length bytes
+-- the states of the cells of a region
+abbrev pub storage_states : UsedRegion → ObjRef → ℕ
+storage_states storage at = cell_state (cell_object storage at.cell)
+
+-- the states that a pin shows of the cells of a region in use without a copy, by their bytes
+abbrev pub state_by : Bool → List ℕ → UsedRegion → ObjRef → ℕ
+state_by ended bytes storage at =
+    state_kept ended (slice_index_or bytes at.cell 0) (storage_states storage at)
+
+-- the states in a region that was moved out
+abbrev pub state_in_storage : PinContents → UsedRegion → ObjRef → ℕ
+state_in_storage p storage = states_by p (storage_states storage)
+
+-- the states of the cells of a region after the dead objects are back
+pub record AreRestored (dead : List (ℕ × Object)) (old states : List ℕ) : Type 0 where
+  pub count : length states ≡ length old
+  pub each : (c : ℕ) → slice_index_or states c 0 ≡ dead_state dead c (slice_index_or old c 0)
+
+-- the pin with a copy of a region, unless it has one, with the old word in its slot
+abbrev pub kept_word : HeapState → ObjRef → ℕ → ℕ → PinContents → PinContents
+kept_word w at slot old p =
+    kept_at at.region
+    (option_map (frozen_word_set at.cell slot old) (region_frozen w.regions at.region))
+    (states_of_region (states_by p (cell_states w.regions)) at.region) (has_copy at.region p) p
+
+-- the pin with a copy of a region, unless it has one, with the dead objects in their cells
+abbrev pub kept_dead : HeapState → ℕ → List (ℕ × Object) → PinContents → PinContents
+kept_dead w r dead p =
+    kept_at r (option_map (with_dead dead) (region_frozen w.regions r))
+    (states_of_region (state_with_dead p w r dead) r) (has_copy r p) p
+
+-- the pin with a copy of a region that was moved out, unless it has one
+abbrev pub kept_region : ℕ → UsedRegion → PinContents → PinContents
+kept_region r storage p =
+    kept_at r (Some (frozen storage)) (states_of_region (state_in_storage p storage) r)
+    (has_copy r p) p
+
+-- the states of the cells of a region without a copy, by their bytes and the old ones
+pub record AreSettled (ended : Bool) (bytes old states : List ℕ) : Type 0 where
+  pub count : length states ≡ length old
+  pub each : (c : ℕ) → c < 256
+      → slice_index_or states c 0
+      ≡ state_kept ended (slice_index_or bytes c 0) (slice_index_or old c 0)

@@ -1,19 +1,15 @@
 -- Walking back along the records: which objects a cell had, and whether they were live.
-use Rattle.std.specs.Prelude.{◌≡◌, ◌≢◌, ℕ, ◌+◌, ◌-◌, ◌*◌, Bool, true, false, ◌&&◌, ◌==◌, List, [], ◌∷◌, length, Option, Some, None, option_map, slice_index_or, slice_set, if◌then◌else◌}
+use Rattle.std.specs.Prelude.{◌≡◌, ◌≢◌, ℕ, ◌+◌, ◌-◌, ◌*◌, ◌<◌, Bool, true, false, ◌&&◌, ◌==◌, List, [], ◌∷◌, length, Option, Some, None, option_map, slice_index_or, slice_set, if◌then◌else◌}
 use Rattle.heap_class.specs.declared.ObjRef.{ObjRef}
 use Rattle.heap_region.specs.Regions.{Object, cell_object, object_at}
 use Rattle.heap_region.specs.RegionCopies.{Frozen, frozen, region_frozen}
 use Rattle.heap_world.specs.State.{HeapState}
 use Rattle.heap_pins.specs.Covers.{Covers}
 use Rattle.heap_pins.specs.KeptCopies.{touched, patched}
-use Rattle.heap_pins.specs.Pin.{PinContents, region_seen}
+use Rattle.heap_pins.specs.Pin.{PinContents, region_seen, state_seen}
+pub use Rattle.heap_pins.specs.Pin.{cell_state}
 use Rattle.heap_step.specs.declared.Undo.{Undo}
 use Rattle.heap_step.specs.declared.Undo.TheVariants.{Reg, New, Class, Finish, Sweep, Reclaim}
-
--- the state of a cell: 0 for nothing, 1 for a live object, 2 for one that isn't live
-abbrev pub cell_state : Option Object → ℕ
-cell_state None = 0
-cell_state (Some o) = if o.live then 1 else 2
 
 -- whether two places are the same
 abbrev pub same_place : ObjRef → ObjRef → Bool
@@ -70,6 +66,13 @@ pub record TellsBefore (left : Undo) (before x : HeapState) : Type 0 where
   pub touched_region : (r : ℕ) (g : Option Frozen) → touched left ≡ Some r
       → Covers (region_frozen x.regions r) g
       → Covers (region_frozen before.regions r) (walked_copy left g)
+
+-- beside the current state w, and each other state beside which p shows a cell alike, q shows the cell as it was before the step
+abbrev pub ShowsBack : Undo → HeapState → PinContents → PinContents → Type 0
+ShowsBack left w p q =
+    (x : HeapState) (at : ObjRef) → at.cell < 256
+    → state_seen p x.regions at ≡ state_seen p w.regions at
+    → state_seen q x.regions at ≡ states_before left (state_seen p w.regions) at
 
 -- q is p one record further back, beside the current state w: the touched region has a copy, or its copy is patched; the others
 -- stay

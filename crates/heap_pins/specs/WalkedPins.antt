@@ -1,50 +1,40 @@
 -- Pins that were walked back to a past state.
-use Rattle.std.specs.Prelude.{◌≡◌, ℕ, ◌+◌, ◌<◌, List, ◌∷◌, length, Option, Some, option_map, slice_get, slice_set}
+use Rattle.std.specs.Prelude.{◌≡◌, ℕ, ◌+◌, ◌<◌, Bool, true, List, ◌∷◌, length, Some, None, option_map, slice_get, slice_index_or, slice_set, if◌then◌else◌}
 use Rattle.heap_class.specs.declared.ObjRef.{ObjRef}
-use Rattle.heap_region.specs.Regions.{Object, UsedRegion, Region}
-use Rattle.heap_region.specs.RegionCopies.{Frozen, frozen, frozen_words, frozen_word_set}
+use Rattle.heap_region.specs.Regions.{Object, Region}
+use Rattle.heap_region.specs.RegionCopies.{Frozen, frozen_words, frozen_word_set}
 use Rattle.heap_world.specs.State.{HeapState, register_index}
-use Rattle.heap_world.specs.Legal.{IsLegal}
 use Rattle.heap_step.specs.declared.Event.{Event}
 use Rattle.heap_step.specs.declared.Undo.{Undo}
-use Rattle.heap_step.specs.declared.Undo.TheVariants.{Sweep, Reclaim}
 use Rattle.heap_step.specs.Laws.{IsStep}
 use Rattle.heap_step.specs.Records.{undone}
-use Rattle.heap_pins.specs.KeptCopies.{with_dead}
-use Rattle.heap_pins.specs.Pin.{PinContents, region_seen}
-use Rattle.heap_pins.specs.Shows.{ShowsState, Holds, OfFirst, AreFit}
-use Rattle.heap_pins.specs.States.{AreStates, AreBefore, HasBytesBefore}
-use Rattle.heap_pins.specs.Walk.{WalksFor, registers_before, classes_before}
-
--- the pin keeps the registers, the number of classes and the state of each cell of the legal state x
-pub record IsPinAt (p : PinContents) (x : HeapState) : Type 0 where
-  pub legal : IsLegal x
-  pub classes : p.classes ≡ length x.classes
-  pub registers : p.registers ≡ x.registers
-  pub states : AreStates p.live x.regions
-  pub copies : length p.copies ≡ length x.regions
+use Rattle.heap_pins.specs.KeptRegions.{byte_revived}
+use Rattle.heap_pins.specs.KeptCopies.{has_copy, with_byte, with_copy}
+use Rattle.heap_pins.specs.Pin.{PinContents, byte_in, region_seen, state_seen, states_of_region}
+use Rattle.heap_pins.specs.Shows.{AreCells, AreFit, Holds, IsPinOf, OfFirst, ShowsState}
+use Rattle.heap_pins.specs.Walk.{ShowsBack, WalksFor, classes_before, registers_before, states_before, walked_copy}
 
 -- the pin was walked n records back to the state x, which is the last of the first n + 1 of these, and it shows x beside each
 -- of them; the current state is the first
 pub record IsWalked (p : PinContents) (x : HeapState) (n : ℕ)
     (states : List HeapState) : Type 0 where
-  pub pin : IsPinAt p x
+  pub pin : IsPinOf p x
   pub last : slice_get states n ≡ Some x
   pub shows : OfFirst (ShowsState p x) n states
 
 -- the pin was walked to a state to which a step led that left this record, and shows it beside the current state w
 abbrev pub CanWalk : Undo → HeapState → PinContents → Type 0
 CanWalk left w p =
-    (x : HeapState) × (e : Event) × IsStep e (undone left x) x left × IsPinAt p x × ShowsState p x w
+    (x : HeapState) × (e : Event) × IsStep e (undone left x) x left × IsPinOf p x × ShowsState p x w
 
 -- p was walked one record further back, beside the current state w, and is q
 pub record IsWalkedBack (left : Undo) (w : HeapState) (p q : PinContents) : Type 0 where
   pub classes : q.classes ≡ classes_before left p.classes
   pub registers : q.registers ≡ registers_before left p.registers
-  pub bytes : length q.live ≡ length p.live
-  pub states : AreBefore left p.live q.live
   pub as_many : length q.copies ≡ length p.copies
+  pub cells : AreCells q.cells (length p.copies)
   pub copies : WalksFor left w p q
+  pub states : ShowsBack left w p q
 
 -- a pin that is walked one record further back is walked to the state before it, which is the next of the retained ones
 abbrev pub WalksOn : Undo → HeapState → HeapState → PinContents → PinContents → Type 0
@@ -64,7 +54,7 @@ IsFreshPin p w = (past : List HeapState) → IsWalked p w 0 (w ∷ past)
 
 -- ---- its parts
 
--- f is region r as the pin shows it
+-- the pin shows region r
 abbrev pub Sees : PinContents → List Region → ℕ → Frozen → Type 0
 Sees p regions r f = region_seen p regions r ≡ Some f
 
@@ -78,28 +68,36 @@ abbrev pub SeesRoom : PinContents → List Region → ℕ → List (ℕ × Objec
 SeesRoom p regions r dead =
     (f : Frozen) × Sees p regions r f × AreFit f.cell_size (length f.cells) dead
 
--- the pin with this copy of region r
-abbrev pub with_copy : ℕ → Option Frozen → PinContents → PinContents
-with_copy r copy p = record p { copies = slice_set p.copies r copy }
+-- the pin without a copy of region r
+abbrev pub without_copy : ℕ → PinContents → PinContents
+without_copy r p = record p { copies = slice_set p.copies r None }
 
 -- the pin with the old word in its register
 abbrev pub with_old_register : ℕ → ℕ → ℕ → PinContents → PinContents
 with_old_register m r old p =
     record p { registers = slice_set p.registers (register_index m r) old }
 
+-- the pin with a copy of region r as it was before the step, and with the states of its cells then
+abbrev pub with_copy_before : Undo → HeapState → ℕ → PinContents → PinContents
+with_copy_before left w r p =
+    with_copy r (walked_copy left (region_seen p w.regions r))
+    (states_of_region (states_before left (state_seen p w.regions)) r) p
+
 -- the pin with the old word in its slot, in a copy of the region
 abbrev pub with_old_word : HeapState → ObjRef → ℕ → ℕ → PinContents → PinContents
 with_old_word w at slot old p =
     with_copy at.region
-    (option_map (frozen_word_set at.cell slot old) (region_seen p w.regions at.region)) p
+    (option_map (frozen_word_set at.cell slot old) (region_seen p w.regions at.region))
+    (states_of_region (state_seen p w.regions) at.region) p
 
--- q is p with the dead objects back, in a copy of the region and in the bytes
-abbrev pub IsUnswept : HeapState → ℕ → List (ℕ × Object) → PinContents → PinContents → Type 0
-IsUnswept w r dead p q =
-    HasBytesBefore (Sweep r dead)
-    (with_copy r (option_map (with_dead dead) (region_seen p w.regions r)) p) q
+-- the pin without the object at this place, or without all objects of its region (the flag)
+abbrev pub without_new : ObjRef → Bool → PinContents → PinContents
+without_new at fresh p = with_byte at fresh (if has_copy at.region p then 0 else 1) p
 
--- q is p with the region back that was moved out, in a copy and in the bytes
-abbrev pub IsUnreclaimed : ℕ → UsedRegion → PinContents → PinContents → Type 0
-IsUnreclaimed r storage p q =
-    HasBytesBefore (Reclaim r storage) (with_copy r (Some (frozen storage)) p) q
+-- q is p with all objects live
+pub record IsRevived (p q : PinContents) : Type 0 where
+  pub rest : q ≡ record p { ended = true; cells = q.cells }
+  pub cells : (n : ℕ) → AreCells p.cells n → AreCells q.cells n
+  pub bytes : (at : ObjRef) → at.cell < 256
+      → byte_in q.cells at
+      ≡ byte_revived (slice_index_or p.copies at.region None) (byte_in p.cells at)

@@ -9,12 +9,14 @@ ghost use Rattle.heap_pins.specs.WalkedPins.{WalkHolds, WalksOn};
 ghost use Rattle.heap_pins.specs.Laws.{KeepsOthers, EventKeeps, EventExtends, IsRecordTold, HoldsOn, HoldsImage, HoldsBack};
 
 mod cells;
+mod kept;
 mod pin;
+mod reads;
 mod view;
 mod walk;
 
 use heap_step::undo_takes_back;
-pub use pin::{Pin, touched_region};
+pub use pin::{Pin, ends_cycle, noted_region, touched_region};
 pub use view::PinView;
 
 /// States that a region that a record doesn't name still has all that it had before the step.

@@ -1,36 +1,37 @@
 //! A pin: a past state as a dump needs it, kept beside the heap that goes on.
-ghost use Rattle.std.specs.Prelude.{◌≡◌, ◌<◌, ◌≤◌, length, replicate, None, Some, IsSome, IfSome, IfOk, IfErr, OnOk, OnErr, slice_get, slice_index_or, MatchOption, is_some, drop};
+ghost use Rattle.std.specs.Prelude.{◌≡◌, ◌<◌, [], length, None, IsSome, IfSome, IfOk, IfErr, OnOk, OnErr, slice_index_or, is_some, All, if◌then◌else◌};
 ghost use Rattle.heap_class.specs.declared.Refusal.TheVariants.{NoMemory};
-ghost use Rattle.memchr.specs.Find.{IsFirstByte, is_byte};
+ghost use Rattle.heap_region.specs.Limits.{cell_limit};
 ghost use Rattle.heap_region.specs.Regions.{object_at, used_at};
-ghost use Rattle.heap_region.specs.RegionCopies.{frozen, region_frozen};
+ghost use Rattle.heap_region.specs.RegionCopies.{region_frozen};
 ghost use Rattle.heap_world.specs.State.{HeapState};
 ghost use Rattle.heap_step.specs.declared.Event.{Event};
 ghost use Rattle.heap_step.specs.Laws.{IsStep};
-ghost use Rattle.heap_pins.specs.Pin.{IsPlaceAfter, object_seen, places_from};
-ghost use Rattle.heap_pins.specs.KeptCopies.{kept, kept_copy, kept_dead, kept_word, touched, with_dead};
-ghost use Rattle.heap_pins.specs.Shows.{AreFit, FitIn, IsSeen};
+ghost use Rattle.heap_pins.specs.Pin.{state_seen};
+ghost use Rattle.heap_pins.specs.KeptCopies.{ends_cycle, has_copy, kept, noted, touched, with_byte, with_dead};
+ghost use Rattle.heap_pins.specs.Shows.{AreFit, FitIn};
+ghost use Rattle.heap_pins.specs.States.{AreOf, AreSettled, kept_dead, kept_region, kept_word};
 ghost use Rattle.heap_pins.specs.WalkedPins.{IsFreshPin};
-ghost use Rattle.hprof_text.specs.Image.{object_limit};
 
-use crate::cells::cell_states;
-use heap_class::{ObjKind, ObjRef, Refusal};
-use heap_region::{FrozenRegion, OBJECT_BASE, ObjectCopy, REGION_WORDS, Storage};
+use crate::cells::{TAKEN, restore_dead, settle_states, states_now, storage_states};
+use crate::kept::{KeptRegions, blank, copied, filled, make_live};
+use heap_class::{ObjRef, Refusal};
+use heap_region::{FrozenRegion, ObjectCopy, Storage};
 use heap_step::Undo;
 use heap_sweep::DeadCells;
 use heap_world::World;
-use memchr::memchr;
 use std::alloc::Global;
 use std::marker::Model;
 
-/// A past state as a dump shows it. It has the registers, the number of classes, a byte for each cell, 1 for that of a live
-/// object, and copies of the regions that were overwritten since. A region that isn't overwritten yet is read from the heap.
+/// A past state as a dump shows it. It has the registers, the number of classes, and copies of the regions that were
+/// overwritten since. A region that isn't overwritten yet is read from the heap: its objects that weren't made since, live as
+/// they are, or all of them if a cycle ended since.
 #[derive(Drop)]
 pub struct Pin {
     pub(crate) classes: u64,
     pub(crate) registers: Vec<u64>,
-    pub(crate) live: Vec<u8>,
-    pub(crate) copies: Vec<Option<FrozenRegion>>,
+    pub(crate) ended: bool,
+    pub(crate) kept: KeptRegions,
 }
 
 impl Model for Pin {
@@ -42,21 +43,10 @@ impl Model for Pin {
         record {
           classes = p.classes;
           registers = p.registers.items;
-          live = p.live.items;
-          copies = p.copies.items;
+          ended = p.ended;
+          copies = p.kept.copies;
+          cells = p.kept.cells;
         } };
-}
-
-// Returns a list of `count` regions without a copy. Fails with NoMemory if the allocation fails.
-fn no_copies(alloc: Global, count: u64) -> Result<Vec<Option<FrozenRegion>>, Refusal>
-    ensures made { IfOk result (λ v. v.items ≡ replicate count None) }
-    ensures refused { IfErr result (λ e. e ≡ NoMemory) }
-{
-    let mut copies = Vec::with_capacity(alloc, count as usize)?;
-    for _done in 0..count {
-        copies.push_reserved(None);
-    }
-    Ok(copies)
 }
 
 /// Returns the region of which a step with this record overwrote a word or removed an object, or None if there is none. Takes
@@ -73,32 +63,46 @@ pub fn touched_region(left: &Undo) -> Option<u64>
     }
 }
 
-// Finds the first byte of a live object. Looks at the first byte before any search, since it often is the one.
-#[inline]
-fn first_live(bytes: &[u8]) -> Option<usize>
-    ensures { IsFirstByte (is_byte 1) bytes.now result }
+/// Returns the region of which a pin without a copy keeps something of a step with this record: that of a new object, or the
+/// one that `touched_region` returns. Takes no memory.
+#[inline(always)]
+#[tactic(auto, unfolding(crate::specs::KeptCopies::noted, crate::specs::KeptCopies::touched))]
+pub fn noted_region(left: &Undo) -> Option<u64>
+    ensures { result ≡ noted left.now }
 {
-    match bytes {
-        [1, ..] => Some(0),
-        _ => memchr(1, bytes),
+    match left {
+        Undo::Put { at, .. } | Undo::Store { at, .. } | Undo::New { at, .. } => Some(
+            at.region as u64,
+        ),
+        Undo::Sweep { region, .. } | Undo::Reclaim { region, .. } => Some(*region as u64),
+        _ => None,
     }
 }
 
+/// Tells whether a step with this record ended a cycle, which each pin notes.
+#[inline(always)]
+#[tactic(auto, unfolding(crate::specs::KeptCopies::ends_cycle))]
+pub fn ends_cycle(left: &Undo) -> bool
+    ensures { result ≡ ends_cycle left.now }
+{
+    matches!(left, Undo::Finish { .. })
+}
+
 impl Pin {
-    /// Creates a pin on the current state, from which it can be walked back. Fails with NoMemory if an allocation fails.
+    /// Creates a pin on the current state, from which it can be walked back. Fails with NoMemory if an allocation fails. Reads
+    /// nothing of the regions.
     pub fn open(alloc: Global, world: &World) -> Result<Pin, Refusal>
         ensures opened { IfOk result (λ p. IsFreshPin p world.now) }
         ensures refused { IfErr result (λ e. e ≡ NoMemory) }
     {
         let classes = world.classes().len();
         let registers = Vec::from_slice(alloc, world.registers())?;
-        let live = cell_states(alloc, world.regions())?;
-        let copies = no_copies(alloc, world.regions().count())?;
+        let kept = KeptRegions::new(alloc, world.regions().count())?;
         Ok(Pin {
             classes,
             registers,
-            live,
-            copies,
+            ended: false,
+            kept,
         })
     }
 
@@ -108,12 +112,13 @@ impl Pin {
         requires { region < length self.now.copies }
         ensures { result ≡ is_some (slice_index_or self.now.copies region None) }
     {
-        self.copies[region as usize].is_some()
+        self.kept.has_copy(region)
     }
 
-    /// Copies the region that a step overwrote or reclaimed, unless the pin has a copy, and puts back into the copy what the
-    /// step's record has of it. The step must have left this record and led to this state. Fails with NoMemory if the copy
-    /// can't be allocated, and the pin is unchanged then.
+    /// Keeps of a step what the pin needs of it, by the step's record: a copy of the region that it overwrote or reclaimed, if
+    /// the pin has none, with what the record has of it; the cells that it took; and whether it ended a cycle. The step must
+    /// have left this record and led to this state. Fails with NoMemory if a copy can't be allocated, and the pin is unchanged
+    /// then.
     pub fn keep(&mut self, world: &World, left: &Undo) -> Result<(), Refusal>
         requires step { (e : Event) × (before : HeapState) × IsStep e before world.now left.now }
         requires sized { length self.old.copies ≡ length world.now.regions }
@@ -127,7 +132,41 @@ impl Pin {
             Undo::Store { at, slot, old, .. } => { self.keep_word(world, *at, *slot as u64, *old) }
             Undo::Sweep { region, dead } => self.keep_dead(world, *region, dead),
             Undo::Reclaim { region, storage } => self.keep_region(world, *region, storage),
+            Undo::New { at, fresh, .. } => {
+                self.keep_new(*at, *fresh);
+                Ok(())
+            }
+            Undo::Finish { .. } => {
+                self.ended = true;
+                Ok(())
+            }
             _ => Ok(()),
+        }
+    }
+
+    // Keeps that a cell, or a region, was taken, unless the region has a copy.
+    #[inline(always)]
+    fn keep_new(&mut self, at: ObjRef, fresh: bool)
+        requires region { at.region < length self.old.copies }
+        requires cell { at.cell < cell_limit }
+        ensures { self.new ≡ (if has_copy at.region self.old then self.old else with_byte at fresh 1 self.old) }
+    {
+        if !self.has_copy(at.region as u64) {
+            self.set_byte(at, fresh, TAKEN);
+        }
+    }
+
+    // Writes the byte of a cell, or of all cells of its region.
+    #[inline(always)]
+    pub(crate) fn set_byte(&mut self, at: ObjRef, fresh: bool, byte: u8)
+        requires region { at.region < length self.old.copies }
+        requires cell { at.cell < cell_limit }
+        ensures { self.new ≡ with_byte at fresh byte self.old }
+    {
+        if fresh {
+            self.kept.set_bytes(at.region as u64, &filled(byte));
+        } else {
+            self.kept.set_byte(at.region as u64, at.cell as u64, byte);
         }
     }
 
@@ -135,18 +174,19 @@ impl Pin {
     fn keep_word(&mut self, world: &World, at: ObjRef, slot: u64, old: u64) -> Result<(), Refusal>
         requires there { IsSome (object_at world.now.regions at) }
         requires within { IfSome (object_at world.now.regions at) (λ o. slot < length o.words) }
-        requires sized { at.region < length self.old.copies }
+        requires sized { length self.old.copies ≡ length world.now.regions }
         ensures kept { OnOk result (self.new ≡ kept_word world.now at slot old self.old) }
         ensures unchanged { OnErr result (self.new ≡ self.old) }
         ensures refused { IfErr result (λ e. e ≡ NoMemory) }
     {
-        let region = at.region as usize;
-        if self.copies[region].is_some() {
+        let region = at.region as u64;
+        if self.has_copy(region) {
             return Ok(());
         }
-        let mut copy = world.regions().freeze(region as u64)?;
+        let mut copy = world.regions().freeze(region)?;
         copy.set_word(at.cell as u64, slot, old);
-        self.copies[region] = Some(copy);
+        let states = self.states(world, region);
+        self.kept.put(region, copy, &states);
         Ok(())
     }
 
@@ -154,34 +194,81 @@ impl Pin {
     fn keep_dead(&mut self, world: &World, region: u16, dead: &DeadCells) -> Result<(), Refusal>
         requires used { IsSome (used_at world.now.regions region) }
         requires fit { FitIn (region_frozen world.now.regions region) dead.now }
-        requires sized { region < length self.old.copies }
+        requires within { All (λ d. d.0 < cell_limit) dead.now }
+        requires sized { length self.old.copies ≡ length world.now.regions }
         ensures kept { OnOk result (self.new ≡ kept_dead world.now region dead.now self.old) }
         ensures unchanged { OnErr result (self.new ≡ self.old) }
         ensures refused { IfErr result (λ e. e ≡ NoMemory) }
     {
-        if self.copies[region as usize].is_some() {
+        if self.has_copy(region as u64) {
             return Ok(());
         }
         let mut copy = world.regions().freeze(region as u64)?;
         put_dead(&mut copy, dead.as_slice());
-        self.copies[region as usize] = Some(copy);
+        let mut states = states_now(world.regions(), region as u64);
+        restore_dead(&mut states, dead.as_slice());
+        self.settle(region as u64, &mut states);
+        self.kept.put(region as u64, copy, &states);
         Ok(())
     }
 
     // Copies a region that was moved out.
     fn keep_region(&mut self, world: &World, region: u16, storage: &Storage) -> Result<(), Refusal>
         requires sized { region < length self.old.copies }
-        ensures kept { OnOk result
-            (self.new ≡ kept_copy region (Some (frozen storage.now)) self.old) }
+        ensures kept { OnOk result (self.new ≡ kept_region region storage.now self.old) }
         ensures unchanged { OnErr result (self.new ≡ self.old) }
         ensures refused { IfErr result (λ e. e ≡ NoMemory) }
     {
-        if self.copies[region as usize].is_some() {
+        if self.has_copy(region as u64) {
             return Ok(());
         }
         let copy = storage.freeze(world.regions().allocator())?;
-        self.copies[region as usize] = Some(copy);
+        let mut states = storage_states(storage);
+        self.settle(region as u64, &mut states);
+        self.kept.put(region as u64, copy, &states);
         Ok(())
+    }
+
+    // Returns the states of the cells of a region as the pin shows them beside the current state.
+    pub(crate) fn states(&self, world: &World, region: u64) -> [u8; 256]
+        requires region { region < length self.now.copies }
+        requires sized { length self.now.copies ≡ length world.now.regions }
+        ensures { AreOf (state_seen self.now world.now.regions) region cell_limit result }
+    {
+        if self.has_copy(region) {
+            return self.bytes(region);
+        }
+        let mut states = states_now(world.regions(), region);
+        self.settle(region, &mut states);
+        states
+    }
+
+    // Makes of the states of the cells of a region without a copy those that the pin shows.
+    fn settle(&self, region: u64, states: &mut [u8; 256])
+        requires { region < length self.now.copies }
+        ensures { AreSettled self.now.ended (slice_index_or self.now.cells region [])
+            states.old states.new }
+    {
+        match self.kept.bytes(region) {
+            Some(bytes) => settle_states(self.ended, bytes, states),
+            None => {
+                if self.ended {
+                    make_live(states);
+                }
+            }
+        }
+    }
+
+    // Returns the bytes of a region.
+    fn bytes(&self, region: u64) -> [u8; 256]
+        requires { region < length self.now.copies }
+        ensures value { result ≡ slice_index_or self.now.cells region [] }
+        ensures count { length result ≡ cell_limit }
+    {
+        match self.kept.bytes(region) {
+            Some(bytes) => copied(bytes),
+            None => blank(),
+        }
     }
 }
 
@@ -192,110 +279,5 @@ pub(crate) fn put_dead(copy: &mut FrozenRegion, dead: &[(u64, ObjectCopy)])
 {
     for (cell, object) in dead {
         copy.put(*cell, object);
-    }
-}
-
-// The readers that a dump needs of a pin, beside the current state.
-impl Pin {
-    /// Returns the number of classes that the state had.
-    pub fn classes(&self) -> u64
-        ensures { result ≡ self.now.classes }
-    {
-        self.classes
-    }
-
-    /// Returns the registers, mutator by mutator.
-    pub fn registers(&self) -> &[u64]
-        ensures { result.now ≡ self.now.registers }
-    {
-        &self.registers
-    }
-
-    // Returns the place of the first live object from a byte on.
-    fn from(&self, number: usize) -> Option<ObjRef>
-        requires within { number ≤ length self.now.live }
-        requires few { length self.now.live ≤ object_limit }
-        ensures { result ≡ slice_get (places_from number (drop number self.now.live)) 0 }
-    {
-        match first_live(&self.live[number..]) {
-            Some(found) => {
-                let number = (number + found) as u64;
-                Some(ObjRef {
-                    region: (number / 256) as u16,
-                    cell: (number % 256) as u16,
-                })
-            }
-            None => None,
-        }
-    }
-
-    /// Returns the place of the first object. The pin must have at most 2^24 cells.
-    pub fn first(&self) -> Option<ObjRef>
-        requires { length self.now.live ≤ object_limit }
-        ensures { result ≡ slice_get (places_from 0 self.now.live) 0 }
-    {
-        self.from(0)
-    }
-
-    /// Returns the place of the object after the one at this place. The pin must have at most 2^24 cells.
-    pub fn next(&self, at: ObjRef) -> Option<ObjRef>
-        requires { length self.now.live ≤ object_limit }
-        ensures { IsPlaceAfter self.now.live at result }
-    {
-        let number = 256 * at.region as usize + at.cell as usize + 1;
-        if number > self.live.len() {
-            return None;
-        }
-        self.from(number)
-    }
-
-    // Returns the copy of a region, if the pin has one. The region must be one of the heap's.
-    #[inline(always)]
-    fn copy_of(&self, region: u16) -> Option<&FrozenRegion>
-        requires { region < length self.now.copies }
-        ensures { MatchOption result (slice_index_or self.now.copies region None ≡ None)
-            (λ copy. slice_index_or self.now.copies region None ≡ Some copy.now) }
-    {
-        match &self.copies[region as usize] {
-            Some(copy) => Some(copy),
-            None => None,
-        }
-    }
-
-    /// Returns the kind of the object at this place, which must have one.
-    pub fn kind(&self, world: &World, at: ObjRef) -> ObjKind
-        requires { IsSeen self.now world.now.regions at }
-        ensures { IfSome (object_seen self.now world.now.regions at) (λ o. result ≡ o.kind) }
-    {
-        match self.copy_of(at.region) {
-            Some(copy) => copy.kind(at.cell as u64),
-            None => world.regions().kind(at),
-        }
-    }
-
-    /// Returns the id of the object at this place, which must have one: the address of its first word.
-    pub fn id(&self, world: &World, at: ObjRef) -> u64
-        requires { IsSeen self.now world.now.regions at }
-        ensures { IfSome (object_seen self.now world.now.regions at) (λ o. result ≡ o.id) }
-    {
-        match self.copy_of(at.region) {
-            Some(copy) => {
-                let first = REGION_WORDS * at.region as u64 + at.cell as u64 * copy.cell_size();
-                OBJECT_BASE + 8 * first
-            }
-            None => world.regions().id(at),
-        }
-    }
-
-    /// Returns the words of the object at this place, which must have one, in slot order.
-    #[inline(always)]
-    pub fn words<'b>(&'b self, world: &'b World, at: ObjRef) -> &'b [u64]
-        requires { IsSeen self.now world.now.regions at }
-        ensures { IfSome (object_seen self.now world.now.regions at) (λ o. result.now ≡ o.words) }
-    {
-        match self.copy_of(at.region) {
-            Some(copy) => copy.words(at.cell as u64),
-            None => world.regions().words(at),
-        }
     }
 }

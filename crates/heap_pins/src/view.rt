@@ -37,13 +37,13 @@ impl<'a> PinView<'a> {
 }
 
 impl<'a> View for PinView<'a> {
-    ghost use Rattle.heap_pins.specs.Pin.{pin_image, places_from};
+    ghost use Rattle.heap_pins.specs.Pin.{pin_image, places_seen};
 
     ghost image = { λ v. pin_image v.pin v.state };
 
     ghost ids = { λ v. v.ids };
 
-    ghost places = { λ v. places_from 0 v.pin.live };
+    ghost places = { λ v. places_seen v.pin v.state.regions };
 
     fn classes(&self) -> FirstClasses<'_> {
         let pin: &Pin = self.pin;
@@ -61,12 +61,12 @@ impl<'a> View for PinView<'a> {
 
     fn first(&self) -> Option<ObjRef> {
         let pin: &Pin = self.pin;
-        pin.first()
+        pin.first(self.world)
     }
 
     fn next(&self, at: ObjRef) -> Option<ObjRef> {
         let pin: &Pin = self.pin;
-        pin.next(at)
+        pin.next(self.world, at)
     }
 
     fn kind(&self, at: ObjRef) -> ObjKind {

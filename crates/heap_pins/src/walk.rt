@@ -1,15 +1,14 @@
 //! The walk back: a pin is taken from the current state to a past one, record by record.
-ghost use Rattle.std.specs.Prelude.{◌≡◌, ℕ, ◌<◌, List, All, length, None, IsSome, IfOk, IfErr, OnOk};
+ghost use Rattle.std.specs.Prelude.{◌≡◌, ◌<◌, All, length, IsSome, IfOk, IfErr, OnOk};
 ghost use Rattle.heap_class.specs.declared.Refusal.TheVariants.{NoMemory};
 ghost use Rattle.heap_world.specs.State.{register_index};
-ghost use Rattle.heap_step.specs.declared.Undo.TheVariants.{Finish, New};
+ghost use Rattle.heap_step.specs.declared.Undo.TheVariants.{Reclaim, Sweep};
 ghost use Rattle.heap_pins.specs.Pin.{region_seen};
-ghost use Rattle.heap_pins.specs.States.{HasBytesBefore, HasNoLive, HasRegion};
-ghost use Rattle.heap_pins.specs.WalkedPins.{CanWalk, IsWalkedBack, IsUnreclaimed, IsUnswept};
-ghost use Rattle.heap_pins.specs.WalkedPins.{Sees, SeesRoom, SeesSlot, with_copy, with_old_register, with_old_word};
+ghost use Rattle.heap_pins.specs.WalkedPins.{CanWalk, IsRevived, IsWalkedBack};
+ghost use Rattle.heap_pins.specs.WalkedPins.{Sees, SeesRoom, SeesSlot, with_copy_before, with_old_register, with_old_word, without_copy, without_new};
 ghost use Rattle.heap_region.specs.Limits.{cell_limit};
 
-use crate::cells::{clear_region, make_live, restore_dead, restore_region};
+use crate::cells::{EMPTY, TAKEN, restore_dead, storage_states};
 use crate::pin::{Pin, put_dead};
 use heap_class::{ObjRef, Refusal};
 use heap_region::{FrozenRegion, Storage};
@@ -64,10 +63,10 @@ impl Pin {
         requires sized { region < length self.old.copies }
         requires there { IsSome (region_seen self.old world.now.regions region) }
         ensures taken { IfOk result (Sees self.old world.now.regions region) }
-        ensures left { self.new ≡ with_copy region None self.old }
+        ensures left { self.new ≡ without_copy region self.old }
         ensures refused { IfErr result (λ e. e ≡ NoMemory) }
     {
-        match self.copies[region as usize].take() {
+        match self.kept.take_copy(region as u64) {
             Some(copy) => Ok(copy),
             None => world.regions().freeze(region as u64),
         }
@@ -75,14 +74,16 @@ impl Pin {
 
     // Writes the old word to a slot, in a copy of its region. Fails with NoMemory if the copy can't be allocated.
     fn unwrite(&mut self, world: &World, at: ObjRef, slot: u64, old: u64) -> Result<(), Refusal>
-        requires sized { at.region < length self.old.copies }
+        requires region { at.region < length self.old.copies }
+        requires sized { length self.old.copies ≡ length world.now.regions }
         requires there { SeesSlot self.old world.now.regions at slot }
         ensures written { OnOk result (self.new ≡ with_old_word world.now at slot old self.old) }
         ensures refused { IfErr result (λ e. e ≡ NoMemory) }
     {
+        let states = self.states(world, at.region as u64);
         let mut copy = self.take_copy(world, at.region)?;
         copy.set_word(at.cell as u64, slot, old);
-        self.copies[at.region as usize] = Some(copy);
+        self.kept.put(at.region as u64, copy, &states);
         Ok(())
     }
 
@@ -97,50 +98,52 @@ impl Pin {
     // Removes a new object, or all objects of its region if the region was taken from the pool for it.
     fn remove_new(&mut self, at: ObjRef, fresh: bool)
         requires within { at.cell < cell_limit }
-        requires region { HasRegion self.old.live at.region }
-        ensures { (m r old : ℕ) → HasBytesBefore (New at fresh m r old) self.old self.new }
+        requires region { at.region < length self.old.copies }
+        ensures { self.new ≡ without_new at fresh self.old }
     {
-        if fresh {
-            clear_region(&mut self.live, at.region);
+        let byte = if self.has_copy(at.region as u64) {
+            EMPTY
         } else {
-            self.live[256 * at.region as usize + at.cell as usize] = 0;
-        }
+            TAKEN
+        };
+        self.set_byte(at, fresh, byte);
     }
 
     // Makes all objects live.
     fn revive(&mut self)
-        ensures { (log : List ℕ) → HasBytesBefore (Finish log) self.old self.new }
+        ensures { IsRevived self.old self.new }
     {
-        make_live(&mut self.live);
+        self.ended = true;
+        self.kept.revive();
     }
 
     // Puts back the dead objects of a region. Fails with NoMemory if a copy of the region can't be allocated.
     fn unsweep(&mut self, world: &World, region: u16, dead: &DeadCells) -> Result<(), Refusal>
-        requires sized { region < length self.old.copies }
+        requires region { region < length self.old.copies }
+        requires sized { length self.old.copies ≡ length world.now.regions }
         requires there { SeesRoom self.old world.now.regions region dead.now }
         requires within { All (λ d. d.0 < cell_limit) dead.now }
-        requires bytes { HasRegion self.old.live region }
-        ensures swept { OnOk result (IsUnswept world.now region dead.now self.old self.new) }
+        ensures swept { OnOk result
+            (self.new ≡ with_copy_before (Sweep region dead.now) world.now region self.old) }
         ensures refused { IfErr result (λ e. e ≡ NoMemory) }
     {
+        let mut states = self.states(world, region as u64);
+        restore_dead(&mut states, dead.as_slice());
         let mut copy = self.take_copy(world, region)?;
         put_dead(&mut copy, dead.as_slice());
-        self.copies[region as usize] = Some(copy);
-        restore_dead(&mut self.live, region, dead.as_slice());
+        self.kept.put(region as u64, copy, &states);
         Ok(())
     }
 
     // Puts back a region that was moved out. Fails with NoMemory if a copy of the region can't be allocated.
     fn unreclaim(&mut self, world: &World, region: u16, storage: &Storage) -> Result<(), Refusal>
-        requires sized { region < length self.old.copies }
-        requires dead { HasNoLive storage.now }
-        requires bytes { HasRegion self.old.live region }
-        ensures reclaimed { OnOk result (IsUnreclaimed region storage.now self.old self.new) }
+        requires region { region < length self.old.copies }
+        ensures reclaimed { OnOk result
+            (self.new ≡ with_copy_before (Reclaim region storage.now) world.now region self.old) }
         ensures refused { IfErr result (λ e. e ≡ NoMemory) }
     {
         let copy = storage.freeze(world.regions().allocator())?;
-        self.copies[region as usize] = Some(copy);
-        restore_region(&mut self.live, region, storage);
+        self.kept.put(region as u64, copy, &storage_states(storage));
         Ok(())
     }
 }

@@ -1,13 +1,12 @@
 -- The changes of a slot, one retained step more at a time.
 use Rattle.std.proofs.Common.{◌≡◌, ℕ, ◌+◌, ◌-◌, ◌<◌, Bool, true, false, cond, List, [], ◌∷◌, ◌++◌, length, Option, Some, refl, sym, ap, ap₂, ◌∙◌, subst, inl, inr, arith, add-one}
-use Rattle.std.specs.Prelude.{IsSome, IfSome, reverse, ◌==◌, ◌&&◌}
+use Rattle.std.specs.Prelude.{IsSome, IfSome, reverse, ◌==◌}
 use Rattle.std.specs.Option.{option_map_or}
-use Rattle.std.proofs.lemmas.Bool.{cases_eq, eq-eqb, ne_eqb}
 use Rattle.std.proofs.lemmas.Bool.Decides.{when_true, when_false}
 use Rattle.std.proofs.lemmas.List.{reverse-append, reverse-reverse}
 use Rattle.heap_class.specs.declared.ObjKind.{ObjKind}
 use Rattle.heap_class.specs.declared.ObjRef.{ObjRef}
-use Rattle.heap_region.specs.Regions.{Object, object_at, with_word}
+use Rattle.heap_region.specs.Regions.{Object, object_at}
 use Rattle.heap_world.specs.Legal.{IsLegal}
 use Rattle.heap_world.specs.State.{HeapState}
 use Rattle.heap_step.specs.declared.Event.{Event}
@@ -24,49 +23,9 @@ use Rattle.heap_questions.specs.Graph.{slot_refers}
 use Rattle.heap_questions.specs.SlotChanges.{IsWatchedBack, change_ago, changed, last_changes, refers_at, word_before}
 use Rattle.heap_questions.specs.declared.past.slots.SlotChange.{SlotChange}
 use Rattle.heap_questions.proofs.Walk.{Stands, now_is, slot_there, stands_now, unborn}
-use Rattle.heap_questions.proofs.Writes.{other_place, other_slot, record_makes, record_tells, same_place, written_here}
+use Rattle.heap_questions.proofs.Writes.{record_makes, record_tells, write_before}
 
 -- ---- the word before a record
-
--- the word of slot k before a write of slot s of the object at a
-write_before : (before after : HeapState) (a at : ObjRef) (s k old now : ℕ) → before.regions ≡ with_word a s old after.regions → slot_word after at k ≡ Some now
-    → slot_word before at k ≡ Some (cond ((a.region == at.region) && (a.cell == at.cell) && (s == k)) old now)
-write_before before after a at s k old now e h =
-    let x = a.region == at.region in
-    let y = a.cell == at.cell in
-    let z = s == k in
-    elim (cases_eq a.region at.region) [
-      | inl r ↦ elim (cases_eq a.cell at.cell) [
-        | inl c ↦
-            let e' : before.regions ≡ with_word at s old after.regions = e ∙ ap (λ (q : ObjRef). with_word q s old after.regions) (same_place a at r c) in
-            elim (cases_eq s k) [
-              | inl m ↦
-                  let e'' : before.regions ≡ with_word at k old after.regions = e' ∙ ap (λ (n : ℕ). with_word at n old after.regions) m in
-                  by (x && y && z) true (all x y z (eq-eqb _ _ r) (eq-eqb _ _ c) (eq-eqb _ _ m)) (written_here before after at k old now e'' h)
-              | inr m ↦ by (x && y && z) false (third x y z (ne_eqb _ _ m)) (other_slot before after at s k old now e' m h)
-            ]
-        | inr c ↦ by (x && y && z) false (second x y z (ne_eqb _ _ c)) (other_place before after a at s k old now e (λ p. c (ap (λ (q : ObjRef). q.cell) (sym p))) h)
-      ]
-      | inr r ↦ by (x && y && z) false (first x y z (ne_eqb _ _ r)) (other_place before after a at s k old now e (λ p. r (ap (λ (q : ObjRef). q.region) (sym p))) h)
-    ]
-  where
-    by : (b c : Bool) → b ≡ c → slot_word before at k ≡ Some (cond c old now) → slot_word before at k ≡ Some (cond b old now)
-    by b c p w = w ∙ ap (λ q. Some (cond q old now)) (sym p)
-
-    all : (x y z : Bool) → x ≡ true → y ≡ true → z ≡ true → (x && y && z) ≡ true
-    all x y z p q r = ap (λ b. b && y && z) p ∙ ap (λ b. true && b && z) q ∙ ap (λ b. true && true && b) r
-
-    third : (x y z : Bool) → z ≡ false → (x && y && z) ≡ false
-    third true true z e = e
-    third true false z e = refl
-    third false y z e = refl
-
-    second : (x y z : Bool) → y ≡ false → (x && y && z) ≡ false
-    second true y z e = ap (λ y. true && y && z) e
-    second false y z e = refl
-
-    first : (x y z : Bool) → x ≡ false → (x && y && z) ≡ false
-    first x y z e = ap (λ x. x && y && z) e
 
 same_word : (e : Event) (before after : HeapState) (left : Undo) (at : ObjRef) (k now : ℕ) → IsStep e before after left → slot_word after at k ≡ Some now → changed_by left at k now ≡ false → slot_word before at k ≡ Some now
 same_word e before after left at k now st h c = when_false _ _ c (record_tells e before after left at k now st h)

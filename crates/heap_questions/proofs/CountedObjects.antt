@@ -40,7 +40,7 @@ use Rattle.heap_questions.specs.ObjectLists.{objects_wanted}
 use Rattle.heap_questions.specs.PastTrails.{IsShownBeside}
 use Rattle.heap_questions.specs.SlotWrites.{seen_object}
 use Rattle.heap_questions.specs.Wanted.{is_of_class, is_wanted}
-use Rattle.heap_questions.proofs.DeadObjects.{in_cells, place}
+use Rattle.heap_questions.proofs.DeadObjects.{in_cells, later, place}
 use Rattle.heap_questions.proofs.FirstPlaces.{live_of_state, one_made, one_older, seen_as, states_after, written_live}
 use Rattle.heap_questions.proofs.Sizes.{same_regions}
 use Rattle.heap_questions.proofs.ToldObjects.{covered_alike, none_there, one_before, reclaimed_none, told}
@@ -130,10 +130,6 @@ none_counted k (y ∷ ys) h =
 split : (k : ℕ) (ys : List (Option Object)) → count_by (lives_as k) ys ≡ one k (get_or ys 0 None) + count_by (lives_as k) (drop 1 ys)
 split k [] = refl
 split k (y ∷ ys) = sum_by-cons (one k) y ys
-
-later : (ys : List (Option Object)) (c : ℕ) → get_or (drop 1 ys) c None ≡ get_or ys (suc c) None
-later [] c = refl
-later (y ∷ ys) c = refl
 
 same_cells : (k : ℕ) (xs ys : List (Option Object)) → ((c : ℕ) → lives_as k (get_or xs c None) ≡ lives_as k (get_or ys c None)) → count_by (lives_as k) xs ≡ count_by (lives_as k) ys
 same_cells k [] ys h = sym (none_counted k ys (λ c. sym (h c)))

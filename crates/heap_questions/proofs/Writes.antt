@@ -64,7 +64,7 @@ written_here before after at s old now e h =
     let b : object_at before.regions at ≡ Some (f o.0) = ap (λ (rs : List Region). object_at rs at) e ∙ object_after_its_change at f after.regions ∙ ap (option_map f) o.1 in
     word_of_object before at s (f o.0) b ∙ set_item_is_got o.0.words s old (slice_get_within o.0.words s now o.2)
 
-pub other_slot : (before after : HeapState) (at : ObjRef) (s k old now : ℕ) → before.regions ≡ with_word at s old after.regions → s ≢ k → slot_word after at k ≡ Some now → slot_word before at k ≡ Some now
+other_slot : (before after : HeapState) (at : ObjRef) (s k old now : ℕ) → before.regions ≡ with_word at s old after.regions → s ≢ k → slot_word after at k ≡ Some now → slot_word before at k ≡ Some now
 unfolding with_word
 other_slot before after at s k old now e n h =
     let o = object_of_word after at k now h in
@@ -72,7 +72,7 @@ other_slot before after at s k old now e n h =
     let b : object_at before.regions at ≡ Some (f o.0) = ap (λ (rs : List Region). object_at rs at) e ∙ object_after_its_change at f after.regions ∙ ap (option_map f) o.1 in
     word_of_object before at k (f o.0) b ∙ got_set_elsewhere s k o.0.words old n ∙ o.2
 
-pub other_place : (before after : HeapState) (a at : ObjRef) (s k old now : ℕ) → before.regions ≡ with_word a s old after.regions → at ≢ a → slot_word after at k ≡ Some now → slot_word before at k ≡ Some now
+other_place : (before after : HeapState) (a at : ObjRef) (s k old now : ℕ) → before.regions ≡ with_word a s old after.regions → at ≢ a → slot_word after at k ≡ Some now → slot_word before at k ≡ Some now
 unfolding with_word
 other_place before after a at s k old now e n h =
     let o = object_of_word after at k now h in
@@ -90,43 +90,57 @@ by_test false P Q f g = g refl
 abbrev Tells : Bool → HeapState → ObjRef → ℕ → ℕ → Type 0
 Tells b before at k now = MatchBool b (slot_word before at k ≡ Some now → ⊥) (slot_word before at k ≡ Some now)
 
-write_tells : (before after : HeapState) (a at : ObjRef) (s k old now : ℕ) → before.regions ≡ with_word a s old after.regions → slot_word after at k ≡ Some now
-    → Tells ((a.region == at.region) && (a.cell == at.cell) && (s == k) && not (old == now)) before at k now
-write_tells before after a at s k old now e h =
+-- the word of slot k before a write of slot s of the object at a
+pub write_before : (before after : HeapState) (a at : ObjRef) (s k old now : ℕ) → before.regions ≡ with_word a s old after.regions → slot_word after at k ≡ Some now
+    → slot_word before at k ≡ Some (cond ((a.region == at.region) && (a.cell == at.cell) && (s == k)) old now)
+write_before before after a at s k old now e h =
+    let x = a.region == at.region in
+    let y = a.cell == at.cell in
+    let z = s == k in
     elim (cases_eq a.region at.region) [
       | inl r ↦ elim (cases_eq a.cell at.cell) [
         | inl c ↦
-            let p : a ≡ at = same_place a at r c in
-            let e' : before.regions ≡ with_word at s old after.regions = e ∙ ap (λ (q : ObjRef). with_word q s old after.regions) p in
+            let e' : before.regions ≡ with_word at s old after.regions = e ∙ ap (λ (q : ObjRef). with_word q s old after.regions) (same_place a at r c) in
             elim (cases_eq s k) [
-              | inl z ↦
-                  let e'' : before.regions ≡ with_word at k old after.regions = e' ∙ ap (λ (n : ℕ). with_word at n old after.regions) z in
-                  let was = written_here before after at k old now e'' h in
-                  elim (cases_eq old now) [
-                    | inl y ↦ subst (λ (b : Bool). Tells b before at k now) (sym (four (a.region == at.region) (a.cell == at.cell) (s == k) (not (old == now)) (eq-eqb _ _ r) (eq-eqb _ _ c) (eq-eqb _ _ z) (ap not (eq-eqb _ _ y)))) (was ∙ ap Some y)
-                    | inr y ↦ subst (λ (b : Bool). Tells b before at k now) (sym (four (a.region == at.region) (a.cell == at.cell) (s == k) (not (old == now)) (eq-eqb _ _ r) (eq-eqb _ _ c) (eq-eqb _ _ z) (ap not (ne_eqb _ _ y)))) (λ g. y (same_Some old now (sym was ∙ g)))
-                  ]
-              | inr z ↦ subst (λ (b : Bool). Tells b before at k now) (sym (third (a.region == at.region) (a.cell == at.cell) (s == k) (not (old == now)) (ne_eqb _ _ z))) (other_slot before after at s k old now e' z h)
+              | inl m ↦
+                  let e'' : before.regions ≡ with_word at k old after.regions = e' ∙ ap (λ (n : ℕ). with_word at n old after.regions) m in
+                  by (x && y && z) true (all x y z (eq-eqb _ _ r) (eq-eqb _ _ c) (eq-eqb _ _ m)) (written_here before after at k old now e'' h)
+              | inr m ↦ by (x && y && z) false (third x y z (ne_eqb _ _ m)) (other_slot before after at s k old now e' m h)
             ]
-        | inr c ↦ subst (λ (b : Bool). Tells b before at k now) (sym (second (a.region == at.region) (a.cell == at.cell) (s == k) (not (old == now)) (ne_eqb _ _ c))) (other_place before after a at s k old now e (λ p. c (ap (λ (q : ObjRef). q.cell) (sym p))) h)
+        | inr c ↦ by (x && y && z) false (second x y z (ne_eqb _ _ c)) (other_place before after a at s k old now e (λ p. c (ap (λ (q : ObjRef). q.cell) (sym p))) h)
       ]
-      | inr r ↦ subst (λ (b : Bool). Tells b before at k now) (sym (first (a.region == at.region) (a.cell == at.cell) (s == k) (not (old == now)) (ne_eqb _ _ r))) (other_place before after a at s k old now e (λ p. r (ap (λ (q : ObjRef). q.region) (sym p))) h)
+      | inr r ↦ by (x && y && z) false (first x y z (ne_eqb _ _ r)) (other_place before after a at s k old now e (λ p. r (ap (λ (q : ObjRef). q.region) (sym p))) h)
     ]
   where
-    four : (x y z w : Bool) → {v : Bool} → x ≡ true → y ≡ true → z ≡ true → w ≡ v → (x && y && z && w) ≡ v
-    four x y z w {v} a b c d = ap (λ x. x && y && z && w) a ∙ ap (λ y. true && y && z && w) b ∙ ap (λ z. true && true && z && w) c ∙ d
+    by : (b c : Bool) → b ≡ c → slot_word before at k ≡ Some (cond c old now) → slot_word before at k ≡ Some (cond b old now)
+    by b c p w = w ∙ ap (λ q. Some (cond q old now)) (sym p)
 
-    third : (x y z w : Bool) → z ≡ false → (x && y && z && w) ≡ false
-    third true true z w e = ap (λ z. true && true && z && w) e
-    third true false z w e = refl
-    third false y z w e = refl
+    all : (x y z : Bool) → x ≡ true → y ≡ true → z ≡ true → (x && y && z) ≡ true
+    all x y z p q r = ap (λ b. b && y && z) p ∙ ap (λ b. true && b && z) q ∙ ap (λ b. true && true && b) r
 
-    second : (x y z w : Bool) → y ≡ false → (x && y && z && w) ≡ false
-    second true y z w e = ap (λ y. true && y && z && w) e
-    second false y z w e = refl
+    third : (x y z : Bool) → z ≡ false → (x && y && z) ≡ false
+    third true true z e = e
+    third true false z e = refl
+    third false y z e = refl
 
-    first : (x y z w : Bool) → x ≡ false → (x && y && z && w) ≡ false
-    first x y z w e = ap (λ x. x && y && z && w) e
+    second : (x y z : Bool) → y ≡ false → (x && y && z) ≡ false
+    second true y z e = ap (λ y. true && y && z) e
+    second false y z e = refl
+
+    first : (x y z : Bool) → x ≡ false → (x && y && z) ≡ false
+    first x y z e = ap (λ x. x && y && z) e
+
+write_tells : (before after : HeapState) (a at : ObjRef) (s k old now : ℕ) → before.regions ≡ with_word a s old after.regions → slot_word after at k ≡ Some now
+    → Tells ((a.region == at.region) && (a.cell == at.cell) && (s == k) && not (old == now)) before at k now
+write_tells before after a at s k old now e h = by_words ((a.region == at.region) && (a.cell == at.cell) && (s == k)) (write_before before after a at s k old now e h)
+  where
+    by_words : (b : Bool) → slot_word before at k ≡ Some (cond b old now) → Tells (b && not (old == now)) before at k now
+    by_words false was = was
+    by_words true was =
+        elim (cases_eq old now) [
+          | inl y ↦ subst (λ (b : Bool). Tells b before at k now) (sym (ap not (eq-eqb _ _ y))) (was ∙ ap Some y)
+          | inr y ↦ subst (λ (b : Bool). Tells b before at k now) (sym (ap not (ne_eqb _ _ y))) (λ g. y (same_Some old now (sym was ∙ g)))
+        ]
 
 -- ---- a new object
 

@@ -8,8 +8,8 @@ use Rattle.heap_world.specs.State.{HeapState}
 use Rattle.heap_step.specs.declared.Undo.{Undo}
 use Rattle.heap_step.specs.declared.Undo.TheVariants.{New, Sweep, Reclaim}
 use Rattle.heap_pins.specs.Pin.{PinContents}
-use Rattle.heap_pins.specs.Shows.{ShowsState}
-use Rattle.heap_pins.specs.WalkedPins.{IsPinAt, IsWalked}
+use Rattle.heap_pins.specs.Shows.{IsPinOf, ShowsState}
+use Rattle.heap_pins.specs.WalkedPins.{IsWalked}
 use Rattle.heap_trail.specs.Laws.{IsTrail}
 use Rattle.heap_trail.specs.Trail.{Trail, state_ago}
 use Rattle.heap_questions.specs.declared.past.seen.SeenSlot.{SeenSlot}
@@ -32,9 +32,9 @@ seen_slot w at s =
 abbrev pub IsPinAgo : PinContents → Trail → ℕ → Type 0
 IsPinAgo p t n = IsWalked p (state_ago n t) n (t.current ∷ t.past)
 
--- the pin keeps the cells of the state w, and shows it beside another
+-- the pin is one of the state w, and shows it beside another
 abbrev pub IsShownBeside : HeapState → PinContents → HeapState → Type 0
-IsShownBeside current p w = IsPinAt p w × ShowsState p w current
+IsShownBeside current p w = IsPinOf p w × ShowsState p w current
 
 -- ---- what a record tells
 

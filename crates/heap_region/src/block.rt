@@ -10,6 +10,9 @@ use crate::headers::Headers;
 use std::alloc::{AllocError, Global};
 use std::marker::Model;
 
+// The largest number of cells of a region.
+const CELLS: usize = 256;
+
 // The words and the headers of one region, allocated together.
 #[derive(Drop)]
 struct RegionBlock {
@@ -116,9 +119,66 @@ impl RegionBlock {
         Ok(Box::new(alloc, blank)?)
     }
 
-    // Copies the words and the headers. It is never inlined, so that no other function has a block on its stack.
+    // Returns words that are all 0, and 256 cells, all of them free.
     #[inline(never)]
+    fn full(alloc: Global) -> Result<Box<RegionBlock>, AllocError>
+        ensures { IfOk result
+            (λ b. (b.value.words ≡ replicate 1024 0)
+            × (b.value.headers ≡ replicate cell_limit None)) }
+    {
+        let full = RegionBlock {
+            headers: Headers::full(),
+            words: [0; 1024],
+        };
+        Ok(Box::new(alloc, full)?)
+    }
+
+    // Returns words that are all 0, and this number of cells, all of them free.
+    fn vacant(alloc: Global, count: usize) -> Result<Box<RegionBlock>, AllocError>
+        requires { count ≤ cell_limit }
+        ensures { IfOk result
+            (λ b. (b.value.words ≡ replicate 1024 0)
+            × (b.value.headers ≡ replicate count None)) }
+    {
+        if count == CELLS {
+            return RegionBlock::full(alloc);
+        }
+        let mut block = RegionBlock::blank(alloc)?;
+        block.headers.add_vacant(count);
+        Ok(block)
+    }
+
+    // Copies the words and the headers.
     fn copied(&self, alloc: Global) -> Result<Box<RegionBlock>, AllocError>
+        ensures { IfOk result
+            (λ b. (b.value.words ≡ self.now.words)
+            × (b.value.headers ≡ self.now.headers)) }
+    {
+        if self.headers.len() == CELLS {
+            self.copied_full(alloc)
+        } else {
+            self.copied_few(alloc)
+        }
+    }
+
+    // Copies the words and the headers of 256 cells. It is never inlined, so that no other function has a block on its stack.
+    #[inline(never)]
+    fn copied_full(&self, alloc: Global) -> Result<Box<RegionBlock>, AllocError>
+        requires { length self.now.headers ≡ cell_limit }
+        ensures { IfOk result
+            (λ b. (b.value.words ≡ self.now.words)
+            × (b.value.headers ≡ self.now.headers)) }
+    {
+        let copy = RegionBlock {
+            headers: self.headers.full_copy(),
+            words: self.words,
+        };
+        Ok(Box::new(alloc, copy)?)
+    }
+
+    // Copies the words and the headers of any number of cells. It is never inlined, for the same reason.
+    #[inline(never)]
+    fn copied_few(&self, alloc: Global) -> Result<Box<RegionBlock>, AllocError>
         ensures { IfOk result
             (λ b. (b.value.words ≡ self.now.words)
             × (b.value.headers ≡ self.now.headers)) }
@@ -146,6 +206,18 @@ impl LargeBlock {
         Ok(Box::new(alloc, blank)?)
     }
 
+    // Returns `words` words that are all 0, and this number of cells, all of them free.
+    fn vacant(alloc: Global, words: usize, count: usize) -> Result<Box<LargeBlock>, AllocError>
+        requires { (words ≤ heap_words) × (count ≤ cell_limit) }
+        ensures { IfOk result
+            (λ b. (b.value.words.items ≡ replicate words 0)
+            × (b.value.headers ≡ replicate count None)) }
+    {
+        let mut block = LargeBlock::blank(alloc, words)?;
+        block.headers.add_vacant(count);
+        Ok(block)
+    }
+
     // Copies the words and the headers.
     #[inline(never)]
     fn copied(&self, alloc: Global) -> Result<Box<LargeBlock>, AllocError>
@@ -162,20 +234,22 @@ impl LargeBlock {
 }
 
 impl Block {
-    // Returns the words of a region, or of the regions that a cell of this size takes, all 0, and no cells. Fails if an
-    // allocation fails.
-    pub(crate) fn blank(alloc: Global, cell_size: usize) -> Result<Block, AllocError>
-        requires { IsBlockSize cell_size }
+    // Returns the words of a region, or of the regions that a cell of this size takes, all 0, and this number of cells, all of
+    // them free. Fails if an allocation fails.
+    pub(crate) fn vacant(alloc: Global, cell_size: usize, count: usize) -> Result<Block, AllocError>
+        requires size { IsBlockSize cell_size }
+        requires few { count ≤ cell_limit }
         ensures { IfOk result
-            (λ b. (b.words ≡ replicate (block_words cell_size) 0) × (b.headers ≡ [])) }
+            (λ b. (b.words ≡ replicate (block_words cell_size) 0)
+            × (b.headers ≡ replicate count None)) }
     {
         if cell_size > 1024 {
-            let large = LargeBlock::blank(alloc, cell_size)?;
+            let large = LargeBlock::vacant(alloc, cell_size, count)?;
             return Ok(Block {
                 parts: Parts::Large(large),
             });
         }
-        let region = RegionBlock::blank(alloc)?;
+        let region = RegionBlock::vacant(alloc, count)?;
         Ok(Block {
             parts: Parts::Region(region),
         })
@@ -275,18 +349,6 @@ impl Block {
         match &mut self.parts {
             Parts::Region(block) => link_cells(&mut block.words, cell_size, count),
             Parts::Large(block) => link_cells(&mut block.words, cell_size, count),
-        }
-    }
-
-    // Adds `count` cells to none, all of them free.
-    pub(crate) fn add_vacant(&mut self, count: usize)
-        requires none { self.old.headers ≡ [] }
-        requires few { count ≤ cell_limit }
-        ensures { self.new ≡ record self.old { headers = replicate count None } }
-    {
-        match &mut self.parts {
-            Parts::Region(block) => block.headers.add_vacant(count),
-            Parts::Large(block) => block.headers.add_vacant(count),
         }
     }
 

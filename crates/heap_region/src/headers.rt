@@ -86,6 +86,18 @@ fn add_vacant(kept: &mut ArrayVec<Cell, 256>, count: usize)
     }
 }
 
+// Returns a copy of 256 cells.
+#[inline(always)]
+fn all_cells(kept: &[Cell]) -> [Cell; 256]
+    requires { length kept.now ≡ cell_limit }
+    ensures { result ≡ kept.now }
+{
+    match <[Cell; 256]>::try_from(kept) {
+        Ok(cells) => cells,
+        Err(_) => unreachable!(),
+    }
+}
+
 impl Headers {
     // Returns no headers.
     pub(crate) fn new() -> Headers
@@ -93,6 +105,18 @@ impl Headers {
     {
         Headers {
             kept: ArrayVec::new(),
+            turn: Turn::start(),
+            counts: Counts::none(),
+        }
+    }
+
+    // Returns the headers of 256 cells, all of them free. They are written once, instead of as blanks and then as free cells.
+    #[inline(always)]
+    pub(crate) fn full() -> Headers
+        ensures { result ≡ replicate cell_limit None }
+    {
+        Headers {
+            kept: ArrayVec::from_array_in((), [Cell::default(); 256]),
             turn: Turn::start(),
             counts: Counts::none(),
         }
@@ -213,6 +237,19 @@ impl Headers {
     {
         self.turn = self.turn.prior();
         self.counts = self.counts.prior();
+    }
+
+    // Returns a copy of the headers of 256 cells. They are written once, instead of as blanks and then as copies.
+    #[inline(always)]
+    pub(crate) fn full_copy(&self) -> Headers
+        requires { length self.now ≡ cell_limit }
+        ensures { result ≡ self.now }
+    {
+        Headers {
+            kept: ArrayVec::from_array_in((), all_cells(&self.kept)),
+            turn: self.turn,
+            counts: self.counts,
+        }
     }
 
     // Returns a copy of the headers.

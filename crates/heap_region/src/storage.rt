@@ -180,8 +180,7 @@ impl Storage {
         ensures { IfOk result (λ s. s ≡ fresh_region cell_size) }
     {
         let count = cell_count(cell_size);
-        let mut block = Block::blank(alloc, cell_size)?;
-        block.add_vacant(count);
+        let mut block = Block::vacant(alloc, cell_size, count)?;
         block.link(cell_size, count);
         Ok(Storage {
             block,

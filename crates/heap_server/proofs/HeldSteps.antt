@@ -1,13 +1,13 @@
 -- What an act under the lock is as a step of the machine.
-use Rattle.std.proofs.Common.{◌≡◌, ◌∙◌, ℕ, ◌+◌, Bool, true, false, Some, None, refl, sym, ap, ap₂, subst, inl, inr, List, [], ◌∷◌, ◌++◌, length, map, arith}
-use Rattle.std.specs.Prelude.{Result, Ok, Err, nat_le}
+use Rattle.std.proofs.Common.{◌≡◌, ◌∙◌, ℕ, ◌+◌, Bool, true, false, None, refl, sym, ap, ap₂, subst, inl, inr, List, [], ◌∷◌, ◌++◌, length, map, arith}
+use Rattle.std.specs.Prelude.{Option, Result, Ok, Err, nat_le}
 use Rattle.std.specs.List.{enumerate_from}
 use Rattle.std.proofs.lemmas.List.{append_assoc, append-nil, length-append, length_push, map-append}
 use Rattle.heap_lock.specs.Refusal.{Refusal}
 use Rattle.heap_lock.specs.Refusal.TheVariants.{NoMemory, ChronicleFull}
 use mathlib.Core.List.{IsPrefix}
 use Rattle.heap_lock.specs.HeapLimits.{HeapSettings}
-use Rattle.heap_lock.specs.Calls.{Call, IsHeapLedger, call_of}
+use Rattle.heap_lock.specs.Calls.{Call, call_of}
 use Rattle.heap_lock.specs.State.{HeapState}
 use Rattle.heap_lock.specs.Apply.{applied, refusal_of}
 use Rattle.heap_lock.specs.Answer.{Answer}
@@ -22,16 +22,14 @@ use Rattle.heap_lock.specs.Outcome.{Outcome}
 use Rattle.heap_lock.specs.Entry.{Entry}
 use Rattle.heap_lock.specs.Outcome.TheVariants as outcome
 use Rattle.heap_lock.specs.Receipt.{Receipt}
-use Rattle.heap_lock.specs.History.{MayEnter, entry, reply_of, entries_by}
+use Rattle.heap_lock.specs.History.{MayEnter, entry, reply_of}
 use Rattle.heap_lock.specs.LockStates.{SeatModel, IsAct, IsHeldAct, IsNoEntry, IsRefused, LockState}
 use Rattle.heap_lock.proofs.Histories.{numbered_entries_of_one_more}
 use Rattle.heap_lock.proofs.StepReplies.{step_replies_no_place}
-use Rattle.question_text.specs.declared.cycle.CycleCounts.{CycleCounts}
-use Rattle.question_text.specs.Collections.{IsShortage, RunsCycle, TakenStep}
-use Rattle.question_text.specs.Histories.{steps_ago}
+use Rattle.question_text.specs.Collections.{IsShortage, TakenStep}
+use Rattle.question_text.specs.declared.order.Order.{Order}
 use Rattle.question_text.proofs.CycleSteps.{short}
-use Rattle.session_text.specs.Replies.{reply_text}
-use Rattle.heap_server.specs.JoinedAnswers.{Gains, IsHeapOfSeat, RewindsHeapTo, RewindsHeld, RunsCycleOfHeap, entries_of_steps}
+use Rattle.heap_server.specs.JoinedAnswers.{AnswersForSeat, AnswersHeld, Gains, IsHeapOfSeat, LeavesSeen, entries_of_steps, order_obeyed}
 
 -- a step that is refused leaves the machine
 refused_step_leaves_machine : (m n : Machine) (e : Event) (r : Refusal) → acted m (Step e) ≡ (n, Refused r) → n ≡ m
@@ -138,52 +136,31 @@ none_gained k s steps l t l' t' lock seat g =
     subst (λ (xs : List TakenStep). Gains k s (entries_of_steps s.number xs) l' t') (sym (append-nil steps))
     (subst (λ (x : LockState). Gains k s (entries_of_steps s.number steps) x t') (sym lock) (subst (λ (x : SeatModel). Gains k s (entries_of_steps s.number steps) l x) (sym seat) g))
 
--- ---- a cycle
-
-abbrev IsHeapUnderLock : HeapSettings → LockState → Type 0
-IsHeapUnderLock config k = IsHeapLedger config k.machine k.chronicle k.ledger
-
--- a cycle between two moments under one lock, at each of which chronicle and seat were compared and the witness saw all calls
-pub heap_cycle : (config : HeapSettings) (seen seen' : List Call) (cycle : Result CycleCounts Refusal) (steps : List TakenStep) (k k1 k2 l l1 : LockState) (s s1 t t1 : SeatModel) → entries_by s.number k.chronicle ≡ s.share → k1 ≡ k → s1 ≡ s → IsHeapUnderLock config k1 → IsPrefix seen k1.ledger → k2 ≡ k1
-    → RunsCycle IsNoEntry k2.machine steps cycle l.machine → Gains k2 s1 (entries_of_steps s1.number steps) l t → entries_by t.number l.chronicle ≡ t.share → l1 ≡ l → t1 ≡ t → IsHeapUnderLock config l1 → seen' ≡ l1.ledger → RunsCycleOfHeap config s seen cycle t1 seen'
-heap_cycle config seen seen' cycle steps k k1 k2 l l1 s s1 t t1 share same seat heap begins shown runs gains share' same' seat' heap' sees =
-    let es = entries_of_steps s.number steps in
-    let to : IsHeapOfSeat config l.machine l.chronicle l.ledger t = (subst (IsHeapUnderLock config) same' heap', share') in
-    record {
-      first = k;
-      steps = steps;
-      last = l;
-      begins = subst (λ (x : LockState). IsPrefix seen x.ledger) same begins;
-      from = (subst (IsHeapUnderLock config) same heap, share);
-      runs = subst (λ (x : LockState). RunsCycle IsNoEntry x.machine steps cycle l.machine) (shown ∙ same) runs;
-      gains = subst (λ (x : SeatModel). Gains k s es l x) (sym seat') (subst (λ (x : LockState). Gains x s es l t) (shown ∙ same) (subst (λ (x : SeatModel). Gains k2 x (entries_of_steps x.number steps) l t) seat gains));
-      to = subst (λ (x : SeatModel). IsHeapOfSeat config l.machine l.chronicle l.ledger x) (sym seat') to;
-      sees = sees ∙ ap (λ (x : LockState). x.ledger) same';
-    }
-
--- ---- a rewind
+-- ---- an answer
 
 -- an act under the lock leaves the seat its role
 pub held_act_keeps_role : (config : HeapSettings) (action : Action) (k : LockState) (s : SeatModel) (done : Result Receipt Refusal) (k' : LockState) (s' : SeatModel) → IsHeldAct config action k s done k' s' → s'.role ≡ s.role
 held_act_keeps_role config action k s (Ok r) k' s' h = ap (λ (x : SeatModel). x.role) h.act.5
 held_act_keeps_role config action k s (Err e) k' s' h = ap (λ (x : SeatModel). x.role) h.unchanged.1
 
--- a rewind between two moments under one lock, at each of which chronicle and seat were compared and the witness saw all calls
-pub heap_rewind : (config : HeapSettings) (seen seen' : List Call) (place : ℕ) (r : Reply) (k k1 k2 l l1 : LockState) (s s1 t t1 : SeatModel) → entries_by s.number k.chronicle ≡ s.share → k1 ≡ k → s1 ≡ s → IsHeapUnderLock config k1 → IsPrefix seen k1.ledger → k2 ≡ k1
-    → RewindsHeld config (steps_ago (Some place) k2.machine.trail) k2 s1 r l t → entries_by t.number l.chronicle ≡ t.share → l1 ≡ l → t1 ≡ t → IsHeapUnderLock config l1 → seen' ≡ l1.ledger → RewindsHeapTo config place s seen (reply_text r) t1 seen'
-heap_rewind config seen seen' place r k k1 k2 l l1 s s1 t t1 share same seat heap begins shown rewinds share' same' seat' heap' sees =
-    let to : IsHeapOfSeat config l.machine l.chronicle l.ledger t = (subst (IsHeapUnderLock config) same' heap', share') in
+-- a heap that was seen, where the seat stays as it is then
+pub leaves_seen : (config : HeapSettings) (Leads : LockState → SeatModel → Type 0) (last : LockState) (s s' : SeatModel) (seen : List Call) → Leads last s → IsHeapOfSeat config last.machine last.chronicle last.ledger s → s' ≡ s → seen ≡ last.ledger → LeavesSeen config (λ (k : LockState). Leads k s') s' seen
+leaves_seen config Leads last s s' seen leads heap same sees =
+    (last, subst (Leads last) (sym same) leads, subst (λ (x : SeatModel). IsHeapOfSeat config last.machine last.chronicle last.ledger x) (sym same) heap, sees)
+
+-- an answer that one gives who saw the heap before, under the same lock
+pub answer_under_lock : (config : HeapSettings) (obeys : Bool) (line : List ℕ) (seen seen' : List Call) (order : Option Order) (text : List ℕ) (k k1 : LockState) (s s1 s' : SeatModel) → IsHeapOfSeat config k.machine k.chronicle k.ledger s → IsPrefix seen k.ledger → k1 ≡ k → s1 ≡ s → order ≡ order_obeyed obeys k1.machine.trail.current line
+    → LeavesSeen config (λ (last : LockState). AnswersHeld config order line k1 s1 text last s') s' seen' → AnswersForSeat config obeys line s seen text s' seen'
+answer_under_lock config obeys line seen seen' order text k k1 s s1 s' heap begins same seat asked h =
     record {
       first = k;
-      reply = r;
-      last = l;
-      begins = subst (λ (x : LockState). IsPrefix seen x.ledger) same begins;
-      from = (subst (IsHeapUnderLock config) same heap, share);
-      rewinds =
-          subst (λ (x : SeatModel). RewindsHeld config (steps_ago (Some place) k.machine.trail) k s r l x) (sym seat')
-          (subst (λ (x : SeatModel). RewindsHeld config (steps_ago (Some place) k.machine.trail) k x r l t) seat
-          (subst (λ (x : LockState). RewindsHeld config (steps_ago (Some place) x.machine.trail) x s1 r l t) (shown ∙ same) rewinds));
-      to = subst (λ (x : SeatModel). IsHeapOfSeat config l.machine l.chronicle l.ledger x) (sym seat') to;
-      sees = sees ∙ ap (λ (x : LockState). x.ledger) same';
-      says = refl;
+      last = h.0;
+      begins = begins;
+      from = heap;
+      answers =
+          subst (λ (x : SeatModel). AnswersHeld config (order_obeyed obeys k.machine.trail.current line) line k x text h.0 s') seat
+          (subst (λ (x : LockState). AnswersHeld config (order_obeyed obeys x.machine.trail.current line) line x s1 text h.0 s') same
+          (subst (λ (o : Option Order). AnswersHeld config o line k1 s1 text h.0 s') asked h.1));
+      to = h.2;
+      sees = h.3;
     }

@@ -1,18 +1,20 @@
--- What a seat at a shared heap answers a question, `collect` and `rewind @P`.
-use Rattle.std.specs.Prelude.{◌≡◌, ℕ, ◌+◌, ◌++◌, List, length, map, Option, Some, None, Result, Ok, Err}
+-- What a seat at a shared heap answers a line that the grammar of sessions doesn't know.
+use Rattle.std.specs.Prelude.{◌≡◌, ℕ, ◌+◌, ◌++◌, Bool, true, false, List, length, map, Option, Some, None, Result, Ok, Err}
 use Rattle.std.specs.List.{enumerate_from}
 use mathlib.Core.List.{IsPrefix}
 use Rattle.heap_lock.specs.Refusal.{Refusal}
+use Rattle.heap_lock.specs.Refusal.TheVariants.{NotRetained}
 use Rattle.heap_lock.specs.HeapLimits.{HeapSettings}
 use Rattle.heap_lock.specs.Calls.{Call, IsHeapLedger, call_of}
 use Rattle.heap_lock.specs.Machine.{Machine}
+use Rattle.heap_lock.specs.Action.{Action}
 use Rattle.heap_lock.specs.Action.TheVariants.{Step, Rewind}
+use Rattle.heap_lock.specs.State.{HeapState}
 use Rattle.heap_lock.specs.Entry.{Entry}
 use Rattle.heap_lock.specs.Outcome.TheVariants.{Answered}
 use Rattle.heap_lock.specs.History.{entry, entries_by}
 use Rattle.heap_lock.specs.Receipt.{Receipt}
 use Rattle.heap_lock.specs.Reply.{Reply}
-use Rattle.heap_lock.specs.Reply.TheVariants.{Refused}
 use Rattle.heap_lock.specs.LockStates.{SeatModel, IsHeldAct, IsNoEntry, LockState}
 use Rattle.session_text.specs.Replies.{reply_text}
 use Rattle.question_text.specs.Answers.{IsAnswerOfLine}
@@ -20,20 +22,17 @@ use Rattle.question_text.specs.declared.cycle.CycleCounts.{CycleCounts}
 use Rattle.question_text.specs.Collections.{IsCycleAnswer, RunsCycle, TakenStep}
 use Rattle.question_text.specs.Histories.{steps_ago}
 use Rattle.question_text.specs.declared.order.Order.{Order}
-use Rattle.question_text.specs.declared.order.Order.TheVariants.{Collect, RewindTo}
+use Rattle.question_text.specs.declared.order.Order.TheVariants.{Act, Collect, Forward, ForwardTo, RewindTo}
+use Rattle.question_text.specs.Moments.{refused_text}
+use Rattle.question_text.specs.Orders.{order_in}
+use Rattle.question_text.specs.Places.{IsTextOrNoMemory}
+use Rattle.question_text.specs.Redos.{nothing_to_redo_text}
 use Rattle.heap_server.specs.JoinedActs.{IsReply}
 
 -- the calls lead to this machine and are those of this chronicle, which has of the seat just its share
 abbrev pub IsHeapOfSeat : HeapSettings → Machine → List Entry → List Call → SeatModel → Type 0
 IsHeapOfSeat config m chronicle calls s =
     IsHeapLedger config m chronicle calls × (entries_by s.number chronicle ≡ s.share)
-
--- the answer of a question about the heap's machine, and about the length of its chronicle, when all calls were those that the
--- witness has seen then
-abbrev pub IsAnswerOfHeap : HeapSettings → SeatModel → List Call → List ℕ → List ℕ → List Call → Type 0
-IsAnswerOfHeap config s seen l text seen' =
-    (m : Machine) × (chronicle : List Entry) × IsHeapOfSeat config m chronicle seen' s
-    × IsPrefix seen seen' × IsAnswerOfLine l m (Some (length chronicle)) text
 
 -- the entries of these steps, taken from the seat of this number
 abbrev pub entries_of_steps : ℕ → List TakenStep → List Entry
@@ -52,57 +51,76 @@ pub record Gains (k : LockState) (s : SeatModel) (entries : List Entry) (k' : Lo
   pub seat : s' ≡ with_entries (length k.chronicle + 1) entries s
   pub rolls : k'.rolls ≡ k.rolls
 
--- a cycle that ended so took these steps from the seat under one lock, from when the witness had seen all calls so far, to when it
--- has seen all again; each is an entry, and there are no others
-pub record RunsCycleOfHeap (config : HeapSettings) (s : SeatModel) (seen : List Call)
-    (cycle : Result CycleCounts Refusal) (s' : SeatModel) (seen' : List Call) : Type 0 where
-  pub first : LockState
-  pub steps : List TakenStep
-  pub last : LockState
-  pub begins : IsPrefix seen first.ledger
-  pub from : IsHeapOfSeat config first.machine first.chronicle first.ledger s
-  pub runs : RunsCycle IsNoEntry first.machine steps cycle last.machine
-  pub gains : Gains first s (entries_of_steps s.number steps) last s'
-  pub to : IsHeapOfSeat config last.machine last.chronicle last.ledger s'
-  pub sees : seen' ≡ last.ledger
+-- a cycle of steps by one who holds the lock, each an act of the seat and an entry; there are no other entries
+abbrev pub RunsCycleHeld : LockState → SeatModel → Result CycleCounts Refusal → LockState → SeatModel
+    → Type 0
+RunsCycleHeld k s cycle k' s' =
+    (steps : List TakenStep) × RunsCycle IsNoEntry k.machine steps cycle k'.machine
+    × Gains k s (entries_of_steps s.number steps) k' s'
 
 -- the answer of `collect`, about such a cycle
-abbrev pub IsCollectionOfHeap : HeapSettings → SeatModel → List Call → List ℕ → SeatModel → List Call
-    → Type 0
-IsCollectionOfHeap config s seen text s' seen' =
-    (cycle : Result CycleCounts Refusal) × RunsCycleOfHeap config s seen cycle s' seen'
-    × IsCycleAnswer cycle text
+abbrev pub CollectsHeld : LockState → SeatModel → List ℕ → LockState → SeatModel → Type 0
+CollectsHeld k s text k' s' =
+    (cycle : Result CycleCounts Refusal) × RunsCycleHeld k s cycle k' s' × IsCycleAnswer cycle text
 
--- a rewind of this many steps by one who holds the lock, as an act of the seat, and its reply; or a refusal, and nothing is done
-abbrev pub RewindsHeld : HeapSettings → Result ℕ Refusal → LockState → SeatModel → Reply → LockState
+-- an act of the seat by one who holds the lock, and its reply
+abbrev pub ActsHeld : HeapSettings → Action → LockState → SeatModel → List ℕ → LockState → SeatModel
+    → Type 0
+ActsHeld config a k s text k' s' =
+    (done : Result Receipt Refusal) × (r : Reply) × IsHeldAct config a k s done k' s'
+    × IsReply done r × (text ≡ reply_text r)
+
+-- nothing is done, for this reason
+abbrev pub IsRefusedHeld : Refusal → LockState → SeatModel → List ℕ → LockState → SeatModel → Type 0
+IsRefusedHeld e k s text k' s' = (text ≡ refused_text e) × (k' ≡ k) × (s' ≡ s)
+
+-- a rewind of this many steps, as such an act; or a refusal, and nothing is done
+abbrev pub RewindsHeld : HeapSettings → Result ℕ Refusal → LockState → SeatModel → List ℕ → LockState
     → SeatModel
     → Type 0
-RewindsHeld config (Ok n) k s r k' s' =
-    (done : Result Receipt Refusal) × IsHeldAct config (Rewind n) k s done k' s' × IsReply done r
-RewindsHeld config (Err e) k s r k' s' = (r ≡ Refused e) × (k' ≡ k) × (s' ≡ s)
+RewindsHeld config (Ok n) k s text k' s' = ActsHeld config (Rewind n) k s text k' s'
+RewindsHeld config (Err e) k s text k' s' = IsRefusedHeld e k s text k' s'
 
--- the answer of a rewind to the state at a place: of as many steps as lead from it to the heap's current state, under one lock,
--- from when the witness had seen all calls so far, to when it has seen all again
-pub record RewindsHeapTo (config : HeapSettings) (place : ℕ) (s : SeatModel) (seen : List Call)
-    (text : List ℕ) (s' : SeatModel) (seen' : List Call) : Type 0 where
+-- no steps that were undone are kept of a shared heap, so none of this many is taken again
+abbrev pub LacksUndone : ℕ → LockState → SeatModel → List ℕ → LockState → SeatModel → Type 0
+LacksUndone n k s text k' s' =
+    IsTextOrNoMemory (λ text. text ≡ nothing_to_redo_text n 0) text × (k' ≡ k) × (s' ≡ s)
+
+-- what one who holds the lock does by a line that the grammar of sessions doesn't know, and its answer: what it asks to be done, as
+-- acts of the seat; else nothing, and the answer of a question is about the heap's machine and the length of its chronicle
+abbrev pub AnswersHeld : HeapSettings → Option Order → List ℕ → LockState → SeatModel → List ℕ
+    → LockState
+    → SeatModel → Type 0
+AnswersHeld config (Some Collect) l k s text k' s' = CollectsHeld k s text k' s'
+AnswersHeld config (Some (RewindTo place)) l k s text k' s' =
+    RewindsHeld config (steps_ago (Some place) k.machine.trail) k s text k' s'
+AnswersHeld config (Some (Forward n)) l k s text k' s' = LacksUndone n k s text k' s'
+AnswersHeld config (Some (ForwardTo place)) l k s text k' s' =
+    IsRefusedHeld NotRetained k s text k' s'
+AnswersHeld config (Some (Act e)) l k s text k' s' = ActsHeld config (Step e) k s text k' s'
+AnswersHeld config None l k s text k' s' =
+    IsAnswerOfLine l k.machine (Some (length k.chronicle)) text × (k' ≡ k) × (s' ≡ s)
+
+-- someone who held the lock led to this heap of the seat, all of whose calls are seen
+abbrev pub LeavesSeen : HeapSettings → (LockState → Type 0) → SeatModel → List Call → Type 0
+LeavesSeen config Leads s seen =
+    (last : LockState) × Leads last × IsHeapOfSeat config last.machine last.chronicle last.ledger s
+    × (seen ≡ last.ledger)
+
+-- what a line asks to be done, if lines may ask that here
+abbrev pub order_obeyed : Bool → HeapState → List ℕ → Option Order
+order_obeyed true state l = order_in state l
+order_obeyed false state l = None
+
+-- the answer of a line that the grammar of sessions doesn't know, under one lock, from when the witness had seen all calls so far,
+-- to when it has seen all again
+pub record AnswersForSeat (config : HeapSettings) (obeys : Bool) (l : List ℕ) (s : SeatModel)
+    (seen : List Call) (text : List ℕ) (s' : SeatModel) (seen' : List Call) : Type 0 where
   pub first : LockState
-  pub reply : Reply
   pub last : LockState
   pub begins : IsPrefix seen first.ledger
   pub from : IsHeapOfSeat config first.machine first.chronicle first.ledger s
-  pub rewinds : RewindsHeld config (steps_ago (Some place) first.machine.trail) first s reply last s'
+  pub answers : AnswersHeld config (order_obeyed obeys first.machine.trail.current l) l first s text
+      last s'
   pub to : IsHeapOfSeat config last.machine last.chronicle last.ledger s'
   pub sees : seen' ≡ last.ledger
-  pub says : text ≡ reply_text reply
-
--- the answer of a line that the grammar of sessions doesn't know: `collect` and `rewind @P` act, and no other
-abbrev pub AnswersForSeat : HeapSettings → Option Order → List ℕ → SeatModel → List Call → List ℕ
-    → SeatModel
-    → List Call
-    → Type 0
-AnswersForSeat config (Some Collect) l s seen text s' seen' =
-    IsCollectionOfHeap config s seen text s' seen'
-AnswersForSeat config (Some (RewindTo place)) l s seen text s' seen' =
-    RewindsHeapTo config place s seen text s' seen'
-AnswersForSeat config None l s seen text s' seen' =
-    IsAnswerOfHeap config s seen l text seen' × (s' ≡ s)

@@ -8,7 +8,6 @@ use Rattle.heap_lock.specs.Blanks.{seat_model_of}
 use Rattle.heap_lock.specs.Calls.{Call, IsLegalLedger}
 use Rattle.heap_lock.specs.LockStates.{SeatModel, IsSeatModel}
 use Rattle.heap_lock.specs.declared.unnamed_seat.UnnamedSeat.{UnnamedSeat}
-use Rattle.question_text.specs.Orders.{order_of}
 use Rattle.session_text.specs.Answers.{AnswerRelation, AnswersCommand, Begins, all_bad}
 use Rattle.session_text.specs.Dumps.{Acts}
 use Rattle.session_text.specs.Limits.{longest_line}
@@ -36,7 +35,7 @@ seat_acts config c a r d = IsJoined config c.seat c.seen a r d.seat d.seen
 -- what a line does there that the grammar of sessions doesn't know, if questions are answered or not
 abbrev pub seat_answers : HeapSettings → Bool → AnswerRelation Station
 seat_answers config true l c text d =
-    AnswersForSeat config (order_of l) l c.seat c.seen text d.seat d.seen
+    AnswersForSeat config true l c.seat c.seen text d.seat d.seen
 seat_answers config false l c text d = all_bad l c text d
 
 -- what a line does there on these terms

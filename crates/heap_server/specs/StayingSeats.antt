@@ -13,8 +13,6 @@ use Rattle.heap_lock.specs.Calls.{Call, Witnesses}
 use Rattle.heap_lock.specs.Entry.{Entry}
 use Rattle.heap_lock.specs.LockStates.{SeatModel}
 use Rattle.heap_lock.specs.Machine.{Machine}
-use Rattle.question_text.specs.declared.order.Order.{Order}
-use Rattle.question_text.specs.Orders.{order_of}
 use Rattle.question_text.specs.Questions.{question_of}
 use Rattle.question_text.specs.declared.question.Question.{Question}
 use Rattle.question_text.specs.declared.question.Question.TheVariants.{Pins}
@@ -117,11 +115,12 @@ KeepsPin config pin c text d =
     × (d.seat ≡ c.seat) × (d.pins ≡ without pin left)
     × (text ≡ keep_text (list_any (λ p. p == pin) left))
 
--- the answer of the seat to a line that the grammar of sessions doesn't know; it does what the line asks to be done, if anything
-abbrev pub AnswersSeat : HeapSettings → Option Order → List ℕ → StayingStation → List ℕ → StayingStation
+-- the answer of the seat to a line that the grammar of sessions doesn't know; it does what the line asks to be done, if
+-- that may be asked
+abbrev pub AnswersSeat : HeapSettings → Bool → List ℕ → StayingStation → List ℕ → StayingStation
     → Type 0
-AnswersSeat config order l c text d =
-    AnswersForSeat config order l c.seat c.seen text d.seat d.seen
+AnswersSeat config obeys l c text d =
+    AnswersForSeat config obeys l c.seat c.seen text d.seat d.seen
     × (d.pins ≡ c.pins)
 
 -- the answer of a line that the grammar of sessions doesn't know: `keep PIN`; or, if questions are answered, that of the seat; or,
@@ -131,8 +130,8 @@ abbrev pub AnswersStaying : HeapSettings → Option ℕ → Bool → Bool → Li
     → StayingStation
     → Type 0
 AnswersStaying config (Some pin) questions pins l c text d = KeepsPin config pin c text d
-AnswersStaying config None true pins l c text d = AnswersSeat config (order_of l) l c text d
-AnswersStaying config None false true l c text d = AnswersSeat config None l c text d
+AnswersStaying config None true pins l c text d = AnswersSeat config true l c text d
+AnswersStaying config None false true l c text d = AnswersSeat config false l c text d
 AnswersStaying config None false false l c text d = all_bad l c text d
 
 -- the same, of a session that goes on to answer questions or not

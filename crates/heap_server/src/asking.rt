@@ -4,15 +4,14 @@ ghost use Rattle.heap_lock.specs.declared.role.Role.TheVariants.{User};
 
 use crate::joined::Joined;
 use heap_lock::{Action, Heap, Reply, Seat};
-use question_text::order_of;
 use session_text::{Commands, LineAnswer};
 use std::alloc::Global;
 use std::marker::Model;
 use std::sync::Wait;
 
 /// A user's seat, with its heap, that acts on the lines of a session and answers questions about the heap. Each is answered
-/// under the lock, so it is about one state, and others wait for it; so they do for `collect` and `rewind @P`, whose steps and
-/// rewind are acts of the seat. No other question has an entry. Contracts see what they see of `Joined`.
+/// under the lock, so it is about one state, and others wait for it; so they do for lines that ask for something to be done, which
+/// are acts of the seat. No question has an entry. Contracts see what they see of `Joined`.
 #[derive(Drop)]
 pub struct AskingSeat<'a, L: Heap, R: Wait> {
     joined: Joined<'a, L, R>,
@@ -56,6 +55,6 @@ impl<'a, L: Heap, R: Wait> Commands for AskingSeat<'a, L, R> {
     }
 
     fn answer_unknown(&mut self, alloc: Global, line: &[u8]) -> LineAnswer {
-        self.joined.answer_unknown_line(alloc, order_of(line), line)
+        self.joined.answer_line(alloc, true, line)
     }
 }

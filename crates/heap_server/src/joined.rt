@@ -7,12 +7,11 @@ ghost use Rattle.heap_lock.specs.Calls.{Witnesses};
 ghost use Rattle.heap_lock.specs.History.{reply_of};
 ghost use Rattle.session_text.specs.Replies.{line_answer_text};
 ghost use Rattle.heap_server.specs.JoinedActs.{IsReply, IsLegalPart, OpensMet};
-ghost use Rattle.heap_server.specs.JoinedAnswers.{AnswersForSeat, IsAnswerOfHeap, IsCollectionOfHeap, RewindsHeapTo};
+ghost use Rattle.heap_server.specs.JoinedAnswers.{AnswersForSeat};
 ghost use Rattle.heap_server.specs.StayingSeats.{AreStillOpen, is_open};
 
-use crate::held_heap::{collect_held, rewind_held_to};
+use crate::held_heap::answer_held;
 use heap_lock::{Action, Heap, Machine, Outcome, Receipt, Refusal, Reply, Seat, Shared, Witness};
-use question_text::{Order, answer_line};
 use session_text::{Commands, LineAnswer};
 use std::alloc::Global;
 use std::marker::Model;
@@ -157,22 +156,6 @@ impl<'a, L: Heap, R: Wait> Joined<'a, L, R> {
         }
     }
 
-    // Answers a question about the heap, at one moment under the lock, and leaves the processor to others then.
-    fn answer(&mut self, alloc: Global, line: &[u8]) -> LineAnswer
-        ensures answer { IsAnswerOfHeap L.config self.old.seat self.old.seen line.now
-            (line_answer_text result) self.new.seen }
-        ensures seat { self.new.seat ≡ self.old.seat }
-    {
-        let mut kept = self.shared.lock(self.rt);
-        kept.agree(&mut self.seat);
-        kept.show(&mut self.witness);
-        let acts = kept.chronicle().len() as u64;
-        let answer = answer_line(alloc, kept.machine(), Some(acts), line);
-        drop(kept);
-        thread::yield_now();
-        answer
-    }
-
     // Forgets those of the pins that aren't open any more, at one moment under the lock.
     pub(crate) fn forget_closed(&mut self, pins: &mut Vec<u64>)
         ensures open { AreStillOpen L.config self.old.seat self.old.seen pins.old.items
@@ -185,47 +168,24 @@ impl<'a, L: Heap, R: Wait> Joined<'a, L, R> {
         retain_open(kept.machine(), pins);
     }
 
-    // Takes the steps of `collect` under the lock, each an act of this seat, leaves the processor to others then, and returns its
-    // answer.
-    fn collect(&mut self, alloc: Global) -> LineAnswer
-        ensures collects { IsCollectionOfHeap L.config self.old.seat self.old.seen
+    // Answers a line that the grammar of sessions doesn't know, under the lock, and leaves the processor to others then. Does what it
+    // asks to be done, if `obeys` says so, as acts of this seat.
+    pub(crate) fn answer_line(&mut self, alloc: Global, obeys: bool, line: &[u8]) -> LineAnswer
+        ensures { AnswersForSeat L.config obeys line.now self.old.seat self.old.seen
             (line_answer_text result) self.new.seat self.new.seen }
     {
         let mut kept = self.shared.lock(self.rt);
-        let answer = collect_held(alloc, &mut *kept, &mut self.seat, &mut self.witness);
+        let answer = answer_held(
+            alloc,
+            &mut *kept,
+            &mut self.seat,
+            &mut self.witness,
+            obeys,
+            line,
+        );
         drop(kept);
         thread::yield_now();
         answer
-    }
-
-    // Rewinds the heap to the state at a place under the lock, as an act of this seat, leaves the processor to others then, and
-    // returns its answer.
-    fn rewind_to(&mut self, place: u64) -> LineAnswer
-        ensures rewinds { RewindsHeapTo L.config place self.old.seat self.old.seen
-            (line_answer_text result) self.new.seat self.new.seen }
-    {
-        let mut kept = self.shared.lock(self.rt);
-        let answer = rewind_held_to(&mut *kept, &mut self.seat, &mut self.witness, place);
-        drop(kept);
-        thread::yield_now();
-        answer
-    }
-
-    // Answers a line that the grammar of sessions doesn't know, and does what it asks to be done, if that is anything.
-    pub(crate) fn answer_unknown_line(
-        &mut self,
-        alloc: Global,
-        order: Option<Order>,
-        line: &[u8],
-    ) -> LineAnswer
-        ensures { AnswersForSeat L.config order line.now self.old.seat self.old.seen
-            (line_answer_text result) self.new.seat self.new.seen }
-    {
-        match order {
-            Some(Order::Collect) => self.collect(alloc),
-            Some(Order::RewindTo(place)) => self.rewind_to(place),
-            None => self.answer(alloc, line),
-        }
     }
 }
 

@@ -6,12 +6,11 @@ ghost use Rattle.heap_lock.specs.declared.role.Role.TheVariants.{User};
 ghost use Rattle.heap_server.specs.StayingSeats.{ActsWith, AnswersSeat, AnswersStaying, ClosesEach, KeepsPin, OpensNoted, asks_pins, kept_pin, with_opened, without};
 ghost use Rattle.heap_lock.specs.Action.TheVariants.{ClosePin};
 ghost use Rattle.heap_lock.specs.Machine.{IsSmall};
-ghost use Rattle.question_text.specs.Orders.{order_of};
 ghost use Rattle.session_text.specs.Replies.{line_answer_text, pin_in};
 
 use crate::joined::Joined;
 use heap_lock::{Action, Heap, Refusal, Reply, Seat};
-use question_text::{Order, Question, order_of, question_of};
+use question_text::{Question, question_of};
 use session_grammar::command::one_number;
 use session_grammar::words::{Words, is_word};
 use session_text::{Commands, LineAnswer};
@@ -196,12 +195,12 @@ impl<'a, L: Heap, R: Wait> StayingSeat<'a, L, R> {
     }
 
     // Answers a line as a seat that answers questions does.
-    fn ask(&mut self, alloc: Global, line: &[u8], order: Option<Order>) -> LineAnswer
-        ensures answers { AnswersSeat L.config order line.now self.old
+    fn ask(&mut self, alloc: Global, line: &[u8], obeys: bool) -> LineAnswer
+        ensures answers { AnswersSeat L.config obeys line.now self.old
             (line_answer_text result) self.new }
         ensures questions { self.new.questions ≡ self.old.questions }
     {
-        self.joined.answer_unknown_line(alloc, order, line)
+        self.joined.answer_line(alloc, obeys, line)
     }
 }
 
@@ -225,10 +224,10 @@ impl<'a, L: Heap, R: Wait> Commands for StayingSeat<'a, L, R> {
             return self.keep(pin);
         }
         if self.questions {
-            return self.ask(alloc, line, order_of(line));
+            return self.ask(alloc, line, true);
         }
         if asks_pins(line) {
-            return self.ask(alloc, line, None);
+            return self.ask(alloc, line, false);
         }
         LineAnswer::BadCommand
     }

@@ -1,11 +1,12 @@
 -- Pin by pin.
 use Rattle.heap_class.specs.declared.IdSize.{IdSize}
-use Rattle.std.proofs.Common.{◌≡◌, ℕ, zero, suc, ◌-◌, ◌<◌, ◌≤◌, List, [], ◌∷◌, length, set, sym, ap, subst, ◌∙◌, arith, refl, inl, None}
+use Rattle.std.proofs.Common.{◌≡◌, ℕ, zero, suc, ◌-◌, ◌<◌, ◌≤◌, Bool, true, false, List, [], ◌∷◌, length, set, sym, ap, subst, ◌∙◌, arith, refl, inl, None}
 use Rattle.std.specs.Prelude.{slice_index_or}
 use Rattle.heap_world.specs.State.{HeapState}
 use Rattle.heap_step.specs.declared.Undo.{Undo}
 use Rattle.heap_step.specs.Records.{undone}
-use Rattle.heap_pins.specs.KeptCopies.{kept, kept_if, touched}
+use Rattle.heap_pins.specs.KeptCopies.{ends_cycle, kept, kept_if, noted}
+use Rattle.heap_step.specs.declared.Undo.TheVariants.{Finish, New}
 use Rattle.heap_pins.specs.Pin.{PinContents}
 use Rattle.heap_pins.specs.Shows.{ShowsState}
 use Rattle.heap_pins.proofs.HeldPins.{property_of_first_state}
@@ -86,21 +87,28 @@ pin_of_list_is_sized n i [] s z lt e = absurd (omega (arith, lt))
 pin_of_list_is_sized n zero (s0 ∷ ss) s z lt e = subst (λ (x : NumberedPin). IsSizedPin n x) (sym e) z.0
 pin_of_list_is_sized n (suc i) (s0 ∷ ss) s z lt e = pin_of_list_is_sized n i ss s z.1 (omega (arith, lt)) e
 
--- ---- a step that touches no region
+-- ---- a step of which pins keep nothing
 
-pin_kept_as_untouched : (left : Undo) (v : HeapState) (p : PinContents) → touched left ≡ None → kept left v p ≡ p
-unfolding kept kept_if
-pin_kept_as_untouched left v p none = ap (λ t. kept_if t left v p) none
+unnoted_pin_stays : (left : Undo) (v : HeapState) (p : PinContents) → noted left ≡ None → ends_cycle left ≡ false → kept left v p ≡ p
+unfolding kept kept_if noted ends_cycle
+unnoted_pin_stays (New at fresh m r old) v p none no_end = cc
+unnoted_pin_stays (Finish log) v p none no_end = cc
+unnoted_pin_stays left v p none no_end = ap (λ t. kept_if t left v p) none
 
-held_kept_as_untouched : (left : Undo) (v : HeapState) (h : Held) → touched left ≡ None → h ≡ held_kept left v h
+unnoted_held_stays : (left : Undo) (v : HeapState) (h : Held) → noted left ≡ None → ends_cycle left ≡ false → h ≡ held_kept left v h
 unfolding held_kept
-held_kept_as_untouched left v (Kept place pin cursor given) none = ap (λ p. Kept place p cursor given) (sym (pin_kept_as_untouched left v pin none))
-held_kept_as_untouched left v (Lost place cause) none = refl
+unnoted_held_stays left v (Kept place pin cursor given) none no_end = ap (λ p. Kept place p cursor given) (sym (unnoted_pin_stays left v pin none no_end))
+unnoted_held_stays left v (Lost place cause) none no_end = refl
 
--- leaves each pin as it is
-pub untouching_record_leaves_pins : (left : Undo) (v : HeapState) (ss : List NumberedPin) → touched left ≡ None → EachMayKeep left v ss ss
-untouching_record_leaves_pins left v [] none = tt
-untouching_record_leaves_pins left v (s ∷ ss) none = (inl (ap (λ (h : Held). (let t : NumberedPin = record s { held = h } in t)) (held_kept_as_untouched left v s.held none)), untouching_record_leaves_pins left v ss none)
+-- it leaves each pin as it is
+pub unnoted_record_leaves_pins : (left : Undo) (v : HeapState) (ss : List NumberedPin) → noted left ≡ None → ends_cycle left ≡ false → EachMayKeep left v ss ss
+unnoted_record_leaves_pins left v [] none no_end = tt
+unnoted_record_leaves_pins left v (s ∷ ss) none no_end = (inl (ap (λ (h : Held). (let t : NumberedPin = record s { held = h } in t)) (unnoted_held_stays left v s.held none no_end)), unnoted_record_leaves_pins left v ss none no_end)
+
+-- where there are no pins, nothing is kept
+pub no_pins_keep : (left : Undo) (v : HeapState) (ss : List NumberedPin) → length ss ≡ 0 → EachMayKeep left v ss ss
+no_pins_keep left v [] e = tt
+no_pins_keep left v (s ∷ ss) e = absurd (omega (arith, e))
 
 -- ---- each pin has a place for each region
 

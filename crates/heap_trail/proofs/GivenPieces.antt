@@ -16,9 +16,9 @@ use Rattle.hprof_text.specs.declared.Piece.{Piece}
 use Rattle.hprof_text.specs.Image.{Image}
 use Rattle.hprof_text.specs.Segments.{pieces_of, piece_of}
 use Rattle.heap_pins.specs.Images.{image_of}
-use Rattle.heap_pins.specs.Pin.{PinContents, places_from, pin_image}
+use Rattle.heap_pins.specs.Pin.{PinContents, places_seen, pin_image}
 use Rattle.heap_pins.specs.Shows.{ShowsState, Holds}
-use Rattle.heap_pins.proofs.HeldPins.{property_of_first_state, held_image}
+use Rattle.heap_pins.proofs.HeldPins.{property_of_first_state, held_image, held_places}
 use Rattle.heap_trail.specs.declared.Action.TheVariants.{NextPiece}
 use Rattle.heap_trail.specs.declared.Reply.TheVariants.{Part, Refused}
 use Rattle.heap_trail.specs.declared.held.Held.{Held}
@@ -38,15 +38,15 @@ use Rattle.heap_trail.proofs.PinSearch.{seen, IsThere, number_of_slot_is_above, 
 pub held_pin_can_give : (ids : IdSize) (w : HeapState) (past : List HeapState) (place : ℕ) (h : Held) → HoldsAt ids (w ∷ past) place h → CanGive ids w h
 held_pin_can_give ids w past place (Kept at pin cursor given) h = (
   (h.0, h.2.pin, property_of_first_state (ShowsState pin h.0) (place - at) w past h.2.shows),
-  subst (λ (i : Image). IsGivenOf ids i (places_from 0 pin.live) cursor given) (sym (held_image pin h.0 (place - at) w past h.2))
-      (subst (λ (l : List ObjRef). IsGivenOf ids (image_of h.0) l cursor given) (sym h.2.pin.live) h.3),
+  subst (λ (i : Image). IsGivenOf ids i (places_seen pin w.regions) cursor given) (sym (held_image pin h.0 (place - at) w past h.2))
+      (subst (λ (l : List ObjRef). IsGivenOf ids (image_of h.0) l cursor given) (sym (held_places pin h.0 (place - at) w past h.2)) h.3),
 )
 held_pin_can_give ids w past place (Lost at cause) h = tt
 
-pin_gives_what_it_shows : (ids : IdSize) (w : HeapState) (past : List HeapState) (place : ℕ) (u : HeapState) (at : ℕ) (pin : PinContents) (cursor : Cursor) (given : ℕ) → Holds pin u (place - at) (w ∷ past) → IsGivenOf ids (pin_image pin w) (places_from 0 pin.live) cursor given → IsGiven ids u cursor given
+pin_gives_what_it_shows : (ids : IdSize) (w : HeapState) (past : List HeapState) (place : ℕ) (u : HeapState) (at : ℕ) (pin : PinContents) (cursor : Cursor) (given : ℕ) → Holds pin u (place - at) (w ∷ past) → IsGivenOf ids (pin_image pin w) (places_seen pin w.regions) cursor given → IsGiven ids u cursor given
 pin_gives_what_it_shows ids w past place u at pin cursor given h g =
-    subst (λ (l : List ObjRef). IsGivenOf ids (image_of u) l cursor given) h.pin.live
-    (subst (λ (i : Image). IsGivenOf ids i (places_from 0 pin.live) cursor given) (held_image pin u (place - at) w past h) g)
+    subst (λ (l : List ObjRef). IsGivenOf ids (image_of u) l cursor given) (held_places pin u (place - at) w past h)
+    (subst (λ (i : Image). IsGivenOf ids i (places_seen pin w.regions) cursor given) (held_image pin u (place - at) w past h) g)
 
 pin_holds_after_given_piece : (ids : IdSize) (w : HeapState) (past : List HeapState) (place time : ℕ) (piece : Piece) (h new : Held) → HoldsAt ids (w ∷ past) place h → HasGiven ids w time piece h new → HoldsAt ids (w ∷ past) place new
 pin_holds_after_given_piece ids w past place time piece (Kept at pin cursor given) new h g =

@@ -1,6 +1,6 @@
 -- What the calls on one pin give.
-use Rattle.std.proofs.Common.{◌≡◌, ℕ, ◌<◌, ◌≤◌, Bool, true, false, sym, ap, subst, ◌∙◌, arith, refl, inl, inr, Some, None, Result, Ok, Err}
-use Rattle.std.specs.Prelude.{nat_lt, slice_index_or, is_some, if◌then◌else◌, OnOk}
+use Rattle.std.proofs.Common.{◌≡◌, ℕ, List, ◌<◌, ◌≤◌, Bool, true, false, sym, ap, subst, ◌∙◌, arith, refl, inl, inr, Some, None, Result, Ok, Err}
+use Rattle.std.specs.Prelude.{nat_lt, slice_index_or, is_some, if◌then◌else◌, IsSome, OnErr, OnOk}
 use Rattle.std.specs.Result.{is_err}
 use Rattle.heap_class.specs.declared.LostCause.{LostCause}
 use Rattle.heap_class.specs.declared.LostCause.TheVariants.{Rewound, Memory}
@@ -8,7 +8,8 @@ use Rattle.heap_world.specs.State.{HeapState}
 use Rattle.heap_step.specs.declared.Undo.{Undo}
 use Rattle.hprof_text.specs.declared.Cursor.{Cursor}
 use Rattle.heap_pins.specs.Pin.{PinContents}
-use Rattle.heap_pins.specs.KeptCopies.{copy_for, kept, kept_at, kept_if, touched}
+use Rattle.heap_step.specs.declared.Undo.TheVariants.{Finish, New}
+use Rattle.heap_pins.specs.KeptCopies.{copy_for, kept, kept_at, kept_if, noted, states_before_step, touched, with_byte}
 use Rattle.heap_trail.specs.declared.held.Held.{Held}
 use Rattle.heap_trail.specs.declared.held.Held.TheVariants.{Kept, Lost}
 use Rattle.heap_trail.specs.declared.held.NumberedPin.{NumberedPin}
@@ -40,17 +41,43 @@ unfolding held_kept
 lost_pin_stays_after_step left v s t place cause e is = inl (e ∙ ap (λ h. record s { held = h }) is ∙ ap (λ h. record s { held = held_kept left v h }) (sym is))
 
 -- a settled one stays as it is
-settled_pin : (left : Undo) (v : HeapState) (r : ℕ) (p : PinContents) → touched left ≡ Some r → is_some (slice_index_or p.copies r None) ≡ true → kept left v p ≡ p
-unfolding kept kept_if kept_at
-settled_pin left v r p at some = ap (λ t. kept_if t left v p) at ∙ ap (λ b. kept_at r (copy_for left v r) b p) some
+settled_touched_pin : (left : Undo) (v : HeapState) (r : ℕ) (p : PinContents) → touched left ≡ Some r → is_some (slice_index_or p.copies r None) ≡ true → kept_if (touched left) left v p ≡ p
+unfolding kept_if kept_at
+settled_touched_pin left v r p at some = ap (λ t. kept_if t left v p) at ∙ ap (λ b. kept_at r (copy_for left v r) (states_before_step left v r p) b p) some
 
-settled_held_is_unchanged : (left : Undo) (v : HeapState) (r : ℕ) (h : Held) → touched left ≡ Some r → is_settled r h ≡ true → h ≡ held_kept left v h
+finish_touches_nothing : (log : List ℕ) (r : ℕ) → touched (Finish log) ≡ Some r → ⊥
+unfolding touched
+finish_touches_nothing log r e = cc
+
+settled_pin : (left : Undo) (v : HeapState) (r : ℕ) (p : PinContents) → noted left ≡ Some r → is_some (slice_index_or p.copies r None) ≡ true → kept left v p ≡ p
+unfolding kept noted
+settled_pin (New at fresh m k old) v r p named some =
+    let same : at.region ≡ r = cc in
+    ap (λ b. if b then p else with_byte at fresh 1 p) (ap (λ j. is_some (slice_index_or p.copies j None)) same ∙ some)
+settled_pin (Finish log) v r p named some = absurd (finish_touches_nothing log r named)
+settled_pin left v r p named some = settled_touched_pin left v r p named some
+
+settled_held_is_unchanged : (left : Undo) (v : HeapState) (r : ℕ) (h : Held) → noted left ≡ Some r → is_settled r h ≡ true → h ≡ held_kept left v h
 unfolding held_kept is_settled
 settled_held_is_unchanged left v r (Kept place pin cursor given) at settled = ap (λ p. Kept place p cursor given) (sym (settled_pin left v r pin at settled))
 settled_held_is_unchanged left v r (Lost place cause) at settled = refl
 
-pub settled_pin_is_unchanged : (left : Undo) (v : HeapState) (r : ℕ) (s : NumberedPin) → touched left ≡ Some r → is_settled r s.held ≡ true → MayKeep left v s s
+pub settled_pin_is_unchanged : (left : Undo) (v : HeapState) (r : ℕ) (s : NumberedPin) → noted left ≡ Some r → is_settled r s.held ≡ true → MayKeep left v s s
 settled_pin_is_unchanged left v r s at settled = inl (ap (λ (h : Held). (let t : NumberedPin = record s { held = h } in t)) (settled_held_is_unchanged left v r s.held at settled))
+
+-- what a step touches, pins keep something of
+pub touched_is_noted : (left : Undo) (r : ℕ) → touched left ≡ Some r → noted left ≡ Some r
+unfolding touched noted
+touched_is_noted (New at fresh m k old) r t = cc
+touched_is_noted left r t = t
+
+-- a step that touches no region is never refused
+pub untouching_step_is_kept : {A E P : Type 0} (x : Result A E) (left : Undo) → touched left ≡ None → OnErr x (IsSome (touched left)) → OnOk x P → P
+untouching_step_is_kept (Ok a) left none refused p = p
+untouching_step_is_kept {A} {E} {P} (Err e) left none refused p = absurd (no_region (subst IsSome none refused))
+  where
+    no_region : IsSome {T = ℕ} None → ⊥
+    no_region e = cc
 
 -- a pin with a place for the copy of each region has one for this
 pub held_pin_has_region_place : (n r : ℕ) (h : Held) → IsSizedHeld n h → r < n → IsRegionWithin r h

@@ -13,7 +13,7 @@ use Rattle.hprof_text.specs.Laws.{piece_limit}
 use Rattle.hprof_text.specs.Segments.{segment_records, end_record, records_from, pieces_of}
 use Rattle.hprof_text.specs.Text.{sub_records}
 use Rattle.hprof_text.proofs.PieceCounts.{pieces_within_part_limit}
-use Rattle.heap_pins.specs.Pin.{PinContents, places_from, pin_image}
+use Rattle.heap_pins.specs.Pin.{PinContents, places_seen, pin_image}
 use Rattle.heap_pins.proofs.PinViews.{view_dumpable}
 use Rattle.heap_trail.specs.declared.held.Held.{Held}
 use Rattle.heap_trail.specs.declared.held.Held.TheVariants.{Kept, Lost}
@@ -86,7 +86,7 @@ next_piece_was_given ids w time piece next (Kept place pin cursor given) new can
     image = pin_image pin w
 
     places : List ObjRef
-    places = places_from 0 pin.live
+    places = places_seen pin w.regions
 
     Given : ℕ → Type 0
     Given more = (to : Cursor) × (new ≡ Kept place pin to more) × IsGivenOf ids image places to more

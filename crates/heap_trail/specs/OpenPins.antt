@@ -19,7 +19,7 @@ use Rattle.hprof_text.specs.declared.Piece.{Piece}
 use Rattle.hprof_text.specs.Segments.{records_from, pieces_of, piece_of}
 use Rattle.hprof_text.specs.Text.{sub_records}
 use Rattle.heap_pins.specs.Images.{image_of}
-use Rattle.heap_pins.specs.Pin.{places_from, pin_image}
+use Rattle.heap_pins.specs.Pin.{places_seen, pin_image}
 use Rattle.heap_pins.specs.KeptCopies.{kept, touched}
 use Rattle.heap_pins.specs.Shows.{Holds}
 use Rattle.heap_pins.specs.View.{ShowsSome}
@@ -145,7 +145,7 @@ AreHeld ids states place next (s ∷ slots) =
 -- a pin that isn't lost shows some state beside this one, and its cursor stands after the pieces that were given
 abbrev pub CanGive : IdSize → HeapState → Held → Type 0
 CanGive ids w (Kept place pin cursor given) =
-    ShowsSome pin w × IsGivenOf ids (pin_image pin w) (places_from 0 pin.live) cursor given
+    ShowsSome pin w × IsGivenOf ids (pin_image pin w) (places_seen pin w.regions) cursor given
 CanGive ids w (Lost place cause) = Unit {0}
 
 -- the number of pieces given after one more; past the last, none is counted
@@ -157,7 +157,7 @@ abbrev pub IsNextPiece : IdSize → HeapState → ℕ → Held → Piece → Cur
 IsNextPiece ids w time (Kept place pin cursor given) piece next =
     let image = pin_image pin w in
     (piece ≡ piece_of ids image time given)
-    × IsAt ids image (places_from 0 pin.live) next (given + 1)
+    × IsAt ids image (places_seen pin w.regions) next (given + 1)
 IsNextPiece ids w time (Lost place cause) piece next = ⊥
 
 -- whether the cursor is past the last piece
@@ -182,7 +182,7 @@ HasGiven ids w time piece (Kept place pin cursor given) h =
     let image = pin_image pin w in
     let more = given_after given (length (pieces_of ids image time)) in
     (piece ≡ piece_of ids image time given) × (next : Cursor) × (h ≡ Kept place pin next more)
-    × IsGivenOf ids image (places_from 0 pin.live) next more
+    × IsGivenOf ids image (places_seen pin w.regions) next more
 HasGiven ids w time piece (Lost place cause) h = ⊥
 
 -- the refusal of a pin that gives no piece

@@ -1,5 +1,5 @@
 //! The pins that are open, each with its number.
-ghost use Rattle.std.specs.Prelude.{◌≡◌, ◌==◌, ◌≤◌, length, Some, IfOk, IfErr, OnErr};
+ghost use Rattle.std.specs.Prelude.{◌≡◌, ◌==◌, ◌≤◌, length, None, Some, IfOk, IfErr, OnErr};
 ghost use Rattle.std.specs.List.{position};
 ghost use Rattle.heap_world.specs.State.{HeapState};
 ghost use Rattle.heap_step.specs.declared.Event.{Event};
@@ -83,6 +83,21 @@ impl NumberedPin {
     {
         if !self.is_settled(region) {
             self.copy_region(world, left);
+        }
+    }
+
+    // Has the pin note the step that left this record and led to this state, which touched no region. Takes no memory.
+    pub(crate) fn note(&mut self, world: &World, left: &Undo)
+        requires step { (e : Event) × (before : HeapState) × IsStep e before world.now left.now }
+        requires sized { IsSizedPin (length world.now.regions) self.old }
+        requires untouched { touched left.now ≡ None }
+        ensures { MayKeep left.now world.now self.old self.new }
+    {
+        match &mut self.held {
+            Held::Kept { pin, .. } => {
+                let _ = pin.keep(world, left);
+            }
+            Held::Lost { .. } => {}
         }
     }
 

@@ -13,6 +13,7 @@ ghost use Rattle.heap_step.specs.declared.Answer.{Answer};
 ghost use Rattle.heap_step.specs.Laws.{IsStep};
 ghost use Rattle.heap_world.specs.State.{HeapState};
 ghost use Rattle.heap_world.specs.Legal.{IsLegal};
+ghost use Rattle.heap_pins.specs.KeptCopies.{touched};
 ghost use Rattle.heap_trail.specs.declared.Action.TheVariants.{OpenPin, Step, Rewind};
 ghost use Rattle.heap_trail.specs.declared.Reply.TheVariants.{Answered, Pinned, Place, Refused};
 ghost use Rattle.heap_trail.specs.Headline.{Headline};
@@ -36,7 +37,7 @@ mod views;
 
 pub use examples::{worked_dumps, worked_examples};
 use heap_class::{IdSize, Refusal};
-use heap_pins::touched_region;
+use heap_pins::{ends_cycle, noted_region, touched_region};
 use heap_step::step::undo;
 use heap_step::{Answer, AnyEvent, ApplyEvent, Event, Undo, apply_sort, undo_takes_back};
 use heap_world::{Config, World};
@@ -138,7 +139,10 @@ fn are_settled(pins: &[NumberedPin], world: &World, left: &Undo) -> bool
     requires sized { EachSized (length world.now.regions) pins.now }
     ensures { result ≡ true → EachMayKeep left.now world.now pins.now pins.now }
 {
-    match touched_region(left) {
+    if pins.is_empty() {
+        return true;
+    }
+    match noted_region(left) {
         Some(region) => {
             for i in 0..pins.len() {
                 if !pins[i].is_settled(region) {
@@ -147,11 +151,11 @@ fn are_settled(pins: &[NumberedPin], world: &World, left: &Undo) -> bool
             }
             true
         }
-        None => true,
+        None => !ends_cycle(left),
     }
 }
 
-// Has each pin keep what the step that left this record and led to this state overwrote, and puts the record into the ring.
+// Has each pin keep what it needs of the step that left this record and led to this state, and puts the record into the ring.
 #[inline(never)]
 fn keep_and_add(pins: &mut [NumberedPin], world: &World, records: &mut RecordRing, left: Undo)
     requires step { (e : Event) × (before : HeapState) × IsStep e before world.now left }
@@ -162,7 +166,7 @@ fn keep_and_add(pins: &mut [NumberedPin], world: &World, records: &mut RecordRin
     records.push_front(left);
 }
 
-// Has each pin keep what the step that left this record and led to this state overwrote. A pin is lost if memory for it can't
+// Has each pin keep what it needs of the step that left this record and led to this state. A pin is lost if memory for it can't
 // be allocated.
 fn keep_each(pins: &mut [NumberedPin], world: &World, left: &Undo)
     requires step { (e : Event) × (before : HeapState) × IsStep e before world.now left.now }
@@ -175,7 +179,19 @@ fn keep_each(pins: &mut [NumberedPin], world: &World, left: &Undo)
                 pins[i].keep(world, left, region);
             }
         }
-        None => {}
+        None => note_each(pins, world, left),
+    }
+}
+
+// Has each pin note the step that left this record and led to this state, which touched no region. Takes no memory.
+fn note_each(pins: &mut [NumberedPin], world: &World, left: &Undo)
+    requires step { (e : Event) × (before : HeapState) × IsStep e before world.now left.now }
+    requires sized { EachSized (length world.now.regions) pins.old }
+    requires untouched { touched left.now ≡ None }
+    ensures { EachMayKeep left.now world.now pins.old pins.new }
+{
+    for i in 0..pins.len() {
+        pins[i].note(world, left);
     }
 }
 

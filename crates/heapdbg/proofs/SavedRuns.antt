@@ -55,7 +55,7 @@ plain_saved false s makes own mine c left a b w w' outlet ended pumped is one sa
   talked = h.talked;
   left = h.left;
   between = h.between;
-  session = subst (λ (m : Machine). IsSession (session_limits s.wide) m s.time a b w h.between h.left h.talked) opening (subst (λ t. IsSession (session_limits s.wide) c.local.machine t a b w h.between h.left h.talked) same h.session);
+  session = subst (λ (m : Machine). IsSession (session_limits s.wide) m s.time a b w h.between h.left h.talked) opening.0 (subst (λ t. IsSession (session_limits s.wide) c.local.machine t a b w h.between h.left h.talked) same h.session);
   ends = h.ends;
   goes = ends_here makes own mine s.time h.left left h.between w' outlet h.talked ended pumped one same h.goes;
 }

@@ -1,10 +1,11 @@
 -- What a session with questions does between its reader and its writer.
-use Rattle.std.specs.Prelude.{◌≡◌, ◌⊎◌, ⊤, ℕ, Bool, List, Option, Some, None, Result, Ok, Err, nat_lt}
+use Rattle.std.specs.Prelude.{◌≡◌, ◌⊎◌, ⊤, ℕ, Bool, List, Option, Some, None, Result, Ok, Err, min, nat_lt}
 use Rattle.dump_pump.specs.Outlets.{Outgoing}
 use Rattle.heap_console.specs.Loads.{IsLoaded, IsTextEndedFrom, IsTextLoaded}
 use Rattle.session_text.specs.Answers.{AnswerRelation, AnswersCommand, Begins}
 use Rattle.session_text.specs.Machine.{opening_machine}
 use Rattle.question_text.specs.declared.asking.Asking.{Asking}
+use Rattle.question_text.specs.Redos.{no_redo, redo_limit}
 use Rattle.question_text.specs.Sessions.{AskingActs, AskingAnswers, ServesAsking}
 use Rattle.session_text.specs.declared.Ended.{Ended}
 use Rattle.session_text.specs.declared.Ended.TheVariants.{Quit, Eof, CutLine, TooLong, ReadFault, TooManyReads, WriteFault, NoMemory}
@@ -24,9 +25,11 @@ use Rattle.hprof_convert.specs.declared.conversion.Failure.{Failure}
 use Rattle.hprof_convert.specs.declared.conversion.Failure.TheVariants as failure
 use Rattle.heapdbg.specs.Endings.{outcome_of}
 
--- a heap with these settings as it begins
+-- a heap with these settings as it begins, with no step that can be taken again
 abbrev pub IsOpening : Settings → Asking → Type 0
-IsOpening s c = c.local.machine ≡ opening_machine (limits_of s) s.ids s.regions s.mutators s.keep
+IsOpening s c =
+    (c.local.machine ≡ opening_machine (limits_of s) s.ids s.regions s.mutators s.keep)
+    × (c.redo ≡ no_redo (min s.keep redo_limit))
 
 -- whether the heap of these settings has an area
 abbrev pub has_area : Settings → Bool

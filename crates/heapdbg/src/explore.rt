@@ -1,7 +1,8 @@
 //! A session with questions.
-ghost use Rattle.std.specs.Prelude.{◌≡◌, IfErr, IfOk};
+ghost use Rattle.std.specs.Prelude.{◌≡◌, min, IfErr, IfOk};
 ghost use Rattle.heapdbg_options.specs.CommandLine.{IsHeapWithin};
 ghost use Rattle.heapdbg.specs.Explorations.{IsExplored, IsOpening};
+ghost use Rattle.question_text.specs.Redos.{no_redo, redo_limit};
 
 use crate::failure::{Fault, outcome};
 use crate::first_lines::run_first;
@@ -11,7 +12,7 @@ use crate::terminals::Screen;
 use dump_pump::Outlet;
 use heapdbg_options::settings::{Origin, Settings};
 use question_text::{Asking, Watch, serve_asking};
-use session_text::{Inlet, session_limits};
+use session_text::{Inlet, Local, session_limits};
 use std::alloc::Global;
 use std::fs::Files;
 use std::time::Clock;
@@ -72,7 +73,24 @@ pub(crate) fn open<'a>(
     ensures fault { IfErr result (λ f. f ≡ Fault.Memory) }
 {
     match open_local(alloc, settings) {
-        Ok(local) => Ok(Asking { local, watch }),
+        Ok(local) => asking_of(alloc, local, watch, settings.keep),
         Err(fault) => Err(fault),
+    }
+}
+
+// Returns the commands of a heap that retains up to `keep` steps.
+fn asking_of<'a>(
+    alloc: Global,
+    local: Local,
+    watch: &'a Watch,
+    keep: u64,
+) -> Result<Asking<'a>, Fault>
+    ensures local { IfOk result (λ c. c.local ≡ local) }
+    ensures none { IfOk result (λ c. c.redo ≡ no_redo (min keep redo_limit)) }
+    ensures fault { IfErr result (λ f. f ≡ Fault.Memory) }
+{
+    match Asking::new(alloc, local, watch, keep) {
+        Ok(asking) => Ok(asking),
+        Err(_) => Err(Fault::Memory),
     }
 }

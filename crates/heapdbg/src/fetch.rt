@@ -48,9 +48,9 @@ impl<S: Read, F: Write> FetchEnd<S, F> {
 
 /// Sends the secret, if there is one, to a port, fetches the dump that it gives into a file, and puts out a last line: `fetched`,
 /// or `cut` if what came is no whole dump, or `failed` if a write to the file failed, and the number of bytes that the file took.
-/// Returns socket and file. Shows its progress on standard error if that is a terminal. Fails with Connect if no connection can be
-/// made and with Out if no file can be made, and then puts out nothing, and says why on such a terminal; else with Write if the
-/// last line can't be put out, with Cut, or with Out. May wait.
+/// Returns socket and file. Shows its progress on standard error if `shows` says so. Fails with Connect if no connection can be
+/// made and with Out if no file can be made, and then puts out nothing, and says why on standard error, if that is a terminal; else
+/// with Write if the last line can't be put out, with Cut, or with Out. May wait.
 pub fn fetch_port<R, O: Outlet>(
     rt: &R,
     port: u16,
@@ -58,6 +58,7 @@ pub fn fetch_port<R, O: Outlet>(
     path: &str,
     writer: &mut O,
     is_terminal: bool,
+    shows: bool,
 ) -> FetchEnd<R::Stream, R::File>
 where
     R: AllocGlobal + Clock + Eprint + Files + Net + Wait,
@@ -81,7 +82,7 @@ where
     };
     let mut socket = ReadInlet::new(stream);
     let mut file = WriteOutlet::new(file);
-    let fetched = fetch_shown(rt, &mut socket, &mut file, is_terminal);
+    let fetched = fetch_shown(rt, &mut socket, &mut file, shows);
     let written = write_last(writer, &fetched);
     let outcome = outcome(fetched.finish, written);
     let dump = Some(DumpFetched {
@@ -109,20 +110,15 @@ fn create<R: AllocGlobal + Eprint + Files>(
     }
 }
 
-// Fetches what an inlet gives into an outlet, and shows its progress, if standard error is a terminal.
-fn fetch_shown<R, I: Inlet, F: Outlet>(
-    rt: &R,
-    inlet: &mut I,
-    file: &mut F,
-    is_terminal: bool,
-) -> Fetched
+// Fetches what an inlet gives into an outlet, and shows its progress on standard error, if `shows` says so.
+fn fetch_shown<R, I: Inlet, F: Outlet>(rt: &R, inlet: &mut I, file: &mut F, shows: bool) -> Fetched
 where
     R: AllocGlobal + Clock + Eprint + Wait,
     ensures { IsFetched (I.seen inlet.old) (I.seen inlet.new) (F.seen file.old) (F.seen file.new)
         result }
 {
     let mut line = ProgressLine::new(rt);
-    if is_terminal {
+    if shows {
         line.begin(None);
     }
     let fetched = fetch(rt, inlet, file, &mut line);

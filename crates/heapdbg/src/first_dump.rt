@@ -69,7 +69,7 @@ fn run_dump<R: AllocGlobal + Clock + Eprint, C: Commands + Drop, B: LoadStart<C>
     let limits = session_limits(request.settings.wide);
     let answers = NewestLine::new(alloc);
     let mut reports = LineReports::new(rt, alloc, &answers, path, REPORTED_LINES);
-    if is_terminal {
+    if request.shows_progress(is_terminal) {
         reports.begin_count();
     }
     let mut outlet: LoadOutlet<'_, R, C, B> = LoadOutlet::new(

@@ -20,8 +20,9 @@ use std::time::Clock;
 
 /// Runs by these commands the lines of the file of the path, or of the session of the dump in it, if `origin` says so, and returns
 /// them as the lines left them. Answers are not shown, and each line that is refused is reported on standard error, and if that is
-/// a terminal, about once a second how many lines were read. Fails with Memory, with From if a file of lines can't be opened or is
-/// a folder, and with Hprof as `load_dump` does; why, it says on standard error, if that is a terminal.
+/// a terminal, about once a second how many lines were read, unless the settings are quiet. Fails with Memory, with From if a file
+/// of lines can't be opened or is a folder, and with Hprof as `load_dump` does; why, it says on standard error, if that is a
+/// terminal.
 pub(crate) fn run_first<R: AllocGlobal + Clock + Eprint + Files, C: Commands + Drop>(
     rt: &R,
     request: Request<'_>,
@@ -67,17 +68,9 @@ fn load<R: AllocGlobal + Clock + Eprint + Files, C: Commands + Drop>(
     };
     let (alloc, time) = (rt.alloc(), request.settings.time);
     let limits = session_limits(request.settings.wide);
+    let counts = request.shows_progress(is_terminal);
     let mut commands = commands;
-    let loaded = load_lines(
-        rt,
-        alloc,
-        path,
-        file,
-        &mut commands,
-        time,
-        limits,
-        is_terminal,
-    );
+    let loaded = load_lines(rt, alloc, path, file, &mut commands, time, limits, counts);
     match loaded {
         Ok(_) => Ok(commands),
         Err(_) => Err(Fault::Memory),

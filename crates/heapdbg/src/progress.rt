@@ -79,30 +79,30 @@ impl<R: Clock + Eprint> Watcher for ProgressLine<'_, R> {
     }
 }
 
-/// A gauge that shows the number of bytes of a dump that are out, and their total, if standard error is a terminal.
+/// A gauge that shows the number of bytes of a dump that are out, and their total, on standard error, if they are to be shown.
 #[derive(Drop)]
 pub struct TerminalGauge<'a, R> {
     line: ProgressLine<'a, R>,
     alloc: Global,
     ids: IdSize,
-    is_terminal: bool,
+    shows: bool,
 }
 
 impl<'a, R> TerminalGauge<'a, R> {
-    /// Creates a gauge that has shown nothing. The ids of the dump have this size.
-    pub fn new(rt: &'a R, alloc: Global, ids: IdSize, is_terminal: bool) -> TerminalGauge<'a, R> {
+    /// Creates a gauge that has shown nothing, and shows something or doesn't. The ids of the dump have this size.
+    pub fn new(rt: &'a R, alloc: Global, ids: IdSize, shows: bool) -> TerminalGauge<'a, R> {
         TerminalGauge {
             line: ProgressLine::new(rt),
             alloc,
             ids,
-            is_terminal,
+            shows,
         }
     }
 }
 
 impl<R: Clock + Eprint> Gauge for TerminalGauge<'_, R> {
     fn begin(&mut self, machine: &Machine) {
-        if self.is_terminal {
+        if self.shows {
             self.line
                 .begin(dump_size(self.alloc, machine.world(), self.ids));
         }

@@ -1,4 +1,6 @@
 //! What a command line asks for.
+ghost use Rattle.std.specs.Prelude.{◌≡◌, ◌&&◌, not};
+
 use heapdbg_options::settings::Settings;
 
 /// The settings that a command line asks for, and the paths that it names.
@@ -13,4 +15,13 @@ pub struct Request<'a> {
     pub first: Option<&'a str>,
     /// The path of the file of the secret. None if the command line names none, or if an allocation failed.
     pub secret: Option<&'a str>,
+}
+
+impl Request<'_> {
+    /// Tells whether progress is shown on standard error, where that is a terminal or isn't.
+    pub(crate) fn shows_progress(&self, is_terminal: bool) -> bool
+        ensures { result ≡ (is_terminal && not self.now.settings.quiet) }
+    {
+        is_terminal && !self.settings.quiet
+    }
 }

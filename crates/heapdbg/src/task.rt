@@ -272,7 +272,8 @@ where
         (I.seen reader.new) (O.seen writer.old) (O.seen writer.new) result }
 {
     let Request { settings, path, .. } = request;
-    let mut gauge = TerminalGauge::new(rt, rt.alloc(), settings.ids, is_terminal);
+    let shows = request.shows_progress(is_terminal);
+    let mut gauge = TerminalGauge::new(rt, rt.alloc(), settings.ids, shows);
     match target {
         Target::Out => {
             let to = out_file(rt, file_of(rt, path, is_terminal)?, is_terminal);
@@ -358,22 +359,23 @@ fn fetch_at<R: AllocGlobal + Clock + Eprint + Files + Net + Wait, O: Outlet>(
     ensures { IsFetchDone is_secret (O.seen writer.old) (O.seen writer.new) result }
 {
     let secret = secret_for(rt, is_secret, request.secret, is_terminal)?;
-    fetch_to(rt, port, secret, request.path, writer, is_terminal).outcome
+    fetch_to(rt, request, port, secret, writer, is_terminal).outcome
 }
 
 // Fetches the dump that a port gives into the file of the path.
 fn fetch_to<R: AllocGlobal + Clock + Eprint + Files + Net + Wait, O: Outlet>(
     rt: &R,
+    request: Request<'_>,
     port: u16,
     secret: Option<Secret>,
-    path: Option<&str>,
     writer: &mut O,
     is_terminal: bool,
 ) -> FetchEnd<R::Stream, R::File>
     ensures { IsDumpFetched (O.seen writer.old) (O.seen writer.new) result.outcome }
 {
-    match file_of(rt, path, is_terminal) {
-        Ok(path) => fetch_port(rt, port, secret, path, writer, is_terminal),
+    let shows = request.shows_progress(is_terminal);
+    match file_of(rt, request.path, is_terminal) {
+        Ok(path) => fetch_port(rt, port, secret, path, writer, is_terminal, shows),
         Err(fault) => FetchEnd::unfetched(fault),
     }
 }

@@ -14,7 +14,7 @@ use Rattle.clap.specs.Words.{Row, Text, first_of, subcommand_of}
 use Rattle.heap_class.specs.declared.IdSize.{IdSize}
 use Rattle.heap_class.specs.declared.IdSize.TheVariants.{Eight}
 use Rattle.heap_world.specs.Limits.{mutator_limit}
-use Rattle.heapdbg_options.specs.CommandLine.{AreNumbersOf, AreSettingsWithin, HasDefaults, IsTask, ask_in, idle_in, idle_limit, idle_of, is_guarded, has_secret, stays_in, stays_of, area_after, area_default, area_in, draw_in, dump_origin, dumps_in, dumps_of, dumps_with, page_beside, page_in, page_of, page_with, explore_in, explore_with, is_dump, is_lines, origin_in, origin_of, own_page, own_task, runs_dump, runs_lines, flag_in, fetch_in, heapdbg_line, id_size_in, id_size_of, is_given, is_task, IsOther, IsThird, keep_after, keep_default, keep_in, most_area, most_kept, most_regions, most_sessions, number_in, number_or, other_port, port_in, port_limit, questions_in, regions_in, rolls_in, save_in, serve_in, serve_with, sessions_in, sessions_of, settings_in, settings_over, settings_under, settings_with, target_in, task_in, third_port, time_limit, option_value, wide_in, workers_in, workers_of, counted_in, option_size, size_or, size_with, text_before, times_in, has_dump, regions_after, regions_default, run_in, usual_keep, wide_default, with_area_in}
+use Rattle.heapdbg_options.specs.CommandLine.{AreNumbersOf, AreSettingsWithin, HasDefaults, IsTask, ask_in, idle_in, idle_limit, idle_of, is_guarded, has_secret, stays_in, stays_of, area_after, area_default, area_in, draw_in, dump_origin, dumps_in, dumps_of, dumps_with, page_beside, page_in, page_of, page_with, explore_in, explore_with, is_dump, is_lines, origin_in, origin_of, own_page, own_task, runs_dump, runs_lines, flag_in, fetch_in, heapdbg_line, id_size_in, id_size_of, is_given, is_task, IsOther, IsThird, keep_after, keep_default, keep_in, most_area, most_kept, most_regions, most_sessions, number_in, number_or, other_port, port_in, port_limit, questions_in, quiet_in, regions_in, rolls_in, save_in, serve_in, serve_with, sessions_in, sessions_of, settings_in, settings_over, settings_under, settings_with, target_in, task_in, third_port, time_limit, option_value, wide_in, workers_in, workers_of, counted_in, option_size, size_or, size_with, text_before, times_in, has_dump, regions_after, regions_default, run_in, usual_keep, wide_default, with_area_in}
 use Rattle.heapdbg_options.specs.declared.settings.Settings.{Settings}
 use Rattle.heapdbg_options.specs.declared.settings.Origin.{Origin}
 use Rattle.heapdbg_options.specs.declared.settings.Origin.TheVariants.{Fresh, Lines, Dump}
@@ -104,54 +104,56 @@ pub record AreRead (rows : List Row) (s : Settings) : Type 0 where
   pub ids : id_size_in rows ≡ Some s.ids
   pub questions : questions_in rows ≡ Some s.questions
   pub rolls : rolls_in rows ≡ Some s.rolls
+  pub quiet : quiet_in rows ≡ Some s.quiet
 
-settings_keep_all_given : (task : Task) (w : Bool) (r m k t : Option ℕ) (i : Option IdSize) (q o : Option Bool) (s : Settings) → settings_with task w r m k t i q o ≡ Some s
-    → (s.task ≡ task) × (w ≡ s.wide) × (r ≡ Some s.regions) × (m ≡ Some s.mutators) × (k ≡ Some s.keep) × (t ≡ Some s.time) × (i ≡ Some s.ids) × (q ≡ Some s.questions) × (o ≡ Some s.rolls)
-settings_keep_all_given task w None m k t i q o s e = cc
-settings_keep_all_given task w (Some r) None k t i q o s e = cc
-settings_keep_all_given task w (Some r) (Some m) None t i q o s e = cc
-settings_keep_all_given task w (Some r) (Some m) (Some k) None i q o s e = cc
-settings_keep_all_given task w (Some r) (Some m) (Some k) (Some t) None q o s e = cc
-settings_keep_all_given task w (Some r) (Some m) (Some k) (Some t) (Some i) None o s e = cc
-settings_keep_all_given task w (Some r) (Some m) (Some k) (Some t) (Some i) (Some q) None s e = cc
-settings_keep_all_given task w (Some r) (Some m) (Some k) (Some t) (Some i) (Some q) (Some o) s e = (cc, cc, cc, cc, cc, cc, cc, cc, cc)
+settings_keep_all_given : (task : Task) (w u : Bool) (r m k t : Option ℕ) (i : Option IdSize) (q o : Option Bool) (s : Settings) → settings_with task w u r m k t i q o ≡ Some s
+    → (s.task ≡ task) × (w ≡ s.wide) × (u ≡ s.quiet) × (r ≡ Some s.regions) × (m ≡ Some s.mutators) × (k ≡ Some s.keep) × (t ≡ Some s.time) × (i ≡ Some s.ids) × (q ≡ Some s.questions) × (o ≡ Some s.rolls)
+settings_keep_all_given task w u None m k t i q o s e = cc
+settings_keep_all_given task w u (Some r) None k t i q o s e = cc
+settings_keep_all_given task w u (Some r) (Some m) None t i q o s e = cc
+settings_keep_all_given task w u (Some r) (Some m) (Some k) None i q o s e = cc
+settings_keep_all_given task w u (Some r) (Some m) (Some k) (Some t) None q o s e = cc
+settings_keep_all_given task w u (Some r) (Some m) (Some k) (Some t) (Some i) None o s e = cc
+settings_keep_all_given task w u (Some r) (Some m) (Some k) (Some t) (Some i) (Some q) None s e = cc
+settings_keep_all_given task w u (Some r) (Some m) (Some k) (Some t) (Some i) (Some q) (Some o) s e = (cc, cc, cc, cc, cc, cc, cc, cc, cc, cc)
 
 -- the settings over a heap that is wide, or isn't, with the area that the rows tell, are those of the rows
-settings_with_area_are_read : (task : Task) (rows : List Row) (w : Bool) (s : Settings) (area : ℕ) → wide_in rows ≡ Some w → settings_over task rows w ≡ Some s → area_in s.task s.wide s.regions rows ≡ Some area
+settings_with_area_are_read : (task : Task) (rows : List Row) (w u : Bool) (s : Settings) (area : ℕ) → wide_in rows ≡ Some w → quiet_in rows ≡ Some u → settings_over task rows w u ≡ Some s → area_in s.task s.wide s.regions rows ≡ Some area
     → (s.task ≡ task) × AreRead rows (record s { area = area })
-settings_with_area_are_read task rows w s area wide found told =
-    let there = settings_keep_all_given task w (regions_in task w rows) (option_value (codes "mutators") 2 1 mutator_limit rows) (keep_in task w rows) (option_value (codes "time") 0 0 time_limit rows) (id_size_in rows) (questions_in rows) (rolls_in rows) s found in
+settings_with_area_are_read task rows w u s area wide quiet found told =
+    let there = settings_keep_all_given task w u (regions_in task w rows) (option_value (codes "mutators") 2 1 mutator_limit rows) (keep_in task w rows) (option_value (codes "time") 0 0 time_limit rows) (id_size_in rows) (questions_in rows) (rolls_in rows) s found in
     let same : w ≡ s.wide = there.1 in (
       there.0,
       record {
         wide = wide ∙ ap (λ b. Some b) same;
-        regions = ap (λ t. regions_in t s.wide rows) there.0 ∙ (ap (λ b. regions_in task b rows) (sym same) ∙ there.2);
+        regions = ap (λ t. regions_in t s.wide rows) there.0 ∙ (ap (λ b. regions_in task b rows) (sym same) ∙ there.3);
         area = told;
-        mutators = there.3;
-        keep = ap (λ t. keep_in t s.wide rows) there.0 ∙ (ap (λ b. keep_in task b rows) (sym same) ∙ there.4);
-        time = there.5;
-        ids = there.6;
-        questions = there.7;
-        rolls = there.8;
+        mutators = there.4;
+        keep = ap (λ t. keep_in t s.wide rows) there.0 ∙ (ap (λ b. keep_in task b rows) (sym same) ∙ there.5);
+        time = there.6;
+        ids = there.7;
+        questions = there.8;
+        rolls = there.9;
+        quiet = quiet ∙ ap (λ b. Some b) there.2;
       },
     )
 
-settings_are_read_from_rows : (task : Task) (rows : List Row) (w : Bool) (base s : Settings) → wide_in rows ≡ Some w → settings_over task rows w ≡ Some base → with_area_in rows base ≡ Some s → (s.task ≡ task) × AreRead rows s
-settings_are_read_from_rows task rows w base s wide found told = go (area_in base.task base.wide base.regions rows) refl told
+settings_are_read_from_rows : (task : Task) (rows : List Row) (w u : Bool) (base s : Settings) → wide_in rows ≡ Some w → quiet_in rows ≡ Some u → settings_over task rows w u ≡ Some base → with_area_in rows base ≡ Some s → (s.task ≡ task) × AreRead rows s
+settings_are_read_from_rows task rows w u base s wide quiet found told = go (area_in base.task base.wide base.regions rows) refl told
   where
     go : (o : Option ℕ) → area_in base.task base.wide base.regions rows ≡ o → option_map (λ area. record base { area = area }) o ≡ Some s → (s.task ≡ task) × AreRead rows s
     go None is made = cc
     go (Some area) is made =
         let same : record base { area = area } ≡ s = cc in
-        subst (λ (x : Settings). (x.task ≡ task) × AreRead rows x) same (settings_with_area_are_read task rows w base area wide found is)
+        subst (λ (x : Settings). (x.task ≡ task) × AreRead rows x) same (settings_with_area_are_read task rows w u base area wide quiet found is)
 
 -- the settings without an area tell what its limit hangs on
-pub settings_tell_regions : (task : Task) (rows : List Row) (w : Bool) (s : Settings) → wide_in rows ≡ Some w → settings_over task rows w ≡ Some s → (wide_in rows ≡ Some s.wide) × (regions_in s.task s.wide rows ≡ Some s.regions)
-settings_tell_regions task rows w s wide found =
-    let there = settings_keep_all_given task w (regions_in task w rows) (option_value (codes "mutators") 2 1 mutator_limit rows) (keep_in task w rows) (option_value (codes "time") 0 0 time_limit rows) (id_size_in rows) (questions_in rows) (rolls_in rows) s found in
+pub settings_tell_regions : (task : Task) (rows : List Row) (w u : Bool) (s : Settings) → wide_in rows ≡ Some w → settings_over task rows w u ≡ Some s → (wide_in rows ≡ Some s.wide) × (regions_in s.task s.wide rows ≡ Some s.regions)
+settings_tell_regions task rows w u s wide found =
+    let there = settings_keep_all_given task w u (regions_in task w rows) (option_value (codes "mutators") 2 1 mutator_limit rows) (keep_in task w rows) (option_value (codes "time") 0 0 time_limit rows) (id_size_in rows) (questions_in rows) (rolls_in rows) s found in
     let same : w ≡ s.wide = there.1 in (
       wide ∙ ap (λ b. Some b) same,
-      ap (λ t. regions_in t s.wide rows) there.0 ∙ (ap (λ b. regions_in task b rows) (sym same) ∙ there.2),
+      ap (λ t. regions_in t s.wide rows) there.0 ∙ (ap (λ b. regions_in task b rows) (sym same) ∙ there.3),
     )
 
 abbrev task_by_flags_and_rows : Bool → Bool → Bool → Bool → Bool → Bool → Bool → List Row → Option Task
@@ -178,13 +180,17 @@ found_settings_are_asked : (o : Option (Text × List Row)) (s : Settings) → op
 found_settings_are_asked None s e = cc
 found_settings_are_asked (Some f) s e = go (task_in f.0 f.1) refl e
   where
-    placed : (task : Task) (w : Bool) (o : Option Settings) → wide_in f.1 ≡ Some w → settings_over task f.1 w ≡ o → option_and_then (with_area_in f.1) o ≡ Some s → (s.task ≡ task) × AreRead f.1 s
-    placed task w None wide h found = cc
-    placed task w (Some base) wide h found = settings_are_read_from_rows task f.1 w base s wide h found
+    placed : (task : Task) (w u : Bool) (o : Option Settings) → wide_in f.1 ≡ Some w → quiet_in f.1 ≡ Some u → settings_over task f.1 w u ≡ o → option_and_then (with_area_in f.1) o ≡ Some s → (s.task ≡ task) × AreRead f.1 s
+    placed task w u None wide quiet h found = cc
+    placed task w u (Some base) wide quiet h found = settings_are_read_from_rows task f.1 w u base s wide quiet h found
 
-    sized : (task : Task) (b : Option Bool) → wide_in f.1 ≡ b → option_and_then (with_area_in f.1) (option_and_then (settings_over task f.1) b) ≡ Some s → (s.task ≡ task) × AreRead f.1 s
+    shown : (task : Task) (w : Bool) (b : Option Bool) → wide_in f.1 ≡ Some w → quiet_in f.1 ≡ b → option_and_then (with_area_in f.1) (option_and_then (settings_over task f.1 w) b) ≡ Some s → (s.task ≡ task) × AreRead f.1 s
+    shown task w None wide h found = cc
+    shown task w (Some u) wide h found = placed task w u (settings_over task f.1 w u) wide h refl found
+
+    sized : (task : Task) (b : Option Bool) → wide_in f.1 ≡ b → option_and_then (with_area_in f.1) (option_and_then (λ wide. option_and_then (settings_over task f.1 wide) (quiet_in f.1)) b) ≡ Some s → (s.task ≡ task) × AreRead f.1 s
     sized task None h found = cc
-    sized task (Some w) h found = placed task w (settings_over task f.1 w) h refl found
+    sized task (Some w) h found = shown task w (quiet_in f.1) h refl found
 
     go : (t : Option Task) → task_in f.0 f.1 ≡ t → option_and_then (λ task. settings_in task f.1) t ≡ Some s → AreAsked (Some f) s
     go None h found = cc
@@ -659,6 +665,7 @@ defaults_of words s e =
       ids = default_size words asked.found s.ids asked.is asked.named asked.read.ids;
       questions = default_flag (codes "questions") words asked.found s.questions refl asked.is asked.named asked.read.questions;
       rolls = default_flag (codes "roll") words asked.found s.rolls refl asked.is asked.named asked.read.rolls;
+      quiet = default_flag (codes "quiet") words asked.found s.quiet refl asked.is asked.named asked.read.quiet;
       wide = λ other undumped. default_wide words asked.found s.wide asked.is asked.named asked.read.wide other undumped;
       sessions = λ other. each_task_has_property (λ t. sessions_of t ≡ 1) (bytes_eq name (codes "run")) (bytes_eq name (codes "explore")) (bytes_eq name (codes "draw")) (bytes_eq name (codes "save")) (bytes_eq name (codes "serve")) (bytes_eq name (codes "ask")) (bytes_eq name (codes "fetch")) rows s.task
           refl (λ origin p is at. refl) refl (λ target. refl) (λ port. refl) (λ port. refl)

@@ -108,19 +108,19 @@ no_size_within_bounds : (default least most : ℕ) (given : Option Text) → siz
 no_size_within_bounds default least most None e = cc
 no_size_within_bounds default least most (Some text) e = e
 
-no_settings_without_keep : (task : Task) (w : Bool) (r m t : Option ℕ) (i : Option IdSize) (q o : Option Bool) → settings_with task w r m None t i q o ≡ None
-no_settings_without_keep task w None m t i q o = refl
-no_settings_without_keep task w (Some r) None t i q o = refl
-no_settings_without_keep task w (Some r) (Some m) t i q o = refl
+no_settings_without_keep : (task : Task) (w u : Bool) (r m t : Option ℕ) (i : Option IdSize) (q o : Option Bool) → settings_with task w u r m None t i q o ≡ None
+no_settings_without_keep task w u None m t i q o = refl
+no_settings_without_keep task w u (Some r) None t i q o = refl
+no_settings_without_keep task w u (Some r) (Some m) t i q o = refl
 
 mistake_of_keep : (w : Bool) (rows : List Row) → wide_in rows ≡ Some w → IsNoSize 1 (most_kept w) (first_of (codes "keep") rows) → IsMistakeIn (keep_mistake w) rows
 mistake_of_keep false rows wide h = (wide, h)
 mistake_of_keep true rows wide h = (wide, h)
 
 -- an option `--keep` that is out of its range is the mistake of its command
-pub keep_mistake_is_in_rows : (task : Task) (w : Bool) (rows : List Row) → wide_in rows ≡ Some w → keep_in task w rows ≡ None → (settings_over task rows w ≡ None) × IsMistakeIn (keep_mistake w) rows
-keep_mistake_is_in_rows task w rows wide e = (
-  rw e (no_settings_without_keep task w (regions_in task w rows) (option_value (codes "mutators") 2 1 mutator_limit rows) (option_value (codes "time") 0 0 time_limit rows) (id_size_in rows) (questions_in rows) (rolls_in rows)),
+pub keep_mistake_is_in_rows : (task : Task) (w u : Bool) (rows : List Row) → wide_in rows ≡ Some w → keep_in task w rows ≡ None → (settings_over task rows w u ≡ None) × IsMistakeIn (keep_mistake w) rows
+keep_mistake_is_in_rows task w u rows wide e = (
+  rw e (no_settings_without_keep task w u (regions_in task w rows) (option_value (codes "mutators") 2 1 mutator_limit rows) (option_value (codes "time") 0 0 time_limit rows) (id_size_in rows) (questions_in rows) (rolls_in rows)),
   mistake_of_keep w rows wide (no_size_within_bounds (keep_default task w) 1 (most_kept w) (first_of (codes "keep") rows) e),
 )
 

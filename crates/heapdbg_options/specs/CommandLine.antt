@@ -58,11 +58,17 @@ heap_line name =
     (flag_option (codes "wide")))
     (value_option (codes "area"))
 
--- a command with the options of the heap, its history and its dumps
+-- the option `--quiet VALUE` or `--quiet`
+abbrev pub quiet_option : Rule
+quiet_option = flag_option (codes "quiet")
+
+-- a command with the options of the heap, its history, its dumps and what is shown of them
 abbrev pub session_line : Text → App
 session_line name =
-    with_rule (with_rule (heap_line name) (value_option (codes "time")))
-    (value_option (codes "ids"))
+    with_rule
+    (with_rule (with_rule (heap_line name) (value_option (codes "time")))
+    (value_option (codes "ids")))
+    quiet_option
 
 -- the option `--port VALUE`, which has to be given
 abbrev pub port_option : Rule
@@ -145,7 +151,10 @@ draw_line = with_rule (with_rule (session_line (codes "draw")) out_option) dump_
 -- the command `fetch`
 abbrev pub fetch_line : App
 fetch_line =
-    with_rule (with_rule (with_rule (new_app (codes "fetch")) port_option) out_option) secret_option
+    with_rule
+    (with_rule (with_rule (with_rule (new_app (codes "fetch")) port_option) out_option)
+    secret_option)
+    quiet_option
 
 -- the program's name and `--version`, and a command that has to follow
 abbrev pub named_line : App
@@ -224,9 +233,9 @@ abbrev pub id_size_in : List Row → Option IdSize
 id_size_in rows = option_and_then id_size_of (option_value (codes "ids") 8 4 8 rows)
 
 -- the settings without an area, if each option has a value in its range
-abbrev pub settings_with : Task → Bool → Option ℕ → Option ℕ → Option ℕ → Option ℕ → Option IdSize
-    → Option Bool → Option Bool → Option Settings
-settings_with task wide (Some regions) (Some mutators) (Some keep) (Some time) (Some ids)
+abbrev pub settings_with : Task → Bool → Bool → Option ℕ → Option ℕ → Option ℕ → Option ℕ
+    → Option IdSize → Option Bool → Option Bool → Option Settings
+settings_with task wide quiet (Some regions) (Some mutators) (Some keep) (Some time) (Some ids)
     (Some questions) (Some rolls) =
     Some (record {
       task = task;
@@ -239,8 +248,9 @@ settings_with task wide (Some regions) (Some mutators) (Some keep) (Some time) (
       ids = ids;
       questions = questions;
       rolls = rolls;
+      quiet = quiet;
     })
-settings_with task wide _ _ _ _ _ _ _ = None
+settings_with task wide quiet _ _ _ _ _ _ _ = None
 
 -- the largest time
 abbrev pub time_limit : ℕ
@@ -257,6 +267,10 @@ questions_in rows = flag_in (codes "questions") rows
 -- whether old entries of a chronicle are dropped in place of refusing new ones
 abbrev pub rolls_in : List Row → Option Bool
 rolls_in rows = flag_in (codes "roll") rows
+
+-- whether no progress is shown
+abbrev pub quiet_in : List Row → Option Bool
+quiet_in rows = flag_in (codes "quiet") rows
 
 -- a dump is given
 abbrev pub has_dump : List Row → Bool
@@ -348,9 +362,9 @@ abbrev pub with_area_in : List Row → Settings → Option Settings
 with_area_in rows s =
     option_map (λ regions. record s { area = regions }) (area_in s.task s.wide s.regions rows)
 
--- the settings of a task and its options, but the area, over a heap that is wide, or isn't
-abbrev pub settings_over : Task → List Row → Bool → Option Settings
-settings_over task rows wide = settings_with task wide (regions_in task wide rows)
+-- the settings of a task and its options, but the area, over a heap that is wide, or isn't, with progress shown or not
+abbrev pub settings_over : Task → List Row → Bool → Bool → Option Settings
+settings_over task rows wide quiet = settings_with task wide quiet (regions_in task wide rows)
     (option_value (codes "mutators") 2 1 mutator_limit rows) (keep_in task wide rows)
     (option_value (codes "time") 0 0 time_limit rows)
     (id_size_in rows) (questions_in rows) (rolls_in rows)
@@ -358,7 +372,9 @@ settings_over task rows wide = settings_with task wide (regions_in task wide row
 -- the settings of a task and its options
 abbrev pub settings_in : Task → List Row → Option Settings
 settings_in task rows =
-    option_and_then (with_area_in rows) (option_and_then (settings_over task rows) (wide_in rows))
+    option_and_then (with_area_in rows)
+    (option_and_then (λ wide. option_and_then (settings_over task rows wide) (quiet_in rows))
+    (wide_in rows))
 
 -- the highest port
 abbrev pub port_limit : ℕ
@@ -691,6 +707,7 @@ pub record HasDefaults (words : List Text) (s : Settings) : Type 0 where
   pub ids : is_given (codes "ids") words ≡ false → s.ids ≡ Eight
   pub questions : is_given (codes "questions") words ≡ false → s.questions ≡ false
   pub rolls : is_given (codes "roll") words ≡ false → s.rolls ≡ false
+  pub quiet : is_given (codes "quiet") words ≡ false → s.quiet ≡ false
   pub wide : is_given (codes "wide") words ≡ false → is_given (codes "hprof") words ≡ false → s.wide ≡ false
   pub sessions : is_given (codes "sessions") words ≡ false → sessions_of s.task ≡ 1
   pub workers : is_given (codes "workers") words ≡ false → workers_of s.task ≡ 0

@@ -164,7 +164,10 @@ fn settings_from(task: Task, options: &ArgMatches<'_>) -> Result<Settings, Mista
     let Some(wide) = wide_from(options) else {
         return Err(Mistake::Wide);
     };
-    match settings_over(task, options, wide) {
+    let Some(quiet) = flag_from(options, "quiet") else {
+        return Err(Mistake::Quiet);
+    };
+    match settings_over(task, options, wide, quiet) {
         Ok(settings) => settings_with_area(settings, options),
         Err(mistake) => Err(mistake),
     }
@@ -185,36 +188,31 @@ fn wide_default(dump: bool) -> u64
     if dump { 1 } else { 0 }
 }
 
-// Returns the settings of a task's options over a heap that is wide, or isn't, without an area, or the option whose value is out of
-// its range.
-fn settings_over(task: Task, options: &ArgMatches<'_>, wide: bool) -> Result<Settings, Mistake>
+// Returns the settings of a task's options over a heap that is wide, or isn't, without an area, with progress shown or not, or the
+// option whose value is out of its range.
+fn settings_over(
+    task: Task,
+    options: &ArgMatches<'_>,
+    wide: bool,
+    quiet: bool,
+) -> Result<Settings, Mistake>
     requires { wide_in (rows_of (found_of options.now)) ≡ Some wide }
-    ensures { IsValueOrMistake (settings_over task (rows_of (found_of options.now)) wide)
+    ensures { IsValueOrMistake (settings_over task (rows_of (found_of options.now)) wide quiet)
         (λ m. IsMistakeIn m (rows_of (found_of options.now))) result }
 {
     let usual = regions_default(task, wide);
     let Some(regions) = option_size(options, "regions", usual, 1, most_regions(wide)) else {
         return Err(regions_mistake(wide));
     };
-    let Some(mutators) = option_value(options, "mutators", 2, 1, MUTATOR_LIMIT) else {
-        return Err(Mistake::Mutators);
-    };
+    let mutators = option_value(options, "mutators", 2, 1, MUTATOR_LIMIT).ok_or(Mistake::Mutators)?;
     let kept = keep_default(task, wide);
     let Some(keep) = option_size(options, "keep", kept, 1, most_kept(wide)) else {
         return Err(keep_mistake(wide));
     };
-    let Some(time) = option_value(options, "time", 0, 0, u64::MAX) else {
-        return Err(Mistake::Time);
-    };
-    let Some(ids) = id_size_from(options) else {
-        return Err(Mistake::Ids);
-    };
-    let Some(questions) = flag_from(options, "questions") else {
-        return Err(Mistake::Questions);
-    };
-    let Some(rolls) = flag_from(options, "roll") else {
-        return Err(Mistake::Roll);
-    };
+    let time = option_value(options, "time", 0, 0, u64::MAX).ok_or(Mistake::Time)?;
+    let ids = id_size_from(options).ok_or(Mistake::Ids)?;
+    let questions = flag_from(options, "questions").ok_or(Mistake::Questions)?;
+    let rolls = flag_from(options, "roll").ok_or(Mistake::Roll)?;
     Ok(Settings {
         task,
         wide,
@@ -226,6 +224,7 @@ fn settings_over(task: Task, options: &ArgMatches<'_>, wide: bool) -> Result<Set
         ids,
         questions,
         rolls,
+        quiet,
     })
 }
 

@@ -90,6 +90,15 @@ pub(crate) const IDS: OptionRow = OptionRow {
     is_flag: false,
 };
 
+// The option `--quiet [N]`.
+pub(crate) const QUIET: OptionRow = OptionRow {
+    name: "quiet",
+    value: "N",
+    help: "Whether no progress is shown on a terminal, 0 or 1 [default: 0]",
+    is_required: false,
+    is_flag: true,
+};
+
 // The option `--questions [N]`.
 pub(crate) const QUESTIONS: OptionRow = OptionRow {
     name: "questions",

@@ -47,6 +47,8 @@ pub enum Mistake {
     Questions,
     /// `--roll` is out of its range.
     Roll,
+    /// `--quiet` is out of its range.
+    Quiet,
     /// `--dumps` is out of its range, or the port of the sessions.
     Dumps,
     /// `--page` is out of its range, or another port of the heap.
@@ -92,6 +94,7 @@ impl Mistake {
             Mistake::Workers => "--workers takes 0 or 1",
             Mistake::Questions => "--questions takes 0 or 1",
             Mistake::Roll => "--roll takes 0 or 1",
+            Mistake::Quiet => "--quiet takes 0 or 1",
             Mistake::Dumps => "--dumps takes 1 to 65535, and not the number of --port",
             Mistake::Page => "--page takes 1 to 65535, and not the number of --port or --dumps",
             Mistake::Idle => "--idle takes 1 to 86400",

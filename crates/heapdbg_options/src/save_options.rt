@@ -5,7 +5,7 @@ ghost use Rattle.heapdbg_options.specs.CommandLine.{save_in, target_in};
 ghost use Rattle.heapdbg_options.specs.Refusals.{IsChoiceOrMistake, IsTargetMistake, IsTaskOrMistake};
 
 use crate::option_rows::{
-    AREA, CommandRow, IDS, KEEP, MUTATORS, OptionRow, QUESTIONS, REGIONS, TIME, WIDE,
+    AREA, CommandRow, IDS, KEEP, MUTATORS, OptionRow, QUESTIONS, QUIET, REGIONS, TIME, WIDE,
 };
 use crate::refusal::Mistake;
 use crate::settings::{Target, Task};
@@ -25,6 +25,7 @@ pub(crate) const SAVE: CommandRow = CommandRow {
         AREA,
         TIME,
         IDS,
+        QUIET,
         OptionRow {
             name: "out",
             value: "PATH",

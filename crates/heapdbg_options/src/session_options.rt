@@ -9,7 +9,7 @@ ghost use Rattle.heapdbg_options.specs.declared.settings.Task.TheVariants.{Explo
 use crate::command_line::has_dump;
 use crate::option_rows::{
     CommandRow, DUMP_AREA, DUMP_KEEP, DUMP_REGIONS, DUMP_WIDE, HPROF, IDS, KEEP, MUTATORS,
-    OptionRow, PAGE, QUESTIONS, TIME,
+    OptionRow, PAGE, QUESTIONS, QUIET, TIME,
 };
 use crate::refusal::Mistake;
 use crate::settings::{Origin, Task};
@@ -29,6 +29,7 @@ pub(crate) const RUN: CommandRow = CommandRow {
         DUMP_AREA,
         TIME,
         IDS,
+        QUIET,
         QUESTIONS,
         HPROF,
     ],
@@ -50,6 +51,7 @@ pub(crate) const EXPLORE: CommandRow = CommandRow {
         DUMP_AREA,
         TIME,
         IDS,
+        QUIET,
         OptionRow {
             name: "from",
             value: "PATH",
@@ -92,6 +94,7 @@ pub(crate) const DRAW: CommandRow = CommandRow {
         DUMP_AREA,
         TIME,
         IDS,
+        QUIET,
         OptionRow {
             name: "out",
             value: "PATH",

@@ -108,6 +108,8 @@ pub struct Settings {
     pub questions: bool,
     /// Whether the chronicle of a heap that is served drops old entries in place of refusing new ones.
     pub rolls: bool,
+    /// Whether no progress is shown on standard error.
+    pub quiet: bool,
 }
 
 /// The reason why a command line gives no settings.

@@ -7,7 +7,7 @@ ghost use Rattle.heapdbg_options.specs.Refusals.{IsTaskOrMistake};
 use crate::command_line::{flag_from, has_dump, number, option_value};
 use crate::option_rows::{
     CommandRow, DUMP_AREA, DUMP_KEEP, DUMP_REGIONS, DUMP_WIDE, HPROF, IDS, MUTATORS, OptionRow,
-    PAGE, QUESTIONS, SECRET, TIME,
+    PAGE, QUESTIONS, QUIET, SECRET, TIME,
 };
 use crate::refusal::Mistake;
 use crate::session_options::dump_origin;
@@ -48,6 +48,7 @@ pub(crate) const SERVE: CommandRow = CommandRow {
         DUMP_AREA,
         TIME,
         IDS,
+        QUIET,
         PORT,
         OptionRow {
             name: "sessions",
@@ -121,6 +122,7 @@ pub(crate) const FETCH: CommandRow = CommandRow {
             is_flag: false,
         },
         SECRET,
+        QUIET,
     ],
 };
 

@@ -1,5 +1,5 @@
 -- The sub-records of the dump of an image are read back.
-use Rattle.std.proofs.Common.{◌≡◌, ℕ, suc, ◌+◌, ◌*◌, Bool, true, false, cond, eqb, List, [], ◌∷◌, ◌++◌, length, map, refl, sym, ap, ap₂, subst, ◌∙◌, append_assoc, arith}
+use Rattle.std.proofs.Common.{◌≡◌, ℕ, ◌+◌, Bool, true, false, cond, eqb, List, [], ◌∷◌, ◌++◌, length, map, refl, sym, ap, ap₂, subst, ◌∙◌, append_assoc, arith}
 use Rattle.std.specs.Prelude.{flat_map}
 use Rattle.std.specs.Option.{option_map_or}
 use Rattle.std.specs.List.{enumerate_from, AllByRecursion}
@@ -8,8 +8,6 @@ use Rattle.std.proofs.lemmas.List.Elements.{recursion_from_All}
 use Rattle.std.proofs.lemmas.List.Concat.{flat_map-cons}
 use Rattle.heap_class.specs.declared.IdSize.{IdSize}
 use Rattle.heap_class.specs.declared.IdSize.TheVariants.{Four, Eight}
-use Rattle.heap_class.specs.declared.Kind.{Kind}
-use Rattle.heap_class.specs.declared.Kind.TheVariants.{Boolean, Char, Float, Double, Byte, Short, Int, Long}
 use Rattle.heap_class.specs.declared.Field.{Field}
 use Rattle.heap_class.specs.declared.ObjKind.{ObjKind}
 use Rattle.heap_class.specs.declared.ObjKind.TheVariants.{Instance, Array, Prim}
@@ -18,36 +16,9 @@ use Rattle.heap_class.specs.Classes.{Class, instance_size, name_id}
 use Rattle.hprof_text.specs.Fits.{FitsId, ShowsWhole, HoldsWhole, ClassDumpFits, DumpFits}
 use Rattle.hprof_text.specs.Image.{Image, DumpedObject}
 use Rattle.hprof_text.specs.Text.{u1, u2, u4, id, class_id, field_entry, class_dump, root as root_bytes, value_bytes, dump_of, object_dump, items_of, records_of_items, sub_records}
+use Rattle.hprof_text.proofs.Lengths.{id_length, length-flat, length-value}
 use Rattle.hprof_reader.specs.SubRecords.{Sub, root, sub_text, FitsSub, AreEntries}
 use Rattle.hprof_reader.specs.Images.{no_entries, class_sub, kind_sub, object_sub, class_root, register_roots, AreRead}
-
--- ---- sizes
-
-id_size : (ids : IdSize) (n : ℕ) → length (id ids n) ≡ id_bytes ids
-id_size Four n = refl
-id_size Eight n = refl
-
-value_size : (ids : IdSize) (kind : Kind) (w : ℕ) → length (value_bytes ids (kind, w)) ≡ width_of ids kind
-unfolding value_bytes
-value_size Four Kind.Object w = refl
-value_size Eight Kind.Object w = refl
-value_size ids Boolean w = refl
-value_size ids Char w = refl
-value_size ids Float w = refl
-value_size ids Double w = refl
-value_size ids Byte w = refl
-value_size ids Short w = refl
-value_size ids Int w = refl
-value_size ids Long w = refl
-
-multiple_by_one_more : (n m : ℕ) → n + n * m ≡ n * suc m
-multiple_by_one_more n m = grind arith
-
--- texts of one size, one after the other
-all_of_size : {A : Type 0} (f : A → List ℕ) (n : ℕ) (xs : List A) → ((x : A) → length (f x) ≡ n) → length (flat_map f xs) ≡ n * length xs
-all_of_size f n [] sized = omega arith
-all_of_size f n (x ∷ xs) sized =
-    ap length (flat_map-cons f x xs) ∙ length-append (f x) (flat_map f xs) ∙ ap₂ (λ (a b : ℕ). a + b) (sized x) (all_of_size f n xs sized) ∙ multiple_by_one_more n (length xs)
 
 zero_id_fits : (ids : IdSize) → FitsId ids 0
 zero_id_fits Four = omega arith
@@ -60,7 +31,7 @@ no_entries_are_entries ids key = record { count = omega arith; list = []; counte
 
 field_size : (ids : IdSize) (classes : List Class) (f : Field) → length (field_entry ids classes f) ≡ id_bytes ids + 1
 unfolding field_entry
-field_size ids classes f = length-append (id ids (name_id classes f.name)) (u1 (type_code f.kind)) ∙ ap (λ (n : ℕ). n + 1) (id_size ids (name_id classes f.name))
+field_size ids classes f = length-append (id ids (name_id classes f.name)) (u1 (type_code f.kind)) ∙ ap (λ (n : ℕ). n + 1) (id_length ids (name_id classes f.name))
 
 class_fits : (ids : IdSize) (classes : List Class) (c : ℕ × Class) → ClassDumpFits ids classes c → FitsSub ids (class_sub ids classes c)
 class_fits ids classes c fits =
@@ -69,7 +40,7 @@ class_fits ids classes c fits =
       head = record { id = fits.0; trace = omega arith; super_id = fits.1; loader = null; signers = null; domain = null; reserved = null; also_reserved = null; size = fits.2 };
       constants = no_entries_are_entries ids 2;
       statics = no_entries_are_entries ids (id_bytes ids);
-      fields = (fits.3, all_of_size (field_entry ids classes) (id_bytes ids + 1) c.1.fields (field_size ids classes));
+      fields = (fits.3, length-flat (field_entry ids classes) (id_bytes ids + 1) (field_size ids classes) c.1.fields);
     }
 
 class_regrouped : (t a b c d e f g h i k s n v : List ℕ) → t ++ (a ++ b ++ c ++ d ++ e ++ f ++ g ++ h ++ i ++ (k ++ []) ++ (s ++ []) ++ (n ++ v)) ≡ t ++ a ++ b ++ c ++ d ++ e ++ f ++ g ++ h ++ i ++ k ++ s ++ n ++ v
@@ -93,8 +64,8 @@ object_same ids classes o = kind_same ids classes o.id o.kind o.words
 
 kind_fits : (ids : IdSize) (classes : List Class) (x : ℕ) (kind : ObjKind) (words : List ℕ) → FitsId ids x → DumpFits ids classes kind words → FitsSub ids (kind_sub ids classes x kind words)
 kind_fits ids classes x (Instance k) words small fits = (small, omega arith, fits.0, fits.1)
-kind_fits ids classes x (Array k) words small fits = (small, omega arith, fits.0, fits.1, all_of_size (id ids) (id_bytes ids) words (id_size ids))
-kind_fits ids classes x (Prim kind) words small fits = (small, omega arith, fits.0, all_of_size (λ w. value_bytes ids (kind, w)) (width_of ids kind) words (value_size ids kind))
+kind_fits ids classes x (Array k) words small fits = (small, omega arith, fits.0, fits.1, length-flat (id ids) (id_bytes ids) (id_length ids) words)
+kind_fits ids classes x (Prim kind) words small fits = (small, omega arith, fits.0, length-flat (λ w. value_bytes ids (kind, w)) (width_of ids kind) (length-value ids kind) words)
 
 root_same : (ids : IdSize) (tag x : ℕ) → sub_text ids (root tag x []) ≡ root_bytes ids tag x
 unfolding root_bytes

@@ -19,6 +19,7 @@ use Rattle.hprof_reader.specs.SubParts.{id_at, four_at, root_fields, made_root, 
 use Rattle.hprof_reader.proofs.Readers.{IsBytes, IsReader, bytes_reader, reader_of_two_in_turn, reader_that_makes_value, bound_result_has_its_source, made_value_has_its_source}
 use Rattle.hprof_reader.proofs.ReadKinds.{branch_of_condition_taken, one_byte_number_reader, four_byte_number_reader, id_reader, kind_reader}
 use Rattle.hprof_reader.proofs.ReadEntries.{table_reader, field_table_reader}
+use Rattle.hprof_reader.proofs.WholeRecords.{four_texts_regrouped}
 
 -- an identifier, and what a reader reads after it
 id_then_reader : {B : Type 0} (ids : IdSize) (tb : ℕ → B → List ℕ) (fb : ℕ → B → Type 0) (rb : ℕ → List ℕ → Result (B × List ℕ) Fault) → ((n : ℕ) → IsReader (tb n) (fb n) (rb n))
@@ -250,16 +251,13 @@ class_pair_reader ids =
     (λ constants. read_in_turn (table_parts ids (id_bytes ids)) (λ statics. fields_table_parts ids)) (table_reader ids 2)
     (λ c _. reader_of_two_in_turn {B = Entries} entries_text (AreEntries ids (id_bytes ids)) (table_parts ids (id_bytes ids)) (λ s x. entries_text x) (λ s x. AreFields ids x) (λ statics. fields_table_parts ids) (table_reader ids (id_bytes ids)) (λ s _. field_table_reader ids)))
 
-regrouped_4 : (a b c d : List ℕ) → a ++ (b ++ (c ++ d)) ≡ a ++ b ++ c ++ d
-regrouped_4 a b c d = sym (append_assoc a b (c ++ d)) ∙ sym (append_assoc (a ++ b) c d)
-
 class_reader : (ids : IdSize) → IsReader (class_text ids) (FitsClass ids) (class_parts ids)
 unfolding class_parts
 class_reader ids =
     reader_that_makes_value (class_pair_text ids) (ClassHeadAndTablesFit ids) (class_fields ids) made_class (class_text ids) (FitsClass ids) (class_pair_reader ids)
     (record {
-      spelled = λ x fits. (regrouped_4 (head_text ids x.0) (entries_text x.1.0) (entries_text x.1.1.0) (entries_text x.1.1.1), record { head = fits.0; constants = fits.1.0; statics = fits.1.1.0; fields = fits.1.1.1 });
-      each = λ c fits. ((c.head, (c.constants, (c.statics, c.fields))), (fits.head, (fits.constants, (fits.statics, fits.fields))), refl, sym (regrouped_4 (head_text ids c.head) (entries_text c.constants) (entries_text c.statics) (entries_text c.fields)));
+      spelled = λ x fits. (four_texts_regrouped (head_text ids x.0) (entries_text x.1.0) (entries_text x.1.1.0) (entries_text x.1.1.1), record { head = fits.0; constants = fits.1.0; statics = fits.1.1.0; fields = fits.1.1.1 });
+      each = λ c fits. ((c.head, (c.constants, (c.statics, c.fields))), (fits.head, (fits.constants, (fits.statics, fits.fields))), refl, sym (four_texts_regrouped (head_text ids c.head) (entries_text c.constants) (entries_text c.statics) (entries_text c.fields)));
     })
 
 class_taken : (ids : IdSize) (bytes rest : List ℕ) (x : Sub × List ℕ) → IsBytes rest → bytes ≡ u1 0x20 ++ rest → class_sub_parts ids rest ≡ Ok x → IsSubRecordTaken ids bytes x

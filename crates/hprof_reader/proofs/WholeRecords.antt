@@ -19,7 +19,7 @@ record_fields_reader =
     (λ tag _. reader_of_two_in_turn (to_be_bytes w32) (λ n. n < 2 ^ 32) (number_at w32) _ _ _ number
     (λ time _. reader_of_two_in_turn (to_be_bytes w32) (λ n. n < 2 ^ 32) (number_at w32) (λ size b. b) (λ size b. length b ≡ size) taken_at number (λ size _. bytes_reader size)))
 
-four_texts_regrouped : (t s z b : List ℕ) → t ++ (s ++ (z ++ b)) ≡ t ++ s ++ z ++ b
+pub four_texts_regrouped : (t s z b : List ℕ) → t ++ (s ++ (z ++ b)) ≡ t ++ s ++ z ++ b
 four_texts_regrouped t s z b = sym (append_assoc t s (z ++ b)) ∙ sym (append_assoc (t ++ s) z b)
 
 record_made : (x : ℕ × (ℕ × (ℕ × List ℕ))) → RecordFieldsFit x → (fields_text x ≡ record_text (made_record x)) × FitsRecord (made_record x)

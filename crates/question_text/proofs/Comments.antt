@@ -4,15 +4,15 @@ use Rattle.std.specs.Prelude.{Option, codes, slice_index, take}
 use Rattle.std.specs.Option.{option_or}
 use Rattle.std.specs.Str.{bytes_eq}
 use Rattle.std.proofs.lemmas.Slice.Eq.{bytes_eq-Decides}
+use Rattle.heap_class.specs.Classes.{Class}
 use Rattle.heap_world.specs.State.{HeapState}
 use Rattle.session_grammar.specs.declared.command.Command.TheVariants.{Bad}
 use Rattle.session_grammar.specs.Grammar.{access_rules, all_rules, by_rule, class_rules, command_of_text, command_of_words, making_rules, marking_rules, session_rules, words_of_line}
-use Rattle.session_text.specs.declared.commands.Local.{Local}
 use Rattle.question_text.specs.declared.asking.Asking.{Asking}
 use Rattle.question_text.specs.declared.question.Question.{Question}
 use Rattle.question_text.specs.Answers.{IsAnswerOf}
 use Rattle.question_text.specs.declared.order.Order.{Order}
-use Rattle.question_text.specs.Orders.{order_of, order_of_words}
+use Rattle.question_text.specs.Orders.{order_in, order_of_two, order_of_words}
 use Rattle.question_text.specs.Comments.{is_comment, is_comment_words, unasked_text}
 use Rattle.question_text.specs.Help.{help_or_bad}
 use Rattle.question_text.specs.NamedLines.{named_question_of_words, named_rules, question_in}
@@ -65,14 +65,14 @@ asks_none_in : (state : HeapState) (l : List ℕ) → is_comment l ≡ true → 
 asks_none_in state l e =
     ap₂ (λ (p q : Option Question). option_or p q) (asks_none (words_of_line l) e) (asks_none_by_names state (words_of_line l) e)
 
-orders_none : (ws : List (List ℕ)) → is_comment_words ws ≡ true → order_of_words ws ≡ None
-unfolding order_of_words
-orders_none [] e = absurd (cc e)
-orders_none ([] ∷ ws) e = absurd (cc e)
-orders_none ((b ∷ v) ∷ []) e =
-    subst (λ (x : ℕ). order_of_words ((x ∷ v) ∷ []) ≡ None) (sym (first_byte b v e)) refl
-orders_none ((b ∷ v) ∷ w ∷ ws) e =
-    subst (λ (x : ℕ). order_of_words ((x ∷ v) ∷ w ∷ ws) ≡ None) (sym (first_byte b v e)) refl
+orders_none : (classes : List Class) (ws : List (List ℕ)) → is_comment_words ws ≡ true → order_of_words classes ws ≡ None
+unfolding order_of_words order_of_two
+orders_none classes [] e = absurd (cc e)
+orders_none classes ([] ∷ ws) e = absurd (cc e)
+orders_none classes ((b ∷ v) ∷ []) e =
+    subst (λ (x : ℕ). order_of_words classes ((x ∷ v) ∷ []) ≡ None) (sym (first_byte b v e)) refl
+orders_none classes ((b ∷ v) ∷ w ∷ ws) e =
+    subst (λ (x : ℕ). order_of_words classes ((x ∷ v) ∷ w ∷ ws) ≡ None) (sym (first_byte b v e)) refl
 
 -- ---- no answer, and no change
 
@@ -83,12 +83,12 @@ no_text l e = go (is_comment l) e
     go true h = refl
     go false h = absurd (cc h)
 
-local_silent : (order : Option Order) (l text : List ℕ) (c d : Local) → order ≡ None → is_comment l ≡ true → AnswersLine order l c text d → (text ≡ []) × (d ≡ c)
-local_silent (Some o) l text c d h e a = absurd (cc h)
-local_silent None l text c d h e a =
-    (subst (λ (q : Option Question). IsAnswerOf q l c.machine None text) (asks_none_in c.machine.trail.current l e) a.0 ∙ no_text l e, a.1)
+asking_silent : (order : Option Order) (l text : List ℕ) (c d : Asking) → order ≡ None → is_comment l ≡ true → AnswersLine order l c text d → (text ≡ []) × (d ≡ c)
+asking_silent (Some o) l text c d h e a = absurd (cc h)
+asking_silent None l text c d h e a =
+    (subst (λ (q : Option Question). IsAnswerOf q l c.local.machine None text) (asks_none_in c.local.machine.trail.current l e) a.0 ∙ no_text l e, a.1)
 
 pub comment_silent : (l text : List ℕ) (c d : Asking) → is_comment l ≡ true → AskingAnswers l c text d → (text ≡ []) × (d ≡ c)
 comment_silent l text c d e a =
-    let local = local_silent (order_of l) l text c.local d.local (orders_none (words_of_line l) e) e a.0
-    in (local.0, ap₂ (λ own watch. record { local = own; watch = watch }) local.1 a.1)
+    let state = c.local.machine.trail.current in
+    asking_silent (order_in state l) l text c d (orders_none state.classes (words_of_line l) e) e a.0

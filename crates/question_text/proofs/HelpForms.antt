@@ -17,3 +17,7 @@ each_question = (refl, (refl, (refl, (refl, (refl, (refl, (refl, (refl, (refl, (
 pub collect_line : HasForm (codes "collect")
 unfolding form_with write_forms act_forms question_forms
 collect_line = refl
+
+pub forward_line : HasForm (codes "forward")
+unfolding form_with write_forms act_forms question_forms
+forward_line = refl

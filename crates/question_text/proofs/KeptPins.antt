@@ -1,16 +1,13 @@
 -- No question changes the first number of the pins that are opened through the commands.
-use Rattle.std.proofs.Common.{◌≡◌, ℕ, List, Option, Some, None, ap}
-use Rattle.session_text.specs.declared.commands.Local.{Local}
+use Rattle.std.proofs.Common.{◌≡◌, List, Option, Some, None, ℕ, ap}
 use Rattle.question_text.specs.declared.asking.Asking.{Asking}
 use Rattle.question_text.specs.declared.order.Order.{Order}
-use Rattle.question_text.specs.declared.order.Order.TheVariants.{Collect, RewindTo}
-use Rattle.question_text.specs.Orders.{order_of}
+use Rattle.question_text.specs.Orders.{order_in}
 use Rattle.question_text.specs.Sessions.{AnswersLine, AskingAnswers}
 
-line_same : (order : Option Order) (l : List ℕ) (c : Local) (text : List ℕ) (d : Local) → AnswersLine order l c text d → d.first_pin ≡ c.first_pin
-line_same (Some Collect) l c text d h = h.1
-line_same (Some (RewindTo place)) l c text d h = h.1
-line_same None l c text d h = ap (λ (x : Local). x.first_pin) h.1
+line_same : (order : Option Order) (l : List ℕ) (c : Asking) (text : List ℕ) (d : Asking) → AnswersLine order l c text d → d.local.first_pin ≡ c.local.first_pin
+line_same (Some order) l c text d h = h.1
+line_same None l c text d h = ap (λ (x : Asking). x.local.first_pin) h.1
 
 pub line_keeps : (l : List ℕ) (c : Asking) (text : List ℕ) (d : Asking) → AskingAnswers l c text d → d.local.first_pin ≡ c.local.first_pin
-line_keeps l c text d h = line_same (order_of l) l c.local text d.local h.0
+line_keeps l c text d h = line_same (order_in c.local.machine.trail.current l) l c text d h.0

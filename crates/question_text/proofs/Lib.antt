@@ -22,5 +22,8 @@ pub mod StatusRows
 pub mod WaitingRegions
 pub mod CycleSteps
 pub mod KeptPins
+pub mod RetakenSteps
+pub mod NotedSteps
 pub mod QuestionsLeftOut
+pub mod KeptRedos
 pub mod JoinedDump

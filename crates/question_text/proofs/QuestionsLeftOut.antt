@@ -1,8 +1,9 @@
 -- A session with questions, and the lines of it that are no questions.
-use Rattle.std.proofs.Common.{◌≡◌, ◌∙◌, ℕ, Bool, true, false, cond, Option, Some, None, List, [], ◌∷◌, ◌++◌, refl, sym, ap, subst, true≢false}
+use Rattle.std.proofs.Common.{◌≡◌, ◌∙◌, ℕ, Bool, true, false, cond, Option, Some, None, List, [], ◌∷◌, ◌++◌, zero, suc, inl, inr, refl, sym, ap, subst, true≢false}
 use Rattle.std.specs.Prelude.{◌||◌, Result, Ok, Err}
 use Rattle.std.proofs.lemmas.List.{append-nil}
 use Rattle.heap_class.specs.declared.Refusal.{Refusal}
+use Rattle.heap_trail.specs.declared.Action.{Action}
 use Rattle.heap_trail.specs.declared.Action.TheVariants.{Step, Rewind}
 use Rattle.heap_trail.specs.declared.Reply.TheVariants.{Answered}
 use Rattle.heap_trail.specs.Machine.{Machine}
@@ -23,9 +24,10 @@ use Rattle.question_text.specs.declared.asking.Asking.{Asking}
 use Rattle.question_text.specs.declared.cycle.CycleCounts.{CycleCounts}
 use Rattle.question_text.specs.Collections.{AreNext, NoneDenies, RunsCycle, TakenStep, ends_cycle}
 use Rattle.question_text.specs.declared.order.Order.{Order}
-use Rattle.question_text.specs.declared.order.Order.TheVariants.{Collect, RewindTo}
+use Rattle.question_text.specs.declared.order.Order.TheVariants.{Act, Collect, Forward, ForwardTo, RewindTo}
 use Rattle.question_text.specs.Histories.{steps_ago}
-use Rattle.question_text.specs.Orders.{RewindsBy, order_of}
+use Rattle.question_text.specs.Orders.{ActsOnce, Does, GoesOnBy, RewindsBy, order_in, steps_on}
+use Rattle.question_text.specs.Redos.{GoesForward, GoesOn, Redo, TakesAgain, retaken}
 use Rattle.question_text.specs.Sessions.{AnswersEach, AnswersLine, AskingActs, AskingAnswers, IsDriven, IsSessionOf, AnswersAlone, NoneOrders, is_known, known_of, lines_of, texts_of}
 
 -- ---- the text of each line
@@ -39,20 +41,20 @@ each_of limits says (l ∷ ls) c text d t =
 
 -- ---- known commands
 
-known_is : (k : Command) → is_known k ≡ true → IsKnown k
+pub known_is : (k : Command) → is_known k ≡ true → IsKnown k
 known_is Bad h = absurd (true≢false (sym h))
 known_is _ h = tt
 
-unknown_is : (k : Command) → is_known k ≡ false → k ≡ Bad
+pub unknown_is : (k : Command) → is_known k ≡ false → k ≡ Bad
 unknown_is Bad h = refl
 unknown_is _ h = absurd (true≢false h)
 
 -- ---- without questions
 
 -- a question leaves the machine and its pins
-question_leaves : (order : Option Order) (l text : List ℕ) (c d : Local) → order ≡ None → AnswersLine order l c text d → d ≡ c
+question_leaves : (order : Option Order) (l text : List ℕ) (c d : Asking) → order ≡ None → AnswersLine order l c text d → d.local ≡ c.local
 question_leaves (Some o) l text c d e h = absurd (cc e)
-question_leaves None l text c d e h = h.1
+question_leaves None l text c d e h = ap (λ (x : Asking). x.local) h.1
 
 abbrev pub Says : ℕ → AnswerRelation Asking
 Says time = AnswersCommand AskingActs AskingAnswers time
@@ -60,7 +62,7 @@ Says time = AnswersCommand AskingActs AskingAnswers time
 abbrev pub Alone : ℕ → AnswerRelation Local
 Alone time = AnswersCommand acts all_bad time
 
-one_known : (limits : SessionLimits) (time : ℕ) (a : List ℕ × List ℕ) (c between : Asking) (d : Local) (known : List (List ℕ × List ℕ)) → IsLine limits a.0 → order_of (without_cr a.0) ≡ None → Says time a.0 c a.1 between
+one_known : (limits : SessionLimits) (time : ℕ) (a : List ℕ × List ℕ) (c between : Asking) (d : Local) (known : List (List ℕ × List ℕ)) → IsLine limits a.0 → order_in c.local.machine.trail.current (without_cr a.0) ≡ None → Says time a.0 c a.1 between
     → AnswersAll limits (Alone time) (lines_of known) between.local (texts_of known) d → (b : Bool) → is_known (command_of a.0) ≡ b
     → AnswersAll limits (Alone time) (lines_of (cond b (a ∷ known) known)) c.local (texts_of (cond b (a ∷ known) known)) d
 one_known limits time a c between d known line none says rest true h = (
@@ -68,20 +70,20 @@ one_known limits time a c between d known line none says rest true h = (
   between.local,
   texts_of known,
   line,
-  answer_stands (λ (x : Asking). x.local) AskingActs acts (AskingAnswers (without_cr a.0)) (all_bad (without_cr a.0)) (λ x action r y e. e) time (command_of a.0) c a.1 between (known_is (command_of a.0) h) says,
+  answer_stands (λ (x : Asking). x.local) AskingActs acts (AskingAnswers (without_cr a.0)) (all_bad (without_cr a.0)) (λ x action r y e. (e.0, e.1)) time (command_of a.0) c a.1 between (known_is (command_of a.0) h) says,
   rest,
   refl,
 )
 one_known limits time a c between d known line none says rest false h =
     let unknown : AskingAnswers (without_cr a.0) c a.1 between = subst (λ (k : Command). AnswersTo AskingActs (AskingAnswers (without_cr a.0)) time k c a.1 between) (unknown_is (command_of a.0) h) says in
-    let same = question_leaves (order_of (without_cr a.0)) (without_cr a.0) a.1 c.local between.local none unknown.0 in
+    let same = question_leaves (order_in c.local.machine.trail.current (without_cr a.0)) (without_cr a.0) a.1 c between none unknown.0 in
     subst (λ (x : Local). AnswersAll limits (Alone time) (lines_of known) x (texts_of known) d) same rest
 
 known_answers : (limits : SessionLimits) (time : ℕ) (answered : List (List ℕ × List ℕ)) (c d : Asking) → NoneOrders (lines_of answered) → AnswersEach limits (Says time) answered c d
     → AnswersAll limits (Alone time) (lines_of (known_of answered)) c.local (texts_of (known_of answered)) d.local
 known_answers limits time [] c d none t = (refl, ap (λ (x : Asking). x.local) t)
 known_answers limits time (a ∷ answered) c d none t =
-    one_known limits time a c t.0 d.local (known_of answered) t.1 none.0 t.2 (known_answers limits time answered t.0 d none.1 t.3) (is_known (command_of a.0)) refl
+    one_known limits time a c t.0 d.local (known_of answered) t.1 (none.0 c.local.machine.trail.current) t.2 (known_answers limits time answered t.0 d none.1 t.3) (is_known (command_of a.0)) refl
 
 session_alone : (limits : SessionLimits) (time : ℕ) (answered : List (List ℕ × List ℕ)) (c d : Local) → AnswersAll limits (Alone time) (lines_of answered) c (texts_of answered) d → IsSessionOf limits time c.machine answered d.machine
 unfolding session_of
@@ -111,21 +113,47 @@ cycle_driven : (m x n : Machine) (steps : List TakenStep) (cycle : Result CycleC
 cycle_driven m x n steps (Ok c) h d = driven_on m false true x n steps h.0.0 d
 cycle_driven m x n steps (Err e) h d = driven_on m false h.0 x n steps h.1 d
 
-rewind_driven : (m x n : Machine) (back : Result ℕ Refusal) (text : List ℕ) → RewindsBy back x text n → IsDriven m x → IsDriven m n
-rewind_driven m x n (Ok count) text h d = (d.0 ++ Rewind count ∷ [], d.1 ++ h.0 ∷ [], driven_more m d.0 d.1 x n (Rewind count) h.0 d.2 h.1)
-rewind_driven m x n (Err e) text h d = subst (IsDriven m) (sym h.1) d
+act_driven : (m x n : Machine) (r r' : Redo) (a : Action) (text : List ℕ) → ActsOnce a x r text n r' → IsDriven m x → IsDriven m n
+act_driven m x n r r' a text h d = (d.0 ++ a ∷ [], d.1 ++ h.0 ∷ [], driven_more m d.0 d.1 x n a h.0 d.2 h.1)
 
-unknown_driven : (m : Machine) (order : Option Order) (l text : List ℕ) (c d : Local) → AnswersLine order l c text d → IsDriven m c.machine → IsDriven m d.machine
-unknown_driven m (Some Collect) l text c d h p = cycle_driven m c.machine d.machine h.0.0 h.0.1 h.0.2 p
-unknown_driven m (Some (RewindTo place)) l text c d h p = rewind_driven m c.machine d.machine (steps_ago (Some place) c.machine.trail) text h.0 p
-unknown_driven m None l text c d h p = subst (λ (x : Local). IsDriven m x.machine) (sym h.1) p
+rewind_driven : (m x n : Machine) (r r' : Redo) (back : Result ℕ Refusal) (text : List ℕ) → RewindsBy back x r text n r' → IsDriven m x → IsDriven m n
+rewind_driven m x n r r' (Ok count) text h d = act_driven m x n r r' (Rewind count) text h d
+rewind_driven m x n r r' (Err e) text h d = subst (IsDriven m) (sym h.1) d
+
+steps_driven : (count : ℕ) (m x n : Machine) (r r' : Redo) → TakesAgain count x r n r' → IsDriven m x → IsDriven m n
+steps_driven zero m x n r r' h d = subst (IsDriven m) (sym h.0) d
+steps_driven (suc count) m x n r r' h d =
+    steps_driven count m h.2 n (retaken r) r' h.5 (d.0 ++ Step h.0 ∷ [], d.1 ++ Answered h.1 ∷ [], driven_more m d.0 d.1 x h.2 (Step h.0) (Answered h.1) d.2 h.4)
+
+on_driven : (count : ℕ) (m x n : Machine) (r r' : Redo) (text : List ℕ) → GoesOn count x r text n r' → IsDriven m x → IsDriven m n
+on_driven count m x n r r' text (inl h) d = steps_driven count m x n r r' h.0 d
+on_driven count m x n r r' text (inr h) d = steps_driven h.1.0 m x n r r' h.1.2 d
+
+forward_driven : (count : ℕ) (m x n : Machine) (r r' : Redo) (text : List ℕ) → GoesForward count x r text n r' → IsDriven m x → IsDriven m n
+forward_driven count m x n r r' text (inl h) d = on_driven count m x n r r' text h.1 d
+forward_driven count m x n r r' text (inr h) d = subst (IsDriven m) (sym h.2) d
+
+forward_to_driven : (on : Result ℕ Refusal) (m x n : Machine) (r r' : Redo) (text : List ℕ) → GoesOnBy on x r text n r' → IsDriven m x → IsDriven m n
+forward_to_driven (Ok count) m x n r r' text h d = on_driven count m x n r r' text h d
+forward_to_driven (Err e) m x n r r' text h d = subst (IsDriven m) (sym h.1) d
+
+order_driven : (m : Machine) (order : Order) (x n : Machine) (r r' : Redo) (text : List ℕ) → Does order x r text n r' → IsDriven m x → IsDriven m n
+order_driven m Collect x n r r' text h d = cycle_driven m x n h.0 h.1 h.2 d
+order_driven m (RewindTo place) x n r r' text h d = rewind_driven m x n r r' (steps_ago (Some place) x.trail) text h d
+order_driven m (Forward count) x n r r' text h d = forward_driven count m x n r r' text h d
+order_driven m (ForwardTo place) x n r r' text h d = forward_to_driven (steps_on place x.trail r) m x n r r' text h d
+order_driven m (Act e) x n r r' text h d = act_driven m x n r r' (Step e) text h d
+
+unknown_driven : (m : Machine) (order : Option Order) (l text : List ℕ) (c d : Asking) → AnswersLine order l c text d → IsDriven m c.local.machine → IsDriven m d.local.machine
+unknown_driven m (Some order) l text c d h p = order_driven m order c.local.machine d.local.machine c.redo d.redo text h.0 p
+unknown_driven m None l text c d h p = subst (λ (x : Asking). IsDriven m x.local.machine) (sym h.1) p
 
 line_driven : (m : Machine) (time : ℕ) (l : List ℕ) (c : Asking) (text : List ℕ) (d : Asking) (b : Bool) → is_known (command_of l) ≡ b → Says time l c text d → IsDriven m c.local.machine → IsDriven m d.local.machine
 line_driven m time l c text d true h says p =
     answer_keeps AskingActs (AskingAnswers (without_cr l)) (λ (x : Asking). IsDriven m x.local.machine) (λ x a r y e q. (q.0 ++ a ∷ [], q.1 ++ r ∷ [], driven_more m q.0 q.1 x.local.machine y.local.machine a r q.2 e.0)) time (command_of l) c text d (known_is (command_of l) h) says p
 line_driven m time l c text d false h says p =
     let unknown : AskingAnswers (without_cr l) c text d = subst (λ (k : Command). AnswersTo AskingActs (AskingAnswers (without_cr l)) time k c text d) (unknown_is (command_of l) h) says in
-    unknown_driven m (order_of (without_cr l)) (without_cr l) text c.local d.local unknown.0 p
+    unknown_driven m (order_in c.local.machine.trail.current (without_cr l)) (without_cr l) text c d unknown.0 p
 
 lines_driven : (limits : SessionLimits) (m : Machine) (time : ℕ) (lines : List (List ℕ)) (c : Asking) (text : List ℕ) (d : Asking) → AnswersAll limits (Says time) lines c text d → IsDriven m c.local.machine → IsDriven m d.local.machine
 lines_driven limits m time [] c text d t p = subst (λ (x : Asking). IsDriven m x.local.machine) (sym t.1) p

@@ -164,9 +164,3 @@ abbrev pub RunsCycle : (Refusal → Type 0) → Machine → List TakenStep → R
     → Machine → Type 0
 RunsCycle Denies m steps (Ok c) n = IsWholeCycle m steps c.condemned c.swept n
 RunsCycle Denies m steps (Err e) n = StopsAt Denies false m steps e n
-
--- the answer of `collect`, which takes steps: those of a whole cycle, or up to one that was refused, whose refusal is the answer
-abbrev pub Collects : (Refusal → Type 0) → Machine → List ℕ → Machine → Type 0
-Collects Denies m text n =
-    (steps : List TakenStep) × (cycle : Result CycleCounts Refusal)
-    × RunsCycle Denies m steps cycle n × IsCycleAnswer cycle text

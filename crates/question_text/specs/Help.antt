@@ -14,7 +14,7 @@ pub record LineForm : Type 0 where
 abbrev form_of : List ℕ → List ℕ → List ℕ → LineForm
 form_of key form example = record { key = key; form = form; example = example }
 
--- questions, `collect` and `help`
+-- questions, `collect`, `forward` and `help`
 unfoldable pub question_forms : List LineForm
 question_forms =
     form_of (codes "histogram") (codes "histogram [AT]") (codes "histogram -")
@@ -49,6 +49,7 @@ question_forms =
     ∷ form_of (codes "regions") (codes "regions") (codes "regions")
     ∷ form_of (codes "status") (codes "status") (codes "status")
     ∷ form_of (codes "collect") (codes "collect") (codes "collect")
+    ∷ form_of (codes "forward") (codes "forward N|@P") (codes "forward 1")
     ∷ form_of (codes "help") (codes "help WORD") (codes "help path")
     ∷ []
 

@@ -34,6 +34,7 @@ pub mod Histories
 pub mod Help
 pub mod Comments
 pub mod Collections
+pub mod Redos
 pub mod Orders
 pub mod NameWords
 pub mod NamedLines

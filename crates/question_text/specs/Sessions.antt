@@ -4,6 +4,7 @@ use Rattle.std.specs.List.{AllByRecursion}
 use Rattle.heap_trail.specs.declared.Action.{Action}
 use Rattle.heap_trail.specs.declared.Reply.{Reply}
 use Rattle.heap_trail.specs.Machine.{Allocation, Machine, MayDrive}
+use Rattle.heap_world.specs.State.{HeapState}
 use Rattle.session_grammar.specs.declared.command.Command.{Command}
 use Rattle.session_grammar.specs.declared.command.Command.TheVariants.{Bad}
 use Rattle.session_grammar.specs.Grammar.{command_of, without_cr}
@@ -17,32 +18,37 @@ use Rattle.session_text.specs.Dumps.{Acts}
 use Rattle.session_text.specs.Inlets.{Incoming}
 use Rattle.session_text.specs.Local.{LocalActs}
 use Rattle.session_text.specs.Talks.{IsLine, Serves, stream}
-use Rattle.session_text.specs.declared.commands.Local.{Local}
 use Rattle.session_text.specs.declared.limits.SessionLimits.{SessionLimits}
 use Rattle.question_text.specs.declared.asking.Asking.{Asking}
 use Rattle.question_text.specs.Answers.{IsAnswerOfLine}
-use Rattle.question_text.specs.Collections.{Collects, NoneDenies}
 use Rattle.question_text.specs.declared.order.Order.{Order}
-use Rattle.question_text.specs.declared.order.Order.TheVariants.{Collect, RewindTo}
-use Rattle.question_text.specs.Orders.{RewindsTo, order_of}
+use Rattle.question_text.specs.Collections.{TakenStep}
+use Rattle.question_text.specs.Orders.{Does, order_in}
+use Rattle.question_text.specs.Redos.{noted, with_steps}
 
--- an action, as without questions
+-- an action, as without questions, which is noted
 abbrev pub AskingActs : Acts Asking
 AskingActs c a r d =
     LocalActs c.local.machine a r d.local.machine × (d.local.first_pin ≡ c.local.first_pin)
+    × (d.redo ≡ noted a r c.redo)
 
--- `collect` takes steps, `rewind @P` undoes some, and no other line changes anything
-abbrev pub AnswersLine : Option Order → AnswerRelation Local
-AnswersLine (Some Collect) l c text d =
-    Collects NoneDenies c.machine text d.machine × (d.first_pin ≡ c.first_pin)
-AnswersLine (Some (RewindTo place)) l c text d =
-    RewindsTo place c.machine text d.machine × (d.first_pin ≡ c.first_pin)
-AnswersLine None l c text d = IsAnswerOfLine l c.machine None text × (d ≡ c)
+-- these steps were noted since
+abbrev pub HasNoted : Asking → List TakenStep → Asking → Type 0
+HasNoted c steps d =
+    (d.redo ≡ with_steps steps c.redo) × (d.local.first_pin ≡ c.local.first_pin)
+    × (d.watch ≡ c.watch)
+
+-- an order does what it asks, and no other line changes anything
+abbrev pub AnswersLine : Option Order → AnswerRelation Asking
+AnswersLine (Some order) l c text d =
+    Does order c.local.machine c.redo text d.local.machine d.redo
+    × (d.local.first_pin ≡ c.local.first_pin)
+AnswersLine None l c text d = IsAnswerOfLine l c.local.machine None text × (d ≡ c)
 
 -- the answer of a line that the grammar of sessions doesn't know
 abbrev pub AskingAnswers : AnswerRelation Asking
 AskingAnswers l c text d =
-    AnswersLine (order_of l) l c.local text d.local × (d.watch ≡ c.watch)
+    AnswersLine (order_in c.local.machine.trail.current l) l c text d × (d.watch ≡ c.watch)
 
 -- a session with questions, which may have at most this
 abbrev pub ServesAsking : SessionLimits → ℕ → Incoming → Incoming → Asking → Outgoing → Asking
@@ -77,9 +83,10 @@ texts_of answered = flat_map (λ a. a.1) answered
 abbrev pub known_of : List (List ℕ × List ℕ) → List (List ℕ × List ℕ)
 known_of answered = filter (λ a. is_known (command_of a.0)) answered
 
--- no line is `collect` or `rewind @P`
+-- no line is an order in any state
 abbrev pub NoneOrders : List (List ℕ) → Type 0
-NoneOrders lines = AllByRecursion (λ (l : List ℕ). order_of (without_cr l) ≡ None) lines
+NoneOrders lines =
+    AllByRecursion (λ (l : List ℕ). (state : HeapState) → order_in state (without_cr l) ≡ None) lines
 
 -- these lines alone, under some marks of failed allocations, make the session that leads from m to n and has these answers
 abbrev pub IsSessionOf : SessionLimits → ℕ → Machine → List (List ℕ × List ℕ) → Machine → Type 0

@@ -1,35 +1,83 @@
 //! Commands with questions.
+ghost use Rattle.std.specs.Prelude.{◌≡◌, ◌≤◌, min, IfErr, IfOk};
+ghost use Rattle.heap_class.specs.declared.Refusal.TheVariants.{NoMemory};
 ghost use Rattle.session_text.specs.Replies.{line_answer_text};
-ghost use Rattle.question_text.specs.Orders.{order_of};
+ghost use Rattle.question_text.specs.Orders.{Does, order_in};
+ghost use Rattle.question_text.specs.Redos.{no_redo, redo_limit};
 ghost use Rattle.question_text.specs.Sessions.{AnswersLine};
 
 use crate::answers::answer_line;
 use crate::cycle::collect;
-use crate::order::{Order, order_of, rewind_to};
+use crate::forward::{forward, forward_to};
+use crate::order::{Order, order_in, rewind_to, take_step};
+use crate::redo::Redo;
 use crate::watch::Watch;
+use heap_class::Refusal;
 use heap_step::IntoEvent;
 use heap_trail::{Action, Reply};
 use session_text::{Commands, LineAnswer, Local};
 use std::alloc::Global;
 
-/// A private machine that acts on the lines of a session, and answers questions about itself, `collect`, `rewind @P` and `help`.
+// The largest number of steps that are kept to be taken again.
+const REDO_LIMIT: u64 = 65_536;
+
+/// A private machine that acts on the lines of a session, and answers questions about itself, `help`, and the lines that `Order`
+/// has.
 #[derive(Drop)]
 pub struct Asking<'a> {
     /// The machine.
     pub local: Local,
     /// What readers beside the session see of it.
     pub watch: &'a Watch,
+    /// The steps that can be taken again.
+    pub redo: Redo,
 }
 
-// Answers a line that the grammar of sessions doesn't know.
-fn answer_question(alloc: Global, local: &mut Local, line: &[u8]) -> LineAnswer
-    ensures { AnswersLine (order_of line.now) line.now local.old (line_answer_text result)
-        local.new }
-{
-    match order_of(line) {
-        Some(Order::Collect) => collect(alloc, &mut local.machine),
-        Some(Order::RewindTo(place)) => rewind_to(&mut local.machine, place),
-        None => answer_line(alloc, &local.machine, None, line),
+impl<'a> Asking<'a> {
+    /// Creates the commands of a machine that retains up to `keep` steps. As many can be taken again, at most 65,536. Fails with
+    /// NoMemory.
+    pub fn new(
+        alloc: Global,
+        local: Local,
+        watch: &'a Watch,
+        keep: u64,
+    ) -> Result<Asking<'a>, Refusal>
+        ensures local { IfOk result (λ c. c.local ≡ local) }
+        ensures none { IfOk result (λ c. c.redo ≡ no_redo (min keep redo_limit)) }
+        ensures refused { IfErr result (λ e. e ≡ NoMemory) }
+    {
+        let redo = Redo::with_limit(alloc, keep.min(REDO_LIMIT) as usize)?;
+        Ok(Asking { local, watch, redo })
+    }
+
+    // Does what a line asks to be done, and returns the answer.
+    fn obey(&mut self, alloc: Global, order: Order) -> LineAnswer
+        ensures does { Does order self.old.local.machine self.old.redo (line_answer_text result)
+            self.new.local.machine self.new.redo }
+        ensures first { self.new.local.first_pin ≡ self.old.local.first_pin }
+        ensures watch { self.new.watch ≡ self.old.watch }
+    {
+        match order {
+            Order::Collect => collect(alloc, self),
+            Order::RewindTo(place) => rewind_to(&mut self.local.machine, &mut self.redo, place),
+            Order::Forward(count) => {
+                forward(alloc, &mut self.local.machine, &mut self.redo, count)
+            }
+            Order::ForwardTo(place) => forward_to(&mut self.local.machine, &mut self.redo, place),
+            Order::Act(event) => take_step(&mut self.local.machine, &mut self.redo, event),
+        }
+    }
+
+    // Answers a line that the grammar of sessions doesn't know.
+    fn answer_line(&mut self, alloc: Global, line: &[u8]) -> LineAnswer
+        ensures answers { AnswersLine (order_in self.old.local.machine.trail.current line.now)
+            line.now self.old (line_answer_text result) self.new }
+        ensures watch { self.new.watch ≡ self.old.watch }
+    {
+        match order_in(self.local.machine.world(), line) {
+            Some(order) => self.obey(alloc, order),
+            None => answer_line(alloc, &self.local.machine, None, line),
+        }
     }
 }
 
@@ -42,20 +90,24 @@ impl Commands for Asking<'_> {
 
     #[inline(always)]
     fn act(&mut self, action: Action) -> Reply {
-        let reply = self.local.act(action);
+        let reply = self.local.machine.act(&action);
+        self.redo.note(action, &reply);
         self.watch.note_reply(&self.local.machine, &reply);
         reply
     }
 
     #[inline(always)]
     fn step<E: IntoEvent>(&mut self, event: E) -> Reply {
-        let reply = self.local.step(event);
+        let reply = self.local.machine.reply_to(&event);
+        if matches!(reply, Reply::Answered(_)) {
+            self.redo.note_step(event.into_event());
+        }
         self.watch.note_reply(&self.local.machine, &reply);
         reply
     }
 
     fn answer_unknown(&mut self, alloc: Global, line: &[u8]) -> LineAnswer {
-        let answer = answer_question(alloc, &mut self.local, line);
+        let answer = self.answer_line(alloc, line);
         self.watch.note_answer(&self.local.machine, &answer);
         answer
     }

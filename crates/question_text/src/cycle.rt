@@ -4,14 +4,16 @@ ghost use Rattle.heap_class.specs.declared.Refusal.TheVariants.{NoMemory};
 ghost use Rattle.heap_mark.specs.MarkSteps.{pending_regions};
 ghost use Rattle.session_text.specs.Replies.{line_answer_text};
 ghost use Rattle.question_text.specs.Appends.{ReturnsText};
-ghost use Rattle.question_text.specs.Collections.{AreSwept, AreTaken, Collects, IsCycleAnswer, IsSwept, LeadOn, MarksLead, MayStop, MovesOn, NoneDenies, RunsCycle, StopsAt, collected_text, condemned_of, ends_cycle, next_mark, swept_of, waiting_region};
+ghost use Rattle.question_text.specs.Orders.{Collects};
+ghost use Rattle.question_text.specs.Collections.{AreSwept, AreTaken, IsCycleAnswer, IsSwept, LeadOn, MarksLead, MayStop, MovesOn, RunsCycle, StopsAt, collected_text, condemned_of, ends_cycle, next_mark, swept_of, waiting_region};
 
+use crate::asking::Asking;
 use crate::rows::{push_number, push_words};
 use crate::steps::Steps;
 use heap_class::Refusal;
 use heap_mark::first_pending;
 use heap_step::{Answer, Event};
-use heap_trail::{Machine, Reply};
+use heap_trail::Reply;
 use heap_world::World;
 use session_text::LineAnswer;
 use std::alloc::Global;
@@ -209,10 +211,13 @@ fn cycle_line(alloc: Global, counts: CycleCounts) -> Result<Vec<u8>, Refusal>
     Ok(text)
 }
 
-// Takes the steps of `collect` on a machine, and returns its answer.
-pub(crate) fn collect(alloc: Global, machine: &mut Machine) -> LineAnswer
-    ensures { Collects NoneDenies machine.old (line_answer_text result) machine.new }
+// Takes the steps of `collect`, and returns its answer.
+pub(crate) fn collect(alloc: Global, asking: &mut Asking<'_>) -> LineAnswer
+    ensures collects { Collects asking.old.local.machine asking.old.redo (line_answer_text result)
+        asking.new.local.machine asking.new.redo }
+    ensures first { asking.new.local.first_pin ≡ asking.old.local.first_pin }
+    ensures watch { asking.new.watch ≡ asking.old.watch }
 {
-    let cycle = run_cycle(machine, &mut ());
+    let cycle = run_cycle(asking, &mut ());
     collect_answer(alloc, cycle)
 }

@@ -1,7 +1,15 @@
 //! Questions as lines, and their answers.
 #![tactic(auto)]
 
-ghost use Rattle.std.specs.Prelude.{◌≡◌, ℕ, List, [], Some, None, codes, true};
+ghost use Rattle.std.specs.Prelude.{◌≡◌, ◌⊎◌, ◌≤◌, ◌+◌, ℕ, List, [], Some, None, codes, length, true};
+ghost use Rattle.heap_class.specs.declared.Refusal.{Refusal};
+ghost use Rattle.heap_class.specs.declared.Refusal.TheVariants.{NoMemory};
+ghost use Rattle.heap_trail.specs.declared.Action.{Action};
+ghost use Rattle.heap_trail.specs.declared.Action.TheVariants.{Rewind};
+ghost use Rattle.heap_trail.specs.declared.Reply.{Reply};
+ghost use Rattle.heap_trail.specs.declared.Reply.TheVariants.{Place};
+ghost use Rattle.heap_trail.specs.Laws.{IsTrail};
+ghost use Rattle.heap_trail.specs.Limits.{last_place};
 ghost use Rattle.heap_trail.specs.Machine.{Machine};
 ghost use Rattle.heap_world.specs.State.{HeapState};
 ghost use Rattle.session_grammar.specs.declared.command.Command.TheVariants.{Bad};
@@ -14,7 +22,10 @@ ghost use Rattle.question_text.specs.Comments.{is_comment};
 ghost use Rattle.question_text.specs.Help.{HasForm, help_of};
 ghost use Rattle.question_text.specs.NamedLines.{question_in};
 ghost use Rattle.question_text.specs.declared.order.Order.{Order};
-ghost use Rattle.question_text.specs.Orders.{order_of};
+ghost use Rattle.question_text.specs.declared.order.Order.TheVariants.{Forward};
+ghost use Rattle.question_text.specs.Moments.{refused_text};
+ghost use Rattle.question_text.specs.Orders.{order_in};
+ghost use Rattle.question_text.specs.Redos.{IsBackAt, IsRedoOf, Redo, StopsBefore, no_redo};
 ghost use Rattle.question_text.specs.Questions.{QuestionRule, question_of, question_rules};
 ghost use Rattle.question_text.specs.Sessions.{AnswersAlone, AskingActs, AskingAnswers, IsDriven, NoneOrders};
 ghost use Rattle.session_text.specs.Answers.{AnswersCommand};
@@ -34,6 +45,7 @@ mod cycle_list;
 mod diff;
 mod dominator_rows;
 mod first_place;
+mod forward;
 mod growth;
 mod help;
 mod histogram;
@@ -51,6 +63,7 @@ mod path;
 mod pin_list;
 mod place;
 mod question;
+mod redo;
 mod referrers;
 mod region_list;
 mod registers;
@@ -70,10 +83,12 @@ pub use answers::{answer, answer_line};
 pub use asking::Asking;
 pub use at::steps_ago;
 pub use cycle::{CycleCounts, collect_answer, run_cycle};
+pub use forward::nothing_to_redo;
 pub use help::{all_help, keyword_help, question_help};
 pub use names::push_row_name;
-pub use order::{Order, order_of};
+pub use order::{Order, order_in};
 pub use question::{At, Question, at_of, question_of};
+pub use redo::Redo;
 pub use session::serve_asking;
 pub use state_dump::dump_at;
 pub use steps::Steps;
@@ -99,9 +114,10 @@ pub fn help_is_new()
     ensures { (l text : List ℕ) → help_of l ≡ Some text → command_of_text l ≡ Bad }
 {}
 
-/// States the same of the lines `collect` and `rewind @P`.
+/// States the same of the lines that change the heap: `collect`, `rewind @P`, `forward` and `new M R NAME`.
 pub fn orders_are_new()
-    ensures { (l : List ℕ) (o : Order) → order_of l ≡ Some o → command_of_text l ≡ Bad }
+    ensures { (state : HeapState) (l : List ℕ) (o : Order)
+        → order_in state l ≡ Some o → command_of_text l ≡ Bad }
 {}
 
 /// States the same of a comment: a line whose first word begins with `#`.
@@ -116,14 +132,14 @@ pub fn comments_are_silent()
 {}
 
 /// States that a question and a line that asks for help change nothing, nor does any other line that the grammar of sessions
-/// doesn't know, but `collect` and `rewind @P`.
+/// doesn't know, but `collect`, `rewind @P`, `forward` and `new M R NAME`.
 pub fn questions_change_nothing()
     ensures questions { (l text : List ℕ) (q : Question) (c d : Asking)
         → question_of l ≡ Some q → AskingAnswers l c text d → d ≡ c }
     ensures help { (l text answer : List ℕ) (c d : Asking)
         → help_of l ≡ Some answer → AskingAnswers l c text d → d ≡ c }
     ensures others { (l text : List ℕ) (c d : Asking)
-        → order_of l ≡ None → AskingAnswers l c text d → d ≡ c }
+        → order_in c.local.machine.trail.current l ≡ None → AskingAnswers l c text d → d ≡ c }
 {}
 
 /// States that the state determines the steps of `collect`: from one state two whole cycles take the same steps with the same
@@ -137,7 +153,7 @@ pub fn collect_is_determined()
 {}
 
 /// States that the lines of a session with questions that the grammar of sessions knows are answered, and leave the machine, as
-/// a session of these lines alone does, if none is `collect` or `rewind @P`.
+/// a session of these lines alone does, if none is `collect`, `rewind @P`, `forward` or `new M R NAME`.
 pub fn questions_can_be_left_out()
     ensures { (limits : SessionLimits) (time : ℕ) (lines : List (List ℕ)) (text : List ℕ)
         (c d : Asking) → NoneOrders lines
@@ -145,8 +161,8 @@ pub fn questions_can_be_left_out()
         → AnswersAlone limits time c.local.machine lines text d.local.machine }
 {}
 
-/// States that some list of actions leads to the machine that a session with questions leaves, `collect` and
-/// `rewind @P` included.
+/// States that some list of actions leads to the machine that a session with questions leaves, `collect`, `rewind @P`, `forward` and
+/// `new M R NAME` included.
 pub fn asking_session_is_list()
     ensures { (limits : SessionLimits) (time : ℕ) (lines : List (List ℕ)) (text : List ℕ)
         (c d : Asking) → AnswersAll limits
@@ -154,9 +170,39 @@ pub fn asking_session_is_list()
         → IsDriven c.local.machine d.local.machine }
 {}
 
-/// States that `help` knows the keyword of each line of the grammar of sessions, of each question, and `collect`.
+/// States that the steps that are kept as undone lead on from the current state to the newest one, whatever a session does, from
+/// its beginning on, at which none are.
+pub fn undone_steps_lead_on()
+    ensures begins { (m : Machine) (limit : ℕ) → IsTrail m.keep m.trail
+        → m.trail.place ≤ last_place → limit ≤ m.keep → IsRedoOf m (no_redo limit) }
+    ensures actions { (a : Action) (r : Reply) (c d : Asking) → AskingActs c a r d
+        → IsRedoOf c.local.machine c.redo → IsRedoOf d.local.machine d.redo }
+    ensures lines { (l text : List ℕ) (c d : Asking) → AskingAnswers l c text d
+        → IsRedoOf c.local.machine c.redo → IsRedoOf d.local.machine d.redo }
+    ensures sessions { (limits : SessionLimits) (time : ℕ) (lines : List (List ℕ))
+        (text : List ℕ) (c d : Asking)
+        → AnswersAll limits (AnswersCommand AskingActs AskingAnswers time) lines c text d
+        → IsRedoOf c.local.machine c.redo → IsRedoOf d.local.machine d.redo }
+{}
+
+/// States that a rewind of steps that are all kept, and then a `forward` of as many, give back the trail, with its place, states
+/// and records, and the undone steps, unless memory is refused to a step. Nothing else stops a `forward`.
+pub fn forward_takes_back()
+    ensures back { (n place : ℕ) (l text : List ℕ) (c d e : Asking)
+        → IsRedoOf c.local.machine c.redo → c.redo.ahead + n ≤ length c.redo.events
+        → AskingActs c (Rewind n) (Place place) d
+        → order_in d.local.machine.trail.current l ≡ Some (Forward n)
+        → AskingAnswers l d text e
+        → IsBackAt c.local.machine c.redo text e.local.machine e.redo
+        ⊎ (text ≡ refused_text NoMemory) }
+    ensures stops { (n : ℕ) (m k : Machine) (r s : Redo) (e : Refusal) → IsRedoOf m r
+        → StopsBefore n m r e k s → e ≡ NoMemory }
+{}
+
+/// States that `help` knows the keyword of each line of the grammar of sessions, of each question, of `collect` and `forward`.
 pub fn help_is_whole()
     ensures sessions { AllByRecursion (λ (r : Rule). HasForm r.0) all_rules }
     ensures questions { AllByRecursion (λ (r : QuestionRule). HasForm r.0) question_rules }
     ensures collect { HasForm (codes "collect") }
+    ensures forward { HasForm (codes "forward") }
 {}

@@ -1,4 +1,5 @@
 //! What `collect` takes its steps on.
+use crate::asking::Asking;
 use heap_class::Refusal;
 use heap_step::{Answer, Event};
 use heap_trail::Machine;
@@ -44,24 +45,31 @@ pub trait Steps {
             × LeadOn (since self.old by.old) [] (since self.new by.new)) };
 }
 
-impl Steps for Machine {
+impl Steps for Asking<'_> {
     ghost use Rattle.question_text.specs.Collections.{NoneDenies};
+    ghost use Rattle.question_text.specs.Sessions.{HasNoted};
 
     type By = ();
 
-    ghost seen = { λ m. m };
+    ghost seen = { λ c. c.local.machine };
 
     ghost may = { λ by. Unit {0} };
 
-    ghost since = { λ m by first first_by steps. Unit {0} };
+    ghost since = { λ c by first first_by steps. HasNoted first steps c };
 
     ghost denies = { NoneDenies };
 
     fn machine(&self) -> &Machine {
-        self
+        &self.local.machine
     }
 
     fn take(&mut self, _by: &mut (), event: Event) -> Result<Answer, Refusal> {
-        self.step(&event)
+        match self.local.machine.step(&event) {
+            Ok(answer) => {
+                self.redo.note_step(event);
+                Ok(answer)
+            }
+            Err(refusal) => Err(refusal),
+        }
     }
 }

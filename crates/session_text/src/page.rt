@@ -1,5 +1,5 @@
 //! Pages: text that isn't written yet.
-ghost use Rattle.std.specs.Prelude.{◌≡◌, ◌+◌, ◌*◌, ◌≤◌, ◌++◌, [], take, length, IfOk};
+ghost use Rattle.std.specs.Prelude.{◌≡◌, ◌+◌, ◌*◌, ◌≤◌, ◌++◌, [], codes, take, length, IfOk};
 ghost use Rattle.hex.specs.Hex.{encode_lower};
 ghost use Rattle.session_text.specs.Replies.{and_number};
 ghost use Rattle.session_text.specs.declared.page.TheConstants.{NUMBER_LIMIT, PAGE_LIMIT};
@@ -74,6 +74,16 @@ impl Page {
         self.used += 2 * given.len();
     }
 
+    /// Adds a text, the lower-case hexadecimal digits of some bytes and LF, for which there must be room.
+    #[inline(always)]
+    pub fn add_hex_line(&mut self, text: &[u8], given: &[u8])
+        requires { length self.old + (length text.now + (2 * length given.now + 1)) ≤ PAGE_LIMIT }
+        ensures { self.new ≡ self.old ++ (text.now ++ (encode_lower given.now ++ codes "\n")) }
+    {
+        place_hex_line(&mut self.bytes, self.used, text, given);
+        self.used += text.len() + 2 * given.len() + 1;
+    }
+
     /// Adds a space and a number.
     pub fn add_number(&mut self, n: u64)
         requires { length self.old + NUMBER_LIMIT ≤ PAGE_LIMIT }
@@ -83,6 +93,19 @@ impl Page {
         self.add(b" ");
         self.add(itoa::Buffer::new().format(n).as_bytes());
     }
+}
+
+// Writes a text, hexadecimal digits and LF behind the bytes before a place.
+#[inline(always)]
+fn place_hex_line(bytes: &mut [u8], at: usize, text: &[u8], given: &[u8])
+    requires { at + (length text.now + (2 * length given.now + 1)) ≤ length bytes.old }
+    ensures { take (at + (length text.now + (2 * length given.now + 1))) bytes.new
+        ≡ take at bytes.old ++ (text.now ++ (encode_lower given.now ++ codes "\n")) }
+{
+    let digits = at + text.len();
+    place(bytes, at, text);
+    place_hex(bytes, digits, given);
+    place(bytes, digits + 2 * given.len(), b"\n");
 }
 
 // Writes a text behind the bytes before a place.

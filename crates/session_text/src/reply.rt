@@ -102,7 +102,11 @@ pub fn write_object<O: Outlet>(page: &mut Page, outlet: &mut O, id: u64) -> bool
     ensures { IsTextAdded (reply_text (Answered (Object id))) page.old (O.seen outlet.old)
         page.new (O.seen outlet.new) result }
 {
-    write_answer(page, outlet, Answer::Object(id))
+    if !make_room(page, outlet) {
+        return false;
+    }
+    page.add_hex_line(b"ok object 0x", &id.to_be_bytes()[4..]);
+    true
 }
 
 /// Adds a reply to a page, which is flushed whenever it is full. Returns false if a write failed.

@@ -95,11 +95,11 @@ fn push_cycle(cycles: &mut Vec<EndedCycle>, cycle: Option<EndedCycle>) -> Result
 
 // Returns the cycle that the step with this record ended, if it did, given the place that it led to, the number of dead objects
 // after it, and how many of them are left before the next such step.
-fn cycle_by(record: &Undo, place: u64, dead: u64, left: u64) -> Option<EndedCycle>
+fn cycle_by(undo: &Undo, place: u64, dead: u64, left: u64) -> Option<EndedCycle>
     requires { left ≤ dead }
-    ensures { result ≡ cycle_by record.now place dead left }
+    ensures { result ≡ cycle_by undo.now place dead left }
 {
-    match record {
+    match undo {
         Undo::Finish { .. } => Some(EndedCycle {
             place,
             condemned: dead,
@@ -111,10 +111,10 @@ fn cycle_by(record: &Undo, place: u64, dead: u64, left: u64) -> Option<EndedCycl
 
 // Returns how many of the dead objects before the step with this record are left before the next step that ends a cycle, from how
 // many of those after it are.
-fn left_before(record: &Undo, now: u64) -> u64
-    ensures { result ≡ left_before record.now now }
+fn left_before(undo: &Undo, now: u64) -> u64
+    ensures { result ≡ left_before undo.now now }
 {
-    match record {
+    match undo {
         Undo::Finish { .. } => 0,
         _ => now,
     }
@@ -122,11 +122,11 @@ fn left_before(record: &Undo, now: u64) -> u64
 
 // Returns the number of dead objects before the step with this record, from that after it: a sweep removed those that its record
 // has, and none was dead before a cycle ended.
-fn dead_before(record: &Undo, now: u64) -> u64
-    requires { dead_before record.now now ≤ dead_limit }
-    ensures { result ≡ dead_before record.now now }
+fn dead_before(undo: &Undo, now: u64) -> u64
+    requires { dead_before undo.now now ≤ dead_limit }
+    ensures { result ≡ dead_before undo.now now }
 {
-    match record {
+    match undo {
         Undo::Finish { .. } => 0,
         Undo::Sweep { dead, .. } => now + dead.len(),
         Undo::Reclaim { storage, .. } => now + count_region(storage).dead,

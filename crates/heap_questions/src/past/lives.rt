@@ -96,11 +96,11 @@ fn stands_in(world: &World, cell: Option<ObjRef>) -> bool
 
 // Tells whether an object stood in a cell, if there is one, before the step with this record. `now` says whether one with the same
 // id stands after it.
-fn stood_in(record: &Undo, cell: Option<ObjRef>, now: bool) -> bool
-    ensures { result ≡ stood_in record.now cell now }
+fn stood_in(left: &Undo, cell: Option<ObjRef>, now: bool) -> bool
+    ensures { result ≡ stood_in left.now cell now }
 {
     match cell {
-        Some(at) => stood_before(record, at, now),
+        Some(at) => stood_before(left, at, now),
         None => false,
     }
 }

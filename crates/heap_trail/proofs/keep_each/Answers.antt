@@ -2,7 +2,7 @@ use Rattle.std.proofs.Common.{◌≡◌, ◌+◌, length, sym, subst, arith, suc
 use Rattle.std.specs.Prelude.{slice_set}
 use Rattle.heap_trail.specs.OpenPins.{IsSizedPin, MayKeep}
 use Rattle.heap_trail.specs.declared.held.NumberedPin.{NumberedPin}
-use Rattle.heap_trail.proofs.EachPin.{KeptUpTo, pin_to_keep_is_sized, pins_kept_one_further, pins_kept_to_the_end, untouching_record_leaves_pins}
+use Rattle.heap_trail.proofs.EachPin.{KeptUpTo, pin_to_keep_is_sized, pins_kept_one_further, pins_kept_to_the_end}
 use Rattle.heap_trail.proofs.keep_each.Goals as goal
 
 pub keep-requires-clause-sized : goal.keep-requires-clause-sized
@@ -21,6 +21,3 @@ loop-i-preserved c =
 
 pub returns-after-loop-i : goal.returns-after-loop-i
 returns-after-loop-i c = pins_kept_to_the_end c.args.left.now c.args.world.now c.loop-i.i c.args.pins.now c.loop-i.pins c.loop-i.invariant (omega (arith, c.loop-i-test.false, c.loop-i.auto.pins))
-
-pub returns-in-None : goal.returns-in-None
-returns-in-None c = untouching_record_leaves_pins c.args.left.now c.args.world.now c.args.pins.now (sym c.touched_region.ensures ∙ c.in-None.is)

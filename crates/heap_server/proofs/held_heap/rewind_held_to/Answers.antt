@@ -1,19 +1,17 @@
 use Rattle.std.proofs.Common.{◌∙◌, ap}
-use Rattle.heap_lock.specs.LockStates.{SeatModel}
-use Rattle.heap_server.proofs.HeldSteps.{heap_rewind}
+use Rattle.std.specs.Prelude.{Some}
+use Rattle.heap_lock.specs.LockStates.{LockState, SeatModel}
+use Rattle.session_text.specs.Replies.{line_answer_text}
+use Rattle.question_text.specs.Histories.{steps_ago}
+use Rattle.heap_server.specs.JoinedAnswers.{RewindsHeld}
+use Rattle.heap_server.proofs.HeldSteps.{leaves_seen}
 use Rattle.heap_server.proofs.held_heap.rewind_held_to.Goals as goal
-
-pub reply_to_rewind-reply-requires : goal.reply_to_rewind-reply-requires
-reply_to_rewind-reply-requires g c = ap (λ (s : SeatModel). s.role) c.agree.ensures.seat ∙ c.requires
 
 pub returns-clause-rewinds : goal.returns-clause-rewinds
 returns-clause-rewinds g c =
-    heap_rewind g.L.Heap.config c.args.witness.now c.show-2.new.witness c.args.place c.reply_to_rewind-reply.result
-    c.args.kept.now c.agree.new.self c.show.new.self c.reply_to_rewind-reply.new.kept c.agree-2.new.self
-    c.args.seat.now c.agree.new.seat c.reply_to_rewind-reply.new.seat c.agree-2.new.seat
-    c.agree.ensures.share c.agree.ensures.same c.agree.ensures.seat c.show.ensures.heap c.show.ensures.begins c.show.ensures.same
-    c.reply_to_rewind-reply.ensures.rewinds
-    c.agree-2.ensures.share c.agree-2.ensures.same c.agree-2.ensures.seat c.show-2.ensures.heap c.show-2.ensures.witness
+    let a = c.answer_to_rewind-answer in
+    leaves_seen g.L.Heap.config (λ (last : LockState) (x : SeatModel). RewindsHeld g.L.Heap.config (steps_ago (Some c.args.place) c.args.kept.now.machine.trail) c.args.kept.now c.args.seat.now (line_answer_text a.result) last x)
+    a.new.kept a.new.seat c.see_all.new.seat c.see_all.new.witness a.ensures.rewinds c.see_all.ensures.heap c.see_all.ensures.seat c.see_all.ensures.sees
 
 pub returns-clause-role : goal.returns-clause-role
-returns-clause-role g c = ap (λ (s : SeatModel). s.role) c.agree-2.ensures.seat ∙ c.reply_to_rewind-reply.ensures.role
+returns-clause-role g c = ap (λ (s : SeatModel). s.role) c.see_all.ensures.seat ∙ c.answer_to_rewind-answer.ensures.role

@@ -12,5 +12,5 @@ returns-in_default-option_size c =
     let most = c.most_kept.ensures in
     let missing = c.in_default-option_size.ensures in
     let none : keep_in c.args.task c.args.wide rows ≡ None = cc in
-    let unkept = keep_mistake_is_in_rows c.args.task c.args.wide rows c.requires none in
+    let unkept = keep_mistake_is_in_rows c.args.task c.args.wide c.args.quiet rows c.requires none in
     (tt, (unkept.0, rw c.keep_mistake.ensures unkept.1))

@@ -8,10 +8,10 @@ use Rattle.question_text.proofs.order.rewind_to.Goals as goal
 
 pub returns-in-Ok : goal.returns-in-Ok
 returns-in-Ok c =
-    subst (λ (x : Result ℕ Refusal). RewindsBy x c.args.machine.now (reply_text c.act.result) c.act.new.self) (sym c.in-Ok.is ∙ c.steps_ago.ensures.steps)
-    (c.act.result, c.act.ensures.reply, refl)
+    subst (λ (x : Result ℕ Refusal). RewindsBy x c.args.machine.now c.args.redo.now (reply_text c.act_and_note.result) c.act_and_note.new.machine c.act_and_note.new.redo) (sym c.in-Ok.is ∙ c.steps_ago.ensures.steps)
+    (c.act_and_note.result, c.act_and_note.ensures.acts, refl, c.act_and_note.ensures.noted)
 
 pub returns-in-Err : goal.returns-in-Err
 returns-in-Err c =
-    subst (λ (x : Result ℕ Refusal). RewindsBy x c.args.machine.now (refused_text c.in-Err.refusal) c.args.machine.now) (sym c.in-Err.is ∙ c.steps_ago.ensures.steps)
-    (refl, refl)
+    subst (λ (x : Result ℕ Refusal). RewindsBy x c.args.machine.now c.args.redo.now (refused_text c.in-Err.refusal) c.args.machine.now c.args.redo.now) (sym c.in-Err.is ∙ c.steps_ago.ensures.steps)
+    (refl, refl, refl)

@@ -1,9 +1,12 @@
-use Rattle.std.proofs.Common.{◌<◌, sym, subst}
-use Rattle.heap_pins.specs.KeptCopies.{touched, patched, copy_for, kept_if, kept}
-use Rattle.heap_region.proofs.Lookups.{used_region_is_listed}
+use Rattle.std.proofs.Common.{◌<◌, ◌∙◌, sym, ap, subst, true, arith}
+use Rattle.heap_step.specs.Laws.{IsStep}
+use Rattle.heap_pins.specs.KeptCopies.{touched, kept}
 use Rattle.heap_pins.proofs.RoomForCopies.{object_within, sweep_used, sweep_fit, reclaim_within}
-use Rattle.heap_pins.proofs.AddedCopies.{other_records_keep_the_pin, truth_holds_at_refusal}
-use Rattle.heap_step.proofs.Steps.{put_record_names_an_object, put_record_slot_within_object, store_there, store_within}
+use Rattle.heap_pins.proofs.AddedCopies.{truth_holds_at_refusal}
+use Rattle.heap_pins.proofs.KeptSteps.{ok_is_kept, put_is_kept, store_is_kept, sweep_is_kept, reclaim_is_kept, other_records_keep_the_pin}
+use Rattle.heap_pins.specs.Pin.{PinContents}
+use Rattle.heap_pins.proofs.Walkable.{after_legal, cell_of_object_below_256, dead_within}
+use Rattle.heap_step.proofs.Steps.{new_record_names_an_object, put_record_names_an_object, put_record_slot_within_object, store_there, store_within}
 use Rattle.heap_pins.proofs.pin.Pin.keep.Goals as goal
 
 pub keep_word-requires-clause-there : goal.keep_word-requires-clause-there
@@ -12,17 +15,11 @@ keep_word-requires-clause-there c = put_record_names_an_object c.requires.step.0
 pub keep_word-requires-clause-within : goal.keep_word-requires-clause-within
 keep_word-requires-clause-within c = put_record_slot_within_object c.requires.step.0 c.requires.step.1 c.args.world.now c.args.left.now c.requires.step.2 c.in-Put.at c.in-Put.slot c.in-Put.old c.in-Put.is
 
-pub keep_word-requires-clause-sized : goal.keep_word-requires-clause-sized
-keep_word-requires-clause-sized c = subst (λ n. c.in-Put.at.region < n) (sym c.requires.sized) (object_within c.args.world.now.regions c.in-Put.at (put_record_names_an_object c.requires.step.0 c.requires.step.1 c.args.world.now c.args.left.now c.requires.step.2 c.in-Put.at c.in-Put.slot c.in-Put.old c.in-Put.is))
-
 pub keep_word-requires-in-Store-clause-there : goal.keep_word-requires-in-Store-clause-there
 keep_word-requires-in-Store-clause-there c = store_there c.requires.step.0 c.requires.step.1 c.args.world.now c.args.left.now c.requires.step.2 c.in-Store.at c.in-Store.slot c.in-Store.old _ c.in-Store.is
 
 pub keep_word-requires-in-Store-clause-within : goal.keep_word-requires-in-Store-clause-within
 keep_word-requires-in-Store-clause-within c = store_within c.requires.step.0 c.requires.step.1 c.args.world.now c.args.left.now c.requires.step.2 c.in-Store.at c.in-Store.slot c.in-Store.old _ c.in-Store.is
-
-pub keep_word-requires-in-Store-clause-sized : goal.keep_word-requires-in-Store-clause-sized
-keep_word-requires-in-Store-clause-sized c = subst (λ n. c.in-Store.at.region < n) (sym c.requires.sized) (object_within c.args.world.now.regions c.in-Store.at (store_there c.requires.step.0 c.requires.step.1 c.args.world.now c.args.left.now c.requires.step.2 c.in-Store.at c.in-Store.slot c.in-Store.old _ c.in-Store.is))
 
 pub keep_dead-requires-clause-used : goal.keep_dead-requires-clause-used
 keep_dead-requires-clause-used c = sweep_used c.requires.step.0 c.requires.step.1 c.args.world.now c.args.left.now c.requires.step.2 c.in-Sweep.region c.in-Sweep.dead c.in-Sweep.is
@@ -30,30 +27,41 @@ keep_dead-requires-clause-used c = sweep_used c.requires.step.0 c.requires.step.
 pub keep_dead-requires-clause-fit : goal.keep_dead-requires-clause-fit
 keep_dead-requires-clause-fit c = sweep_fit c.requires.step.0 c.requires.step.1 c.args.world.now c.args.left.now c.requires.step.2 c.in-Sweep.region c.in-Sweep.dead c.in-Sweep.is
 
-pub keep_dead-requires-clause-sized : goal.keep_dead-requires-clause-sized
-keep_dead-requires-clause-sized c = subst (λ n. c.in-Sweep.region < n) (sym c.requires.sized) (used_region_is_listed c.args.world.now.regions c.in-Sweep.region (sweep_used c.requires.step.0 c.requires.step.1 c.args.world.now c.args.left.now c.requires.step.2 c.in-Sweep.region c.in-Sweep.dead c.in-Sweep.is))
+pub keep_dead-requires-clause-within : goal.keep_dead-requires-clause-within
+keep_dead-requires-clause-within c = dead_within c.args.world.now c.in-Sweep.region c.in-Sweep.dead (after_legal c.requires.step.0 c.requires.step.1 c.args.world.now c.args.left.now c.requires.step.2)
+    (sweep_used c.requires.step.0 c.requires.step.1 c.args.world.now c.args.left.now c.requires.step.2 c.in-Sweep.region c.in-Sweep.dead c.in-Sweep.is) (sweep_fit c.requires.step.0 c.requires.step.1 c.args.world.now c.args.left.now c.requires.step.2 c.in-Sweep.region c.in-Sweep.dead c.in-Sweep.is)
+
+pub keep_new-requires-clause-region : goal.keep_new-requires-clause-region
+keep_new-requires-clause-region c = omega (arith, c.requires.sized, object_within c.args.world.now.regions c.in-New.at (new_record_names_an_object c.requires.step.0 c.requires.step.1 c.args.world.now c.args.left.now c.requires.step.2 c.in-New.at c.in-New.fresh _ _ _ c.in-New.is))
+
+pub keep_new-requires-clause-cell : goal.keep_new-requires-clause-cell
+keep_new-requires-clause-cell c = cell_of_object_below_256 c.args.world.now c.in-New.at (after_legal c.requires.step.0 c.requires.step.1 c.args.world.now c.args.left.now c.requires.step.2) (new_record_names_an_object c.requires.step.0 c.requires.step.1 c.args.world.now c.args.left.now c.requires.step.2 c.in-New.at c.in-New.fresh _ _ _ c.in-New.is)
+
+pub returns-in-New-clause-kept : goal.returns-in-New-clause-kept
+unfolding kept
+returns-in-New-clause-kept c = c.keep_new.ensures ∙ ap (λ l. kept l c.args.world.now c.args.self.now) (sym c.in-New.is)
+
+pub returns-in-Finish-clause-kept : goal.returns-in-Finish-clause-kept
+unfolding kept
+returns-in-Finish-clause-kept c = ap (λ (p : PinContents). (let t : PinContents = record p { ended = true } in t)) c.self.view_is ∙ ap (λ l. kept l c.args.world.now c.args.self.now) (sym c.in-Finish.is)
 
 pub keep_region-requires : goal.keep_region-requires
 keep_region-requires c = record { sized = subst (λ n. c.in-Reclaim.region < n) (sym c.requires.sized) (reclaim_within c.requires.step.0 c.requires.step.1 c.args.world.now c.args.left.now c.requires.step.2 c.in-Reclaim.region c.in-Reclaim.storage c.in-Reclaim.is) }
 
 pub returns-in-Put-clause-kept : goal.returns-in-Put-clause-kept
-unfolding kept kept_if touched copy_for patched
-returns-in-Put-clause-kept c = rw c.in-Put.is c.keep_word.ensures.kept
+returns-in-Put-clause-kept c = ok_is_kept c.keep_word.result c.keep_word.new.self (λ h. h ∙ put_is_kept c.requires.step.0 c.requires.step.1 c.args.world.now c.args.self.now c.in-Put.at c.in-Put.slot c.in-Put.old (subst (IsStep c.requires.step.0 c.requires.step.1 c.args.world.now) c.in-Put.is c.requires.step.2) ∙ ap (λ l. kept l c.args.world.now c.args.self.now) (sym c.in-Put.is)) c.keep_word.ensures.kept
 
 pub returns-in-Store-clause-kept : goal.returns-in-Store-clause-kept
-unfolding kept kept_if touched copy_for patched
-returns-in-Store-clause-kept c = rw c.in-Store.is c.keep_word-in-Store.ensures.kept
+returns-in-Store-clause-kept c = ok_is_kept c.keep_word-in-Store.result c.keep_word-in-Store.new.self (λ h. h ∙ store_is_kept c.requires.step.0 c.requires.step.1 c.args.world.now c.args.self.now c.in-Store.at c.in-Store.slot c.in-Store.old _ (subst (IsStep c.requires.step.0 c.requires.step.1 c.args.world.now) c.in-Store.is c.requires.step.2) ∙ ap (λ l. kept l c.args.world.now c.args.self.now) (sym c.in-Store.is)) c.keep_word-in-Store.ensures.kept
 
 pub returns-in-Sweep-clause-kept : goal.returns-in-Sweep-clause-kept
-unfolding kept kept_if touched copy_for patched
-returns-in-Sweep-clause-kept c = rw c.in-Sweep.is c.keep_dead.ensures.kept
+returns-in-Sweep-clause-kept c = ok_is_kept c.keep_dead.result c.keep_dead.new.self (λ h. h ∙ sweep_is_kept c.requires.step.0 c.requires.step.1 c.args.world.now c.args.self.now c.in-Sweep.region c.in-Sweep.dead (subst (IsStep c.requires.step.0 c.requires.step.1 c.args.world.now) c.in-Sweep.is c.requires.step.2) ∙ ap (λ l. kept l c.args.world.now c.args.self.now) (sym c.in-Sweep.is)) c.keep_dead.ensures.kept
 
 pub returns-in-Reclaim-clause-kept : goal.returns-in-Reclaim-clause-kept
-unfolding kept kept_if touched copy_for patched
-returns-in-Reclaim-clause-kept c = rw c.in-Reclaim.is c.keep_region.ensures.kept
+returns-in-Reclaim-clause-kept c = ok_is_kept c.keep_region.result c.keep_region.new.self (λ h. h ∙ reclaim_is_kept c.requires.step.0 c.requires.step.1 c.args.world.now c.args.self.now c.in-Reclaim.region c.in-Reclaim.storage (subst (IsStep c.requires.step.0 c.requires.step.1 c.args.world.now) c.in-Reclaim.is c.requires.step.2) ∙ ap (λ l. kept l c.args.world.now c.args.self.now) (sym c.in-Reclaim.is)) c.keep_region.ensures.kept
 
 pub returns-in_default : goal.returns-in_default
-returns-in_default c = record { kept = other_records_keep_the_pin c.args.left.now c.args.world.now c.args.self.now c.in_default.not-Put c.in_default.not-Store c.in_default.not-Sweep c.in_default.not-Reclaim; unchanged = tt; refused = tt; touched = tt }
+returns-in_default c = record { kept = other_records_keep_the_pin c.args.left.now c.args.world.now c.args.self.now c.in_default.not-Put c.in_default.not-Store c.in_default.not-Sweep c.in_default.not-Reclaim c.in_default.not-New c.in_default.not-Finish; unchanged = tt; refused = tt; touched = tt }
 
 pub returns-in-Put-clause-touched : goal.returns-in-Put-clause-touched
 unfolding touched

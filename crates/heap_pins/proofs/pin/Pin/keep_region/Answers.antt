@@ -1,16 +1,23 @@
-use Rattle.std.proofs.Common.{◌≡◌, ◌<◌, length, Some, sym, subst, ◌∙◌}
+use Rattle.std.proofs.Common.{◌≡◌, [], length, refl, Some, false, sym, ap, ◌∙◌, arith}
 use Rattle.std.specs.Prelude.{slice_index_or}
+use Rattle.heap_pins.specs.KeptCopies.{has_copy}
 use Rattle.heap_pins.specs.Pin.{PinContents}
-use Rattle.heap_pins.proofs.AddedCopies.{had_copy, has_copy}
+use Rattle.heap_pins.specs.States.{storage_states}
+use Rattle.heap_pins.proofs.AddedCopies.{copy_is_put, free_pin_keeps, settled_pin_stays, settled_states_are_kept}
 use Rattle.heap_pins.proofs.pin.Pin.keep_region.Goals as goal
 
-pub returns-then-is_some-clause-kept : goal.returns-then-is_some-clause-kept
-returns-then-is_some-clause-kept c =
-    had_copy c.args.region _ c.index.result.now c.args.self.now c.requires.sized
-    (subst (λ (p : PinContents). c.index.result.now ≡ slice_index_or p.copies c.args.region c.index.result.now) c.self.view_is c.index.ensures)
-    (sym c.is_some.ensures ∙ c.if-is_some.true)
+pub returns-then-has_copy-clause-kept : goal.returns-then-has_copy-clause-kept
+returns-then-has_copy-clause-kept c = settled_pin_stays c.args.region _ _ c.args.self.now (sym c.has_copy.ensures ∙ c.if-has_copy.true)
+
+pub put-requires : goal.put-requires
+put-requires c = omega (arith, c.requires.sized, ap (λ (p : PinContents). length p.copies) c.self.view_is)
 
 pub returns-clause-kept : goal.returns-clause-kept
 returns-clause-kept c =
-    rw (← c.in_ok-copy.ensures, ← c.self.view_is)
-    (has_copy c.args.region (Some c.in_ok-copy.copy) c.index.result.now _ (subst (λ (p : PinContents). c.args.region < length p.copies) (sym c.self.view_is) c.requires.sized) c.index.ensures (sym c.if-is_some.ensures))
+    let r = c.args.region in
+    let p = c.args.self.now in
+    let free : has_copy r p ≡ false = sym c.if-has_copy.ensures in
+    copy_is_put p _ c.put.new.self r c.in_ok-copy.copy _ c.settle.new.states _ c.self.view_is c.put.ensures (ap Some (sym c.in_ok-copy.ensures))
+    (settled_states_are_kept p (storage_states c.args.storage.now) r (slice_index_or p.cells r []) c.storage_states-states.result c.settle.new.states (c.storage_states-states.ensures r)
+    c.settle.ensures refl)
+    ∙ free_pin_keeps r _ _ p free

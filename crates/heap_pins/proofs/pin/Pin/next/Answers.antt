@@ -1,13 +1,15 @@
-use Rattle.std.proofs.Common.{◌*◌, ◌+◌, length, refl, sym, ap, ◌∙◌, arith}
-use Rattle.heap_pins.specs.Pin.{PinContents}
+use Rattle.std.proofs.Common.{◌*◌, ◌+◌, length, sym, ◌∙◌, arith}
+use Rattle.heap_pins.specs.Pin.{state_seen, states_seen}
+use Rattle.heap_pins.proofs.NextPlace.{first_place_is_found, listed_cell_below_256}
 use Rattle.heap_pins.proofs.ObjectReads.{next_live_place_from_number}
 use Rattle.heap_pins.proofs.pin.Pin.next.Goals as goal
 
 pub returns : goal.returns
-returns c i h = c.from.ensures ∙ sym (next_live_place_from_number c.args.self.now.live i (256 * c.args.at.region + c.args.at.cell + 1) c.args.at refl h).1
+unfolding states_seen
+returns c i h =
+    let regions = c.args.world.now.regions in
+    first_place_is_found (state_seen c.args.self.now regions) (256 * length regions) (256 * c.args.at.region + (c.args.at.cell + 1)) c.first_from.result c.first_from.ensures
+    ∙ sym (next_live_place_from_number (states_seen c.args.self.now regions) i (256 * c.args.at.region + (c.args.at.cell + 1)) c.args.at (omega arith) h).1
 
-pub returns-then-number-len : goal.returns-then-number-len
-returns-then-number-len c i h =
-    let n = (next_live_place_from_number c.args.self.now.live i (256 * c.args.at.region + c.args.at.cell + 1) c.args.at refl h).0 in
-    let same = ap (λ (p : PinContents). length p.live) c.self.view_is in
-    absurd (omega (arith, n, same, c.len.ensures, c.if-number-len.true, c.self.inside.live.ok.0))
+pub returns-then-at-ge256 : goal.returns-then-at-ge256
+returns-then-at-ge256 c i h = absurd (omega (arith, listed_cell_below_256 (states_seen c.args.self.now c.args.world.now.regions) i c.args.at h, c.if-at-ge256.true))

@@ -1,10 +1,10 @@
 use Rattle.std.proofs.Common.{length, sym, ◌∙◌}
 use Rattle.heap_pins.proofs.RoomForCopies.{touched_region_is_in_heap}
-use Rattle.heap_trail.proofs.PinCalls.{held_pin_has_region_place, settled_pin_is_unchanged}
+use Rattle.heap_trail.proofs.PinCalls.{held_pin_has_region_place, settled_pin_is_unchanged, touched_is_noted}
 use Rattle.heap_trail.proofs.held.NumberedPin.keep.Goals as goal
 
 pub returns-else-not-is_settled : goal.returns-else-not-is_settled
-returns-else-not-is_settled c = settled_pin_is_unchanged c.args.left.now c.args.world.now c.args.region c.args.self.now c.requires.touched (sym c.is_settled.ensures ∙ c.if-not-is_settled.false)
+returns-else-not-is_settled c = settled_pin_is_unchanged c.args.left.now c.args.world.now c.args.region c.args.self.now (touched_is_noted c.args.left.now c.args.region c.requires.touched) (sym c.is_settled.ensures ∙ c.if-not-is_settled.false)
 
 pub copy_region-requires-clause-needed : goal.copy_region-requires-clause-needed
 copy_region-requires-clause-needed c = (c.args.region, c.requires.touched, sym c.is_settled.ensures ∙ c.if-not-is_settled.true)

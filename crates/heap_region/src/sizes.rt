@@ -30,7 +30,8 @@ pub(crate) fn regions_for(words: usize) -> usize
 #[tactic(auto, unfolding(crate::specs::Regions::cell_size_for))]
 pub(crate) fn cell_size_for(slots: usize) -> usize
     requires { slots ≤ heap_words }
-    ensures { result ≡ cell_size_for slots }
+    ensures value { result ≡ cell_size_for slots }
+    ensures limit { result ≤ heap_words }
 {
     if slots <= 4 {
         4

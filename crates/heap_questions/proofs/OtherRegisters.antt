@@ -18,7 +18,7 @@ unfolding object_with
 same_object_with image registers x = refl
 
 pub same_named : (image : Image) (registers : List ℕ) (x s : ℕ) → named (with_registers image registers) x s ≡ named image x s
-unfolding named, object_with
+unfolding named object_with
 same_named image registers x s = refl
 
 pub same_first_naming : (image : Image) (registers : List ℕ) (nodes : List Node) (j k s : ℕ) → IsFirstNaming image nodes j k s → IsFirstNaming (with_registers image registers) nodes j k s

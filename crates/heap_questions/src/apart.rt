@@ -94,7 +94,9 @@ fn free_register(registers: &[u64], id: u64, paths: &[Path]) -> Option<u64>
 fn is_register_used(paths: &[Path], register: u64) -> bool
     ensures { result ≡ list_any (λ p. starts_at register (route_of p)) paths.now }
 {
-    paths.iter().any(|path| path.register == register && path.slots.is_empty())
+    paths
+        .iter()
+        .any(|path| path.register == register && path.slots.is_empty())
 }
 
 // Returns the first path to the object with this id, which is that of a node, that starts like none of these paths. At each

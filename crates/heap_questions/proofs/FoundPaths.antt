@@ -115,6 +115,15 @@ path_traced image nodes entries goal x index register slots s there at way =
       found_first image s.queue index f.0 register slots x to s.found.ordered f.1 same way,
     )
 
+-- so is the path that a way leads back
+pub path_back : (image : Image) (nodes : List Node) (entries : List Entry) (goal x index r : ℕ) (back : List ℕ) (register : ℕ) (slots : List ℕ) → (s : HasSearchedFor image nodes entries goal) → node_with nodes x ≡ Some goal → Some index ≡ position (λ e. e.node == goal) entries → IsWayBack s.queue index r back
+    → register ≡ r → slots ≡ reverse back → IsPathTo image register slots x × IsShortest image slots x × IsFirstPath image register slots x
+path_back image nodes entries goal x index r back register slots s there at way same turned =
+    let w = subst (IsWayBack s.queue index r) (sym (reverse-reverse back)) way in
+    let t = path_traced image nodes entries goal x index r (reverse back) s there at w in
+    subst (λ q. IsPathTo image q slots x × IsShortest image slots x × IsFirstPath image q slots x) (sym same)
+    (subst (λ (l : List ℕ). IsPathTo image r l x × IsShortest image l x × IsFirstPath image r l x) (sym turned) t)
+
 -- no node has the id
 pub no_node_unreached : (image : Image) (places : List ObjRef) (nodes : List Node) (x : ℕ) → AreNodes image places nodes → node_with nodes x ≡ None → IsUnreached image x
 no_node_unreached image places nodes x n e r slots p = let j = node_of_object image places nodes x n p.there in none-some j.0 (sym e ∙ j.1)

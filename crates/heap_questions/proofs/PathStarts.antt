@@ -1,9 +1,10 @@
 -- Which paths start alike, and which comes next.
-use Rattle.std.proofs.Common.{◌≡◌, ◌⊎◌, ℕ, ◌+◌, ◌*◌, ◌/◌, ◌%◌, ◌<◌, ◌≤◌, Bool, true, false, List, [], ◌∷◌, ◌++◌, length, map, take, refl, sym, ap, ◌∙◌, subst, inl, inr, arith}
+use Rattle.std.proofs.Common.{◌≡◌, ◌⊎◌, ℕ, ◌+◌, ◌*◌, ◌/◌, ◌%◌, ◌<◌, ◌≤◌, Bool, true, false, List, [], ◌∷◌, ◌++◌, length, map, take, refl, sym, ap, ap₂, ◌∙◌, subst, inl, inr, arith}
 use Rattle.std.specs.Prelude.{slice_get, Option, Some, None, All, option_and_then, ◌==◌, ◌&&◌, ◌||◌}
 use Rattle.std.specs.List.{AllByRecursion, list_any}
 use Rattle.std.specs.Option.{option_map_or}
 use Rattle.std.proofs.lemmas.Bool.{cases_Bool, cases_lt, eqb-true, eq-eqb, ne_eqb, true≢false}
+use Rattle.std.proofs.lemmas.List.{take_all, take-append-le}
 use Rattle.std.proofs.lemmas.List.Elements.{All-from_recursion, All-nil, recursion_from_All}
 use Rattle.std.proofs.lemmas.Option.{none-some, same_Some, slice_get_within}
 use Rattle.heap_class.specs.declared.ObjRef.{ObjRef}
@@ -14,6 +15,7 @@ use Rattle.heap_questions.specs.Search.{AreNodes, node_with, slot_span}
 use Rattle.heap_questions.specs.Starts.{IsFirstFree, NoneIsFree, starts_at, starts_by, with_starts}
 use Rattle.heap_questions.specs.declared.nodes.Node.{Node}
 use Rattle.heap_questions.specs.declared.paths.Path.{Path}
+use Rattle.heap_questions.proofs.LongerLists.{got_cases}
 use Rattle.heap_questions.proofs.NodePlaces.{node_of_object}
 use Rattle.heap_questions.proofs.Starting.{by_number, first_slot_below, path_of_start, start_of_path}
 
@@ -160,4 +162,35 @@ pub first_is_first : (image : Image) (x : ℕ) (p : Route) → IsNextPath image 
 first_is_first image x p n q others path many = elim (n.first (record { register = q; slots = others }) (record { path = path; apart = All-nil _ })) [
   | inl l ↦ absurd (omega (arith, l, many))
   | inr l ↦ l.1
+]
+
+-- ---- register by register
+
+-- at each register before r that names x an earlier path of no slots starts; so it is after r, if it doesn't name x or is used
+pub none_free_more : (registers : List ℕ) (earlier : List Route) (x r : ℕ) → ((q : ℕ) → q < r → slice_get registers q ≡ Some x → list_any (starts_at q) earlier ≡ true) → (slice_get registers r ≡ Some x → list_any (starts_at r) earlier ≡ true)
+    → (q : ℕ) → q < r + 1 → slice_get registers q ≡ Some x → list_any (starts_at q) earlier ≡ true
+none_free_more registers earlier x r before here q l e = elim (cases_lt q r) [
+  | inl lt ↦ before q lt e
+  | inr ge ↦
+      let same : q ≡ r = omega (arith, l, ge) in
+      ap (λ k. list_any (starts_at k) earlier) same ∙ here (ap (slice_get registers) (sym same) ∙ e)
+]
+
+-- ---- path by path
+
+-- a path with these parts
+pub route_is : (p : Path) (r : ℕ) (slots : List ℕ) → p.register ≡ r → p.slots.items ≡ slots → route_of p ≡ record { register = r; slots = slots }
+route_is p r slots a b = ap₂ (λ (n : ℕ) (l : List ℕ). let route : Route = record { register = n; slots = l } in route) a b
+
+-- one more path
+pub next_more : (image : Image) (x : ℕ) (paths new : List Route) (p : Route) → new ≡ paths ++ p ∷ [] → ((k : ℕ) (q : Route) → slice_get paths k ≡ Some q → IsNextPath image (take k paths) x q) → IsNextPath image paths x p
+    → (k : ℕ) (q : Route) → slice_get new k ≡ Some q → IsNextPath image (take k new) x q
+next_more image x paths new p e before here k q h = elim (got_cases paths p k q (ap (λ (l : List Route). slice_get l k) (sym e) ∙ h)) [
+  | inl old ↦
+      let within : k ≤ length paths = omega (arith, slice_get_within paths k q old) in
+      let same : take k new ≡ take k paths = ap (take k) e ∙ take-append-le k paths (p ∷ []) within in
+      subst (λ (l : List Route). IsNextPath image l x q) (sym same) (before k q old)
+  | inr last ↦
+      let same : take k new ≡ paths = ap (take k) e ∙ ap (λ n. take n (paths ++ p ∷ [])) last.0 ∙ take-append-le (length paths) paths (p ∷ []) (omega arith) ∙ take_all (length paths) paths (omega arith) in
+      subst (λ (l : List Route). IsNextPath image l x q) (sym same) (subst (IsNextPath image paths x) (sym last.1) here)
 ]

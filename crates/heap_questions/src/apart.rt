@@ -26,7 +26,7 @@ pub fn first_of_paths_is_path()
 
 /// Returns `most` paths to the object with this id, of which no two start at the same register by the same slot, or as many as
 /// there are: each is the shortest that starts like none of those before it, of all such the first by register, then by slot.
-/// Fails with NoMemory. Reads each object at most once for each path, and twice more.
+/// Fails with NoMemory. For each path it reads each object at most twice, and once more for each register that names it.
 pub fn paths_apart<V: View>(
     alloc: Global,
     view: &V,
@@ -124,10 +124,8 @@ fn path_by_slot<V: View>(
     match place_in(queue, goal) {
         Some(index) => {
             let way = way_back(alloc, view, nodes, queue, index)?;
-            match path_from_start(way) {
-                Ok(path) => Ok(Some(path)),
-                Err(error) => Err(error.into()),
-            }
+            let path = path_from_start(way)?;
+            Ok(Some(path))
         }
         None => Ok(None),
     }

@@ -30,38 +30,38 @@ abbrev Tells : (Route → Bool) → Route → Type 0
 Tells test p = (e : Route) → (StartAlike e p → test e ≡ true) × (test e ≡ true → StartAlike e p)
 
 none_alike : (test : Route → Bool) (p : Route) (earlier : List Route) → Tells test p → list_any test earlier ≡ false → AllByRecursion (λ e. ¬ StartAlike e p) earlier
-none_alike test p [] t f = tt
-none_alike test p (e ∷ es) t f = elim (cases_Bool (test e)) [
-  | inl yes ↦ absurd (true≢false (sym (ap (λ b. b || list_any test es) yes) ∙ f))
-  | inr no ↦ ((λ s. absurd (true≢false (sym ((t e).0 s) ∙ no))), none_alike test p es t (sym (ap (λ b. b || list_any test es) no) ∙ f))
+none_alike test p [] told h = tt
+none_alike test p (e ∷ es) told h = elim (cases_Bool (test e)) [
+  | inl t ↦ absurd (true≢false (sym (ap (λ b. b || list_any test es) t) ∙ h))
+  | inr f ↦ ((λ a. true≢false (sym ((told e).0 a) ∙ f)), none_alike test p es told (sym (ap (λ b. b || list_any test es) f) ∙ h))
 ]
 
 not_used : (test : Route → Bool) (p : Route) (earlier : List Route) → Tells test p → AllByRecursion (λ e. ¬ StartAlike e p) earlier → list_any test earlier ≡ false
-not_used test p [] t a = refl
-not_used test p (e ∷ es) t a = elim (cases_Bool (test e)) [
-  | inl yes ↦ absurd (a.0 ((t e).1 yes))
-  | inr no ↦ ap (λ b. b || list_any test es) no ∙ not_used test p es t a.1
+not_used test p [] told a = refl
+not_used test p (e ∷ es) told a = elim (cases_Bool (test e)) [
+  | inl t ↦ absurd (a.0 ((told e).1 t))
+  | inr f ↦ ap (λ b. b || list_any test es) f ∙ not_used test p es told a.1
 ]
 
 tells_by : (r s : ℕ) (slots : List ℕ) → Tells (starts_by r s) (record { register = r; slots = s ∷ slots })
 tells_by r s slots e = (
-  λ a. ap (λ b. b && option_map_or (λ t. t == s) (slice_get e.slots 0) false) (eq-eqb e.register r a.0) ∙ ap (λ o. option_map_or (λ t. t == s) o false) a.1 ∙ eq-eqb s s refl,
+  λ a. ap (λ b. b && option_map_or (λ n. n == s) (slice_get e.slots 0) false) (eq-eqb e.register r a.0) ∙ ap (λ o. option_map_or (λ n. n == s) o false) a.1 ∙ eq-eqb s s refl,
   λ h. elim (cases_Bool (e.register == r)) [
-    | inl yes ↦ (eqb-true e.register r yes, first (slice_get e.slots 0) (sym (ap (λ b. b && option_map_or (λ t. t == s) (slice_get e.slots 0) false) yes) ∙ h))
-    | inr no ↦ absurd (true≢false (sym h ∙ ap (λ b. b && option_map_or (λ t. t == s) (slice_get e.slots 0) false) no))
+    | inl t ↦ (eqb-true e.register r t, first (slice_get e.slots 0) (sym (ap (λ b. b && option_map_or (λ n. n == s) (slice_get e.slots 0) false) t) ∙ h))
+    | inr f ↦ absurd (true≢false (sym h ∙ ap (λ b. b && option_map_or (λ n. n == s) (slice_get e.slots 0) false) f))
   ],
 )
   where
-    first : (o : Option ℕ) → option_map_or (λ t. t == s) o false ≡ true → o ≡ Some s
+    first : (o : Option ℕ) → option_map_or (λ n. n == s) o false ≡ true → o ≡ Some s
     first None h = absurd (true≢false (sym h))
-    first (Some t) h = ap Some (eqb-true t s h)
+    first (Some n) h = ap Some (eqb-true n s h)
 
 tells_at : (r : ℕ) → Tells (starts_at r) (record { register = r; slots = [] })
 tells_at r e = (
   λ a. ap (λ b. b && (length e.slots == 0)) (eq-eqb e.register r a.0) ∙ none e.slots a.1,
   λ h. elim (cases_Bool (e.register == r)) [
-    | inl yes ↦ (eqb-true e.register r yes, empty e.slots (sym (ap (λ b. b && (length e.slots == 0)) yes) ∙ h))
-    | inr no ↦ absurd (true≢false (sym h ∙ ap (λ b. b && (length e.slots == 0)) no))
+    | inl t ↦ (eqb-true e.register r t, empty e.slots (sym (ap (λ b. b && (length e.slots == 0)) t) ∙ h))
+    | inr f ↦ absurd (true≢false (sym h ∙ ap (λ b. b && (length e.slots == 0)) f))
   ],
 )
   where
@@ -119,7 +119,7 @@ next_by_register image earlier x r there f =
 -- ---- a path by a slot
 
 pub next_by_slot : (image : Image) (earlier : List Route) (x i : ℕ) (slots : List ℕ) → IsDumpable image → NoneIsFree image.registers earlier x → IsPathTo (with_starts image earlier) i slots x × IsShortest (with_starts image earlier) slots x × IsFirstPath (with_starts image earlier) i slots x
-    → IsNextPath image earlier x (record { register = i / slot_span; slots = i % slot_span ∷ slots })
+    → IsNextPath image earlier x (record { register = i / slot_span; slots = (i % slot_span) ∷ slots })
 next_by_slot image earlier x i slots d none f =
     let p = path_of_start image earlier i slots x f.0 in
     record {
@@ -127,7 +127,7 @@ next_by_slot image earlier x i slots d none f =
       first = λ q a. later q.register q.slots a.path a.apart;
     }
   where
-    later : (q : ℕ) (others : List ℕ) → IsPathTo image q others x → All (λ e. ¬ StartAlike e (record { register = q; slots = others })) earlier → IsNoLater (record { register = i / slot_span; slots = i % slot_span ∷ slots }) (record { register = q; slots = others })
+    later : (q : ℕ) (others : List ℕ) → IsPathTo image q others x → All (λ e. ¬ StartAlike e (record { register = q; slots = others })) earlier → IsNoLater (record { register = i / slot_span; slots = (i % slot_span) ∷ slots }) (record { register = q; slots = others })
     later q [] p a = absurd (true≢false (sym (none q (named_by_it image q x p)) ∙ free_at earlier q a))
     later q (t ∷ others) p a =
         let start = start_of_path image earlier q t others x d (free_by earlier q t others a) p in
@@ -152,14 +152,17 @@ none_left_of_none image places nodes earlier x n e q a = let j = node_of_object 
 
 -- ---- the first
 
+none_apart : (p : Route) → All (λ e. ¬ StartAlike e p) []
+none_apart p = All-nil (λ (e : Route). ¬ StartAlike e p)
+
 pub first_is_shortest : (image : Image) (x : ℕ) (p : Route) → IsNextPath image [] x p → IsShortest image p.slots x
-first_is_shortest image x p n r others path = elim (n.first (record { register = r; slots = others }) (record { path = path; apart = All-nil _ })) [
+first_is_shortest image x p n r others path = elim (n.first (record { register = r; slots = others }) (record { path = path; apart = none_apart (record { register = r; slots = others }) })) [
   | inl l ↦ omega (arith, l)
   | inr l ↦ omega (arith, l.0)
 ]
 
 pub first_is_first : (image : Image) (x : ℕ) (p : Route) → IsNextPath image [] x p → IsFirstPath image p.register p.slots x
-first_is_first image x p n q others path many = elim (n.first (record { register = q; slots = others }) (record { path = path; apart = All-nil _ })) [
+first_is_first image x p n q others path many = elim (n.first (record { register = q; slots = others }) (record { path = path; apart = none_apart (record { register = q; slots = others }) })) [
   | inl l ↦ absurd (omega (arith, l, many))
   | inr l ↦ l.1
 ]

@@ -25,14 +25,14 @@ has_id : (image : Image) (earlier : List Route) (y : ℕ) → HasId (with_starts
 has_id image earlier y h = subst (λ (o : Option DumpedObject). IsSome o) (same_object_with image (with_starts image earlier).registers y) h
 
 -- numbers at which nothing starts are passed over
-pub begun_past : (image : Image) (earlier : List Route) (nodes : List Node) (seen : List Bool) (entries : List Entry) (r from to i n : ℕ) → i ≡ r * slot_span + from → n ≡ r * slot_span + to → from ≤ to → to ≤ slot_span
-    → ((s y : ℕ) → from ≤ s → s < to → ¬ IsStart image earlier r s y) → IsBeginning (with_starts image earlier) nodes seen entries i → IsBeginning (with_starts image earlier) nodes seen entries n
-begun_past image earlier nodes seen entries r from to i n ei en le few none b =
+pub begun_past : (image : Image) (earlier : List Route) (nodes : List Node) (seen : List Bool) (entries : List Entry) (r low high i n : ℕ) → i ≡ r * slot_span + low → n ≡ r * slot_span + high → low ≤ high → high ≤ slot_span
+    → ((s y : ℕ) → low ≤ s → s < high → ¬ IsStart image earlier r s y) → IsBeginning (with_starts image earlier) nodes seen entries i → IsBeginning (with_starts image earlier) nodes seen entries n
+begun_past image earlier nodes seen entries r low high i n ei en le few none b =
     record {
       queue = b.queue;
       kept = b.kept;
       rooting = rooted_past (with_starts image earlier) nodes seen b.queue i n b.rooting (omega (arith, ei, en, le))
-          (λ q y above below e h. no_start image earlier r from to few none q y (omega (arith, above, ei)) (omega (arith, below, en)) e (has_id image earlier y h));
+          (λ q y above below e h. no_start image earlier r low high few none q y (omega (arith, above, ei)) (omega (arith, below, en)) e (has_id image earlier y h));
     }
 
 pub begun_as : (image : Image) (earlier : List Route) (nodes : List Node) (seen others : List Bool) (entries same : List Entry) (i n : ℕ) → others ≡ seen → same ≡ entries → i ≡ n → IsBeginning (with_starts image earlier) nodes seen entries i → IsBeginning (with_starts image earlier) nodes others same n
@@ -71,9 +71,9 @@ pub used_start : (image : Image) (earlier : List Route) (r s y : ℕ) → list_a
 used_start image earlier r s y used is = true≢false (sym used ∙ is.free)
 
 pub no_reference_start : (image : Image) (earlier : List Route) (r x s y : ℕ) (o : DumpedObject) → slice_get image.registers r ≡ Some x → object_with image x ≡ Some o → slot_refers image.classes o.kind s ≡ false → ¬ IsStart image earlier r s y
-no_reference_start image earlier r x s y o names there no is =
+no_reference_start image earlier r x s y o names there value is =
     let same : is.first ≡ x = got_same image.registers r is.first x is.names names in
-    none-some y (sym (named_is image x s o there ∙ slot_is_none image.classes o s no) ∙ ap (λ z. named image z s) (sym same) ∙ is.leads)
+    none-some y (sym (named_is image x s o there ∙ slot_is_none image.classes o s value) ∙ ap (λ z. named image z s) (sym same) ∙ is.leads)
 
 pub no_slot_start : (image : Image) (earlier : List Route) (r x s y : ℕ) (o : DumpedObject) → slice_get image.registers r ≡ Some x → object_with image x ≡ Some o → length o.words ≤ s → ¬ IsStart image earlier r s y
 no_slot_start image earlier r x s y o names there past is =

@@ -1,9 +1,9 @@
 -- The starts of paths by their numbers.
 use Rattle.std.proofs.Common.{◌≡◌, ◌⊎◌, ℕ, ◌+◌, ◌*◌, ◌/◌, ◌%◌, ◌<◌, ◌≤◌, Bool, true, false, cond, List, [], ◌∷◌, length, map, get_or, refl, sym, ap, ◌∙◌, subst, inl, inr, arith}
-use Rattle.std.specs.Prelude.{slice_get, Option, Some, None, IsSome, All, find, option_and_then, sum, unwrap_or, ◌==◌, ◌&&◌}
+use Rattle.std.specs.Prelude.{slice_get, Option, Some, None, IsSome, All, find, option_and_then, unwrap_or, ◌==◌, ◌&&◌}
 use Rattle.std.specs.List.{list_any, position_or_len, range_with_len}
 use Rattle.std.specs.Option.{option_map_or}
-use Rattle.std.proofs.lemmas.Bool.{cases_Bool, cases_lt, eqb-true, eq-eqb, ne_eqb, true≢false}
+use Rattle.std.proofs.lemmas.Bool.{cases_Bool, cases_lt, eqb-true, eq-eqb, ne_eqb, false≢true, true≢false}
 use Rattle.std.proofs.lemmas.List.Folds.{find_at}
 use Rattle.std.proofs.lemmas.List.FromFn.{get_or-map-range_with_len, length-map-range_with_len}
 use Rattle.std.proofs.lemmas.Nat.{div-mul-add, mod-mul-add}
@@ -13,24 +13,22 @@ use Rattle.hprof_text.specs.Image.{DumpedObject, Image, IsDumpable}
 use Rattle.heap_questions.specs.Graph.{AreAtMost, HasId, IsPathTo, followed, named, object_with, slot_names}
 use Rattle.heap_questions.specs.PathsApart.{Route}
 use Rattle.heap_questions.specs.Search.{slot_span, with_registers}
-use Rattle.heap_questions.specs.Starts.{no_id, start_id, start_names, starts_by, with_starts}
+use Rattle.heap_questions.specs.Starts.{beyond, no_id, start_id, start_names, starts_by, with_starts}
 use Rattle.heap_questions.proofs.Looking.{named_is, slot_within}
 use Rattle.heap_questions.proofs.OtherRegisters.{same_named, same_object_with}
 use Rattle.heap_questions.proofs.TracedPaths.{first_object, named_object}
 
 -- ---- an id that no object has
 
-none_with : (objects : List DumpedObject) (x : ℕ) → sum (map (λ o. o.id) objects) < x → find (λ o. o.id == x) objects ≡ None
+none_with : (objects : List DumpedObject) (x : ℕ) → beyond objects ≤ x → find (λ o. o.id == x) objects ≡ None
 none_with [] x h = refl
 none_with (o ∷ os) x h =
-    ap (λ b. cond b (Some o) (find (λ o. o.id == x) os)) (ne_eqb o.id x (λ e. absurd (omega (arith, e, h)))) ∙ none_with os x (omega (arith, h))
+    let more : o.id + 1 + beyond os ≤ x = h in
+    ap (λ b. cond b (Some o) (find (λ o. o.id == x) os)) (ne_eqb o.id x (λ e. absurd (omega (arith, e, more)))) ∙ none_with os x (omega (arith, more))
 
 pub no_object : (image : Image) → ¬ HasId image (no_id image)
 unfolding object_with
-no_object image h = none_is_none (subst IsSome (none_with image.objects (no_id image) (omega arith)) h)
-  where
-    none_is_none : ¬ IsSome {A = DumpedObject} None
-    none_is_none i = true≢false (sym i)
+no_object image h = false≢true (subst IsSome (none_with image.objects (no_id image) (omega arith)) h)
 
 -- ---- what a start names
 
@@ -81,20 +79,21 @@ start_found image earlier i y e h =
     start_of image earlier (i / slot_span) (i % slot_span) y (named_object_id image (start_names image earlier (i / slot_span) (i % slot_span)) y g.1 h)
 
 -- an object has fewer slots than there are numbers for
+abbrev place_with : Image → ℕ → ℕ
+place_with image x = position_or_len (λ (o : DumpedObject). o.id == x) image.objects
+
+object_at : (image : Image) (x : ℕ) → object_with image x ≡ slice_get image.objects (place_with image x)
+unfolding object_with
+object_at image x = find_at (λ (o : DumpedObject). o.id == x) image.objects
+
 pub slot_below : (image : Image) (x s y : ℕ) → IsDumpable image → named image x s ≡ Some y → s < slot_span
 slot_below image x s y d e = go (object_with image x) refl
   where
-    k : ℕ
-    k = position_or_len (λ (o : DumpedObject). o.id == x) image.objects
-
-    at : object_with image x ≡ slice_get image.objects k
-    unfolding object_with
-    at = find_at (λ (o : DumpedObject). o.id == x) image.objects
-
     go : (o : Option DumpedObject) → object_with image x ≡ o → s < slot_span
     go None same = absurd (true≢false (sym (subst (λ (o : Option DumpedObject). IsSome o) same (named_object image x s y e))))
     go (Some o) same =
-        let got : slice_get image.objects k ≡ Some o = sym at ∙ same in
+        let k = place_with image x in
+        let got : slice_get image.objects k ≡ Some o = sym (object_at image x) ∙ same in
         let small : length o.words ≤ large_array_limit = subst (λ (p : DumpedObject). length p.words ≤ large_array_limit) (get_or_from_slice_get image.objects k o o got) (d.small k o (slice_get_within image.objects k o got)) in
         let within = slot_within image.classes o s y (sym (named_is image x s o same) ∙ e) in
         omega (arith, small, within)
@@ -108,8 +107,8 @@ start_word image earlier r s y small within names =
     ∙ ap (λ o. Some (unwrap_or o (no_id image))) names
 
 -- numbers at which nothing starts
-pub no_start : (image : Image) (earlier : List Route) (r from to : ℕ) → to ≤ slot_span → ((s y : ℕ) → from ≤ s → s < to → ¬ IsStart image earlier r s y) → (i y : ℕ) → r * slot_span + from ≤ i → i < r * slot_span + to → slice_get (with_starts image earlier).registers i ≡ Some y → ¬ HasId image y
-no_start image earlier r from to few none i y above below e h =
+pub no_start : (image : Image) (earlier : List Route) (r low high : ℕ) → high ≤ slot_span → ((s y : ℕ) → low ≤ s → s < high → ¬ IsStart image earlier r s y) → (i y : ℕ) → r * slot_span + low ≤ i → i < r * slot_span + high → slice_get (with_starts image earlier).registers i ≡ Some y → ¬ HasId image y
+no_start image earlier r low high few none i y above below e h =
     let row : i / slot_span ≡ r = omega (arith, above, below, few) in
     none (i % slot_span) y (omega (arith, above, below, few, row)) (omega (arith, above, below, few, row)) (subst (λ q. IsStart image earlier q (i % slot_span) y) row (start_found image earlier i y e h))
 
@@ -117,11 +116,11 @@ no_start image earlier r from to few none i y above below e h =
 
 same_followed : (image : Image) (registers : List ℕ) (slots : List ℕ) (x : ℕ) → followed (with_registers image registers) x slots ≡ followed image x slots
 same_followed image registers [] x = refl
-same_followed image registers (s ∷ ss) x = ap (option_and_then (λ y. followed (with_registers image registers) y ss)) (same_named image registers x s) ∙ after (named image x s)
+same_followed image registers (s ∷ ss) x = ap (option_and_then (λ y. followed (with_registers image registers) y ss)) (same_named image registers x s) ∙ after (named image x s) (λ y. same_followed image registers ss y)
   where
-    after : (o : Option ℕ) → option_and_then (λ y. followed (with_registers image registers) y ss) o ≡ option_and_then (λ y. followed image y ss) o
-    after None = refl
-    after (Some y) = same_followed image registers ss y
+    after : (o : Option ℕ) → ((y : ℕ) → followed (with_registers image registers) y ss ≡ followed image y ss) → option_and_then (λ y. followed (with_registers image registers) y ss) o ≡ option_and_then (λ y. followed image y ss) o
+    after None same = refl
+    after (Some y) same = same y
 
 -- a path from a start by number, as one from its register
 pub record IsPathOfStart (image : Image) (earlier : List Route) (r s : ℕ) (slots : List ℕ) (x : ℕ) : Type 0 where
@@ -142,7 +141,7 @@ path_of_start image earlier i slots x p = go (slice_get (with_starts image earli
         record {
           path = record {
             there = there;
-            leads = ap (option_and_then (λ y. followed image y (i % slot_span ∷ slots))) start.names ∙ ap (option_and_then (λ y. followed image y slots)) start.leads ∙ led;
+            leads = ap (option_and_then (λ y. followed image y ((i % slot_span) ∷ slots))) start.names ∙ ap (option_and_then (λ y. followed image y slots)) start.leads ∙ led;
           };
           free = start.free;
         }
@@ -183,10 +182,10 @@ first_slot_below image r s slots x d p = go (slice_get image.registers r) p.lead
     go (Some y) h = next y (named image y s) refl h
 
 -- numbers have the order of registers and slots
-pub by_number : (i q t : ℕ) (slots others : List ℕ) → t < slot_span → AreAtMost (i ∷ slots) (q * slot_span + t ∷ others) → AreAtMost (i / slot_span ∷ i % slot_span ∷ slots) (q ∷ t ∷ others)
+pub by_number : (i q t : ℕ) (slots others : List ℕ) → t < slot_span → AreAtMost (i ∷ slots) ((q * slot_span + t) ∷ others) → AreAtMost ((i / slot_span) ∷ (i % slot_span) ∷ slots) (q ∷ t ∷ others)
 by_number i q t slots others l (inl lt) = elim (cases_lt (i / slot_span) q) [
   | inl below ↦ inl below
-  | inr above ↦ inr ((omega (arith, lt, l, above) : i / slot_span ≡ q), inl (omega (arith, lt, l, above)))
+  | inr above ↦ let row : i / slot_span ≡ q = omega (arith, lt, l, above) in inr (row, inl (omega (arith, lt, l, above, row)))
 ]
 by_number i q t slots others l (inr same) =
     let row : i / slot_span ≡ q = ap (λ n. n / slot_span) same.0 ∙ div-mul-add q slot_span t l in

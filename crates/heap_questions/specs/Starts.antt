@@ -1,8 +1,8 @@
 -- Where the paths start that start like none of some others: at a register, by a slot of what it names.
-use Rattle.std.specs.Prelude.{◌≡◌, ◌+◌, ◌*◌, ◌/◌, ◌%◌, ◌<◌, ℕ, Bool, true, false, ◌==◌, ◌&&◌, if◌then◌else◌, List, length, map, slice_get, sum, Option, Some, None, option_and_then, unwrap_or}
+use Rattle.std.specs.Prelude.{◌≡◌, ◌+◌, ◌*◌, ◌/◌, ◌%◌, ◌<◌, ℕ, Bool, true, false, ◌==◌, ◌&&◌, if◌then◌else◌, List, [], ◌∷◌, length, map, slice_get, Option, Some, None, option_and_then, unwrap_or}
 use Rattle.std.specs.Option.{option_map_or}
 use Rattle.std.specs.List.{list_any, range_with_len}
-use Rattle.hprof_text.specs.Image.{Image}
+use Rattle.hprof_text.specs.Image.{DumpedObject, Image}
 use Rattle.heap_questions.specs.Graph.{named}
 use Rattle.heap_questions.specs.PathsApart.{Route}
 use Rattle.heap_questions.specs.Search.{slot_span, with_registers}
@@ -21,9 +21,14 @@ start_names image earlier r s =
     if list_any (starts_by r s) earlier then None
     else option_and_then (λ y. named image y s) (slice_get image.registers r)
 
+-- more than the id of each of these objects
+abbrev pub beyond : List DumpedObject → ℕ
+beyond [] = 0
+beyond (o ∷ os) = o.id + 1 + beyond os
+
 -- an id that no object has
 abbrev pub no_id : Image → ℕ
-no_id image = sum (map (λ o. o.id) image.objects) + 1
+no_id image = beyond image.objects
 
 -- the starts have numbers: r times `slot_span` and s. What start i names
 abbrev pub start_id : Image → List Route → ℕ → ℕ

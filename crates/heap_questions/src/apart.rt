@@ -1,5 +1,5 @@
 //! Why an object is alive, in several ways: paths of which no two start alike.
-ghost use Rattle.std.specs.Prelude.{◌≡◌, ◌∷◌, ◌/◌, ◌%◌, [], ℕ, map, reverse, Some, IfSome, IfNone, IfOk, IfErr};
+ghost use Rattle.std.specs.Prelude.{◌≡◌, ◌∷◌, ◌/◌, ◌%◌, ◌&&◌, [], ℕ, map, not, reverse, Some, IfSome, IfNone, IfOk, IfErr};
 ghost use Rattle.std.specs.List.{list_any};
 ghost use Rattle.heap_class.specs.declared.Refusal.TheVariants.{NoMemory};
 ghost use Rattle.heap_questions.specs.Graph.{IsFirstPath, IsShortest};
@@ -64,10 +64,29 @@ fn next_path<V: View>(
         (NoneIsLeft (V.image view.now) (map route_of paths.now) id)) }
     ensures refused { IfErr result (λ e. e ≡ NoMemory) }
 {
-    let _classes = view.classes();
-    let Some(goal) = nodes.find(id) else {
-        return Ok(None);
-    };
+    match nodes.find(id) {
+        Some(goal) => next_path_to(alloc, view, nodes, id, goal, paths),
+        None => Ok(None),
+    }
+}
+
+// Returns the same path to the object with this id, which is that of a node. The nodes must be the view's. Fails with NoMemory.
+fn next_path_to<V: View>(
+    alloc: Global,
+    view: &V,
+    nodes: &NodeList,
+    id: u64,
+    goal: usize,
+    paths: &[Path],
+) -> Result<Option<Path>, Refusal>
+    requires nodes { AreNodes (V.image view.now) (V.places view.now) nodes.now }
+    requires goal { node_with nodes.now id ≡ Some goal }
+    ensures next { IfOk result (λ found. IfSome found (λ p.
+        IsNextPath (V.image view.now) (map route_of paths.now) id (route_of p))) }
+    ensures none { IfOk result (λ found. IfNone found
+        (NoneIsLeft (V.image view.now) (map route_of paths.now) id)) }
+    ensures refused { IfErr result (λ e. e ≡ NoMemory) }
+{
     match free_register(view.registers(), id, paths) {
         Some(register) => {
             let slots = Vec::new(alloc);
@@ -83,11 +102,19 @@ fn free_register(registers: &[u64], id: u64, paths: &[Path]) -> Option<u64>
     ensures none { IfNone result (NoneIsFree registers.now (map route_of paths.now) id) }
 {
     for r in 0..registers.len() {
-        if registers[r] == id && !is_register_used(paths, r as u64) {
+        if is_free(paths, r as u64, registers[r] == id) {
             return Some(r as u64);
         }
     }
     None
+}
+
+// Tells whether a register names an object, and none of these paths is this register alone.
+fn is_free(paths: &[Path], register: u64, names: bool) -> bool
+    ensures { result
+        ≡ (names && not (list_any (λ p. starts_at register (route_of p)) paths.now)) }
+{
+    names && !is_register_used(paths, register)
 }
 
 // Tells whether one of these paths is this register alone.

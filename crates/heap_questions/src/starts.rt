@@ -35,8 +35,9 @@ pub(crate) fn find_starts<V: View>(
     let _classes = view.classes();
     let registers = view.registers();
     for r in 0..registers.len() {
-        if let Some(node) = nodes.find(registers[r]) {
-            find_slots(view, nodes, paths, reach, r, node)?;
+        match nodes.find(registers[r]) {
+            Some(node) => find_slots(view, nodes, paths, reach, r, node)?,
+            None => {}
         }
     }
     Ok(())

@@ -3,7 +3,7 @@ ghost use Rattle.std.specs.Prelude.{◌≡◌, All, flat_map, map};
 ghost use Rattle.heap_questions.specs.PathsApart.{route_of};
 ghost use Rattle.question_text.specs.Appends.{Appends, ReturnsText};
 ghost use Rattle.question_text.specs.Moments.{IsToldOf, told_text};
-ghost use Rattle.question_text.specs.PathLists.{IsPathsText, LeadsOn, way_text, ways_text};
+ghost use Rattle.question_text.specs.PathLists.{IsFoundPathsText, IsPathsText, LeadsOn, way_text, ways_text};
 
 use crate::path::{push_root, push_steps};
 use crate::rows::{Unanswered, push_count};
@@ -25,6 +25,18 @@ pub(crate) fn paths_answer<V: View>(
     if object_with(view, id).is_none() {
         return Err(Unanswered::NoObject);
     }
+    found_paths_text(alloc, view, id, most)
+}
+
+// Returns the answer about an object: its first paths. Fails with Unreachable if there is none, and with NoMemory.
+fn found_paths_text<V: View>(
+    alloc: Global,
+    view: &V,
+    id: u64,
+    most: u64,
+) -> Result<Vec<u8>, Unanswered>
+    ensures { IsToldOf (IsFoundPathsText id most) (V.image view.now) (told_text result) }
+{
     let paths = paths_apart(alloc, view, id, most as usize)?;
     if paths.is_empty() {
         return Err(Unanswered::Unreachable);

@@ -34,5 +34,5 @@ returns-in-Some-clause-next g c =
     let path = c.in_ok-path-in-Some.path in
     let found = path_back other nodes c.as_slice-queue.result.now c.args.goal c.args.id c.in-Some.index way.register way.slots.items way.register (reverse way.slots.items) s c.requires.goal c.in-Some.ensures
     (c.in_ok-way-in-Some.ensures.chain other.registers s.queue s.found) refl refl in
-    subst (λ (p : Route). IsNextPath image earlier c.args.id p) (sym (route_is path (way.register / slot_span) (way.register % slot_span ∷ reverse way.slots.items) c.in_ok-path-in-Some.ensures.register c.in_ok-path-in-Some.ensures.slots))
+    subst (λ (p : Route). IsNextPath image earlier c.args.id p) (sym (route_is path (way.register / slot_span) ((way.register % slot_span) ∷ reverse way.slots.items) c.in_ok-path-in-Some.ensures.register c.in_ok-path-in-Some.ensures.slots))
     (next_by_slot image earlier c.args.id way.register (reverse way.slots.items) c.classes-classes.ensures.limits c.requires.used found)

@@ -63,6 +63,9 @@ is_reference_slot-requires-clause-known g c =
     c.classes-classes.ensures.limits c.classes-classes.ensures.placed c.kind-kind.ensures c.words-words.ensures in
     subst (λ cs. IsKnown cs c.kind-kind.result (length c.words-words.result.now)) (sym c.classes-classes.ensures.value) r.known
 
+pub offer-requires-clause-many : goal.offer-requires-clause-many
+offer-requires-clause-many g c = (c.loop-slot.invariant c.requires.search.0 c.requires.search.1).looking.search.as_many
+
 pub loop-slot-preserved : goal.loop-slot-preserved
 loop-slot-preserved g c registers begun =
     let image = g.V.View.image c.args.view.now in

@@ -1,4 +1,4 @@
-use Rattle.std.proofs.Common.{◌≡◌, ◌<◌, ◌+◌, ◌*◌, List, length, map, get_or, refl, sym, ap, ap₂, ◌∙◌, subst, inl, inr, arith}
+use Rattle.std.proofs.Common.{◌≡◌, ◌<◌, ◌+◌, ◌*◌, ℕ, List, length, map, get_or, refl, sym, ap, ap₂, ◌∙◌, subst, inl, inr, arith}
 use Rattle.std.specs.List.{list_any}
 use Rattle.std.proofs.lemmas.List.{get_or_default}
 use Rattle.std.proofs.lemmas.Option.{slice_get_within}
@@ -68,6 +68,9 @@ start_number-requires-clause-slot g c =
     let small = r.small in
     omega (arith, small)
 
+pub offer-requires-clause-many : goal.offer-requires-clause-many
+offer-requires-clause-many g c = c.loop-slot.invariant.rooting.search.as_many
+
 pub loop-slot-preserved : goal.loop-slot-preserved
 loop-slot-preserved g c =
     let v = c.args.view.now in
@@ -100,7 +103,7 @@ loop-slot-preserved g c =
           (ap (λ (r : Reach). r.seen.items) w.reach-is) (ap (λ (r : Reach). r.queue.items) w.reach-is) refl
           (begun_past image earlier nodes c.loop-slot.reach.seen.items c.loop-slot.reach.queue.items register s (s + 1) (register * slot_span + s) (register * slot_span + (s + 1)) refl refl (omega arith) (omega (arith, lt, small))
           (λ t y above below is. let same : t ≡ s = omega (arith, above, below) in elim (is_not_free (slot_refers c.classes-classes.result c.kind-kind.result s) (list_any (λ p. starts_by register s (route_of p)) c.args.paths.now) (sym c.is_free_start.ensures ∙ w.if-is_free_start.false)) [
-            | inl no ↦ no_reference_start image earlier register node.0 s y r.object node.1 r.there (sym refers ∙ no) (subst (λ t. IsStart image earlier register t y) same is)
+            | inl value ↦ no_reference_start image earlier register node.0 s y r.object node.1 r.there (sym refers ∙ value) (subst (λ t. IsStart image earlier register t y) same is)
             | inr used ↦ used_start image earlier register s y (sym (any_route (starts_by register s) c.args.paths.now) ∙ used) (subst (λ t. IsStart image earlier register t y) same is)
           ]) i)
     ]

@@ -12,7 +12,7 @@ use Rattle.hprof_text.specs.Image.{Image, DumpedObject, IsDumpable, IsKnown}
 use Rattle.hprof_text.proofs.ViewedObjects.{here}
 use Rattle.hprof_text.proofs.Loops.{item_of_list_within}
 use Rattle.heap_questions.specs.Graph.{HasId, slot_refers, named, object_with, slot_names}
-use Rattle.heap_questions.specs.Search.{AreEntries, AreNodes, Earlier, Found, HasAllRoots, HasChildren, HasRoots, IsEnteredIn, IsFound, IsNear, IsOfferedTo, IsOrdered, IsRooting, IsSearching, IsWithin, Register, Slot, Via, entry_of, from_via, node_with}
+use Rattle.heap_questions.specs.Search.{AreEntries, AreNodes, Earlier, Found, HasAllRoots, HasChildren, IsEnteredIn, IsFound, IsNear, IsOfferedTo, IsOrdered, IsRooting, IsSearching, IsWithin, Register, Slot, Via, entry_of, from_via, node_with}
 use Rattle.heap_questions.specs.declared.nodes.Node.{Node}
 use Rattle.heap_questions.specs.declared.search.Entry.{Entry}
 use Rattle.heap_questions.proofs.NodePlaces.{node_place, node_within, object_of_node}

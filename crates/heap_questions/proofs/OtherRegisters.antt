@@ -1,6 +1,5 @@
 -- An image with other registers has the same objects.
 use Rattle.std.proofs.Common.{◌≡◌, ℕ, List, refl, sym, ◌∙◌}
-use Rattle.std.specs.Prelude.{Some}
 use Rattle.heap_class.specs.declared.ObjRef.{ObjRef}
 use Rattle.hprof_text.specs.Image.{Image}
 use Rattle.heap_questions.specs.Graph.{named, object_with}

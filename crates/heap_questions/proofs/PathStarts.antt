@@ -1,16 +1,16 @@
 -- Which paths start alike, and which comes next.
-use Rattle.std.proofs.Common.{◌≡◌, ◌⊎◌, ℕ, ◌+◌, ◌*◌, ◌/◌, ◌%◌, ◌<◌, ◌≤◌, Bool, true, false, List, [], ◌∷◌, ◌++◌, length, map, take, refl, sym, ap, ap₂, ◌∙◌, subst, inl, inr, arith}
+use Rattle.std.proofs.Common.{◌≡◌, ℕ, ◌+◌, ◌*◌, ◌/◌, ◌%◌, ◌<◌, ◌≤◌, Bool, true, false, List, [], ◌∷◌, ◌++◌, length, map, take, refl, sym, ap, ap₂, ◌∙◌, subst, inl, inr, arith}
 use Rattle.std.specs.Prelude.{slice_get, Option, Some, None, All, option_and_then, ◌==◌, ◌&&◌, ◌||◌}
 use Rattle.std.specs.List.{AllByRecursion, list_any}
 use Rattle.std.specs.Option.{option_map_or}
 use Rattle.std.proofs.lemmas.Bool.{cases_Bool, cases_lt, eqb-true, eq-eqb, ne_eqb, true≢false}
 use Rattle.std.proofs.lemmas.List.{take_all, take-append-le}
 use Rattle.std.proofs.lemmas.List.Elements.{All-from_recursion, All-nil, recursion_from_All}
-use Rattle.std.proofs.lemmas.Option.{none-some, same_Some, slice_get_within}
+use Rattle.std.proofs.lemmas.Option.{none-some, slice_get_within}
 use Rattle.heap_class.specs.declared.ObjRef.{ObjRef}
 use Rattle.hprof_text.specs.Image.{Image, IsDumpable}
-use Rattle.heap_questions.specs.Graph.{AreAtMost, HasId, followed, IsFirstPath, IsPathTo, IsShortest, IsUnreached}
-use Rattle.heap_questions.specs.PathsApart.{IsNextPath, IsNoLater, IsPathApart, NoneIsLeft, Route, StartAlike, route_of}
+use Rattle.heap_questions.specs.Graph.{HasId, followed, IsFirstPath, IsPathTo, IsShortest, IsUnreached}
+use Rattle.heap_questions.specs.PathsApart.{IsNextPath, IsNoLater, NoneIsLeft, Route, StartAlike, route_of}
 use Rattle.heap_questions.specs.Search.{AreNodes, node_with, slot_span}
 use Rattle.heap_questions.specs.Starts.{IsFirstFree, NoneIsFree, starts_at, starts_by, with_starts}
 use Rattle.heap_questions.specs.declared.nodes.Node.{Node}

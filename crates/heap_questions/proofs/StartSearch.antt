@@ -1,5 +1,5 @@
 -- A search from the starts, slot by slot.
-use Rattle.std.proofs.Common.{◌≡◌, ◌⊎◌, ℕ, ◌+◌, ◌*◌, ◌<◌, ◌≤◌, Bool, true, false, List, [], ◌∷◌, length, refl, sym, ap, ◌∙◌, subst, inl, inr, arith}
+use Rattle.std.proofs.Common.{◌≡◌, ◌⊎◌, ℕ, ◌+◌, ◌*◌, ◌<◌, ◌≤◌, Bool, true, false, List, length, refl, sym, ap, ◌∙◌, subst, inl, inr, arith}
 use Rattle.std.specs.Prelude.{slice_get, Option, Some, None, IsSome, IfSome, not, ◌&&◌}
 use Rattle.std.specs.List.{list_any}
 use Rattle.std.proofs.lemmas.Bool.{true≢false}
@@ -7,9 +7,9 @@ use Rattle.std.proofs.lemmas.Option.{none-some}
 use Rattle.heap_class.specs.declared.ObjRef.{ObjRef}
 use Rattle.heap_class.specs.declared.ObjKind.{ObjKind}
 use Rattle.hprof_text.specs.Image.{DumpedObject, Image, IsDumpable}
-use Rattle.heap_questions.specs.Graph.{HasId, named, object_with, slot_names, slot_refers}
+use Rattle.heap_questions.specs.Graph.{HasId, named, object_with, slot_refers}
 use Rattle.heap_questions.specs.PathsApart.{Route}
-use Rattle.heap_questions.specs.Search.{AreEntries, AreNodes, Found, IsBeginning, IsEnteredIn, IsRooting, Register, node_with, slot_span, with_registers}
+use Rattle.heap_questions.specs.Search.{AreNodes, Found, IsBeginning, IsEnteredIn, Register, node_with, slot_span}
 use Rattle.heap_questions.specs.Starts.{starts_by, with_starts}
 use Rattle.heap_questions.specs.declared.nodes.Node.{Node}
 use Rattle.heap_questions.specs.declared.search.Entry.{Entry}

@@ -1,16 +1,15 @@
 -- The starts of paths by their numbers.
-use Rattle.std.proofs.Common.{◌≡◌, ◌⊎◌, ℕ, ◌+◌, ◌*◌, ◌/◌, ◌%◌, ◌<◌, ◌≤◌, Bool, true, false, cond, List, [], ◌∷◌, length, map, get_or, refl, sym, ap, ◌∙◌, subst, inl, inr, arith}
-use Rattle.std.specs.Prelude.{slice_get, Option, Some, None, IsSome, All, find, option_and_then, unwrap_or, ◌==◌, ◌&&◌}
-use Rattle.std.specs.List.{list_any, position_or_len, range_with_len}
-use Rattle.std.specs.Option.{option_map_or}
-use Rattle.std.proofs.lemmas.Bool.{cases_Bool, cases_lt, eqb-true, eq-eqb, ne_eqb, false≢true, true≢false}
+use Rattle.std.proofs.Common.{◌≡◌, ℕ, ◌+◌, ◌*◌, ◌/◌, ◌%◌, ◌<◌, ◌≤◌, false, cond, List, [], ◌∷◌, length, refl, sym, ap, ◌∙◌, subst, inl, inr, arith}
+use Rattle.std.specs.Prelude.{slice_get, Option, Some, None, IsSome, find, option_and_then, unwrap_or, ◌==◌}
+use Rattle.std.specs.List.{list_any, position_or_len}
+use Rattle.std.proofs.lemmas.Bool.{cases_Bool, cases_lt, ne_eqb, false≢true, true≢false}
 use Rattle.std.proofs.lemmas.List.Folds.{find_at}
 use Rattle.std.proofs.lemmas.List.FromFn.{get_or-map-range_with_len, length-map-range_with_len}
 use Rattle.std.proofs.lemmas.Nat.{div-mul-add, mod-mul-add}
 use Rattle.std.proofs.lemmas.Option.{none-some, same_Some, slice_get_within, slice_get-get_or, get_or_from_slice_get}
 use Rattle.heap_class.specs.Limits.{large_array_limit}
 use Rattle.hprof_text.specs.Image.{DumpedObject, Image, IsDumpable}
-use Rattle.heap_questions.specs.Graph.{AreAtMost, HasId, IsPathTo, followed, named, object_with, slot_names}
+use Rattle.heap_questions.specs.Graph.{AreAtMost, HasId, IsPathTo, followed, named, object_with}
 use Rattle.heap_questions.specs.PathsApart.{Route}
 use Rattle.heap_questions.specs.Search.{slot_span, with_registers}
 use Rattle.heap_questions.specs.Starts.{beyond, no_id, start_id, start_names, starts_by, with_starts}

@@ -1,4 +1,4 @@
-use Rattle.std.proofs.Common.{◌≡◌, ℕ, List, ◌∷◌, ◌/◌, ◌%◌, map, refl, sym, subst}
+use Rattle.std.proofs.Common.{List, ◌∷◌, ◌/◌, ◌%◌, map, refl, sym, subst}
 use Rattle.std.specs.Prelude.{reverse}
 use Rattle.heap_questions.specs.PathsApart.{IsNextPath, Route, route_of}
 use Rattle.heap_questions.specs.Search.{HasSearchedFor, slot_span}

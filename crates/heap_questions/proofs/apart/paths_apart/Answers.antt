@@ -1,7 +1,7 @@
-use Rattle.std.proofs.Common.{◌≡◌, ◌∙◌, ◌++◌, ◌∷◌, [], ◌≤◌, List, length, map, ap, subst, arith}
+use Rattle.std.proofs.Common.{◌∙◌, List, length, map, ap, subst, arith}
 use Rattle.std.specs.Prelude.{IfSome, Option}
 use Rattle.std.proofs.lemmas.List.{length_push, map_push}
-use Rattle.heap_questions.specs.PathsApart.{IsNextPath, Route, route_of}
+use Rattle.heap_questions.specs.PathsApart.{IsNextPath, route_of}
 use Rattle.heap_questions.specs.declared.paths.Path.{Path}
 use Rattle.heap_questions.proofs.PathStarts.{next_more}
 use Rattle.heap_questions.proofs.apart.paths_apart.Goals as goal

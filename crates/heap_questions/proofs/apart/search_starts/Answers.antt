@@ -1,4 +1,4 @@
-use Rattle.std.proofs.Common.{length, map, sym, arith}
+use Rattle.std.proofs.Common.{map, arith}
 use Rattle.heap_questions.specs.PathsApart.{route_of}
 use Rattle.heap_questions.specs.Starts.{with_starts}
 use Rattle.heap_questions.proofs.FoundPaths.{searched_for}

@@ -64,29 +64,6 @@ pub(crate) fn search<V: View>(
     Ok(reach)
 }
 
-// Goes on with a search that has begun, from whichever registers: until all is found, or a node that is the goal. Fails with
-// NoMemory. Reads each object at most once.
-pub(crate) fn search_on<V: View>(
-    view: &V,
-    nodes: &NodeList,
-    reach: &mut Reach,
-    goal: Option<usize>,
-) -> Result<(), Refusal>
-    requires nodes { AreNodes (V.image view.now) (V.places view.now) nodes.now }
-    requires search { IsSearchFromSome (V.image view.now)
-        nodes.now reach.old.seen.items reach.old.queue.items 0 }
-    ensures ended { OnOk result (HasGoneOn (V.image view.now) nodes.now
-        reach.old.seen.items reach.old.queue.items reach.new.seen.items reach.new.queue.items goal) }
-    ensures refused { IfErr result (λ e. e ≡ NoMemory) }
-{
-    let mut head = 0;
-    while goes_on(reach, head, goal) {
-        expand(view, nodes, reach, head)?;
-        head += 1;
-    }
-    Ok(())
-}
-
 // Begins a search: finds what the registers name. Fails with NoMemory.
 fn begin<V: View>(alloc: Global, view: &V, nodes: &NodeList) -> Result<Reach, Refusal>
     requires { AreNodes (V.image view.now) (V.places view.now) nodes.now }
@@ -97,18 +74,6 @@ fn begin<V: View>(alloc: Global, view: &V, nodes: &NodeList) -> Result<Reach, Re
     let mut reach = nothing_found(alloc, nodes)?;
     find_roots(view, nodes, &mut reach)?;
     Ok(reach)
-}
-
-// Returns what was found before a search of whichever image: nothing. Fails with NoMemory.
-pub(crate) fn nothing_found(alloc: Global, nodes: &NodeList) -> Result<Reach, Refusal>
-    ensures none { IfOk result (λ r. r.queue.items ≡ []) }
-    ensures search { IfOk result (λ r. (image : Image)
-        → IsSearching image nodes.now r.seen.items [] 0) }
-    ensures refused { IfErr result (λ e. e ≡ NoMemory) }
-{
-    let seen = vec![in alloc; false; nodes.len()]?;
-    let queue = Vec::with_capacity(alloc, nodes.len())?;
-    Ok(Reach { seen, queue })
 }
 
 // Finds what the registers name. Nothing may have been found. Fails with NoMemory.
@@ -128,22 +93,25 @@ fn find_roots<V: View>(view: &V, nodes: &NodeList, reach: &mut Reach) -> Result<
     Ok(())
 }
 
-// Adds an object to what was found, unless it was found before or there is none with this id. Fails with NoMemory.
-pub(crate) fn offer(nodes: &NodeList, reach: &mut Reach, id: u64, from: u32) -> Result<(), Refusal>
-    requires many { length reach.old.seen.items ≡ length nodes.now }
-    requires few { length nodes.now ≤ object_limit }
-    ensures done { OnOk result (IsEnteredIn nodes.now id from
-        reach.old.seen.items reach.old.queue.items reach.new.seen.items reach.new.queue.items) }
+// Goes on with a search that has begun, from whichever registers: until all is found, or a node that is the goal. Fails with
+// NoMemory. Reads each object at most once.
+pub(crate) fn search_on<V: View>(
+    view: &V,
+    nodes: &NodeList,
+    reach: &mut Reach,
+    goal: Option<usize>,
+) -> Result<(), Refusal>
+    requires nodes { AreNodes (V.image view.now) (V.places view.now) nodes.now }
+    requires search { IsSearchFromSome (V.image view.now)
+        nodes.now reach.old.seen.items reach.old.queue.items 0 }
+    ensures ended { OnOk result (HasGoneOn (V.image view.now) nodes.now
+        reach.old.seen.items reach.old.queue.items reach.new.seen.items reach.new.queue.items goal) }
     ensures refused { IfErr result (λ e. e ≡ NoMemory) }
 {
-    if let Some(node) = nodes.find(id) {
-        if !reach.seen[node] {
-            reach.seen[node] = true;
-            reach.queue.push(Entry {
-                node: node as u32,
-                from,
-            })?;
-        }
+    let mut head = 0;
+    while goes_on(reach, head, goal) {
+        expand(view, nodes, reach, head)?;
+        head += 1;
     }
     Ok(())
 }
@@ -180,6 +148,38 @@ fn expand<V: View>(
     for slot in 0..words.len() {
         if is_reference_slot(&classes, kind, words.len() as u64, slot as u64) {
             offer(nodes, reach, words[slot], FIRST_PLACE + head as u32)?;
+        }
+    }
+    Ok(())
+}
+
+// Returns what was found before a search of whichever image: nothing. Fails with NoMemory.
+pub(crate) fn nothing_found(alloc: Global, nodes: &NodeList) -> Result<Reach, Refusal>
+    ensures none { IfOk result (λ r. r.queue.items ≡ []) }
+    ensures search { IfOk result (λ r. (image : Image)
+        → IsSearching image nodes.now r.seen.items [] 0) }
+    ensures refused { IfErr result (λ e. e ≡ NoMemory) }
+{
+    let seen = vec![in alloc; false; nodes.len()]?;
+    let queue = Vec::with_capacity(alloc, nodes.len())?;
+    Ok(Reach { seen, queue })
+}
+
+// Adds an object to what was found, unless it was found before or there is none with this id. Fails with NoMemory.
+pub(crate) fn offer(nodes: &NodeList, reach: &mut Reach, id: u64, from: u32) -> Result<(), Refusal>
+    requires many { length reach.old.seen.items ≡ length nodes.now }
+    requires few { length nodes.now ≤ object_limit }
+    ensures done { OnOk result (IsEnteredIn nodes.now id from
+        reach.old.seen.items reach.old.queue.items reach.new.seen.items reach.new.queue.items) }
+    ensures refused { IfErr result (λ e. e ≡ NoMemory) }
+{
+    if let Some(node) = nodes.find(id) {
+        if !reach.seen[node] {
+            reach.seen[node] = true;
+            reach.queue.push(Entry {
+                node: node as u32,
+                from,
+            })?;
         }
     }
     Ok(())

@@ -56,6 +56,7 @@ from .rows import (
     open_pin,
     past,
     path_step,
+    paths_of_rows,
     piece,
     place_or_older,
     reference,
@@ -247,6 +248,11 @@ class Calls:
     def path(self, moment: Moment, to: int) -> list[Union[RegisterStep, SlotStep]]:
         """Returns a shortest path to an object: a `RegisterStep`, then a `SlotStep` for each slot."""
         return self.send(f"path {word_of_moment(moment)} {ObjectId(to)}", rows_by(path_step))
+
+    def paths(self, moment: Moment, to: int, most: int) -> list[list[Union[RegisterStep, SlotStep]]]:
+        """Returns up to `most` paths to an object, 1 to 256, each as `path` has it. No two start at the same register by the same
+        slot: each is the shortest that starts like none of those before it."""
+        return self.send(f"paths {word_of_moment(moment)} {ObjectId(to)} {most}", paths_of_rows)
 
     def retained(self, moment: Moment, of: int) -> list[ClassCount]:
         """Returns a `ClassCount` for each class of the objects that are reached, and wouldn't be without this one, itself

@@ -12,7 +12,7 @@ each_session_line = (refl, (refl, (refl, (refl, (refl, (refl, (refl, (refl, (ref
 
 pub each_question : AllByRecursion (λ (r : QuestionRule). HasForm r.0) question_rules
 unfolding question_rules past_rules form_with write_forms act_forms question_forms
-each_question = (refl, (refl, (refl, (refl, (refl, (refl, (refl, (refl, (refl, (refl, (refl, (refl, (refl, (refl, (refl, (refl, (refl, (refl, (refl, (refl, (refl, (refl, (refl, (refl, (refl, (refl, (refl, (refl, tt))))))))))))))))))))))))))))
+each_question = (refl, (refl, (refl, (refl, (refl, (refl, (refl, (refl, (refl, (refl, (refl, (refl, (refl, (refl, (refl, (refl, (refl, (refl, (refl, (refl, (refl, (refl, (refl, (refl, (refl, (refl, (refl, (refl, (refl, tt)))))))))))))))))))))))))))))
 
 pub collect_line : HasForm (codes "collect")
 unfolding form_with write_forms act_forms question_forms

@@ -1,6 +1,7 @@
 pub mod Totals
 pub mod RankedRows
 pub mod PathSteps
+pub mod ListedPaths
 pub mod ChangedRows
 pub mod ClassRows
 pub mod PinImages

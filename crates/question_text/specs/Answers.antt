@@ -8,7 +8,7 @@ use Rattle.hprof_text.specs.Image.{Image}
 use Rattle.question_text.specs.declared.answers.PairQuestion.{PairQuestion}
 use Rattle.question_text.specs.declared.answers.StateQuestion.{StateQuestion}
 use Rattle.question_text.specs.declared.question.Question.{Question}
-use Rattle.question_text.specs.declared.question.Question.TheVariants.{Histogram, Garbage, Growth, Kept, Diff, Registers, Classes, Objects, Values, Referrers, Path, Retained, Dominators, Dominated, Dominator, Show, Born, Wrote, Watch, Writes, When, WhenCount, Dropped, Life, History, Cycles, Pins, Cells, Regions, Status}
+use Rattle.question_text.specs.declared.question.Question.TheVariants.{Histogram, Garbage, Growth, Kept, Diff, Registers, Classes, Objects, Values, Referrers, Path, Paths, Retained, Dominators, Dominated, Dominator, Show, Born, Wrote, Watch, Writes, When, WhenCount, Dropped, Life, History, Cycles, Pins, Cells, Regions, Status}
 use Rattle.question_text.specs.Births.{IsBornText}
 use Rattle.question_text.specs.CellLists.{IsCellsText}
 use Rattle.question_text.specs.ClassLists.{IsClassesText}
@@ -29,6 +29,7 @@ use Rattle.question_text.specs.ObjectLists.{IsObjectsText}
 use Rattle.question_text.specs.Objects.{IsShowText, shows_mark}
 use Rattle.question_text.specs.PastAnswers.{IsAnswerSeen, IsAnswerUpTo}
 use Rattle.question_text.specs.Paths.{IsPathText}
+use Rattle.question_text.specs.PathLists.{IsPathsText}
 use Rattle.question_text.specs.PinLists.{IsPinsText}
 use Rattle.question_text.specs.RegionLists.{IsRegionsText}
 use Rattle.question_text.specs.Registers.{IsRegistersText}
@@ -49,6 +50,7 @@ IsStateText (StateQuestion.Objects wanted) ids = IsObjectsText wanted
 IsStateText (StateQuestion.Values k s) ids = IsValuesText k s
 IsStateText (StateQuestion.Referrers x) ids = IsReferrersText x
 IsStateText (StateQuestion.Path x) ids = IsPathText x
+IsStateText (StateQuestion.Paths x n) ids = IsPathsText x n
 IsStateText (StateQuestion.Retained x) ids = IsRetainedText x ids
 IsStateText (StateQuestion.Dominators most) ids = IsDominatorsText most ids
 IsStateText (StateQuestion.Dominated x most) ids = IsDominatedText x most ids
@@ -83,6 +85,7 @@ IsAnswer (Objects at wanted) m acts text =
 IsAnswer (Values at k s) m acts text = IsAnswerAbout (IsValuesText k s) (image_at at m) text
 IsAnswer (Referrers at x) m acts text = IsAnswerAbout (IsReferrersText x) (image_at at m) text
 IsAnswer (Path at x) m acts text = IsAnswerAbout (IsPathText x) (image_at at m) text
+IsAnswer (Paths at x n) m acts text = IsAnswerAbout (IsPathsText x n) (image_at at m) text
 IsAnswer (Retained at x) m acts text = IsAnswerAbout (IsRetainedText x m.ids) (image_at at m) text
 IsAnswer (Dominators at most) m acts text =
     IsAnswerAbout (IsDominatorsText most m.ids) (image_at at m) text

@@ -15,6 +15,7 @@ pub mod DominatorRows
 pub mod Growths
 pub mod Kept
 pub mod Paths
+pub mod PathLists
 pub mod Objects
 pub mod ObjectLists
 pub mod ValueLists

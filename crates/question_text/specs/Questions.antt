@@ -1,11 +1,11 @@
 -- The lines of questions.
-use Rattle.std.specs.Prelude.{ℕ, List, [], ◌∷◌, take, drop, find, codes, Option, Some, None, option_map, option_and_then, if◌then◌else◌}
+use Rattle.std.specs.Prelude.{ℕ, List, [], ◌∷◌, take, drop, find, codes, Option, Some, None, option_map, option_and_then, if◌then◌else◌, nat_le, nat_lt, ◌&&◌}
 use Rattle.std.specs.Str.{bytes_eq}
 use Rattle.session_grammar.specs.Grammar.{at_end, next_number, number_of_word, words_of_line}
 use Rattle.question_text.specs.declared.question.At.{At}
 use Rattle.question_text.specs.declared.question.At.TheVariants.{Current, Pin, Place}
 use Rattle.question_text.specs.declared.question.Question.{Question}
-use Rattle.question_text.specs.declared.question.Question.TheVariants.{Histogram, Garbage, Growth, Kept, Diff, Registers, Classes, Objects, Values, Referrers, Path, Retained, Dominators, Dominated, Dominator, Show, Born, Wrote, Watch, Writes, When, WhenCount, Dropped, Life, History, Cycles, Pins, Cells, Regions, Status}
+use Rattle.question_text.specs.declared.question.Question.TheVariants.{Histogram, Garbage, Growth, Kept, Diff, Registers, Classes, Objects, Values, Referrers, Path, Paths, Retained, Dominators, Dominated, Dominator, Show, Born, Wrote, Watch, Writes, When, WhenCount, Dropped, Life, History, Cycles, Pins, Cells, Regions, Status}
 use Rattle.question_text.specs.declared.question.SlotRange.{SlotRange}
 use Rattle.question_text.specs.declared.question.SlotRange.TheVariants.{AllSlots, FromSlot}
 use Rattle.question_text.specs.declared.question.Span.{Span}
@@ -100,6 +100,30 @@ place_and_id (w ∷ v ∷ ws) =
 abbrev pub id_and_number : List ℕ → List ℕ → Option (ℕ × ℕ)
 id_and_number w v =
     option_and_then (λ x. option_map (λ n. (x, n)) (number_of_word v)) (id_of_word w)
+
+-- the most paths that a question is answered with
+abbrev pub path_limit : ℕ
+path_limit = 256
+
+-- the number of paths that a word is: from 1 to the limit
+abbrev pub path_count : List ℕ → Option ℕ
+path_count w =
+    option_and_then (λ n. if nat_lt 0 n && nat_le n path_limit then Some n else None)
+    (number_of_word w)
+
+-- the id and the number of paths that two words are
+abbrev pub id_and_paths : List ℕ → List ℕ → Option (ℕ × ℕ)
+id_and_paths w v =
+    option_and_then (λ x. option_map (λ n. (x, n)) (path_count v)) (id_of_word w)
+
+-- the state, and the id and the number of paths, that the words name; without a state it is the current one
+abbrev pub at_and_paths : List (List ℕ) → Option (At × (ℕ × ℕ))
+at_and_paths [] = None
+at_and_paths (w ∷ []) = None
+at_and_paths (w ∷ v ∷ []) = option_map (λ asked. (Current, asked)) (id_and_paths w v)
+at_and_paths (w ∷ v ∷ u ∷ ws) =
+    option_and_then (λ at. option_and_then (λ asked. at_end (at, asked) ws) (id_and_paths v u))
+    (at_of_word w)
 
 -- the place, and the id and the number, that the words name; without a place it is that of the current state
 abbrev pub place_and_slot : List (List ℕ) → Option (Option ℕ × (ℕ × ℕ))
@@ -290,6 +314,7 @@ question_rules =
     ∷ (codes "diff", λ ws. option_map (λ a. Diff a.0 a.1) (at_and_optional ws))
     ∷ (codes "referrers", λ ws. option_map (λ a. Referrers a.0 a.1) (optional_at_and_id ws))
     ∷ (codes "path", λ ws. option_map (λ a. Path a.0 a.1) (optional_at_and_id ws))
+    ∷ (codes "paths", λ ws. option_map (λ a. Paths a.0 a.1.0 a.1.1) (at_and_paths ws))
     ∷ (codes "retained", λ ws. option_map (λ a. Retained a.0 a.1) (optional_at_and_id ws))
     ∷ (codes "dominators", λ ws. dominators_of ws)
     ∷ (codes "dominator", λ ws. option_map (λ a. Dominator a.0 a.1) (optional_at_and_id ws))

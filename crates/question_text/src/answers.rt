@@ -23,6 +23,7 @@ use crate::loss::dropped_answer;
 use crate::named_line::question_in;
 use crate::object_list::objects_answer;
 use crate::path::path_answer;
+use crate::path_list::paths_answer;
 use crate::pin_list::pins_answer;
 use crate::question::{At, Question, SlotRange};
 use crate::referrers::referrers_answer;
@@ -64,6 +65,11 @@ enum StateQuestion {
     Referrers(u64),
     // Why the object with this id is alive.
     Path(u64),
+    // The same in several ways: how many paths, at most.
+    Paths {
+        id: u64,
+        most: u64,
+    },
     // What is reached, and wouldn't be without the object with this id, as a histogram has it.
     Retained(u64),
     // The objects that no other dominates: how many rows, or all.
@@ -123,6 +129,9 @@ pub fn answer(alloc: Global, machine: &Machine, acts: Option<u64>, question: Que
             state_answer(alloc, machine, at, StateQuestion::Referrers(id))
         }
         Question::Path { at, id } => state_answer(alloc, machine, at, StateQuestion::Path(id)),
+        Question::Paths { at, id, most } => {
+            state_answer(alloc, machine, at, StateQuestion::Paths { id, most })
+        }
         Question::Retained { at, id } => {
             state_answer(alloc, machine, at, StateQuestion::Retained(id))
         }
@@ -215,6 +224,7 @@ fn view_lines(
         StateQuestion::Values { class, slot } => values_answer(alloc, view, class, slot),
         StateQuestion::Referrers(id) => referrers_answer(alloc, view, id),
         StateQuestion::Path(id) => path_answer(alloc, view, id),
+        StateQuestion::Paths { id, most } => paths_answer(alloc, view, id, most),
         StateQuestion::Retained(id) => retained_answer(alloc, view, id),
         StateQuestion::Dominators(most) => or_refused(dominators_answer(alloc, view, most)),
         StateQuestion::Dominated { id, most } => dominated_answer(alloc, view, id, most),

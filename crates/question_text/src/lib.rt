@@ -60,6 +60,7 @@ mod names;
 mod object_list;
 mod order;
 mod path;
+mod path_list;
 mod pin_list;
 mod place;
 mod question;

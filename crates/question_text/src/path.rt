@@ -61,7 +61,7 @@ fn push_route<V: View>(
 
 // Appends the line of the register that a path begins with. Fails if an allocation fails.
 #[tactic(auto, unfolding(crate::specs::Paths::root_text))]
-fn push_root(text: &mut Vec<u8>, register: u64, id: u64) -> Result<(), AllocError>
+pub(crate) fn push_root(text: &mut Vec<u8>, register: u64, id: u64) -> Result<(), AllocError>
     ensures { Appends (root_text register id) text.old.items text.new.items result }
 {
     push_words(text, b"row")?;
@@ -71,7 +71,7 @@ fn push_root(text: &mut Vec<u8>, register: u64, id: u64) -> Result<(), AllocErro
 }
 
 // Appends the lines of the slots that are followed from an object. Fails if an allocation fails.
-fn push_steps<V: View>(
+pub(crate) fn push_steps<V: View>(
     text: &mut Vec<u8>,
     index: &ObjectIndex<'_, V>,
     start: u64,

@@ -2,13 +2,16 @@
 ghost use Rattle.std.specs.Prelude.{◌≡◌, drop};
 ghost use Rattle.session_grammar.specs.Grammar.{words_of_line};
 ghost use Rattle.question_text.specs.Ids.{id_of_word};
-ghost use Rattle.question_text.specs.Questions.{at_and_optional, at_and_slot, at_and_wanted, at_of_word, at_or_number, class_and_slot, dominated_by, dominators_by, dominators_of, holding, holding_and_span, id_and_number, numbers_and_span, one_id, optional_at, optional_at_and_id, past_rules, place_and_id, place_and_number, place_and_slot, place_of, place_of_word, question_by, question_of, question_rules, show_by, show_of, slot_and_place, slots_named, span_of, value_of_word, wanted_of, when_of};
+ghost use Rattle.question_text.specs.Questions.{at_and_optional, at_and_paths, at_and_slot, at_and_wanted, at_of_word, at_or_number, class_and_slot, dominated_by, dominators_by, dominators_of, holding, holding_and_span, id_and_number, id_and_paths, numbers_and_span, one_id, optional_at, optional_at_and_id, past_rules, path_count, place_and_id, place_and_number, place_and_slot, place_of, place_of_word, question_by, question_of, question_rules, show_by, show_of, slot_and_place, slots_named, span_of, value_of_word, wanted_of, when_of};
 
 use crate::id::id_of;
 use heap_questions::Wanted;
 use session_grammar::command::{at_end, next_number};
 use session_grammar::number::number_of;
 use session_grammar::words::{Words, is_word};
+
+/// The most paths that `paths` is answered with.
+pub const PATH_LIMIT: u64 = 256;
 
 /// The state that a question is about.
 #[derive(Clone, Copy)]
@@ -64,6 +67,8 @@ pub enum Question {
     Referrers { at: At, id: u64 },
     /// Why an object is alive: a shortest path from a register.
     Path { at: At, id: u64 },
+    /// Why an object is alive, in several ways: up to this many paths of which no two start alike.
+    Paths { at: At, id: u64, most: u64 },
     /// What is reached, and wouldn't be without an object, as a histogram has it.
     Retained { at: At, id: u64 },
     /// The objects that no other dominates, with what each retains: how many rows, or all.
@@ -138,6 +143,9 @@ pub fn question_of(line: &[u8]) -> Option<Question>
         let (older, newer) = at_and_optional(words)?;
         return Some(Question::Growth { older, newer });
     }
+    if is_word(keyword, b"classes") {
+        return Some(Question::Classes(optional_at(words)?));
+    }
     later_question(keyword, words)
 }
 
@@ -162,15 +170,12 @@ fn at_and_optional(mut words: Words) -> Option<(At, At)>
     at_end((at_of(word)?, at_of(second)?), words)
 }
 
-// Reads the words behind a keyword of a question about classes, objects, retained steps, pins or the current state.
+// Reads the words behind a keyword of a question about objects, retained steps, pins or the current state.
 #[tactic(auto, unfolding(crate::specs::Questions::question_rules))]
 fn later_question(keyword: &[u8], words: Words) -> Option<Question>
     ensures { result
-        ≡ question_by (drop 4 question_rules) keyword.now (words_of_line words.entry) }
+        ≡ question_by (drop 5 question_rules) keyword.now (words_of_line words.entry) }
 {
-    if is_word(keyword, b"classes") {
-        return Some(Question::Classes(optional_at(words)?));
-    }
     if is_word(keyword, b"objects") {
         let (at, wanted) = at_and_wanted(words)?;
         return Some(Question::Objects { at, wanted });
@@ -194,6 +199,10 @@ fn later_question(keyword: &[u8], words: Words) -> Option<Question>
     if is_word(keyword, b"path") {
         let (at, id) = optional_at_and_id(words)?;
         return Some(Question::Path { at, id });
+    }
+    if is_word(keyword, b"paths") {
+        let (at, (id, most)) = at_and_paths(words)?;
+        return Some(Question::Paths { at, id, most });
     }
     if is_word(keyword, b"retained") {
         let (at, id) = optional_at_and_id(words)?;
@@ -268,6 +277,37 @@ fn optional_at_and_id(mut words: Words) -> Option<(At, u64)>
         return Some((At::Current, id_of(word)?));
     };
     at_end((at_of(word)?, id_of(second)?), words)
+}
+
+// Returns the state, and the id and the number of paths, that the words name. If they name no state, it is the current one.
+fn at_and_paths(mut words: Words) -> Option<(At, (u64, u64))>
+    ensures { result ≡ at_and_paths (words_of_line words.entry) }
+{
+    let first = words.next_word()?;
+    let second = words.next_word()?;
+    let Some(third) = words.next_word() else {
+        return Some((At::Current, id_and_paths(first, second)?));
+    };
+    at_end((at_of(first)?, id_and_paths(second, third)?), words)
+}
+
+// Returns the id and the number of paths that two words are.
+fn id_and_paths(word: &[u8], second: &[u8]) -> Option<(u64, u64)>
+    ensures { result ≡ id_and_paths word.now second.now }
+{
+    Some((id_of(word)?, path_count(second)?))
+}
+
+// Returns the number of paths that a word is, from 1 to `PATH_LIMIT`.
+fn path_count(word: &[u8]) -> Option<u64>
+    ensures { result ≡ path_count word.now }
+{
+    let count = number_of(word)?;
+    if 0 < count && count <= PATH_LIMIT {
+        Some(count)
+    } else {
+        None
+    }
 }
 
 // Reads the words behind `dominators`: a state, an id and a number of rows, each if it is named. A single number is that of rows.

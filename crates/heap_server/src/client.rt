@@ -1,5 +1,5 @@
 //! The client of a session: what it sends, and what comes back.
-ghost use Rattle.std.specs.Prelude.{◌≡◌, IfSome, IfNone, None};
+ghost use Rattle.std.specs.Prelude.{◌≡◌, IfSome, IfNone};
 ghost use Rattle.heap_server.specs.declared.client.Asked.TheVariants.{NoMemory};
 ghost use Rattle.heap_server.specs.ClientEndings.{AsksServer, Receives, Sends, SendsInput, SendsWord, asked_end};
 
@@ -58,19 +58,6 @@ pub struct Client<I: Inlet, T: Outlet> {
     pub sender: Option<PromisedHandle<Sent<I, T>, SendsFrom<I, T>>>,
 }
 
-impl<I: Inlet, T: Outlet> Client<I, T> {
-    // Creates the end of a client that had no memory for the thread that sends its input.
-    fn unsent() -> Client<I, T>
-        ensures asked { result.asked ≡ NoMemory }
-        ensures sender { result.sender ≡ None }
-    {
-        Client {
-            asked: Asked::NoMemory,
-            sender: None,
-        }
-    }
-}
-
 /// Sends the line of the secret word, if there is one, all input, and then an empty line and the line `end` to the outlet of a
 /// socket, in a thread of its own, and copies to the output what comes from the socket until it ends or a read or a write fails.
 /// Returns then, even if that thread still waits for input or for the socket: it ends with its input, with the connection or with
@@ -95,7 +82,9 @@ where
     ensures unsent { IfNone result.sender (result.asked ≡ NoMemory) }
 {
     let Some((own, theirs)) = marks(alloc) else {
-        return Client::unsent();
+        let asked = Asked::NoMemory;
+        let sender = None;
+        return Client { asked, sender };
     };
     let word = &secret;
     let promise = SendsFrom {
@@ -106,7 +95,9 @@ where
     let (handle, first) = (*rt, *word);
     let send = move || send_from(&handle, first, input, outlet, &theirs);
     let Ok(sender) = thread::spawn_with(rt, promise, send) else {
-        return Client::unsent();
+        let asked = Asked::NoMemory;
+        let sender = None;
+        return Client { asked, sender };
     };
     let asked = receive(rt, socket, output, &own);
     let sender = Some(sender);

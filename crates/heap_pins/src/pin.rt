@@ -149,7 +149,8 @@ impl Pin {
     fn keep_new(&mut self, at: ObjRef, fresh: bool)
         requires region { at.region < length self.old.copies }
         requires cell { at.cell < cell_limit }
-        ensures { self.new ≡ (if has_copy at.region self.old then self.old else with_byte at fresh 1 self.old) }
+        ensures { self.new
+            ≡ (if has_copy at.region self.old then self.old else with_byte at fresh 1 self.old) }
     {
         if !self.has_copy(at.region as u64) {
             self.set_byte(at, fresh, TAKEN);

@@ -103,6 +103,7 @@ impl KeptRegions {
     }
 
     // Writes the byte of a cell. Takes no memory.
+    #[inline(always)]
     pub(crate) fn set_byte(&mut self, region: u64, cell: u64, byte: u8)
         requires region { region < length self.old.copies }
         requires cell { cell < 256 }
@@ -184,17 +185,28 @@ fn slot_for(slots: &mut Vec<u32>, kept: &mut Vec<KeptRegion>, region: usize) -> 
         result }
 {
     match slots[region] {
-        0 => {
-            let slot = kept.len();
-            kept.push_reserved(KeptRegion {
-                copy: None,
-                cells: blank(),
-            });
-            slots[region] = slot as u32 + 1;
-            slot
-        }
+        0 => add_item(slots, kept, region),
         slot => slot as usize - 1,
     }
+}
+
+// Adds an item for a region that has none, and returns its index. Takes no memory.
+#[inline(never)]
+fn add_item(slots: &mut Vec<u32>, kept: &mut Vec<KeptRegion>, region: usize) -> usize
+    requires table { AreSlots slots.old.items kept.old.items (vec_capacity kept.old) }
+    requires region { region < length slots.old.items }
+    requires none { slice_index_or slots.old.items region 0 ≡ 0 }
+    ensures table { AreSlots slots.new.items kept.new.items (vec_capacity kept.new) }
+    ensures slot { IsSlotFor slots.old.items kept.old.items slots.new.items kept.new.items region
+        result }
+{
+    let slot = kept.len();
+    kept.push_reserved(KeptRegion {
+        copy: None,
+        cells: blank(),
+    });
+    slots[region] = slot as u32 + 1;
+    slot
 }
 
 // Makes the objects live of each item with a copy.

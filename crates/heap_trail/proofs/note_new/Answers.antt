@@ -1,39 +1,20 @@
-use Rattle.std.proofs.Common.{rules, ◌≡◌, true, false, ◌<◌, ◌≤◌, ◌+◌, ◌-◌, ℕ, List, [], length, map, None, Some, IfOk, IfErr, OnOk, OnErr, ◌*◌, ◌/◌, ◌%◌, Bool, nat_eq, nat_lt, ◌∷◌, ◌++◌, slice_index_or, slice_set, bit_and, bit_or, Fits, w8, w32, w64, Bor, MutBor}
-use Rattle.std.specs.Vec.{vec_capacity}
-use Rattle.circular_buffer.specs.Buffer.{buffer}
-use Rattle.heap_world.specs.Limits.{keep_limit}
-use Rattle.heap_class.specs.declared.IdSize.{IdSize}
-use Rattle.heap_class.specs.declared.Refusal.TheVariants.{NoMemory}
-use Rattle.heap_step.specs.declared.Event.{Event}
-use Rattle.heap_step.specs.declared.Event.TheVariants.{Finish, Sweep}
-use Rattle.heap_step.specs.declared.Answer.{Answer}
-use Rattle.heap_step.specs.Laws.{IsStep}
-use Rattle.heap_world.specs.State.{HeapState}
-use Rattle.heap_world.specs.Legal.{IsLegal}
-use Rattle.heap_pins.specs.KeptCopies.{touched}
-use Rattle.heap_trail.specs.declared.Action.TheVariants.{OpenPin, Step, Rewind}
-use Rattle.heap_trail.specs.declared.Reply.TheVariants.{Answered, Pinned, Place, Refused}
-use Rattle.heap_trail.specs.Headline.{Headline}
-use Rattle.heap_trail.specs.Laws.{FindsSnapshot, IsTrail, GivesText, KeepsImage, DumpIsWhole, KeepsReached, KeepsTrail, LeadsBack, LeavesTrail, ReachesLive, SparesReached}
-use Rattle.heap_trail.specs.Machine.{IsSmall, Machine, Allocation, MayFail, MayReply, acted, opening_machine}
-use Rattle.heap_trail.specs.OpenPins.{AreAllBelow, EachMayKeep, EachSized, IsMade, slot_after_rewind}
-use Rattle.heap_trail.specs.Records.{IsRemembered}
-use Rattle.heap_trail.specs.Trail.{retained, rewound}
-use Rattle.heap_trail.specs.Pins.{after_rewind}
+use Rattle.std.proofs.Common.{◌≡◌, ◌+◌, length, sym, subst, arith, suc, ◌∙◌}
+use Rattle.std.specs.Prelude.{slice_set}
+use Rattle.heap_trail.specs.OpenPins.{IsSizedPin, MayKeep}
+use Rattle.heap_trail.specs.declared.held.NumberedPin.{NumberedPin}
+use Rattle.heap_trail.proofs.EachPin.{KeptUpTo, pin_to_keep_is_sized, pins_kept_one_further, pins_kept_to_the_end}
 use Rattle.heap_trail.proofs.note_new.Goals as goal
 
--- src/lib.rt:161:5
-pub loop-i-init : goal.loop-i-init
-loop-i-init c = ?
-
--- src/lib.rt:162:9
 pub note_new-requires-clause-sized : goal.note_new-requires-clause-sized
-note_new-requires-clause-sized c = ?
+note_new-requires-clause-sized c = subst (λ (s : NumberedPin). IsSizedPin (length c.args.world.now.regions) s) c.index-pins-i.is
+    (pin_to_keep_is_sized c.args.left.now c.args.world.now (length c.args.world.now.regions) c.loop-i.i c.args.pins.now c.loop-i.pins c.index-pins-i.result c.requires.sized c.loop-i.invariant (omega (arith, c.loop-i-test.true, c.loop-i.auto.pins)) c.index-pins-i.is)
 
--- src/lib.rt:161:5
 pub loop-i-preserved : goal.loop-i-preserved
-loop-i-preserved c = ?
+loop-i-preserved c =
+    let e : suc c.loop-i.i ≡ c.loop-i.i + 1 = omega arith in
+    subst (λ n. KeptUpTo c.args.left.now c.args.world.now n c.args.pins.now (slice_set c.loop-i.pins c.loop-i.i c.note_new.new.self)) e
+    (pins_kept_one_further c.args.left.now c.args.world.now c.loop-i.i c.args.pins.now c.loop-i.pins c.index-pins-i.result c.note_new.new.self c.loop-i.invariant (omega (arith, c.loop-i-test.true, c.loop-i.auto.pins)) c.index-pins-i.is
+    (subst (λ (s : NumberedPin). MayKeep c.args.left.now c.args.world.now s c.note_new.new.self) (sym c.index-pins-i.is) c.note_new.ensures))
 
--- src/lib.rt:154:1
 pub returns : goal.returns
-returns c = ?
+returns c = pins_kept_to_the_end c.args.left.now c.args.world.now c.loop-i.i c.args.pins.now c.loop-i.pins c.loop-i.invariant (omega (arith, c.loop-i-test.false, c.loop-i.auto.pins))

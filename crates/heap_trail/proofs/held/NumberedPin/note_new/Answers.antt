@@ -1,26 +1,30 @@
-use Rattle.std.proofs.Common.{rules, ◌≡◌, ◌==◌, ◌≤◌, length, None, Some, IfOk, IfErr, OnErr, ℕ, ◌+◌, ◌-◌, ◌*◌, ◌<◌, ◌/◌, ◌%◌, Bool, true, false, nat_eq, nat_lt, List, [], ◌∷◌, ◌++◌, slice_index_or, slice_set, bit_and, bit_or, Fits, w8, w32, w64, Bor, MutBor}
-use Rattle.std.specs.List.{position}
-use Rattle.heap_world.specs.State.{HeapState}
-use Rattle.heap_step.specs.declared.Event.{Event}
-use Rattle.heap_step.specs.Laws.{IsStep}
-use Rattle.hprof_text.specs.Laws.{piece_size_limit}
-use Rattle.heap_pins.specs.KeptCopies.{touched}
-use Rattle.heap_trail.specs.OpenPins.{CanGive, HasGiven, IsNextPiece, IsMade, IsSizedPin, IsRegionWithin, MayCount, MayKeep, NeedsCopy, RefusesPiece, held_advanced, is_settled, held_place, slot_after_rewind}
-use Rattle.heap_trail.specs.Views.{CanShow, IsViewBeside, RefusesView}
+use Rattle.std.proofs.Common.{◌≡◌, ◌<◌, ◌∙◌, length, refl, sym, ap, subst, arith, IsSome}
+use Rattle.heap_region.specs.Regions.{object_at}
+use Rattle.heap_step.proofs.Steps.{new_record_names_an_object}
+use Rattle.heap_pins.specs.KeptCopies.{kept}
+use Rattle.heap_pins.proofs.RoomForCopies.{object_within}
+use Rattle.heap_pins.proofs.Walkable.{after_legal, cell_of_object_below_256}
+use Rattle.heap_trail.specs.OpenPins.{IsSizedHeld}
+use Rattle.heap_trail.proofs.PinCalls.{held_pin_has_region_place, kept_pin_keeps_its_need, lost_pin_stays_after_step}
 use Rattle.heap_trail.proofs.held.NumberedPin.note_new.Goals as goal
 
--- src/held.rt:113:39
 pub keep_new-requires-clause-region : goal.keep_new-requires-clause-region
-keep_new-requires-clause-region c = ?
+keep_new-requires-clause-region c =
+    let made = c.requires.made in
+    let there = new_record_names_an_object c.requires.step.0 c.requires.step.1 c.args.world.now c.args.left.now c.requires.step.2 c.args.at c.args.fresh made.0 made.1 made.2 made.3 in
+    let sized : length c.in-Kept.pin.copies ≡ length c.args.world.now.regions = subst (λ h. IsSizedHeld (length c.args.world.now.regions) h) c.in-Kept.is c.requires.sized in
+    omega (arith, sized, object_within c.args.world.now.regions c.args.at there)
 
--- src/held.rt:113:39
 pub keep_new-requires-clause-cell : goal.keep_new-requires-clause-cell
-keep_new-requires-clause-cell c = ?
+keep_new-requires-clause-cell c =
+    let made = c.requires.made in
+    let there = new_record_names_an_object c.requires.step.0 c.requires.step.1 c.args.world.now c.args.left.now c.requires.step.2 c.args.at c.args.fresh made.0 made.1 made.2 made.3 in
+    cell_of_object_below_256 c.args.world.now c.args.at (after_legal c.requires.step.0 c.requires.step.1 c.args.world.now c.args.left.now c.requires.step.2) there
 
--- src/held.rt:105:5
 pub returns-in-Kept : goal.returns-in-Kept
-returns-in-Kept c = ?
+unfolding kept
+returns-in-Kept c = kept_pin_keeps_its_need c.args.left.now c.args.world.now c.args.self.now _ c.in-Kept.place c.in-Kept.pin c.keep_new.new.self c.in-Kept.cursor c.in-Kept.given refl c.in-Kept.is
+    (c.keep_new.ensures ∙ ap (λ l. kept l c.args.world.now c.in-Kept.pin) (sym c.requires.made.3))
 
--- src/held.rt:105:5
 pub returns-in-Lost : goal.returns-in-Lost
-returns-in-Lost c = ?
+returns-in-Lost c = lost_pin_stays_after_step c.args.left.now c.args.world.now c.args.self.now _ c.in-Lost.place c.in-Lost.cause refl c.in-Lost.is

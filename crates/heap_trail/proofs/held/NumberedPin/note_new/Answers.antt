@@ -1,11 +1,10 @@
-use Rattle.std.proofs.Common.{◌≡◌, ◌<◌, ◌∙◌, length, refl, sym, ap, subst, arith, IsSome}
-use Rattle.heap_region.specs.Regions.{object_at}
+use Rattle.std.proofs.Common.{◌≡◌, ◌∙◌, length, refl, sym, ap, subst, arith}
 use Rattle.heap_step.proofs.Steps.{new_record_names_an_object}
 use Rattle.heap_pins.specs.KeptCopies.{kept}
 use Rattle.heap_pins.proofs.RoomForCopies.{object_within}
 use Rattle.heap_pins.proofs.Walkable.{after_legal, cell_of_object_below_256}
 use Rattle.heap_trail.specs.OpenPins.{IsSizedHeld}
-use Rattle.heap_trail.proofs.PinCalls.{held_pin_has_region_place, kept_pin_keeps_its_need, lost_pin_stays_after_step}
+use Rattle.heap_trail.proofs.PinCalls.{kept_pin_keeps_its_need, lost_pin_stays_after_step}
 use Rattle.heap_trail.proofs.held.NumberedPin.note_new.Goals as goal
 
 pub keep_new-requires-clause-region : goal.keep_new-requires-clause-region

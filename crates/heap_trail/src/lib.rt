@@ -141,6 +141,9 @@ fn note_at_once(pins: &mut [NumberedPin], world: &World, left: &Undo) -> bool
     ensures noted { result ≡ true → EachMayKeep left.now world.now pins.old pins.new }
     ensures unchanged { result ≡ false → pins.new ≡ pins.old }
 {
+    if pins.is_empty() {
+        return true;
+    }
     match left {
         Undo::New { at, fresh, .. } => {
             note_new(pins, world, left, *at, *fresh);
@@ -151,7 +154,7 @@ fn note_at_once(pins: &mut [NumberedPin], world: &World, left: &Undo) -> bool
 }
 
 // Has each pin note the step that left this record, that of an object made at `at`, and led to this state. Takes no memory.
-#[inline(always)]
+#[inline(never)]
 fn note_new(pins: &mut [NumberedPin], world: &World, left: &Undo, at: ObjRef, fresh: bool)
     requires step { (e : Event) × (before : HeapState) × IsStep e before world.now left.now }
     requires sized { EachSized (length world.now.regions) pins.old }
@@ -170,9 +173,6 @@ fn are_settled(pins: &[NumberedPin], world: &World, left: &Undo) -> bool
     requires sized { EachSized (length world.now.regions) pins.now }
     ensures { result ≡ true → EachMayKeep left.now world.now pins.now pins.now }
 {
-    if pins.is_empty() {
-        return true;
-    }
     match noted_region(left) {
         Some(region) => {
             for i in 0..pins.len() {

@@ -2,7 +2,7 @@ use Rattle.std.proofs.Common.{◌*◌, ◌+◌, length, sym, ◌∙◌, arith}
 use Rattle.heap_pins.specs.Pin.{state_seen, states_seen}
 use Rattle.heap_pins.proofs.NextPlace.{first_place_is_found, listed_cell_below_256}
 use Rattle.heap_pins.proofs.ObjectReads.{next_live_place_from_number}
-use Rattle.heap_pins.proofs.pin.Pin.next.Goals as goal
+use Rattle.heap_pins.proofs.pin.Pin.next_from.Goals as goal
 
 pub returns : goal.returns
 unfolding states_seen

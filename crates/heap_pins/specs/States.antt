@@ -28,9 +28,10 @@ IsFirstIn f r from None = HasNone f r from 256
 IsFirstIn f r from (Some c) =
     (from ≤ c) × (c < 256) × (f (cell_of r c) ≡ 1) × HasNone f r from c
 
--- with the flag the pin shows a live object in this cell beside these regions
+-- with the flag the pin shows a live object in this cell of one of these regions
 abbrev pub IsShownIf : Bool → PinContents → List Region → ℕ → ℕ → Type 0
-IsShownIf flag p regions r c = flag ≡ true → state_seen p regions (cell_of r c) ≡ 1
+IsShownIf flag p regions r c =
+    flag ≡ true → (r < length regions) × (state_seen p regions (cell_of r c) ≡ 1)
 
 -- the result is the first of n cells, by number, from number k on that has state 1 by f
 unfoldable pub IsFirstPlace : (ObjRef → ℕ) → ℕ → ℕ → Option ObjRef → Type 0

@@ -1,5 +1,6 @@
 use Rattle.std.proofs.Common.{◌≡◌, ◌∙◌, [], None, Some, length, sym, ap, subst, arith}
 use Rattle.std.specs.Prelude.{slice_index_or}
+use Rattle.std.proofs.lemmas.Bool.{eqb-true}
 use Rattle.heap_region.specs.Pool.{RegionPool}
 use Rattle.heap_region.specs.Regions.{used_at}
 use Rattle.heap_pins.specs.Pin.{PinContents}
@@ -15,5 +16,5 @@ returns-in-Some c h =
       (ap (λ (p : PinContents). slice_index_or p.copies c.args.region None) (sym c.self.view_is) ∙ blank.0)
       (ap (λ (p : PinContents). slice_index_or p.cells c.args.region []) (sym c.self.view_is) ∙ blank.1)
       (subst (λ (s : RegionPool). used_at s.regions c.args.region ≡ Some c.in-Some.storage.now) c.regions-2.ensures c.in-Some.ensures)
-      (sym c.storage_state.ensures ∙ omega (arith, h)),
+      (sym c.storage_state.ensures ∙ eqb-true c.storage_state.result 1 h),
     )

@@ -3,7 +3,7 @@ ghost use Rattle.std.specs.Prelude.{◌≡◌, ◌<◌, ◌≤◌, ℕ, [], leng
 ghost use Rattle.std.specs.Vec.{vec_capacity};
 ghost use Rattle.heap_class.specs.declared.Refusal.TheVariants.{NoMemory};
 ghost use Rattle.heap_region.specs.Limits.{cell_limit, region_limit};
-ghost use Rattle.heap_pins.specs.KeptRegions.{IsRevivedTable, blank, nothing_kept};
+ghost use Rattle.heap_pins.specs.KeptRegions.{IsKeptOf, IsRevivedTable, blank, nothing_kept};
 ghost use Rattle.heap_pins.specs.Slots.{AreRevived, AreSlots, IsByteRevived, IsItemRevived, IsSlotFor};
 
 use heap_class::Refusal;
@@ -100,6 +100,15 @@ impl KeptRegions {
             0 => None,
             slot => Some(&self.kept[slot as usize - 1].cells),
         }
+    }
+
+    // Tells whether anything is kept of a region. What is kept may be no copy, and 0 for each cell.
+    #[inline(always)]
+    pub(crate) fn has_any(&self, region: u64) -> bool
+        requires { region < length self.now.copies }
+        ensures { IsKeptOf result self.now region }
+    {
+        self.slots[region as usize] != 0
     }
 
     // Writes the byte of a cell. Takes no memory.

@@ -21,10 +21,10 @@ use Rattle.session_text.specs.Talks.{IsLine, Serves, stream}
 use Rattle.session_text.specs.declared.limits.SessionLimits.{SessionLimits}
 use Rattle.question_text.specs.declared.asking.Asking.{Asking}
 use Rattle.question_text.specs.Answers.{IsAnswerOfLine}
-use Rattle.question_text.specs.declared.order.Order.{Order}
-use Rattle.question_text.specs.Collections.{TakenStep}
-use Rattle.question_text.specs.Orders.{Does, order_in}
-use Rattle.question_text.specs.Redos.{noted, with_steps}
+use Rattle.heap_orders.specs.declared.order.Order.{Order}
+use Rattle.heap_orders.specs.Collections.{TakenStep}
+use Rattle.heap_orders.specs.Orders.{Does, order_in}
+use Rattle.heap_orders.specs.Redos.{noted, with_steps}
 
 -- an action, as without questions, which is noted
 abbrev pub AskingActs : Acts Asking

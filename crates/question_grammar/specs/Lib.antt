@@ -1,0 +1,3 @@
+pub mod Questions
+pub mod NameWords
+pub mod NamedLines

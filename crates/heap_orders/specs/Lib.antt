@@ -1,3 +1,3 @@
 pub mod Collections
 pub mod Redos
-pub mod Orders
+pub mod Deeds

@@ -2,7 +2,7 @@
 ghost use Rattle.std.specs.Prelude.{◌≡◌, ◌<◌, ◌≤◌, IfErr, IfOk, OnErr};
 ghost use Rattle.session_text.specs.Replies.{line_answer_text, reply_text};
 ghost use Rattle.question_words.specs.Appends.{ReturnsText};
-ghost use Rattle.heap_orders.specs.Orders.{GoesForwardTo, steps_on};
+ghost use Rattle.heap_orders.specs.Deeds.{GoesForwardTo, steps_on};
 ghost use Rattle.question_words.specs.Places.{IsTextOrNoMemory};
 ghost use Rattle.heap_orders.specs.Redos.{GoesForward, GoesOn, IsStopped, StopsBefore, TakesAgain, nothing_to_redo_text};
 
@@ -26,7 +26,7 @@ pub fn forward_to(machine: &mut Machine, redo: &mut Redo, place: u64) -> LineAns
 }
 
 // Returns how many undone steps lead on to a place. Fails with NotRetained if none do, and it isn't the current one.
-#[tactic(auto, unfolding(crate::specs::Orders::steps_on))]
+#[tactic(auto, unfolding(crate::specs::Deeds::steps_on))]
 fn steps_on(machine: &Machine, redo: &Redo, place: u64) -> Result<u64, Refusal>
     ensures count { result ≡ steps_on place machine.now.trail redo.now }
     ensures few { IfOk result (λ n. n ≤ redo.now.ahead) }

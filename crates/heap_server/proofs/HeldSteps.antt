@@ -27,7 +27,7 @@ use Rattle.heap_lock.specs.LockStates.{SeatModel, IsAct, IsHeldAct, IsNoEntry, I
 use Rattle.heap_lock.proofs.Histories.{numbered_entries_of_one_more}
 use Rattle.heap_lock.proofs.StepReplies.{step_replies_no_place}
 use Rattle.heap_orders.specs.Collections.{IsShortage, TakenStep}
-use Rattle.heap_orders.specs.declared.order.Order.{Order}
+use Rattle.question_grammar.specs.declared.order.Order.{Order}
 use Rattle.heap_orders.proofs.CycleSteps.{short}
 use Rattle.heap_server.specs.JoinedAnswers.{AnswersForSeat, AnswersHeld, Gains, IsHeapOfSeat, LeavesSeen, entries_of_steps, order_obeyed}
 

@@ -21,9 +21,9 @@ use Rattle.question_text.specs.Answers.{IsAnswerOfLine}
 use Rattle.heap_orders.specs.declared.cycle.CycleCounts.{CycleCounts}
 use Rattle.heap_orders.specs.Collections.{IsCycleAnswer, RunsCycle, TakenStep}
 use Rattle.question_words.specs.Moments.{steps_ago, refused_text}
-use Rattle.heap_orders.specs.declared.order.Order.{Order}
-use Rattle.heap_orders.specs.declared.order.Order.TheVariants.{Act, Collect, Forward, ForwardTo, RewindTo}
-use Rattle.heap_orders.specs.Orders.{order_in}
+use Rattle.question_grammar.specs.declared.order.Order.{Order}
+use Rattle.question_grammar.specs.declared.order.Order.TheVariants.{Act, Collect, Forward, ForwardTo, RewindTo}
+use Rattle.question_grammar.specs.Orders.{order_in}
 use Rattle.question_words.specs.Places.{IsTextOrNoMemory}
 use Rattle.heap_orders.specs.Redos.{nothing_to_redo_text}
 use Rattle.heap_server.specs.JoinedActs.{IsReply}

@@ -9,7 +9,8 @@ ghost use Rattle.heap_server.specs.JoinedAnswers.{ActsHeld, AnswersForSeat, Answ
 
 use crate::joined::reply_to_act;
 use heap_lock::{Answer, Event, Heap, Kept, Machine, Outcome, Refusal, Reply, Seat, Witness};
-use heap_orders::{CycleCounts, Order, Steps, collect_answer, nothing_to_redo, order_in, run_cycle};
+use heap_orders::{CycleCounts, Steps, collect_answer, nothing_to_redo, run_cycle};
+use question_grammar::{Order, order_in};
 use question_text::answer_line;
 use question_words::steps_ago;
 use session_text::LineAnswer;

@@ -1,10 +1,11 @@
-//! The grammar of questions: which lines are questions, by numbers, or by names of a heap's classes and fields.
+//! Which lines ask questions, and which change the heap, beside those of the grammar of sessions: by numbers and by names.
 #![tactic(auto)]
 
 mod name_words;
 mod named_line;
+mod order;
 mod question;
 
-pub use name_words::class_named;
 pub use named_line::question_in;
-pub use question::{Question, at_of, place_of_word, question_of};
+pub use order::{Order, order_in};
+pub use question::{Question, at_of, question_of};

@@ -22,9 +22,9 @@ pub(crate) fn class_of(classes: &FirstClasses<'_>, word: &[u8]) -> Option<ClassN
     }
 }
 
-/// Returns the number of the class with this name.
+// Returns the number of the class with this name.
 #[tactic(auto, unfolding(crate::specs::NameWords::class_named))]
-pub fn class_named(classes: &FirstClasses<'_>, name: &[u8]) -> Option<ClassNo>
+pub(crate) fn class_named(classes: &FirstClasses<'_>, name: &[u8]) -> Option<ClassNo>
     ensures { result ≡ class_named classes.now name.now }
 {
     for class in 0..classes.len() {

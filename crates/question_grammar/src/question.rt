@@ -495,8 +495,8 @@ pub(crate) fn value_of(word: &[u8]) -> Option<u64>
     }
 }
 
-/// Returns the place of the state that a word names.
-pub fn place_of_word(word: &[u8]) -> Option<Option<u64>>
+// Returns the place of the state that a word names.
+pub(crate) fn place_of_word(word: &[u8]) -> Option<Option<u64>>
     ensures { result ≡ place_of_word word.now }
 {
     place_of(at_of(word)?)

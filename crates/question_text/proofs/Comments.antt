@@ -11,8 +11,8 @@ use Rattle.session_grammar.specs.Grammar.{access_rules, all_rules, by_rule, clas
 use Rattle.question_text.specs.declared.asking.Asking.{Asking}
 use Rattle.question_grammar.specs.declared.question.Question.{Question}
 use Rattle.question_text.specs.Answers.{IsAnswerOf}
-use Rattle.heap_orders.specs.declared.order.Order.{Order}
-use Rattle.heap_orders.specs.Orders.{order_in, order_of_two, order_of_words}
+use Rattle.question_grammar.specs.declared.order.Order.{Order}
+use Rattle.question_grammar.specs.Orders.{order_in, order_of_two, order_of_words}
 use Rattle.question_text.specs.Comments.{is_comment, is_comment_words, unasked_text}
 use Rattle.question_text.specs.Help.{help_or_bad}
 use Rattle.question_grammar.specs.NamedLines.{named_question_of_words, named_rules, question_in}

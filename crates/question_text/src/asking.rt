@@ -2,19 +2,20 @@
 ghost use Rattle.std.specs.Prelude.{◌≡◌, min, IfErr, IfOk, Some};
 ghost use Rattle.heap_class.specs.declared.Refusal.TheVariants.{NoMemory};
 ghost use Rattle.session_text.specs.Replies.{line_answer_text};
-ghost use Rattle.heap_orders.specs.Orders.{Does, order_in, Collects};
+ghost use Rattle.question_text.specs.Sessions.{Does, AnswersLine};
+ghost use Rattle.question_grammar.specs.Orders.{order_in};
 ghost use Rattle.heap_orders.specs.Redos.{no_redo, redo_limit};
-ghost use Rattle.question_text.specs.Sessions.{AnswersLine};
+ghost use Rattle.heap_orders.specs.Deeds.{Collects};
 
 use crate::answers::answer_line;
 use crate::watch::Watch;
 use heap_class::Refusal;
 use heap_orders::{
-    Order, Redo, Steps, collect_answer, forward, forward_to, order_in, rewind_to, run_cycle,
-    take_step,
+    Redo, Steps, collect_answer, forward, forward_to, rewind_to, run_cycle, take_step,
 };
 use heap_step::{Answer, Event, IntoEvent};
 use heap_trail::{Action, Machine, Reply};
+use question_grammar::{Order, order_in};
 use session_text::{Commands, LineAnswer, Local};
 use std::alloc::Global;
 

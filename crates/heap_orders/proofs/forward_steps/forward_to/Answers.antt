@@ -3,7 +3,7 @@ use Rattle.std.specs.Prelude.{Result}
 use Rattle.heap_class.specs.declared.Refusal.{Refusal}
 use Rattle.session_text.specs.Replies.{reply_text}
 use Rattle.question_words.specs.Moments.{refused_text}
-use Rattle.heap_orders.specs.Orders.{GoesOnBy}
+use Rattle.heap_orders.specs.Deeds.{GoesOnBy}
 use Rattle.heap_orders.proofs.forward_steps.forward_to.Goals as goal
 
 pub returns-in-Ok : goal.returns-in-Ok

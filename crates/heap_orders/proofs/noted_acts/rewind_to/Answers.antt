@@ -3,8 +3,8 @@ use Rattle.std.specs.Prelude.{Result}
 use Rattle.heap_class.specs.declared.Refusal.{Refusal}
 use Rattle.session_text.specs.Replies.{reply_text}
 use Rattle.question_words.specs.Moments.{refused_text}
-use Rattle.heap_orders.specs.Orders.{RewindsBy}
-use Rattle.heap_orders.proofs.order.rewind_to.Goals as goal
+use Rattle.heap_orders.specs.Deeds.{RewindsBy}
+use Rattle.heap_orders.proofs.noted_acts.rewind_to.Goals as goal
 
 pub returns-in-Ok : goal.returns-in-Ok
 returns-in-Ok c =

@@ -1,24 +1,17 @@
 //! Lines that change the heap, though they are none of the grammar of sessions.
 ghost use Rattle.std.specs.Prelude.{◌≡◌, ◌∷◌, []};
-ghost use Rattle.heap_trail.specs.declared.Action.TheVariants.{Step};
 ghost use Rattle.session_grammar.specs.Grammar.{words_of_line};
-ghost use Rattle.heap_orders.specs.declared.order.Order.TheVariants.{ForwardTo};
-ghost use Rattle.session_text.specs.Local.{LocalActs};
-ghost use Rattle.session_text.specs.Replies.{line_answer_text};
-ghost use Rattle.heap_orders.specs.Orders.{ActsOnce, RewindsTo, class_by_name, new_by_name, new_of, order_in, order_of_two, order_of_words, to_place, way_back, way_on};
-ghost use Rattle.heap_orders.specs.Redos.{noted};
+ghost use Rattle.question_grammar.specs.declared.order.Order.TheVariants.{ForwardTo};
+ghost use Rattle.question_grammar.specs.Orders.{class_by_name, new_by_name, new_of, order_in, order_of_two, order_of_words, to_place, way_back, way_on};
 
-use crate::redo::Redo;
+use crate::name_words::class_named;
+use crate::question::place_of_word;
 use heap_class::FirstClasses;
 use heap_step::Event;
-use heap_trail::{Action, Machine, Reply};
 use heap_world::World;
-use question_grammar::{class_named, place_of_word};
-use question_words::steps_ago;
 use session_grammar::command::at_end;
 use session_grammar::number::number_of;
 use session_grammar::words::{Words, is_word};
-use session_text::LineAnswer;
 
 /// What such a line asks to be done.
 #[derive(Drop)]
@@ -138,32 +131,4 @@ fn way_on_to(word: &[u8]) -> Option<Order>
 {
     let place = place_of_word(word)??;
     Some(Order::ForwardTo(place))
-}
-
-/// Rewinds a machine to the state at a place. Refused with NotRetained if this state isn't retained. Takes no memory.
-pub fn rewind_to(machine: &mut Machine, redo: &mut Redo, place: u64) -> LineAnswer
-    ensures { RewindsTo place machine.old redo.old (line_answer_text result) machine.new redo.new }
-{
-    match steps_ago(machine, Some(place)) {
-        Ok(count) => LineAnswer::Known(act_and_note(machine, redo, Action::Rewind(count))),
-        Err(refusal) => LineAnswer::Known(Reply::Refused(refusal)),
-    }
-}
-
-// Has a machine act, notes that, and returns the reply.
-fn act_and_note(machine: &mut Machine, redo: &mut Redo, action: Action) -> Reply
-    ensures acts { LocalActs machine.old action result machine.new }
-    ensures noted { redo.new ≡ noted action result redo.old }
-{
-    let reply = machine.act(&action);
-    redo.note(action, &reply);
-    reply
-}
-
-/// Has a machine take a step, and returns the answer.
-pub fn take_step(machine: &mut Machine, redo: &mut Redo, event: Event) -> LineAnswer
-    ensures { ActsOnce (Step event) machine.old redo.old (line_answer_text result) machine.new
-        redo.new }
-{
-    LineAnswer::Known(act_and_note(machine, redo, Action::Step(event)))
 }

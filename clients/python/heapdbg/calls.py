@@ -87,7 +87,7 @@ MOST = (1 << 64) - 1
 
 class Calls:
     """The lines of a session as methods. `send` sends a line and returns what becomes of its reply, and `order` does so for a
-    line whose reply is only `ok`. The types are those of a session's values: a batch returns a `Later` in place of each."""
+    line whose reply is only `ok`. The types are those of a session's values: a batch returns a `Later` instead of each."""
 
     def send(self, line: str, reader: Reader) -> Any:
         """Sends a line whose reply `reader` turns into a value."""

@@ -1,4 +1,4 @@
-"""What is raised in place of a reply: a refusal, a line that isn't known, the end of a session."""
+"""What is raised instead of a reply: a refusal, a line that isn't known, the end of a session."""
 from __future__ import annotations
 
 import re

@@ -3,13 +3,13 @@
 
 Usage: checks/growths.py [-v] PROGRAM
 A session ends by `memory` before it reads, or refuses one line and answers all others as a session without that line, or loses
-a pin and answers all but its pieces as if it hadn't. A line that was refused is answered as ever when it is given once more,
-and so are all after it. So it is beside a page, and with a question in place of a line. Two clients are served at a time: a
-session that ends by `memory` has answered nothing, and the other one goes on, also beside workers and dumps, each of which is
-whole or a beginning. A save is the dump of the session's last state, or a beginning of it if the dump is lost by Memory. If it
-is lost before its first byte, or the session isn't dumped, a file that was there stays as it was, and no file is made. No
-session asks for much more memory at once than its settings need, and no rewind asks for any. Prints a line for each session
-that goes otherwise, and with -v for each how many allocations were refused; ends with status 1 if one goes otherwise."""
+a pin and answers all but its pieces as if it hadn't. A line that was refused is answered as usual when it is given once more,
+and so are all lines after it. The same holds beside a page, and for a question instead of a line. Two clients are served at a
+time: a session that ends by `memory` has answered nothing, and the other one goes on, also beside workers and dumps, each of
+which is whole or a beginning. A save is the dump of the session's last state, or a beginning of it if the dump is lost by
+Memory. If it is lost before its first byte, or the session isn't dumped, a file that was there stays as it was, and no file is
+made. No session asks for much more memory at once than its settings need, and no rewind asks for any. Prints a line for each
+session that misbehaves, and with -v for each how many allocations were refused; ends with status 1 if one misbehaves."""
 import contextlib
 import os
 import pathlib
@@ -46,7 +46,7 @@ SESSIONS = {
 
 # A session with each question that may ask for memory. 0x10000000 leads to the others, and 0x10000040 is lost.
 QUESTIONS = """class Node - next:object v:long, array Nodes, new 0 0 0, new 0 1 0, new 0 2 0, newarray 0 3 1 2, store 0 0 0 1, store 0 1 0 3,
-    put 0 1 1 7, store 0 3 1 0, clear 0 1, clear 0 2, clear 0 3, put 0 0 1 5, open -, histogram, garbage, growth @3, kept @3, diff @3, path 0x10000020,
+    put 0 1 1 7, store 0 3 1 0, clear 0 1, clear 0 2, clear 0 3, put 0 0 1 5, open -, histogram, garbage, growth @3, kept @3, diff @3, path 0x10000020, paths 0x10000020 3,
     retained 0x10000020, dominators, dominators 1, dominators 0x10000000, dominator 0x10000020, referrers 0x10000000, registers, classes, objects,
     objects 1 0 1 7, values 0 1, values 1 1 0, show 0x10000000, show @9 0x10000020, watch 0x10000020 1, writes 0 1, when 0 1 7, dropped 0x10000040,
     history 9, history @9 3, life 0x10000000, cycles, pins, cells, regions, status, show 0x10000060 1 1, when count 0 2,
@@ -187,7 +187,7 @@ def went_well(command, library, lines, number):
 
 
 def wrong_sessions(command, library, lines, tries=1):
-    """Yields the numbers of the allocations after whose refusal a session goes otherwise than it may, and then how many it makes."""
+    """Yields the numbers of the allocations after whose refusal a session misbehaves, and then how many it makes."""
     for number in range(1, LIMIT):
         went = in_tries(tries, lambda number=number: went_well(command, library, lines, number))
         if went is None:
@@ -319,8 +319,8 @@ def connected(server, port):
 
 
 def wrong_acts(program, library, lines):
-    """Yields the numbers of the allocations after whose refusal a session of a shared heap goes otherwise than it may, and then how many
-    it makes."""
+    """Yields the numbers of the allocations after whose refusal a session of a shared heap misbehaves, and then how many it
+    makes."""
     command = [program, "run", "--regions", "2"]
     for number in range(1, LIMIT):
         status, words, answers, error = served(program, library, number, [text_of(lines)])
@@ -384,8 +384,7 @@ def is_saved(program, library, lines, found, dump):
 
 
 def wrong_saves(program, library, lines):
-    """Yields the numbers of the allocations after whose refusal a session that is saved goes otherwise than it may, and then how
-    many it makes."""
+    """Yields the numbers of the allocations after whose refusal a session that is saved misbehaves, and then how many it makes."""
     for number in range(1, LIMIT):
         status, found, error, dump = saved(program, library, lines, number)
         if not error:
@@ -530,8 +529,8 @@ def taken_steps(session, steps, pinned):
 
 
 def wrong_undoing(program, library, pinned):
-    """Yields what goes otherwise than it may in a session that takes all steps, with pins opened at these places, undoes them one by one
-    and closes the pins, and takes the steps and undoes them at once: no rewind and no `close` asks for memory."""
+    """Yields what goes wrong in a session that takes all steps, with pins opened at these places, undoes them one by one and closes
+    the pins, and takes the steps and undoes them at once: no rewind and no `close` may ask for memory."""
     steps = words_of(STEPS)
     last = len(steps)
     with Counted(program, library) as session:

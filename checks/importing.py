@@ -27,7 +27,7 @@ SESSIONS = ("leak", "orders", "services", "point")
 MOST_ELEMENTS, MOST_WITH_AREA, MOST_FIELDS = 1024, 2_097_147, 64
 WIDTHS = {4: 1, 5: 2, 6: 4, 7: 8, 8: 1, 9: 2, 10: 4, 11: 8}
 OBJECT = 2
-# The tag of each kind of root, the bytes behind its id (an identifier, if negative), and the class of the arrays that keep them.
+# The tag of each kind of root, the bytes after its id (an identifier, if negative), and the class of the arrays that keep them.
 ROOTS = {0x01: (-1, "JNI_global"), 0x02: (8, "JNI_local"), 0x03: (8, "Java_frame"), 0x04: (4, "native_stack"), 0x05: (0, "sticky_class"),
          0x06: (4, "thread_block"), 0x07: (0, "monitor_used"), 0x08: (8, "thread_object"), 0xFF: (0, "unknown_root")}
 
@@ -235,7 +235,7 @@ def difference(old, new):
 
 
 def left_out(dump):
-    """Returns what is told of what a session leaves out of a dump that has no fault and keeps within all other limits."""
+    """Returns what is reported as left out by the session of a dump that has no fault and keeps within all other limits."""
     made = {number for number in [*dump.objects, *dump.classes] if dump.is_made(number)}
     slots = [slot for number in dump.objects for slot in dump.parts(number)[1]]
     kept = sum(len(dump.statics_of(number)) for number in dump.classes if number in made)

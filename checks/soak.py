@@ -63,7 +63,7 @@ ANSWERS = {
     "snap": f"ok pushed {NUMBER}", "mark": f"ok pushed {NUMBER}", "drain": "ok pushed [01]", "finish": f"ok condemned {NUMBER}",
     "sweep": f"ok swept {NUMBER}( empty)?", "rewind": f"ok place {NUMBER}", "open": f"ok pin {NUMBER} at {NUMBER}",
     "dump": f"ok dump {NUMBER}", "piece": f"ok (piece|last) {NUMBER}", "close": "ok", "what": "bad command",
-    "histogram": f"ok {NUMBER} {NUMBER}", "garbage": f"ok {NUMBER} {NUMBER}", "registers": f"ok {NUMBER}", "path": f"ok {NUMBER}",
+    "histogram": f"ok {NUMBER} {NUMBER}", "garbage": f"ok {NUMBER} {NUMBER}", "registers": f"ok {NUMBER}", "path": f"ok {NUMBER}", "paths": f"ok {NUMBER}",
     "history": f"ok {NUMBER}", "pins": f"ok {NUMBER}", "objects": f"ok {NUMBER}", "cells": f"ok {NUMBER}", "status": "ok 8",
     "dominators": f"ok {NUMBER}", "dominator": f"ok {NUMBER}", "show": f"ok object {NAMED} {NUMBER}( marked)?",
     "regions": f"ok {NUMBER}", "cycles": f"ok {NUMBER}", "life": f"ok {NUMBER}", "kept": f"ok {NUMBER} {NUMBER}", "diff": f"ok {NUMBER}",
@@ -81,7 +81,7 @@ ROWS = {
     "writes": f"{NUMBER} {ID} ({NUMBER} {NUMBER}|(null|{ID}) (null|{ID}))",
     "diff": f"{ID} (made|gone|{NUMBER} ({NUMBER} {NUMBER}|(null|{ID}) (null|{ID})))",
     "values": f"({NUMBER}|null|{ID}) {NUMBER}",
-    "path": f"([0-3] [0-7] {ID}|{ID} {NUMBER} {ID})", "history": f"{NUMBER} [a-z]+.*", "pins": f"{NUMBER} {NUMBER} (held {NUMBER}|lost Rewound)",
+    "path": f"([0-3] [0-7] {ID}|{ID} {NUMBER} {ID})", "paths": f"([0-3] [0-7] {ID}|{ID} {NUMBER} {ID})", "history": f"{NUMBER} [a-z]+.*", "pins": f"{NUMBER} {NUMBER} (held {NUMBER}|lost Rewound)",
 }
 # What standard error may tell of dumps.
 TOLD = re.compile(rb"(heapdbg: dump (PinLimit|Rewound)( \(\d+ times\))?\n)*(heapdbg: nothing is told of further dumps\n)?")
@@ -113,6 +113,7 @@ def line_by_lot(lot):
         (1, "what is this"), (0.1, "collect"), (0.3, f"forward {lot.choice(['1', '@'])}{lot.randrange(30)}"), (1, "histogram -"), (1, "garbage -"), (1, f"kept @{lot.randrange(3000)}"), (1, "registers -"), (1, "pins"),
         (1, "objects -"), (1, "cells"), (1, "regions"), (1, "cycles"), (1, "status"),
         (1, f"path - 0x{0x10000000 + lot.randrange(1 << 12) * 8:08x}"),
+        (1, f"paths {lot.choice(['', '- '])}0x{0x10000000 + lot.randrange(1 << 8) * 32:08x} {lot.choice([1, 4])}"),
         (1, f"retained {lot.choice(['', '- '])}0x{0x10000000 + lot.randrange(1 << 12) * 8:08x}"),
         (1, f"dominators {lot.choice(['', '-', '5', '- 5'])}"),
         (1, f"dominators 0x{0x10000000 + lot.randrange(1 << 8) * 32:08x}{lot.choice(['', ' 5'])}"),

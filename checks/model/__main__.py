@@ -46,8 +46,8 @@ SESSIONS = {
 NAMES = [f"{name}-{number}" for name, (_, _, count, _) in SESSIONS.items() for number in range(1, count + 1)]
 # The sessions with questions, which go to `explore`.
 ASKED = ("asked", "asked-short", "asked-wide", "asked-large")
-# How sessions end: what stands behind the last line, what it is answered, and the status and standard error of the program. The last
-# one is by as many of its letters as make a line too long.
+# How sessions end: what comes after the last line, how it is answered, and the status and standard error of the program. The last
+# one has as many letters as make a line too long.
 ENDS = (
     (b"", b"", 0, b""),
     (b"end\nclear 0 0\nmark", b"", 0, b""),

@@ -16,6 +16,7 @@ WANTED = {
     "kept": ("ok nothing", "ok some", *ABOUT_A_MOMENT[1:]),
     "diff": ("ok nothing", "ok some", *ABOUT_A_MOMENT[1:]),
     "path": (*ABOUT_A_MOMENT, "no 27", "no 28"),
+    "paths": ("ok one", "ok several", "ok all", *ABOUT_A_MOMENT[1:], "no 27", "no 28", "bad"),
     "retained": ("ok nothing", "ok itself", "ok more", "ok without AT", "no 22", "no 23", "no 24", "no 28"),
     "dominators": (
         *("ok nothing", "ok some", "ok some of them", "ok nothing below", "ok some below", "ok some of them below"),
@@ -73,6 +74,10 @@ def sorts(word, form, words, left_out, last, rows):
         yield ("ok nothing" if last[1] == "0" else "ok some") + below
         if word == b"dominators" and form.endswith("n") and last[1] != "0":
             yield "ok some of them" + below
+    elif word == b"paths" and last[0] == "ok":
+        yield "ok one" if last[1] == "1" else "ok several"
+        if int(last[1]) < int(words[-1]):
+            yield "ok all"
     elif word == b"when" and "#" in form and last[0] == "ok":
         yield f"ok count {last[1]}"
     elif word == b"show" and form.endswith("nn") and last[0] == "ok":
@@ -172,6 +177,7 @@ class AskingDraw(Draw):
         draws["r"] = lambda: self.retained_place() if self.lots.once_in(5) else f"@{max(0, self.machine.place + 1 - self.lots.below(5))}"
         draws["w"] = self.way_on
         draws["n"] = lambda: self.lots.near(self.lots.below(8), 70)
+        draws["m"] = lambda: self.lots.near(self.lots.pick([0, 1, 1, 2, 2, 3, 5, 9, 256, 257]), 70)
         draws["#"] = lambda: "count"
         if word == b"show":
             draws |= {"i": self.shown_object, "n": self.asked_index}

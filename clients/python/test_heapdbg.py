@@ -324,6 +324,11 @@ class Columns(unittest.TestCase):
         first, step = self.asked(lambda heap: heap.path(None, 16), "row 1 2 0x00000008", "row 0x00000008 3 0x00000010", "ok 1")
         self.assertEqual((first.mutator, first.register, first.id), (1, 2, 8))
         self.assertEqual((step.holder, step.slot, step.id), (8, 3, 16))
+        rows = "row 0 1 0x00000010", "row 1 2 0x00000008", "row 0x00000008 3 0x00000010", "row 1 2 0x00000008", "row 0x00000008 4 0x00000010"
+        first, second, third = self.asked(lambda heap: heap.paths(None, 16, 3), *rows, "ok 3")
+        self.assertEqual(first, [(0, 1, 16)])
+        self.assertEqual(second, [(1, 2, 8), (8, 3, 16)])
+        self.assertEqual((third[0].register, third[1].slot, third[1].id), (2, 4, 16))
         value, reference = self.asked(lambda heap: heap.watch(16, 1), "row 3 0 7", "row 5 null 0x00000008", "ok 2")
         self.assertEqual((value.place, value.old, value.new), (3, 0, 7))
         self.assertEqual((reference.place, reference.old, reference.new), (5, None, 8))
@@ -657,6 +662,7 @@ class Names(unittest.TestCase):
             self.assertEqual((heap.retained(None, array), heap.retained(None, node)), ([(1, 16, "[null;")], [(1, 8, "2024")]))
             heap.clear(0, 1)
             self.assertEqual(heap.path(None, node), [(0, 0, array), (array, 1, node)])
+            self.assertEqual(heap.paths(None, node, 1), [[(0, 0, array), (array, 1, node)]])
             self.assertEqual(heap.retained(None, array), [(1, 16, "[null;"), (1, 8, "2024")])
             self.assertEqual(heap.retained("@6", array), [(1, 16, "[null;")])
 

@@ -56,6 +56,7 @@ from .rows import (
     open_pin,
     past,
     path_step,
+    paths_of_rows,
     piece,
     place_or_older,
     reference,
@@ -86,7 +87,7 @@ MOST = (1 << 64) - 1
 
 class Calls:
     """The lines of a session as methods. `send` sends a line and returns what becomes of its reply, and `order` does so for a
-    line whose reply is only `ok`. The types are those of a session's values: a batch returns a `Later` in place of each."""
+    line whose reply is only `ok`. The types are those of a session's values: a batch returns a `Later` instead of each."""
 
     def send(self, line: str, reader: Reader) -> Any:
         """Sends a line whose reply `reader` turns into a value."""
@@ -247,6 +248,11 @@ class Calls:
     def path(self, moment: Moment, to: int) -> list[Union[RegisterStep, SlotStep]]:
         """Returns a shortest path to an object: a `RegisterStep`, then a `SlotStep` for each slot."""
         return self.send(f"path {word_of_moment(moment)} {ObjectId(to)}", rows_by(path_step))
+
+    def paths(self, moment: Moment, to: int, most: int) -> list[list[Union[RegisterStep, SlotStep]]]:
+        """Returns up to `most` paths to an object, 1 to 256, each as `path` has it. No two start at the same register by the same
+        slot: each is the shortest that starts like none of those before it."""
+        return self.send(f"paths {word_of_moment(moment)} {ObjectId(to)} {most}", paths_of_rows)
 
     def retained(self, moment: Moment, of: int) -> list[ClassCount]:
         """Returns a `ClassCount` for each class of the objects that are reached, and wouldn't be without this one, itself

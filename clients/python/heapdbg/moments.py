@@ -45,7 +45,7 @@ Moment = Union[Now, Place, Pin, PinAt, None, int, str]
 
 
 def up_to(moment: Moment) -> str:
-    """Returns the word of a moment in a line and a space behind it, or nothing for the current state."""
+    """Returns the word of a moment in a line and a space after it, or nothing for the current state."""
     return "" if moment is None else f"{word_of_moment(moment)} "
 
 

@@ -389,6 +389,16 @@ def path_step(row: list) -> tuple:
     return (RegisterStep if row[0].isdigit() else SlotStep)(*map(number_or_id, row))
 
 
+def paths_of_rows(words: list, lines: list) -> list:
+    """Returns the paths of such rows, each as the list of its steps: a path begins with a register."""
+    paths = []
+    for step in rows_by(path_step)(words, lines):
+        if isinstance(step, RegisterStep):
+            paths.append([])
+        paths[-1].append(step)
+    return paths
+
+
 def reference(row: list) -> tuple:
     """Reads M R, or ID SLOT."""
     return (RegisterReference if row[0].isdigit() else SlotReference)(*map(number_or_id, row))

@@ -17,9 +17,9 @@ use Rattle.http1.specs.Fields.{Header}
 use Rattle.http_server.specs.declared.response.Response.{Response}
 use Rattle.http_server.specs.Response.{IsResponse}
 use Rattle.question_text.specs.Answers.{IsAnswerOfLine}
-use Rattle.question_text.specs.Moments.{image_at}
-use Rattle.question_text.specs.Questions.{at_of_word}
-use Rattle.question_text.specs.declared.question.At.{At}
+use Rattle.question_words.specs.Moments.{image_at}
+use Rattle.question_grammar.specs.Questions.{at_of_word}
+use Rattle.question_words.specs.declared.at.At.{At}
 use Rattle.heap_page.specs.Admission.{PageTerms, asked_of}
 use Rattle.heap_page.specs.declared.admission.Asked.{Asked}
 use Rattle.heap_page.specs.declared.admission.Asked.TheVariants.{Page, Line, Dump, Refused}

@@ -2,11 +2,11 @@
 ghost use Rattle.std.specs.Prelude.{◌≡◌, [], IfOk, OnOk, OnErr, Some, length};
 ghost use Rattle.session_text.specs.Replies.{line_answer_text};
 ghost use Rattle.question_text.specs.Answers.{IsAnswerOfLine};
-ghost use Rattle.question_text.specs.Questions.{at_of_word};
+ghost use Rattle.question_grammar.specs.Questions.{at_of_word};
 ghost use Rattle.http_server.specs.Response.{IsBlank, IsResponse};
 ghost use Rattle.heap_class.specs.Table.{refusal_name};
 ghost use Rattle.heap_page.specs.PageAnswers.{IsAnswerResponse, IsDumpResponse, IsImageResponse, IsLineResponse, IsRefusalResponse, IsResponseTo, dump_status, fixed_fields, page_fields, text_fields, typed_fields};
-ghost use Rattle.question_text.specs.Moments.{image_at};
+ghost use Rattle.question_words.specs.Moments.{image_at};
 
 use crate::admission::{Asked, asked_of};
 use crate::page_text::{PAGE, POLICY};
@@ -16,7 +16,9 @@ use heap_class::Refusal;
 use heap_lock::{Heap, Kept, Machine, Shared, Witness};
 use http::{HeaderName, HeaderValue, Request, StatusCode, header};
 use http_server::{Response, Service};
-use question_text::{At, answer_line, at_of, dump_at};
+use question_grammar::at_of;
+use question_text::{answer_line, dump_at};
+use question_words::At;
 use session_text::{LineAnswer, printed};
 use std::alloc::{AllocError, Global};
 use std::marker::Model;

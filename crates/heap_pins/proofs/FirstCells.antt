@@ -1,5 +1,5 @@
 -- The first cell with a live object, region by region.
-use Rattle.std.proofs.Common.{◌≡◌, ◌≢◌, ℕ, ◌+◌, ◌-◌, ◌*◌, ◌<◌, ◌≤◌, Bool, true, List, [], length, length-drop, drop, get_or, Option, Some, None, refl, sym, ap, ◌∙◌, arith}
+use Rattle.std.proofs.Common.{◌≡◌, ◌≢◌, ℕ, ◌+◌, ◌-◌, ◌*◌, ◌<◌, ◌≤◌, Bool, true, false, List, [], length, length-drop, drop, get_or, Option, Some, None, refl, sym, ap, ◌∙◌, arith}
 use mathlib.Core.Logic.{inl, inr}
 use Rattle.std.specs.Prelude.{is_some, slice_index_or}
 use Rattle.std.proofs.lemmas.Bool.{cases_lt, eqb-true, eq-eqb}
@@ -55,6 +55,19 @@ none_in_unused_region p regions r from none unused = λ c low lt e. zero_is_not_
 -- past the cells of a region there is nothing
 pub none_past_cells : (ended : Bool) (bytes : List ℕ) (u : UsedRegion) (r c : ℕ) → length u.cells ≤ c → state_by ended bytes u (cell_of r c) ≢ 1
 none_past_cells ended bytes u r c past e = absurd (omega (arith, e, ap (λ o. state_kept ended (slice_index_or bytes c 0) (cell_state o)) (get_or_past u.cells c None past) ∙ nothing_was_nothing ended (slice_index_or bytes c 0)))
+
+-- a live object of a region of which nothing is kept
+live_stays : (ended : Bool) → state_kept ended 0 1 ≡ 1
+live_stays true = refl
+live_stays false = refl
+
+pub live_now_is_shown : (p : PinContents) (regions : List Region) (r c : ℕ) (u : UsedRegion) → slice_index_or p.copies r None ≡ None → slice_index_or p.cells r [] ≡ blank → used_at regions r ≡ Some u → storage_states u (cell_of r c) ≡ 1 → state_seen p regions (cell_of r c) ≡ 1
+live_now_is_shown p regions r c u none is used live =
+    free_cell_is_kept p regions (cell_of r c) none
+    ∙ ap (λ o. state_kept p.ended (byte_in p.cells (cell_of r c)) (cell_state o)) (object_of_used regions (cell_of r c) ∙ ap (λ s. slot_object s c) used)
+    ∙ ap (state_kept p.ended (byte_in p.cells (cell_of r c))) live
+    ∙ ap (λ b. state_kept p.ended b 1) (ap (λ l. slice_index_or l c 0) is ∙ zero_in_blank c)
+    ∙ live_stays p.ended
 
 -- a search of the cells of a region in use
 pub first_of_storage : (f : ObjRef → ℕ) (r from c s : ℕ) → from ≤ c → c < 256 → HasNone f r from c → s ≡ f (cell_of r c) → s ≡ 1 → IsFirstIn f r from (Some c)
@@ -148,6 +161,10 @@ first_in_region_is_first f n k r from c within low before h = (
   h.2,
   λ i at_least lt. none_in_region_before f k r from c i (omega (arith, h.1)) before h.3 at_least lt,
 )
+
+pub live_cell_is_first : (f : ObjRef → ℕ) (n r c : ℕ) → r < n → c < 256 → f (cell_of r c) ≡ 1 → IsFirstPlace f (256 * n) (256 * r + c) (Some (record { region = r; cell = c }))
+unfolding IsFirstIn
+live_cell_is_first f n r c within few is = first_in_region_is_first f n (256 * r + c) r c c within (omega arith) (none_at_first f r c) (omega arith, few, is, λ i low lt e. absurd (omega (arith, low, lt)))
 
 pub none_in_regions_is_none : (f : ObjRef → ℕ) (n k r from : ℕ) → n ≤ r → NoneUpTo f k r from → IsFirstPlace f (256 * n) k None
 unfolding IsFirstPlace

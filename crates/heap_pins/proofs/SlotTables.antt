@@ -1,8 +1,8 @@
 -- The table of what is kept: an item is added or written.
-use Rattle.std.proofs.Common.{◌≡◌, ◌≢◌, ◌⊎◌, ℕ, zero, suc, Bool, false, ◌+◌, ◌<◌, ◌≤◌, List, [], ◌∷◌, ◌++◌, length, length-set, map, set, get_or, replicate, Option, Some, None, refl, sym, ap, subst, ◌∙◌, arith}
+use Rattle.std.proofs.Common.{◌≡◌, ◌≢◌, ◌⊎◌, ℕ, zero, suc, Bool, true, false, ◌+◌, ◌<◌, ◌≤◌, List, [], ◌∷◌, ◌++◌, length, length-set, map, set, get_or, replicate, Option, Some, None, refl, sym, ap, subst, ◌∙◌, arith}
 use mathlib.Core.Logic.{inl, inr}
-use Rattle.std.specs.Prelude.{is_some, slice_get}
-use Rattle.std.proofs.lemmas.Bool.{cases_lt}
+use Rattle.std.specs.Prelude.{◌==◌, is_some, not, slice_get}
+use Rattle.std.proofs.lemmas.Bool.{cases_lt, eqb-true}
 use Rattle.std.proofs.lemmas.List.{ext_get_or, length-append, get_or-set_same, get_or-set_other, get_or_past, length-map, length-replicate, map-set, set-get_or}
 use Rattle.std.proofs.Math.ListN.{get_or-map}
 use Rattle.heap_region.proofs.References.{get_set_other}
@@ -242,6 +242,14 @@ no_bytes_past_the_list kept slots r le = get_or_past (map (bytes_in kept) slots)
 
 abbrev pub contents_of : List KeptRegion → List ℕ → KeptContents
 contents_of kept slots = record { copies = map (copy_in kept) slots; cells = map (bytes_in kept) slots }
+
+-- a number is 0 if it isn't other than 0
+pub zero_by_flag : (n : ℕ) → not (n == 0) ≡ false → n ≡ 0
+zero_by_flag n is = go (n == 0) refl is
+  where
+    go : (b : Bool) → (n == 0) ≡ b → not b ≡ false → n ≡ 0
+    go true e h = eqb-true n 0 e
+    go false e h = cc
 
 -- a region without an item
 pub nothing_is_kept_of_region : (kept : List KeptRegion) (slots : List ℕ) (r : ℕ) → r < length slots → get_or slots r 0 ≡ 0 → (get_or (map (copy_in kept) slots) r None ≡ None) × (get_or (map (bytes_in kept) slots) r [] ≡ blank)

@@ -1,5 +1,5 @@
 -- What a pin keeps of the regions.
-use Rattle.std.specs.Prelude.{◌≡◌, ◌==◌, ℕ, List, [], length, Option, Some, None, replicate, slice_index_or, if◌then◌else◌}
+use Rattle.std.specs.Prelude.{◌≡◌, ◌==◌, ℕ, Bool, false, List, [], length, Option, Some, None, replicate, slice_index_or, if◌then◌else◌}
 use Rattle.heap_class.specs.declared.ObjRef.{ObjRef}
 use Rattle.heap_region.specs.RegionCopies.{Frozen}
 use Rattle.heap_pins.specs.Pin.{byte_in}
@@ -16,6 +16,12 @@ blank = replicate 256 0
 -- nothing is kept of n regions
 abbrev pub nothing_kept : ℕ → KeptContents
 nothing_kept n = record { copies = replicate n None; cells = replicate n blank }
+
+-- without the flag there is no copy of region r, and its bytes are blank
+abbrev pub IsKeptOf : Bool → KeptContents → ℕ → Type 0
+IsKeptOf any k r =
+    any ≡ false
+    → (slice_index_or k.copies r None ≡ None) × (slice_index_or k.cells r [] ≡ blank)
 
 -- the byte of a cell after all objects were made live, which is its state if the region has a copy
 abbrev pub byte_revived : Option Frozen → ℕ → ℕ

@@ -44,7 +44,8 @@ pub record AreSlots (slots : List ℕ) (kept : List KeptRegion) (capacity : ℕ)
       → (slice_index_or slots r 0 ≡ 0) ⊎ (q ≡ r)
 
 -- each region's flag tells whether it has a copy
-pub record IsTable (copied : List Bool) (slots : List ℕ) (kept : List KeptRegion) (capacity : ℕ) : Type 0 where
+pub record IsTable (copied : List Bool) (slots : List ℕ) (kept : List KeptRegion)
+    (capacity : ℕ) : Type 0 where
   pub table : AreSlots slots kept capacity
   pub flags : copied ≡ map is_some (map (copy_in kept) slots)
 

@@ -1,12 +1,12 @@
 -- The states of the cells of a region, as they are found.
-use Rattle.std.specs.Prelude.{◌≡◌, ◌≢◌, ◌≤◌, ◌<◌, ℕ, Bool, List, length, Option, Some, None, option_map, slice_index_or}
+use Rattle.std.specs.Prelude.{◌≡◌, ◌≢◌, ◌≤◌, ◌<◌, ℕ, Bool, true, List, length, Option, Some, None, option_map, slice_index_or}
 use Rattle.heap_class.specs.declared.ObjRef.{ObjRef}
 use Rattle.heap_region.specs.Regions.{Object, UsedRegion, Region, cell_object, object_at}
 use Rattle.heap_region.specs.RegionCopies.{frozen, frozen_word_set, region_frozen}
 use Rattle.heap_step.specs.declared.Undo.TheVariants.{Sweep}
 use Rattle.heap_world.specs.State.{HeapState}
 use Rattle.heap_pins.specs.KeptCopies.{has_copy, kept_at, with_dead}
-use Rattle.heap_pins.specs.Pin.{PinContents, byte_in, cell_state, place, state_kept, states_of_region}
+use Rattle.heap_pins.specs.Pin.{PinContents, byte_in, cell_state, place, state_kept, state_seen, states_of_region}
 use Rattle.heap_pins.specs.Walk.{dead_state, states_before}
 
 -- a cell of region r
@@ -27,6 +27,11 @@ unfoldable pub IsFirstIn : (ObjRef → ℕ) → ℕ → ℕ → Option ℕ → T
 IsFirstIn f r from None = HasNone f r from 256
 IsFirstIn f r from (Some c) =
     (from ≤ c) × (c < 256) × (f (cell_of r c) ≡ 1) × HasNone f r from c
+
+-- with the flag the pin shows a live object in this cell of one of these regions
+abbrev pub IsShownIf : Bool → PinContents → List Region → ℕ → ℕ → Type 0
+IsShownIf flag p regions r c =
+    flag ≡ true → (r < length regions) × (state_seen p regions (cell_of r c) ≡ 1)
 
 -- the result is the first of n cells, by number, from number k on that has state 1 by f
 unfoldable pub IsFirstPlace : (ObjRef → ℕ) → ℕ → ℕ → Option ObjRef → Type 0

@@ -3,7 +3,7 @@ ghost use Rattle.std.specs.Prelude.{◌≡◌, ◌<◌, ◌≤◌, ℕ, [], leng
 ghost use Rattle.std.specs.Vec.{vec_capacity};
 ghost use Rattle.heap_class.specs.declared.Refusal.TheVariants.{NoMemory};
 ghost use Rattle.heap_region.specs.Limits.{cell_limit, region_limit};
-ghost use Rattle.heap_pins.specs.KeptRegions.{IsRevivedTable, blank, nothing_kept};
+ghost use Rattle.heap_pins.specs.KeptRegions.{IsKeptOf, IsRevivedTable, blank, nothing_kept};
 ghost use Rattle.heap_pins.specs.Slots.{AreRevived, AreSlots, IsByteRevived, IsItemRevived, IsSlotFor};
 
 use heap_class::Refusal;
@@ -43,7 +43,8 @@ impl Model for KeptRegions {
           cells = map (bytes_in t.kept.items) t.slots.items;
         } };
 
-    ghost invariant = { λ t. IsTable t.copied.items t.slots.items t.kept.items (vec_capacity t.kept) };
+    ghost invariant = { λ t. IsTable t.copied.items t.slots.items t.kept.items
+        (vec_capacity t.kept) };
 }
 
 impl KeptRegions {
@@ -101,7 +102,17 @@ impl KeptRegions {
         }
     }
 
+    // Tells whether anything is kept of a region. What is kept may be no copy, and 0 for each cell.
+    #[inline(always)]
+    pub(crate) fn has_any(&self, region: u64) -> bool
+        requires { region < length self.now.copies }
+        ensures { IsKeptOf result self.now region }
+    {
+        self.slots[region as usize] != 0
+    }
+
     // Writes the byte of a cell. Takes no memory.
+    #[inline(always)]
     pub(crate) fn set_byte(&mut self, region: u64, cell: u64, byte: u8)
         requires region { region < length self.old.copies }
         requires cell { cell < 256 }
@@ -138,7 +149,9 @@ impl KeptRegions {
     // Puts a copy of a region in. Takes no memory.
     fn set_copy(&mut self, region: u64, copy: FrozenRegion)
         requires { region < length self.old.copies }
-        ensures { self.new ≡ record self.old { copies = slice_set self.old.copies region (Some copy) } }
+        ensures { self.new ≡ record self.old {
+          copies = slice_set self.old.copies region (Some copy);
+        } }
     {
         let slot = slot_for(&mut self.slots, &mut self.kept, region as usize);
         let _old = self.kept[slot].copy.replace(copy);
@@ -149,7 +162,9 @@ impl KeptRegions {
     pub(crate) fn take_copy(&mut self, region: u64) -> Option<FrozenRegion>
         requires { region < length self.old.copies }
         ensures taken { result ≡ slice_index_or self.old.copies region None }
-        ensures left { self.new ≡ record self.old { copies = slice_set self.old.copies region None } }
+        ensures left { self.new ≡ record self.old {
+          copies = slice_set self.old.copies region None;
+        } }
     {
         match self.slots[region as usize] {
             0 => None,
@@ -175,20 +190,32 @@ fn slot_for(slots: &mut Vec<u32>, kept: &mut Vec<KeptRegion>, region: usize) -> 
     requires table { AreSlots slots.old.items kept.old.items (vec_capacity kept.old) }
     requires region { region < length slots.old.items }
     ensures table { AreSlots slots.new.items kept.new.items (vec_capacity kept.new) }
-    ensures slot { IsSlotFor slots.old.items kept.old.items slots.new.items kept.new.items region result }
+    ensures slot { IsSlotFor slots.old.items kept.old.items slots.new.items kept.new.items region
+        result }
 {
     match slots[region] {
-        0 => {
-            let slot = kept.len();
-            kept.push_reserved(KeptRegion {
-                copy: None,
-                cells: blank(),
-            });
-            slots[region] = slot as u32 + 1;
-            slot
-        }
+        0 => add_item(slots, kept, region),
         slot => slot as usize - 1,
     }
+}
+
+// Adds an item for a region that has none, and returns its index. Takes no memory.
+#[inline(never)]
+fn add_item(slots: &mut Vec<u32>, kept: &mut Vec<KeptRegion>, region: usize) -> usize
+    requires table { AreSlots slots.old.items kept.old.items (vec_capacity kept.old) }
+    requires region { region < length slots.old.items }
+    requires none { slice_index_or slots.old.items region 0 ≡ 0 }
+    ensures table { AreSlots slots.new.items kept.new.items (vec_capacity kept.new) }
+    ensures slot { IsSlotFor slots.old.items kept.old.items slots.new.items kept.new.items region
+        result }
+{
+    let slot = kept.len();
+    kept.push_reserved(KeptRegion {
+        copy: None,
+        cells: blank(),
+    });
+    slots[region] = slot as u32 + 1;
+    slot
 }
 
 // Makes the objects live of each item with a copy.
@@ -212,7 +239,8 @@ fn revive_item(item: &mut KeptRegion)
 
 // Makes 1 of each byte that isn't 0.
 pub(crate) fn make_live(bytes: &mut [u8; 256])
-    ensures bytes { (k : ℕ) → IsByteRevived (slice_index_or bytes.old k 0) (slice_index_or bytes.new k 0) }
+    ensures bytes { (k : ℕ)
+        → IsByteRevived (slice_index_or bytes.old k 0) (slice_index_or bytes.new k 0) }
     ensures count { length bytes.new ≡ length bytes.old }
 {
     for k in 0..256 {

@@ -1,5 +1,5 @@
 //! A pin: a past state as a dump needs it, kept beside the heap that goes on.
-ghost use Rattle.std.specs.Prelude.{◌≡◌, ◌<◌, [], length, None, IsSome, IfSome, IfOk, IfErr, OnOk, OnErr, slice_index_or, is_some, All, if◌then◌else◌};
+ghost use Rattle.std.specs.Prelude.{◌≡◌, ◌<◌, [], length, None, IsSome, IfSome, IfOk, IfErr, OnOk, OnErr, slice_index_or, slice_set, replicate, is_some, All, if◌then◌else◌};
 ghost use Rattle.heap_class.specs.declared.Refusal.TheVariants.{NoMemory};
 ghost use Rattle.heap_region.specs.Limits.{cell_limit};
 ghost use Rattle.heap_region.specs.Regions.{object_at, used_at};
@@ -144,12 +144,14 @@ impl Pin {
         }
     }
 
-    // Keeps that a cell, or a region, was taken, unless the region has a copy.
+    /// Keeps of a step with a new object what `keep` does: that its cell was taken, or all cells of its region if that was taken
+    /// from the pool, unless the pin has a copy of the region.
     #[inline(always)]
-    fn keep_new(&mut self, at: ObjRef, fresh: bool)
+    pub fn keep_new(&mut self, at: ObjRef, fresh: bool)
         requires region { at.region < length self.old.copies }
         requires cell { at.cell < cell_limit }
-        ensures { self.new ≡ (if has_copy at.region self.old then self.old else with_byte at fresh 1 self.old) }
+        ensures { self.new
+            ≡ (if has_copy at.region self.old then self.old else with_byte at fresh 1 self.old) }
     {
         if !self.has_copy(at.region as u64) {
             self.set_byte(at, fresh, TAKEN);
@@ -164,10 +166,21 @@ impl Pin {
         ensures { self.new ≡ with_byte at fresh byte self.old }
     {
         if fresh {
-            self.kept.set_bytes(at.region as u64, &filled(byte));
+            self.fill(at.region as u64, byte);
         } else {
             self.kept.set_byte(at.region as u64, at.cell as u64, byte);
         }
+    }
+
+    // Writes the bytes of all cells of a region.
+    #[inline(never)]
+    fn fill(&mut self, region: u64, byte: u8)
+        requires { region < length self.old.copies }
+        ensures { self.new ≡ record self.old {
+          cells = slice_set self.old.cells region (replicate cell_limit byte);
+        } }
+    {
+        self.kept.set_bytes(region, &filled(byte));
     }
 
     // Copies a region of which a word was overwritten, with the old word.

@@ -4,7 +4,7 @@ ghost use Rattle.memchr.specs.Find.{IsFirstByte, is_byte};
 ghost use Rattle.heap_region.specs.Limits.{cell_limit, region_limit};
 ghost use Rattle.heap_pins.specs.Pin.{IsPlaceAfter, byte_in, object_seen, places_seen, state_seen, states_seen};
 ghost use Rattle.heap_pins.specs.Shows.{IsSeen};
-ghost use Rattle.heap_pins.specs.States.{IsFirstIn, IsFirstPlace, state_by, state_in_storage};
+ghost use Rattle.heap_pins.specs.States.{IsFirstIn, IsFirstPlace, IsShownIf, state_by, state_in_storage};
 
 use crate::cells::{EMPTY, LIVE, state_kept, storage_state};
 use crate::pin::Pin;
@@ -37,7 +37,42 @@ impl Pin {
     }
 
     /// Returns the place of the object after the one at this place. The pin must have a place for each region of the heap.
+    #[inline(always)]
     pub fn next(&self, world: &World, at: ObjRef) -> Option<ObjRef>
+        requires { length self.now.copies ≡ length world.now.regions }
+        ensures { IsPlaceAfter (states_seen self.now world.now.regions) at result }
+    {
+        if at.cell < 255 {
+            let cell = at.cell + 1;
+            if self.is_live_now(world, at.region as u64, cell as u64) {
+                return Some(ObjRef {
+                    region: at.region,
+                    cell,
+                });
+            }
+        }
+        self.next_from(world, at)
+    }
+
+    // Tells whether nothing is kept of a region and a cell of it has a live object. The pin shows that object then, be it that a
+    // cycle ended or not.
+    #[inline(always)]
+    fn is_live_now(&self, world: &World, region: u64, cell: u64) -> bool
+        requires { length self.now.copies ≡ length world.now.regions }
+        ensures { IsShownIf result self.now world.now.regions region cell }
+    {
+        if region >= world.regions().count() || self.kept.has_any(region) {
+            return false;
+        }
+        match world.regions().region(region) {
+            Some(storage) => storage_state(storage, cell) == LIVE,
+            None => false,
+        }
+    }
+
+    // Returns the place of the object after the one at this place, region by region.
+    #[inline(never)]
+    fn next_from(&self, world: &World, at: ObjRef) -> Option<ObjRef>
         requires { length self.now.copies ≡ length world.now.regions }
         ensures { IsPlaceAfter (states_seen self.now world.now.regions) at result }
     {

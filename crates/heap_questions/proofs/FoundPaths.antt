@@ -8,10 +8,10 @@ use Rattle.std.proofs.lemmas.List.Quantifiers.{position-Some}
 use Rattle.std.proofs.lemmas.List.Sums.{fails_before_first}
 use Rattle.std.proofs.lemmas.Option.{none-some, same_Some, slice_get_within, get_or_from_slice_get}
 use Rattle.heap_class.specs.declared.ObjRef.{ObjRef}
-use Rattle.hprof_text.specs.Image.{Image, IsDumpable}
+use Rattle.hprof_text.specs.Image.{Image}
 use Rattle.hprof_text.proofs.Loops.{item_of_list_within}
 use Rattle.heap_questions.specs.Graph.{HasId, IsFirstPath, IsPathTo, IsShortest, IsUnreached, followed}
-use Rattle.heap_questions.specs.Search.{AreAllSeen, AreNodes, AreReached, Earlier, Found, HasEnded, HasSearchedFor, IsNoHigher, IsQueueOf, IsReachedBy, IsSearch, IsSearchedTo, IsTraced, IsWayBack, Register, Slot, Via, entry_of, node_with}
+use Rattle.heap_questions.specs.Search.{AreAllSeen, AreNodes, AreReached, Earlier, Found, HasEnded, HasSearchedFor, IsNoHigher, IsQueueOf, IsReachedBy, IsSearch, IsSearchedTo, IsTraced, IsWayBack, Register, Slot, Via, entry_of, node_with, source_limit}
 use Rattle.heap_questions.specs.declared.nodes.Node.{Node}
 use Rattle.heap_questions.specs.declared.search.Entry.{Entry}
 use Rattle.heap_questions.proofs.LongerLists.{got_same}
@@ -43,9 +43,9 @@ way_leads image queue a (s ∷ back) k r f h w =
 
 -- ---- what a search leaves
 
-queue_of : (image : Image) (nodes : List Node) (seen : List Bool) (entries : List Entry) (head : ℕ) → IsDumpable image → (s : IsSearch image nodes seen entries head) → IsQueueOf image nodes entries s.queue
-queue_of image nodes seen entries head d s =
-    record { kept = s.kept; few = d.few_registers; reached = s.search.reached; placed = s.search.placed; rising = s.search.rising; ordered = (Slot 0 head, s.ordered) }
+queue_of : (image : Image) (nodes : List Node) (seen : List Bool) (entries : List Entry) (head : ℕ) → length image.registers ≤ source_limit → (s : IsSearch image nodes seen entries head) → IsQueueOf image nodes entries s.queue
+queue_of image nodes seen entries head few s =
+    record { kept = s.kept; few = few; reached = s.search.reached; placed = s.search.placed; rising = s.search.rising; ordered = (Slot 0 head, s.ordered) }
 
 -- a search that has ended looked at each whose children are less deep than the goal
 looked_at_all : (image : Image) (nodes : List Node) (seen : List Bool) (entries : List Entry) (head goal d : ℕ) → (s : IsSearch image nodes seen entries head) → IsNoHigher s.queue goal d → HasEnded seen entries head (Some goal)
@@ -64,12 +64,12 @@ looked_at_all image nodes seen entries head goal d s m (inr e) k f b h =
           | inr ge ↦ let deep = s.search.rising p k y.0 f ge y.1 h in absurd (omega (arith, deep, y.2, l, b))
         ]
 
-pub searched_for : (image : Image) (places : List ObjRef) (nodes : List Node) (seen : List Bool) (entries : List Entry) (head goal : ℕ) → AreNodes image places nodes → IsDumpable image → IsSearch image nodes seen entries head → HasEnded seen entries head (Some goal)
+pub searched_for : (image : Image) (places : List ObjRef) (nodes : List Node) (seen : List Bool) (entries : List Entry) (head goal : ℕ) → AreNodes image places nodes → length image.registers ≤ source_limit → IsSearch image nodes seen entries head → HasEnded seen entries head (Some goal)
     → HasSearchedFor image nodes entries goal
-searched_for image places nodes seen entries head goal n d s e =
+searched_for image places nodes seen entries head goal n few s e =
     record {
       queue = s.queue;
-      found = queue_of image nodes seen entries head d s;
+      found = queue_of image nodes seen entries head few s;
       searched = λ d m. searched_to image places nodes seen s.queue head d n s.search (looked_at_all image nodes seen entries head goal d s m e) s.roots;
     }
 
@@ -114,6 +114,15 @@ path_traced image nodes entries goal x index register slots s there at way =
       ],
       found_first image s.queue index f.0 register slots x to s.found.ordered f.1 same way,
     )
+
+-- so is the path that a way leads back
+pub path_back : (image : Image) (nodes : List Node) (entries : List Entry) (goal x index r : ℕ) (back : List ℕ) (register : ℕ) (slots : List ℕ) → (s : HasSearchedFor image nodes entries goal) → node_with nodes x ≡ Some goal → Some index ≡ position (λ e. e.node == goal) entries → IsWayBack s.queue index r back
+    → register ≡ r → slots ≡ reverse back → IsPathTo image register slots x × IsShortest image slots x × IsFirstPath image register slots x
+path_back image nodes entries goal x index r back register slots s there at way same turned =
+    let w = subst (IsWayBack s.queue index r) (sym (reverse-reverse back)) way in
+    let t = path_traced image nodes entries goal x index r (reverse back) s there at w in
+    subst (λ q. IsPathTo image q slots x × IsShortest image slots x × IsFirstPath image q slots x) (sym same)
+    (subst (λ (l : List ℕ). IsPathTo image r l x × IsShortest image l x × IsFirstPath image r l x) (sym turned) t)
 
 -- no node has the id
 pub no_node_unreached : (image : Image) (places : List ObjRef) (nodes : List Node) (x : ℕ) → AreNodes image places nodes → node_with nodes x ≡ None → IsUnreached image x

@@ -5,6 +5,7 @@ pub mod TracedPaths
 pub mod Counting
 pub mod Passing
 pub mod Looking
+pub mod OtherRegisters
 pub mod Halving
 pub mod Reaching
 pub mod CutPaths
@@ -17,6 +18,9 @@ pub mod SearchOrder
 pub mod PathOrder
 pub mod FoundPaths
 pub mod WaysBack
+pub mod Starting
+pub mod StartSearch
+pub mod PathStarts
 pub mod ToldObjects
 pub mod Writes
 pub mod Walk

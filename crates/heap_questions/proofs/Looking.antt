@@ -3,7 +3,7 @@ use Rattle.std.proofs.Common.{◌≡◌, ℕ, ◌+◌, ◌<◌, ◌≤◌, ◌++
 use Rattle.std.specs.Prelude.{slice_get, Option, Some, None, IfSome, option_and_then, option_map}
 use Rattle.std.proofs.lemmas.List.{length-map, map_push}
 use Rattle.std.proofs.lemmas.Option.{none-some, same_Some, slice_get_within, slice_get-get_or, slice_get-map}
-use Rattle.std.proofs.lemmas.Bool.{cases_eq, cases_Bool}
+use Rattle.std.proofs.lemmas.Bool.{cases_eq, cases_lt, cases_Bool}
 use Rattle.heap_class.specs.declared.ObjRef.{ObjRef}
 use Rattle.heap_class.specs.Classes.{Class}
 use Rattle.heap_class.specs.Limits.{large_array_limit}
@@ -12,7 +12,7 @@ use Rattle.hprof_text.specs.Image.{Image, DumpedObject, IsDumpable, IsKnown}
 use Rattle.hprof_text.proofs.ViewedObjects.{here}
 use Rattle.hprof_text.proofs.Loops.{item_of_list_within}
 use Rattle.heap_questions.specs.Graph.{HasId, slot_refers, named, object_with, slot_names}
-use Rattle.heap_questions.specs.Search.{AreEntries, AreNodes, Found, HasAllRoots, HasChildren, HasRoots, IsEnteredIn, IsFound, IsNear, IsOfferedTo, IsOrdered, IsSearching, IsWithin, Register, Slot, Via, entry_of, from_via, node_with}
+use Rattle.heap_questions.specs.Search.{AreEntries, AreNodes, Earlier, Found, HasAllRoots, HasChildren, IsEnteredIn, IsFound, IsNear, IsOfferedTo, IsOrdered, IsRooting, IsSearching, IsWithin, Register, Slot, Via, entry_of, from_via, node_with}
 use Rattle.heap_questions.specs.declared.nodes.Node.{Node}
 use Rattle.heap_questions.specs.declared.search.Entry.{Entry}
 use Rattle.heap_questions.proofs.NodePlaces.{node_place, node_within, object_of_node}
@@ -134,12 +134,6 @@ looked_through image nodes head f seen queue slot o l e n =
 
 -- ---- register by register
 
-pub record IsRooting (image : Image) (nodes : List Node) (seen : List Bool) (queue : List Found) (r : ℕ) : Type 0 where
-  pub search : IsSearching image nodes seen queue 0
-  pub within : IsWithin queue 0
-  pub roots : HasRoots image queue r
-  pub ordered : IsOrdered image queue (Register r)
-
 pub rooting_begins : (image : Image) (nodes : List Node) (seen : List Bool) (queue : List Found) → IsSearching image nodes seen queue 0 → IsWithin queue 0 → IsOrdered image queue (Register 0) → IsRooting image nodes seen queue 0
 rooting_begins image nodes seen queue s w o = record { search = s; within = w; roots = λ n y l. absurd (omega (arith, l)); ordered = o }
 
@@ -158,6 +152,23 @@ rooted image places nodes seen queue r x seen_after new n l e o =
       ];
       ordered = ordered_more image places nodes seen queue 0 x 0 (Register r) (Register (r + 1)) seen_after new n l.search l.ordered (registers_looked_at image queue r l.roots) (next_register r) (omega arith) (refl, e) o;
     }
+
+-- registers that name no object
+pub rooted_past : (image : Image) (nodes : List Node) (seen : List Bool) (queue : List Found) (r n : ℕ) → IsRooting image nodes seen queue r → r ≤ n → ((q y : ℕ) → r ≤ q → q < n → slice_get image.registers q ≡ Some y → ¬ HasId image y) → IsRooting image nodes seen queue n
+rooted_past image nodes seen queue r n l le none =
+    record {
+      search = l.search;
+      within = l.within;
+      roots = λ q y lt e h. elim (cases_lt q r) [
+        | inl before ↦ l.roots q y before e h
+        | inr from ↦ absurd (none q y from lt e h)
+      ];
+      ordered = ordered_next image queue (Register r) (Register n) (later_register r n le) l.ordered;
+    }
+  where
+    later_register : (r n : ℕ) → r ≤ n → (v : Via) → Earlier v (Register r) → Earlier v (Register n)
+    later_register r n le (Register q) e = omega (arith, e, le)
+    later_register r n le (Slot s p) e = absurd e
 
 -- ---- by the entries of a queue
 
@@ -212,9 +223,3 @@ pub record LooksAt (image : Image) (nodes : List Node) (head : ℕ) (started : L
 pub looks_as : (image : Image) (nodes : List Node) (head : ℕ) (started : List Entry) (seen others : List Bool) (entries same : List Entry) (slot : ℕ) → others ≡ seen → same ≡ entries → LooksAt image nodes head started seen entries slot → LooksAt image nodes head started others same slot
 looks_as image nodes head started seen others entries same slot a b l =
     subst (λ (es : List Entry). LooksAt image nodes head started others es slot) (sym b) (subst (λ (m : List Bool). LooksAt image nodes head started m entries slot) (sym a) l)
-
--- register by register
-pub record LooksAtRegisters (image : Image) (nodes : List Node) (seen : List Bool) (entries : List Entry) (r : ℕ) : Type 0 where
-  pub queue : List Found
-  pub kept : AreEntries entries queue
-  pub rooting : IsRooting image nodes seen queue r

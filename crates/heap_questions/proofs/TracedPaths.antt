@@ -1,11 +1,11 @@
 -- Paths and what was found.
 use Rattle.std.proofs.Common.{append_assoc, ◌≡◌, ℕ, ◌+◌, ◌<◌, List, [], ◌∷◌, ◌++◌, length, refl, sym, ap, ◌∙◌, subst, arith, rules}
-use Rattle.std.specs.Prelude.{slice_get, Option, Some, None, IsSome, option_and_then, reverse}
+use Rattle.std.specs.Prelude.{slice_get, Option, Some, None, IsSome, option_and_then}
 use Rattle.std.proofs.lemmas.Option.{none-some, same_Some}
 use Rattle.hprof_text.specs.Image.{Image}
 use Rattle.heap_questions.specs.Graph.{HasId, IsPathTo, object_with, named, followed, slot_names}
 use Rattle.heap_questions.specs.Search.{Found, IsFound, IsSearched, IsSearchedTo, IsWayBack, Register, Slot}
-use Rattle.std.proofs.lemmas.List.{append-nil, reverse-reverse}
+use Rattle.std.proofs.lemmas.List.{append-nil}
 
 some_first : {A B : Type 0} (f : A → Option B) (o : Option A) (y : B) → option_and_then f o ≡ Some y → IsSome o
 some_first f None y h = absurd (none-some y h)
@@ -65,6 +65,5 @@ goes_on queue index here h = (index, h, λ r back i. i)
 pub goes_on_more : (queue : List Found) (index : ℕ) (here next : Found) (slots : List ℕ) (parent s : ℕ) → GoesOn queue index here slots → here.via ≡ Slot s parent → slice_get queue parent ≡ Some next → GoesOn queue index next (slots ++ s ∷ [])
 goes_on_more queue index here next slots parent s g e n = (parent, n, λ r back i. subst (IsWayBack queue index r) (sym (append_assoc slots (s ∷ []) back)) (g.2 r (s ∷ back) (here, parent, g.1, e, i)))
 
-pub goes_on_ends : (queue : List Found) (index : ℕ) (here : Found) (slots turned : List ℕ) (register : ℕ) → GoesOn queue index here slots → here.via ≡ Register register → turned ≡ reverse slots → IsWayBack queue index register (reverse turned)
-goes_on_ends queue index here slots turned register g e v =
-    subst (IsWayBack queue index register) (sym (ap reverse v ∙ reverse-reverse slots)) (subst (IsWayBack queue index register) (append-nil slots) (g.2 register [] (here, g.1, e)))
+pub goes_on_ends : (queue : List Found) (index : ℕ) (here : Found) (slots : List ℕ) (register : ℕ) → GoesOn queue index here slots → here.via ≡ Register register → IsWayBack queue index register slots
+goes_on_ends queue index here slots register g e = subst (IsWayBack queue index register) (append-nil slots) (g.2 register [] (here, g.1, e))

@@ -7,12 +7,12 @@ use Rattle.std.proofs.lemmas.Option.{slice_get_within}
 use Rattle.heap_class.specs.declared.ObjKind.{ObjKind}
 use Rattle.heap_class.specs.declared.ObjRef.{ObjRef}
 use Rattle.heap_class.specs.Classes.{Class}
-use Rattle.hprof_text.specs.Image.{Image, DumpedObject, IsDumpable, register_limit}
+use Rattle.hprof_text.specs.Image.{Image, DumpedObject, IsDumpable}
 use Rattle.hprof_text.proofs.Loops.{item_of_list_within}
 use Rattle.hprof_text.proofs.ViewedObjects.{here}
 use Rattle.heap_questions.specs.Graph.{named, slot_names, slot_refers}
 use Rattle.heap_questions.specs.Referrers.{names_at}
-use Rattle.heap_questions.specs.Search.{AreNodes, Earlier, Found, IsFirstNaming, IsFirstSlotTo, IsQueueOf, IsReachedBy, Register, Slot, Via, entry_of, from_via}
+use Rattle.heap_questions.specs.Search.{AreNodes, Earlier, Found, IsFirstNaming, IsFirstSlotTo, IsQueueOf, IsReachedBy, Register, Slot, Via, entry_of, from_via, source_limit}
 use Rattle.heap_questions.specs.declared.nodes.Node.{Node}
 use Rattle.heap_questions.specs.declared.search.Entry.{Entry}
 use Rattle.heap_questions.proofs.LongerLists.{got_same}
@@ -27,13 +27,13 @@ pub record IsBySlot (image : Image) (queue : List Found) (k : ℕ) (f : Found) (
   pub slot : ℕ
   pub parent : ℕ
   pub by : f.via ≡ Slot slot parent
-  pub from : e.from ≡ register_limit + parent
+  pub from : e.from ≡ source_limit + parent
   pub before : parent < k
   pub other : Found
   pub there : slice_get queue parent ≡ Some other
   pub names : named image other.id slot ≡ Some f.id
 
-pub by_slot : (image : Image) (nodes : List Node) (entries : List Entry) (queue : List Found) (k : ℕ) (f : Found) (e : Entry) → IsQueueOf image nodes entries queue → slice_get queue k ≡ Some f → entry_of f ≡ e → register_limit ≤ e.from → IsBySlot image queue k f e
+pub by_slot : (image : Image) (nodes : List Node) (entries : List Entry) (queue : List Found) (k : ℕ) (f : Found) (e : Entry) → IsQueueOf image nodes entries queue → slice_get queue k ≡ Some f → entry_of f ≡ e → source_limit ≤ e.from → IsBySlot image queue k f e
 by_slot image nodes entries queue k f e q h is l = go f.via refl (q.reached k f h)
   where
     go : (via : Via) → f.via ≡ via → IsReachedBy image queue f.id f.depth via → IsBySlot image queue k f e
@@ -57,19 +57,19 @@ by_slot image nodes entries queue k f e q h is l = go f.via refl (q.reached k f 
         }
 
 -- one that keeps a register was found by it
-pub by_register : (f : Found) (e : Entry) → entry_of f ≡ e → e.from < register_limit → f.via ≡ Register e.from
+pub by_register : (f : Found) (e : Entry) → entry_of f ≡ e → e.from < source_limit → f.via ≡ Register e.from
 by_register f e is l = go f.via refl
   where
     go : (via : Via) → f.via ≡ via → f.via ≡ Register e.from
     go (Register r) by = by ∙ ap Register (sym (sym (ap (λ (e : Entry). e.from) is) ∙ ap from_via by))
     go (Slot s p) by =
-        let from : e.from ≡ register_limit + p = sym (ap (λ (e : Entry). e.from) is) ∙ ap from_via by in
+        let from : e.from ≡ source_limit + p = sym (ap (λ (e : Entry). e.from) is) ∙ ap from_via by in
         absurd (omega (arith, from, l))
 
 -- what stands there keeps less
 pub lower : (image : Image) (nodes : List Node) (entries : List Entry) (queue : List Found) (k : ℕ) (f : Found) (e next : Entry) → IsQueueOf image nodes entries queue → (b : IsBySlot image queue k f e) → entry_of b.other ≡ next → next.from < e.from
 lower image nodes entries queue k f e next q b is =
-    elim (cases_lt next.from register_limit) [
+    elim (cases_lt next.from source_limit) [
       | inl lt ↦ let from = b.from in omega (arith, lt, from)
       | inr ge ↦ let c = by_slot image nodes entries queue b.parent b.other next q b.there is ge in let from = b.from in let other = c.from in let before = c.before in omega (arith, from, other, before)
     ]
@@ -96,21 +96,21 @@ same_slot image nodes entries queue k f e next s q h is b other naming =
 -- what stands at the place that an entry keeps
 pub record HasParent (image : Image) (entries : List Entry) (queue : List Found) (k : ℕ) (f : Found) (e : Entry) : Type 0 where
   pub by : IsBySlot image queue k f e
-  pub there : slice_get entries (e.from - register_limit) ≡ Some (entry_of by.other)
+  pub there : slice_get entries (e.from - source_limit) ≡ Some (entry_of by.other)
 
-pub parent_found : (image : Image) (nodes : List Node) (entries : List Entry) (queue : List Found) (index : ℕ) (e : Entry) (slots : List ℕ) → IsQueueOf image nodes entries queue → (v : GoesOnFrom queue index e slots) → register_limit ≤ e.from → HasParent image entries queue v.2.0 v.0 e
+pub parent_found : (image : Image) (nodes : List Node) (entries : List Entry) (queue : List Found) (index : ℕ) (e : Entry) (slots : List ℕ) → IsQueueOf image nodes entries queue → (v : GoesOnFrom queue index e slots) → source_limit ≤ e.from → HasParent image entries queue v.2.0 v.0 e
 parent_found image nodes entries queue index e slots q v l =
     let b = by_slot image nodes entries queue v.2.0 v.0 e q v.2.1 v.1 l in
-    let place : e.from - register_limit ≡ b.parent = (let from = b.from in omega (arith, from)) in
+    let place : e.from - source_limit ≡ b.parent = (let from = b.from in omega (arith, from)) in
     record { by = b; there = ap (slice_get entries) place ∙ entry_there entries queue b.parent b.other q.kept b.there }
 
 -- so a way back goes on from there, with one slot more
-pub goes_on_back : (image : Image) (nodes : List Node) (entries : List Entry) (queue : List Found) (index : ℕ) (e next : Entry) (slots : List ℕ) (s : ℕ) → IsQueueOf image nodes entries queue → GoesOnFrom queue index e slots → register_limit ≤ e.from → slice_get entries (e.from - register_limit) ≡ Some next
+pub goes_on_back : (image : Image) (nodes : List Node) (entries : List Entry) (queue : List Found) (index : ℕ) (e next : Entry) (slots : List ℕ) (s : ℕ) → IsQueueOf image nodes entries queue → GoesOnFrom queue index e slots → source_limit ≤ e.from → slice_get entries (e.from - source_limit) ≡ Some next
     → IsFirstNaming image nodes next.node e.node s → GoesOnFrom queue index next (slots ++ s ∷ [])
 goes_on_back image nodes entries queue index e next slots s q v l h naming =
     let p = parent_found image nodes entries queue index e slots q v l in
     let b = p.by in
-    let same : entry_of b.other ≡ next = got_same entries (e.from - register_limit) (entry_of b.other) next p.there h in
+    let same : entry_of b.other ≡ next = got_same entries (e.from - source_limit) (entry_of b.other) next p.there h in
     let slot = same_slot image nodes entries queue v.2.0 v.0 e next s q v.2.1 v.1 b same naming in
     (b.other, same, goes_on_more queue index v.0 b.other slots b.parent s v.2 (b.by ∙ ap (λ n. Slot n b.parent) (sym slot)) b.there)
 

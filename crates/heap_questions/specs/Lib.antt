@@ -6,6 +6,8 @@ pub mod Search
 pub mod Garbage
 pub mod Dominators
 pub mod Kept
+pub mod PathsApart
+pub mod Starts
 pub mod Wanted
 pub mod ObjectLists
 pub mod Registers

@@ -22,10 +22,18 @@ pub record Found : Type 0 where
   pub depth : ℕ
   pub via : Via
 
+-- more than an object has slots
+abbrev pub slot_span : ℕ
+slot_span = 2097152
+
+-- the most registers that a search may begin at: for each of an image one for each slot of what it names
+abbrev pub source_limit : ℕ
+source_limit = register_limit * slot_span
+
 -- what the queue keeps of the way to an object: its register, or behind all registers the place of what names it
 abbrev pub from_via : Via → ℕ
 from_via (Register r) = r
-from_via (Slot s parent) = register_limit + parent
+from_via (Slot s parent) = source_limit + parent
 
 abbrev pub entry_of : Found → Entry
 entry_of f = record { node = f.node; from = from_via f.via }
@@ -233,7 +241,7 @@ IsWayBack queue k r (s ∷ back) =
 pub record IsQueueOf (image : Image) (nodes : List Node) (entries : List Entry)
     (queue : List Found) : Type 0 where
   pub kept : AreEntries entries queue
-  pub few : length image.registers ≤ register_limit
+  pub few : length image.registers ≤ source_limit
   pub reached : AreReached image queue
   pub placed : (k : ℕ) (f : Found) → slice_get queue k ≡ Some f → node_with nodes f.id ≡ Some f.node
   pub rising : IsRising queue
@@ -250,6 +258,43 @@ pub record IsSearch (image : Image) (nodes : List Node) (seen : List Bool) (entr
   pub ordered : IsOrdered image queue (Slot 0 head)
   pub within : head ≤ length queue
 
+-- a search that has looked at the first n registers, and found this
+pub record IsRooting (image : Image) (nodes : List Node) (seen : List Bool) (queue : List Found)
+    (n : ℕ) : Type 0 where
+  pub search : IsSearching image nodes seen queue 0
+  pub within : IsWithin queue 0
+  pub roots : HasRoots image queue n
+  pub ordered : IsOrdered image queue (Register n)
+
+-- these are its entries
+pub record IsBeginning (image : Image) (nodes : List Node) (seen : List Bool) (entries : List Entry)
+    (n : ℕ) : Type 0 where
+  pub queue : List Found
+  pub kept : AreEntries entries queue
+  pub rooting : IsRooting image nodes seen queue n
+
+-- register r names the object of node j
+abbrev pub IsNodeOfRegister : Image → List Node → ℕ → ℕ → Type 0
+IsNodeOfRegister image nodes r j =
+    (x : ℕ) × (slice_get image.registers r ≡ Some x) × (node_with nodes x ≡ Some j)
+
+-- the classes and objects of the image, and these registers
+abbrev pub with_registers : Image → List ℕ → Image
+with_registers image registers =
+    record { classes = image.classes; registers = registers; objects = image.objects }
+
+-- these are the marks and entries of a search from some registers
+abbrev pub IsSearchFromSome : Image → List Node → List Bool → List Entry → ℕ → Type 0
+IsSearchFromSome image nodes seen entries head =
+    (registers : List ℕ) × IsSearch (with_registers image registers) nodes seen entries head
+
+-- from whichever registers the search was, it has looked at the slots of one entry more
+abbrev pub IsOneFurther : Image → List Node → List Bool → List Entry → List Bool → List Entry → ℕ
+    → Type 0
+IsOneFurther image nodes seen entries seen_after entries_after head =
+    (registers : List ℕ) → IsSearch (with_registers image registers) nodes seen entries head
+    → IsSearch (with_registers image registers) nodes seen_after entries_after (head + 1)
+
 -- the marks are those of all that registers reach
 pub record AreAllSeen (image : Image) (nodes : List Node) (seen : List Bool) : Type 0 where
   pub queue : List Found
@@ -263,6 +308,20 @@ is_found seen node = option_map_or (λ j. slice_index_or seen j false) node fals
 -- a search has looked at all entries, or has found its goal
 abbrev pub HasEnded : List Bool → List Entry → ℕ → Option ℕ → Type 0
 HasEnded seen entries head goal = (length entries ≤ head) ⊎ (is_found seen goal ≡ true)
+
+-- a search that has ended
+pub record IsEndedSearch (image : Image) (nodes : List Node) (seen : List Bool) (entries : List Entry)
+    (goal : Option ℕ) : Type 0 where
+  pub head : ℕ
+  pub search : IsSearch image nodes seen entries head
+  pub ended : HasEnded seen entries head goal
+
+-- from whichever registers the search was, it has ended
+abbrev pub HasGoneOn : Image → List Node → List Bool → List Entry → List Bool → List Entry → Option ℕ
+    → Type 0
+HasGoneOn image nodes seen entries seen_after entries_after goal =
+    (registers : List ℕ) → IsSearch (with_registers image registers) nodes seen entries 0
+    → IsEndedSearch (with_registers image registers) nodes seen_after entries_after goal
 
 -- the entries are those of a search that may have ended once node `goal` was found
 pub record HasSearchedFor (image : Image) (nodes : List Node) (entries : List Entry) (goal : ℕ)

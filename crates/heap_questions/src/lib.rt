@@ -1,6 +1,7 @@
 //! Exact answers about the heap that a view shows, of the current state or of a pin, and about the past that a machine retains.
 #![tactic(auto)]
 
+mod apart;
 mod cells;
 mod differences;
 mod dominators;
@@ -20,8 +21,10 @@ mod region_counts;
 mod registers;
 mod rows;
 mod search;
+mod starts;
 mod wanted;
 
+pub use apart::{first_of_paths_is_path, paths_apart};
 pub use cells::{CellState, CellStates};
 pub use differences::{Difference, object_differences};
 pub use dominators::{RetainedObjects, count_retained, retained_by_cut};

@@ -1,10 +1,10 @@
 //! Why an object is alive: a shortest path from a register.
-ghost use Rattle.std.specs.Prelude.{◌≡◌, ◌==◌, ◌<◌, List, Some, length, reverse, IfSome, IfNone, IfOk, IfErr};
+ghost use Rattle.std.specs.Prelude.{◌≡◌, ◌==◌, ◌<◌, ℕ, List, Some, length, reverse, IfSome, IfNone, IfOk, IfErr};
 ghost use Rattle.std.specs.List.{position};
 ghost use Rattle.heap_class.specs.declared.Refusal.TheVariants.{NoMemory};
 ghost use Rattle.hprof_text.specs.Image.{DumpedObject, IsKnown};
 ghost use Rattle.heap_questions.specs.Graph.{IsFirstPath, IsPathTo, IsShortest, IsUnreached};
-ghost use Rattle.heap_questions.specs.Search.{AreNodes, Found, IsFirstNaming, IsFirstSlotTo, IsQueueOf, IsWayBack, node_with};
+ghost use Rattle.heap_questions.specs.Search.{AreNodes, Found, IsFirstNaming, IsFirstSlotTo, IsQueueOf, IsWayBack, node_with, with_registers};
 
 use crate::nodes::NodeList;
 use crate::references::is_reference_slot;
@@ -18,6 +18,14 @@ use std::alloc::Global;
 pub struct Path {
     pub register: u64,
     pub slots: Vec<u64>,
+}
+
+// The way back from an object that a search found: the number of the register that it began at, among those of the search, and
+// the slots that lead on from there, the last first.
+#[derive(Drop)]
+pub(crate) struct WayBack {
+    pub(crate) register: u32,
+    pub(crate) slots: Vec<u64>,
 }
 
 /// Returns a shortest path from a register to the object with this id, or None if no register reaches one: of all the shortest
@@ -62,34 +70,47 @@ fn path_to<V: View>(
     let queue = reach.queue.as_slice();
     match place_in(queue, goal) {
         Some(index) => {
-            let path = trace(alloc, view, nodes, queue, index)?;
-            Ok(Some(path))
+            let way = way_back(alloc, view, nodes, queue, index)?;
+            Ok(Some(path_along(way)))
         }
         None => Ok(None),
     }
 }
 
+// Returns the path that a way leads back.
+fn path_along(way: WayBack) -> Path
+    ensures register { result.register ≡ way.register }
+    ensures slots { result.slots.items ≡ reverse way.slots.items }
+{
+    let mut slots = way.slots;
+    slots.reverse();
+    let register = way.register as u64;
+    Path { register, slots }
+}
+
 // Returns the place of a node in a queue, or None if it isn't there.
-fn place_in(queue: &[Entry], node: usize) -> Option<usize>
+pub(crate) fn place_in(queue: &[Entry], node: usize) -> Option<usize>
     ensures { result ≡ position (λ e. e.node == node) queue.now }
 {
     queue.iter().position(|entry| entry.node as usize == node)
 }
 
-// Returns the path on which an object was found. The nodes must be the view's. Fails with NoMemory.
-fn trace<V: View>(
+// Returns the way back from an object that was found, from whichever registers the search was. The nodes must be the view's.
+// Fails with NoMemory.
+pub(crate) fn way_back<V: View>(
     alloc: Global,
     view: &V,
     nodes: &NodeList,
     queue: &[Entry],
     index: usize,
-) -> Result<Path, Refusal>
+) -> Result<WayBack, Refusal>
     requires nodes { AreNodes (V.image view.now) (V.places view.now) nodes.now }
-    requires found { (q : List Found) × IsQueueOf (V.image view.now) nodes.now queue.now q }
+    requires found { (registers : List ℕ) × (q : List Found)
+        × IsQueueOf (with_registers (V.image view.now) registers) nodes.now queue.now q }
     requires there { index < length queue.now }
-    ensures chain { IfOk result (λ p. (q : List Found)
-        → IsQueueOf (V.image view.now) nodes.now queue.now q
-        → IsWayBack q index p.register (reverse p.slots.items)) }
+    ensures chain { IfOk result (λ way. (registers : List ℕ) (q : List Found)
+        → IsQueueOf (with_registers (V.image view.now) registers) nodes.now queue.now q
+        → IsWayBack q index way.register way.slots.items) }
     ensures refused { IfErr result (λ e. e ≡ NoMemory) }
 {
     let mut slots = Vec::new(alloc);
@@ -100,9 +121,8 @@ fn trace<V: View>(
         slots.push(slot)?;
         here = parent;
     }
-    slots.reverse();
-    let register = here.from as u64;
-    Ok(Path { register, slots })
+    let register = here.from;
+    Ok(WayBack { register, slots })
 }
 
 // Returns the first slot of a node's object that names another's. The nodes must be the view's.

@@ -1,8 +1,8 @@
 //! A search for what the registers reach, breadth first.
 ghost use Rattle.std.specs.Prelude.{◌≡◌, ◌+◌, ◌<◌, ◌≤◌, ℕ, [], false, length, None, Some, IsTrue, IfOk, IfErr, OnOk, slice_get};
 ghost use Rattle.heap_class.specs.declared.Refusal.TheVariants.{NoMemory};
-ghost use Rattle.hprof_text.specs.Image.{object_limit};
-ghost use Rattle.heap_questions.specs.Search.{AreAllSeen, AreNodes, HasEnded, HasSearchedFor, IsEnteredIn, IsSearch, IsSearching, is_found};
+ghost use Rattle.hprof_text.specs.Image.{Image, object_limit};
+ghost use Rattle.heap_questions.specs.Search.{AreAllSeen, AreNodes, HasEnded, HasGoneOn, HasSearchedFor, IsEnteredIn, IsOneFurther, IsSearch, IsSearchFromSome, IsSearching, is_found};
 
 use crate::nodes::NodeList;
 use crate::references::is_reference_slot;
@@ -11,8 +11,11 @@ use hprof_text::View;
 use std::alloc::Global;
 use std::mem::size_of;
 
-// What stands for the first place of a queue: the number of registers that there may be.
-pub(crate) const FIRST_PLACE: u32 = 128;
+// More than an object has slots.
+pub(crate) const SLOT_SPAN: u32 = 2_097_152;
+
+// What stands for the first place of a queue: the number of registers that a search may begin at, which is 128 times `SLOT_SPAN`.
+pub(crate) const FIRST_PLACE: u32 = 268_435_456;
 
 // An object that was found: which node it is, and how: the number of the register that held its id, or `FIRST_PLACE` and the
 // place in the queue of the object of which a slot did.
@@ -57,11 +60,7 @@ pub(crate) fn search<V: View>(
 {
     let _classes = view.classes();
     let mut reach = begin(alloc, view, nodes)?;
-    let mut head = 0;
-    while goes_on(&reach, head, goal) {
-        expand(view, nodes, &mut reach, head)?;
-        head += 1;
-    }
+    search_on(view, nodes, &mut reach, goal)?;
     Ok(reach)
 }
 
@@ -72,9 +71,7 @@ fn begin<V: View>(alloc: Global, view: &V, nodes: &NodeList) -> Result<Reach, Re
         (λ r. IsSearch (V.image view.now) nodes.now r.seen.items r.queue.items 0) }
     ensures refused { IfErr result (λ e. e ≡ NoMemory) }
 {
-    let seen = vec![in alloc; false; nodes.len()]?;
-    let queue = Vec::with_capacity(alloc, nodes.len())?;
-    let mut reach = Reach { seen, queue };
+    let mut reach = nothing_found(alloc, nodes)?;
     find_roots(view, nodes, &mut reach)?;
     Ok(reach)
 }
@@ -96,22 +93,25 @@ fn find_roots<V: View>(view: &V, nodes: &NodeList, reach: &mut Reach) -> Result<
     Ok(())
 }
 
-// Adds an object to what was found, unless it was found before or there is none with this id. Fails with NoMemory.
-fn offer(nodes: &NodeList, reach: &mut Reach, id: u64, from: u32) -> Result<(), Refusal>
-    requires many { length reach.old.seen.items ≡ length nodes.now }
-    requires few { length nodes.now ≤ object_limit }
-    ensures done { OnOk result (IsEnteredIn nodes.now id from
-        reach.old.seen.items reach.old.queue.items reach.new.seen.items reach.new.queue.items) }
+// Goes on with a search that has begun, from whichever registers: until all is found, or a node that is the goal. Fails with
+// NoMemory. Reads each object at most once.
+pub(crate) fn search_on<V: View>(
+    view: &V,
+    nodes: &NodeList,
+    reach: &mut Reach,
+    goal: Option<usize>,
+) -> Result<(), Refusal>
+    requires nodes { AreNodes (V.image view.now) (V.places view.now) nodes.now }
+    requires search { IsSearchFromSome (V.image view.now)
+        nodes.now reach.old.seen.items reach.old.queue.items 0 }
+    ensures ended { OnOk result (HasGoneOn (V.image view.now) nodes.now
+        reach.old.seen.items reach.old.queue.items reach.new.seen.items reach.new.queue.items goal) }
     ensures refused { IfErr result (λ e. e ≡ NoMemory) }
 {
-    if let Some(node) = nodes.find(id) {
-        if !reach.seen[node] {
-            reach.seen[node] = true;
-            reach.queue.push(Entry {
-                node: node as u32,
-                from,
-            })?;
-        }
+    let mut head = 0;
+    while goes_on(reach, head, goal) {
+        expand(view, nodes, reach, head)?;
+        head += 1;
     }
     Ok(())
 }
@@ -133,11 +133,11 @@ fn expand<V: View>(
     head: usize,
 ) -> Result<(), Refusal>
     requires nodes { AreNodes (V.image view.now) (V.places view.now) nodes.now }
-    requires search { IsSearch (V.image view.now)
+    requires search { IsSearchFromSome (V.image view.now)
         nodes.now reach.old.seen.items reach.old.queue.items head }
     requires there { head < length reach.old.queue.items }
-    ensures search { OnOk result (IsSearch (V.image view.now)
-        nodes.now reach.new.seen.items reach.new.queue.items (head + 1)) }
+    ensures search { OnOk result (IsOneFurther (V.image view.now) nodes.now
+        reach.old.seen.items reach.old.queue.items reach.new.seen.items reach.new.queue.items head) }
     ensures refused { IfErr result (λ e. e ≡ NoMemory) }
 {
     let found = entry_at(reach.queue.as_slice(), head);
@@ -148,6 +148,38 @@ fn expand<V: View>(
     for slot in 0..words.len() {
         if is_reference_slot(&classes, kind, words.len() as u64, slot as u64) {
             offer(nodes, reach, words[slot], FIRST_PLACE + head as u32)?;
+        }
+    }
+    Ok(())
+}
+
+// Returns what was found before a search of whichever image: nothing. Fails with NoMemory.
+pub(crate) fn nothing_found(alloc: Global, nodes: &NodeList) -> Result<Reach, Refusal>
+    ensures none { IfOk result (λ r. r.queue.items ≡ []) }
+    ensures search { IfOk result (λ r. (image : Image)
+        → IsSearching image nodes.now r.seen.items [] 0) }
+    ensures refused { IfErr result (λ e. e ≡ NoMemory) }
+{
+    let seen = vec![in alloc; false; nodes.len()]?;
+    let queue = Vec::with_capacity(alloc, nodes.len())?;
+    Ok(Reach { seen, queue })
+}
+
+// Adds an object to what was found, unless it was found before or there is none with this id. Fails with NoMemory.
+pub(crate) fn offer(nodes: &NodeList, reach: &mut Reach, id: u64, from: u32) -> Result<(), Refusal>
+    requires many { length reach.old.seen.items ≡ length nodes.now }
+    requires few { length nodes.now ≤ object_limit }
+    ensures done { OnOk result (IsEnteredIn nodes.now id from
+        reach.old.seen.items reach.old.queue.items reach.new.seen.items reach.new.queue.items) }
+    ensures refused { IfErr result (λ e. e ≡ NoMemory) }
+{
+    if let Some(node) = nodes.find(id) {
+        if !reach.seen[node] {
+            reach.seen[node] = true;
+            reach.queue.push(Entry {
+                node: node as u32,
+                from,
+            })?;
         }
     }
     Ok(())

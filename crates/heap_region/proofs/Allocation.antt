@@ -18,7 +18,7 @@ use Rattle.heap_region.specs.Table.{HasObject}
 use Rattle.heap_region.proofs.UpdatedLists.{updated_set}
 use Rattle.heap_region.proofs.Places.{IsNextFree, IsNextFresh, new_place_is, place_of_large, place_of_small}
 use Rattle.heap_region.proofs.BlockSizes.{cell_size_holds_words, has_cell}
-use Rattle.heap_region.proofs.Ids.{ref_is, id_is_at_least_base}
+use Rattle.heap_region.proofs.Ids.{id_of_each_place_kept, ref_is, id_is_at_least_base}
 use Rattle.heap_region.proofs.FoundObjects.{region_around, ref_region}
 use Rattle.heap_region.proofs.ShownRegions.{used_by_object}
 
@@ -173,3 +173,19 @@ none_in_cell regions x u used none = id_that_names_no_object regions x (λ some.
 pub id_of_ref_from_cell_size : (regions : List Region) (at : ObjRef) (size : ℕ) → size ≡ option_map_or (λ u. u.cell_size) (used_at regions at.region) 0 → 268435456 + 8 * (1024 * at.region + at.cell * size) ≡ id_of regions at
 unfolding id_of
 id_of_ref_from_cell_size regions at size e = ap (λ k. 268435456 + 8 * (1024 * at.region + at.cell * k)) e
+
+-- the id of a cell that a new object took, by the object's size
+pub id_of_taken_cell : (at : ObjRef) (o : Object) (n : ℕ) (s : RegionPool) → IsSomeAnd (used_at s.regions at.region) (λ u. (slice_get u.free 0 ≡ Some at.cell) × FitsWords u.cell_size n) → 268435456 + 8 * (1024 * at.region + at.cell * cell_size_for n) ≡ id_of (taken at o s).regions at
+unfolding taken
+id_of_taken_cell at o n s ready =
+    id_of_ref_from_cell_size s.regions at (cell_size_for n) (size_of_cell (used_at s.regions at.region) ready)
+    ∙ sym (id_of_each_place_kept at.region (λ u. record u { cells = set u.cells at.cell (Some o); free = drop 1 u.free }) s.regions at (λ u. refl))
+  where
+    size_of_cell : (x : Option UsedRegion) → IsSomeAnd x (λ u. (slice_get u.free 0 ≡ Some at.cell) × FitsWords u.cell_size n) → cell_size_for n ≡ option_map_or (λ u. u.cell_size) x 0
+    size_of_cell None h = absurd h
+    size_of_cell (Some u) h = let fits : FitsWords u.cell_size n = h.1 in sym fits.1
+
+-- the id of a region's first cell, whatever the size of cells
+pub id_of_first_cell : (regions : List Region) (r size : ℕ) → 268435456 + 8 * (1024 * r + 0 * size) ≡ id_of regions (record { region = r; cell = 0 })
+unfolding id_of
+id_of_first_cell regions r size = let none : 0 * size ≡ 0 * option_map_or (λ (u : UsedRegion). u.cell_size) (used_at regions r) 0 = omega arith in ap (λ k. 268435456 + 8 * (1024 * r + k)) none

@@ -1,15 +1,15 @@
 -- What a call that changes one region knows of its slot, and what the regions show afterwards.
-use Rattle.std.proofs.Common.{◌≡◌, ◌≢◌, ℕ, zero, suc, [], ◌∷◌, arith, ◌<◌, Bool, List, length, map, Option, Some, None, IsSome, IfSome, IsSomeAnd, option_map, get_or, set, refl, sym, subst, ap, ◌∙◌, get_or-set_same}
+use Rattle.std.proofs.Common.{◌≡◌, ◌≢◌, ℕ, zero, suc, [], ◌∷◌, arith, ◌<◌, Bool, true, false, List, length, map, Option, Some, None, is_none, IsSome, IfSome, IsSomeAnd, option_map, get_or, set, refl, sym, subst, ap, ◌∙◌, get_or-set_same}
 use Rattle.std.specs.Prelude.{slice_get}
-use Rattle.std.proofs.lemmas.List.{length-map}
+use Rattle.std.proofs.lemmas.List.{length-map, get_or-map, set-get_or}
 use Rattle.heap_class.specs.declared.ObjRef.{ObjRef}
 use Rattle.heap_region.specs.Regions.{Object, UsedRegion, FitsWords, used_at, object_at, slot_object, with_object, with_region}
 use Rattle.heap_region.specs.Changes.{with_pending}
 use Rattle.heap_region.specs.Pool.{RegionPool, taken, freed, cell_freed}
 use Rattle.heap_region.specs.Layout.{IsWholeRegion, changed_at, cell_filled, pending_set}
-use Rattle.heap_region.specs.Table.{shown_region, free_class_of, IsRegionTable, IsGood}
+use Rattle.heap_region.specs.Table.{shown_region, first_in, free_class_of, IsRegionTable, IsGood}
 use Rattle.heap_region.proofs.ShownRegions.{object_shown, pending_shown, seen, shown_regions_with_changed_object, shown_regions_with_one_changed, shown_regions_with_taken_cell, slot_of_object_is_used, freed_shown, used_region_is_slot, with_regions}
-use Rattle.heap_region.proofs.Tables.{table_changed, table_with_region_of_same_room, in_use_within, size_in, slot_with_property_is_used, take_ready, good_region_with_taken_cell, good_region_with_freed_cell, good_region_with_changed_object, mapped_some, room_kept, pending_kept}
+use Rattle.heap_region.proofs.Tables.{table_changed, table_with_region_of_same_room, in_use_within, size_in, slot_with_property_is_used, take_ready, good_region_with_taken_cell, good_region_with_freed_cell, good_region_with_changed_object, mapped_some, room_kept, pending_kept, class_kept_by_room, class_without_room, headed_region_has_room, freed_region_has_room}
 
 -- a change that keeps the size of cells
 pub size_kept : (f : UsedRegion → UsedRegion) → ((u : UsedRegion) → (f u).cell_size ≡ u.cell_size) → (s : Option UsedRegion) → size_in (option_map f s) ≡ size_in s
@@ -88,34 +88,49 @@ module _ (slots : List (Option UsedRegion)) (free_classes pool : List ℕ) (capa
       let slot = slot_used slots r (rw (← view) at some) in
       rw (← view) (ap g (read ∙ place_read_with_any_default slots r found slot.1 ∙ sym slot.0))
 
-  -- what the table and the free classes keep once the changed region was read again
-  reread : (r : ℕ) (f : UsedRegion → UsedRegion) → ((u : UsedRegion) → (f u).cell_size ≡ u.cell_size) → IsSome (get_or slots r None) → (found new now : Option UsedRegion) → found ≡ get_or slots r found → new ≡ option_map f found → now ≡ get_or (set slots r new) r now → IfSome now (λ u. IsWholeRegion u) → (IfSome (option_map f (get_or slots r None)) (λ u. IsWholeRegion u) → IsGood (option_map f (get_or slots r None))) → IsRegionTable (set slots r new) (set free_classes r (free_class_of now)) pool capacity start
-  reread r f sizes used found new now read is again whole good =
-      let lt : r < length slots = in_use_within slots r used in
+  -- the table once a region changed in its place, with its class told anew
+  retold : (r : ℕ) (f : UsedRegion → UsedRegion) → ((u : UsedRegion) → (f u).cell_size ≡ u.cell_size) → IsSome (get_or slots r None) → (new : Option UsedRegion) → new ≡ option_map f (get_or slots r None) → IsGood (option_map f (get_or slots r None)) → IsRegionTable (set slots r new) (set free_classes r (free_class_of new)) pool capacity start
+  retold r f sizes used new next good =
       let old : Option UsedRegion = get_or slots r None in
-      let next : new ≡ option_map f old = changed_slot slots r f found new lt read is in
-      let same : now ≡ option_map f old = again ∙ (get_or-set_same slots r new now lt ∙ next) in
-      rw (same, next) (table_changed slots free_classes pool capacity start table r _ used (mapped_some old f used) (good (rw same at whole)) (size_kept f sizes old))
+      rw next (table_changed slots free_classes pool capacity start table r _ used (mapped_some old f used) good (size_kept f sizes old))
 
-  -- an object is put into the cell that heads its region's free list
-  pub object_taken : (at : ObjRef) (o : Object) (n : ℕ) → IsSomeAnd (used_at s.regions at.region) (λ u. (slice_get u.free 0 ≡ Some at.cell) × FitsWords u.cell_size n) → (found new now : Option UsedRegion) → found ≡ get_or slots at.region found → new ≡ option_map (λ u. cell_filled u at.cell o) found → now ≡ get_or (set slots at.region new) at.region now → IfSome now (λ u. IsWholeRegion u) → IsRegionTable (set slots at.region new) (set free_classes at.region (free_class_of now)) pool capacity start × (seen (set slots at.region new) pool start ≡ taken at o s)
-  object_taken at o n ready found new now read is again whole =
+  -- the same with the class as it was, if the region had a free cell and has one
+  untold : (r : ℕ) (f : UsedRegion → UsedRegion) → ((u : UsedRegion) → (f u).cell_size ≡ u.cell_size) → IsSome (get_or slots r None) → (new : Option UsedRegion) → new ≡ option_map f (get_or slots r None) → is_none (first_in (get_or slots r None)) ≡ false → is_none (first_in new) ≡ false → IsRegionTable (set slots r new) (set free_classes r (free_class_of new)) pool capacity start → IsRegionTable (set slots r new) free_classes pool capacity start
+  untold r f sizes used new next had has t =
+      let old : Option UsedRegion = get_or slots r None in
+      let size : size_in new ≡ size_in old = ap size_in next ∙ size_kept f sizes old in
+      let at : get_or free_classes r 0 ≡ free_class_of old = ap (λ rs. get_or rs r 0) table.told ∙ get_or-map free_class_of slots r None 0 (in_use_within slots r used) in
+      let back : set free_classes r (free_class_of new) ≡ free_classes = ap (set free_classes r) (class_kept_by_room old new size had has ∙ sym at) ∙ set-get_or free_classes r 0 in
+      subst (λ rs. IsRegionTable (set slots r new) rs pool capacity start) back t
+
+  -- an object is put into the cell that heads its region's free list, which tells whether no cell is free then
+  pub object_taken : (at : ObjRef) (o : Object) (n : ℕ) → IsSomeAnd (used_at s.regions at.region) (λ u. (slice_get u.free 0 ≡ Some at.cell) × FitsWords u.cell_size n) → (found new : Option UsedRegion) → found ≡ get_or slots at.region found → new ≡ option_map (λ u. cell_filled u at.cell o) found → IfSome new (λ u. IsWholeRegion u) → (full : Bool) → full ≡ is_none (first_in new)
+      → (full ≡ true → IsRegionTable (set slots at.region new) (set free_classes at.region 0) pool capacity start) × (full ≡ false → IsRegionTable (set slots at.region new) free_classes pool capacity start) × (seen (set slots at.region new) pool start ≡ taken at o s)
+  object_taken at o n ready found new read is whole full tells =
       let old : Option UsedRegion = get_or slots at.region None in
       let need = rw (← view, used_region_is_slot slots at.region) at ready in
       let used : IsSome old = slot_with_property_is_used _ _ need in
-      let next : new ≡ option_map (λ u. cell_filled u at.cell o) old = changed_slot slots at.region (λ u. cell_filled u at.cell o) found new (in_use_within slots at.region used) read is in (
-        reread at.region (λ u. cell_filled u at.cell o) (λ u. refl) used found new now read is again whole (λ w. good_region_with_taken_cell old at.cell n o (table.good at.region) (take_ready old at.cell n need) w),
+      let next : new ≡ option_map (λ u. cell_filled u at.cell o) old = changed_slot slots at.region (λ u. cell_filled u at.cell o) found new (in_use_within slots at.region used) read is in
+      let good : IsGood (option_map (λ u. cell_filled u at.cell o) old) = good_region_with_taken_cell old at.cell n o (table.good at.region) (take_ready old at.cell n need) (rw next at whole) in
+      let t : IsRegionTable (set slots at.region new) (set free_classes at.region (free_class_of new)) pool capacity start = retold at.region (λ u. cell_filled u at.cell o) (λ u. refl) used new next good in (
+        (λ yes. subst (λ k. IsRegionTable (set slots at.region new) (set free_classes at.region k) pool capacity start) (class_without_room new (sym tells ∙ yes)) t),
+        (λ no. untold at.region (λ u. cell_filled u at.cell o) (λ u. refl) used new next (headed_region_has_room old at.cell n need) (sym tells ∙ no) t),
         rw (← view, next) (sym (shown_regions_with_taken_cell slots pool start at o)),
       )
 
-  -- an object leaves its cell, and another stays in the region
-  pub object_freed : (at b : ObjRef) → IsSome (object_at s.regions at) → b.region ≡ at.region → b ≢ at → IsSome (object_at s.regions b) → (found new now : Option UsedRegion) → found ≡ get_or slots at.region found → new ≡ option_map (λ u. cell_freed u at.cell) found → now ≡ get_or (set slots at.region new) at.region now → IfSome now (λ u. IsWholeRegion u) → IsRegionTable (set slots at.region new) (set free_classes at.region (free_class_of now)) pool capacity start × (seen (set slots at.region new) pool start ≡ freed at s)
-  object_freed at b there beside other stays found new now read is again whole =
+  -- an object leaves its cell, and another stays in the region, which tells whether no cell was free before
+  pub object_freed : (at b : ObjRef) → IsSome (object_at s.regions at) → b.region ≡ at.region → b ≢ at → IsSome (object_at s.regions b) → (found new : Option UsedRegion) → found ≡ get_or slots at.region found → new ≡ option_map (λ u. cell_freed u at.cell) found → IfSome new (λ u. IsWholeRegion u) → (full : Bool) → full ≡ is_none (first_in found)
+      → ((now : Option UsedRegion) → now ≡ get_or (set slots at.region new) at.region now → IsRegionTable (set slots at.region new) (set free_classes at.region (free_class_of now)) pool capacity start) × (full ≡ false → IsRegionTable (set slots at.region new) free_classes pool capacity start) × (seen (set slots at.region new) pool start ≡ freed at s)
+  object_freed at b there beside other stays found new read is whole full tells =
       let old : Option UsedRegion = get_or slots at.region None in
       let slot : (object_at (map shown_region slots) at ≡ slot_object old at.cell) × IsSome old × (at.region < length slots) = slot_of_object slots at (rw (← view) at there) in
+      let was : found ≡ old = read ∙ place_read_with_any_default slots at.region found slot.2 in
       let next : new ≡ option_map (λ u. cell_freed u at.cell) old = changed_slot slots at.region (λ u. cell_freed u at.cell) found new slot.2 read is in
       let there_too : IsSome (slot_object (get_or slots b.region None) b.cell) = rw (← view, object_shown slots b) at stays in
-      let kept : IsSome (slot_object old b.cell) = subst (λ k. IsSome (slot_object (get_or slots k None) b.cell)) beside there_too in (
-        reread at.region (λ u. cell_freed u at.cell) (λ u. refl) slot.1 found new now read is again whole (λ w. good_region_with_freed_cell old at.cell b.cell (λ e. other (λ k. record { region = beside k; cell = e k })) kept w),
+      let kept : IsSome (slot_object old b.cell) = subst (λ k. IsSome (slot_object (get_or slots k None) b.cell)) beside there_too in
+      let good : IsGood (option_map (λ u. cell_freed u at.cell) old) = good_region_with_freed_cell old at.cell b.cell (λ e. other (λ k. record { region = beside k; cell = e k })) kept (rw next at whole) in
+      let t : IsRegionTable (set slots at.region new) (set free_classes at.region (free_class_of new)) pool capacity start = retold at.region (λ u. cell_freed u at.cell) (λ u. refl) slot.1 new next good in (
+        (λ now again. subst (λ x. IsRegionTable (set slots at.region new) (set free_classes at.region (free_class_of x)) pool capacity start) (sym (again ∙ get_or-set_same slots at.region new now slot.2)) t),
+        (λ no. untold at.region (λ u. cell_freed u at.cell) (λ u. refl) slot.1 new next (ap (λ x. is_none (first_in x)) (sym was) ∙ (sym tells ∙ no)) (ap (λ x. is_none (first_in x)) next ∙ freed_region_has_room old at.cell slot.1) t),
         rw (← view, next) (sym (freed_shown slots pool start at)),
       )

@@ -37,15 +37,26 @@ use heap_class::{ObjKind, ObjRef, Refusal};
 pub use lists::{FreeCells, PoolRegions};
 use region_classes::RegionClasses;
 pub use sizes::{OBJECT_BASE, REGION_WORDS};
-use sizes::{LARGE_LIMIT, cell_size_for, regions_for};
+use sizes::{LARGE_LIMIT, cell_size_for, id_in, regions_for};
 use slots::{
-    WAITING, empty_slots, first_free_in, first_run_in, free_class, free_in, full_pool, give_head,
+    WAITING, empty_slots, first_run_in, free_class, free_head_in, free_in, full_pool, give_head,
     pool_head, set_bit_in, set_pending_in, set_word_in, size_class, slot_at, take_head, take_in,
     turn_back_in, turn_in, unfree_in, wait_class,
 };
 use std::alloc::{AllocError, Global};
 use std::marker::Model;
 pub use storage::{ObjectCopy, Storage};
+
+/// A new object.
+#[derive(Clone, Copy)]
+pub struct Placed {
+    /// Whether its region was empty.
+    pub fresh: bool,
+    /// Its place.
+    pub at: ObjRef,
+    /// Its id.
+    pub id: u64,
+}
 
 /// All regions of a heap, and the pool of the empty ones.
 #[derive(Drop)]
@@ -114,30 +125,36 @@ impl Regions {
         self.alloc
     }
 
-    /// Makes an object of `len` slots, each 0, and returns its place and whether its region was empty. Fails with TooLarge if
-    /// `len` is more than 2,097,147, and with NoMemory if a region's storage can't be allocated. Fails with HeapFull if no region
-    /// has a free cell of its size and the pool is empty; for more than 1,024 slots, if the area has no empty regions in a row
-    /// that hold it.
+    /// Makes an object of `len` slots, each 0. Fails with TooLarge if `len` is more than 2,097,147, and with NoMemory if a region's
+    /// storage can't be allocated. Fails with HeapFull if no region has a free cell of its size and the pool is empty; for more
+    /// than 1,024 slots, if the area has no empty regions in a row that hold it.
     #[inline(always)]
-    pub fn alloc(&mut self, kind: ObjKind, len: u64, mark: bool) -> Result<(ObjRef, bool), Refusal>
+    pub fn alloc(&mut self, kind: ObjKind, len: u64, mark: bool) -> Result<Placed, Refusal>
         ensures answered { IsAnswered (alloc_refusal len self.old) (is_fresh len self.old) result }
-        ensures placed { IfOk result (λ p. new_place len self.old ≡ Some p) }
+        ensures placed { IfOk result (λ p. new_place len self.old ≡ Some (p.at, p.fresh)) }
+        ensures named { IfOk result (λ p. p.id ≡ id_of self.new.regions p.at) }
         ensures allocated { IfOk result
-            (λ p. self.new ≡ allocated p.0 p.1 (blank_object kind len mark) self.old) }
+            (λ p. self.new ≡ allocated p.at p.fresh (blank_object kind len mark) self.old) }
         ensures unchanged { OnErr result (self.new ≡ self.old) }
     {
+        // A call that is given the place of the result would keep it out of registers.
         if len > REGION_WORDS {
-            return self.alloc_large(kind, len, mark);
+            return Ok(self.alloc_large(kind, len, mark)?);
         }
         let len = len as usize;
-        if let Some(at) = self.place_for(cell_size_for(len)) {
+        let cell_size = cell_size_for(len);
+        if let Some(at) = self.place_for(cell_size) {
             self.take_at(at, kind, len, mark);
-            return Ok((at, false));
+            return Ok(Placed {
+                fresh: false,
+                at,
+                id: id_in(at, cell_size as u64),
+            });
         }
         let Some(region) = self.spare() else {
             return Err(Refusal::HeapFull);
         };
-        self.alloc_fresh(region, kind, len, mark)
+        Ok(self.alloc_fresh(region, kind, len, mark)?)
     }
 
     /// Undoes `alloc`, given the place and the flag that it returned. If the flag is false, another object must be in the
@@ -322,8 +339,7 @@ impl Regions {
     pub fn id(&self, at: ObjRef) -> u64
         ensures value { result ≡ id_of self.now.regions at }
     {
-        let size = self.size_of(at.region as usize);
-        OBJECT_BASE + 8 * (REGION_WORDS * at.region as u64 + at.cell as u64 * size)
+        id_in(at, self.size_of(at.region as usize))
     }
 
     /// Returns the place of the object that an id names, or None if it names none. Takes constant time.
@@ -453,9 +469,10 @@ impl Regions {
             → self.old ≡ taken at o before → self.new ≡ before }
     {
         let region = at.region as usize;
-        free_in(&mut self.slots[region], at.cell as usize);
-        self.free_classes
-            .set(region, free_class(&self.slots[region]));
+        if free_in(&mut self.slots[region], at.cell as usize) {
+            self.free_classes
+                .set(region, free_class(&self.slots[region]));
+        }
     }
 
     /// Puts an object into the cell that heads its region's free list. The cells must have the least size that holds it. Undoes
@@ -470,9 +487,9 @@ impl Regions {
             → self.old ≡ freed at before → self.new ≡ before }
     {
         let region = at.region as usize;
-        unfree_in(&mut self.slots[region], at.cell as usize, object);
-        self.free_classes
-            .set(region, free_class(&self.slots[region]));
+        if unfree_in(&mut self.slots[region], at.cell as usize, object) {
+            self.free_classes.set(region, 0);
+        }
     }
 
     /// Moves the storage out of a region in use, which is then empty, and heads the pool if it is below the area. Undoes
@@ -568,17 +585,13 @@ impl Regions {
 
     // Makes an object of more slots than a region has words.
     #[inline(never)]
-    fn alloc_large(
-        &mut self,
-        kind: ObjKind,
-        len: u64,
-        mark: bool,
-    ) -> Result<(ObjRef, bool), Refusal>
+    fn alloc_large(&mut self, kind: ObjKind, len: u64, mark: bool) -> Result<Placed, Refusal>
         requires { region_words < len }
         ensures answered { IsAnswered (alloc_refusal len self.old) (is_fresh len self.old) result }
-        ensures placed { IfOk result (λ p. new_place len self.old ≡ Some p) }
+        ensures placed { IfOk result (λ p. new_place len self.old ≡ Some (p.at, p.fresh)) }
+        ensures named { IfOk result (λ p. p.id ≡ id_of self.new.regions p.at) }
         ensures allocated { IfOk result
-            (λ p. self.new ≡ allocated p.0 p.1 (blank_object kind len mark) self.old) }
+            (λ p. self.new ≡ allocated p.at p.fresh (blank_object kind len mark) self.old) }
         ensures unchanged { OnErr result (self.new ≡ self.old) }
     {
         if len > LARGE_LIMIT {
@@ -599,18 +612,20 @@ impl Regions {
         kind: ObjKind,
         len: usize,
         mark: bool,
-    ) -> Result<(ObjRef, bool), Refusal>
+    ) -> Result<Placed, Refusal>
         requires few { len ≤ large_array_limit }
         requires limit { region < region_limit }
         requires place { new_place len self.old
             ≡ Some (record { region = region; cell = 0 }, true) }
         ensures answered { IsAnswered (alloc_refusal len self.old) (is_fresh len self.old) result }
-        ensures placed { IfOk result (λ p. new_place len self.old ≡ Some p) }
+        ensures placed { IfOk result (λ p. new_place len self.old ≡ Some (p.at, p.fresh)) }
+        ensures named { IfOk result (λ p. p.id ≡ id_of self.new.regions p.at) }
         ensures allocated { IfOk result
-            (λ p. self.new ≡ allocated p.0 p.1 (blank_object kind len mark) self.old) }
+            (λ p. self.new ≡ allocated p.at p.fresh (blank_object kind len mark) self.old) }
         ensures unchanged { OnErr result (self.new ≡ self.old) }
     {
-        let Ok(mut storage) = Storage::new(self.alloc, cell_size_for(len)) else {
+        let cell_size = cell_size_for(len);
+        let Ok(mut storage) = Storage::new(self.alloc, cell_size) else {
             return Err(Refusal::NoMemory);
         };
         storage.take(0, kind, len, mark);
@@ -619,7 +634,11 @@ impl Regions {
             region: region as u16,
             cell: 0,
         };
-        Ok((at, true))
+        Ok(Placed {
+            fresh: true,
+            at,
+            id: id_in(at, cell_size as u64),
+        })
     }
 
     // Returns the lowest region of the area from which `count` regions are there that no object takes.
@@ -690,7 +709,7 @@ impl Regions {
             ≡ slice_get (filter_map (free_place size) (enumerate_from 0 self.now.regions)) 0 }
     {
         let region = self.free_classes.find(size_class(size))?;
-        let cell = first_free_in(&self.slots[region])?;
+        let cell = free_head_in(&self.slots[region]);
         Some(ObjRef {
             region: region as u16,
             cell: cell as u16,
@@ -714,8 +733,8 @@ impl Regions {
         ensures { self.new ≡ taken at (blank_object kind len mark) self.old }
     {
         let region = at.region as usize;
-        take_in(&mut self.slots[region], at.cell as usize, kind, len, mark);
-        self.free_classes
-            .set(region, free_class(&self.slots[region]));
+        if take_in(&mut self.slots[region], at.cell as usize, kind, len, mark) {
+            self.free_classes.set(region, 0);
+        }
     }
 }

@@ -1,8 +1,10 @@
 //! Sizes of regions and cells.
 
-ghost use Rattle.std.specs.Prelude.{◌≡◌, ◌≤◌};
-ghost use Rattle.heap_region.specs.Limits.{cell_limit, heap_words, region_limit};
-ghost use Rattle.heap_region.specs.Regions.{cell_count, cell_size_for, regions_for};
+ghost use Rattle.std.specs.Prelude.{◌≡◌, ◌+◌, ◌*◌, ◌≤◌};
+ghost use Rattle.heap_region.specs.Limits.{cell_limit, heap_words, region_limit, region_words};
+ghost use Rattle.heap_region.specs.Regions.{cell_count, cell_size_for, object_base, regions_for};
+
+use heap_class::ObjRef;
 
 /// The number of words of a region.
 pub const REGION_WORDS: u64 = 1024;
@@ -28,7 +30,8 @@ pub(crate) fn regions_for(words: usize) -> usize
 #[tactic(auto, unfolding(crate::specs::Regions::cell_size_for))]
 pub(crate) fn cell_size_for(slots: usize) -> usize
     requires { slots ≤ heap_words }
-    ensures { result ≡ cell_size_for slots }
+    ensures value { result ≡ cell_size_for slots }
+    ensures limit { result ≤ heap_words }
 {
     if slots <= 4 {
         4
@@ -43,6 +46,15 @@ pub(crate) fn cell_size_for(slots: usize) -> usize
     } else {
         1024 * regions_for(slots)
     }
+}
+
+// Returns the id of a cell in a region with cells of this size: the address of its first word.
+#[inline(always)]
+pub(crate) fn id_in(at: ObjRef, cell_size: u64) -> u64
+    requires { cell_size ≤ heap_words }
+    ensures { result ≡ object_base + 8 * (region_words * at.region + at.cell * cell_size) }
+{
+    OBJECT_BASE + 8 * (REGION_WORDS * at.region as u64 + at.cell as u64 * cell_size)
 }
 
 // Returns the number of cells of this size in a region; a cell that takes several regions is the only one.

@@ -1,6 +1,6 @@
 //! A region in use: 1,024 words, cut into cells of one size, with a free list that lies in the free cells; or the words of
 //! several regions in one cell.
-ghost use Rattle.std.specs.Prelude.{◌≡◌, ℕ, ◌+◌, ◌-◌, ◌*◌, ◌/◌, ◌<◌, ◌≤◌, [], length, IfOk, IsSome, IfSome, slice_index, slice_index_or, replicate, take, drop, count_by, Some, None, is_some, option_map, slice_get, slice_set};
+ghost use Rattle.std.specs.Prelude.{◌≡◌, ℕ, ◌+◌, ◌-◌, ◌*◌, ◌/◌, ◌<◌, ◌≤◌, [], length, IfOk, IsSome, IfSome, slice_index, slice_index_or, replicate, take, drop, count_by, Some, None, is_none, is_some, option_map, slice_get, slice_set};
 ghost use Rattle.heap_region.specs.Regions.{FitsWords, block_words, cell_object};
 ghost use Rattle.heap_region.specs.Pool.{blank_object, cell_freed, fresh_region};
 ghost use Rattle.heap_region.specs.Layout.{IsBlockSize, IsWholeRegion, words_at, changed_at, word_set, bit_set, with_bit, cell_filled, Heads, overwritten, header_live, header_of};
@@ -270,16 +270,23 @@ impl Storage {
         self.block.headers().dead()
     }
 
-    // Returns the cell that heads the free list.
-    pub(crate) fn first_free(&self) -> Option<usize>
-        ensures value { result ≡ slice_get self.now.free 0 }
-        ensures limit { IfSome result (λ cell. cell < cell_limit) }
+    // Returns the cell that heads the free list, which must have one.
+    #[inline(always)]
+    pub(crate) fn free_head(&self) -> usize
+        requires { IsSome (slice_get self.now.free 0) }
+        ensures value { slice_get self.now.free 0 ≡ Some result }
+        ensures limit { result < cell_limit }
     {
-        if self.head == 0 {
-            None
-        } else {
-            Some((self.head - 1) as usize)
-        }
+        (self.head - 1) as usize
+    }
+
+    // Tells whether no cell is free.
+    #[inline(always)]
+    pub(crate) fn is_full(&self) -> bool
+        ensures value { result ≡ is_none (slice_get self.now.free 0) }
+        ensures whole { IsWholeRegion self.now }
+    {
+        self.head == 0
     }
 
     // Returns the free cells, head first.
@@ -420,7 +427,8 @@ impl Storage {
     #[tactic(auto, using(crate::proofs::Cells::headers_lie))]
     pub(crate) fn free(&mut self, cell: usize)
         requires { IsSome (cell_object self.old cell) }
-        ensures { self.new ≡ cell_freed self.old cell }
+        ensures state { self.new ≡ cell_freed self.old cell }
+        ensures whole { IsWholeRegion self.new }
     {
         let start = cell * self.cell_size as usize;
         self.block.set_word(start, self.head as u64);

@@ -26,9 +26,9 @@ use Rattle.heap_lock.specs.History.{MayEnter, entry, reply_of}
 use Rattle.heap_lock.specs.LockStates.{SeatModel, IsAct, IsHeldAct, IsNoEntry, IsRefused, LockState}
 use Rattle.heap_lock.proofs.Histories.{numbered_entries_of_one_more}
 use Rattle.heap_lock.proofs.StepReplies.{step_replies_no_place}
-use Rattle.question_text.specs.Collections.{IsShortage, TakenStep}
-use Rattle.question_text.specs.declared.order.Order.{Order}
-use Rattle.question_text.proofs.CycleSteps.{short}
+use Rattle.heap_orders.specs.Collections.{IsShortage, TakenStep}
+use Rattle.question_grammar.specs.declared.order.Order.{Order}
+use Rattle.heap_orders.proofs.CycleSteps.{short}
 use Rattle.heap_server.specs.JoinedAnswers.{AnswersForSeat, AnswersHeld, Gains, IsHeapOfSeat, LeavesSeen, entries_of_steps, order_obeyed}
 
 -- a step that is refused leaves the machine

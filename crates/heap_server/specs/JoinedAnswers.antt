@@ -18,15 +18,14 @@ use Rattle.heap_lock.specs.Reply.{Reply}
 use Rattle.heap_lock.specs.LockStates.{SeatModel, IsHeldAct, IsNoEntry, LockState}
 use Rattle.session_text.specs.Replies.{reply_text}
 use Rattle.question_text.specs.Answers.{IsAnswerOfLine}
-use Rattle.question_text.specs.declared.cycle.CycleCounts.{CycleCounts}
-use Rattle.question_text.specs.Collections.{IsCycleAnswer, RunsCycle, TakenStep}
-use Rattle.question_text.specs.Histories.{steps_ago}
-use Rattle.question_text.specs.declared.order.Order.{Order}
-use Rattle.question_text.specs.declared.order.Order.TheVariants.{Act, Collect, Forward, ForwardTo, RewindTo}
-use Rattle.question_text.specs.Moments.{refused_text}
-use Rattle.question_text.specs.Orders.{order_in}
-use Rattle.question_text.specs.Places.{IsTextOrNoMemory}
-use Rattle.question_text.specs.Redos.{nothing_to_redo_text}
+use Rattle.heap_orders.specs.declared.cycle.CycleCounts.{CycleCounts}
+use Rattle.heap_orders.specs.Collections.{IsCycleAnswer, RunsCycle, TakenStep}
+use Rattle.question_words.specs.Moments.{steps_ago, refused_text}
+use Rattle.question_grammar.specs.declared.order.Order.{Order}
+use Rattle.question_grammar.specs.declared.order.Order.TheVariants.{Act, Collect, Forward, ForwardTo, RewindTo}
+use Rattle.question_grammar.specs.Orders.{order_in}
+use Rattle.question_words.specs.Places.{IsTextOrNoMemory}
+use Rattle.heap_orders.specs.Redos.{nothing_to_redo_text}
 use Rattle.heap_server.specs.JoinedActs.{IsReply}
 
 -- the calls lead to this machine and are those of this chronicle, which has of the seat just its share

@@ -13,9 +13,9 @@ use Rattle.heap_lock.specs.Calls.{Call, Witnesses}
 use Rattle.heap_lock.specs.Entry.{Entry}
 use Rattle.heap_lock.specs.LockStates.{SeatModel}
 use Rattle.heap_lock.specs.Machine.{Machine}
-use Rattle.question_text.specs.Questions.{question_of}
-use Rattle.question_text.specs.declared.question.Question.{Question}
-use Rattle.question_text.specs.declared.question.Question.TheVariants.{Pins}
+use Rattle.question_grammar.specs.Questions.{question_of}
+use Rattle.question_grammar.specs.declared.question.Question.{Question}
+use Rattle.question_grammar.specs.declared.question.Question.TheVariants.{Pins}
 use Rattle.session_grammar.specs.Grammar.{one_number, words_of_line}
 use Rattle.session_text.specs.Answers.{AnswerRelation, all_bad}
 use Rattle.session_text.specs.Dumps.{Acts}

@@ -4,15 +4,15 @@ ghost use Rattle.session_text.specs.Replies.{line_answer_text};
 ghost use Rattle.heap_lock.specs.declared.role.Role.TheVariants.{User};
 ghost use Rattle.heap_lock.specs.Action.TheVariants.{Step};
 ghost use mathlib.Core.List.{IsPrefix};
-ghost use Rattle.question_text.specs.Histories.{steps_ago};
+ghost use Rattle.question_words.specs.Moments.{steps_ago};
 ghost use Rattle.heap_server.specs.JoinedAnswers.{ActsHeld, AnswersForSeat, AnswersHeld, CollectsHeld, IsHeapOfSeat, IsRefusedHeld, LacksUndone, LeavesSeen, RewindsHeld, RunsCycleHeld, order_obeyed};
 
 use crate::joined::reply_to_act;
 use heap_lock::{Answer, Event, Heap, Kept, Machine, Outcome, Refusal, Reply, Seat, Witness};
-use question_text::{
-    CycleCounts, Order, Steps, answer_line, collect_answer, nothing_to_redo, order_in, run_cycle,
-    steps_ago,
-};
+use heap_orders::{CycleCounts, Steps, collect_answer, nothing_to_redo, run_cycle};
+use question_grammar::{Order, order_in};
+use question_text::answer_line;
+use question_words::steps_ago;
 use session_text::LineAnswer;
 use std::alloc::Global;
 

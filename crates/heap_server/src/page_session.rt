@@ -75,7 +75,7 @@ impl<'a, I: Inlet, O: Outlet, C: Commands> Talk for Loan<'a, I, O, C> {
 /// Serves a session between a reader and a writer as `serve` does, while a thread answers the clients of the heap's page: from
 /// before the first read until the session has ended. Fails if the thread can't be started, and has read and written nothing
 /// then. May wait.
-pub fn serve_beside_page<L, R, I: Inlet, O: Outlet, C: Commands>(
+pub fn serve_beside_page<L: Heap + Send + Sync, R, I: Inlet, O: Outlet, C: Commands>(
     rt: &R,
     alloc: Global,
     shared: &Shared<L>,
@@ -87,11 +87,9 @@ pub fn serve_beside_page<L, R, I: Inlet, O: Outlet, C: Commands>(
     limits: SessionLimits,
 ) -> Result<Ended, AllocError>
 where
-    L: Heap + Send + Sync,
     R: Clock + Eprint + Threads + Wait + Sync,
-    ensures served { IfOk result (IsServedBeside limits C.acts C.unknown time
-        (I.seen reader.old) (I.seen reader.new) commands.old (O.seen writer.old) commands.new
-        (O.seen writer.new)) }
+    ensures served { IfOk result (IsServedBeside limits C.acts C.unknown time (I.seen reader.old)
+        (I.seen reader.new) commands.old (O.seen writer.old) commands.new (O.seen writer.new)) }
     ensures reader { IfErr result (λ e. reader.new ≡ reader.old) }
     ensures writer { IfErr result (λ e. writer.new ≡ writer.old) }
     ensures commands { IfErr result (λ e. commands.new ≡ commands.old) }
@@ -106,12 +104,10 @@ where
     };
     let (session, ended) = talk_beside(rt, alloc, shared, page, session);
     let Loan {
-        alloc: _,
         reader,
         writer,
         commands,
-        time: _,
-        limits: _,
+        ..
     } = session;
     give_back(reader, writer, commands);
     match ended {

@@ -76,22 +76,14 @@ pub fn serve_staying<L: Heap + Send + Sync, R: Clock + Eprint + Print + Threads 
     requires { AreUsers seats }
     ensures { IfOk result (λ s. AreStays L.config L.tables terms seats s.seats.items) }
 {
-    let word = AtomicBool::new(false);
-    let stop = &word;
+    let stop = &AtomicBool::new(false);
     let Ports {
         sessions,
         dumps,
         page,
     } = ports;
     let door = Mutex::new(Door::new(sessions));
-    let post = Post {
-        rt,
-        alloc,
-        shared,
-        door: &door,
-        terms,
-    };
-    let post = &post;
+    let post = &Post::new(rt, alloc, shared, &door, terms);
     thread::scope(
         thread::scope_env(),
         rt,
@@ -140,6 +132,27 @@ struct Post<'a, L: Heap, R> {
     shared: &'a Shared<L>,
     door: &'a Mutex<Door>,
     terms: Terms,
+}
+
+impl<'a, L: Heap, R> Post<'a, L, R> {
+    // Creates what the threads have in common, over a port and on these terms.
+    fn new(
+        rt: &'a R,
+        alloc: Global,
+        shared: &'a Shared<L>,
+        door: &'a Mutex<Door>,
+        terms: Terms,
+    ) -> Post<'a, L, R>
+        ensures { result.terms ≡ terms }
+    {
+        Post {
+            rt,
+            alloc,
+            shared,
+            door,
+            terms,
+        }
+    }
 }
 
 // Serves from all seats while a thread tells the endings. Fails if that thread can't be started, or memory is refused.

@@ -10,7 +10,7 @@ ghost use Rattle.session_text.specs.Replies.{line_answer_text, pin_in};
 
 use crate::joined::Joined;
 use heap_lock::{Action, Heap, Refusal, Reply, Seat};
-use question_text::{Question, question_of};
+use question_grammar::{Question, question_of};
 use session_grammar::command::one_number;
 use session_grammar::words::{Words, is_word};
 use session_text::{Commands, LineAnswer};

@@ -25,10 +25,7 @@ pub struct StayTended<L: Heap> {
 /// Serves clients from all users' seats at a time as `serve_staying` does, while two threads tend the collector. They begin before
 /// the first accept, and are told to stop and joined after the last session. Fails as `serve_staying` does, and if a thread for
 /// them can't be started. May wait.
-pub fn serve_staying_tended<
-    L: Heap + Send + Sync,
-    R: Clock + Eprint + Print + Threads + Wait + Sync,
->(
+pub fn serve_staying_tended<L: Heap + Send + Sync, R>(
     rt: &R,
     alloc: Global,
     shared: &Shared<L>,
@@ -36,20 +33,20 @@ pub fn serve_staying_tended<
     ports: Ports,
     terms: Terms,
 ) -> Result<StayTended<L>, AllocError>
+where
+    R: Clock + Eprint + Print + Threads + Wait + Sync,
     requires { AreStaff (length staff.users) (staff.marker ∷ staff.sweeper ∷ staff.users) }
     ensures seats { IfOk result
         (λ s. AreStays L.config L.tables terms staff.users s.stayed.seats.items) }
     ensures marks { IfOk result (λ s. MarkRuns L.config staff.marker s.marker) }
     ensures sweeps { IfOk result (λ s. SweepRuns L.config staff.sweeper s.sweeper) }
 {
-    let word = AtomicBool::new(false);
-    let stop = &word;
+    let stop = &AtomicBool::new(false);
     thread::scope(
         thread::scope_env(),
         rt,
         move |scope| -> Result<StayTended<L>, AllocError>
-            requires { AreStaff (length staff.users)
-                (staff.marker ∷ staff.sweeper ∷ staff.users) }
+            requires { AreStaff (length staff.users) (staff.marker ∷ staff.sweeper ∷ staff.users) }
             ensures seats { IfOk result
                 (λ s. AreStays L.config L.tables terms staff.users s.stayed.seats.items) }
             ensures marks { IfOk result (λ s. MarkRuns L.config staff.marker s.marker) }

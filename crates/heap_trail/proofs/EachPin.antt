@@ -1,6 +1,6 @@
 -- Pin by pin.
 use Rattle.heap_class.specs.declared.IdSize.{IdSize}
-use Rattle.std.proofs.Common.{◌≡◌, ℕ, zero, suc, ◌-◌, ◌<◌, ◌≤◌, Bool, true, false, List, [], ◌∷◌, length, set, sym, ap, subst, ◌∙◌, arith, refl, inl, None}
+use Rattle.std.proofs.Common.{◌≡◌, ℕ, zero, suc, ◌-◌, ◌<◌, ◌≤◌, false, List, [], ◌∷◌, length, set, sym, ap, subst, ◌∙◌, arith, refl, inl, None}
 use Rattle.std.specs.Prelude.{slice_index_or}
 use Rattle.heap_world.specs.State.{HeapState}
 use Rattle.heap_step.specs.declared.Undo.{Undo}

@@ -9,6 +9,7 @@ use Rattle.heap_class.specs.declared.ObjRef.{ObjRef}
 use Rattle.heap_world.specs.Regions.{live_places}
 use Rattle.heap_world.specs.State.{HeapState}
 use Rattle.heap_step.specs.declared.Undo.{Undo}
+use Rattle.heap_step.specs.declared.Undo.TheVariants.{New}
 use Rattle.heap_class.specs.declared.IdSize.{IdSize}
 use Rattle.hprof_text.specs.declared.Cursor.{Cursor}
 use Rattle.hprof_text.specs.declared.Cursor.TheVariants.{Past}
@@ -92,6 +93,10 @@ is_settled region (Lost place cause) = true
 abbrev pub NeedsCopy : Undo → Held → Type 0
 NeedsCopy left h =
     (region : ℕ) × (touched left ≡ Some region) × (is_settled region h ≡ false)
+
+-- the step that left this record made an object at this place, in a region that it took from the pool or not (the flag)
+abbrev pub IsMade : ObjRef → Bool → Undo → Type 0
+IsMade at fresh left = (m : ℕ) × (r : ℕ) × (old : ℕ) × (left ≡ New at fresh m r old)
 
 -- the pin keeps what it has to, or it is lost, by a step that touched a region which it has no copy of
 abbrev pub MayKeep : Undo → HeapState → NumberedPin → NumberedPin → Type 0

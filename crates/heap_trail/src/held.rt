@@ -6,10 +6,10 @@ ghost use Rattle.heap_step.specs.declared.Event.{Event};
 ghost use Rattle.heap_step.specs.Laws.{IsStep};
 ghost use Rattle.hprof_text.specs.Laws.{piece_size_limit};
 ghost use Rattle.heap_pins.specs.KeptCopies.{touched};
-ghost use Rattle.heap_trail.specs.OpenPins.{CanGive, HasGiven, IsNextPiece, IsSizedPin, IsRegionWithin, MayCount, MayKeep, NeedsCopy, RefusesPiece, held_advanced, is_settled, held_place, slot_after_rewind};
+ghost use Rattle.heap_trail.specs.OpenPins.{CanGive, HasGiven, IsNextPiece, IsMade, IsSizedPin, IsRegionWithin, MayCount, MayKeep, NeedsCopy, RefusesPiece, held_advanced, is_settled, held_place, slot_after_rewind};
 ghost use Rattle.heap_trail.specs.Views.{CanShow, IsViewBeside, RefusesView};
 
-use heap_class::{IdSize, LostCause, Refusal};
+use heap_class::{IdSize, LostCause, ObjRef, Refusal};
 use heap_pins::{Pin, PinView};
 use heap_step::Undo;
 use heap_world::World;
@@ -97,6 +97,20 @@ impl NumberedPin {
             Held::Kept { pin, .. } => {
                 let _ = pin.keep(world, left);
             }
+            Held::Lost { .. } => {}
+        }
+    }
+
+    // Has the pin note the step that left this record, that of an object made at `at`, and led to this state. Takes no memory.
+    #[inline(always)]
+    pub(crate) fn note_new(&mut self, world: &World, left: &Undo, at: ObjRef, fresh: bool)
+        requires step { (e : Event) × (before : HeapState) × IsStep e before world.now left.now }
+        requires sized { IsSizedPin (length world.now.regions) self.old }
+        requires made { IsMade at fresh left.now }
+        ensures { MayKeep left.now world.now self.old self.new }
+    {
+        match &mut self.held {
+            Held::Kept { pin, .. } => pin.keep_new(at, fresh),
             Held::Lost { .. } => {}
         }
     }

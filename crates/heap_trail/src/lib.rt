@@ -1,7 +1,7 @@
 //! The machine: the current state, the retained past, and the pins on it.
 #![tactic(auto)]
 
-ghost use Rattle.std.specs.Prelude.{◌≡◌, true, ◌<◌, ◌≤◌, ◌+◌, ◌-◌, ℕ, List, [], length, map, None, Some, IfOk, IfErr, OnOk, OnErr};
+ghost use Rattle.std.specs.Prelude.{◌≡◌, true, false, ◌<◌, ◌≤◌, ◌+◌, ◌-◌, ℕ, List, [], length, map, None, Some, IfOk, IfErr, OnOk, OnErr};
 ghost use Rattle.std.specs.Vec.{vec_capacity};
 ghost use Rattle.circular_buffer.specs.Buffer.{buffer};
 ghost use Rattle.heap_world.specs.Limits.{keep_limit};
@@ -19,7 +19,7 @@ ghost use Rattle.heap_trail.specs.declared.Reply.TheVariants.{Answered, Pinned, 
 ghost use Rattle.heap_trail.specs.Headline.{Headline};
 ghost use Rattle.heap_trail.specs.Laws.{FindsSnapshot, IsTrail, GivesText, KeepsImage, DumpIsWhole, KeepsReached, KeepsTrail, LeadsBack, LeavesTrail, ReachesLive, SparesReached};
 ghost use Rattle.heap_trail.specs.Machine.{IsSmall, Machine, Allocation, MayFail, MayReply, acted, opening_machine};
-ghost use Rattle.heap_trail.specs.OpenPins.{AreAllBelow, EachMayKeep, EachSized, slot_after_rewind};
+ghost use Rattle.heap_trail.specs.OpenPins.{AreAllBelow, EachMayKeep, EachSized, IsMade, slot_after_rewind};
 ghost use Rattle.heap_trail.specs.Records.{IsRemembered};
 ghost use Rattle.heap_trail.specs.Trail.{retained, rewound};
 ghost use Rattle.heap_trail.specs.Pins.{after_rewind};
@@ -36,7 +36,7 @@ mod ring;
 mod views;
 
 pub use examples::{worked_dumps, worked_examples};
-use heap_class::{IdSize, Refusal};
+use heap_class::{IdSize, ObjRef, Refusal};
 use heap_pins::{ends_cycle, noted_region, touched_region};
 use heap_step::step::undo;
 use heap_step::{Answer, AnyEvent, ApplyEvent, Event, Undo, apply_sort, undo_takes_back};
@@ -118,17 +118,51 @@ impl Model for Machine {
         m.pins.items (vec_capacity m.pins) };
 }
 
-// Does what `keep_and_add` does. If each pin is settled the record goes to the ring at once.
+// Does what `keep_and_add` does. The record goes to the ring at once, unless a pin has to copy a region or a cycle ended.
 #[inline(always)]
 fn remember(pins: &mut [NumberedPin], world: &World, records: &mut RecordRing, left: Undo)
     requires step { (e : Event) × (before : HeapState) × IsStep e before world.now left }
     requires sized { EachSized (length world.now.regions) pins.old }
     ensures { IsRemembered left world.now pins.old pins.new records.old records.new }
 {
-    if are_settled(pins, world, &left) {
+    if note_at_once(pins, world, &left) {
         records.push_front(left);
     } else {
         keep_and_add(pins, world, records, left);
+    }
+}
+
+// Has each pin note the step that left this record and led to this state, if it made an object. Otherwise tells whether each pin
+// is settled, and leaves all as they are.
+#[inline(always)]
+fn note_at_once(pins: &mut [NumberedPin], world: &World, left: &Undo) -> bool
+    requires step { (e : Event) × (before : HeapState) × IsStep e before world.now left.now }
+    requires sized { EachSized (length world.now.regions) pins.old }
+    ensures noted { result ≡ true → EachMayKeep left.now world.now pins.old pins.new }
+    ensures unchanged { result ≡ false → pins.new ≡ pins.old }
+{
+    if pins.is_empty() {
+        return true;
+    }
+    match left {
+        Undo::New { at, fresh, .. } => {
+            note_new(pins, world, left, *at, *fresh);
+            true
+        }
+        _ => are_settled(pins, world, left),
+    }
+}
+
+// Has each pin note the step that left this record, that of an object made at `at`, and led to this state. Takes no memory.
+#[inline(never)]
+fn note_new(pins: &mut [NumberedPin], world: &World, left: &Undo, at: ObjRef, fresh: bool)
+    requires step { (e : Event) × (before : HeapState) × IsStep e before world.now left.now }
+    requires sized { EachSized (length world.now.regions) pins.old }
+    requires made { IsMade at fresh left.now }
+    ensures { EachMayKeep left.now world.now pins.old pins.new }
+{
+    for i in 0..pins.len() {
+        pins[i].note_new(world, left, at, fresh);
     }
 }
 
@@ -139,9 +173,6 @@ fn are_settled(pins: &[NumberedPin], world: &World, left: &Undo) -> bool
     requires sized { EachSized (length world.now.regions) pins.now }
     ensures { result ≡ true → EachMayKeep left.now world.now pins.now pins.now }
 {
-    if pins.is_empty() {
-        return true;
-    }
     match noted_region(left) {
         Some(region) => {
             for i in 0..pins.len() {

@@ -255,12 +255,12 @@ impl Config {
 /// The outcome of making an object, as `unmake` needs it.
 #[derive(Clone, Copy)]
 pub struct Created {
-    /// The id of the object.
-    pub id: u64,
-    /// The place of the object.
-    pub at: ObjRef,
     /// Whether its region was taken from the pool.
     pub fresh: bool,
+    /// The place of the object.
+    pub at: ObjRef,
+    /// The id of the object.
+    pub id: u64,
     /// The old word of the register.
     pub old: u64,
 }
@@ -594,10 +594,14 @@ impl World {
     {
         let mark = self.marker.phase().is_marking();
         let old = self.register(m, r);
-        let (at, fresh) = self.regions.alloc(kind, len, mark)?;
-        let id = self.regions.id(at);
-        write_register(&mut self.registers, m, r, id);
-        Ok(Created { id, at, fresh, old })
+        let placed = self.regions.alloc(kind, len, mark)?;
+        write_register(&mut self.registers, m, r, placed.id);
+        Ok(Created {
+            fresh: placed.fresh,
+            at: placed.at,
+            id: placed.id,
+            old,
+        })
     }
 
     // Returns the kind of a slot of the object in the cell, or None if it has no such slot.

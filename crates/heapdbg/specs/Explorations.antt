@@ -5,7 +5,7 @@ use Rattle.heap_console.specs.Loads.{IsLoaded, IsTextEndedFrom, IsTextLoaded}
 use Rattle.session_text.specs.Answers.{AnswerRelation, AnswersCommand, Begins}
 use Rattle.session_text.specs.Machine.{opening_machine}
 use Rattle.question_text.specs.declared.asking.Asking.{Asking}
-use Rattle.question_text.specs.Redos.{no_redo, redo_limit}
+use Rattle.heap_orders.specs.Redos.{no_redo, redo_limit}
 use Rattle.question_text.specs.Sessions.{AskingActs, AskingAnswers, ServesAsking}
 use Rattle.session_text.specs.declared.Ended.{Ended}
 use Rattle.session_text.specs.declared.Ended.TheVariants.{Quit, Eof, CutLine, TooLong, ReadFault, TooManyReads, WriteFault, NoMemory}

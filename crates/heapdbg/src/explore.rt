@@ -2,7 +2,7 @@
 ghost use Rattle.std.specs.Prelude.{◌≡◌, min, IfErr, IfOk};
 ghost use Rattle.heapdbg_options.specs.CommandLine.{IsHeapWithin};
 ghost use Rattle.heapdbg.specs.Explorations.{IsExplored, IsOpening};
-ghost use Rattle.question_text.specs.Redos.{no_redo, redo_limit};
+ghost use Rattle.heap_orders.specs.Redos.{no_redo, redo_limit};
 
 use crate::failure::{Fault, outcome};
 use crate::first_lines::run_first;

@@ -76,12 +76,11 @@ where
     if let Some(secret) = secret {
         let _ = say_word(&mut WriteOutlet::new(&mut stream), secret);
     }
-    let file = match create(rt, path, is_terminal) {
-        Ok(file) => file,
+    let mut file = match create(rt, path, is_terminal) {
+        Ok(file) => WriteOutlet::new(file),
         Err(fault) => return FetchEnd::unfetched(fault),
     };
     let mut socket = ReadInlet::new(stream);
-    let mut file = WriteOutlet::new(file);
     let fetched = fetch_shown(rt, &mut socket, &mut file, shows);
     let written = write_last(writer, &fetched);
     let outcome = outcome(fetched.finish, written);

@@ -9,14 +9,14 @@ use Rattle.heap_world.specs.State.{HeapState}
 use Rattle.session_grammar.specs.declared.command.Command.TheVariants.{Bad}
 use Rattle.session_grammar.specs.Grammar.{access_rules, all_rules, by_rule, class_rules, command_of_text, command_of_words, making_rules, marking_rules, session_rules, words_of_line}
 use Rattle.question_text.specs.declared.asking.Asking.{Asking}
-use Rattle.question_text.specs.declared.question.Question.{Question}
+use Rattle.question_grammar.specs.declared.question.Question.{Question}
 use Rattle.question_text.specs.Answers.{IsAnswerOf}
-use Rattle.question_text.specs.declared.order.Order.{Order}
-use Rattle.question_text.specs.Orders.{order_in, order_of_two, order_of_words}
+use Rattle.question_grammar.specs.declared.order.Order.{Order}
+use Rattle.question_grammar.specs.Orders.{order_in, order_of_two, order_of_words}
 use Rattle.question_text.specs.Comments.{is_comment, is_comment_words, unasked_text}
 use Rattle.question_text.specs.Help.{help_or_bad}
-use Rattle.question_text.specs.NamedLines.{named_question_of_words, named_rules, question_in}
-use Rattle.question_text.specs.Questions.{past_rules, question_of_words, question_rules}
+use Rattle.question_grammar.specs.NamedLines.{named_question_of_words, named_rules, question_in}
+use Rattle.question_grammar.specs.Questions.{past_rules, question_of_words, question_rules}
 use Rattle.question_text.specs.Sessions.{AnswersLine, AskingAnswers}
 use Rattle.question_text.proofs.NewWords.{bad_words}
 

@@ -1,8 +1,8 @@
 -- No question changes the first number of the pins that are opened through the commands.
 use Rattle.std.proofs.Common.{◌≡◌, List, Option, Some, None, ℕ, ap}
 use Rattle.question_text.specs.declared.asking.Asking.{Asking}
-use Rattle.question_text.specs.declared.order.Order.{Order}
-use Rattle.question_text.specs.Orders.{order_in}
+use Rattle.question_grammar.specs.declared.order.Order.{Order}
+use Rattle.question_grammar.specs.Orders.{order_in}
 use Rattle.question_text.specs.Sessions.{AnswersLine, AskingAnswers}
 
 line_same : (order : Option Order) (l : List ℕ) (c : Asking) (text : List ℕ) (d : Asking) → AnswersLine order l c text d → d.local.first_pin ≡ c.local.first_pin

@@ -21,17 +21,17 @@ use Rattle.session_text.specs.Replies.{reply_text}
 use Rattle.session_text.specs.Talks.{AnswersAll}
 use Rattle.session_text.proofs.OtherCommands.{answer_keeps}
 use Rattle.question_text.specs.declared.asking.Asking.{Asking}
-use Rattle.question_text.specs.declared.cycle.CycleCounts.{CycleCounts}
-use Rattle.question_text.specs.declared.order.Order.{Order}
-use Rattle.question_text.specs.declared.order.Order.TheVariants.{Act, Collect, Forward, ForwardTo, RewindTo}
-use Rattle.question_text.specs.Collections.{AreNext, NoneDenies, RunsCycle, TakenStep, ends_cycle}
-use Rattle.question_text.specs.Histories.{steps_ago}
-use Rattle.question_text.specs.Moments.{refused_text}
-use Rattle.question_text.specs.Orders.{ActsOnce, Does, GoesOnBy, RewindsBy, order_in, steps_on}
-use Rattle.question_text.specs.Redos.{GoesForward, GoesOn, IsBackAt, IsRedoOf, LeadsTo, Redo, StopsBefore, TakesAgain, no_redo, noted, with_step, with_steps, with_undone}
-use Rattle.question_text.specs.Sessions.{AnswersLine, AskingActs, AskingAnswers, is_known}
+use Rattle.heap_orders.specs.declared.cycle.CycleCounts.{CycleCounts}
+use Rattle.question_grammar.specs.declared.order.Order.{Order}
+use Rattle.question_grammar.specs.declared.order.Order.TheVariants.{Act, Collect, Forward, ForwardTo, RewindTo}
+use Rattle.heap_orders.specs.Collections.{AreNext, NoneDenies, RunsCycle, TakenStep, ends_cycle}
+use Rattle.question_words.specs.Moments.{steps_ago, refused_text}
+use Rattle.heap_orders.specs.Deeds.{ActsOnce, GoesOnBy, RewindsBy, steps_on}
+use Rattle.question_text.specs.Sessions.{Does, AnswersLine, AskingActs, AskingAnswers, is_known}
+use Rattle.question_grammar.specs.Orders.{order_in}
+use Rattle.heap_orders.specs.Redos.{GoesForward, GoesOn, IsBackAt, IsRedoOf, LeadsTo, Redo, StopsBefore, TakesAgain, no_redo, noted, with_step, with_steps, with_undone}
 use Rattle.question_text.proofs.QuestionsLeftOut.{known_is, unknown_is}
-use Rattle.question_text.proofs.RetakenSteps.{action_keeps, again_up, leads_here, rewind_leads, stopped_for_memory, undone}
+use Rattle.heap_orders.proofs.RetakenSteps.{action_keeps, again_up, leads_here, rewind_leads, stopped_for_memory, undone}
 
 -- ---- orders
 

@@ -13,16 +13,16 @@ use Rattle.heap_trail.specs.declared.Action.TheVariants.{Rewind, Step}
 use Rattle.session_grammar.specs.declared.command.Command.TheVariants.{Ask, Bad}
 use Rattle.session_grammar.specs.Grammar.{access_rules, all_rules, at_end, by_rule, class_rules, command_of_text, command_of_words, is_plain, making_rules, marking_rules, next_number, number_of_word, session_rules, words_of_line}
 use Rattle.question_text.specs.declared.asking.Asking.{Asking}
-use Rattle.question_text.specs.declared.question.Question.{Question}
-use Rattle.question_text.specs.declared.order.Order.{Order}
-use Rattle.question_text.specs.declared.order.Order.TheVariants.{Act, Collect, RewindTo}
-use Rattle.question_text.specs.declared.question.At.{At}
-use Rattle.question_text.specs.declared.question.At.TheVariants.{Current, Pin, Place}
-use Rattle.question_text.specs.Orders.{class_by_name, new_by_name, new_of, order_in, order_of_two, order_of_words, way_back, way_on}
+use Rattle.question_grammar.specs.declared.question.Question.{Question}
+use Rattle.question_grammar.specs.declared.order.Order.{Order}
+use Rattle.question_grammar.specs.declared.order.Order.TheVariants.{Act, Collect, RewindTo}
+use Rattle.question_words.specs.declared.at.At.{At}
+use Rattle.question_words.specs.declared.at.At.TheVariants.{Current, Pin, Place}
+use Rattle.question_grammar.specs.Orders.{class_by_name, new_by_name, new_of, order_in, order_of_two, order_of_words, way_back, way_on}
 use Rattle.question_text.specs.Help.{help_about, help_of, help_of_words}
-use Rattle.question_text.specs.NameWords.{class_named}
-use Rattle.question_text.specs.NamedLines.{named_question_of_words, named_rules, question_in}
-use Rattle.question_text.specs.Questions.{QuestionRule, at_of_word, past_rules, place_of, question_by, question_of, question_of_words, question_rules}
+use Rattle.question_grammar.specs.NameWords.{class_named}
+use Rattle.question_grammar.specs.NamedLines.{named_question_of_words, named_rules, question_in}
+use Rattle.question_grammar.specs.Questions.{QuestionRule, at_of_word, past_rules, place_of, question_by, question_of, question_of_words, question_rules}
 use Rattle.question_text.specs.Sessions.{AnswersLine, AskingAnswers}
 
 -- a line whose words are no command is none
@@ -39,7 +39,7 @@ IsNew key = (ws : List (List ℕ)) → by_rule all_rules key ws ≡ None
 
 all_new : AllByRecursion (λ (r : QuestionRule). IsNew r.0) question_rules
 unfolding question_rules past_rules by_rule class_rules making_rules access_rules marking_rules session_rules
-all_new = (λ ws. refl, (λ ws. refl, (λ ws. refl, (λ ws. refl, (λ ws. refl, (λ ws. refl, (λ ws. refl, (λ ws. refl, (λ ws. refl, (λ ws. refl, (λ ws. refl, (λ ws. refl, (λ ws. refl, (λ ws. refl, (λ ws. refl, (λ ws. refl, (λ ws. refl, (λ ws. refl, (λ ws. refl, (λ ws. refl, (λ ws. refl, (λ ws. refl, (λ ws. refl, (λ ws. refl, (λ ws. refl, (λ ws. refl, (λ ws. refl, (λ ws. refl, tt))))))))))))))))))))))))))))
+all_new = (λ ws. refl, (λ ws. refl, (λ ws. refl, (λ ws. refl, (λ ws. refl, (λ ws. refl, (λ ws. refl, (λ ws. refl, (λ ws. refl, (λ ws. refl, (λ ws. refl, (λ ws. refl, (λ ws. refl, (λ ws. refl, (λ ws. refl, (λ ws. refl, (λ ws. refl, (λ ws. refl, (λ ws. refl, (λ ws. refl, (λ ws. refl, (λ ws. refl, (λ ws. refl, (λ ws. refl, (λ ws. refl, (λ ws. refl, (λ ws. refl, (λ ws. refl, (λ ws. refl, tt)))))))))))))))))))))))))))))
 
 found_new : (w : List ℕ) (ws : List (List ℕ)) (rules : List QuestionRule) (q : Question) → AllByRecursion (λ (r : QuestionRule). IsNew r.0) rules
     → question_by rules w ws ≡ Some q → IsNew w

@@ -3,8 +3,8 @@ use Rattle.std.proofs.Common.{◌≡◌, ◌∙◌, List, [], ◌∷◌, ◌++�
 use Rattle.std.proofs.lemmas.List.{append-nil}
 use Rattle.heap_step.specs.declared.Answer.{Answer}
 use Rattle.heap_step.specs.declared.Event.{Event}
-use Rattle.question_text.specs.Collections.{TakenStep}
-use Rattle.question_text.specs.Redos.{Redo, with_step, with_steps}
+use Rattle.heap_orders.specs.Collections.{TakenStep}
+use Rattle.heap_orders.specs.Redos.{Redo, with_step, with_steps}
 
 with_one_step_more : (steps : List TakenStep) (s : TakenStep) (r : Redo) → with_steps (steps ++ s ∷ []) r ≡ with_step s.0 (with_steps steps r)
 with_one_step_more [] s r = refl

@@ -21,14 +21,15 @@ use Rattle.session_text.proofs.OtherCommands.{IsKnown, answer_keeps, answer_stan
 use Rattle.session_text.proofs.SessionCommands.{acts, parts, talk}
 use Rattle.session_text.proofs.SessionLines.{nothing_left_is_eof, answered_lines_pass}
 use Rattle.question_text.specs.declared.asking.Asking.{Asking}
-use Rattle.question_text.specs.declared.cycle.CycleCounts.{CycleCounts}
-use Rattle.question_text.specs.Collections.{AreNext, NoneDenies, RunsCycle, TakenStep, ends_cycle}
-use Rattle.question_text.specs.declared.order.Order.{Order}
-use Rattle.question_text.specs.declared.order.Order.TheVariants.{Act, Collect, Forward, ForwardTo, RewindTo}
-use Rattle.question_text.specs.Histories.{steps_ago}
-use Rattle.question_text.specs.Orders.{ActsOnce, Does, GoesOnBy, RewindsBy, order_in, steps_on}
-use Rattle.question_text.specs.Redos.{GoesForward, GoesOn, Redo, TakesAgain, retaken}
-use Rattle.question_text.specs.Sessions.{AnswersEach, AnswersLine, AskingActs, AskingAnswers, IsDriven, IsSessionOf, AnswersAlone, NoneOrders, is_known, known_of, lines_of, texts_of}
+use Rattle.heap_orders.specs.declared.cycle.CycleCounts.{CycleCounts}
+use Rattle.heap_orders.specs.Collections.{AreNext, NoneDenies, RunsCycle, TakenStep, ends_cycle}
+use Rattle.question_grammar.specs.declared.order.Order.{Order}
+use Rattle.question_grammar.specs.declared.order.Order.TheVariants.{Act, Collect, Forward, ForwardTo, RewindTo}
+use Rattle.question_words.specs.Moments.{steps_ago}
+use Rattle.heap_orders.specs.Deeds.{ActsOnce, GoesOnBy, RewindsBy, steps_on}
+use Rattle.question_text.specs.Sessions.{Does, AnswersEach, AnswersLine, AskingActs, AskingAnswers, IsDriven, IsSessionOf, AnswersAlone, NoneOrders, is_known, known_of, lines_of, texts_of}
+use Rattle.question_grammar.specs.Orders.{order_in}
+use Rattle.heap_orders.specs.Redos.{GoesForward, GoesOn, Redo, TakesAgain, retaken}
 
 -- ---- the text of each line
 

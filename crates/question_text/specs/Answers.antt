@@ -7,37 +7,38 @@ use Rattle.heap_trail.specs.Machine.{Machine}
 use Rattle.hprof_text.specs.Image.{Image}
 use Rattle.question_text.specs.declared.answers.PairQuestion.{PairQuestion}
 use Rattle.question_text.specs.declared.answers.StateQuestion.{StateQuestion}
-use Rattle.question_text.specs.declared.question.Question.{Question}
-use Rattle.question_text.specs.declared.question.Question.TheVariants.{Histogram, Garbage, Growth, Kept, Diff, Registers, Classes, Objects, Values, Referrers, Path, Retained, Dominators, Dominated, Dominator, Show, Born, Wrote, Watch, Writes, When, WhenCount, Dropped, Life, History, Cycles, Pins, Cells, Regions, Status}
-use Rattle.question_text.specs.Births.{IsBornText}
-use Rattle.question_text.specs.CellLists.{IsCellsText}
-use Rattle.question_text.specs.ClassLists.{IsClassesText}
-use Rattle.question_text.specs.CycleLists.{IsCyclesText}
-use Rattle.question_text.specs.Diffs.{IsDiffText}
+use Rattle.question_grammar.specs.declared.question.Question.{Question}
+use Rattle.question_grammar.specs.declared.question.Question.TheVariants.{Histogram, Garbage, Growth, Kept, Diff, Registers, Classes, Objects, Values, Referrers, Path, Paths, Retained, Dominators, Dominated, Dominator, Show, Born, Wrote, Watch, Writes, When, WhenCount, Dropped, Life, History, Cycles, Pins, Cells, Regions, Status}
+use Rattle.question_rows.specs.Births.{IsBornText}
+use Rattle.question_rows.specs.CellLists.{IsCellsText}
+use Rattle.question_rows.specs.ClassLists.{IsClassesText}
+use Rattle.question_rows.specs.CycleLists.{IsCyclesText}
+use Rattle.question_rows.specs.Diffs.{IsDiffText}
 use Rattle.question_text.specs.DominatorRows.{IsDominatedText, IsDominatorText, IsDominatorsText}
-use Rattle.question_text.specs.Histograms.{IsGarbageText, IsHistogramText, IsRetainedText}
-use Rattle.question_text.specs.FirstPlaces.{IsWhenCountText, IsWhenText}
-use Rattle.question_text.specs.Moments.{IsAnswerAbout, IsAnswerBetween, image_at, refused_text}
-use Rattle.question_text.specs.Growths.{IsGrowthText}
+use Rattle.question_rows.specs.Histograms.{IsGarbageText, IsHistogramText, IsRetainedText}
+use Rattle.question_rows.specs.FirstPlaces.{IsWhenCountText, IsWhenText}
+use Rattle.question_words.specs.Moments.{IsAnswerAbout, IsAnswerBetween, image_at, refused_text}
+use Rattle.question_rows.specs.Growths.{IsGrowthText}
 use Rattle.question_text.specs.Comments.{unasked_text}
-use Rattle.question_text.specs.Histories.{IsHistoryText}
-use Rattle.question_text.specs.Kept.{IsKeptText}
-use Rattle.question_text.specs.Lives.{IsLifeText}
-use Rattle.question_text.specs.Losses.{IsDroppedText}
-use Rattle.question_text.specs.NamedLines.{question_in}
-use Rattle.question_text.specs.ObjectLists.{IsObjectsText}
-use Rattle.question_text.specs.Objects.{IsShowText, shows_mark}
-use Rattle.question_text.specs.PastAnswers.{IsAnswerSeen, IsAnswerUpTo}
-use Rattle.question_text.specs.Paths.{IsPathText}
-use Rattle.question_text.specs.PinLists.{IsPinsText}
-use Rattle.question_text.specs.RegionLists.{IsRegionsText}
-use Rattle.question_text.specs.Registers.{IsRegistersText}
-use Rattle.question_text.specs.Referrers.{IsReferrersText}
-use Rattle.question_text.specs.SlotChanges.{IsWatchText}
-use Rattle.question_text.specs.SlotWrites.{IsWritesText}
-use Rattle.question_text.specs.Statuses.{IsStatusText}
-use Rattle.question_text.specs.ValueLists.{IsValuesText}
-use Rattle.question_text.specs.Writes.{IsWroteText}
+use Rattle.question_rows.specs.Histories.{IsHistoryText}
+use Rattle.question_rows.specs.Kept.{IsKeptText}
+use Rattle.question_rows.specs.Lives.{IsLifeText}
+use Rattle.question_rows.specs.Losses.{IsDroppedText}
+use Rattle.question_grammar.specs.NamedLines.{question_in}
+use Rattle.question_rows.specs.ObjectLists.{IsObjectsText}
+use Rattle.question_rows.specs.Objects.{IsShowText, shows_mark}
+use Rattle.question_rows.specs.PastAnswers.{IsAnswerSeen, IsAnswerUpTo}
+use Rattle.question_rows.specs.Paths.{IsPathText}
+use Rattle.question_rows.specs.PathLists.{IsPathsText}
+use Rattle.question_rows.specs.PinLists.{IsPinsText}
+use Rattle.question_rows.specs.RegionLists.{IsRegionsText}
+use Rattle.question_rows.specs.Registers.{IsRegistersText}
+use Rattle.question_rows.specs.Referrers.{IsReferrersText}
+use Rattle.question_rows.specs.SlotChanges.{IsWatchText}
+use Rattle.question_rows.specs.SlotWrites.{IsWritesText}
+use Rattle.question_rows.specs.Statuses.{IsStatusText}
+use Rattle.question_rows.specs.ValueLists.{IsValuesText}
+use Rattle.question_rows.specs.Writes.{IsWroteText}
 
 -- the text of the answer about an image to what a question asks about one state
 abbrev pub IsStateText : StateQuestion → IdSize → Image → List ℕ → Type 0
@@ -49,6 +50,7 @@ IsStateText (StateQuestion.Objects wanted) ids = IsObjectsText wanted
 IsStateText (StateQuestion.Values k s) ids = IsValuesText k s
 IsStateText (StateQuestion.Referrers x) ids = IsReferrersText x
 IsStateText (StateQuestion.Path x) ids = IsPathText x
+IsStateText (StateQuestion.Paths x n) ids = IsPathsText x n
 IsStateText (StateQuestion.Retained x) ids = IsRetainedText x ids
 IsStateText (StateQuestion.Dominators most) ids = IsDominatorsText most ids
 IsStateText (StateQuestion.Dominated x most) ids = IsDominatedText x most ids
@@ -83,6 +85,7 @@ IsAnswer (Objects at wanted) m acts text =
 IsAnswer (Values at k s) m acts text = IsAnswerAbout (IsValuesText k s) (image_at at m) text
 IsAnswer (Referrers at x) m acts text = IsAnswerAbout (IsReferrersText x) (image_at at m) text
 IsAnswer (Path at x) m acts text = IsAnswerAbout (IsPathText x) (image_at at m) text
+IsAnswer (Paths at x n) m acts text = IsAnswerAbout (IsPathsText x n) (image_at at m) text
 IsAnswer (Retained at x) m acts text = IsAnswerAbout (IsRetainedText x m.ids) (image_at at m) text
 IsAnswer (Dominators at most) m acts text =
     IsAnswerAbout (IsDominatorsText most m.ids) (image_at at m) text

@@ -10,10 +10,10 @@ use Rattle.heap_dominators.specs.Rows.{AreFirstRows}
 use Rattle.heap_dominators.specs.Upward.{AreDominatorsUp, IsImmediateDominator, IsTop}
 use Rattle.heap_dominators.specs.declared.rows.TopObject.{TopObject}
 use Rattle.session_text.specs.Replies.{and_number, line}
-use Rattle.question_text.specs.Ids.{and_id}
-use Rattle.question_text.specs.Moments.{no_object_text, unreachable_text}
-use Rattle.question_text.specs.Names.{IsClassThere, class_name}
-use Rattle.question_text.specs.Referrers.{count_text}
+use Rattle.question_words.specs.Ids.{and_id}
+use Rattle.question_words.specs.Moments.{no_object_text, unreachable_text}
+use Rattle.question_words.specs.Names.{IsClassThere, class_name}
+use Rattle.question_words.specs.Rows.{count_text}
 
 -- the class of an object that no other dominates is there
 abbrev pub IsTopThere : List Class → TopObject → Type 0

@@ -29,6 +29,7 @@ question_forms =
     ∷ form_of (codes "values") (codes "values [AT] CLASS SLOT") (codes "values server/Entry state")
     ∷ form_of (codes "referrers") (codes "referrers [AT] ID") (codes "referrers - 0x10000020")
     ∷ form_of (codes "path") (codes "path [AT] ID") (codes "path @120 0x10000020")
+    ∷ form_of (codes "paths") (codes "paths [AT] ID N") (codes "paths 0x10000020 10")
     ∷ form_of (codes "retained") (codes "retained [AT] ID") (codes "retained 0x10000020")
     ∷ form_of (codes "dominators") (codes "dominators [AT] [ID] [N]") (codes "dominators 0x10000020 10")
     ∷ form_of (codes "dominator") (codes "dominator [AT] ID") (codes "dominator 0x10000020")

@@ -21,10 +21,13 @@ use Rattle.session_text.specs.Talks.{IsLine, Serves, stream}
 use Rattle.session_text.specs.declared.limits.SessionLimits.{SessionLimits}
 use Rattle.question_text.specs.declared.asking.Asking.{Asking}
 use Rattle.question_text.specs.Answers.{IsAnswerOfLine}
-use Rattle.question_text.specs.declared.order.Order.{Order}
-use Rattle.question_text.specs.Collections.{TakenStep}
-use Rattle.question_text.specs.Orders.{Does, order_in}
-use Rattle.question_text.specs.Redos.{noted, with_steps}
+use Rattle.question_grammar.specs.declared.order.Order.{Order}
+use Rattle.heap_orders.specs.Collections.{TakenStep}
+use Rattle.question_grammar.specs.Orders.{order_in}
+use Rattle.heap_orders.specs.Redos.{noted, with_steps, GoesForward}
+use Rattle.heap_trail.specs.declared.Action.TheVariants.{Step}
+use Rattle.question_grammar.specs.declared.order.Order.TheVariants.{Act, Collect, Forward, ForwardTo, RewindTo}
+use Rattle.heap_orders.specs.Deeds.{Deed, ActsOnce, Collects, RewindsTo, GoesForwardTo}
 
 -- an action, as without questions, which is noted
 abbrev pub AskingActs : Acts Asking
@@ -37,6 +40,14 @@ abbrev pub HasNoted : Asking → List TakenStep → Asking → Type 0
 HasNoted c steps d =
     (d.redo ≡ with_steps steps c.redo) × (d.local.first_pin ≡ c.local.first_pin)
     × (d.watch ≡ c.watch)
+
+-- what is asked to be done
+abbrev pub Does : Order → Deed
+Does Collect = Collects
+Does (RewindTo place) = RewindsTo place
+Does (Forward n) = GoesForward n
+Does (ForwardTo place) = GoesForwardTo place
+Does (Act e) = ActsOnce (Step e)
 
 -- an order does what it asks, and no other line changes anything
 abbrev pub AnswersLine : Option Order → AnswerRelation Asking

@@ -3,42 +3,23 @@ ghost use Rattle.std.specs.Prelude.{◌≡◌};
 ghost use Rattle.heap_pins.specs.Pin.{pin_image};
 ghost use Rattle.session_text.specs.Replies.{line_answer_text};
 ghost use Rattle.question_text.specs.Answers.{IsAnswer, IsAnswerOfLine, IsPairText, IsStateText, lines_text};
-ghost use Rattle.question_text.specs.Moments.{IsAnswerAbout, IsAnswerBesides, IsAnswerBetween, IsToldOf, image_at, told_text};
+ghost use Rattle.question_words.specs.Moments.{IsAnswerAbout, IsAnswerBesides, IsAnswerBetween, IsToldOf, image_at, told_text};
 
-use crate::at::{moment_at, view_of};
-use crate::birth::born_answer;
-use crate::cell_list::cells_answer;
-use crate::class_list::classes_answer;
 use crate::comment::unasked_answer;
-use crate::cycle_list::cycles_answer;
-use crate::diff::diff_text;
 use crate::dominator_rows::{dominated_answer, dominator_answer, dominators_answer};
-use crate::first_place::{when_answer, when_count_answer};
-use crate::growth::growth_answer;
-use crate::histogram::{garbage_text, histogram_text, retained_answer};
-use crate::history::history_answer;
-use crate::kept::kept_text;
-use crate::life::life_answer;
-use crate::loss::dropped_answer;
-use crate::named_line::question_in;
-use crate::object_list::objects_answer;
-use crate::path::path_answer;
-use crate::pin_list::pins_answer;
-use crate::question::{At, Question, SlotRange};
-use crate::referrers::referrers_answer;
-use crate::region_list::regions_answer;
-use crate::registers::registers_answer;
-use crate::rows::{Unanswered, reason_line};
-use crate::show::{show_answer, shows_mark};
-use crate::slot_changes::watch_answer;
-use crate::slot_writes::writes_answer;
-use crate::status::status_answer;
-use crate::value_list::values_answer;
-use crate::write::wrote_answer;
 use heap_class::Refusal;
 use heap_pins::PinView;
 use heap_questions::Wanted;
 use heap_trail::Machine;
+use question_grammar::{Question, question_in};
+use question_rows::{
+    born_answer, cells_answer, classes_answer, cycles_answer, diff_text, dropped_answer,
+    garbage_text, growth_answer, histogram_text, history_answer, kept_text, life_answer,
+    objects_answer, path_answer, paths_answer, pins_answer, referrers_answer, regions_answer,
+    registers_answer, retained_answer, show_answer, shows_mark, status_answer, values_answer,
+    watch_answer, when_answer, when_count_answer, writes_answer, wrote_answer,
+};
+use question_words::{At, SlotRange, Unanswered, moment_at, reason_line, view_of};
 use session_text::LineAnswer;
 use std::alloc::Global;
 
@@ -64,6 +45,11 @@ enum StateQuestion {
     Referrers(u64),
     // Why the object with this id is alive.
     Path(u64),
+    // The same in several ways: how many paths, at most.
+    Paths {
+        id: u64,
+        most: u64,
+    },
     // What is reached, and wouldn't be without the object with this id, as a histogram has it.
     Retained(u64),
     // The objects that no other dominates: how many rows, or all.
@@ -123,6 +109,9 @@ pub fn answer(alloc: Global, machine: &Machine, acts: Option<u64>, question: Que
             state_answer(alloc, machine, at, StateQuestion::Referrers(id))
         }
         Question::Path { at, id } => state_answer(alloc, machine, at, StateQuestion::Path(id)),
+        Question::Paths { at, id, most } => {
+            state_answer(alloc, machine, at, StateQuestion::Paths { id, most })
+        }
         Question::Retained { at, id } => {
             state_answer(alloc, machine, at, StateQuestion::Retained(id))
         }
@@ -215,6 +204,7 @@ fn view_lines(
         StateQuestion::Values { class, slot } => values_answer(alloc, view, class, slot),
         StateQuestion::Referrers(id) => referrers_answer(alloc, view, id),
         StateQuestion::Path(id) => path_answer(alloc, view, id),
+        StateQuestion::Paths { id, most } => paths_answer(alloc, view, id, most),
         StateQuestion::Retained(id) => retained_answer(alloc, view, id),
         StateQuestion::Dominators(most) => or_refused(dominators_answer(alloc, view, most)),
         StateQuestion::Dominated { id, most } => dominated_answer(alloc, view, id, most),

@@ -1,20 +1,21 @@
 //! Commands with questions.
-ghost use Rattle.std.specs.Prelude.{◌≡◌, ◌≤◌, min, IfErr, IfOk};
+ghost use Rattle.std.specs.Prelude.{◌≡◌, min, IfErr, IfOk, Some};
 ghost use Rattle.heap_class.specs.declared.Refusal.TheVariants.{NoMemory};
 ghost use Rattle.session_text.specs.Replies.{line_answer_text};
-ghost use Rattle.question_text.specs.Orders.{Does, order_in};
-ghost use Rattle.question_text.specs.Redos.{no_redo, redo_limit};
-ghost use Rattle.question_text.specs.Sessions.{AnswersLine};
+ghost use Rattle.question_text.specs.Sessions.{Does, AnswersLine};
+ghost use Rattle.question_grammar.specs.Orders.{order_in};
+ghost use Rattle.heap_orders.specs.Redos.{no_redo, redo_limit};
+ghost use Rattle.heap_orders.specs.Deeds.{Collects};
 
 use crate::answers::answer_line;
-use crate::cycle::collect;
-use crate::forward::{forward, forward_to};
-use crate::order::{Order, order_in, rewind_to, take_step};
-use crate::redo::Redo;
 use crate::watch::Watch;
 use heap_class::Refusal;
-use heap_step::IntoEvent;
-use heap_trail::{Action, Reply};
+use heap_orders::{
+    Redo, Steps, collect_answer, forward, forward_to, rewind_to, run_cycle, take_step,
+};
+use heap_step::{Answer, Event, IntoEvent};
+use heap_trail::{Action, Machine, Reply};
+use question_grammar::{Order, order_in};
 use session_text::{Commands, LineAnswer, Local};
 use std::alloc::Global;
 
@@ -110,5 +111,45 @@ impl Commands for Asking<'_> {
         let answer = self.answer_line(alloc, line);
         self.watch.note_answer(&self.local.machine, &answer);
         answer
+    }
+}
+
+// Takes the steps of `collect`, and returns its answer.
+fn collect(alloc: Global, asking: &mut Asking<'_>) -> LineAnswer
+    ensures collects { Collects asking.old.local.machine asking.old.redo (line_answer_text result)
+        asking.new.local.machine asking.new.redo }
+    ensures first { asking.new.local.first_pin ≡ asking.old.local.first_pin }
+    ensures watch { asking.new.watch ≡ asking.old.watch }
+{
+    let cycle = run_cycle(asking, &mut ());
+    collect_answer(alloc, cycle)
+}
+
+impl Steps for Asking<'_> {
+    ghost use Rattle.heap_orders.specs.Collections.{NoneDenies};
+    ghost use Rattle.question_text.specs.Sessions.{HasNoted};
+
+    type By = ();
+
+    ghost seen = { λ c. c.local.machine };
+
+    ghost may = { λ by. Unit {0} };
+
+    ghost since = { λ c by first first_by steps. HasNoted first steps c };
+
+    ghost denies = { NoneDenies };
+
+    fn machine(&self) -> &Machine {
+        &self.local.machine
+    }
+
+    fn take(&mut self, _by: &mut (), event: Event) -> Result<Answer, Refusal> {
+        match self.local.machine.step(&event) {
+            Ok(answer) => {
+                self.redo.note_step(event);
+                Ok(answer)
+            }
+            Err(refusal) => Err(refusal),
+        }
     }
 }

@@ -2,18 +2,16 @@
 ghost use Rattle.std.specs.Prelude.{◌≡◌, All, flat_map};
 ghost use Rattle.heap_class.specs.declared.Refusal.TheVariants.{NoMemory};
 ghost use Rattle.hprof_text.specs.Image.{IsDumpable};
-ghost use Rattle.question_text.specs.Appends.{Appends, ReturnsText};
+ghost use Rattle.question_words.specs.Appends.{Appends, ReturnsText};
 ghost use Rattle.question_text.specs.DominatorRows.{IsDominatedText, IsDominatorText, IsDominatorsText, IsTopThere, above_text, holder_text, top_text, tops_text, up_text};
-ghost use Rattle.question_text.specs.Moments.{IsToldOf, told_text};
-ghost use Rattle.question_text.specs.Names.{IsClassThere};
+ghost use Rattle.question_words.specs.Moments.{IsToldOf, told_text};
+ghost use Rattle.question_words.specs.Names.{IsClassThere};
 
-use crate::id::push_id;
-use crate::names::push_class_name;
-use crate::rows::{Unanswered, push_count, push_number, push_words};
 use heap_class::{FirstClasses, ObjKind, Refusal};
 use heap_dominators::{TopObject, dominated, dominators, dominators_up};
 use heap_questions::{ObjectIndex, object_with};
 use hprof_text::View;
+use question_words::{Unanswered, push_class_name, push_count, push_id, push_number, push_words};
 use std::alloc::{AllocError, Global};
 
 // Returns the answer of `dominators` about a view: of the first rows, if there is a number, and else of all. Fails with NoMemory

@@ -27,6 +27,7 @@ pub fn question_help(word: &[u8]) -> Option<&'static [u8]>
         b"values" => Some(b"row values [AT] CLASS SLOT\nrow values server/Entry state\nok\n"),
         b"referrers" => Some(b"row referrers [AT] ID\nrow referrers - 0x10000020\nok\n"),
         b"path" => Some(b"row path [AT] ID\nrow path @120 0x10000020\nok\n"),
+        b"paths" => Some(b"row paths [AT] ID N\nrow paths 0x10000020 10\nok\n"),
         b"retained" => Some(b"row retained [AT] ID\nrow retained 0x10000020\nok\n"),
         b"dominators" => Some(b"row dominators [AT] [ID] [N]\nrow dominators 0x10000020 10\nok\n"),
         b"dominator" => Some(b"row dominator [AT] ID\nrow dominator 0x10000020\nok\n"),
@@ -102,7 +103,7 @@ pub fn all_help() -> &'static [u8]
         row snap\nrow mark\nrow drain\nrow finish\nrow sweep REGION\n\
         row rewind N|@P\nrow open AT\nrow piece PIN\nrow dump PIN\nrow close PIN\nrow end\n\
         row histogram [AT]\nrow garbage [AT]\nrow growth AT [AT]\nrow kept AT [AT]\nrow diff AT [AT]\nrow registers [AT]\nrow classes [AT]\n\
-        row objects [AT] [CLASS [SLOT VALUE]]\nrow values [AT] CLASS SLOT\nrow referrers [AT] ID\nrow path [AT] ID\nrow retained [AT] ID\nrow dominators [AT] [ID] [N]\nrow dominator [AT] ID\nrow show [AT] ID [FROM N]\n\
+        row objects [AT] [CLASS [SLOT VALUE]]\nrow values [AT] CLASS SLOT\nrow referrers [AT] ID\nrow path [AT] ID\nrow paths [AT] ID N\nrow retained [AT] ID\nrow dominators [AT] [ID] [N]\nrow dominator [AT] ID\nrow show [AT] ID [FROM N]\n\
         row born [@PLACE] ID\nrow wrote [@PLACE] ID SLOT\nrow watch ID SLOT [@PLACE]\nrow writes CLASS SLOT [@PLACE [@PLACE]]\nrow when (CLASS SLOT VALUE | count CLASS N) [@PLACE [@PLACE]]\nrow dropped [@PLACE] ID\nrow life ID\nrow history [@PLACE] N\nrow cycles\nrow pins\nrow cells\nrow regions\nrow status\nrow collect\nrow forward N|@P\n\
         row help WORD\nok\n"
 }

@@ -2,14 +2,13 @@
 ghost use Rattle.std.specs.Prelude.{◌≡◌, IfOk, IfErr};
 ghost use Rattle.heap_class.specs.declared.Refusal.TheVariants.{NoMemory};
 ghost use Rattle.hprof_text.specs.Segments.{dump_text};
-ghost use Rattle.question_text.specs.Moments.{IsRefusedAt, image_at};
+ghost use Rattle.question_words.specs.Moments.{IsRefusedAt, image_at};
 ghost use Rattle.question_text.specs.StateDumps.{IsDumpAt};
 
-use crate::at::{moment_at, view_of};
-use crate::question::At;
 use heap_class::Refusal;
 use heap_trail::Machine;
 use hprof_text::{Cursor, View, piece_from, pieces_few, text_len};
+use question_words::{At, moment_at, view_of};
 use std::alloc::Global;
 
 // The most pieces of a dump.

@@ -7,7 +7,7 @@ use crate::picture::colors::{COLORS, OTHER};
 use crate::picture::text::{add, add_name, add_number, add_stroke, add_text_at};
 use heap_class::FirstClasses;
 use heap_questions::Row;
-use question_text::push_row_name;
+use question_words::push_row_name;
 use std::alloc::{AllocError, Global};
 
 // The distance of two lines of the legend.

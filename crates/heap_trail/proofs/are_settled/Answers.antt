@@ -1,7 +1,6 @@
 use Rattle.std.proofs.Common.{◌≡◌, ◌+◌, Bool, true, false, not, length, refl, sym, subst, arith, suc, ◌∙◌}
-use Rattle.std.proofs.lemmas.Bool.{eqb-true}
 use Rattle.heap_pins.proofs.RoomForCopies.{noted_region_is_in_heap}
-use Rattle.heap_trail.proofs.EachPin.{KeptUpTo, pin_of_list_is_sized, pins_kept_past_unchanged, pins_kept_to_the_end, no_pins_keep, unnoted_record_leaves_pins}
+use Rattle.heap_trail.proofs.EachPin.{KeptUpTo, pin_of_list_is_sized, pins_kept_past_unchanged, pins_kept_to_the_end, unnoted_record_leaves_pins}
 use Rattle.heap_trail.proofs.PinCalls.{held_pin_has_region_place, settled_pin_is_unchanged}
 use Rattle.heap_trail.proofs.are_settled.Goals as goal
 
@@ -20,9 +19,6 @@ loop-i-preserved c =
 
 pub returns-after-loop-i : goal.returns-after-loop-i
 returns-after-loop-i c settled = pins_kept_to_the_end c.args.left.now c.args.world.now c.loop-i.i c.args.pins.now c.args.pins.now c.loop-i.invariant c.loop-i-test.false
-
-pub returns-then-is_empty : goal.returns-then-is_empty
-returns-then-is_empty c settled = no_pins_keep c.args.left.now c.args.world.now c.args.pins.now (eqb-true (length c.args.pins.now) 0 (sym c.is_empty.ensures ∙ c.if-is_empty.true))
 
 pub returns-in-None : goal.returns-in-None
 returns-in-None c settled = unnoted_record_leaves_pins c.args.left.now c.args.world.now c.args.pins.now (sym c.noted_region.ensures ∙ c.in-None.is) (sym c.ends_cycle.ensures ∙ false_by_not c.ends_cycle.result settled)

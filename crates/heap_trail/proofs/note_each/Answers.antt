@@ -1,4 +1,4 @@
-use Rattle.std.proofs.Common.{◌≡◌, ◌+◌, length, sym, subst, arith, suc, ◌∙◌}
+use Rattle.std.proofs.Common.{◌≡◌, ◌+◌, length, sym, subst, arith, suc}
 use Rattle.std.specs.Prelude.{slice_set}
 use Rattle.heap_trail.specs.OpenPins.{IsSizedPin, MayKeep}
 use Rattle.heap_trail.specs.declared.held.NumberedPin.{NumberedPin}

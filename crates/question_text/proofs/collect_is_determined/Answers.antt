@@ -1,4 +1,4 @@
-use Rattle.question_text.proofs.CycleSteps.{one_cycle}
+use Rattle.heap_orders.proofs.CycleSteps.{one_cycle}
 use Rattle.question_text.proofs.collect_is_determined.Goals as goal
 
 pub returns : goal.returns

@@ -2,7 +2,7 @@ use Rattle.std.proofs.Common.{◌∙◌, ap, refl, sym, subst}
 use Rattle.std.specs.Prelude.{Some}
 use Rattle.heap_lock.specs.Machine.{Machine}
 use Rattle.session_text.specs.Replies.{reply_text}
-use Rattle.question_text.specs.Histories.{steps_ago}
+use Rattle.question_words.specs.Moments.{steps_ago}
 use Rattle.heap_server.specs.JoinedAnswers.{RewindsHeld}
 use Rattle.heap_server.proofs.HeldSteps.{held_act_keeps_role}
 use Rattle.heap_server.proofs.held_heap.answer_to_rewind.Goals as goal

@@ -2,7 +2,7 @@ use Rattle.std.proofs.Common.{◌∙◌, ap}
 use Rattle.std.specs.Prelude.{Some}
 use Rattle.heap_lock.specs.LockStates.{LockState, SeatModel}
 use Rattle.session_text.specs.Replies.{line_answer_text}
-use Rattle.question_text.specs.Histories.{steps_ago}
+use Rattle.question_words.specs.Moments.{steps_ago}
 use Rattle.heap_server.specs.JoinedAnswers.{RewindsHeld}
 use Rattle.heap_server.proofs.HeldSteps.{leaves_seen}
 use Rattle.heap_server.proofs.held_heap.rewind_held_to.Goals as goal

@@ -1,5 +1,5 @@
 use Rattle.heap_dominators.specs.Upward.{IsTop}
-use Rattle.question_text.proofs.NamedObjects.{all_tops_there}
+use Rattle.question_text.proofs.TopRows.{all_tops_there}
 use Rattle.question_text.proofs.dominator_rows.dominators_answer.Goals as goal
 
 pub top_lines-requires : goal.top_lines-requires

@@ -4,10 +4,10 @@ use Rattle.std.proofs.lemmas.List.{append-nil}
 use Rattle.heap_class.specs.Classes.{Class}
 use Rattle.heap_class.specs.declared.ObjKind.{ObjKind}
 use Rattle.hprof_text.specs.Image.{DumpedObject}
-use Rattle.question_text.specs.Appends.{Appends}
+use Rattle.question_words.specs.Appends.{Appends}
 use Rattle.question_text.specs.DominatorRows.{above_text, holder_text}
-use Rattle.question_text.specs.Names.{IsClassThere}
-use Rattle.question_text.proofs.NamedObjects.{class_there}
+use Rattle.question_words.specs.Names.{IsClassThere}
+use Rattle.question_rows.proofs.NamedObjects.{class_there}
 use Rattle.question_text.proofs.dominator_rows.push_above.Goals as goal
 
 pub push_holder-requires : goal.push_holder-requires

@@ -2,7 +2,7 @@ use Rattle.std.proofs.Common.{◌∙◌, ◌++◌, List, ap, length, subst, sym,
 use Rattle.std.specs.Prelude.{flat_map}
 use Rattle.hprof_text.specs.Image.{Image, IsDumpable}
 use Rattle.question_text.specs.DominatorRows.{above_text}
-use Rattle.question_text.specs.Referrers.{count_text}
+use Rattle.question_words.specs.Rows.{count_text}
 use Rattle.question_text.proofs.dominator_rows.up_lines.Goals as goal
 
 pub push_up-requires-clause-limits : goal.push_up-requires-clause-limits

@@ -1,15 +1,15 @@
 use Rattle.std.proofs.Common.{◌∙◌, [], ap, sym}
 use Rattle.std.specs.Prelude.{slice_index_or, slice_set}
 use Rattle.heap_pins.specs.KeptCopies.{bytes_with}
+use Rattle.heap_pins.specs.Pin.{PinContents}
 use Rattle.heap_pins.proofs.AddedCopies.{bytes_are_set}
 use Rattle.heap_pins.proofs.pin.Pin.set_byte.Goals as goal
 
 pub returns-then-fresh : goal.returns-then-fresh
 unfolding bytes_with
 returns-then-fresh c =
-    let bytes = slice_index_or c.self.inside.kept.cells c.args.at.region [] in
-    bytes_are_set c.args.self.now _ c.set_bytes.new.self c.args.at c.args.fresh c.args.byte c.filled.result c.self.view_is c.set_bytes.ensures
-    (c.filled.ensures ∙ sym (ap (λ b. bytes_with c.args.at.cell b c.args.byte bytes) c.if-fresh.true))
+    c.fill.ensures ∙ ap (λ l. (let t : PinContents = record c.args.self.now { cells = slice_set c.args.self.now.cells c.args.at.region l } in t))
+    (sym (ap (λ b. bytes_with c.args.at.cell b c.args.byte (slice_index_or c.args.self.now.cells c.args.at.region [])) c.if-fresh.true))
 
 pub returns-else-fresh : goal.returns-else-fresh
 unfolding bytes_with

@@ -1,0 +1,3 @@
+pub mod WaitingRegions
+pub mod CycleSteps
+pub mod RetakenSteps

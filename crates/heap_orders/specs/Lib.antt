@@ -1,0 +1,3 @@
+pub mod Collections
+pub mod Redos
+pub mod Deeds

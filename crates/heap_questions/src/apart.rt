@@ -1,0 +1,193 @@
+//! Why an object is alive, in several ways: paths of which no two start alike.
+ghost use Rattle.std.specs.Prelude.{◌≡◌, ◌∷◌, ◌/◌, ◌%◌, ◌&&◌, [], ℕ, map, not, reverse, Some, IfSome, IfNone, IfOk, IfErr};
+ghost use Rattle.std.specs.List.{list_any};
+ghost use Rattle.heap_class.specs.declared.Refusal.TheVariants.{NoMemory};
+ghost use Rattle.heap_questions.specs.Graph.{IsFirstPath, IsShortest};
+ghost use Rattle.hprof_text.specs.Image.{Image};
+ghost use Rattle.heap_questions.specs.PathsApart.{AreFirstPaths, IsNextPath, NoneIsLeft, Route, route_of};
+ghost use Rattle.heap_questions.specs.Search.{AreNodes, HasSearchedFor, node_with, slot_span};
+ghost use Rattle.heap_questions.specs.Starts.{IsFirstFree, NoneIsFree, starts_at, with_starts};
+
+use crate::nodes::NodeList;
+use crate::paths::{Path, WayBack, place_in, way_back};
+use crate::search::{Reach, SLOT_SPAN, nothing_found, search_on};
+use crate::starts::find_starts;
+use heap_class::Refusal;
+use hprof_text::View;
+use std::alloc::{AllocError, Global};
+
+/// States that of paths that start apart the first is a shortest one, and of these the first by register, then by slot.
+pub fn first_of_paths_is_path()
+    ensures shortest { (image : Image) (x : ℕ) (p : Route) → IsNextPath image [] x p
+        → IsShortest image p.slots x }
+    ensures first { (image : Image) (x : ℕ) (p : Route) → IsNextPath image [] x p
+        → IsFirstPath image p.register p.slots x }
+{}
+
+/// Returns `most` paths to the object with this id, of which no two start at the same register by the same slot, or as many as
+/// there are: each is the shortest that starts like none of those before it, of all such the first by register, then by slot.
+/// Fails with NoMemory. For each path it reads each object at most twice, and once more for each register that names it.
+pub fn paths_apart<V: View>(
+    alloc: Global,
+    view: &V,
+    id: u64,
+    most: usize,
+) -> Result<Vec<Path>, Refusal>
+    ensures paths { IfOk result
+        (λ paths. AreFirstPaths (V.image view.now) most id (map route_of paths.items)) }
+    ensures refused { IfErr result (λ e. e ≡ NoMemory) }
+{
+    let nodes = NodeList::new(alloc, view)?;
+    let mut paths = Vec::new(alloc);
+    while paths.len() < most {
+        match next_path(alloc, view, &nodes, id, paths.as_slice())? {
+            Some(path) => paths.push(path)?,
+            None => return Ok(paths),
+        }
+    }
+    Ok(paths)
+}
+
+// Returns the first path to the object with this id that starts like none of these paths. The nodes must be the view's. Fails with
+// NoMemory.
+fn next_path<V: View>(
+    alloc: Global,
+    view: &V,
+    nodes: &NodeList,
+    id: u64,
+    paths: &[Path],
+) -> Result<Option<Path>, Refusal>
+    requires { AreNodes (V.image view.now) (V.places view.now) nodes.now }
+    ensures next { IfOk result (λ found. IfSome found (λ p.
+        IsNextPath (V.image view.now) (map route_of paths.now) id (route_of p))) }
+    ensures none { IfOk result (λ found. IfNone found
+        (NoneIsLeft (V.image view.now) (map route_of paths.now) id)) }
+    ensures refused { IfErr result (λ e. e ≡ NoMemory) }
+{
+    match nodes.find(id) {
+        Some(goal) => next_path_to(alloc, view, nodes, id, goal, paths),
+        None => Ok(None),
+    }
+}
+
+// Returns the same path to the object with this id, which is that of a node. The nodes must be the view's. Fails with NoMemory.
+fn next_path_to<V: View>(
+    alloc: Global,
+    view: &V,
+    nodes: &NodeList,
+    id: u64,
+    goal: usize,
+    paths: &[Path],
+) -> Result<Option<Path>, Refusal>
+    requires nodes { AreNodes (V.image view.now) (V.places view.now) nodes.now }
+    requires goal { node_with nodes.now id ≡ Some goal }
+    ensures next { IfOk result (λ found. IfSome found (λ p.
+        IsNextPath (V.image view.now) (map route_of paths.now) id (route_of p))) }
+    ensures none { IfOk result (λ found. IfNone found
+        (NoneIsLeft (V.image view.now) (map route_of paths.now) id)) }
+    ensures refused { IfErr result (λ e. e ≡ NoMemory) }
+{
+    match free_register(view.registers(), id, paths) {
+        Some(register) => {
+            let slots = Vec::new(alloc);
+            Ok(Some(Path { register, slots }))
+        }
+        None => path_by_slot(alloc, view, nodes, id, goal, paths),
+    }
+}
+
+// Returns the first register that names the object with this id and at which none of these paths starts that have no slots.
+fn free_register(registers: &[u64], id: u64, paths: &[Path]) -> Option<u64>
+    ensures some { IfSome result (λ r. IsFirstFree registers.now (map route_of paths.now) id r) }
+    ensures none { IfNone result (NoneIsFree registers.now (map route_of paths.now) id) }
+{
+    for r in 0..registers.len() {
+        if is_free(paths, r as u64, registers[r] == id) {
+            return Some(r as u64);
+        }
+    }
+    None
+}
+
+// Tells whether a register names an object, and none of these paths is this register alone.
+fn is_free(paths: &[Path], register: u64, names: bool) -> bool
+    ensures { result
+        ≡ (names && not (list_any (λ p. starts_at register (route_of p)) paths.now)) }
+{
+    names && !is_register_used(paths, register)
+}
+
+// Tells whether one of these paths is this register alone.
+fn is_register_used(paths: &[Path], register: u64) -> bool
+    ensures { result ≡ list_any (λ p. starts_at register (route_of p)) paths.now }
+{
+    paths
+        .iter()
+        .any(|path| path.register == register && path.slots.is_empty())
+}
+
+// Returns the first path to the object with this id, which is that of a node, that starts like none of these paths. At each
+// register that names it one of them must start that has no slots. The nodes must be the view's. Fails with NoMemory.
+fn path_by_slot<V: View>(
+    alloc: Global,
+    view: &V,
+    nodes: &NodeList,
+    id: u64,
+    goal: usize,
+    paths: &[Path],
+) -> Result<Option<Path>, Refusal>
+    requires nodes { AreNodes (V.image view.now) (V.places view.now) nodes.now }
+    requires goal { node_with nodes.now id ≡ Some goal }
+    requires used { NoneIsFree (V.image view.now).registers (map route_of paths.now) id }
+    ensures next { IfOk result (λ found. IfSome found (λ p.
+        IsNextPath (V.image view.now) (map route_of paths.now) id (route_of p))) }
+    ensures none { IfOk result (λ found. IfNone found
+        (NoneIsLeft (V.image view.now) (map route_of paths.now) id)) }
+    ensures refused { IfErr result (λ e. e ≡ NoMemory) }
+{
+    let _classes = view.classes();
+    let reach = search_starts(alloc, view, nodes, paths, goal)?;
+    let queue = reach.queue.as_slice();
+    match place_in(queue, goal) {
+        Some(index) => {
+            let way = way_back(alloc, view, nodes, queue, index)?;
+            let path = path_from_start(way)?;
+            Ok(Some(path))
+        }
+        None => Ok(None),
+    }
+}
+
+// Finds what is reached by the starts of none of these paths, until a node was found that is the goal. The nodes must be the
+// view's. Fails with NoMemory. Reads each object at most once, and once more for each register that names it.
+fn search_starts<V: View>(
+    alloc: Global,
+    view: &V,
+    nodes: &NodeList,
+    paths: &[Path],
+    goal: usize,
+) -> Result<Reach, Refusal>
+    requires { AreNodes (V.image view.now) (V.places view.now) nodes.now }
+    ensures found { IfOk result (λ r. HasSearchedFor
+        (with_starts (V.image view.now) (map route_of paths.now)) nodes.now r.queue.items goal) }
+    ensures refused { IfErr result (λ e. e ≡ NoMemory) }
+{
+    let _classes = view.classes();
+    let mut reach = nothing_found(alloc, nodes)?;
+    find_starts(view, nodes, paths, &mut reach)?;
+    search_on(view, nodes, &mut reach, Some(goal))?;
+    Ok(reach)
+}
+
+// Returns the path that a way leads back to a start. Fails if an allocation fails.
+fn path_from_start(way: WayBack) -> Result<Path, AllocError>
+    ensures register { IfOk result (λ p. p.register ≡ way.register / slot_span) }
+    ensures slots { IfOk result
+        (λ p. p.slots.items ≡ (way.register % slot_span) ∷ reverse way.slots.items) }
+{
+    let mut slots = way.slots;
+    slots.push((way.register % SLOT_SPAN) as u64)?;
+    slots.reverse();
+    let register = (way.register / SLOT_SPAN) as u64;
+    Ok(Path { register, slots })
+}

@@ -1,0 +1,4 @@
+pub mod Questions
+pub mod NameWords
+pub mod NamedLines
+pub mod Orders

@@ -1,0 +1,336 @@
+-- The lines of questions.
+use Rattle.std.specs.Prelude.{ℕ, List, [], ◌∷◌, take, drop, find, codes, Option, Some, None, option_map, option_and_then, if◌then◌else◌, nat_le, nat_lt, ◌&&◌}
+use Rattle.std.specs.Str.{bytes_eq}
+use Rattle.session_grammar.specs.Grammar.{at_end, next_number, number_of_word, words_of_line}
+use Rattle.question_words.specs.declared.at.At.{At}
+use Rattle.question_words.specs.declared.at.At.TheVariants.{Current, Pin, Place}
+use Rattle.question_grammar.specs.declared.question.Question.{Question}
+use Rattle.question_grammar.specs.declared.question.Question.TheVariants.{Histogram, Garbage, Growth, Kept, Diff, Registers, Classes, Objects, Values, Referrers, Path, Paths, Retained, Dominators, Dominated, Dominator, Show, Born, Wrote, Watch, Writes, When, WhenCount, Dropped, Life, History, Cycles, Pins, Cells, Regions, Status}
+use Rattle.question_words.specs.declared.ranges.SlotRange.{SlotRange}
+use Rattle.question_words.specs.declared.ranges.SlotRange.TheVariants.{AllSlots, FromSlot}
+use Rattle.question_words.specs.declared.ranges.Span.{Span}
+use Rattle.question_words.specs.declared.ranges.Span.TheVariants.{AllSteps, Between}
+use Rattle.std.specs.Option.{option_or}
+use Rattle.heap_questions.specs.declared.wanted.Wanted.{Wanted}
+use Rattle.heap_questions.specs.declared.wanted.Wanted.TheVariants.{All, OfClass, Holding}
+use Rattle.question_words.specs.Ids.{id_of_word}
+
+-- the state that a word names: `-`, `@` and a place, or the number of a pin
+unfoldable pub at_of_word : List ℕ → Option At
+at_of_word w =
+    if bytes_eq w (codes "-") then Some Current
+    else (if bytes_eq (take 1 w) (codes "@")
+    then option_map (λ place. Place place) (number_of_word (drop 1 w))
+    else option_map (λ pin. Pin pin) (number_of_word w))
+
+-- ---- the words after the first
+
+-- the state that the first word names, and the other words
+abbrev pub next_at : List (List ℕ) → Option (At × List (List ℕ))
+next_at [] = None
+next_at (w ∷ ws) = option_map (λ at. (at, ws)) (at_of_word w)
+
+-- the one state that the words name
+abbrev pub one_at : List (List ℕ) → Option At
+one_at ws = option_and_then (λ a. at_end a.0 a.1) (next_at ws)
+
+-- the same; without a word it is the current one
+abbrev pub optional_at : List (List ℕ) → Option At
+optional_at [] = Some Current
+optional_at (w ∷ ws) = one_at (w ∷ ws)
+
+-- the two states that the words name
+abbrev pub two_ats : List (List ℕ) → Option (At × At)
+two_ats ws =
+    option_and_then (λ a. option_and_then (λ b. at_end (a.0, b.0) b.1) (next_at a.1)) (next_at ws)
+
+-- the same; without the second it is the current one
+abbrev pub at_and_optional : List (List ℕ) → Option (At × At)
+at_and_optional [] = None
+at_and_optional (w ∷ []) = option_map (λ at. (at, Current)) (at_of_word w)
+at_and_optional (w ∷ v ∷ ws) = two_ats (w ∷ v ∷ ws)
+
+-- the id that the first word is, and the other words
+abbrev pub next_id : List (List ℕ) → Option (ℕ × List (List ℕ))
+next_id [] = None
+next_id (w ∷ ws) = option_map (λ x. (x, ws)) (id_of_word w)
+
+-- the id that the words are
+abbrev pub one_id : List (List ℕ) → Option ℕ
+one_id ws = option_and_then (λ x. at_end x.0 x.1) (next_id ws)
+
+-- the state and the id that the words name
+abbrev pub at_and_id : List (List ℕ) → Option (At × ℕ)
+at_and_id ws =
+    option_and_then (λ a. option_and_then (λ x. at_end (a.0, x.0) x.1) (next_id a.1)) (next_at ws)
+
+-- the same; without a state it is the current one
+abbrev pub optional_at_and_id : List (List ℕ) → Option (At × ℕ)
+optional_at_and_id [] = None
+optional_at_and_id (w ∷ []) = option_map (λ x. (Current, x)) (id_of_word w)
+optional_at_and_id (w ∷ v ∷ ws) = at_and_id (w ∷ v ∷ ws)
+
+-- the current state and the number; or without one the state that a word names
+abbrev pub number_or_at : Option ℕ → List ℕ → Option (At × Option ℕ)
+number_or_at (Some n) w = Some (Current, Some n)
+number_or_at None w = option_map (λ at. (at, None)) (at_of_word w)
+
+-- the number that a word is, about the current state, or the state that it names
+abbrev pub at_or_number : List ℕ → Option (At × Option ℕ)
+at_or_number w = number_or_at (number_of_word w) w
+
+-- the place of a state: none for the current one; a pin may keep a state that the retained steps don't lead to
+abbrev pub place_of : At → Option (Option ℕ)
+place_of Current = Some None
+place_of (Place place) = Some (Some place)
+place_of (Pin pin) = None
+
+-- the place of the state that a word names
+abbrev pub place_of_word : List ℕ → Option (Option ℕ)
+place_of_word w = option_and_then place_of (at_of_word w)
+
+-- the place and the id that the words name; without a place it is that of the current state
+abbrev pub place_and_id : List (List ℕ) → Option (Option ℕ × ℕ)
+place_and_id [] = None
+place_and_id (w ∷ []) = option_map (λ x. (None, x)) (id_of_word w)
+place_and_id (w ∷ v ∷ ws) =
+    option_and_then (λ to. option_and_then (λ x. at_end (to, x) ws) (id_of_word v)) (place_of_word w)
+
+-- the id and the number that two words are
+abbrev pub id_and_number : List ℕ → List ℕ → Option (ℕ × ℕ)
+id_and_number w v =
+    option_and_then (λ x. option_map (λ n. (x, n)) (number_of_word v)) (id_of_word w)
+
+-- the most paths that a question is answered with
+abbrev pub path_limit : ℕ
+path_limit = 256
+
+-- the number of paths that a word is: from 1 to the limit
+abbrev pub path_count : List ℕ → Option ℕ
+path_count w =
+    option_and_then (λ n. if nat_lt 0 n && nat_le n path_limit then Some n else None)
+    (number_of_word w)
+
+-- the id and the number of paths that two words are
+abbrev pub id_and_paths : List ℕ → List ℕ → Option (ℕ × ℕ)
+id_and_paths w v =
+    option_and_then (λ x. option_map (λ n. (x, n)) (path_count v)) (id_of_word w)
+
+-- the state, and the id and the number of paths, that the words name; without a state it is the current one
+abbrev pub at_and_paths : List (List ℕ) → Option (At × (ℕ × ℕ))
+at_and_paths [] = None
+at_and_paths (w ∷ []) = None
+at_and_paths (w ∷ v ∷ []) = option_map (λ asked. (Current, asked)) (id_and_paths w v)
+at_and_paths (w ∷ v ∷ u ∷ ws) =
+    option_and_then (λ at. option_and_then (λ asked. at_end (at, asked) ws) (id_and_paths v u))
+    (at_of_word w)
+
+-- the place, and the id and the number, that the words name; without a place it is that of the current state
+abbrev pub place_and_slot : List (List ℕ) → Option (Option ℕ × (ℕ × ℕ))
+place_and_slot [] = None
+place_and_slot (w ∷ []) = None
+place_and_slot (w ∷ v ∷ []) = option_map (λ slot. (None, slot)) (id_and_number w v)
+place_and_slot (w ∷ v ∷ u ∷ ws) =
+    option_and_then (λ to. option_and_then (λ slot. at_end (to, slot) ws) (id_and_number v u))
+    (place_of_word w)
+
+-- the same, with the place at the end
+abbrev pub slot_and_place : List (List ℕ) → Option ((ℕ × ℕ) × Option ℕ)
+slot_and_place [] = None
+slot_and_place (w ∷ []) = None
+slot_and_place (w ∷ v ∷ []) = option_map (λ slot. (slot, None)) (id_and_number w v)
+slot_and_place (w ∷ v ∷ u ∷ ws) =
+    option_and_then (λ slot. option_and_then (λ to. at_end (slot, to) ws) (place_of_word u))
+    (id_and_number w v)
+
+-- the steps that the words name: all, or those after the first place up to the second, which is that of the current state if it
+-- isn't named
+abbrev pub span_of : List (List ℕ) → Option Span
+span_of [] = Some AllSteps
+span_of (w ∷ []) = option_map (λ after. Between after None) (place_of_word w)
+span_of (w ∷ v ∷ ws) =
+    option_and_then (λ after. option_and_then (λ to. at_end (Between after to) ws) (place_of_word v))
+    (place_of_word w)
+
+-- the two numbers and the steps that the words name
+abbrev pub numbers_and_span : List (List ℕ) → Option ((ℕ × ℕ) × Span)
+numbers_and_span ws =
+    option_and_then
+    (λ n. option_and_then (λ k. option_map (λ span. ((n.0, k.0), span)) (span_of k.1)) (next_number n.1))
+    (next_number ws)
+
+-- the place and the number that the words name; without a place it is that of the current state
+abbrev pub place_and_number : List (List ℕ) → Option (Option ℕ × ℕ)
+place_and_number [] = None
+place_and_number (w ∷ []) = option_map (λ n. (None, n)) (number_of_word w)
+place_and_number (w ∷ v ∷ ws) =
+    option_and_then (λ to. option_and_then (λ n. at_end (to, n) ws) (number_of_word v))
+    (place_of_word w)
+
+-- the word of a slot that a word tells: an id, `null` or a number
+unfoldable pub value_of_word : List ℕ → Option ℕ
+value_of_word w =
+    if bytes_eq w (codes "null") then Some 0 else option_or (id_of_word w) (number_of_word w)
+
+-- the objects that the words name: all, those of a class, or those of a class with a value in a slot
+abbrev pub wanted_of : List (List ℕ) → Option Wanted
+wanted_of [] = Some All
+wanted_of (k ∷ []) = option_map (λ k. OfClass k) (number_of_word k)
+wanted_of (k ∷ s ∷ []) = None
+wanted_of (k ∷ s ∷ v ∷ []) =
+    option_and_then
+    (λ k. option_and_then (λ s. option_map (λ v. Holding k s v) (value_of_word v)) (number_of_word s))
+    (number_of_word k)
+wanted_of (k ∷ s ∷ v ∷ w ∷ ws) = None
+
+-- the state and the objects that the words name; without a state it is the current one
+abbrev pub at_and_wanted : List (List ℕ) → Option (At × Wanted)
+at_and_wanted [] = Some (Current, All)
+at_and_wanted (w ∷ ws) =
+    option_and_then (λ at. option_map (λ x. (at, x)) (wanted_of ws)) (at_of_word w)
+
+-- the class and the slot that two words name
+abbrev pub class_and_slot : List ℕ → List ℕ → Option (ℕ × ℕ)
+class_and_slot w v =
+    option_and_then (λ k. option_map (λ s. (k, s)) (number_of_word v)) (number_of_word w)
+
+-- the state, and the class and the slot, that the words name; without a state it is the current one
+abbrev pub at_and_slot : List (List ℕ) → Option (At × (ℕ × ℕ))
+at_and_slot [] = None
+at_and_slot (w ∷ []) = None
+at_and_slot (w ∷ v ∷ []) = option_map (λ slot. (Current, slot)) (class_and_slot w v)
+at_and_slot (w ∷ v ∷ u ∷ ws) =
+    option_and_then (λ at. option_and_then (λ slot. at_end (at, slot) ws) (class_and_slot v u))
+    (at_of_word w)
+
+-- the objects of a class with a value in a slot, which three words name
+abbrev pub holding : List ℕ → List ℕ → List ℕ → Option Wanted
+holding k s v =
+    option_and_then (λ slot. option_map (λ x. Holding slot.0 slot.1 x) (value_of_word v))
+    (class_and_slot k s)
+
+-- ---- the words after `when`
+
+-- the objects of class k with a value in a slot, and the places, that the words name
+abbrev pub holding_and_span : List ℕ → List (List ℕ) → Option (Wanted × Span)
+holding_and_span k [] = None
+holding_and_span k (s ∷ []) = None
+holding_and_span k (s ∷ v ∷ ws) =
+    option_and_then (λ wanted. option_map (λ span. (wanted, span)) (span_of ws)) (holding k s v)
+
+-- after `count` a class and how many objects it has at least, else a class, a slot and a value; and the places
+abbrev pub when_of : List (List ℕ) → Option Question
+when_of [] = None
+when_of (w ∷ ws) =
+    if bytes_eq w (codes "count")
+    then option_map (λ a. WhenCount a.0.0 a.0.1 a.1) (numbers_and_span ws)
+    else option_map (λ a. When a.0 a.1) (holding_and_span w ws)
+
+-- ---- the words after `dominators`
+
+-- what object x dominates in a state: as many rows as the words say, or all
+abbrev pub dominated_by : At → ℕ → List (List ℕ) → Option Question
+dominated_by at x [] = Some (Dominated at x None)
+dominated_by at x (w ∷ ws) =
+    option_and_then (λ n. at_end (Dominated at x (Some n)) ws) (number_of_word w)
+
+-- what is asked of a state by a word, which may be this id, and those behind it
+abbrev pub dominators_by : At → Option ℕ → List ℕ → List (List ℕ) → Option Question
+dominators_by at (Some x) w ws = dominated_by at x ws
+dominators_by at None w ws =
+    option_and_then (λ n. at_end (Dominators at (Some n)) ws) (number_of_word w)
+
+-- the same; the first word, which may be this id, may be the state
+abbrev pub dominators_from : Option ℕ → List ℕ → List (List ℕ) → Option Question
+dominators_from (Some x) w ws = dominated_by Current x ws
+dominators_from None w [] = option_map (λ a. Dominators a.0 a.1) (at_or_number w)
+dominators_from None w (v ∷ ws) =
+    option_and_then (λ at. dominators_by at (id_of_word v) v ws) (at_of_word w)
+
+-- a state, an id and a number of rows, each if it is named
+abbrev pub dominators_of : List (List ℕ) → Option Question
+dominators_of [] = Some (Dominators Current None)
+dominators_of (w ∷ ws) = dominators_from (id_of_word w) w ws
+
+-- ---- the words after `show`
+
+-- the slots that the words name: all, or from the first number on as many as the second says
+abbrev pub slots_named : List (List ℕ) → Option SlotRange
+slots_named [] = Some AllSlots
+slots_named (w ∷ ws) =
+    option_and_then (λ first. option_and_then (λ n. at_end (FromSlot first n.0) n.1) (next_number ws))
+    (number_of_word w)
+
+-- the slots of object x in a state that the words name
+abbrev pub show_by : At → ℕ → List (List ℕ) → Option Question
+show_by at x ws = option_map (λ slots. Show at x slots) (slots_named ws)
+
+-- the same; the first word, which may be this id, may be the state
+abbrev pub show_from : Option ℕ → List ℕ → List (List ℕ) → Option Question
+show_from (Some x) w ws = show_by Current x ws
+show_from None w ws =
+    option_and_then (λ at. option_and_then (λ x. show_by at x.0 x.1) (next_id ws)) (at_of_word w)
+
+-- a state, if it is named, an id and the slots
+abbrev pub show_of : List (List ℕ) → Option Question
+show_of [] = None
+show_of (w ∷ ws) = show_from (id_of_word w) w ws
+
+-- ---- the table of questions
+
+-- a keyword, and what the words after it ask
+abbrev pub QuestionRule : Type 0
+QuestionRule = List ℕ × (List (List ℕ) → Option Question)
+
+-- the questions about what retained steps did, about pins, and about the current state
+unfoldable pub past_rules : List QuestionRule
+past_rules =
+    (codes "born", λ ws. option_map (λ a. Born a.0 a.1) (place_and_id ws))
+    ∷ (codes "dropped", λ ws. option_map (λ a. Dropped a.0 a.1) (place_and_id ws))
+    ∷ (codes "life", λ ws. option_map (λ x. Life x) (one_id ws))
+    ∷ (codes "cycles", λ ws. at_end Cycles ws)
+    ∷ (codes "pins", λ ws. at_end Pins ws)
+    ∷ (codes "cells", λ ws. at_end Cells ws)
+    ∷ (codes "regions", λ ws. at_end Regions ws)
+    ∷ (codes "status", λ ws. at_end Status ws)
+    ∷ (codes "history", λ ws. option_map (λ a. History a.0 a.1) (place_and_number ws))
+    ∷ (codes "wrote", λ ws. option_map (λ a. Wrote a.0 a.1.0 a.1.1) (place_and_slot ws))
+    ∷ (codes "watch", λ ws. option_map (λ a. Watch a.0.0 a.0.1 a.1) (slot_and_place ws))
+    ∷ (codes "writes", λ ws. option_map (λ a. Writes a.0.0 a.0.1 a.1) (numbers_and_span ws))
+    ∷ (codes "when", λ ws. when_of ws)
+    ∷ []
+
+-- all questions: those about a state first
+unfoldable pub question_rules : List QuestionRule
+question_rules =
+    (codes "histogram", λ ws. option_map (λ at. Histogram at) (optional_at ws))
+    ∷ (codes "garbage", λ ws. option_map (λ at. Garbage at) (optional_at ws))
+    ∷ (codes "registers", λ ws. option_map (λ at. Registers at) (optional_at ws))
+    ∷ (codes "growth", λ ws. option_map (λ a. Growth a.0 a.1) (at_and_optional ws))
+    ∷ (codes "classes", λ ws. option_map (λ at. Classes at) (optional_at ws))
+    ∷ (codes "objects", λ ws. option_map (λ a. Objects a.0 a.1) (at_and_wanted ws))
+    ∷ (codes "values", λ ws. option_map (λ a. Values a.0 a.1.0 a.1.1) (at_and_slot ws))
+    ∷ (codes "kept", λ ws. option_map (λ a. Kept a.0 a.1) (at_and_optional ws))
+    ∷ (codes "diff", λ ws. option_map (λ a. Diff a.0 a.1) (at_and_optional ws))
+    ∷ (codes "referrers", λ ws. option_map (λ a. Referrers a.0 a.1) (optional_at_and_id ws))
+    ∷ (codes "path", λ ws. option_map (λ a. Path a.0 a.1) (optional_at_and_id ws))
+    ∷ (codes "paths", λ ws. option_map (λ a. Paths a.0 a.1.0 a.1.1) (at_and_paths ws))
+    ∷ (codes "retained", λ ws. option_map (λ a. Retained a.0 a.1) (optional_at_and_id ws))
+    ∷ (codes "dominators", λ ws. dominators_of ws)
+    ∷ (codes "dominator", λ ws. option_map (λ a. Dominator a.0 a.1) (optional_at_and_id ws))
+    ∷ (codes "show", λ ws. show_of ws)
+    ∷ past_rules
+
+-- what the words after a keyword ask, by the first of these rules that has it
+abbrev pub question_by : List QuestionRule → List ℕ → List (List ℕ) → Option Question
+question_by rules w ws =
+    option_and_then (λ rule. rule.1 ws) (find (λ rule. bytes_eq w rule.0) rules)
+
+-- the question of these words, by the rule of the first
+unfoldable pub question_of_words : List (List ℕ) → Option Question
+question_of_words [] = None
+question_of_words (w ∷ ws) = question_by question_rules w ws
+
+-- the question that a line asks
+abbrev pub question_of : List ℕ → Option Question
+question_of line = question_of_words (words_of_line line)

@@ -1,0 +1,16 @@
+pub mod ListedPaths
+pub mod Totals
+pub mod RankedRows
+pub mod PathSteps
+pub mod ChangedRows
+pub mod ClassRows
+pub mod Slots
+pub mod PastTexts
+pub mod SlotRows
+pub mod FieldRows
+pub mod NamedObjects
+pub mod LivedRows
+pub mod PinRows
+pub mod UsedRegions
+pub mod CountedRegions
+pub mod StatusRows

@@ -1,0 +1,11 @@
+use Rattle.std.proofs.Common.{inl, inr, refl}
+use Rattle.question_rows.proofs.slot_changes.watch_past.Goals as goal
+
+pub returns-in-Some : goal.returns-in-Some
+returns-in-Some c = elim c.past_changes.ensures [
+  | inl h ↦ inl (inl (c.in-Some.at, c.in-Some.ensures, h))
+  | inr h ↦ inr h
+]
+
+pub returns-in-None : goal.returns-in-None
+returns-in-None c = inl (inr (c.in-None.ensures, refl))

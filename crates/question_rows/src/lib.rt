@@ -1,0 +1,55 @@
+//! The answers of questions, each about a state or about retained steps.
+#![tactic(auto)]
+
+mod birth;
+mod cell_list;
+mod class_list;
+mod cycle_list;
+mod diff;
+mod first_place;
+mod growth;
+mod histogram;
+mod history;
+mod kept;
+mod life;
+mod lines;
+mod loss;
+mod object_list;
+mod path;
+mod path_list;
+mod pin_list;
+mod referrers;
+mod region_list;
+mod registers;
+mod show;
+mod slot_changes;
+mod slot_writes;
+mod status;
+mod value_list;
+mod write;
+
+pub use birth::born_answer;
+pub use cell_list::cells_answer;
+pub use class_list::classes_answer;
+pub use cycle_list::cycles_answer;
+pub use diff::diff_text;
+pub use first_place::{when_answer, when_count_answer};
+pub use growth::growth_answer;
+pub use histogram::{garbage_text, histogram_text, retained_answer};
+pub use history::history_answer;
+pub use kept::kept_text;
+pub use life::life_answer;
+pub use loss::dropped_answer;
+pub use object_list::objects_answer;
+pub use path::path_answer;
+pub use path_list::paths_answer;
+pub use pin_list::pins_answer;
+pub use referrers::referrers_answer;
+pub use region_list::regions_answer;
+pub use registers::registers_answer;
+pub use show::{show_answer, shows_mark};
+pub use slot_changes::watch_answer;
+pub use slot_writes::writes_answer;
+pub use status::status_answer;
+pub use value_list::values_answer;
+pub use write::wrote_answer;

@@ -1,9 +1,0 @@
-use Rattle.std.proofs.Common.{◌∙◌, ap, sym}
-use Rattle.question_text.specs.Moments.{image_at}
-use Rattle.question_text.proofs.PinImages.{pin_there}
-use Rattle.question_text.proofs.at.moment_at.Goals as goal
-
-pub returns-in-Pin-clause-image : goal.returns-in-Pin-clause-image
-returns-in-Pin-clause-image c =
-    let m = c.args.machine.now in
-    (tt, pin_there m c.in-Pin.pin ∙ ap (λ at. image_at at m) (sym c.in-Pin.is))

@@ -1,7 +1,0 @@
-use Rattle.std.proofs.Common.{◌≡◌, ◌++◌, ◌+◌, drop}
-use Rattle.question_text.specs.Growths.{changed_texts}
-use Rattle.question_text.proofs.growth.push_changes.Given as goal
-
-abbrev pub invariant-loop-index : goal.invariant-loop-index
-invariant-loop-index l =
-    l.text.items ++ changed_texts l.classes (l.first + l.index) (drop l.index l.changes) ≡ l.fn.text.items ++ changed_texts l.classes l.first l.changes

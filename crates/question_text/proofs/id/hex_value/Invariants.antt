@@ -1,6 +1,0 @@
-use Rattle.std.proofs.Common.{◌≡◌, drop}
-use Rattle.question_text.specs.Ids.{hex_from}
-use Rattle.question_text.proofs.id.hex_value.Given as goal
-
-abbrev pub invariant-loop-b : goal.invariant-loop-b
-invariant-loop-b l = hex_from l.value (drop l.b-index l.digits) ≡ hex_from 0 l.digits

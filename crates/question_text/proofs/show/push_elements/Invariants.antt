@@ -1,7 +1,0 @@
-use Rattle.std.proofs.Common.{◌≡◌, ◌++◌, drop}
-use Rattle.question_text.specs.Objects.{element_rows, joined}
-use Rattle.question_text.proofs.show.push_elements.Given as goal
-
-abbrev pub invariant-loop-index : goal.invariant-loop-index
-invariant-loop-index l =
-    l.text.items ++ joined (drop l.index (element_rows l.kind 0 l.words)) ≡ l.fn.text.items ++ joined (drop l.from (element_rows l.kind 0 l.words))

@@ -1,0 +1,3 @@
+pub mod PinImages
+pub mod FieldNames
+pub mod FieldsAbove

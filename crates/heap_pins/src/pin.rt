@@ -83,6 +83,7 @@ pub fn noted_region(left: &Undo) -> Option<u64>
 }
 
 // Returns the region of which a sweep removed these dead objects, or None if there are none.
+#[inline(never)]
 fn swept_region(region: u16, dead: &DeadCells) -> Option<u64>
     ensures { result ≡ touched (Sweep region dead.now) }
 {

@@ -8,8 +8,9 @@ and so are all lines after it. The same holds beside a page, and for a question 
 time: a session that ends by `memory` has answered nothing, and the other one goes on, also beside workers and dumps, each of
 which is whole or a beginning. A save is the dump of the session's last state, or a beginning of it if the dump is lost by
 Memory. If it is lost before its first byte, or the session isn't dumped, a file that was there stays as it was, and no file is
-made. No session asks for much more memory at once than its settings need, and no rewind asks for any. Prints a line for each
-session that misbehaves, and with -v for each how many allocations were refused; ends with status 1 if one misbehaves."""
+made. No session asks for much more memory at once than its settings need, and no rewind asks for any, nor does a sweep that
+finds no dead object beside a pin. Prints a line for each session that misbehaves, and with -v for each how many allocations
+were refused; ends with status 1 if one misbehaves."""
 import contextlib
 import os
 import pathlib
@@ -481,6 +482,9 @@ STEPS = """class Node - next:object v:long, array [Node;, new 0 0 0, new 0 1 0, 
     store 0 0 0 1, store 0 2 0 0, load 0 4 0 0, load 0 4 0 1, move 1 0 0 0, clear 0 1, clear 0 4, snap, new 0 5 0, clear 0 3,
     store 0 0 0 5, mark, mark, drain, mark, mark, finish, sweep 0, snap, mark, mark, mark, finish, sweep 0, clear 0 2, clear 0 5,
     clear 1 0, clear 0 0, snap, finish, sweep 0"""
+# An object, and a cycle that leaves it.
+LIVE = "class Node - v:long, new 0 0 0"
+SWEPT = "snap, mark, finish, sweep 0, open -, open 5, put 0 0 0 7"
 # The places at which pins are opened: before the first step, in the first cycle, and before and after the sweep that removes two.
 PINNED = 0, 18, 30, 31
 
@@ -546,6 +550,16 @@ def wrong_undoing(program, library, pinned):
             yield f"rewind {last}: {found[0]!r} after {found[1]} requests"
 
 
+def wrong_sweep(program, library):
+    """Yields what goes otherwise than it may where a sweep finds no dead object beside a pin: it asks for no memory, and a pin on the state
+    before it for as much as one on the state after it. The first write to the region then makes three copies."""
+    with Counted(program, library) as session:
+        yield from taken_steps(session, words_of(LIVE), (2,))
+        *cycle, after, before, put = [session.reply(line)[1] for line in words_of(SWEPT)]
+        if any(cycle) or after != before or put != 3:
+            yield f"a sweep that finds no dead object: {cycle}, {after}, {before} and {put} requests"
+
+
 def told(name, numbers, verbose):
     """Prints what came of refusing the allocations, if something went wrong or it is asked. Returns whether all went as it may."""
     wrong = []
@@ -589,6 +603,9 @@ def main(heapdbg, verbose=False):
             for line in wrong_undoing(program, library, pinned):
                 print(f"undoing with {len(pinned)} pins, {line}")
                 good = False
+        for line in wrong_sweep(program, library):
+            print(line)
+            good = False
     return 0 if good else 1
 
 

@@ -28,6 +28,7 @@ use Rattle.heap_pins.specs.Images.{dumped_objects, image_of}
 use Rattle.heap_pins.specs.KeptCopies.{touched}
 use Rattle.heap_pins.specs.Pin.{PinContents}
 use Rattle.heap_pins.specs.Walk.{TellsBefore, cell_state, states_before}
+use Rattle.heap_pins.proofs.RecordCases.{sweep_touches_its_region}
 use Rattle.heap_pins.proofs.ShownImages.{shown}
 use Rattle.heap_trail.specs.Trail.{Trail, state_ago}
 use Rattle.heap_trail.proofs.RetainedRecords.{HasRecord}
@@ -303,7 +304,7 @@ other_same k e before after (New a fresh m r old) at st f n = made_same k e befo
 other_same k e before after (Finish log) at st f n = absurd (true≢false f)
 other_same k e before after (Sweep region dead) at st f n = elim (cases_eq at.region region) [
   | inl r ↦ swept_same k e before after region dead at st r
-  | inr r ↦ untouched_same k (Sweep region dead) before after at (told e before after (Sweep region dead) st) (λ q. r (sym (same_Some region at.region q))) (sweep_state region dead at (states_after after) r)
+  | inr r ↦ untouched_same k (Sweep region dead) before after at (told e before after (Sweep region dead) st) (λ q. r (sym (sweep_touches_its_region region dead at.region q))) (sweep_state region dead at (states_after after) r)
 ]
 other_same k e before after (Reclaim region storage) at st f n = elim (cases_eq at.region region) [
   | inl r ↦ reclaimed_same k e before after region storage at st r

@@ -39,6 +39,7 @@ use Rattle.heap_pins.specs.Shows.{IsPinOf}
 use Rattle.heap_pins.specs.View.{ShowsSome}
 use Rattle.heap_pins.specs.Walk.{TellsBefore, cell_state, states_before}
 use Rattle.heap_pins.proofs.LiveCounts.{Stands, live_stand}
+use Rattle.heap_pins.proofs.RecordCases.{sweep_touches_its_region}
 use Rattle.heap_pins.proofs.RecordWalks.{walked_pin_holds_its_state}
 use Rattle.heap_pins.proofs.ShownImages.{image_is, object_seen_as_dump_shows, shown}
 use Rattle.heap_trail.specs.Trail.{Trail, state_ago}
@@ -174,7 +175,7 @@ was_there e before after (Finish log) at o st n h l =
     untouched_was (Finish log) before after at o (told e before after (Finish log) st) (λ q. none-some at.region q) (ap (λ (k : ℕ). cond (k == 0) 0 1) (state_of_live _ o h l)) h
 was_there e before after (Sweep region dead) at o st n h l = elim (cases_eq at.region region) [
   | inl r ↦ (o, sweep_was e before after region dead at o st r h, l, refl, refl)
-  | inr r ↦ untouched_was (Sweep region dead) before after at o (told e before after (Sweep region dead) st) (λ q. r (sym (same_Some region at.region q))) (sweep_state region dead at (states_after after) r ∙ state_of_live _ o h l) h
+  | inr r ↦ untouched_was (Sweep region dead) before after at o (told e before after (Sweep region dead) st) (λ q. r (sym (sweep_touches_its_region region dead at.region q))) (sweep_state region dead at (states_after after) r ∙ state_of_live _ o h l) h
 ]
 was_there e before after (Reclaim region storage) at o st n h l = elim (cases_eq at.region region) [
   | inl r ↦ absurd (reclaimed_none e before after region storage at o st r h)

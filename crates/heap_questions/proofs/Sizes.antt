@@ -175,9 +175,9 @@ tells left before after sizes r u t s l whole e = by_region (λ k. TellsBefore k
       | inl q ↦ patch_tells (Store at slot old logged) (frozen_word_set at.cell slot old) (word_size at.cell slot old) before after sizes r u (t.touched_region r (region_frozen after.regions r) (ap Some (sym q)) (same_copy_covers _ _ refl)) s e
       | inr q ↦ others_tell (Store at slot old logged) before after sizes r u t s (λ z. q (sym (same_Some at.region r z))) e
     ])
-    (λ region dead t is. elim (cases_eq r region) [
-      | inl q ↦ patch_tells (Sweep region dead) (with_dead dead) (dead_size dead) before after sizes r u (t.touched_region r (region_frozen after.regions r) (ap Some (sym q)) (same_copy_covers _ _ refl)) s e
-      | inr q ↦ others_tell (Sweep region dead) before after sizes r u t s (λ z. q (sym (same_Some region r z))) e
+    (λ region d dead t is. elim (cases_eq r region) [
+      | inl q ↦ patch_tells (Sweep region (d ∷ dead)) (with_dead (d ∷ dead)) (dead_size (d ∷ dead)) before after sizes r u (t.touched_region r (region_frozen after.regions r) (ap Some (sym q)) (same_copy_covers _ _ refl)) s e
+      | inr q ↦ others_tell (Sweep region (d ∷ dead)) before after sizes r u t s (λ z. q (sym (same_Some region r z))) e
     ])
     (λ region storage t is. reclaim_tells region storage before after sizes r u t s (l region storage is) whole e)
     (λ k n t is. ap (λ xs. get_or xs r 0) (sizes_stay k n.none sizes) ∙ plain_tells k before after sizes r u n.none t s e)

@@ -16,6 +16,7 @@ use Rattle.heap_step.specs.Laws.{IsStep}
 use Rattle.heap_step.proofs.Steps.{put_taken_back_is_before, store_is}
 use Rattle.heap_pins.specs.KeptCopies.{touched}
 use Rattle.heap_pins.specs.Walk.{TellsBefore, cell_state, dead_state, states_before}
+use Rattle.heap_pins.proofs.RecordCases.{sweep_touches_its_region}
 use Rattle.heap_questions.specs.Changes.{changed_by, made_by, slot_word}
 use Rattle.heap_questions.proofs.ToldObjects.{covered, is_there, none_there, reclaimed_none, state_there, sweep_was, told}
 
@@ -212,7 +213,7 @@ record_tells e before after (Sweep region dead) at k now st h =
           word_of_object before at k o.0 (sweep_was e before after region dead at o.0 st r o.1) ∙ o.2
       | inr r ↦
           let t = told e before after (Sweep region dead) st in
-          untouched (Sweep region dead) before after at k now t (λ q. r (sym (same_Some region at.region q))) (λ z. there after at k now h (sym (t.states at ∙ sweep_state region dead at (λ b. cell_state (object_at after.regions b)) r) ∙ z)) h
+          untouched (Sweep region dead) before after at k now t (λ q. r (sym (sweep_touches_its_region region dead at.region q))) (λ z. there after at k now h (sym (t.states at ∙ sweep_state region dead at (λ b. cell_state (object_at after.regions b)) r) ∙ z)) h
     ]
 record_tells e before after (Reclaim region storage) at k now st h =
     elim (cases_eq at.region region) [

@@ -334,7 +334,7 @@ question_by rules w ws =
 -- the question of these words, by the rule of the first
 unfoldable pub question_of_words : Bookmarks → List (List ℕ) → Option Question
 question_of_words b [] = None
-question_of_words b (w ∷ ws) = question_by question_rules b w ws
+question_of_words b (w ∷ ws) = question_by (question_rules b) w ws
 
 -- the question that a line asks
 abbrev pub question_of : Bookmarks → List ℕ → Option Question

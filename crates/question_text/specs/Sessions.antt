@@ -83,10 +83,9 @@ ServesAsking limits time a b c w c' w' ended =
     Serves limits (AnswersCommand AskingActs AskingAnswers time)
     (Begins AskingActs AskingAnswers time) a b c w c' w' ended
 
--- a line isn't one of the grammar of sessions, opens no pin by a name, is no order, no question and no line that asks for help
+-- a line isn't one of the grammar of sessions, no order, no question and no line that asks for help
 pub record IsAlone (b : Bookmarks) (state : HeapState) (l : List ℕ) : Type 0 where
   pub command : command_of_text l ≡ Bad
-  pub opened : place_opened b l ≡ None
   pub order : order_in b state l ≡ None
   pub question : question_in b state l ≡ None
   pub help : help_of l ≡ None

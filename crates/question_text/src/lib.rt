@@ -72,17 +72,17 @@ pub fn help_is_new()
     ensures { (l text : List ℕ) → help_of l ≡ Some text → command_of_text l ≡ Bad }
 {}
 
-/// States the same of the lines that change the heap or its pins: `collect`, `rewind @P`, `forward`, `new M R NAME` and `open @WORD`.
+/// States the same of the lines that change the heap: `collect`, `rewind @P`, `forward` and `new M R NAME`.
 pub fn orders_are_new()
-    ensures opens { (b : Bookmarks) (l : List ℕ) (place : ℕ)
-        → place_opened b l ≡ Some place → command_of_text l ≡ Bad }
-    ensures orders { (b : Bookmarks) (state : HeapState) (l : List ℕ) (o : Order)
+    ensures { (b : Bookmarks) (state : HeapState) (l : List ℕ) (o : Order)
         → order_in b state l ≡ Some o → command_of_text l ≡ Bad }
 {}
 
-/// States the same of the lines that a session notes: `at @P`, `at -` and `name WORD`. None of them asks a question, or for anything
-/// to be done.
+/// States the same of `open @WORD`, and of the lines that a session notes: `at @P`, `at -` and `name WORD`. None of them asks a
+/// question or for help, or is one of those that change the heap.
 pub fn notes_are_new()
+    ensures opens { (b : Bookmarks) (state : HeapState) (l : List ℕ) (place : ℕ)
+        → place_opened b l ≡ Some place → IsAlone b state l }
     ensures places { (b : Bookmarks) (state : HeapState) (l : List ℕ) (to : Option ℕ)
         → place_set b l ≡ Some to → IsAlone b state l }
     ensures names { (b : Bookmarks) (state : HeapState) (l w : List ℕ)

@@ -193,7 +193,7 @@ class AskingDraw(Draw):
         draws = {"a": self.moment, "i": self.identifier, "c": self.asked_class, "s": self.asked_slot, "v": self.held_word}
         draws["p"] = lambda: self.lots.pick(["-", self.retained_place()])
         draws["k"] = lambda: self.lots.pick([*(each.name.decode() for each in self.state.classes), "absent"])
-        draws["r"] = lambda: self.retained_place() if self.lots.once_in(4) else f"@{max(0, self.machine.place + 1 - self.lots.below(5))}"
+        draws["r"] = lambda: self.retained_place() if self.lots.once_in(3) else f"@{max(0, self.machine.place + 1 - self.lots.below(5))}"
         draws["w"] = self.way_on
         draws["l"] = self.place_with_name
         draws["d"] = lambda: self.lots.pick(["a", "b", "c-1", "start", "Z" * 64, "Z" * 65, "7", "-", "a/b", "_a"])

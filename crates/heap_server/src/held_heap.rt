@@ -73,10 +73,8 @@ pub(crate) fn answer_held<L: Heap>(
     ensures role { seat.new.role ≡ User }
 {
     see_all(kept, seat, witness);
-    match order_obeyed(kept, bookmarks, obeys, line) {
-        Some(order) => do_held(alloc, kept, seat, witness, order),
-        None => note_held(alloc, kept, seat, witness, bookmarks, line),
-    }
+    let order = order_obeyed(kept, bookmarks, obeys, line);
+    answer_order(alloc, kept, seat, witness, bookmarks, order, line)
 }
 
 // Compares the chronicle with the seat, and has the witness see all calls.
@@ -106,6 +104,28 @@ fn order_obeyed<L: Heap>(
         order_in(bookmarks, kept.machine().world(), line)
     } else {
         None
+    }
+}
+
+// Answers a line for one who holds the lock, and does what it asks to be done, or notes what it sets.
+fn answer_order<L: Heap>(
+    alloc: Global,
+    kept: &mut Kept<L>,
+    seat: &mut Seat<L>,
+    witness: &mut Witness<L>,
+    bookmarks: &mut Bookmarks,
+    order: Option<Order>,
+    line: &[u8],
+) -> LineAnswer
+    requires { seat.old.role ≡ User }
+    ensures answers { LeavesSeen L.config (λ last. AnswersHeld L.config order line.now kept.old
+        seat.old bookmarks.old (line_answer_text result) last seat.new bookmarks.new) seat.new
+        witness.new }
+    ensures role { seat.new.role ≡ User }
+{
+    match order {
+        Some(order) => do_held(alloc, kept, seat, witness, order),
+        None => note_held(alloc, kept, seat, witness, bookmarks, line),
     }
 }
 

@@ -1,6 +1,6 @@
 -- Names that are given to places.
-use Rattle.std.proofs.Common.{◌≡◌, ◌∙◌, ◌+◌, ◌<◌, ℕ, zero, suc, Bool, true, false, cond, List, [], ◌∷◌, ◌++◌, Option, Some, None, length, refl, sym, ap, arith}
-use Rattle.std.specs.Prelude.{find, get_or, nat_lt, set, slice_get}
+use Rattle.std.proofs.Common.{◌≡◌, ◌∙◌, ◌+◌, ◌<◌, ℕ, zero, suc, Bool, true, false, cond, List, [], ◌∷◌, ◌++◌, Option, Some, None, length, refl, sym, ap, ap₂, arith}
+use Rattle.std.specs.Prelude.{find, get_or, nat_lt, set, slice_get, slice_index_or, slice_set}
 use Rattle.std.specs.List.{position, position_or_len}
 use Rattle.std.specs.Str.{bytes_eq}
 use Rattle.std.proofs.lemmas.Bool.{ltb-false}
@@ -46,3 +46,16 @@ none_found w names h = find_at (is_named w) names ∙ go (nat_lt (position_or_le
 
 pub named_new : (w : List ℕ) (place : ℕ) (names : List PlaceName) → position (is_named w) names ≡ None → with_place w place names ≡ names ++ record { word = w; place = place } ∷ []
 named_new w place names h = new_at_end w place names (none_found w names h)
+
+-- the same of a word and a list that were looked through
+pub found_takes_place : (w v : List ℕ) (place : ℕ) (names ms : List PlaceName) (i : ℕ) (d : PlaceName) (o : Option ℕ) → v ≡ w → ms ≡ names → o ≡ position (is_named v) ms → o ≡ Some i → d ≡ slice_index_or names i d
+    → slice_set names i (record d { place = place }) ≡ with_place w place names
+found_takes_place w v place names ms i d o word list value is at =
+    let found : position (is_named w) names ≡ Some i = sym (ap₂ (λ (x : List ℕ) (l : List PlaceName). position (is_named x) l) word list) ∙ sym value ∙ is in
+    ap (λ (x : PlaceName). slice_set names i (record x { place = place })) at ∙ sym (named_there w place names i d found)
+
+pub new_takes_place : (w v : List ℕ) (place : ℕ) (names ms : List PlaceName) (o : Option ℕ) → v ≡ w → ms ≡ names → o ≡ position (is_named v) ms → o ≡ None
+    → names ++ record { word = w; place = place } ∷ [] ≡ with_place w place names
+new_takes_place w v place names ms o word list value is =
+    let none : position (is_named w) names ≡ None = sym (ap₂ (λ (x : List ℕ) (l : List PlaceName). position (is_named x) l) word list) ∙ sym value ∙ is in
+    sym (named_new w place names none)

@@ -56,8 +56,8 @@ impl<'a, L: Heap> Steps for HeldHeap<'a, L> {
 }
 
 // Answers a line that the grammar of sessions doesn't know for one who holds the lock, and does what it asks to be done, if `obeys`
-// says so, as acts of the seat. The witness sees the calls before it, and then those of its acts. If the line asks for nothing to be
-// done, the bookmarks note what it sets.
+// says so, as acts of the seat. The witness sees the calls before it, and then those of its acts. If the line asks for nothing to
+// be done, the bookmarks note what it sets.
 pub(crate) fn answer_held<L: Heap>(
     alloc: Global,
     kept: &mut Kept<L>,

@@ -75,7 +75,8 @@ writes_named b classes (w ∷ v ∷ ws) =
     (class_and_slot_named classes w v)
 
 -- the objects of class k with a value in a slot, and the places, that the words name
-abbrev pub holding_and_span_named : Bookmarks → List Class → List ℕ → List (List ℕ) → Option (Wanted × Span)
+abbrev pub holding_and_span_named : Bookmarks → List Class → List ℕ → List (List ℕ)
+    → Option (Wanted × Span)
 holding_and_span_named b classes k [] = None
 holding_and_span_named b classes k (s ∷ []) = None
 holding_and_span_named b classes k (s ∷ v ∷ ws) =

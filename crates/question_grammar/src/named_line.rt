@@ -125,7 +125,8 @@ fn values_named(
     at_end((at, class_and_slot_named(classes, second, third)?), words)
 }
 
-// Returns the place, and the id and the slot, that the words name. If they are only an id and a slot, the place is that of the session.
+// Returns the place, and the id and the slot, that the words name. If they are only an id and a slot, the place is that of the
+// session.
 #[tactic(auto, unfolding(crate::specs::NamedLines::write_named))]
 fn write_named(
     bookmarks: &Bookmarks,
@@ -143,7 +144,8 @@ fn write_named(
     at_end((to, id_and_slot_named(world, second, third)?), words)
 }
 
-// Returns the id and the slot, and the place, that the words name. If they are only an id and a slot, the place is that of the session.
+// Returns the id and the slot, and the place, that the words name. If they are only an id and a slot, the place is that of the
+// session.
 #[tactic(auto, unfolding(crate::specs::NamedLines::watch_named))]
 fn watch_named(
     bookmarks: &Bookmarks,
@@ -215,7 +217,8 @@ fn holding_and_span_named(
     class: &[u8],
     mut words: Words,
 ) -> Option<(Wanted, Span)>
-    ensures { result ≡ holding_and_span_named bookmarks.now classes.now class.now (words_of_line words.entry) }
+    ensures { result
+        ≡ holding_and_span_named bookmarks.now classes.now class.now (words_of_line words.entry) }
 {
     let slot = words.next_word()?;
     let value = words.next_word()?;

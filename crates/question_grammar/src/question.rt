@@ -156,7 +156,8 @@ fn at_and_optional(bookmarks: &Bookmarks, mut words: Words) -> Option<(At, At)>
 #[tactic(auto, unfolding(crate::specs::Questions::question_rules))]
 fn later_question(bookmarks: &Bookmarks, keyword: &[u8], words: Words) -> Option<Question>
     ensures { result
-        ≡ question_by (drop 5 (question_rules bookmarks.now)) keyword.now (words_of_line words.entry) }
+        ≡ question_by (drop 5 (question_rules bookmarks.now)) keyword.now
+        (words_of_line words.entry) }
 {
     if is_word(keyword, b"objects") {
         let (at, wanted) = at_and_wanted(bookmarks, words)?;
@@ -386,7 +387,8 @@ fn slots_of(mut words: Words) -> Option<SlotRange>
 // Reads the words behind a keyword of a question about what retained steps did, about pins, or about the current state.
 #[tactic(auto, unfolding(crate::specs::Questions::past_rules))]
 fn past_question(bookmarks: &Bookmarks, keyword: &[u8], words: Words) -> Option<Question>
-    ensures { result ≡ question_by (past_rules bookmarks.now) keyword.now (words_of_line words.entry) }
+    ensures { result
+        ≡ question_by (past_rules bookmarks.now) keyword.now (words_of_line words.entry) }
 {
     if is_word(keyword, b"born") {
         let (to, id) = place_and_id(bookmarks, words)?;
@@ -466,7 +468,8 @@ fn place_and_number(bookmarks: &Bookmarks, mut words: Words) -> Option<(Option<u
     at_end((place_of_word(bookmarks, word)?, number_of(second)?), words)
 }
 
-// Returns the place, and the id and the number, that the words name. If they are only an id and a number, the place is that of the session.
+// Returns the place, and the id and the number, that the words name. If they are only an id and a number, the place is that of the
+// session.
 fn place_and_slot(bookmarks: &Bookmarks, mut words: Words) -> Option<(Option<u64>, (u64, u64))>
     ensures { result ≡ place_and_slot bookmarks.now (words_of_line words.entry) }
 {
@@ -491,7 +494,8 @@ fn id_and_number(word: &[u8], second: &[u8]) -> Option<(u64, u64)>
     Some((id_of(word)?, number_of(second)?))
 }
 
-// Returns the id and the number, and the place, that the words name. If they are only an id and a number, the place is that of the session.
+// Returns the id and the number, and the place, that the words name. If they are only an id and a number, the place is that of the
+// session.
 fn slot_and_place(bookmarks: &Bookmarks, mut words: Words) -> Option<((u64, u64), Option<u64>)>
     ensures { result ≡ slot_and_place bookmarks.now (words_of_line words.entry) }
 {

@@ -69,30 +69,30 @@ no_order bm classes v (w ∷ ws) = refl
 orders_none : (bm : Bookmarks) (state : HeapState) (l : List ℕ) → is_comment l ≡ true → order_in bm state l ≡ None
 orders_none bm state l e = of_comment (order_of_words bm state.classes) (no_order bm state.classes) (words_of_line l) e
 
+opens_none : (bm : Bookmarks) (v : List ℕ) (ws : List (List ℕ)) → place_opened_by bm ((35 ∷ v) ∷ ws) ≡ None
+unfolding word_behind
+opens_none bm v [] = refl
+opens_none bm v (w ∷ []) = refl
+opens_none bm v (w ∷ u ∷ ws) = refl
+
+places_none : (bm : Bookmarks) (v : List ℕ) (ws : List (List ℕ)) → place_set_by bm ((35 ∷ v) ∷ ws) ≡ None
+unfolding word_behind
+places_none bm v [] = refl
+places_none bm v (w ∷ []) = refl
+places_none bm v (w ∷ u ∷ ws) = refl
+
+names_none : (v : List ℕ) (ws : List (List ℕ)) → name_set_by ((35 ∷ v) ∷ ws) ≡ None
+unfolding word_behind
+names_none v [] = refl
+names_none v (w ∷ []) = refl
+names_none v (w ∷ u ∷ ws) = refl
+
 sets_none : (bm : Bookmarks) (l : List ℕ) → is_comment l ≡ true → SetsNothing bm l
 sets_none bm l e = record {
   opened = of_comment (place_opened_by bm) (opens_none bm) (words_of_line l) e;
   place = of_comment (place_set_by bm) (places_none bm) (words_of_line l) e;
   name = of_comment name_set_by names_none (words_of_line l) e;
 }
-  where
-    opens_none : (bm : Bookmarks) (v : List ℕ) (ws : List (List ℕ)) → place_opened_by bm ((35 ∷ v) ∷ ws) ≡ None
-    unfolding word_behind
-    opens_none bm v [] = refl
-    opens_none bm v (w ∷ []) = refl
-    opens_none bm v (w ∷ u ∷ ws) = refl
-
-    places_none : (bm : Bookmarks) (v : List ℕ) (ws : List (List ℕ)) → place_set_by bm ((35 ∷ v) ∷ ws) ≡ None
-    unfolding word_behind
-    places_none bm v [] = refl
-    places_none bm v (w ∷ []) = refl
-    places_none bm v (w ∷ u ∷ ws) = refl
-
-    names_none : (v : List ℕ) (ws : List (List ℕ)) → name_set_by ((35 ∷ v) ∷ ws) ≡ None
-    unfolding word_behind
-    names_none v [] = refl
-    names_none v (w ∷ []) = refl
-    names_none v (w ∷ u ∷ ws) = refl
 
 -- ---- no answer, and no change
 

@@ -42,8 +42,8 @@ pub struct Asking<'a> {
 }
 
 impl<'a> Asking<'a> {
-    /// Creates the commands of a machine that retains up to `keep` steps. As many can be taken again, at most 65,536. No place has a
-    /// name. Fails with NoMemory.
+    /// Creates the commands of a machine that retains up to `keep` steps. As many can be taken again, at most 65,536. No place has
+    /// a name. Fails with NoMemory.
     pub fn new(
         alloc: Global,
         local: Local,

@@ -9,8 +9,8 @@ use session_grammar::by_word;
 use session_grammar::words::{Words, is_word};
 use session_text::LineAnswer;
 
-/// Returns what `help` answers about a keyword of a question, `collect`, `forward`, `at`, `name` or `help`, or None if it is none. Takes no
-/// memory.
+/// Returns what `help` answers about a keyword of a question, `collect`, `forward`, `at`, `name` or `help`, or None if it is none.
+/// Takes no memory.
 #[tactic(auto, unfolding(crate::specs::Help::form_text, crate::specs::Help::form_with, crate::specs::Help::question_forms))]
 pub fn question_help(word: &[u8]) -> Option<&'static [u8]>
     ensures { option_map (λ t. t.now) result ≡ form_with question_forms word.now }

@@ -100,8 +100,8 @@ pub fn comments_are_silent()
         → (text ≡ []) × (d ≡ c) }
 {}
 
-/// States that a question and a line that asks for help change nothing, and that no other line which the grammar of sessions doesn't
-/// know changes anything but bookmarks, except for `collect`, `rewind @P`, `forward`, `new M R NAME` and `open @WORD`.
+/// States that a question and a line that asks for help change nothing, and that no other line which the grammar of sessions
+/// doesn't know changes anything but bookmarks, except for `collect`, `rewind @P`, `forward`, `new M R NAME` and `open @WORD`.
 pub fn questions_change_nothing()
     ensures questions { (l text : List ℕ) (q : Question) (c d : Asking)
         → question_of c.bookmarks l ≡ Some q → AskingAnswers l c text d → d ≡ c }
@@ -170,8 +170,8 @@ pub fn forward_takes_back()
         → StopsBefore n m r e k s → e ≡ NoMemory }
 {}
 
-/// States that `help` knows the keyword of each line of the grammar of sessions, of each question, of `collect`, `forward`, `at` and
-/// `name`.
+/// States that `help` knows the keyword of each line of the grammar of sessions, of each question, of `collect`, `forward`, `at`
+/// and `name`.
 pub fn help_is_whole()
     ensures sessions { AllByRecursion (λ (r : Rule). HasForm r.0) all_rules }
     ensures questions { (b : Bookmarks)

@@ -12,7 +12,8 @@ use session_text::LineAnswer;
 use std::alloc::Global;
 
 /// Returns the answer of a line that the grammar of sessions doesn't know, and that asks for nothing to be done, and notes in the
-/// bookmarks what it sets: `at @P`, `at -` and `name WORD`. The answer is about a machine, which may have a chronicle of this length.
+/// bookmarks what it sets: `at @P`, `at -` and `name WORD`. The answer is about a machine, which may have a chronicle of this
+/// length.
 pub fn note_line(
     alloc: Global,
     machine: &Machine,

@@ -154,7 +154,7 @@ fn load<L: Heap, R: AllocGlobal + Clock + Eprint + Files + Wait>(
         (has_area request.entry.settings) L.config origin request.entry.settings.time seat) }
     ensures hindrance { IfErr result (IsHindrance origin) }
 {
-    let joined = Joined::new(shared, rt, seat, shared.witness(rt));
+    let joined = Joined::new(rt.alloc(), shared, rt, seat, shared.witness(rt));
     match run_first(rt, request, origin, is_terminal, AskingSeat::new(joined)) {
         Ok(asking) => Ok(asking.into_seat()),
         Err(fault) => Err(fault),

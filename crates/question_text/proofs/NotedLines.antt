@@ -4,15 +4,14 @@ use Rattle.std.specs.Prelude.{◌&&◌, Option, codes, drop, is_some, not, optio
 use Rattle.std.specs.Option.{option_or}
 use Rattle.std.specs.Str.{bytes_eq}
 use Rattle.std.proofs.lemmas.Slice.Eq.{bytes_eq-Decides}
-use Rattle.heap_class.specs.Classes.{Class}
 use Rattle.heap_trail.specs.Machine.{Machine}
 use Rattle.heap_trail.specs.declared.Action.TheVariants.{OpenPin}
 use Rattle.heap_world.specs.State.{HeapState}
 use Rattle.session_grammar.specs.declared.command.Command.TheVariants.{Ask, Bad}
-use Rattle.session_grammar.specs.Grammar.{access_rules, all_rules, at_end, by_rule, class_rules, command_of_text, command_of_words, making_rules, marking_rules, number_of_word, place_or_dash, session_rules, words_of_line}
+use Rattle.session_grammar.specs.Grammar.{access_rules, at_end, by_rule, class_rules, command_of_words, making_rules, marking_rules, number_of_word, place_or_dash, session_rules, words_of_line}
 use Rattle.question_grammar.specs.Bookmarks.{Bookmarks, place_named}
-use Rattle.question_grammar.specs.NamedLines.{named_question_of_words, named_rules, question_in}
-use Rattle.question_grammar.specs.NoteLines.{name_of_word, name_set, place_by_name, place_opened, place_opened_by, place_set, word_behind}
+use Rattle.question_grammar.specs.NamedLines.{named_question_of_words, named_rules}
+use Rattle.question_grammar.specs.NoteLines.{name_of_word, name_set, place_by_name, place_opened, place_set, word_behind}
 use Rattle.question_grammar.specs.Orders.{order_in, order_of_two, order_of_words}
 use Rattle.question_grammar.specs.Questions.{past_rules, place_of_word, question_of, question_of_words, question_rules}
 use Rattle.question_grammar.specs.declared.order.Order.{Order}

@@ -187,7 +187,7 @@ class AskingDraw(Draw):
 
     def ask(self):
         """Asks a question, or for help."""
-        word = self.lots.pick([*QUESTIONS, b"show", b"watch", b"writes", b"help", b"name", b"name", b"at"])
+        word = self.lots.pick([*QUESTIONS, b"show", b"watch", b"writes", b"help", b"name", b"name", b"at", b"dominators"])
         if self.machine.undone and self.lots.once_in(2):
             word = b"forward"
         draws = {"a": self.moment, "i": self.identifier, "c": self.asked_class, "s": self.asked_slot, "v": self.held_word}

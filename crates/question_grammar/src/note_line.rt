@@ -1,5 +1,5 @@
 //! Lines that a session notes, which ask nothing of its heap; and the line `open @WORD`.
-ghost use Rattle.std.specs.Prelude.{◌≡◌, codes, option_map};
+ghost use Rattle.std.specs.Prelude.{◌≡◌, option_map};
 ghost use Rattle.session_grammar.specs.Grammar.{words_of_line};
 ghost use Rattle.question_grammar.specs.NoteLines.{name_of_word, name_set, place_by_name, place_opened, place_set, word_behind};
 

@@ -1,5 +1,5 @@
 -- A comment is no line of the grammar of sessions, no question and no line that asks for help.
-use Rattle.std.proofs.Common.{◌≡◌, ◌∙◌, ap, ap₂, ℕ, Bool, true, false, cond, List, [], ◌∷◌, Some, None, refl, sym, subst}
+use Rattle.std.proofs.Common.{◌≡◌, ◌∙◌, ap, ap₂, ℕ, Bool, true, false, cond, List, [], ◌∷◌, None, refl, sym, subst}
 use Rattle.std.specs.Prelude.{Option, codes, slice_index, take}
 use Rattle.std.specs.Option.{option_or}
 use Rattle.std.specs.Str.{bytes_eq}

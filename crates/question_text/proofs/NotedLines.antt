@@ -1,18 +1,17 @@
 -- Lines that a session notes, and `open @WORD`, are no others; and no other line changes anything.
 use Rattle.std.proofs.Common.{◌≡◌, ◌∙◌, ap, ap₂, ℕ, Bool, true, false, cond, List, [], ◌∷◌, Some, None, refl, sym, subst}
-use Rattle.std.specs.Prelude.{◌&&◌, Option, codes, drop, is_some, not, option_and_then, option_map, slice_index, take}
+use Rattle.std.specs.Prelude.{◌&&◌, Option, codes, drop, is_some, not, option_and_then, option_map, slice_index, take, unwrap_or}
 use Rattle.std.specs.Option.{option_or}
 use Rattle.std.specs.Str.{bytes_eq}
 use Rattle.std.proofs.lemmas.Slice.Eq.{bytes_eq-Decides}
-use Rattle.heap_class.specs.Classes.{Class}
 use Rattle.heap_trail.specs.Machine.{Machine}
 use Rattle.heap_trail.specs.declared.Action.TheVariants.{OpenPin}
 use Rattle.heap_world.specs.State.{HeapState}
 use Rattle.session_grammar.specs.declared.command.Command.TheVariants.{Ask, Bad}
-use Rattle.session_grammar.specs.Grammar.{access_rules, all_rules, at_end, by_rule, class_rules, command_of_text, command_of_words, making_rules, marking_rules, number_of_word, place_or_dash, session_rules, words_of_line}
+use Rattle.session_grammar.specs.Grammar.{access_rules, at_end, by_rule, class_rules, command_of_words, making_rules, marking_rules, number_of_word, place_or_dash, session_rules, words_of_line}
 use Rattle.question_grammar.specs.Bookmarks.{Bookmarks, place_named}
-use Rattle.question_grammar.specs.NamedLines.{named_question_of_words, named_rules, question_in}
-use Rattle.question_grammar.specs.NoteLines.{name_of_word, name_set, place_by_name, place_opened, place_opened_by, place_set, word_behind}
+use Rattle.question_grammar.specs.NamedLines.{named_question_of_words, named_rules}
+use Rattle.question_grammar.specs.NoteLines.{name_of_word, name_set, place_by_name, place_opened, place_set, word_behind}
 use Rattle.question_grammar.specs.Orders.{order_in, order_of_two, order_of_words}
 use Rattle.question_grammar.specs.Questions.{past_rules, place_of_word, question_of, question_of_words, question_rules}
 use Rattle.question_grammar.specs.declared.order.Order.{Order}
@@ -108,7 +107,8 @@ no_place (c ∷ v) is none = subst (λ (x : ℕ). place_or_dash (x ∷ v) ≡ No
 
 no_open : (v : List ℕ) → place_or_dash v ≡ None → command_of_words (codes "open" ∷ v ∷ []) ≡ Bad
 unfolding by_rule class_rules making_rules access_rules marking_rules session_rules
-no_open v e = let none = e in rw none refl
+no_open v e =
+    ap (λ (o : Option (Option ℕ)). unwrap_or (option_map (λ at. Ask (OpenPin at)) (option_and_then (λ (a : Option ℕ × List (List ℕ)). at_end a.0 a.1) (option_map (λ at. (at, [])) o))) Bad) e
 
 open_words : (bm : Bookmarks) (state : HeapState) (v : List ℕ) → place_or_dash v ≡ None → AreAlone bm state (codes "open" ∷ v ∷ [])
 unfolding order_of_words order_of_two question_of_words question_rules past_rules named_question_of_words named_rules

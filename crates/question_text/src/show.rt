@@ -13,9 +13,9 @@ use crate::place::place_of_object;
 use crate::question::{At, SlotRange};
 use crate::rows::{Unanswered, push_number, push_row, push_words};
 use heap_class::{ClassNo, FirstClasses, Kind, ObjKind, Refusal};
-use heap_questions::{ShownObject, object_with};
+use heap_questions::object_with;
 use heap_trail::Machine;
-use hprof_text::View;
+use hprof_text::{ShownObject, View};
 use std::alloc::{AllocError, Global};
 
 // Returns the name of an own field of a class. The class must have the field.

@@ -66,8 +66,13 @@ impl Segment {
         let mut here = from;
         while let Some(at) = here {
             let object = view.object(at);
-            let taken =
-                self.offer_object(ids, &classes, object.id(), object.kind(), object.words())?;
+            let taken = self.offer_object(
+                ids,
+                &classes,
+                object.id(),
+                object.kind(),
+                object.words(),
+            )?;
             if !taken {
                 return Ok(Some(Cursor::Object(at)));
             }

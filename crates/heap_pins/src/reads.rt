@@ -54,7 +54,11 @@ impl Pin {
                 });
             }
         }
-        self.next_from(world, at)
+        // A call that is given the place of the result would keep it out of registers.
+        match self.next_from(world, at) {
+            Some(next) => Some(next),
+            None => None,
+        }
     }
 
     // Tells whether nothing is kept of a region and a cell of it has a live object. The pin shows that object then, be it that a
@@ -207,7 +211,7 @@ impl Pin {
 }
 
 // Returns the object at this place in a copy of its region, which must have one.
-#[inline(never)]
+#[inline(always)]
 fn object_in(copy: &FrozenRegion, at: ObjRef) -> ShownObject<'_>
     requires { IsSome (frozen_object copy.now at.cell) }
     ensures { IfSome (cell_dumped at copy.now) (λ o. result ≡ o) }

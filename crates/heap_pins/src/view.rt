@@ -64,6 +64,7 @@ impl<'a> View for PinView<'a> {
         pin.first(self.world)
     }
 
+    #[inline(always)]
     fn next(&self, at: ObjRef) -> Option<ObjRef> {
         let pin: &Pin = self.pin;
         pin.next(self.world, at)

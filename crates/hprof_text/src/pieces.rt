@@ -65,8 +65,14 @@ impl Segment {
         let mut passed = 0u64;
         let mut here = from;
         while let Some(at) = here {
-            let (id, kind, words) = (view.id(at), view.kind(at), view.words(at));
-            let taken = self.offer_object(ids, &classes, id, kind, words)?;
+            let object = view.object(at);
+            let taken = self.offer_object(
+                ids,
+                &classes,
+                object.id(),
+                object.kind(),
+                object.words(),
+            )?;
             if !taken {
                 return Ok(Some(Cursor::Object(at)));
             }

@@ -107,7 +107,7 @@ fn add_if_kept(
 }
 
 /// Adds the values of static fields. Fails if an allocation fails.
-pub(crate) fn add_statics(
+pub fn add_statics(
     slots: &mut Vec<SlotValue>,
     fields: &[StaticField<'_>],
 ) -> Result<(), AllocError>

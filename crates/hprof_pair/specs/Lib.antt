@@ -1,0 +1,9 @@
+pub mod Shapes
+pub mod Dumps
+pub mod Ways
+pub mod JoinedClasses
+pub mod Pairs
+pub mod Changes
+pub mod Events
+pub mod Sessions
+pub mod Conversions

@@ -168,11 +168,7 @@ fn push_slots(
 
 // Appends the lines that write a slot of the object of register 5.
 #[tactic(auto, unfolding(crate::specs::Changes::slot_events))]
-fn push_slot(
-    lines: &mut Lines,
-    pair: &Pair<'_, '_, '_>,
-    value: SlotValue,
-) -> Result<(), AllocError>
+fn push_slot(lines: &mut Lines, pair: &Pair<'_, '_, '_>, value: SlotValue) -> Result<(), AllocError>
     ensures { OnOk result (lines.new
         ≡ lines.old ++ lines_of (slot_events (pair_told pair.now) value)) }
 {

@@ -11,9 +11,7 @@ use crate::ways::{Ways, find_ways};
 use dump_pump::Outlet;
 use heap_class::{IdSize, WIDEST_CLASSES};
 use hprof_convert::{Converted, elements_with, left_out_of};
-use hprof_lines::{
-    Objects, ROOT_TAGS, count_left_out, made_objects, static_ids, write_session,
-};
+use hprof_lines::{Objects, ROOT_TAGS, count_left_out, made_objects, static_ids, write_session};
 use hprof_plan::{Found, Plan, find, plan_classes};
 use hprof_reader::{SubRecord, header_at};
 use hprof_session::Walk;
@@ -155,7 +153,14 @@ fn convert_walks<O: Outlet>(
         found: &found,
     };
     let roots = first.found.roots.as_slice();
-    if !write_session(alloc, outlet, before, &first.plan, &first.found.objects, roots)? {
+    if !write_session(
+        alloc,
+        outlet,
+        before,
+        &first.plan,
+        &first.found.objects,
+        roots,
+    )? {
         return Err(PairFailure::Write);
     }
     let (text, roots) = (joined.text.as_slice(), second.found.roots.as_slice());

@@ -40,7 +40,11 @@ pub(crate) fn write_shelves<O: Outlet>(
         (lines_of (shelves_events (pair_told pair.now))) result }
 {
     let mut lines = Lines::new(alloc);
-    let count = pair.first.count().saturating_add(pair.second.count()).min(PLACES);
+    let count = pair
+        .first
+        .count()
+        .saturating_add(pair.second.count())
+        .min(PLACES);
     for n in 0..count {
         push_place(&mut lines, pair.first.all.plan.roots, n)?;
         if !put_some(outlet, &mut lines) {

@@ -82,7 +82,11 @@ impl Pair<'_, '_, '_> {
         ensures { result ≡ stayed (pair_told self.now) n }
     {
         match self.like_number(n) {
-            Some(m) => if self.is_like(shape, m) { Some(m) } else { None },
+            Some(m) => if self.is_like(shape, m) {
+                Some(m)
+            } else {
+                None
+            },
             None => None,
         }
     }

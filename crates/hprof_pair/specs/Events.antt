@@ -19,10 +19,13 @@ unfoldable pub events_from : (ℕ → List Event) → ℕ → ℕ → List Event
 events_from events n zero = []
 events_from events n (suc count) = events n ++ events_from events (n + 1) count
 
--- the arrays that keep objects, for as many as both dumps have: their class is `roots`
+-- for how many objects there are arrays that keep them: for those of both dumps, as many as have a place
+abbrev pub shelved_count : PairTold → ℕ
+shelved_count p = min (count_of p.first + count_of p.second) (2 ^ 22)
+
+-- the arrays that keep objects: their class is `roots`
 abbrev pub shelves_events : PairTold → List Event
-shelves_events p =
-    events_from (place_events p.first.all.plan.roots) 0 (min (count_of p.first + count_of p.second) (2 ^ 22))
+shelves_events p = events_from (place_events p.first.all.plan.roots) 0 (shelved_count p)
 
 -- an object of this class and size is made and kept by this number, if it is none of the first dump
 abbrev pub new_events : PairTold → ℕ → Shape → List Event

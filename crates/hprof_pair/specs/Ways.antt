@@ -1,6 +1,6 @@
 -- How the objects of the first dump are found again in its heap, from the array of its roots on.
-use Rattle.std.specs.Prelude.{◌≡◌, ◌⊎◌, ℕ, ◌+◌, ◌/◌, ◌%◌, ◌<◌, nat_eq, true, List, [], ◌∷◌, ◌++◌, length, map, slice_get, Option, Some, None, option_map, if◌then◌else◌}
-use Rattle.std.specs.List.{Contains, IsDistinct, filter_map, list_any}
+use Rattle.std.specs.Prelude.{◌≡◌, ◌⊎◌, ⊤, ℕ, ◌+◌, ◌/◌, ◌%◌, nat_eq, true, List, [], ◌∷◌, ◌++◌, flat_map, fold, length, map, Option, Some, None, if◌then◌else◌}
+use Rattle.std.specs.List.{AllByRecursion, Contains, IsDistinct, list_any}
 use Rattle.heap_step.specs.declared.Event.{Event}
 use Rattle.heap_step.specs.declared.Event.TheVariants.{Load}
 use Rattle.hprof_session.specs.Places.{array_slot, fetch_events, keep_event, top_of}
@@ -28,35 +28,51 @@ root_ways o roots first (tag ∷ tags) =
     let numbers = with_room first (roots_named o tag roots) in
     kind_ways first 0 numbers ++ root_ways o roots (first + arrays_for (length numbers)) tags
 
+-- the way by this slot of object n to an object, if one is named
+abbrev pub way_to : ℕ → ℕ → Option ℕ → List Way
+way_to n slot (Some k) = record { number = k; hold = Slot n slot } ∷ []
+way_to n slot None = []
+
 -- the way by a slot of object n to the object that it names, if that is made
-abbrev pub slot_way : ObjectsTold → ℕ → SlotValue → Option Way
-slot_way o n v =
-    if names_object v then option_map (λ k. record { number = k; hold = Slot n v.slot }) (number_of o v.value) else None
+unfoldable pub slot_ways : ObjectsTold → ℕ → SlotValue → List Way
+slot_ways o n v = if names_object v then way_to n v.slot (number_of o v.value) else []
 
 -- the ways by all slots of object n
 abbrev pub ways_out : DumpTold → ℕ → List Way
-ways_out d n = filter_map (slot_way d.all n) (values_of d n)
+ways_out d n = flat_map (slot_ways d.all n) (values_of d n)
 
 -- the numbers of the objects that ways lead to
 abbrev pub numbers_of : List Way → List ℕ
 numbers_of ways = map (λ (w : Way). w.number) ways
 
--- whether one of the ways leads to an object
+-- the ways, and this one, if none of them leads where it leads
+abbrev pub with_way : List Way → Way → List Way
+with_way ways w = if list_any (nat_eq w.number) (numbers_of ways) then ways else ways ++ w ∷ []
+
+-- the same with these, one after another
+unfoldable pub with_ways : List Way → List Way → List Way
+with_ways ways more = fold with_way ways more
+
+-- one of the ways leads where this one leads
 abbrev pub IsReached : List Way → Way → Type 0
 IsReached ways w = list_any (nat_eq w.number) (numbers_of ways) ≡ true
 
--- the way at place k is by a root, or by a slot of an object to which a way before it leads
-abbrev pub IsWay : DumpTold → List Way → List Way → ℕ → Way → Type 0
-IsWay d roots ways k w =
-    Contains roots w
-    ⊎ ((j : ℕ) × (v : Way) × (j < k) × (slice_get ways j ≡ Some v) × Contains (ways_out d v.number) w)
+-- a way is one to a root, or one by a slot of an object to which one of the ways before leads
+abbrev pub IsWay : DumpTold → List Way → List Way → Way → Type 0
+IsWay d roots before w =
+    Contains roots w ⊎ ((v : Way) × Contains before v × Contains (ways_out d v.number) w)
 
--- these ways lead to each object that the roots reach, one to each, and each begins where one before it ended
+-- so is each of these ways, after those before
+abbrev pub AreInTurn : DumpTold → List Way → List Way → List Way → Type 0
+AreInTurn d roots before [] = ⊤
+AreInTurn d roots before (w ∷ ways) = IsWay d roots before w × AreInTurn d roots (before ++ w ∷ []) ways
+
+-- these ways lead to each object that the roots reach, one to each, and each begins at a root or where one before it ended
 pub record AreWays (d : DumpTold) (roots : List Way) (ways : List Way) : Type 0 where
   pub once : IsDistinct nat_eq (numbers_of ways)
-  pub each : (k : ℕ) (w : Way) → slice_get ways k ≡ Some w → IsWay d roots ways k w
-  pub roots_are : (w : Way) → Contains roots w → IsReached ways w
-  pub others : (v w : Way) → Contains ways v → Contains (ways_out d v.number) w → IsReached ways w
+  pub in_turn : AreInTurn d roots [] ways
+  pub to_roots : AllByRecursion (IsReached ways) roots
+  pub onwards : AllByRecursion (λ (v : Way). AllByRecursion (IsReached ways) (ways_out d v.number)) ways
 
 -- ---- events
 

@@ -93,9 +93,23 @@ fn put_changed(
 {
     changed.clear();
     for (i, value) in values.iter().enumerate() {
-        if differs(pair, value_before(before, i, *value), *value) {
-            changed.push(*value)?;
-        }
+        add_changed(changed, pair, value_before(before, i, *value), *value)?;
+    }
+    Ok(())
+}
+
+// Adds a value, if its slot held another.
+fn add_changed(
+    values: &mut Vec<SlotValue>,
+    pair: &Pair<'_, '_, '_>,
+    old: SlotValue,
+    value: SlotValue,
+) -> Result<(), AllocError>
+    ensures { OnOk result
+        (values.new.items ≡ values.old.items ++ changed (pair_told pair.now) old value) }
+{
+    if differs(pair, old, value) {
+        values.push(value)?;
     }
     Ok(())
 }
@@ -160,6 +174,18 @@ fn push_slots(
         return Ok(());
     }
     push_fetch(lines, k, MADE)?;
+    push_each(lines, pair, values)
+}
+
+// Appends the lines that write these slots of the object of register 5.
+fn push_each(
+    lines: &mut Lines,
+    pair: &Pair<'_, '_, '_>,
+    values: &[SlotValue],
+) -> Result<(), AllocError>
+    ensures { OnOk result (lines.new
+        ≡ lines.old ++ lines_of (flat_map (slot_events (pair_told pair.now)) values.now)) }
+{
     for value in values {
         push_slot(lines, pair, *value)?;
     }

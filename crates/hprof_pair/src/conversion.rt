@@ -3,7 +3,7 @@ ghost use Rattle.hprof_session.specs.Walks.{left};
 ghost use Rattle.hprof_pair.specs.Conversions.{ArePairConverted, IsPairPut};
 
 use crate::dump::{Dump, collect_subs};
-use crate::joined_classes::{Joined, join_classes};
+use crate::joined_classes::{JoinedClasses, join_classes};
 use crate::left_out::{Lost, count_lost};
 use crate::pair::Pair;
 use crate::session::write_second;
@@ -179,7 +179,7 @@ fn join_known(
     elements: u64,
     first: &Known<'_>,
     second: &Known<'_>,
-) -> Result<Joined, AllocError> {
+) -> Result<JoinedClasses, AllocError> {
     let plan = plan_classes(alloc, WIDEST_CLASSES, elements, &first.found)?;
     let Plan {
         classes,

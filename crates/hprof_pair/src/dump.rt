@@ -52,7 +52,7 @@ fn collect_sub<'a>(
     item: Item<'a>,
 ) -> Result<(), AllocError>
     ensures { OnOk result (map sub_record subs.new.items ≡ map sub_record subs.old.items
-        ++ sub_in objects.now.keys (length subs.old.items) (item_told item)) }
+        ++ sub_in objects.now.keys (length (map sub_record subs.old.items)) (item_told item.entry)) }
 {
     if let Item::Sub(sub) = item {
         if is_turn(objects, subs.len(), &sub) {

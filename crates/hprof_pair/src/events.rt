@@ -1,11 +1,13 @@
 //! The lines by which objects are kept, found again and made.
 ghost use Rattle.std.specs.Prelude.{◌≡◌, ◌≤◌, ◌<◌, ◌^◌, ◌++◌, flat_map, length, OnOk};
 ghost use Rattle.indexmap.specs.IndexMap.{index_map_len};
+ghost use Rattle.heap_step.specs.declared.Event.TheVariants.{Load};
+ghost use Rattle.session_lines.specs.EventLines.{line_of};
 ghost use Rattle.hprof_session.specs.Places.{lines_of};
 ghost use Rattle.hprof_lines.specs.Outputs.{Writes};
 ghost use Rattle.hprof_pair.specs.Changes.{change_events};
 ghost use Rattle.hprof_pair.specs.Dumps.{count_of, dump_told};
-ghost use Rattle.hprof_pair.specs.Events.{events_from, made_events, new_events, shelves_events};
+ghost use Rattle.hprof_pair.specs.Events.{events_from, made_events, new_events, shelved_count, shelves_events};
 ghost use Rattle.hprof_pair.specs.Pairs.{pair_told};
 ghost use Rattle.hprof_pair.specs.Ways.{hold_events, shelve_events, way_events};
 
@@ -40,11 +42,7 @@ pub(crate) fn write_shelves<O: Outlet>(
         (lines_of (shelves_events (pair_told pair.now))) result }
 {
     let mut lines = Lines::new(alloc);
-    let count = pair
-        .first
-        .count()
-        .saturating_add(pair.second.count())
-        .min(PLACES);
+    let count = shelved_count(pair);
     for n in 0..count {
         push_place(&mut lines, pair.first.all.plan.roots, n)?;
         if !put_some(outlet, &mut lines) {
@@ -52,6 +50,14 @@ pub(crate) fn write_shelves<O: Outlet>(
         }
     }
     Ok(put_lines(outlet, &mut lines))
+}
+
+// Returns for how many objects there are arrays that keep them.
+fn shelved_count(pair: &Pair<'_, '_, '_>) -> u64
+    ensures { result ≡ shelved_count (pair_told pair.now) }
+{
+    let both = pair.first.count().saturating_add(pair.second.count());
+    both.min(PLACES)
 }
 
 /// Puts out the lines by which the objects of the first dump are found again. Tells whether they are all out. Fails if an
@@ -100,7 +106,9 @@ fn push_hold(lines: &mut Lines, hold: Hold) -> Result<(), AllocError>
 }
 
 // Appends the line that loads a slot of the object of one register to another.
-fn push_load(lines: &mut Lines, to: u64, from: u64, slot: u64) -> Result<(), AllocError> {
+fn push_load(lines: &mut Lines, to: u64, from: u64, slot: u64) -> Result<(), AllocError>
+    ensures { OnOk result (lines.new ≡ lines.old ++ line_of (Load 0 to from slot)) }
+{
     lines.push(&Event::Load {
         m: 0,
         to,
@@ -129,7 +137,8 @@ pub(crate) fn write_made<O: Outlet>(
         (count_of (dump_told pair.now.second)))) result }
 {
     let mut lines = Lines::new(alloc);
-    for n in 0..pair.second.count() {
+    let count = pair.second.count();
+    for n in 0..count {
         push_made(&mut lines, pair, n)?;
         if !put_some(outlet, &mut lines) {
             return Ok(false);
@@ -187,7 +196,8 @@ pub(crate) fn write_changes<O: Outlet>(
 {
     let mut lines = Lines::new(alloc);
     let mut changes = Changes::new(alloc);
-    for n in 0..pair.second.count() {
+    let count = pair.second.count();
+    for n in 0..count {
         push_changes(&mut lines, &mut changes, pair, n)?;
         if !put_some(outlet, &mut lines) {
             return Ok(false);

@@ -1,8 +1,11 @@
 //! The classes of a second dump in a heap that has those of a first.
-ghost use Rattle.std.specs.Prelude.{◌≡◌, ◌≤◌, ◌<◌, ◌++◌, [], drop, length, map, take, IfOk, OnOk};
+ghost use Rattle.std.specs.Prelude.{◌≡◌, ◌≤◌, ◌<◌, List, length, map, slice_get, take, Some, IfOk, OnOk};
+ghost use Rattle.std.specs.List.{list_any};
+ghost use Rattle.std.specs.Str.{bytes_eq};
+ghost use Rattle.heap_class.specs.Classes.{Class, fields_of};
 ghost use Rattle.heap_class.specs.Limits.{AreClassLimits};
-ghost use Rattle.hprof_plan.specs.Accepted.{class_lines};
-ghost use Rattle.hprof_pair.specs.JoinedClasses.{joined};
+ghost use Rattle.hprof_pair.specs.JoinedClasses.{Joined, and_class, and_defined, class_line, joined, over, renamed};
+ghost use Rattle.hprof_pair.specs.JoinedSoFar.{AreJoined, IsDefinedAs};
 
 use crate::shapes::class_in;
 use heap_class::{ClassLimits, ClassNo, Classes, Field, Fields, Name, NewClass, Refusal};
@@ -14,11 +17,11 @@ use std::alloc::{AllocError, Global};
 
 /// The classes of a heap that has those of two dumps.
 #[derive(Drop)]
-pub(crate) struct Joined {
-    // The classes of the heap.
-    classes: Classes,
-    // The lines that define them, by their numbers.
-    known: IndexSet<Name>,
+pub(crate) struct JoinedClasses {
+    /// The classes of the heap.
+    pub(crate) classes: Classes,
+    /// The lines that define them, by their numbers.
+    pub(crate) known: IndexSet<Name>,
     /// The lines that define those that aren't of the first dump.
     pub(crate) text: Vec<u8>,
     /// The number in the heap of each class of the second dump, if it has one.
@@ -33,49 +36,50 @@ pub(crate) fn join_classes(
     first: Classes,
     second: &Classes,
     count: u64,
-) -> Result<Joined, AllocError>
+) -> Result<JoinedClasses, AllocError>
     requires limits { AreClassLimits limits }
     requires long { 22 ≤ limits.name_bytes }
     requires count { count ≤ length second.now }
-    ensures numbers { IfOk result (λ j. j.numbers.items
-        ≡ (joined limits first.entry (take count second.now)).numbers) }
-    ensures text { IfOk result (λ j. j.text.items ≡ class_lines (drop (length first.entry)
-        (joined limits first.entry (take count second.now)).classes)) }
+    ensures { IfOk result (λ j. AreJoined first.entry j
+        (joined limits first.entry (take count second.now))) }
 {
-    let mut joined = Joined {
-        known: lines_of(alloc, &first)?,
+    let known = lines_of(alloc, &first)?;
+    let mut joined = JoinedClasses {
         classes: first,
+        known,
         text: Vec::new(alloc),
         numbers: Vec::new(alloc),
     };
     for k in 0..count {
-        let number = join_class(alloc, limits, &mut joined, second, k)?;
-        joined.numbers.push(number)?;
+        join_class(alloc, limits, &mut joined, second, k)?;
     }
     Ok(joined)
 }
 
 // Returns the lines that define classes.
-fn lines_of(alloc: Global, classes: &Classes) -> Result<IndexSet<Name>, AllocError> {
+fn lines_of(alloc: Global, classes: &Classes) -> Result<IndexSet<Name>, AllocError>
+    ensures { IfOk result (λ lines. lines.keys ≡ map class_line classes.now) }
+{
     let mut lines = IndexSet::new(alloc);
     for k in 0..classes.len() {
-        let name = Name::new(alloc, classes.name(k))?;
-        let line = class_line(alloc, classes, k, name, classes.sup(k))?;
+        let line = line_over(alloc, classes, k, classes.sup(k))?;
         lines.insert(line)?;
     }
     Ok(lines)
 }
 
-// Returns the line that defines class k, with this name and super.
-fn class_line(
+// Returns the line that defines class k with this super.
+fn line_over(
     alloc: Global,
     classes: &Classes,
     k: ClassNo,
-    name: Name,
     sup: Option<ClassNo>,
 ) -> Result<Name, AllocError>
     requires { k < length classes.now }
+    ensures { IfOk result (λ line. (c : Class) → slice_get classes.now k ≡ Some c
+        → line ≡ class_line (over c sup)) }
 {
+    let name = Name::new(alloc, classes.name(k))?;
     let event = if classes.is_array(k) {
         Event::ArrayClass { name }
     } else {
@@ -90,6 +94,7 @@ fn class_line(
 // Returns the own fields of class k.
 fn fields_of(alloc: Global, classes: &Classes, k: ClassNo) -> Result<Fields, AllocError>
     requires { k < length classes.now }
+    ensures { IfOk result (λ fields. fields ≡ fields_of classes.now k) }
 {
     let mut fields = Vec::new(alloc);
     for i in 0..classes.field_count(k) {
@@ -101,42 +106,54 @@ fn fields_of(alloc: Global, classes: &Classes, k: ClassNo) -> Result<Fields, All
     Ok(Fields::from_vec(fields))
 }
 
-// Returns the number in the heap of class k of the second dump, if it has one there: that of the class that the same line defines.
-// If there is none, defines the class, if the heap takes it.
+// Looks at class k of the second dump: it has the number of the class that the same line defines, or is defined, if the heap takes it.
 fn join_class(
     alloc: Global,
     limits: ClassLimits,
-    joined: &mut Joined,
+    joined: &mut JoinedClasses,
     second: &Classes,
     k: ClassNo,
-) -> Result<Option<ClassNo>, AllocError>
-    requires { k < length second.now }
+) -> Result<(), AllocError>
+    requires limits { AreClassLimits limits }
+    requires number { k < length second.now }
+    ensures { (first : List Class) (s : Joined) (c : Class) → AreJoined first joined.old s
+        → slice_get second.now k ≡ Some c
+        → OnOk result (AreJoined first joined.new (and_class limits s c)) }
 {
     let sup = match second.sup(k) {
         Some(above) => match class_in(&joined.numbers, above) {
             Some(number) => Some(number),
-            None => return Ok(None),
+            None => {
+                joined.numbers.push(None)?;
+                return Ok(());
+            }
         },
         None => None,
     };
-    let name = Name::new(alloc, second.name(k))?;
-    let line = class_line(alloc, second, k, name, sup)?;
-    if let Some(number) = joined.known.get_index_of(&line) {
-        return Ok(Some(number as u64));
-    }
-    define_class(alloc, limits, joined, second, k, sup)
+    let line = line_over(alloc, second, k, sup)?;
+    let number = match joined.known.get_index_of(&line) {
+        Some(number) => Some(number as u64),
+        None => define_class(alloc, limits, joined, second, k, sup)?,
+    };
+    joined.numbers.push(number)?;
+    Ok(())
 }
 
 // Defines class k of the second dump with this super, by its name or another in its place, if the heap takes it. Returns its number.
 fn define_class(
     alloc: Global,
     limits: ClassLimits,
-    joined: &mut Joined,
+    joined: &mut JoinedClasses,
     second: &Classes,
     k: ClassNo,
     sup: Option<ClassNo>,
 ) -> Result<Option<ClassNo>, AllocError>
-    requires { k < length second.now }
+    requires limits { AreClassLimits limits }
+    requires number { k < length second.now }
+    ensures { (first : List Class) (s : Joined) (c : Class) → AreJoined first joined.old s
+        → slice_get second.now k ≡ Some c
+        → IfOk result (λ o. IsDefinedAs first joined.old.numbers.items o joined.new
+        (and_defined limits s (renamed limits s.classes (over c sup)))) }
 {
     let number = joined.classes.len();
     let is_given = has_name(&joined.classes, second.name(k));
@@ -145,18 +162,14 @@ fn define_class(
         joined.classes.define_array(limits, &name)
     } else {
         let fields = fields_of(alloc, second, k)?;
-        joined.classes.define(
-            limits,
-            NewClass {
-                name: &name,
-                sup,
-                fields: &fields,
-            },
-        )
+        let (name, fields) = (&name, &fields);
+        joined
+            .classes
+            .define(limits, NewClass { name, sup, fields })
     };
     match defined {
         Ok(number) => {
-            let line = class_line(alloc, second, k, name, sup)?;
+            let line = line_over(alloc, &joined.classes, number, sup)?;
             joined.text.extend_from_slice(line.as_bytes())?;
             joined.known.insert(line)?;
             Ok(Some(number))
@@ -167,7 +180,9 @@ fn define_class(
 }
 
 // Tells whether a class has the name.
-fn has_name(classes: &Classes, name: &[u8]) -> bool {
+fn has_name(classes: &Classes, name: &[u8]) -> bool
+    ensures { result ≡ list_any (λ c. bytes_eq c.name name.now) classes.now }
+{
     for k in 0..classes.len() {
         if classes.name(k) == name {
             return true;

@@ -1,12 +1,10 @@
 //! How the objects of the first dump are found again in its heap, from the array of its roots on.
-ghost use Rattle.std.specs.Prelude.{◌≡◌, ◌≤◌, ◌<◌, ◌+◌, ◌^◌, ◌++◌, length, option_map, option_and_then, IfOk, OnOk};
-ghost use Rattle.std.specs.List.{filter_map};
-ghost use Rattle.std.specs.Option.{option_to_list};
+ghost use Rattle.std.specs.Prelude.{◌≡◌, ◌≤◌, ◌<◌, ◌+◌, ◌^◌, ◌++◌, [], flat_map, length, IfOk, OnOk};
 ghost use Rattle.indexmap.specs.IndexMap.{index_map_len};
 ghost use Rattle.hprof_lines.specs.Objects.{objects_told};
 ghost use Rattle.hprof_lines.specs.Roots.{arrays_for, roots_named, with_room};
 ghost use Rattle.hprof_pair.specs.Dumps.{dump_told};
-ghost use Rattle.hprof_pair.specs.Ways.{AreWays, kind_ways, numbers_of, root_ways, slot_way, ways_out};
+ghost use Rattle.hprof_pair.specs.Ways.{AreWays, kind_ways, numbers_of, root_ways, slot_ways, with_way, with_ways};
 
 use crate::dump::Dump;
 use hprof_lines::{Objects, SlotValue, names_object, number_of, roots_named};
@@ -69,7 +67,10 @@ pub(crate) fn find_ways(
 }
 
 // Returns no ways.
-fn none_found(alloc: Global) -> Ways {
+fn none_found(alloc: Global) -> Ways
+    ensures ways { result.ways.items ≡ [] }
+    ensures found { result.found.keys ≡ [] }
+{
     Ways {
         found: IndexSet::new(alloc),
         ways: Vec::new(alloc),
@@ -77,12 +78,28 @@ fn none_found(alloc: Global) -> Ways {
 }
 
 // Adds those of these ways that lead to an object to which none leads.
-fn add_ways(ways: &mut Ways, more: &[Way]) -> Result<(), AllocError> {
+fn add_ways(ways: &mut Ways, more: &[Way]) -> Result<(), AllocError>
+    requires { ways.old.found.keys ≡ numbers_of ways.old.ways.items }
+    ensures ways { OnOk result (ways.new.ways.items ≡ with_ways ways.old.ways.items more.now) }
+    ensures found { OnOk result (ways.new.found.keys ≡ numbers_of ways.new.ways.items) }
+{
     for way in more {
-        if ways.found.insert(way.number)? {
-            ways.ways.push(*way)?;
-        }
+        add_way(ways, *way)?;
     }
+    Ok(())
+}
+
+// Adds a way, if none leads where it leads.
+fn add_way(ways: &mut Ways, way: Way) -> Result<(), AllocError>
+    requires { ways.old.found.keys ≡ numbers_of ways.old.ways.items }
+    ensures ways { OnOk result (ways.new.ways.items ≡ with_way ways.old.ways.items way) }
+    ensures found { OnOk result (ways.new.found.keys ≡ numbers_of ways.new.ways.items) }
+{
+    if ways.found.contains(&way.number) {
+        return Ok(());
+    }
+    ways.found.insert(way.number)?;
+    ways.ways.push(way)?;
     Ok(())
 }
 
@@ -93,30 +110,37 @@ fn put_ways_out(
     n: u64,
     values: &[SlotValue],
 ) -> Result<(), AllocError>
-    ensures { OnOk result (ways.new.items ≡ filter_map (slot_way (objects_told all.now) n) values.now) }
+    ensures { OnOk result
+        (ways.new.items ≡ flat_map (slot_ways (objects_told all.now) n) values.now) }
 {
     ways.clear();
     for value in values {
-        if let Some(way) = slot_way(all, n, *value) {
-            ways.push(way)?;
-        }
+        add_slot_way(ways, all, n, *value)?;
     }
     Ok(())
 }
 
-// Returns the way by a slot of object n to the object that it names, if that is made.
-fn slot_way(all: &Objects<'_, '_>, n: u64, value: SlotValue) -> Option<Way>
-    ensures { result ≡ slot_way (objects_told all.now) n value }
+// Adds the way by a slot of object n to the object that it names, if that is made.
+#[tactic(auto, unfolding(crate::specs::Ways::slot_ways))]
+fn add_slot_way(
+    ways: &mut Vec<Way>,
+    all: &Objects<'_, '_>,
+    n: u64,
+    value: SlotValue,
+) -> Result<(), AllocError>
+    ensures { OnOk result
+        (ways.new.items ≡ ways.old.items ++ slot_ways (objects_told all.now) n value) }
 {
     if !names_object(value) {
-        return None;
+        return Ok(());
     }
     match number_of(all, value.value) {
         Some(number) => {
             let hold = Hold::Slot(n, value.slot);
-            Some(Way { number, hold })
+            ways.push(Way { number, hold })?;
+            Ok(())
         }
-        None => None,
+        None => Ok(()),
     }
 }
 

@@ -1,5 +1,5 @@
 -- Ways that are found one after another.
-use Rattle.std.proofs.Common.{◌≡◌, ◌⊎◌, ℕ, ◌+◌, ◌<◌, ◌≤◌, Bool, true, false, ◌||◌, cond, List, [], ◌∷◌, ◌++◌, length, take, get_or, inl, inr, refl, sym, ap, subst, ◌∙◌, append_assoc, arith}
+use Rattle.std.proofs.Common.{◌≡◌, ◌⊎◌, ℕ, ◌+◌, ◌<◌, ◌≤◌, Bool, true, false, ◌||◌, cond, List, [], ◌∷◌, ◌++◌, length, take, get_or, inl, inr, refl, sym, ap, subst, ◌∙◌, append_assoc, add-one, arith}
 use Rattle.std.specs.Prelude.{fold, map, nat_eq}
 use Rattle.std.specs.Cmp.{nat_eq_equiv}
 use Rattle.std.specs.List.{AllByRecursion, Contains, IsDistinct, list_any}
@@ -22,12 +22,12 @@ each_and : {X : Type 0} {P : X → Type 0} (xs : List X) (y : X) → AllByRecurs
 each_and [] y h p = (p, tt)
 each_and (x ∷ xs) y h p = (h.0, each_and xs y h.1 p)
 
+contains_next : {X : Type 0} (x : X) (xs : List X) (y : X) → Contains xs y → Contains (x ∷ xs) y
+contains_next x xs y h = (h.0 + 1, omega (arith, h.1), ap (λ (k : ℕ). get_or (x ∷ xs) k y) (add-one h.0) ∙ h.2)
+
 each_contained : {X : Type 0} {P : X → Type 0} (xs : List X) → ((x : X) → Contains xs x → P x) → AllByRecursion P xs
 each_contained [] f = tt
-each_contained (x ∷ xs) f = (f x (0, omega arith, refl), each_contained xs (λ y h. f y (h.0 + 1, omega (arith, h.1), next y h)))
-  where
-    next : (y : _) (h : Contains xs y) → get_or (x ∷ xs) (h.0 + 1) y ≡ y
-    next y h = ap (λ (k : ℕ). get_or (x ∷ xs) k y) (omega arith) ∙ h.2
+each_contained (x ∷ xs) f = (f x (0, omega arith, refl), each_contained xs (λ y h. f y (contains_next x xs y h)))
 
 -- ---- where ways lead
 
@@ -131,6 +131,7 @@ pub record IsSearching (d : DumpTold) (roots ways : List Way) (k : ℕ) : Type 0
   pub few : k ≤ length ways
 
 pub search_begins : (d : DumpTold) (roots : List Way) → IsSearching d roots (with_ways [] roots) 0
+unfolding IsDistinct
 search_begins d roots =
     let all = ways_grow d roots [] roots (each_contained roots (λ w h. inl h)) tt tt in
     record { once = all.once; in_turn = all.in_turn; to_roots = all.reached; onwards = tt; few = omega arith }

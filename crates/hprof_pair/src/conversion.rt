@@ -1,6 +1,16 @@
 //! The session of two dumps of one program, from their bytes.
-ghost use Rattle.hprof_session.specs.Walks.{left};
+ghost use Rattle.std.specs.Prelude.{◌≡◌, List, [], length, map, take, IfOk};
+ghost use Rattle.heap_class.specs.Limits.{widest_classes};
+ghost use Rattle.hprof_reader.specs.SubRecords.{sub_record};
+ghost use Rattle.hprof_session.specs.Walks.{ItemTold, left};
+ghost use Rattle.hprof_plan.specs.Finds.{Finds};
+ghost use Rattle.hprof_plan.specs.Plans.{IsPlan};
+ghost use Rattle.hprof_lines.specs.Passes.{IsWhole, made_from};
+ghost use Rattle.hprof_lines.specs.Sessions.{static_ids};
 ghost use Rattle.hprof_pair.specs.Conversions.{ArePairConverted, IsPairPut};
+ghost use Rattle.hprof_pair.specs.Dumps.{dump_told, subs_from};
+ghost use Rattle.hprof_pair.specs.JoinedClasses.{joined};
+ghost use Rattle.hprof_pair.specs.JoinedSoFar.{AreJoined};
 
 use crate::dump::{Dump, collect_subs};
 use crate::joined_classes::{JoinedClasses, join_classes};
@@ -77,7 +87,9 @@ pub fn convert_pair<O: Outlet>(
 }
 
 // Returns the walk over these bytes, which follow a header.
-fn walk_after(ids: IdSize, rest: &[u8]) -> Walk<'_> {
+fn walk_after(ids: IdSize, rest: &[u8]) -> Walk<'_>
+    ensures { left result ≡ record { ids = ids; segment = []; rest = rest.now } }
+{
     Walk {
         ids,
         segment: &[],
@@ -85,9 +97,9 @@ fn walk_after(ids: IdSize, rest: &[u8]) -> Walk<'_> {
     }
 }
 
-/// What is found in a dump.
+// What is found in a dump, and its objects.
 #[derive(Drop)]
-struct Known<'a> {
+struct KnownDump<'a> {
     found: Found<'a>,
     plan: Plan<'a>,
     statics: IndexSet<u64>,
@@ -96,14 +108,24 @@ struct Known<'a> {
 }
 
 // Walks over a dump, and plans its classes.
-fn know<'a>(alloc: Global, elements: u64, walk: Walk<'a>) -> Result<Known<'a>, AllocError> {
+fn know<'a>(alloc: Global, elements: u64, walk: Walk<'a>) -> Result<KnownDump<'a>, AllocError>
+    ensures finds { IfOk result (λ k. Finds (left walk.entry) k.found) }
+    ensures planned { IfOk result (λ k. IsPlan widest_classes elements k.found k.plan) }
+    ensures statics { IfOk result (λ k. k.statics.keys ≡ static_ids k.plan.statics.items) }
+    ensures made { (items : List ItemTold) → IsWhole (left walk.entry) items
+        → IfOk result (λ k. k.made.items
+        ≡ made_from k.plan k.found.objects.keys (length k.statics.keys) 0 items) }
+    ensures subs { (items : List ItemTold) → IsWhole (left walk.entry) items
+        → IfOk result (λ k. map sub_record k.subs.items
+        ≡ subs_from k.found.objects.keys 0 items) }
+{
     let found = find(alloc, walk)?;
     let plan = plan_classes(alloc, WIDEST_CLASSES, elements, &found)?;
     let statics = static_ids(alloc, plan.statics.as_slice())?;
     let before = statics.len() as u64;
     let made = made_objects(alloc, walk, &plan, &found.objects, before)?;
     let subs = collect_subs(alloc, walk, &found.objects)?;
-    Ok(Known {
+    Ok(KnownDump {
         found,
         plan,
         statics,
@@ -112,9 +134,20 @@ fn know<'a>(alloc: Global, elements: u64, walk: Walk<'a>) -> Result<Known<'a>, A
     })
 }
 
-impl<'a> Known<'a> {
+impl<'a> KnownDump<'a> {
     // Returns the objects of the dump.
-    fn dump(&self, ids: IdSize) -> Dump<'_, 'a> {
+    fn dump(&self, ids: IdSize) -> Dump<'_, 'a>
+        ensures { dump_told result ≡ record {
+          all = record {
+            plan = self.now.plan;
+            ids = ids;
+            objects = self.now.found.objects.keys;
+            made = self.now.made.items;
+            statics = self.now.statics.keys;
+          };
+          subs = map sub_record self.now.subs.items;
+        } }
+    {
         Dump {
             all: Objects {
                 plan: &self.plan,
@@ -177,9 +210,15 @@ fn convert_walks<O: Outlet>(
 fn join_known(
     alloc: Global,
     elements: u64,
-    first: &Known<'_>,
-    second: &Known<'_>,
-) -> Result<JoinedClasses, AllocError> {
+    first: &KnownDump<'_>,
+    second: &KnownDump<'_>,
+) -> Result<JoinedClasses, AllocError>
+    requires first { IsPlan widest_classes elements first.now.found first.now.plan }
+    requires second { IsPlan widest_classes elements second.now.found second.now.plan }
+    ensures { IfOk result (λ j. AreJoined first.now.plan.classes j
+        (joined widest_classes first.now.plan.classes
+        (take second.now.plan.roots second.now.plan.classes))) }
+{
     let plan = plan_classes(alloc, WIDEST_CLASSES, elements, &first.found)?;
     let Plan {
         classes,
@@ -197,7 +236,7 @@ fn join_known(
 fn left_out(
     alloc: Global,
     walk: Walk<'_>,
-    known: &Known<'_>,
+    known: &KnownDump<'_>,
     size: u64,
 ) -> Result<Converted, AllocError> {
     let roots = known.found.roots.as_slice();

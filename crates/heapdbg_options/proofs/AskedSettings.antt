@@ -582,6 +582,7 @@ dump_has_page from hprof page port secret p e = explore_has (λ t. (q : Option �
     given from true is = refl
     given false false is = cc
     given true false is = cc
+
     one : (origin : Origin) (r : Option ℕ) → origin_in (is_some from) (is_some hprof) ≡ Some origin → own_page page ≡ Some r → (q : Option ℕ) → Explore origin r ≡ Explore Dump q → (is_some hprof ≡ true) × (own_page page ≡ Some q)
     one origin r is at q same = (given (is_some from) (is_some hprof) (let first : origin ≡ Dump = cc in is ∙ ap Some first), let last : r ≡ q = cc in at ∙ ap Some last)
 

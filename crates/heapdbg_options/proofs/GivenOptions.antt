@@ -83,6 +83,7 @@ second_task_from_rows rows task second result first is h = go result (subst (λ 
   where
     read : explore_in rows ≡ second_task (has_second rows) task
     read = ap (option_and_then (second_task (has_second rows))) first
+
     go : (r : Result Task Mistake) → IsValueOrMistake (second_task (has_second rows) task) (λ m. (m ≡ Second) × (has_second rows ≡ true) × (runs_dump task ≡ false)) r → IsTaskOrMistake explore_in rows r
     go (Ok t) made = (read ∙ made.0, tt)
     go (Err m) made =

@@ -150,33 +150,6 @@ pub(crate) fn explore_task(options: &ArgMatches<'_>) -> Result<Task, Mistake>
     }
 }
 
-// Tells whether a second dump is given.
-fn has_second(options: &ArgMatches<'_>) -> bool
-    ensures { result ≡ has_second (rows_of (found_of options.now)) }
-{
-    options.get_str("then").is_some()
-}
-
-// Returns the task of `explore`, in which the session of two dumps is run first if a second one is given.
-fn second_task(second: bool, task: Task) -> Result<Task, Mistake>
-    ensures { IsValueOrMistake (second_task second task)
-        (λ m. (m ≡ Second) × (second ≡ true) × (runs_dump task ≡ false)) result }
-{
-    if !second {
-        return Ok(task);
-    }
-    match task {
-        Task::Explore {
-            origin: Origin::Dump,
-            page,
-        } => Ok(Task::Explore {
-            origin: Origin::Dumps,
-            page,
-        }),
-        _ => Err(Mistake::Second),
-    }
-}
-
 // Returns the task of `explore` to which this file of lines or this dump, this page or this port is given, and a secret or none.
 fn choose_task(
     from: Option<&str>,
@@ -235,4 +208,31 @@ fn own_task(origin: Origin, page: Option<&str>) -> Result<Task, Mistake>
         }
         None => Err(Mistake::OwnPage),
     }
+}
+
+// Returns the task of `explore`, in which the session of two dumps is run first if a second one is given.
+fn second_task(second: bool, task: Task) -> Result<Task, Mistake>
+    ensures { IsValueOrMistake (second_task second task)
+        (λ m. (m ≡ Second) × (second ≡ true) × (runs_dump task ≡ false)) result }
+{
+    if !second {
+        return Ok(task);
+    }
+    match task {
+        Task::Explore {
+            origin: Origin::Dump,
+            page,
+        } => Ok(Task::Explore {
+            origin: Origin::Dumps,
+            page,
+        }),
+        _ => Err(Mistake::Second),
+    }
+}
+
+// Tells whether a second dump is given.
+fn has_second(options: &ArgMatches<'_>) -> bool
+    ensures { result ≡ has_second (rows_of (found_of options.now)) }
+{
+    options.get_str("then").is_some()
 }

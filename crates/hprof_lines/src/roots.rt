@@ -120,7 +120,12 @@ fn add_root(
 
 /// Appends the lines by which roots of a kind name objects. Their arrays have this class, and stand from slot `first` on. Fails if
 /// an allocation fails.
-pub fn push_roots(lines: &mut Lines, class: u64, first: u64, numbers: &[u64]) -> Result<(), AllocError>
+pub fn push_roots(
+    lines: &mut Lines,
+    class: u64,
+    first: u64,
+    numbers: &[u64],
+) -> Result<(), AllocError>
     requires { first ≤ 1024 }
     ensures { OnOk result
         (lines.new ≡ lines.old ++ lines_of (kind_events class first numbers.now)) }

@@ -20,10 +20,7 @@ use indexmap::IndexSet;
 use std::alloc::{AllocError, Global};
 
 /// Returns the ids of the classes that have an object for their static fields. Fails if an allocation fails.
-pub fn static_ids(
-    alloc: Global,
-    statics: &[Statics<'_>],
-) -> Result<IndexSet<u64>, AllocError>
+pub fn static_ids(alloc: Global, statics: &[Statics<'_>]) -> Result<IndexSet<u64>, AllocError>
     ensures { IfOk result (λ s. s.keys ≡ static_ids statics.now) }
 {
     let mut ids = IndexSet::new(alloc);

@@ -16,9 +16,9 @@ pub record IsCollecting (objects : List ℕ) (at : Left) (subs : List Sub) (item
 pub collecting_none : (objects : List ℕ) (w : Left) (items : List ItemTold) → IsWhole w items → IsCollecting objects w [] items
 collecting_none objects w items whole = record { rest = items; whole = whole; left = refl }
 
-choice_length : (i : ℕ) (turn : Bool) (s : Sub) (subs : List Sub) → length subs ≡ i → length (subs ++ cond turn (s ∷ []) []) ≡ cond turn (i + 1) i
-choice_length i true s subs e = omega (arith, length-append subs (s ∷ []), e)
-choice_length i false s subs e = omega (arith, length-append subs [], e)
+collected_length : (i : ℕ) (turn : Bool) (s : Sub) (subs : List Sub) → length subs ≡ i → length (subs ++ cond turn (s ∷ []) []) ≡ cond turn (i + 1) i
+collected_length i true s subs e = omega (arith, length-append subs (s ∷ []), e)
+collected_length i false s subs e = omega (arith, length-append subs [], e)
 
 pub collecting_more : (objects : List ℕ) (w v : Left) (subs subs' : List Sub) (i : ItemTold) (items : List ItemTold) (m : IsCollecting objects w subs items)
     → HasFirst m.rest i v → subs' ≡ subs ++ sub_in objects (length subs) i → IsCollecting objects v subs' items
@@ -36,7 +36,7 @@ collecting_more objects w v subs subs' i items m first more = record {
   where
     place : (it : ItemTold) → length (subs ++ sub_in objects (length subs) it) ≡ next_place objects (length subs) it
     place (record_told r) = ap length (append-nil subs)
-    place (sub_told s) = choice_length (length subs) (is_turn objects (length subs) s) s subs refl
+    place (sub_told s) = collected_length (length subs) (is_turn objects (length subs) s) s subs refl
 
 pub collecting_all : (objects : List ℕ) (w : Left) (subs : List Sub) (items : List ItemTold) (m : IsCollecting objects w subs items)
     → m.rest ≡ [] → subs ≡ subs_from objects 0 items

@@ -39,26 +39,26 @@ numbers_more : (ways more : List Way) → numbers_of (ways ++ more) ≡ numbers_
 numbers_more [] more = refl
 numbers_more (v ∷ ways) more = ap (λ (ns : List ℕ). v.number ∷ ns) (numbers_more ways more)
 
-or_left : (a b : Bool) → a ≡ true → (a || b) ≡ true
-or_left true b is = refl
-or_left false b is = cc
+true_if_left : (a b : Bool) → a ≡ true → (a || b) ≡ true
+true_if_left true b is = refl
+true_if_left false b is = cc
 
-or_right : (a b : Bool) → b ≡ true → (a || b) ≡ true
-or_right true b is = refl
-or_right false b is = is
+true_if_right : (a b : Bool) → b ≡ true → (a || b) ≡ true
+true_if_right true b is = refl
+true_if_right false b is = is
 
-same_number : (n : ℕ) → nat_eq n n ≡ true
-same_number n = nat_eq_equiv.refl n
+number_is_itself : (n : ℕ) → nat_eq n n ≡ true
+number_is_itself n = nat_eq_equiv.refl n
 
 reached_with_more : (ways more : List Way) (w : Way) → IsReached ways w → IsReached (ways ++ more) w
 reached_with_more ways more w is =
     ap (list_any (nat_eq w.number)) (numbers_more ways more) ∙ list_any-append (nat_eq w.number) (numbers_of ways) (numbers_of more)
-    ∙ or_left (list_any (nat_eq w.number) (numbers_of ways)) (list_any (nat_eq w.number) (numbers_of more)) is
+    ∙ true_if_left (list_any (nat_eq w.number) (numbers_of ways)) (list_any (nat_eq w.number) (numbers_of more)) is
 
 last_is_reached : (ways : List Way) (w : Way) → IsReached (ways ++ w ∷ []) w
 last_is_reached ways w =
     ap (list_any (nat_eq w.number)) (numbers_and ways w) ∙ list_any-append (nat_eq w.number) (numbers_of ways) (w.number ∷ [])
-    ∙ or_right (list_any (nat_eq w.number) (numbers_of ways)) (nat_eq w.number w.number || false) (or_left (nat_eq w.number w.number) false (same_number w.number))
+    ∙ true_if_right (list_any (nat_eq w.number) (numbers_of ways)) (nat_eq w.number w.number || false) (true_if_left (nat_eq w.number w.number) false (number_is_itself w.number))
 
 -- ---- ways in turn
 

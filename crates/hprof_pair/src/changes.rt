@@ -114,20 +114,6 @@ fn add_changed(
     Ok(())
 }
 
-// Returns the value before at place i, or that of a slot of a new object.
-fn value_before(before: &[SlotValue], i: usize, value: SlotValue) -> SlotValue
-    ensures { result ≡ slice_index_or before.now i (unset value) }
-{
-    match before.get(i) {
-        Some(old) => *old,
-        None => SlotValue {
-            slot: value.slot,
-            kind: value.kind,
-            value: 0,
-        },
-    }
-}
-
 // Tells whether a slot holds another value, or names another object, in the second dump than in the first.
 #[tactic(auto, unfolding(crate::specs::Changes::differs))]
 fn differs(pair: &Pair<'_, '_, '_>, old: SlotValue, value: SlotValue) -> bool
@@ -157,6 +143,20 @@ fn held(kind: Kind, value: u64) -> u64
     match kind {
         Kind::Boolean => value.min(1),
         _ => value,
+    }
+}
+
+// Returns the value before at place i, or that of a slot of a new object.
+fn value_before(before: &[SlotValue], i: usize, value: SlotValue) -> SlotValue
+    ensures { result ≡ slice_index_or before.now i (unset value) }
+{
+    match before.get(i) {
+        Some(old) => *old,
+        None => SlotValue {
+            slot: value.slot,
+            kind: value.kind,
+            value: 0,
+        },
     }
 }
 

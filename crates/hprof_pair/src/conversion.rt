@@ -107,60 +107,6 @@ struct KnownDump<'a> {
     subs: Vec<SubRecord<'a>>,
 }
 
-// Walks over a dump, and plans its classes.
-fn know<'a>(alloc: Global, elements: u64, walk: Walk<'a>) -> Result<KnownDump<'a>, AllocError>
-    ensures finds { IfOk result (λ k. Finds (left walk.entry) k.found) }
-    ensures planned { IfOk result (λ k. IsPlan widest_classes elements k.found k.plan) }
-    ensures statics { IfOk result (λ k. k.statics.keys ≡ static_ids k.plan.statics.items) }
-    ensures made { (items : List ItemTold) → IsWhole (left walk.entry) items
-        → IfOk result (λ k. k.made.items
-        ≡ made_from k.plan k.found.objects.keys (length k.statics.keys) 0 items) }
-    ensures subs { (items : List ItemTold) → IsWhole (left walk.entry) items
-        → IfOk result (λ k. map sub_record k.subs.items
-        ≡ subs_from k.found.objects.keys 0 items) }
-{
-    let found = find(alloc, walk)?;
-    let plan = plan_classes(alloc, WIDEST_CLASSES, elements, &found)?;
-    let statics = static_ids(alloc, plan.statics.as_slice())?;
-    let before = statics.len() as u64;
-    let made = made_objects(alloc, walk, &plan, &found.objects, before)?;
-    let subs = collect_subs(alloc, walk, &found.objects)?;
-    Ok(KnownDump {
-        found,
-        plan,
-        statics,
-        made,
-        subs,
-    })
-}
-
-impl<'a> KnownDump<'a> {
-    // Returns the objects of the dump.
-    fn dump(&self, ids: IdSize) -> Dump<'_, 'a>
-        ensures { dump_told result ≡ record {
-          all = record {
-            plan = self.now.plan;
-            ids = ids;
-            objects = self.now.found.objects.keys;
-            made = self.now.made.items;
-            statics = self.now.statics.keys;
-          };
-          subs = map sub_record self.now.subs.items;
-        } }
-    {
-        Dump {
-            all: Objects {
-                plan: &self.plan,
-                ids,
-                objects: &self.found.objects,
-                made: self.made.as_slice(),
-                statics: &self.statics,
-            },
-            subs: self.subs.as_slice(),
-        }
-    }
-}
-
 // Puts out the session of what two walks come to, and counts what is left out. The dumps have these sizes.
 fn convert_walks<O: Outlet>(
     alloc: Global,
@@ -204,6 +150,60 @@ fn convert_walks<O: Outlet>(
     let first = left_out(alloc, before, &first, sizes.0)?;
     let second = with_lost(left_out(alloc, after, &second, sizes.1)?, lost);
     Ok(BothConverted { first, second })
+}
+
+impl<'a> KnownDump<'a> {
+    // Returns the objects of the dump.
+    fn dump(&self, ids: IdSize) -> Dump<'_, 'a>
+        ensures { dump_told result ≡ record {
+          all = record {
+            plan = self.now.plan;
+            ids = ids;
+            objects = self.now.found.objects.keys;
+            made = self.now.made.items;
+            statics = self.now.statics.keys;
+          };
+          subs = map sub_record self.now.subs.items;
+        } }
+    {
+        Dump {
+            all: Objects {
+                plan: &self.plan,
+                ids,
+                objects: &self.found.objects,
+                made: self.made.as_slice(),
+                statics: &self.statics,
+            },
+            subs: self.subs.as_slice(),
+        }
+    }
+}
+
+// Walks over a dump, and plans its classes.
+fn know<'a>(alloc: Global, elements: u64, walk: Walk<'a>) -> Result<KnownDump<'a>, AllocError>
+    ensures finds { IfOk result (λ k. Finds (left walk.entry) k.found) }
+    ensures planned { IfOk result (λ k. IsPlan widest_classes elements k.found k.plan) }
+    ensures statics { IfOk result (λ k. k.statics.keys ≡ static_ids k.plan.statics.items) }
+    ensures made { (items : List ItemTold) → IsWhole (left walk.entry) items
+        → IfOk result (λ k. k.made.items
+        ≡ made_from k.plan k.found.objects.keys (length k.statics.keys) 0 items) }
+    ensures subs { (items : List ItemTold) → IsWhole (left walk.entry) items
+        → IfOk result (λ k. map sub_record k.subs.items
+        ≡ subs_from k.found.objects.keys 0 items) }
+{
+    let found = find(alloc, walk)?;
+    let plan = plan_classes(alloc, WIDEST_CLASSES, elements, &found)?;
+    let statics = static_ids(alloc, plan.statics.as_slice())?;
+    let before = statics.len() as u64;
+    let made = made_objects(alloc, walk, &plan, &found.objects, before)?;
+    let subs = collect_subs(alloc, walk, &found.objects)?;
+    Ok(KnownDump {
+        found,
+        plan,
+        statics,
+        made,
+        subs,
+    })
 }
 
 // Returns the classes of two dumps in a heap that has those of the first.

@@ -66,6 +66,58 @@ pub(crate) fn find_ways(
     Ok(ways)
 }
 
+// Returns the ways to the roots of a dump.
+fn root_ways(
+    alloc: Global,
+    all: &Objects<'_, '_>,
+    roots: &[RootFound],
+    tags: &[u8],
+) -> Result<Vec<Way>, AllocError>
+    ensures { IfOk result (λ w. w.items ≡ root_ways (objects_told all.now) roots.now 0 tags.now) }
+{
+    let mut ways = Vec::new(alloc);
+    let mut first = 0;
+    for tag in tags {
+        first = add_kind_ways(alloc, &mut ways, all, roots, first, *tag)?;
+    }
+    Ok(ways)
+}
+
+// Adds the ways to the roots of a kind, whose arrays stand from slot `first` on. Returns the slot after them.
+fn add_kind_ways(
+    alloc: Global,
+    ways: &mut Vec<Way>,
+    all: &Objects<'_, '_>,
+    roots: &[RootFound],
+    first: u64,
+    tag: u8,
+) -> Result<u64, AllocError>
+    requires { first ≤ 1024 }
+    ensures ways { OnOk result (ways.new.items ≡ ways.old.items
+        ++ kind_ways first 0 (with_room first (roots_named (objects_told all.now) tag roots.now))) }
+    ensures first { IfOk result (λ k. (k ≡ first
+        + arrays_for (length (with_room first (roots_named (objects_told all.now) tag roots.now))))
+        × (k ≤ 1024)) }
+{
+    let mut numbers = roots_named(alloc, all, tag, roots)?;
+    numbers.truncate(((1024 - first) * 1024) as usize);
+    add_root_ways(ways, first, numbers.as_slice())?;
+    Ok(first + (numbers.len() as u64 + 1023) / 1024)
+}
+
+// Adds the ways to roots of a kind, which name these objects.
+fn add_root_ways(ways: &mut Vec<Way>, first: u64, numbers: &[u64]) -> Result<(), AllocError>
+    requires { first ≤ 1024 }
+    ensures { OnOk result (ways.new.items ≡ ways.old.items ++ kind_ways first 0 numbers.now) }
+{
+    for (i, number) in numbers.iter().enumerate() {
+        let hold = Hold::Root(first + i as u64 / 1024, i as u64 % 1024);
+        let number = *number;
+        ways.push(Way { number, hold })?;
+    }
+    Ok(())
+}
+
 // Returns no ways.
 fn none_found(alloc: Global) -> Ways
     ensures ways { result.ways.items ≡ [] }
@@ -142,56 +194,4 @@ fn add_slot_way(
         }
         None => Ok(()),
     }
-}
-
-// Returns the ways to the roots of a dump.
-fn root_ways(
-    alloc: Global,
-    all: &Objects<'_, '_>,
-    roots: &[RootFound],
-    tags: &[u8],
-) -> Result<Vec<Way>, AllocError>
-    ensures { IfOk result (λ w. w.items ≡ root_ways (objects_told all.now) roots.now 0 tags.now) }
-{
-    let mut ways = Vec::new(alloc);
-    let mut first = 0;
-    for tag in tags {
-        first = add_kind_ways(alloc, &mut ways, all, roots, first, *tag)?;
-    }
-    Ok(ways)
-}
-
-// Adds the ways to the roots of a kind, whose arrays stand from slot `first` on. Returns the slot after them.
-fn add_kind_ways(
-    alloc: Global,
-    ways: &mut Vec<Way>,
-    all: &Objects<'_, '_>,
-    roots: &[RootFound],
-    first: u64,
-    tag: u8,
-) -> Result<u64, AllocError>
-    requires { first ≤ 1024 }
-    ensures ways { OnOk result (ways.new.items ≡ ways.old.items
-        ++ kind_ways first 0 (with_room first (roots_named (objects_told all.now) tag roots.now))) }
-    ensures first { IfOk result (λ k. (k ≡ first
-        + arrays_for (length (with_room first (roots_named (objects_told all.now) tag roots.now))))
-        × (k ≤ 1024)) }
-{
-    let mut numbers = roots_named(alloc, all, tag, roots)?;
-    numbers.truncate(((1024 - first) * 1024) as usize);
-    add_root_ways(ways, first, numbers.as_slice())?;
-    Ok(first + (numbers.len() as u64 + 1023) / 1024)
-}
-
-// Adds the ways to roots of a kind, which name these objects.
-fn add_root_ways(ways: &mut Vec<Way>, first: u64, numbers: &[u64]) -> Result<(), AllocError>
-    requires { first ≤ 1024 }
-    ensures { OnOk result (ways.new.items ≡ ways.old.items ++ kind_ways first 0 numbers.now) }
-{
-    for (i, number) in numbers.iter().enumerate() {
-        let hold = Hold::Root(first + i as u64 / 1024, i as u64 % 1024);
-        let number = *number;
-        ways.push(Way { number, hold })?;
-    }
-    Ok(())
 }

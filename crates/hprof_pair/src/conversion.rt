@@ -247,6 +247,7 @@ fn left_out(
 // Returns these counts, with those of what isn't made in the heap of both.
 fn with_lost(converted: Converted, lost: Lost) -> Converted {
     Converted {
+        classes: converted.classes.saturating_add(lost.classes),
         objects: lost.objects,
         references: lost.references,
         roots: lost.roots,

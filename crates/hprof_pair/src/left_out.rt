@@ -1,5 +1,6 @@
 //! What of the second dump a session leaves out.
 use crate::pair::Pair;
+use crate::shapes::class_in;
 use hprof_lines::{SlotValue, names_object};
 use hprof_plan::RootFound;
 use std::alloc::{AllocError, Global};
@@ -7,6 +8,8 @@ use std::alloc::{AllocError, Global};
 /// How much of the second dump a session of two leaves out.
 #[derive(Clone, Copy)]
 pub(crate) struct Lost {
+    /// Classes of the dump that have a number in its plan, and none in the heap of both.
+    pub(crate) classes: u64,
     /// Objects that aren't made.
     pub(crate) objects: u64,
     /// References to what isn't made.
@@ -31,12 +34,25 @@ pub(crate) fn count_lost(
             references = references.saturating_add(lost_in(pair, values.as_slice()));
         }
     }
+    let classes = lost_classes(pair);
     let roots = lost_roots(pair, roots);
     Ok(Lost {
+        classes,
         objects,
         references,
         roots,
     })
+}
+
+// Counts the classes of the dump that have no number in the heap.
+fn lost_classes(pair: &Pair<'_, '_, '_>) -> u64 {
+    let mut count: u64 = 0;
+    for k in 0..pair.second.all.plan.kinds.len() {
+        if class_in(pair.classes, k as u64).is_none() {
+            count = count.saturating_add(1);
+        }
+    }
+    count
 }
 
 // Counts the slots that name objects that aren't made.

@@ -309,10 +309,12 @@ def written(answers, path):
 
 
 def histogram(dump):
-    """Returns how many objects of each class or kind a dump has."""
+    """Returns how many objects of each class or kind a dump has, and their bytes."""
     counts = {}
-    for tag, of, _ in dump.objects.values():
-        counts[dump.class_name(of) if tag != 0x23 else of] = counts.get(dump.class_name(of) if tag != 0x23 else of, 0) + 1
+    for number in dump.objects:
+        name, slots = dump.parts(number)
+        objects, size = counts.get(name, (0, 0))
+        counts[name] = objects + 1, size + sum(dump.widths[kind] for _, kind, _ in slots)
     return counts
 
 
@@ -347,8 +349,9 @@ def paired(program, importer, dumps, folder, *words):
         if different:
             yield f"{name}: {different}"
             return
-        arrays = {value for _, value in new.roots} | {value for top in (root for tag, root in new.roots if tag == 0xFF) for _, _, value in new.parts(top)[1]}
-        if len(new.objects) != len(set(seen.values()) | arrays - {0}):
+        tops = {root for _, root in new.roots} & set(new.objects)
+        arrays = {value for top in tops for _, _, value in new.parts(top)[1] if value}
+        if set(new.objects) != set(seen.values()) & set(new.objects) | tops | arrays:
             yield f"{name}: a heap has {len(new.objects)} objects, of which the roots reach {len(seen)}"
     for number in set(likes[0]) & set(likes[1]):
         if number in given[0].objects and stays(*given, number) != (likes[0][number] == likes[1][number]):

@@ -20,6 +20,9 @@ const NAMED: u64 = 6;
 // The register of the roots.
 const ROOTS: u64 = 7;
 
+/// The tags of roots.
+pub const ROOT_TAGS: [u8; 9] = [0x01, 0x02, 0x03, 0x04, 0x05, 0x06, 0x07, 0x08, 0xff];
+
 /// Puts out the lines that keep the roots of a dump, in arrays of the kinds with these tags. Tells whether they are all out.
 /// Fails if an allocation fails.
 pub(crate) fn write_roots<O: Outlet>(
@@ -77,8 +80,8 @@ fn push_kind(
     Ok(first + (numbers.len() as u64 + 1023) / 1024)
 }
 
-// Returns the numbers of the objects that roots of this tag name.
-fn roots_named(
+/// Returns the numbers of the objects that roots of this tag name. Fails if an allocation fails.
+pub fn roots_named(
     alloc: Global,
     all: &Objects<'_, '_>,
     tag: u8,
@@ -115,8 +118,14 @@ fn add_root(
     }
 }
 
-// Appends the lines by which roots of a kind name objects. Their arrays have this class, and stand from slot `first` on.
-fn push_roots(lines: &mut Lines, class: u64, first: u64, numbers: &[u64]) -> Result<(), AllocError>
+/// Appends the lines by which roots of a kind name objects. Their arrays have this class, and stand from slot `first` on. Fails if
+/// an allocation fails.
+pub fn push_roots(
+    lines: &mut Lines,
+    class: u64,
+    first: u64,
+    numbers: &[u64],
+) -> Result<(), AllocError>
     requires { first ≤ 1024 }
     ensures { OnOk result
         (lines.new ≡ lines.old ++ lines_of (kind_events class first numbers.now)) }
@@ -179,8 +188,8 @@ fn push_root_array(
     })
 }
 
-// Appends the lines that clear registers.
-fn push_clears(lines: &mut Lines, registers: &[u64]) -> Result<(), AllocError>
+/// Appends the lines that clear registers. Fails if an allocation fails.
+pub fn push_clears(lines: &mut Lines, registers: &[u64]) -> Result<(), AllocError>
     ensures { OnOk result (lines.new ≡ lines.old ++ lines_of (flat_map clear_event registers.now)) }
 {
     for r in registers {

@@ -1,0 +1,192 @@
+//! The classes of a second dump in a heap that has those of a first.
+ghost use Rattle.std.specs.Prelude.{◌≡◌, ◌≤◌, ◌<◌, List, length, map, slice_get, take, Some, IfOk, OnOk};
+ghost use Rattle.std.specs.List.{list_any};
+ghost use Rattle.std.specs.Str.{bytes_eq};
+ghost use Rattle.heap_class.specs.Classes.{Class, fields_of};
+ghost use Rattle.heap_class.specs.Limits.{AreClassLimits};
+ghost use Rattle.hprof_pair.specs.JoinedClasses.{Joined, and_class, and_defined, class_line, joined, over, renamed};
+ghost use Rattle.hprof_pair.specs.JoinedSoFar.{AreJoined, IsDefinedAs};
+
+use crate::shapes::class_in;
+use heap_class::{ClassLimits, ClassNo, Classes, Field, Fields, Name, NewClass, Refusal};
+use heap_step::Event;
+use hprof_plan::given_name;
+use indexmap::IndexSet;
+use session_lines::push_event;
+use std::alloc::{AllocError, Global};
+
+/// The classes of a heap that has those of two dumps.
+#[derive(Drop)]
+pub(crate) struct JoinedClasses {
+    /// The classes of the heap.
+    pub(crate) classes: Classes,
+    /// The lines that define them, by their numbers.
+    pub(crate) known: IndexSet<Name>,
+    /// The lines that define those that aren't of the first dump.
+    pub(crate) text: Vec<u8>,
+    /// The number in the heap of each class of the second dump, if it has one.
+    pub(crate) numbers: Vec<Option<ClassNo>>,
+}
+
+/// Returns the classes of the second dump, the first `count` of its plan, in a heap with these limits that has those of the first.
+/// Fails if an allocation fails.
+pub(crate) fn join_classes(
+    alloc: Global,
+    limits: ClassLimits,
+    first: Classes,
+    second: &Classes,
+    count: u64,
+) -> Result<JoinedClasses, AllocError>
+    requires limits { AreClassLimits limits }
+    requires long { 22 ≤ limits.name_bytes }
+    requires count { count ≤ length second.now }
+    ensures { IfOk result (λ j. AreJoined first.entry j
+        (joined limits first.entry (take count second.now))) }
+{
+    let known = lines_of(alloc, &first)?;
+    let mut joined = JoinedClasses {
+        classes: first,
+        known,
+        text: Vec::new(alloc),
+        numbers: Vec::new(alloc),
+    };
+    for k in 0..count {
+        join_class(alloc, limits, &mut joined, second, k)?;
+    }
+    Ok(joined)
+}
+
+// Returns the lines that define classes.
+fn lines_of(alloc: Global, classes: &Classes) -> Result<IndexSet<Name>, AllocError>
+    ensures { IfOk result (λ lines. lines.keys ≡ map class_line classes.now) }
+{
+    let mut lines = IndexSet::new(alloc);
+    for k in 0..classes.len() {
+        let line = line_over(alloc, classes, k, classes.sup(k))?;
+        lines.insert(line)?;
+    }
+    Ok(lines)
+}
+
+// Returns the line that defines class k with this super.
+fn line_over(
+    alloc: Global,
+    classes: &Classes,
+    k: ClassNo,
+    sup: Option<ClassNo>,
+) -> Result<Name, AllocError>
+    requires { k < length classes.now }
+    ensures { IfOk result (λ line. (c : Class) → slice_get classes.now k ≡ Some c
+        → line ≡ class_line (over c sup)) }
+{
+    let name = Name::new(alloc, classes.name(k))?;
+    let event = if classes.is_array(k) {
+        Event::ArrayClass { name }
+    } else {
+        let fields = fields_of(alloc, classes, k)?;
+        Event::Class { name, sup, fields }
+    };
+    let mut text = Vec::new(alloc);
+    push_event(&mut text, &event)?;
+    Ok(Name::from_vec(text))
+}
+
+// Returns the own fields of class k.
+fn fields_of(alloc: Global, classes: &Classes, k: ClassNo) -> Result<Fields, AllocError>
+    requires { k < length classes.now }
+    ensures { IfOk result (λ fields. fields ≡ fields_of classes.now k) }
+{
+    let mut fields = Vec::new(alloc);
+    for i in 0..classes.field_count(k) {
+        let id = classes.field_name_id(k, i);
+        let name = Name::new(alloc, classes.name_at(id - 1))?;
+        let kind = classes.field_kind(k, i);
+        fields.push(Field { name, kind })?;
+    }
+    Ok(Fields::from_vec(fields))
+}
+
+// Looks at class k of the second dump: it has the number of the class that the same line defines, or is defined, if the heap takes it.
+fn join_class(
+    alloc: Global,
+    limits: ClassLimits,
+    joined: &mut JoinedClasses,
+    second: &Classes,
+    k: ClassNo,
+) -> Result<(), AllocError>
+    requires limits { AreClassLimits limits }
+    requires number { k < length second.now }
+    ensures { (first : List Class) (s : Joined) (c : Class) → AreJoined first joined.old s
+        → slice_get second.now k ≡ Some c
+        → OnOk result (AreJoined first joined.new (and_class limits s c)) }
+{
+    let sup = match second.sup(k) {
+        Some(above) => match class_in(&joined.numbers, above) {
+            Some(number) => Some(number),
+            None => {
+                joined.numbers.push(None)?;
+                return Ok(());
+            }
+        },
+        None => None,
+    };
+    let line = line_over(alloc, second, k, sup)?;
+    let number = match joined.known.get_index_of(&line) {
+        Some(number) => Some(number as u64),
+        None => define_class(alloc, limits, joined, second, k, sup)?,
+    };
+    joined.numbers.push(number)?;
+    Ok(())
+}
+
+// Defines class k of the second dump with this super, by its name or another in its place, if the heap takes it. Returns its number.
+fn define_class(
+    alloc: Global,
+    limits: ClassLimits,
+    joined: &mut JoinedClasses,
+    second: &Classes,
+    k: ClassNo,
+    sup: Option<ClassNo>,
+) -> Result<Option<ClassNo>, AllocError>
+    requires limits { AreClassLimits limits }
+    requires number { k < length second.now }
+    ensures { (first : List Class) (s : Joined) (c : Class) → AreJoined first joined.old s
+        → slice_get second.now k ≡ Some c
+        → IfOk result (λ o. IsDefinedAs first joined.old.numbers.items o joined.new
+        (and_defined limits s (renamed limits s.classes (over c sup)))) }
+{
+    let number = joined.classes.len();
+    let is_given = has_name(&joined.classes, second.name(k));
+    let name = given_name(alloc, limits, is_given, number, second.name(k))?;
+    let defined = if second.is_array(k) {
+        joined.classes.define_array(limits, &name)
+    } else {
+        let fields = fields_of(alloc, second, k)?;
+        let (name, fields) = (&name, &fields);
+        joined
+            .classes
+            .define(limits, NewClass { name, sup, fields })
+    };
+    match defined {
+        Ok(number) => {
+            let line = line_over(alloc, &joined.classes, number, sup)?;
+            joined.text.extend_from_slice(line.as_bytes())?;
+            joined.known.insert(line)?;
+            Ok(Some(number))
+        }
+        Err(Refusal::NoMemory) => Err(AllocError),
+        Err(_) => Ok(None),
+    }
+}
+
+// Tells whether a class has the name.
+fn has_name(classes: &Classes, name: &[u8]) -> bool
+    ensures { result ≡ list_any (λ c. bytes_eq c.name name.now) classes.now }
+{
+    for k in 0..classes.len() {
+        if classes.name(k) == name {
+            return true;
+        }
+    }
+    false
+}

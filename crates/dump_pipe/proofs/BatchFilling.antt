@@ -3,7 +3,7 @@ use Rattle.std.proofs.Common.{◌≡◌, ℕ, ◌<◌, ◌≤◌, Bool, true, fa
 use Rattle.std.proofs.lemmas.List.{append-nil}
 use Rattle.dump_pump.specs.LostCause.{LostCause}
 use Rattle.hprof_text.specs.declared.Piece.{Piece}
-use Rattle.dump_pump.specs.declared.source.Ending.TheVariants as End
+use Rattle.dump_pump.specs.declared.source.SourceEnd.TheVariants as End
 use Rattle.dump_pump.specs.declared.source.Next.{Next}
 use Rattle.dump_pump.specs.declared.source.Next.TheVariants.{Part, Lost, Cancelled}
 use Rattle.dump_pump.specs.Sources.{Supply, IsNextPart, more, part_limit, part_size_limit}

@@ -2,8 +2,8 @@
 use Rattle.std.proofs.Common.{◌≡◌, ℕ, ◌+◌, ◌≤◌, List, [], ◌∷◌, ◌++◌, take, drop, map, length, refl, ap, sym, ◌∙◌, arith, append_assoc, length-append}
 use Rattle.std.proofs.lemmas.List.{append-nil, take-append-drop, length-take-le, take_all}
 use Rattle.hprof_text.specs.declared.Piece.{Piece}
-use Rattle.dump_pump.specs.declared.source.Ending.{Ending}
-use Rattle.dump_pump.specs.declared.source.Ending.TheVariants as Ended
+use Rattle.dump_pump.specs.declared.source.SourceEnd.{SourceEnd}
+use Rattle.dump_pump.specs.declared.source.SourceEnd.TheVariants as Ended
 use Rattle.dump_pump.specs.declared.transfer.Pumped.TheVariants as Pumped
 use Rattle.dump_pump.specs.Outlets.{Outgoing}
 use Rattle.dump_pump.specs.Pumps.{joined}
@@ -13,7 +13,7 @@ use Rattle.dump_pipe.specs.declared.message.Message.TheVariants.{Part, End}
 use Rattle.dump_pipe.specs.declared.end_view.EndView.{EndView}
 use Rattle.dump_pipe.specs.declared.end_view.EndView.TheVariants.{Gets}
 use Rattle.dump_pipe.specs.Pipes.{dump, weigh, byte_limit, list_of}
-use Rattle.dump_pipe.specs.Drains.{answer_to_ending, IsDrained, IsSkipped}
+use Rattle.dump_pipe.specs.Drains.{answer_to_source_end, IsDrained, IsSkipped}
 use Rattle.dump_pipe.proofs.FeedSteps.{messages_with_one_part_more}
 use Rattle.dump_pipe.proofs.PipeSteps.{weigh_append}
 use Rattle.dump_pump.proofs.JoinedPieces.{joined_bytes_of_two_lists}
@@ -35,7 +35,7 @@ skipping_goes_past_part got v v2 p s is = record {
   is = is ∙ ap (λ u. Gets (list_of u ++ Part p ∷ [])) s.is ∙ ap Gets (append_assoc got (map Part s.parts) (Part p ∷ []) ∙ ap (λ l. got ++ l) (sym (messages_with_one_part_more s.parts p)));
 }
 
-pub skipping_ends_at_end : (got : List Message) (v v2 : EndView) (e : Ending) → IsSkipping got v → v2 ≡ Gets (list_of v ++ End e ∷ []) → IsSkipped got v2
+pub skipping_ends_at_end : (got : List Message) (v v2 : EndView) (e : SourceEnd) → IsSkipping got v → v2 ≡ Gets (list_of v ++ End e ∷ []) → IsSkipped got v2
 skipping_ends_at_end got v v2 e s is = (s.parts, e, is ∙ ap (λ u. Gets (list_of u ++ End e ∷ [])) s.is ∙ ap Gets (append_assoc got (map Part s.parts) (End e ∷ [])))
 
 weight_of_parts_is_bytes : (ps : List Piece) → weigh (map Part ps) ≡ length (joined ps)
@@ -85,7 +85,7 @@ draining_ends_at_failed_put got v v2 v3 w w' w2 total p k d is le out failed s =
     let rest = drop k p.bytes ++ joined s.0 in
     record {
       parts = (d.parts ++ p ∷ []) ++ s.0;
-      ending = s.1;
+      ended = s.1;
       out = joined d.parts ++ take k p.bytes;
       received = s.2 ∙ ap (λ u. Gets (list_of u ++ dump s.0 s.1)) here ∙ ap Gets (append_assoc got (map Part (d.parts ++ p ∷ [])) (dump s.0 s.1) ∙ ap (λ l. got ++ l) (sym (append_assoc (map Part (d.parts ++ p ∷ [])) (map Part s.0) (End s.1 ∷ [])) ∙ ap (λ l. l ++ End s.1 ∷ []) (sym (parts_of_appended_pieces (d.parts ++ p ∷ []) s.0))));
       grows = out ∙ ap (λ l. l ++ take k p.bytes) d.grows ∙ append_assoc w.out (joined d.parts) (take k p.bytes);
@@ -94,10 +94,10 @@ draining_ends_at_failed_put got v v2 v3 w w' w2 total p k d is le out failed s =
       answers = failed ∙ ap (λ n. n + 1) d.whole;
     }
 
-drain_with_end_is_dump : (got : List Message) (v v2 : EndView) (w w' : Outgoing) (total : ℕ) (e : Ending) (d : IsDraining got v w w' total) → v2 ≡ Gets (list_of v ++ End e ∷ []) → v2 ≡ Gets (got ++ dump d.parts e)
+drain_with_end_is_dump : (got : List Message) (v v2 : EndView) (w w' : Outgoing) (total : ℕ) (e : SourceEnd) (d : IsDraining got v w w' total) → v2 ≡ Gets (list_of v ++ End e ∷ []) → v2 ≡ Gets (got ++ dump d.parts e)
 drain_with_end_is_dump got v v2 w w' total e d is = is ∙ ap (λ u. Gets (list_of u ++ End e ∷ [])) d.is ∙ ap Gets (append_assoc got (map Part d.parts) (End e ∷ []))
 
-pub draining_ends_at_end : (got : List Message) (v v2 : EndView) (w w' : Outgoing) (total : ℕ) (e : Ending) → IsDraining got v w w' total → v2 ≡ Gets (list_of v ++ End e ∷ []) → IsDrained got v2 w w' (answer_to_ending e total)
-draining_ends_at_end got v v2 w w' total Ended.Whole d is = record { parts = d.parts; ending = Ended.Whole; out = joined d.parts; received = drain_with_end_is_dump got v v2 w w' total Ended.Whole d is; grows = d.grows; begins = ([], append-nil (joined d.parts)); counted = d.counted; answers = (refl, refl, d.whole) }
-draining_ends_at_end got v v2 w w' total (Ended.Lost x) d is = record { parts = d.parts; ending = Ended.Lost x; out = joined d.parts; received = drain_with_end_is_dump got v v2 w w' total (Ended.Lost x) d is; grows = d.grows; begins = ([], append-nil (joined d.parts)); counted = d.counted; answers = (refl, refl, d.whole) }
-draining_ends_at_end got v v2 w w' total Ended.Cancelled d is = record { parts = d.parts; ending = Ended.Cancelled; out = joined d.parts; received = drain_with_end_is_dump got v v2 w w' total Ended.Cancelled d is; grows = d.grows; begins = ([], append-nil (joined d.parts)); counted = d.counted; answers = (refl, refl, d.whole) }
+pub draining_ends_at_end : (got : List Message) (v v2 : EndView) (w w' : Outgoing) (total : ℕ) (e : SourceEnd) → IsDraining got v w w' total → v2 ≡ Gets (list_of v ++ End e ∷ []) → IsDrained got v2 w w' (answer_to_source_end e total)
+draining_ends_at_end got v v2 w w' total Ended.Whole d is = record { parts = d.parts; ended = Ended.Whole; out = joined d.parts; received = drain_with_end_is_dump got v v2 w w' total Ended.Whole d is; grows = d.grows; begins = ([], append-nil (joined d.parts)); counted = d.counted; answers = (refl, refl, d.whole) }
+draining_ends_at_end got v v2 w w' total (Ended.Lost x) d is = record { parts = d.parts; ended = Ended.Lost x; out = joined d.parts; received = drain_with_end_is_dump got v v2 w w' total (Ended.Lost x) d is; grows = d.grows; begins = ([], append-nil (joined d.parts)); counted = d.counted; answers = (refl, refl, d.whole) }
+draining_ends_at_end got v v2 w w' total Ended.Cancelled d is = record { parts = d.parts; ended = Ended.Cancelled; out = joined d.parts; received = drain_with_end_is_dump got v v2 w w' total Ended.Cancelled d is; grows = d.grows; begins = ([], append-nil (joined d.parts)); counted = d.counted; answers = (refl, refl, d.whole) }

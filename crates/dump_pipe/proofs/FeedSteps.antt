@@ -1,8 +1,8 @@
 -- A feed with a part more.
 use Rattle.std.proofs.Common.{◌≡◌, ◌≢◌, ◌+◌, ◌*◌, ◌<◌, ◌≤◌, true, List, [], ◌∷◌, ◌++◌, map, length, Some, refl, ap, sym, ◌∙◌, arith}
 use Rattle.hprof_text.specs.declared.Piece.{Piece}
-use Rattle.dump_pump.specs.declared.source.Ending.{Ending}
-use Rattle.dump_pump.specs.declared.source.Ending.TheVariants as Ended
+use Rattle.dump_pump.specs.declared.source.SourceEnd.{SourceEnd}
+use Rattle.dump_pump.specs.declared.source.SourceEnd.TheVariants as Ended
 use Rattle.dump_pump.specs.Sources.{Supply, more, part_limit, part_size_limit}
 use Rattle.dump_pump.proofs.PumpSteps.{told_and_no_piece_more, told_pieces_added_in_two_turns, pieces_end_as_last_piece}
 use Rattle.dump_pipe.specs.declared.message.Message.{Message}
@@ -31,13 +31,13 @@ feeding_begins_at_sender a v left most is = record { given = []; told = told_and
 pub feed_has_room_for_part : (a b : Supply) (v : EndView) (p : Piece) → IsFeeding a b v → length p.bytes ≤ part_size_limit → weigh (list_of v ++ Part p ∷ []) ≤ byte_limit
 feed_has_room_for_part a b v p f small = omega (arith, weigh_append (list_of v) (Part p ∷ []), ap (λ u. weigh (list_of u)) f.sent, f.room, f.left, small)
 
-end_message_keeps_byte_limit : (xs : List Message) (e : Ending) → weigh xs ≤ byte_limit → weigh (xs ++ End e ∷ []) ≤ byte_limit
+end_message_keeps_byte_limit : (xs : List Message) (e : SourceEnd) → weigh xs ≤ byte_limit → weigh (xs ++ End e ∷ []) ≤ byte_limit
 end_message_keeps_byte_limit xs e le = omega (arith, weigh_append xs (End e ∷ []), le)
 
-pub feed_has_room_for_end : (a b : Supply) (v : EndView) (e : Ending) → IsFeeding a b v → weigh (list_of v ++ End e ∷ []) ≤ byte_limit
+pub feed_has_room_for_end : (a b : Supply) (v : EndView) (e : SourceEnd) → IsFeeding a b v → weigh (list_of v ++ End e ∷ []) ≤ byte_limit
 feed_has_room_for_end a b v e f = end_message_keeps_byte_limit (list_of v) e (omega (arith, ap (λ u. weigh (list_of u)) f.sent, f.room))
 
-pub room_for_end_after_part : (a b : Supply) (v v2 : EndView) (p : Piece) (e : Ending) → IsFeeding a b v → length p.bytes ≤ part_size_limit → v2 ≡ Sends (list_of v ++ Part p ∷ []) → weigh (list_of v2 ++ End e ∷ []) ≤ byte_limit
+pub room_for_end_after_part : (a b : Supply) (v v2 : EndView) (p : Piece) (e : SourceEnd) → IsFeeding a b v → length p.bytes ≤ part_size_limit → v2 ≡ Sends (list_of v ++ Part p ∷ []) → weigh (list_of v2 ++ End e ∷ []) ≤ byte_limit
 room_for_end_after_part a b v v2 p e f small is = end_message_keeps_byte_limit (list_of v2) e (omega (arith, ap (λ u. weigh (list_of u)) is, feed_has_room_for_part a b v p f small))
 
 pub feeding_view_is_sending : (a b : Supply) (v : EndView) → IsFeeding a b v → v ≡ Sends (list_of v)
@@ -68,7 +68,7 @@ feeding_ends_by_last_part a b c v v2 v3 p f told last ended is is' = record {
   whole = λ _. pieces_end_as_last_piece f.given p ∙ last;
 }
 
-pub feeding_ends_by_other_ending : (a b c : Supply) (v v2 : EndView) (e : Ending) → IsFeeding a b v → c.told ≡ b.told → c.ended ≡ Some e → e ≢ Ended.Whole → v2 ≡ Sends (list_of v ++ End e ∷ []) → IsFed a c v2 e
+pub feeding_ends_by_other_ending : (a b c : Supply) (v v2 : EndView) (e : SourceEnd) → IsFeeding a b v → c.told ≡ b.told → c.ended ≡ Some e → e ≢ Ended.Whole → v2 ≡ Sends (list_of v ++ End e ∷ []) → IsFed a c v2 e
 feeding_ends_by_other_ending a b c v v2 e f same ended ne is = record {
   given = f.given;
   told = same ∙ f.told;

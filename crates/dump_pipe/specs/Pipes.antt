@@ -3,15 +3,15 @@ use Rattle.std.specs.Prelude.{◌≡◌, ℕ, ◌+◌, ◌*◌, ◌≤◌, List,
 use mathlib.Core.Option.{some}
 use lib.ListN.{get_elem?}
 use Rattle.hprof_text.specs.declared.Piece.{Piece}
-use Rattle.dump_pump.specs.declared.source.Ending.{Ending}
+use Rattle.dump_pump.specs.declared.source.SourceEnd.{SourceEnd}
 use Rattle.dump_pump.specs.Sources.{part_limit, part_size_limit}
 use Rattle.dump_pipe.specs.declared.message.Message.{Message}
 use Rattle.dump_pipe.specs.declared.message.Message.TheVariants.{Part, End}
 use Rattle.dump_pipe.specs.declared.end_view.EndView.{EndView}
 use Rattle.dump_pipe.specs.declared.end_view.EndView.TheVariants.{Both, Sends, Gets, Spent}
 
--- parts, and then an ending
-abbrev pub dump : List Piece → Ending → List Message
+-- parts, and then how the source ended
+abbrev pub dump : List Piece → SourceEnd → List Message
 dump parts e = map Part parts ++ End e ∷ []
 
 -- the bytes of a message

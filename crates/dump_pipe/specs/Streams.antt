@@ -1,6 +1,6 @@
 -- The effect of a stream.
 use Rattle.std.specs.Prelude.{◌≡◌, ℕ, ◌<◌, [], Option, Some, None}
-use Rattle.dump_pump.specs.declared.source.Ending.{Ending}
+use Rattle.dump_pump.specs.declared.source.SourceEnd.{SourceEnd}
 use Rattle.dump_pump.specs.declared.transfer.Pumped.{Pumped}
 use Rattle.dump_pump.specs.Outlets.{Outgoing}
 use Rattle.dump_pump.specs.Pumps.{IsPumped, bytes_of}
@@ -24,7 +24,7 @@ abbrev pub CanDrain : EndView → SeatState ℕ → Type 0
 CanDrain v counted = (v ≡ Gets []) × HasDumpRoom counted
 
 -- the source was fed, or nothing was asked of it and sent
-abbrev pub MayFeed : Supply → Supply → EndView → Option Ending → Type 0
+abbrev pub MayFeed : Supply → Supply → EndView → Option SourceEnd → Type 0
 MayFeed a b v (Some e) = IsFed a b v e
 MayFeed a b v None = (v ≡ Sends []) × (b ≡ a)
 
@@ -37,7 +37,7 @@ MayDrain v w w' None = (v ≡ Gets []) × (w' ≡ w)
 abbrev pub MayStream : Supply → Supply → EndView → EndView → Outgoing → Outgoing → Option Pumped
     → Type 0
 MayStream a b v1 v2 w w' (Some r) =
-    ((fed : Option Ending) × MayFeed a b v1 fed) × IsDrained [] v2 w w' r
+    ((fed : Option SourceEnd) × MayFeed a b v1 fed) × IsDrained [] v2 w w' r
 MayStream a b v1 v2 w w' None = (b ≡ a) × (w' ≡ w)
 
 -- the bytes that a drain put out, if there was one

@@ -1,6 +1,6 @@
 //! Batches: the bytes of several parts of a dump, joined.
 ghost use Rattle.std.specs.Prelude.{◌≡◌, ◌<◌, ◌≤◌, length, false, true, None, Some, IfSome, if◌then◌else◌, ◌++◌};
-ghost use Rattle.dump_pump.specs.declared.source.Ending.TheVariants.{Whole};
+ghost use Rattle.dump_pump.specs.declared.source.SourceEnd.TheVariants.{Whole};
 ghost use Rattle.dump_pump.specs.Sources.{part_size_limit};
 ghost use Rattle.dump_pipe.specs.Batches.{batch_room, IsAppended, IsDrawn, IsFilled, IsBatch, IsBatched, IsReady};
 

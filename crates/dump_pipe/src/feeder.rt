@@ -7,11 +7,11 @@ ghost use Rattle.dump_pipe.specs.Feeds.{IsFed};
 
 use crate::channel::{End, Sender, send};
 use crate::message::Message;
-use dump_pump::{Ending, Next, Source};
+use dump_pump::{SourceEnd, Next, Source};
 use std::sync::Wait;
 
-/// Sends the parts of a source, in order, and then how the source ended. Returns that ending. Waits while the pipe is full.
-pub fn feed<S: Source, R: Wait>(rt: &R, source: &mut S, sender: &Sender, end: &mut End) -> Ending
+/// Sends the parts of a source, in order, and then how the source ended, which it also returns. Waits while the pipe is full.
+pub fn feed<S: Source, R: Wait>(rt: &R, source: &mut S, sender: &Sender, end: &mut End) -> SourceEnd
     requires source { 0 < (S.seen source.old).left }
     requires end { IsSeatAt (sends_on sender.now) end.old × (view end.old ≡ Sends []) }
     ensures end { IsSeatAt (sends_on sender.now) end.new }
@@ -25,17 +25,17 @@ pub fn feed<S: Source, R: Wait>(rt: &R, source: &mut S, sender: &Sender, end: &m
                 let last = piece.last;
                 send(rt, sender, end, Message::Part(piece));
                 if last {
-                    send(rt, sender, end, Message::End(Ending::Whole));
-                    return Ending::Whole;
+                    send(rt, sender, end, Message::End(SourceEnd::Whole));
+                    return SourceEnd::Whole;
                 }
             }
             Next::Lost(cause) => {
-                send(rt, sender, end, Message::End(Ending::Lost(cause)));
-                return Ending::Lost(cause);
+                send(rt, sender, end, Message::End(SourceEnd::Lost(cause)));
+                return SourceEnd::Lost(cause);
             }
             Next::Cancelled => {
-                send(rt, sender, end, Message::End(Ending::Cancelled));
-                return Ending::Cancelled;
+                send(rt, sender, end, Message::End(SourceEnd::Cancelled));
+                return SourceEnd::Cancelled;
             }
         }
     }

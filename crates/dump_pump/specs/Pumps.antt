@@ -2,8 +2,8 @@
 use Rattle.std.specs.Prelude.{◌≡◌, ℕ, ◌+◌, ◌<◌, ◌≤◌, Bool, true, false, List, [], ◌∷◌, ◌++◌, take, length, Option, Some, None}
 use mathlib.Core.List.{IsPrefix}
 use Rattle.hprof_text.specs.declared.Piece.{Piece}
-use Rattle.dump_pump.specs.declared.source.Ending.{Ending}
-use Rattle.dump_pump.specs.declared.source.Ending.TheVariants as End
+use Rattle.dump_pump.specs.declared.source.SourceEnd.{SourceEnd}
+use Rattle.dump_pump.specs.declared.source.SourceEnd.TheVariants as End
 use Rattle.dump_pump.specs.declared.transfer.Pumped.{Pumped}
 use Rattle.dump_pump.specs.declared.transfer.Pumped.TheVariants.{Done, OutletFailed, Lost, Cancelled}
 use Rattle.dump_pump.specs.Outlets.{Outgoing}
@@ -35,7 +35,7 @@ PutsAll bytes w w' n =
     × (n < length bytes → w'.failures ≡ w.failures + 1)
 
 -- an outcome fits the parts given, the bytes put out, the end of the source, and the failures before and after
-abbrev pub FitsPump : List Piece → List ℕ → Option Ending → ℕ → ℕ → Pumped → Type 0
+abbrev pub FitsPump : List Piece → List ℕ → Option SourceEnd → ℕ → ℕ → Pumped → Type 0
 FitsPump given out ended failures failures' (Done n) =
     (out ≡ joined given) × (ends given ≡ true) × (ended ≡ Some End.Whole) × (failures' ≡ failures)
 FitsPump given out ended failures failures' (OutletFailed n) = failures' ≡ failures + 1

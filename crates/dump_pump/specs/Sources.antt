@@ -1,8 +1,8 @@
 -- The parts that a source gives.
 use Rattle.std.specs.Prelude.{◌≡◌, ℕ, ◌<◌, ◌≤◌, ◌^◌, true, false, List, [], ◌∷◌, ◌++◌, length, map, Option, Some, None}
 use Rattle.hprof_text.specs.declared.Piece.{Piece}
-use Rattle.dump_pump.specs.declared.source.Ending.{Ending}
-use Rattle.dump_pump.specs.declared.source.Ending.TheVariants as End
+use Rattle.dump_pump.specs.declared.source.SourceEnd.{SourceEnd}
+use Rattle.dump_pump.specs.declared.source.SourceEnd.TheVariants as End
 use Rattle.dump_pump.specs.declared.source.Next.{Next}
 use Rattle.dump_pump.specs.declared.source.Next.TheVariants.{Part, Lost, Cancelled}
 
@@ -17,7 +17,7 @@ part_size_limit = 2 ^ 27
 -- the parts that a source gave since it was made, if it tells them, how it ended, and how many parts are left at most
 pub record Supply : Type 0 where
   pub told : Option (List Piece)
-  pub ended : Option Ending
+  pub ended : Option SourceEnd
   pub left : ℕ
 
 -- the parts told before, if any are, and then these
@@ -33,7 +33,7 @@ IsNextPart a b (Part p) =
 IsNextPart a b (Lost cause) = (b.told ≡ a.told) × (b.ended ≡ Some (End.Lost cause))
 IsNextPart a b Cancelled = (b.told ≡ a.told) × (b.ended ≡ Some End.Cancelled)
 
--- the parts of a log
+-- the parts in a ghost list
 abbrev pub parts_in : List (Piece × Unit {0}) → List Piece
 parts_in entries = map (λ e. e.0) entries
 

@@ -1,8 +1,8 @@
 //! Outlets for the bytes of a dump and the lines of a session, inlets for bytes that come, and sources of a dump's parts.
 #![tactic(auto)]
 
+pub mod ghost_list;
 pub mod inlet;
-pub mod ledger;
 pub mod outlet;
 pub mod read_inlet;
 pub mod source;
@@ -17,7 +17,7 @@ pub use http_server::Log;
 pub use inlet::{Inlet, Take};
 pub use outlet::Outlet;
 pub use read_inlet::ReadInlet;
-pub use source::{Ending, Next, Source};
+pub use source::{Next, Source, SourceEnd};
 pub use transfer::{Pumped, pump};
 pub use write_outlet::WriteOutlet;
 

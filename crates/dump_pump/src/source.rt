@@ -18,7 +18,7 @@ pub enum Next {
 
 /// The way in which a source ended.
 #[derive(Clone, Copy, PartialEq, Eq, Debug)]
-pub enum Ending {
+pub enum SourceEnd {
     /// It gave the part that is the last.
     Whole,
     /// The dump is lost.

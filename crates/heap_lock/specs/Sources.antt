@@ -9,15 +9,15 @@ use Rattle.heap_trail.specs.declared.Action.TheVariants.{NextPiece}
 use Rattle.heap_trail.specs.declared.Reply.TheVariants as Said
 use Rattle.heap_trail.specs.Laws.{IsPieceOfLegal}
 use Rattle.hprof_text.specs.declared.Piece.{Piece}
-use Rattle.dump_pump.specs.declared.source.Ending.{Ending}
+use Rattle.dump_pump.specs.declared.source.SourceEnd.{SourceEnd}
 use Rattle.dump_pump.specs.declared.source.Next.{Next}
 use Rattle.dump_pump.specs.declared.source.Next.TheVariants.{Part, Lost, Cancelled}
 use Rattle.dump_pump.specs.Sources.{Supply, part_limit}
 use Rattle.heap_lock.specs.Dumpers.{DumperState, Makes}
 
 -- after `count` pieces, of which none is told
-abbrev pub locked_supply : ℕ → Option Ending → Supply
-locked_supply count ending = record { told = None; ended = ending; left = part_limit - count }
+abbrev pub locked_supply : ℕ → Option SourceEnd → Supply
+locked_supply count ended = record { told = None; ended = ended; left = part_limit - count }
 
 -- the refusals that a piece may get
 abbrev pub IsPieceRefusal : Refusal → Type 0

@@ -6,7 +6,7 @@ ghost use Rattle.heap_lock.specs.Sources.{IsLoss, IsPieceRefusal, GivesPart, Sup
 use crate::dumper::Dumper;
 use crate::heap::Heap;
 use dump_pump::source::PART_LIMIT;
-use dump_pump::{Ending, Next, Source};
+use dump_pump::{SourceEnd, Next, Source};
 use heap_class::{LostCause, Refusal};
 use hprof_text::Piece;
 use std::sync::Wait;
@@ -23,7 +23,7 @@ pub struct LockedSource<'a, L: Heap, R: Wait> {
     /// The number of pieces given, at most `PART_LIMIT`.
     pub count: u64,
     /// How the source ended, if it has.
-    pub ending: Option<Ending>,
+    pub ended: Option<SourceEnd>,
 }
 
 // Returns the cause of an end that is a refusal of a piece.
@@ -44,14 +44,14 @@ impl<'a, L: Heap, R: Wait> LockedSource<'a, L, R> {
     pub fn new(dumper: Dumper<'a, L, R>, pin: u64, time: u64) -> Self
         ensures names { (result.pin ≡ pin) × (result.time ≡ time) × (result.dumper ≡ dumper.entry)
             × (result.count ≡ 0) }
-        ensures fresh { locked_supply result.count result.ending ≡ locked_supply 0 Nothing }
+        ensures fresh { locked_supply result.count result.ended ≡ locked_supply 0 Nothing }
     {
         LockedSource {
             dumper,
             pin,
             time,
             count: 0,
-            ending: None,
+            ended: None,
         }
     }
 
@@ -62,8 +62,8 @@ impl<'a, L: Heap, R: Wait> LockedSource<'a, L, R> {
         requires { self.old.count < part_limit }
         ensures supplies { Supplies L.config self.old.pin self.old.time self.old.count
             self.old.dumper self.new.dumper result }
-        ensures next { IsNextPart (locked_supply self.old.count self.old.ending)
-            (locked_supply self.new.count self.new.ending) result }
+        ensures next { IsNextPart (locked_supply self.old.count self.old.ended)
+            (locked_supply self.new.count self.new.ended) result }
         ensures names { (self.new.pin ≡ self.old.pin) × (self.new.time ≡ self.old.time) }
         ensures count { self.new.count ≡ count_after self.old.count result }
     {
@@ -71,7 +71,7 @@ impl<'a, L: Heap, R: Wait> LockedSource<'a, L, R> {
             Ok(piece) => self.gives(piece),
             Err(refusal) => {
                 let cause = cause_of(refusal);
-                self.ending = Some(Ending::Lost(cause));
+                self.ended = Some(SourceEnd::Lost(cause));
                 Next::Lost(cause)
             }
         }
@@ -81,17 +81,17 @@ impl<'a, L: Heap, R: Wait> LockedSource<'a, L, R> {
     fn gives(&mut self, piece: Piece) -> Next
         requires count { self.old.count < part_limit }
         requires small { length piece.bytes ≤ part_size_limit }
-        ensures next { IsNextPart (locked_supply self.old.count self.old.ending)
-            (locked_supply self.new.count self.new.ending) result }
+        ensures next { IsNextPart (locked_supply self.old.count self.old.ended)
+            (locked_supply self.new.count self.new.ended) result }
         ensures given { GivesPart self.old.count piece result }
         ensures names { (self.new.pin ≡ self.old.pin) × (self.new.time ≡ self.old.time)
             × (self.new.dumper ≡ self.old.dumper) }
         ensures count { self.new.count ≡ count_after self.old.count result }
     {
         if piece.last {
-            self.ending = Some(Ending::Whole);
+            self.ended = Some(SourceEnd::Whole);
         } else if self.count + 1 == PART_LIMIT {
-            self.ending = Some(Ending::Lost(LostCause::Closed));
+            self.ended = Some(SourceEnd::Lost(LostCause::Closed));
             return Next::Lost(LostCause::Closed);
         }
         self.count += 1;
@@ -107,7 +107,7 @@ impl<'a, L: Heap, R: Wait> Source for LockedSource<'a, L, R> {
 
     ghost kept = { λ s. (s.pin, s.time) };
 
-    ghost seen = { λ s. locked_supply s.count s.ending };
+    ghost seen = { λ s. locked_supply s.count s.ended };
 
     fn next(&mut self) -> Next {
         self.next_part()

@@ -14,7 +14,7 @@ pub mod step;
 
 pub use events::AnyEvent;
 use heap_class::{ClassNo, Fields, Kind, Name, ObjRef, Refusal};
-use heap_mark::Log;
+use heap_mark::CycleLog;
 use heap_region::Storage;
 use heap_sweep::DeadCells;
 pub use sorts::{
@@ -174,7 +174,7 @@ pub enum Undo {
     },
     /// A cycle was ended: its log.
     Finish {
-        log: Log,
+        log: CycleLog,
     },
     /// A region was swept that keeps objects: its dead objects.
     Sweep {

@@ -3,11 +3,11 @@ ghost use Rattle.std.specs.Prelude.{◌≡◌, ◌<◌, ◌≤◌, None};
 ghost use Rattle.dump_pump.specs.Sources.{part_limit};
 ghost use Rattle.heap_trail.specs.Pins.{pin_at};
 ghost use Rattle.machine_dump.specs.HandedPieces.{given_of};
-ghost use Rattle.machine_dump.specs.Endings.{HandsOut, cause_of, pieces_left};
+ghost use Rattle.machine_dump.specs.SourceEnds.{HandsOut, cause_of, pieces_left};
 ghost use Rattle.machine_dump.specs.PinSupplies.{IsCounted, IsCaused};
 
 use dump_pump::source::PART_LIMIT;
-use dump_pump::{Ending, Next, Source};
+use dump_pump::{SourceEnd, Next, Source};
 use heap_class::{LostCause, Refusal};
 use heap_trail::Machine;
 use std::snapshot::Snapshot;
@@ -26,7 +26,7 @@ pub struct PinSource<'a> {
     /// The number of parts handed out, at most `PART_LIMIT`.
     pub count: u64,
     /// How the source ended.
-    pub ended: Option<Ending>,
+    pub ended: Option<SourceEnd>,
     ghost counted: { IsCounted pin start.value machine.now count ended },
     ghost caused: { IsCaused pin machine.now ended },
 }
@@ -66,12 +66,12 @@ pub fn cause_of(refusal: Refusal) -> LostCause
 }
 
 /// Returns the largest number of parts left to a source that handed out `count` parts and ended in this way, if it has ended.
-pub fn parts_left(ended: &Option<Ending>, count: u64) -> u64
+pub fn parts_left(ended: &Option<SourceEnd>, count: u64) -> u64
     ensures left { result ≡ pieces_left ended.now count }
     ensures most { result ≤ part_limit }
 {
     match ended {
-        Some(Ending::Whole) => 0,
+        Some(SourceEnd::Whole) => 0,
         _ => PART_LIMIT.saturating_sub(count),
     }
 }
@@ -82,7 +82,7 @@ pub fn hand_out(
     pin: u64,
     time: u64,
     count: &mut u64,
-    ended: &mut Option<Ending>,
+    ended: &mut Option<SourceEnd>,
 ) -> Next
     requires few { count.old < part_limit }
     requires counted { count.old ≤ given_of (pin_at pin machine.old.pins) }
@@ -95,13 +95,13 @@ pub fn hand_out(
         Ok(piece) => {
             *count += 1;
             if piece.last {
-                *ended = Some(Ending::Whole);
+                *ended = Some(SourceEnd::Whole);
             }
             Next::Part(piece)
         }
         Err(refusal) => {
             let cause = cause_of(refusal);
-            *ended = Some(Ending::Lost(cause));
+            *ended = Some(SourceEnd::Lost(cause));
             Next::Lost(cause)
         }
     }

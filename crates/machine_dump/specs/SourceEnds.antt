@@ -1,11 +1,11 @@
--- The endings of a source of a machine's pin, and the parts that it has left.
+-- How a source of a machine's pin ended, and how many parts it has left.
 use Rattle.std.specs.Prelude.{◌≡◌, ℕ, ◌+◌, ◌-◌, ◌<◌, ◌≤◌, Bool, true, false, length, Option, Some, None, if◌then◌else◌}
 use Rattle.heap_class.specs.declared.LostCause.{LostCause}
 use Rattle.heap_class.specs.declared.LostCause.TheVariants.{Rewound, Memory, Closed}
 use Rattle.heap_class.specs.declared.Refusal.{Refusal}
 use Rattle.heap_class.specs.declared.Refusal.TheVariants as Refused
-use Rattle.dump_pump.specs.declared.source.Ending.{Ending}
-use Rattle.dump_pump.specs.declared.source.Ending.TheVariants.{Whole, Lost, Cancelled}
+use Rattle.dump_pump.specs.declared.source.SourceEnd.{SourceEnd}
+use Rattle.dump_pump.specs.declared.source.SourceEnd.TheVariants.{Whole, Lost, Cancelled}
 use Rattle.dump_pump.specs.declared.source.Next.{Next}
 use Rattle.dump_pump.specs.declared.source.Next.TheVariants as Gave
 use Rattle.dump_pump.specs.Sources.{part_limit, part_size_limit}
@@ -14,15 +14,15 @@ use Rattle.heap_trail.specs.Machine.{Machine}
 use Rattle.machine_dump.specs.HandedPieces.{GivesPiece}
 
 -- whether the source gave its last part
-abbrev pub is_whole_ending : Option Ending → Bool
-is_whole_ending None = false
-is_whole_ending (Some Whole) = true
-is_whole_ending (Some (Lost cause)) = false
-is_whole_ending (Some Cancelled) = false
+abbrev pub is_whole_end : Option SourceEnd → Bool
+is_whole_end None = false
+is_whole_end (Some Whole) = true
+is_whole_end (Some (Lost cause)) = false
+is_whole_end (Some Cancelled) = false
 
 -- the largest number of parts left, after `count`
-abbrev pub pieces_left : Option Ending → ℕ → ℕ
-pieces_left ended count = if is_whole_ending ended then 0 else part_limit - count
+abbrev pub pieces_left : Option SourceEnd → ℕ → ℕ
+pieces_left ended count = if is_whole_end ended then 0 else part_limit - count
 
 -- the cause by which a dump is lost whose piece meets this refusal
 abbrev pub cause_of : Refusal → LostCause
@@ -44,14 +44,14 @@ may_lose (Some (Kept place image given)) Rewound = false
 may_lose (Some (Kept place image given)) Closed = false
 
 -- whether a source of a pin may have ended so
-abbrev pub may_end : Option PinState → Option Ending → Bool
+abbrev pub may_end : Option PinState → Option SourceEnd → Bool
 may_end s None = true
 may_end s (Some Whole) = true
 may_end s (Some (Lost cause)) = may_lose s cause
 may_end s (Some Cancelled) = false
 
 -- the next part of a source of a machine's pin, or why there is none; the numbers are of the parts handed out
-abbrev pub HandsOut : ℕ → ℕ → Machine → Machine → ℕ → ℕ → Option Ending → Option Ending → Next
+abbrev pub HandsOut : ℕ → ℕ → Machine → Machine → ℕ → ℕ → Option SourceEnd → Option SourceEnd → Next
     → Type 0
 HandsOut pin time m m' n n' ended ended' (Gave.Part p) =
     GivesPiece pin time m m' p × (length p.bytes ≤ part_size_limit) × (n' ≡ n + 1)

@@ -10,8 +10,8 @@ use Rattle.dump_pump.specs.Outlets.{Outgoing}
 use Rattle.dump_pump.specs.Sources.{Supply}
 use Rattle.dump_pump.specs.Pumps.{joined, ends, FitsPump, IsPumped}
 use Rattle.dump_pipe.specs.declared.message.Message.{Message}
-use Rattle.dump_pipe.specs.declared.end_view.EndView.{EndView}
-use Rattle.dump_pipe.specs.declared.end_view.EndView.TheVariants.{Sends, Gets}
+use Rattle.dump_pipe.specs.declared.end_side.EndSide.{EndSide}
+use Rattle.dump_pipe.specs.declared.end_side.EndSide.TheVariants.{Sends, Gets}
 use Rattle.dump_pipe.specs.Pipes.{dump, list_of, both_of, HasOrder}
 use Rattle.dump_pipe.specs.Feeds.{IsFed}
 use Rattle.dump_pipe.specs.Drains.{AnswersDrain, IsDrained}
@@ -38,7 +38,7 @@ fits parts given out e e2 failures failures' (Pumped.OutletFailed n) same is who
 fits parts given out e e2 failures failures' (Pumped.Lost cause n) same is whole h = (h.0 ∙ ap joined same, ap Some (sym is ∙ h.1), h.2)
 fits parts given out e e2 failures failures' (Pumped.Cancelled n) same is whole h = (h.0 ∙ ap joined same, ap Some (sym is ∙ h.1), h.2)
 
-fed_and_drained_is_pumped : (a b : Supply) (w w' : Outgoing) (v1 v2 : EndView) (e : SourceEnd) (r : Pumped) (items : List Message) → IsFed a b v1 e → IsDrained [] v2 w w' r → list_of v2 ++ items ≡ list_of v1 → IsPumped a b w w' r
+fed_and_drained_is_pumped : (a b : Supply) (w w' : Outgoing) (v1 v2 : EndSide) (e : SourceEnd) (r : Pumped) (items : List Message) → IsFed a b v1 e → IsDrained [] v2 w w' r → list_of v2 ++ items ≡ list_of v1 → IsPumped a b w w' r
 fed_and_drained_is_pumped a b w w' v1 v2 e r items f d order =
     let same = dump_beginning_another_is_same d.parts f.given d.ended e items (ap (λ u. list_of u ++ items) (sym d.received) ∙ order ∙ ap list_of f.sent) in
     record {
@@ -51,13 +51,13 @@ fed_and_drained_is_pumped a b w w' v1 v2 e r items f d order =
       fits = subst (λ x. FitsPump f.given d.out x w.failures w'.failures r) (sym f.ended) (fits d.parts f.given d.out d.ended e w.failures w'.failures r same.0 same.1 f.whole d.answers);
     }
 
-pub fed_and_drained_is_streamed : (a b : Supply) (w w' : Outgoing) (v1 v2 v3 : EndView) (fed : Option SourceEnd) (r : Pumped) (items : List Message) → MayFeed a b v1 fed → IsDrained [] v2 w w' r → v3 ≡ both_of v1 v2 → HasOrder v3 items → IsPumped a b w w' r
+pub fed_and_drained_is_streamed : (a b : Supply) (w w' : Outgoing) (v1 v2 v3 : EndSide) (fed : Option SourceEnd) (r : Pumped) (items : List Message) → MayFeed a b v1 fed → IsDrained [] v2 w w' r → v3 ≡ both_of v1 v2 → HasOrder v3 items → IsPumped a b w w' r
 fed_and_drained_is_streamed a b w w' v1 v2 v3 (Some e) r items f d is order = fed_and_drained_is_pumped a b w w' v1 v2 e r items f d (subst (λ u. HasOrder u items) is order)
 fed_and_drained_is_streamed a b w w' v1 v2 v3 None r items f d is order = absurd (dump_messages_are_not_empty d.parts d.ended items (ap (λ u. list_of u ++ items) (sym d.received) ∙ subst (λ u. HasOrder u items) is order ∙ ap list_of f.0))
 
-pub fed_view_is_sending : (a b : Supply) (v : EndView) (fed : Option SourceEnd) → MayFeed a b v fed → v ≡ Sends (list_of v)
-fed_view_is_sending a b v (Some e) f = f.sent ∙ ap (λ u. Sends (list_of u)) (sym f.sent)
-fed_view_is_sending a b v None f = f.0 ∙ ap (λ u. Sends (list_of u)) (sym f.0)
+pub fed_side_is_sending : (a b : Supply) (v : EndSide) (fed : Option SourceEnd) → MayFeed a b v fed → v ≡ Sends (list_of v)
+fed_side_is_sending a b v (Some e) f = f.sent ∙ ap (λ u. Sends (list_of u)) (sym f.sent)
+fed_side_is_sending a b v None f = f.0 ∙ ap (λ u. Sends (list_of u)) (sym f.0)
 
-pub drained_view_is_receiving : (v : EndView) (w w' : Outgoing) (r : Pumped) → IsDrained [] v w w' r → v ≡ Gets (list_of v)
-drained_view_is_receiving v w w' r d = d.received ∙ ap (λ u. Gets (list_of u)) (sym d.received)
+pub drained_side_is_receiving : (v : EndSide) (w w' : Outgoing) (r : Pumped) → IsDrained [] v w w' r → v ≡ Gets (list_of v)
+drained_side_is_receiving v w w' r d = d.received ∙ ap (λ u. Gets (list_of u)) (sym d.received)

@@ -9,8 +9,8 @@ use Rattle.dump_pump.specs.declared.transfer.Pumped.TheVariants.{Done, OutletFai
 use Rattle.dump_pump.specs.Outlets.{Outgoing}
 use Rattle.dump_pump.specs.Pumps.{joined, bytes_of}
 use Rattle.dump_pipe.specs.declared.message.Message.{Message}
-use Rattle.dump_pipe.specs.declared.end_view.EndView.{EndView}
-use Rattle.dump_pipe.specs.declared.end_view.EndView.TheVariants.{Gets}
+use Rattle.dump_pipe.specs.declared.end_side.EndSide.{EndSide}
+use Rattle.dump_pipe.specs.declared.end_side.EndSide.TheVariants.{Gets}
 use Rattle.dump_pipe.specs.Pipes.{dump}
 
 -- the answer if the source ended so, and no put failed
@@ -31,7 +31,7 @@ AnswersDrain parts out ended failures failures' (Cancelled n) =
 
 -- a whole dump was received; a beginning of its bytes was put out, as many as the answer says, and all of them unless a put
 -- failed
-pub record IsDrained (got : List Message) (v : EndView) (w w' : Outgoing)
+pub record IsDrained (got : List Message) (v : EndSide) (w w' : Outgoing)
     (r : Pumped) : Type 0 where
   pub parts : List Piece
   pub ended : SourceEnd
@@ -43,5 +43,5 @@ pub record IsDrained (got : List Message) (v : EndView) (w w' : Outgoing)
   pub answers : AnswersDrain parts out ended w.failures w'.failures r
 
 -- parts and how the source ended were received
-abbrev pub IsSkipped : List Message → EndView → Type 0
+abbrev pub IsSkipped : List Message → EndSide → Type 0
 IsSkipped got v = (parts : List Piece) × (ended : SourceEnd) × (v ≡ Gets (got ++ dump parts ended))

@@ -2,7 +2,7 @@
 ghost use Rattle.std.specs.Prelude.{◌≡◌, ◌<◌, []};
 ghost use Rattle.crossbeam_channel.specs.Claims.{view, IsSeatAt};
 ghost use Rattle.crossbeam_channel.specs.Ends.{sends_on};
-ghost use Rattle.dump_pipe.specs.declared.end_view.EndView.TheVariants.{Sends};
+ghost use Rattle.dump_pipe.specs.declared.end_side.EndSide.TheVariants.{Sends};
 ghost use Rattle.dump_pipe.specs.Feeds.{IsFed};
 
 use crate::channel::{End, Sender, send};

@@ -2,7 +2,7 @@
 ghost use Rattle.std.specs.Prelude.{◌≡◌, []};
 ghost use Rattle.dump_pipe.specs.Claims.{view, IsSeatAt};
 ghost use Rattle.dump_pipe.specs.Ends.{sends_on, receives_on};
-ghost use Rattle.dump_pipe.specs.declared.end_view.EndView.TheVariants.{Sends, Gets};
+ghost use Rattle.dump_pipe.specs.declared.end_side.EndSide.TheVariants.{Sends, Gets};
 
 use super::dumps::{Case, Noted, PinnedText, Seen, Wanted, Way};
 use super::scenes::{Scene, play_scene};

@@ -1,7 +1,7 @@
 //! The knowledge of a meter's seats.
 
 /// The knowledge of a seat of a meter, for contracts alone. No value of it is made.
-pub enum MeterView {
+pub enum MeterSide {
     /// A new meter, with no seat but this one.
     Whole,
     /// The bytes that the out seat added.

@@ -1,10 +1,10 @@
-//! What the views of a ledger's table know.
-use crate::home_table::TableView;
+//! What the sides of a ledger's table know.
+use crate::home_table::Side;
 use heap_trail::{Action, Reply};
 use std::collections::LinkedList;
 
-/// The lists of calls that a ledger's views have. No value of this type is made.
-pub enum LedgerView {
+/// The lists of calls that the sides of a ledger have. No value of this type is made.
+pub enum LedgerSide {
     /// All calls.
     Full(LinkedList<(Action, Reply)>),
     /// The first calls, which a witness saw.
@@ -15,11 +15,11 @@ pub enum LedgerView {
     NoCalls,
 }
 
-// One view has all calls, and each other one a beginning of them.
-impl TableView for LedgerView {
+// One side has all calls, and each other one a beginning of them.
+impl Side for LedgerSide {
     ghost use Rattle.std.specs.Prelude.{[]};
-    ghost use Rattle.heap_lock.specs.declared.ledger_view.LedgerView.TheVariants.{NoCalls, Full};
-    ghost use Rattle.heap_lock.specs.LedgerViews.{IsOneLedger, both_views, full_of, seen_of};
+    ghost use Rattle.heap_lock.specs.declared.ledger_side.LedgerSide.TheVariants.{NoCalls, Full};
+    ghost use Rattle.heap_lock.specs.LedgerSides.{IsOneLedger, both_sides, full_of, seen_of};
 
     ghost holds = { IsOneLedger };
 
@@ -29,7 +29,7 @@ impl TableView for LedgerView {
 
     ghost right = { seen_of };
 
-    ghost both = { both_views };
+    ghost both = { both_sides };
 
     ghost spent = { NoCalls };
 }

@@ -11,7 +11,7 @@ use crate::channel::{End, Receiver, receive};
 use crate::counter::Counter;
 use crate::message::Message;
 use dump_pump::transfer::put_all;
-use dump_pump::{SourceEnd, Outlet, Pumped};
+use dump_pump::{Outlet, Pumped, SourceEnd};
 use std::sync::Wait;
 
 /// Receives messages until the end of the source, and drops them.
@@ -28,9 +28,9 @@ pub fn skip<R: Wait>(rt: &R, receiver: &Receiver, end: &mut End)
     unreachable!()
 }
 
-/// Puts out the parts that are received, each whole and in order, and counts their bytes, until the source has ended. After a put that
-/// failed it puts out nothing more, and receives all that is left. Waits while the pipe is empty. The sum has room for the
-/// bytes of a dump.
+/// Puts out the parts that are received, each whole and in order, and counts their bytes, until the source has ended. After a
+/// put that failed it puts out nothing more, and receives all that is left. Waits while the pipe is empty. The sum has room for
+/// the bytes of a dump.
 pub fn drain_pipe<O: Outlet, R: Wait>(
     rt: &R,
     receiver: &Receiver,

@@ -7,7 +7,7 @@ ghost use Rattle.dump_pipe.specs.Feeds.{IsFed};
 
 use crate::channel::{End, Sender, send};
 use crate::message::Message;
-use dump_pump::{SourceEnd, Next, Source};
+use dump_pump::{Next, Source, SourceEnd};
 use std::sync::Wait;
 
 /// Sends the parts of a source, in order, and then how the source ended, which it also returns. Waits while the pipe is full.

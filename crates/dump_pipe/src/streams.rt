@@ -13,7 +13,7 @@ use crate::drainer::drain_pipe;
 use crate::feeder::feed;
 use crate::pumps::pump_counted;
 use crate::start::Start;
-use dump_pump::{SourceEnd, Outlet, Pumped, Source};
+use dump_pump::{Outlet, Pumped, Source, SourceEnd};
 use std::alloc::Global;
 use std::sync::Wait;
 use std::thread::{Threads, join_mut};

@@ -34,7 +34,8 @@ impl<'a, O: Outlet + Drop> Model for ColumnOutlet<'a, O> {
 
     ghost Value = { Outgoing };
 
-    ghost view = { λ o. record { out = ghost_bytes o.put.items; failures = length o.failed.items } };
+    ghost view = { λ o.
+        record { out = ghost_bytes o.put.items; failures = length o.failed.items } };
 }
 
 // A column of some rows: how wide it is, and whether it has words that aren't numbers.

@@ -4,8 +4,8 @@ ghost use Rattle.dump_pump.specs.Inlets.{IsTake};
 ghost use Rattle.heap_console.specs.Lines.{IsLineGiven};
 
 use dump_pump::Log;
-use dump_pump::inlet::count_of;
 use dump_pump::ghost_list::note_bytes;
+use dump_pump::inlet::count_of;
 use session_text::Take;
 use std::marker::Model;
 

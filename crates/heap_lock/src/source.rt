@@ -6,7 +6,7 @@ ghost use Rattle.heap_lock.specs.Sources.{IsLoss, IsPieceRefusal, GivesPart, Sup
 use crate::dumper::Dumper;
 use crate::heap::Heap;
 use dump_pump::source::PART_LIMIT;
-use dump_pump::{SourceEnd, Next, Source};
+use dump_pump::{Next, Source, SourceEnd};
 use heap_class::{LostCause, Refusal};
 use hprof_text::Piece;
 use std::sync::Wait;

@@ -10,8 +10,8 @@ ghost use Rattle.session_grammar.specs.declared.TheConstants.{LINE_LIMIT};
 
 use crate::http::line_end;
 use dump_pump::Log;
-use dump_pump::inlet::count_of;
 use dump_pump::ghost_list::note_bytes;
+use dump_pump::inlet::count_of;
 use session_grammar::LINE_LIMIT;
 use session_text::{Inlet, SessionLimits, Take};
 use std::alloc::{AllocError, Global};

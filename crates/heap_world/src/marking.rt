@@ -8,7 +8,7 @@ ghost use Rattle.heap_world.specs.Events.{after_snap, after_mark, after_drain, a
 
 use super::World;
 use heap_class::Refusal;
-use heap_mark::{Finished, CycleLog, Marked};
+use heap_mark::{CycleLog, Finished, Marked};
 
 impl World {
     /// Begins a cycle: marks and pushes each object that a register names, once, in the order of the registers. Returns the

@@ -6,7 +6,7 @@ ghost use Rattle.machine_dump.specs.SourceEnds.{is_whole_end};
 ghost use Rattle.machine_dump.specs.PinSupplies.{IsCaused};
 
 use crate::pin_source::{hand_out, parts_left};
-use dump_pump::{SourceEnd, Next, Source};
+use dump_pump::{Next, Source, SourceEnd};
 use heap_trail::Machine;
 
 /// The pieces of a machine's pin that had given none, in order. It keeps no snapshot of the machine, as `PinSource` does, so

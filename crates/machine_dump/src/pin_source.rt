@@ -7,7 +7,7 @@ ghost use Rattle.machine_dump.specs.SourceEnds.{HandsOut, cause_of, pieces_left}
 ghost use Rattle.machine_dump.specs.PinSupplies.{IsCounted, IsCaused};
 
 use dump_pump::source::PART_LIMIT;
-use dump_pump::{SourceEnd, Next, Source};
+use dump_pump::{Next, Source, SourceEnd};
 use heap_class::{LostCause, Refusal};
 use heap_trail::Machine;
 use std::snapshot::Snapshot;

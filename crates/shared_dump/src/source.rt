@@ -6,7 +6,7 @@ ghost use Rattle.dump_pump.specs.Sources.{parts_in, parts_with};
 ghost use Rattle.shared_dump.specs.Supplies.{IsNotLost, IsSupplied, ended_with, nothing_of};
 
 use dump_pump::source::PART_LIMIT;
-use dump_pump::{SourceEnd, Log, Next, Piece, Source};
+use dump_pump::{Log, Next, Piece, Source, SourceEnd};
 use heap_lock::{Dumper, Heap, LockedSource, LostCause};
 use std::marker::Model;
 use std::sync::Wait;

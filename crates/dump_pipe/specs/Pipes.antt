@@ -4,7 +4,7 @@ use mathlib.Core.Option.{some}
 use lib.ListN.{get_elem?}
 use Rattle.hprof_text.specs.declared.Piece.{Piece}
 use Rattle.dump_pump.specs.declared.source.SourceEnd.{SourceEnd}
-use Rattle.dump_pump.specs.Sources.{part_limit, part_size_limit}
+use Rattle.hprof_text.specs.Laws.{piece_limit, piece_size_limit}
 use Rattle.dump_pipe.specs.declared.message.Message.{Message}
 use Rattle.dump_pipe.specs.declared.message.Message.TheVariants.{Part, End}
 use Rattle.dump_pipe.specs.declared.end_side.EndSide.{EndSide}
@@ -26,7 +26,7 @@ weigh (m ∷ ms) = message_size m + weigh ms
 
 -- the largest number of bytes that are sent through a pipe
 abbrev pub byte_limit : ℕ
-byte_limit = part_limit * part_size_limit
+byte_limit = piece_limit * piece_size_limit
 
 -- the messages that an end sent, or received
 abbrev pub list_of : EndSide → List Message

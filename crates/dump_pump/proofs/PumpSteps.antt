@@ -6,7 +6,8 @@ use Rattle.hprof_text.specs.declared.Piece.{Piece}
 use Rattle.dump_pump.specs.declared.source.SourceEnd.{SourceEnd}
 use Rattle.dump_pump.specs.declared.transfer.Pumped.{Pumped}
 use Rattle.dump_pump.specs.Outlets.{Outgoing}
-use Rattle.dump_pump.specs.Sources.{Supply, more, part_size_limit}
+use Rattle.dump_pump.specs.Sources.{Supply, more}
+use Rattle.hprof_text.specs.Laws.{piece_size_limit}
 use Rattle.dump_pump.specs.Pumps.{joined, ends, FitsPump, IsPumped, PumpsOn}
 use Rattle.dump_pump.proofs.JoinedPieces.{joined_bytes_of_two_lists}
 
@@ -18,7 +19,7 @@ pub record IsOpen (a b : Supply) (w w' : Outgoing) (total : ℕ) : Type 0 where
   pub whole : w'.failures ≡ w.failures
   pub counted : total ≡ length (joined given)
   pub left : 0 < b.left
-  pub room : total + b.left * part_size_limit ≤ a.left * part_size_limit
+  pub room : total + b.left * piece_size_limit ≤ a.left * piece_size_limit
 
 pub told_and_no_piece_more : (told : Option (List Piece)) → told ≡ more told []
 told_and_no_piece_more (Some ps) = ap Some (sym (append-nil ps))

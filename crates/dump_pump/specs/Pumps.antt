@@ -7,7 +7,8 @@ use Rattle.dump_pump.specs.declared.source.SourceEnd.TheVariants as End
 use Rattle.dump_pump.specs.declared.transfer.Pumped.{Pumped}
 use Rattle.dump_pump.specs.declared.transfer.Pumped.TheVariants.{Done, OutletFailed, Lost, Cancelled}
 use Rattle.dump_pump.specs.Outlets.{Outgoing}
-use Rattle.dump_pump.specs.Sources.{Supply, more, part_size_limit}
+use Rattle.dump_pump.specs.Sources.{Supply, more}
+use Rattle.hprof_text.specs.Laws.{piece_size_limit}
 
 -- the bytes of the parts, one after another
 abbrev pub joined : List Piece → List ℕ
@@ -47,7 +48,7 @@ FitsPump given out ended failures failures' (Cancelled n) =
 -- a pump that had put out n bytes went on: a part more is out, whole, and more may come; or it ended so
 abbrev pub PumpsOn : Supply → Supply → Outgoing → Outgoing → ℕ → ℕ → Option Pumped → Type 0
 PumpsOn a b w w' n n' None =
-    (p : Piece) × (b.told ≡ more a.told (p ∷ [])) × (length p.bytes ≤ part_size_limit)
+    (p : Piece) × (b.told ≡ more a.told (p ∷ [])) × (length p.bytes ≤ piece_size_limit)
     × (b.left < a.left) × (0 < b.left) × (w'.out ≡ w.out ++ p.bytes)
     × (w'.failures ≡ w.failures) × (n' ≡ n + length p.bytes)
 PumpsOn a b w w' n n' (Some r) =

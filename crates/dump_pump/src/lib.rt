@@ -10,7 +10,7 @@ pub mod transfer;
 pub mod write_outlet;
 
 pub use heap_class::LostCause;
-pub use hprof_text::Piece;
+pub use hprof_text::{PIECE_LIMIT, Piece};
 // Re-exports the ghost list in which ends of dumps and sessions note what they saw. The kit has such a type in its HTTP
 // server alone. Nothing else of that crate is used.
 pub use http_server::Log;

@@ -3,7 +3,7 @@ ghost use Rattle.std.specs.Prelude.{◌≡◌, ◌≤◌, length, IfOk, IfErr, O
 ghost use Rattle.heap_trail.specs.declared.Action.TheVariants.{OpenPin, NextPiece, ClosePin};
 ghost use Rattle.heap_trail.specs.declared.Reply.TheVariants.{Pinned as PinnedReply, Part, Closed, Refused};
 ghost use Rattle.heap_trail.specs.Laws.{IsPieceOfLegal};
-ghost use Rattle.dump_pump.specs.Sources.{part_size_limit};
+ghost use Rattle.hprof_text.specs.Laws.{piece_size_limit};
 ghost use Rattle.heap_lock.specs.Calls.{IsWitnessed};
 ghost use Rattle.heap_lock.specs.LockStates.{IsDumperAct};
 
@@ -35,7 +35,7 @@ impl<L: Heap> Kept<L> {
         ensures done { IfOk result
             (λ p. IsDumperAct (NextPiece pin time) self.old (Part p) self.new) }
         ensures legal { IfOk result (λ p. IsPieceOfLegal L.config.ids time p) }
-        ensures small { IfOk result (λ p. length p.bytes ≤ part_size_limit) }
+        ensures small { IfOk result (λ p. length p.bytes ≤ piece_size_limit) }
         ensures refused { IfErr result
             (λ e. IsDumperAct (NextPiece pin time) self.old (Refused e) self.new) }
         ensures unchanged { OnErr result (self.new.machine ≡ self.old.machine) }
@@ -91,7 +91,7 @@ impl<L: Heap> Shared<L> {
         ensures witnessed { IsWitnessed L.config witness.old (NextPiece pin time) Part result
             witness.new }
         ensures legal { IfOk result (λ p. IsPieceOfLegal L.config.ids time p) }
-        ensures small { IfOk result (λ p. length p.bytes ≤ part_size_limit) }
+        ensures small { IfOk result (λ p. length p.bytes ≤ piece_size_limit) }
     {
         let mut kept = self.lock(rt);
         kept.show(witness);

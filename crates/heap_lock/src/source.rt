@@ -1,14 +1,14 @@
 //! The source of a live dump: the pieces of a pin, with the lock for one at a time.
 ghost use Rattle.std.specs.Prelude.{◌≡◌, ◌<◌, ◌≤◌, length, None as Nothing};
-ghost use Rattle.dump_pump.specs.Sources.{IsNextPart, part_limit, part_size_limit};
+ghost use Rattle.dump_pump.specs.Sources.{IsNextPart};
+ghost use Rattle.hprof_text.specs.Laws.{piece_limit, piece_size_limit};
 ghost use Rattle.heap_lock.specs.Sources.{IsLoss, IsPieceRefusal, GivesPart, Supplies, count_after, locked_supply};
 
 use crate::dumper::Dumper;
 use crate::heap::Heap;
-use dump_pump::source::PART_LIMIT;
 use dump_pump::{Next, Source, SourceEnd};
 use heap_class::{LostCause, Refusal};
-use hprof_text::Piece;
+use hprof_text::{PIECE_LIMIT, Piece};
 use std::sync::Wait;
 
 /// The pieces that a pin of a shared heap has left. Each call of `next` takes the lock for one piece and has let it go when it
@@ -20,7 +20,7 @@ pub struct LockedSource<'a, L: Heap, R: Wait> {
     pub pin: u64,
     /// The time in the header of the dump, in milliseconds.
     pub time: u64,
-    /// The number of pieces given, at most `PART_LIMIT`.
+    /// The number of pieces given, at most `PIECE_LIMIT`.
     pub count: u64,
     /// How the source ended, if it has.
     pub ended: Option<SourceEnd>,
@@ -57,9 +57,9 @@ impl<'a, L: Heap, R: Wait> LockedSource<'a, L, R> {
 
     /// Gives the next piece, which is one of the dump of a legal state, or says why there is none: Lost with the cause with
     /// which the pin is lost, Lost(Memory) if the piece was refused NoMemory, Lost(Closed) if the pin isn't open or the piece
-    /// would be that with the number `PART_LIMIT` and isn't the last. Never says Cancelled. May wait.
+    /// would be that with the number `PIECE_LIMIT` and isn't the last. Never says Cancelled. May wait.
     pub fn next_part(&mut self) -> Next
-        requires { self.old.count < part_limit }
+        requires { self.old.count < piece_limit }
         ensures supplies { Supplies L.config self.old.pin self.old.time self.old.count
             self.old.dumper self.new.dumper result }
         ensures next { IsNextPart (locked_supply self.old.count self.old.ended)
@@ -79,8 +79,8 @@ impl<'a, L: Heap, R: Wait> LockedSource<'a, L, R> {
 
     // Counts a piece, and says what it is.
     fn gives(&mut self, piece: Piece) -> Next
-        requires count { self.old.count < part_limit }
-        requires small { length piece.bytes ≤ part_size_limit }
+        requires count { self.old.count < piece_limit }
+        requires small { length piece.bytes ≤ piece_size_limit }
         ensures next { IsNextPart (locked_supply self.old.count self.old.ended)
             (locked_supply self.new.count self.new.ended) result }
         ensures given { GivesPart self.old.count piece result }
@@ -90,7 +90,7 @@ impl<'a, L: Heap, R: Wait> LockedSource<'a, L, R> {
     {
         if piece.last {
             self.ended = Some(SourceEnd::Whole);
-        } else if self.count + 1 == PART_LIMIT {
+        } else if self.count + 1 == PIECE_LIMIT {
             self.ended = Some(SourceEnd::Lost(LostCause::Closed));
             return Next::Lost(LostCause::Closed);
         }
@@ -114,6 +114,6 @@ impl<'a, L: Heap, R: Wait> Source for LockedSource<'a, L, R> {
     }
 
     fn parts_left(&self) -> u64 {
-        PART_LIMIT.saturating_sub(self.count)
+        PIECE_LIMIT.saturating_sub(self.count)
     }
 }

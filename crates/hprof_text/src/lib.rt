@@ -33,6 +33,9 @@ pub use crate::segment_bytes::SegmentBytes;
 /// The most bytes of a segment's body, unless it is a single sub-record.
 pub const SEGMENT_LIMIT: u64 = 4096;
 
+/// The most pieces of a dump.
+pub const PIECE_LIMIT: u64 = 16_785_538;
+
 /// The bytes of a piece.
 pub type Bytes = Items<u8>;
 

@@ -8,7 +8,7 @@ use Rattle.dump_pump.specs.declared.source.SourceEnd.{SourceEnd}
 use Rattle.dump_pump.specs.declared.source.SourceEnd.TheVariants.{Whole, Lost, Cancelled}
 use Rattle.dump_pump.specs.declared.source.Next.{Next}
 use Rattle.dump_pump.specs.declared.source.Next.TheVariants as Gave
-use Rattle.dump_pump.specs.Sources.{part_limit, part_size_limit}
+use Rattle.hprof_text.specs.Laws.{piece_limit, piece_size_limit}
 use Rattle.heap_trail.specs.Pins.{PinState, Kept, Gone, pin_at}
 use Rattle.heap_trail.specs.Machine.{Machine}
 use Rattle.machine_dump.specs.HandedPieces.{GivesPiece}
@@ -22,7 +22,7 @@ is_whole_end (Some Cancelled) = false
 
 -- the largest number of parts left, after `count`
 abbrev pub pieces_left : Option SourceEnd → ℕ → ℕ
-pieces_left ended count = if is_whole_end ended then 0 else part_limit - count
+pieces_left ended count = if is_whole_end ended then 0 else piece_limit - count
 
 -- the cause by which a dump is lost whose piece meets this refusal
 abbrev pub cause_of : Refusal → LostCause
@@ -54,9 +54,9 @@ may_end s (Some Cancelled) = false
 abbrev pub HandsOut : ℕ → ℕ → Machine → Machine → ℕ → ℕ → Option SourceEnd → Option SourceEnd → Next
     → Type 0
 HandsOut pin time m m' n n' ended ended' (Gave.Part p) =
-    GivesPiece pin time m m' p × (length p.bytes ≤ part_size_limit) × (n' ≡ n + 1)
+    GivesPiece pin time m m' p × (length p.bytes ≤ piece_size_limit) × (n' ≡ n + 1)
     × (ended' ≡ (if p.last then Some Whole else ended))
-    × (p.last ≡ false → n' < part_limit)
+    × (p.last ≡ false → n' < piece_limit)
 HandsOut pin time m m' n n' ended ended' (Gave.Lost cause) =
     (m' ≡ m) × (n' ≡ n) × (ended' ≡ Some (Lost cause)) × (may_lose (pin_at pin m.pins) cause ≡ true)
 HandsOut pin time m m' n n' ended ended' Gave.Cancelled = ⊥

@@ -19,7 +19,7 @@ pub struct FreshSource<'a> {
     pub pin: u64,
     /// The time in the header, in milliseconds.
     pub time: u64,
-    /// The number of parts handed out, at most `PART_LIMIT`.
+    /// The number of parts handed out, at most `PIECE_LIMIT`.
     pub count: u64,
     /// How the source ended.
     pub ended: Option<SourceEnd>,

@@ -23,7 +23,7 @@ use Rattle.session_grammar.specs.declared.command.Command.{Command}
 use Rattle.session_grammar.specs.declared.command.Command.TheVariants.{Blank, Bad, Ask, Piece, Dump, DumpNow, End}
 use Rattle.session_text.specs.Answers.{AnswersCommand, AnswersTo, BeginsTo, IsBadCommand, all_bad}
 use Rattle.session_text.specs.Dumps.{DumpsOn, Dumps, ClosesAfter, total_line}
-use Rattle.dump_pump.specs.Sources.{part_limit}
+use Rattle.hprof_text.specs.Laws.{piece_limit}
 use Rattle.session_grammar.specs.Grammar.{command_of}
 use Rattle.session_text.specs.Laws.{InTurn, IsStop, ending_line, IsBegun, IsListed, IsCutListed}
 use Rattle.session_grammar.specs.Lines.{NoLf}
@@ -144,10 +144,10 @@ record OpenListed (k time : ℕ) (m : Machine) (before : List (Action × Allocat
   leads : ActionsLeadTo m (after_open_reply k time r o t).machine after
   written : (after_open_reply k time r o t).written ≡ t.written ++ text
 
-actions_of_open_listed : (k time : ℕ) (m : Machine) (before : List (Action × Allocation)) (r : Reply) (o : Option ℕ) (t : Talk) → k ≤ part_limit → ActionsLeadTo m t.machine before → FitsOpen time o t → OpenListed k time m before r o t
+actions_of_open_listed : (k time : ℕ) (m : Machine) (before : List (Action × Allocation)) (r : Reply) (o : Option ℕ) (t : Talk) → k ≤ piece_limit → ActionsLeadTo m t.machine before → FitsOpen time o t → OpenListed k time m before r o t
 actions_of_open_listed k time m before r None t le l h = record { after = before; text = reply_text r; closes = (refl, refl); leads = l; written = refl }
 actions_of_open_listed k time m before r (Some pin) t le l h =
-    let g = dump_listed k part_limit pin time m before t 0 le l h in
+    let g = dump_listed k piece_limit pin time m before t 0 le l h in
     let u = pieces_dumped k pin time t 0 in
     let one = actions_lead_one_further m u.machine g.after (ClosePin pin) Granted g.leads tt in
     let after = g.after ++ (ClosePin pin, Granted) ∷ [] in
@@ -190,13 +190,13 @@ answer_listed time (Piece pin) m before t isnt l may =
     let one = actions_lead_one_further m t.machine before a (allocation_of t.allocations) l may in
     record { after = before ++ (a, allocation_of t.allocations) ∷ []; text = reply_text r.1; answers = (r.1, one.turn, refl); leads = one.leads; written = refl }
 answer_listed time (Dump pin) m before t isnt l h =
-    let g = dump_listed part_limit part_limit pin time m before t 0 (omega arith) l h in
+    let g = dump_listed piece_limit piece_limit pin time m before t 0 (omega arith) l h in
     record { after = g.after; text = g.text; answers = g.dumps; leads = g.leads; written = g.written }
 answer_listed time DumpNow m before t isnt l (may, h) =
     let r = done_quietly (OpenPin None) t in
     let one = actions_lead_one_further m t.machine before (OpenPin None) (allocation_of t.allocations) l may in
     let opened = before ++ (OpenPin None, allocation_of t.allocations) ∷ [] in
-    let g = actions_of_open_listed part_limit time m opened r.1 (pin_in r.1) r.0 (omega arith) one.leads h in
+    let g = actions_of_open_listed piece_limit time m opened r.1 (pin_in r.1) r.0 (omega arith) one.leads h in
     record { after = g.after; text = g.text; answers = (r.1, opened, one.turn, g.closes); leads = g.leads; written = g.written }
 answer_listed time End m before t isnt l h = absurd (true≢false isnt)
 
@@ -206,7 +206,7 @@ record BegunListed (pieces time : ℕ) (k : Command) (m : Machine) (before : Lis
   begun : (after ≡ before) ⊎ ((tail : List ℕ) × BeginsTo (InTurn m) IsBadCommand time k before tail after)
   leads : ActionsLeadTo m (after_up_to pieces time k t).machine after
 
-actions_of_begun_command_listed : (pieces time : ℕ) (k : Command) (m : Machine) (before : List (Action × Allocation)) (t : Talk) → pieces ≤ part_limit → ActionsLeadTo m t.machine before → FitsCommand time k t → BegunListed pieces time k m before t
+actions_of_begun_command_listed : (pieces time : ℕ) (k : Command) (m : Machine) (before : List (Action × Allocation)) (t : Talk) → pieces ≤ piece_limit → ActionsLeadTo m t.machine before → FitsCommand time k t → BegunListed pieces time k m before t
 actions_of_begun_command_listed pieces time Blank m before t le l h = record { after = before; begun = inl refl; leads = l }
 actions_of_begun_command_listed pieces time Bad m before t le l h = record { after = before; begun = inl refl; leads = l }
 actions_of_begun_command_listed pieces time (Ask a) m before t le l h =
@@ -216,7 +216,7 @@ actions_of_begun_command_listed pieces time (Piece pin) m before t le l h =
     let g = answer_listed time (Piece pin) m before t refl l h in
     record { after = g.after; begun = inr (g.text, g.answers); leads = g.leads }
 actions_of_begun_command_listed pieces time (Dump pin) m before t le l h =
-    let g = dump_listed pieces part_limit pin time m before t 0 le l h in
+    let g = dump_listed pieces piece_limit pin time m before t 0 le l h in
     record { after = g.after; begun = inr (g.text, (pieces, le, g.dumps)); leads = g.leads }
 actions_of_begun_command_listed pieces time DumpNow m before t le l (may, h) =
     let r = done_quietly (OpenPin None) t in

@@ -19,7 +19,7 @@ use Rattle.session_text.specs.declared.limits.SessionLimits.{SessionLimits}
 use Rattle.session_text.specs.Limits.{longest_line}
 use Rattle.session_text.specs.Answers.{AnswersTo, BeginsTo, IsBadCommand}
 use Rattle.session_text.specs.Dumps.{Dumps, ClosesAfter, total_line}
-use Rattle.dump_pump.specs.Sources.{part_limit}
+use Rattle.hprof_text.specs.Laws.{piece_limit}
 use Rattle.session_grammar.specs.Grammar.{command_of}
 use Rattle.session_text.specs.Replies.{reply_text, data_lines, piece_in, pin_in}
 use Rattle.session_text.specs.Session.{Talk, wrote, allocation_of, allocations_after, done_quietly, done, after_reply, pieces_dumped, closed, after_open_reply, after_up_to, after_command, go_on, FitsAction, FitsRest, FitsDump, FitsOpen, FitsCommand, FitLines, at_read_end, at_long, talked}
@@ -59,20 +59,20 @@ dump_fits (suc n) pin time t so_far e =
     let r = done_quietly (NextPiece pin time) t in
     (any_action_fits_without_allocations (NextPiece pin time) t e, dump_rest_fits_without_allocations (FitsDump n pin time) (λ u k h. dump_fits n pin time u k h) so_far (piece_in r.1) r.0 (ap allocations_after e))
 
-open_reply_without_allocations : (time : ℕ) (r : Reply) (o : Option ℕ) (t : Talk) → t.allocations ≡ [] → (after_open_reply part_limit time r o t).allocations ≡ []
+open_reply_without_allocations : (time : ℕ) (r : Reply) (o : Option ℕ) (t : Talk) → t.allocations ≡ [] → (after_open_reply piece_limit time r o t).allocations ≡ []
 open_reply_without_allocations time r None t e = e
-open_reply_without_allocations time r (Some pin) t e = dump_fine part_limit pin time t 0 e
+open_reply_without_allocations time r (Some pin) t e = dump_fine piece_limit pin time t 0 e
 
 open_fits_without_allocations : (time : ℕ) (o : Option ℕ) (t : Talk) → t.allocations ≡ [] → FitsOpen time o t
 open_fits_without_allocations time None t e = tt
-open_fits_without_allocations time (Some pin) t e = dump_fits part_limit pin time t 0 e
+open_fits_without_allocations time (Some pin) t e = dump_fits piece_limit pin time t 0 e
 
 command_fine : (time : ℕ) (k : Command) (t : Talk) → t.allocations ≡ [] → (after_command time k t).allocations ≡ []
 command_fine time Blank t e = e
 command_fine time Bad t e = e
 command_fine time (Ask a) t e = ap allocations_after e
 command_fine time (Piece pin) t e = ap allocations_after e
-command_fine time (Dump pin) t e = dump_fine part_limit pin time t 0 e
+command_fine time (Dump pin) t e = dump_fine piece_limit pin time t 0 e
 command_fine time DumpNow t e = let r = done_quietly (OpenPin None) t in open_reply_without_allocations time r.1 (pin_in r.1) r.0 (ap allocations_after e)
 command_fine time End t e = e
 
@@ -81,7 +81,7 @@ command_fits_without_allocations time Blank t e = tt
 command_fits_without_allocations time Bad t e = tt
 command_fits_without_allocations time (Ask a) t e = inl (any_action_fits_without_allocations a t e)
 command_fits_without_allocations time (Piece pin) t e = any_action_fits_without_allocations (NextPiece pin time) t e
-command_fits_without_allocations time (Dump pin) t e = dump_fits part_limit pin time t 0 e
+command_fits_without_allocations time (Dump pin) t e = dump_fits piece_limit pin time t 0 e
 command_fits_without_allocations time DumpNow t e = let r = done_quietly (OpenPin None) t in (any_action_fits_without_allocations (OpenPin None) t e, open_fits_without_allocations time (pin_in r.1) r.0 (ap allocations_after e))
 command_fits_without_allocations time End t e = tt
 
@@ -114,9 +114,9 @@ unfolding pieces_dumped
 dumped_text_keeps_prefix zero pin time t so_far = text_is_its_own_prefix t.written
 dumped_text_keeps_prefix (suc n) pin time t so_far = let r = done_quietly (NextPiece pin time) t in prefix_stays_through_dump_rest (pieces_dumped n pin time) (λ u k. dumped_text_keeps_prefix n pin time u k) so_far r.1 (piece_in r.1) r.0
 
-prefix_stays_through_open_reply : (time : ℕ) (r : Reply) (o : Option ℕ) (t : Talk) → IsPrefix t.written (after_open_reply part_limit time r o t).written
+prefix_stays_through_open_reply : (time : ℕ) (r : Reply) (o : Option ℕ) (t : Talk) → IsPrefix t.written (after_open_reply piece_limit time r o t).written
 prefix_stays_through_open_reply time r None t = (reply_text r, refl)
-prefix_stays_through_open_reply time r (Some pin) t = dumped_text_keeps_prefix part_limit pin time t 0
+prefix_stays_through_open_reply time r (Some pin) t = dumped_text_keeps_prefix piece_limit pin time t 0
 
 prefix_stays_through_read_end : (e : ReadEnd) (b : Bool) (t : Talk) → IsPrefix t.written (at_read_end e b t).0.written
 prefix_stays_through_read_end Over true t = text_is_its_own_prefix t.written
@@ -133,8 +133,8 @@ prefix_stays_through_command more ih time Blank t = ih t
 prefix_stays_through_command more ih time Bad t = prefix_of_shorter_text t.written (codes "bad command\n") _ (ih (wrote (codes "bad command\n") t))
 prefix_stays_through_command more ih time (Ask a) t = prefix_of_shorter_text t.written _ _ (ih (done a t))
 prefix_stays_through_command more ih time (Piece pin) t = prefix_of_shorter_text t.written _ _ (ih (done (NextPiece pin time) t))
-prefix_stays_through_command more ih time (Dump pin) t = prefix_of_prefix_is_prefix t.written _ _ (dumped_text_keeps_prefix part_limit pin time t 0) (ih (pieces_dumped part_limit pin time t 0))
-prefix_stays_through_command more ih time DumpNow t = let r = done_quietly (OpenPin None) t in prefix_of_prefix_is_prefix t.written _ _ (prefix_stays_through_open_reply time r.1 (pin_in r.1) r.0) (ih (after_open_reply part_limit time r.1 (pin_in r.1) r.0))
+prefix_stays_through_command more ih time (Dump pin) t = prefix_of_prefix_is_prefix t.written _ _ (dumped_text_keeps_prefix piece_limit pin time t 0) (ih (pieces_dumped piece_limit pin time t 0))
+prefix_stays_through_command more ih time DumpNow t = let r = done_quietly (OpenPin None) t in prefix_of_prefix_is_prefix t.written _ _ (prefix_stays_through_open_reply time r.1 (pin_in r.1) r.0) (ih (after_open_reply piece_limit time r.1 (pin_in r.1) r.0))
 prefix_stays_through_command more ih time End t = text_is_its_own_prefix t.written
 
 pub stays : (limits : SessionLimits) (time : ℕ) (e : ReadEnd) (ls : List (List ℕ)) (t : Talk) → IsPrefix t.written (talked limits time e ls t).0.written
@@ -197,14 +197,14 @@ equal_text_is_prefix_of_talk m ms xs ys t e f = subst (λ (u : Talk). IsPrefix y
 record DumpBegins (k pin time : ℕ) (m : Machine) (text : List ℕ) (m' : Machine) : Type 0 where
   found : List Allocation
   here : (w : List ℕ) → pieces_dumped k pin time (talk m found w) 0 ≡ talk m' [] (w ++ text)
-  so : (w : List ℕ) → IsPrefix (w ++ text) (pieces_dumped part_limit pin time (talk m found w) 0).written
-  spent : (w : List ℕ) → (pieces_dumped part_limit pin time (talk m found w) 0).allocations ≡ []
-  fit : (w : List ℕ) → FitsDump part_limit pin time (talk m found w) 0
+  so : (w : List ℕ) → IsPrefix (w ++ text) (pieces_dumped piece_limit pin time (talk m found w) 0).written
+  spent : (w : List ℕ) → (pieces_dumped piece_limit pin time (talk m found w) 0).allocations ≡ []
+  fit : (w : List ℕ) → FitsDump piece_limit pin time (talk m found w) 0
 
-dump_begins : (k pin time : ℕ) (c : Local) (text : List ℕ) (d : Local) → k ≤ part_limit → Dumps acts pin time k c 0 text d → DumpBegins k pin time c.machine text d.machine
+dump_begins : (k pin time : ℕ) (c : Local) (text : List ℕ) (d : Local) → k ≤ piece_limit → Dumps acts pin time k c 0 text d → DumpBegins k pin time c.machine text d.machine
 dump_begins k pin time c text d le h =
     let f = dump_talks_so k pin time c 0 text d h in
-    let g : (w : List ℕ) → GoesOn k part_limit pin time (talk c.machine (f.found ++ []) w) 0 = λ w. dump_goes_on k part_limit pin time (talk c.machine (f.found ++ []) w) 0 le in
+    let g : (w : List ℕ) → GoesOn k piece_limit pin time (talk c.machine (f.found ++ []) w) 0 = λ w. dump_goes_on k piece_limit pin time (talk c.machine (f.found ++ []) w) 0 le in
     let none : (w : List ℕ) → (pieces_dumped k pin time (talk c.machine (f.found ++ []) w) 0).allocations ≡ [] = λ w. ap (λ (u : Talk). u.allocations) (f.so [] w) in
     record {
       found = f.found ++ [];
@@ -218,11 +218,11 @@ dump_begins k pin time c text d le h =
 record OpenBegins (k time : ℕ) (m : Machine) (r : Reply) (o : Option ℕ) (text : List ℕ) (m' : Machine) : Type 0 where
   found : List Allocation
   here : (w : List ℕ) → after_open_reply k time r o (talk m found w) ≡ talk m' [] (w ++ text)
-  so : (w : List ℕ) → IsPrefix (w ++ text) (after_open_reply part_limit time r o (talk m found w)).written
-  spent : (w : List ℕ) → (after_open_reply part_limit time r o (talk m found w)).allocations ≡ []
+  so : (w : List ℕ) → IsPrefix (w ++ text) (after_open_reply piece_limit time r o (talk m found w)).written
+  spent : (w : List ℕ) → (after_open_reply piece_limit time r o (talk m found w)).allocations ≡ []
   fit : (w : List ℕ) → FitsOpen time o (talk m found w)
 
-cut_open_begins_its_answer : (k time : ℕ) (c : Local) (r : Reply) (o : Option ℕ) (text : List ℕ) (d : Local) → k ≤ part_limit → ClosesAfter acts time r o k c text d → OpenBegins k time c.machine r o text d.machine
+cut_open_begins_its_answer : (k time : ℕ) (c : Local) (r : Reply) (o : Option ℕ) (text : List ℕ) (d : Local) → k ≤ piece_limit → ClosesAfter acts time r o k c text d → OpenBegins k time c.machine r o text d.machine
 cut_open_begins_its_answer k time c r None text d le h =
     let all : (w : List ℕ) → after_open_reply k time r None (talk c.machine [] w) ≡ talk d.machine [] (w ++ text) = λ w. equal_talk_at_moved_machine c.machine d.machine [] w (reply_text r) text (ap (λ (x : Local). x.machine) h.1) h.0 in
     record {
@@ -247,7 +247,7 @@ cut_open_begins_its_answer k time c r (Some pin) text d le (between, closing, h,
 pub record BeginsSo (time : ℕ) (k : Command) (c : Local) (tail : List ℕ) (d : Local) (w : List ℕ) (more : Talk → Talk × Ended) : Type 0 where
   pub found : List Allocation
   pub pieces : ℕ
-  pub most : pieces ≤ part_limit
+  pub most : pieces ≤ piece_limit
   pub so : IsPrefix (w ++ tail) (go_on more time k (talk c.machine found w)).0.written
   pub fit : FitsCommand time k (talk c.machine found w)
   pub spent : (after_command time k (talk c.machine found w)).allocations ≡ []
@@ -259,7 +259,7 @@ answered_command_begins_talk time k c tail d w more ih h =
     let f = answered_command_follows time k c tail d h in
     record {
       found = f.found ++ [];
-      pieces = part_limit;
+      pieces = piece_limit;
       most = omega arith;
       so = subst (λ r. IsPrefix (w ++ tail) r.0.written) (sym (command_goes_on_to_more time k c tail d f [] w more)) (ih (talk d.machine [] (w ++ tail)));
       fit = f.fit [] w;
@@ -279,7 +279,7 @@ begun_command_begins_talk time (Dump pin) c tail d w more ih (pieces, le, h) =
       found = f.found;
       pieces = pieces;
       most = le;
-      so = prefix_of_prefix_is_prefix (w ++ tail) _ _ (f.so w) (ih (pieces_dumped part_limit pin time (talk c.machine f.found w) 0));
+      so = prefix_of_prefix_is_prefix (w ++ tail) _ _ (f.so w) (ih (pieces_dumped piece_limit pin time (talk c.machine f.found w) 0));
       fit = f.fit w;
       spent = f.spent w;
       here = equal_text_is_prefix_of_talk d.machine [] (w ++ tail) (w ++ tail) _ (f.here w) refl;
@@ -294,9 +294,9 @@ begun_command_begins_talk time DumpNow c tail d w more ih (pieces, le, (r, opene
       found = allocation ∷ f.found;
       pieces = pieces;
       most = le;
-      so = prefix_of_prefix_is_prefix (w ++ tail) _ _ (subst (λ (x : Talk × Reply). IsPrefix (w ++ tail) (after_open_reply part_limit time x.1 (pin_in x.1) x.0).written) (sym first) (f.so w)) (ih (after_command time DumpNow t));
+      so = prefix_of_prefix_is_prefix (w ++ tail) _ _ (subst (λ (x : Talk × Reply). IsPrefix (w ++ tail) (after_open_reply piece_limit time x.1 (pin_in x.1) x.0).written) (sym first) (f.so w)) (ih (after_command time DumpNow t));
       fit = (may, subst (λ (x : Talk × Reply). FitsOpen time (pin_in x.1) x.0) (sym first) (f.fit w));
-      spent = subst (λ (x : Talk × Reply). (after_open_reply part_limit time x.1 (pin_in x.1) x.0).allocations ≡ []) (sym first) (f.spent w);
+      spent = subst (λ (x : Talk × Reply). (after_open_reply piece_limit time x.1 (pin_in x.1) x.0).allocations ≡ []) (sym first) (f.spent w);
       here = equal_text_is_prefix_of_talk d.machine [] (w ++ tail) (w ++ tail) (after_up_to pieces time DumpNow t) here refl;
       machine = sym (ap (λ (u : Talk). u.machine) here);
     }

@@ -18,7 +18,7 @@ use Rattle.session_grammar.specs.declared.command.Command.TheVariants.{Blank, Ba
 use Rattle.session_text.specs.declared.commands.Local.{Local}
 use Rattle.session_text.specs.Answers.{AnswersTo, IsBadCommand}
 use Rattle.session_text.specs.Dumps.{DumpsOn, Dumps, ClosesAfter, total_line}
-use Rattle.dump_pump.specs.Sources.{part_limit}
+use Rattle.hprof_text.specs.Laws.{piece_limit}
 use Rattle.session_text.specs.Local.{LocalActs}
 use Rattle.session_text.specs.Replies.{reply_text, data_lines, piece_in, pin_in}
 use Rattle.session_text.specs.Session.{Talk, wrote, done_quietly, done, after_reply, pieces_dumped, closed, after_open_reply, after_command, is_end, go_on, FitsAction, FitsRest, FitsDump, FitsOpen, FitsCommand}
@@ -139,17 +139,17 @@ pin_closed_under_any_allocations m m' pin r ms w e = ap (λ (x : Machine × Repl
 -- the allocations under which a dump of the current state has this text after the reply to OpenPin
 record OpenSo (time : ℕ) (m : Machine) (r : Reply) (o : Option ℕ) (text : List ℕ) (m' : Machine) : Type 0 where
   found : List Allocation
-  so : (ms : List Allocation) (w : List ℕ) → after_open_reply part_limit time r o (talk m (found ++ ms) w) ≡ talk m' ms (w ++ text)
+  so : (ms : List Allocation) (w : List ℕ) → after_open_reply piece_limit time r o (talk m (found ++ ms) w) ≡ talk m' ms (w ++ text)
   fit : (ms : List Allocation) (w : List ℕ) → FitsOpen time o (talk m (found ++ ms) w)
 
-open_and_dump_talks_so : (time : ℕ) (c : Local) (r : Reply) (o : Option ℕ) (text : List ℕ) (d : Local) → ClosesAfter acts time r o part_limit c text d → OpenSo time c.machine r o text d.machine
+open_and_dump_talks_so : (time : ℕ) (c : Local) (r : Reply) (o : Option ℕ) (text : List ℕ) (d : Local) → ClosesAfter acts time r o piece_limit c text d → OpenSo time c.machine r o text d.machine
 open_and_dump_talks_so time c r None text d h = record {
   found = [];
   so = λ ms w. equal_talk_at_moved_machine c.machine d.machine ms w (reply_text r) text (ap (λ (x : Local). x.machine) h.1) h.0;
   fit = λ ms w. tt;
 }
 open_and_dump_talks_so time c r (Some pin) text d (between, closing, h, ((allocation, may, e), kept)) =
-    let f = dump_talks_so part_limit pin time c 0 text between h in
+    let f = dump_talks_so piece_limit pin time c 0 text between h in
     let is = close_has_plain_allocation between.machine d.machine pin allocation closing may e in
     record {
       found = f.found;
@@ -211,14 +211,14 @@ answered_command_follows time (Piece pin) c text d (r, ((allocation, may, e), ke
   fit = λ ms w. may;
 }
 answered_command_follows time (Dump pin) c text d h =
-    let f = dump_talks_so part_limit pin time c 0 text d h in
+    let f = dump_talks_so piece_limit pin time c 0 text d h in
     record { found = f.found; no_end = refl; after = f.so; fit = f.fit }
 answered_command_follows time DumpNow c text d (r, opened, ((allocation, may, e), kept), closes) =
     let g = open_and_dump_talks_so time opened r (pin_in r) text d closes in
     record {
       found = allocation ∷ g.found;
       no_end = refl;
-      after = λ ms w. ap (λ (x : Talk × Reply). after_open_reply part_limit time x.1 (pin_in x.1) x.0) (action_done_under_its_allocation (OpenPin None) c.machine allocation (g.found ++ ms) w opened.machine r e) ∙ g.so ms w;
+      after = λ ms w. ap (λ (x : Talk × Reply). after_open_reply piece_limit time x.1 (pin_in x.1) x.0) (action_done_under_its_allocation (OpenPin None) c.machine allocation (g.found ++ ms) w opened.machine r e) ∙ g.so ms w;
       fit = λ ms w. (may, subst (λ (x : Talk × Reply). FitsOpen time (pin_in x.1) x.0) (sym (action_done_under_its_allocation (OpenPin None) c.machine allocation (g.found ++ ms) w opened.machine r e)) (g.fit ms w));
     }
 answered_command_follows time End c text d h = absurd h

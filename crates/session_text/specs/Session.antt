@@ -17,7 +17,7 @@ use Rattle.session_text.specs.Limits.{longest_line}
 use Rattle.session_grammar.specs.declared.command.Command.{Command}
 use Rattle.session_grammar.specs.declared.command.Command.TheVariants.{Blank, Bad, Ask, Piece, Dump, DumpNow, End}
 use Rattle.session_text.specs.Dumps.{total_line}
-use Rattle.dump_pump.specs.Sources.{part_limit}
+use Rattle.hprof_text.specs.Laws.{piece_limit}
 use Rattle.session_grammar.specs.Grammar.{command_of}
 use Rattle.dump_pump.specs.Inlets.{Incoming, whole}
 use Rattle.session_grammar.specs.Reads.{ActionTakesMemory}
@@ -52,12 +52,14 @@ allocations_after (k ∷ ks) = ks
 -- the session after an action, and its reply, of which nothing is written yet
 abbrev pub done_quietly : Action → Talk → Talk × Reply
 done_quietly a t =
-    let r = acted_under t.machine (a, allocation_of t.allocations) in
-    (record {
-      machine = r.0;
-      allocations = allocations_after t.allocations;
-      written = t.written;
-    }, r.1)
+    let r = acted_under t.machine (a, allocation_of t.allocations) in (
+      record {
+        machine = r.0;
+        allocations = allocations_after t.allocations;
+        written = t.written;
+      },
+      r.1,
+    )
 
 -- the session after an action; if an allocation for its line failed, it is as an action that failed to get memory
 abbrev pub done : Action → Talk → Talk
@@ -107,7 +109,7 @@ after_up_to most time End t = t
 
 -- after a command other than `end`
 abbrev pub after_command : ℕ → Command → Talk → Talk
-after_command time k t = after_up_to part_limit time k t
+after_command time k t = after_up_to piece_limit time k t
 
 -- whether the command is `end`
 abbrev pub is_end : Command → Bool
@@ -170,7 +172,7 @@ FitsDump (suc n) pin time t so_far =
 
 -- the allocations are possible in a dump of the current state, after the reply to OpenPin
 abbrev pub FitsOpen : ℕ → Option ℕ → Talk → Type 0
-FitsOpen time (Some pin) t = FitsDump part_limit pin time t 0
+FitsOpen time (Some pin) t = FitsDump piece_limit pin time t 0
 FitsOpen time None t = Unit {0}
 
 -- the allocation of an action is possible for it, or it refuses a line whose reading allocates
@@ -180,7 +182,7 @@ FitsCommand time Bad t = Unit {0}
 FitsCommand time (Ask a) t =
     FitsAction a t ⊎ (ActionTakesMemory a × (allocation_of t.allocations ≡ Denied))
 FitsCommand time (Piece pin) t = FitsAction (NextPiece pin time) t
-FitsCommand time (Dump pin) t = FitsDump part_limit pin time t 0
+FitsCommand time (Dump pin) t = FitsDump piece_limit pin time t 0
 FitsCommand time DumpNow t =
     let r =
     done_quietly (OpenPin None) t in
@@ -213,7 +215,7 @@ ShowsSession limits m allocations time bytes e out m' ended =
 -- the next line was acted on, a dump up to some piece, and the text with its answer was cut short
 abbrev pub CutsLine : SessionLimits → ℕ → List ℕ → Talk → List ℕ → Machine → Type 0
 CutsLine limits time rest t out m' =
-    (l : List ℕ) × BeginsWith limits l rest × (pieces : ℕ) × (pieces ≤ part_limit)
+    (l : List ℕ) × BeginsWith limits l rest × (pieces : ℕ) × (pieces ≤ piece_limit)
     × (m' ≡ (after_up_to pieces time (command_of l) t).machine)
     × IsCutShort (after_up_to pieces time (command_of l) t).written [] out
 

@@ -10,8 +10,8 @@ use crate::page::Page;
 use crate::reply::{piece_in, pin_in, write_reply};
 use crate::write::{write_number_line, write_text};
 use dump_pump::Outlet;
-use dump_pump::source::PART_LIMIT;
 use heap_trail::Action;
+use hprof_text::PIECE_LIMIT;
 
 /// Adds a dump of a pin to a page, which is flushed whenever it is full: the data lines of the pin's pieces, and their length
 /// or the line of a refusal. Returns false if a write failed.
@@ -26,7 +26,7 @@ pub fn write_dump<O: Outlet, C: Commands>(
         (O.seen outlet.old) page.new (O.seen outlet.new) result }
 {
     let mut total: u64 = 0;
-    for number in 0..PART_LIMIT {
+    for number in 0..PIECE_LIMIT {
         let reply = commands.act(Action::NextPiece { pin, time });
         let Some(piece) = piece_in(&reply) else {
             return write_reply(page, outlet, &reply);

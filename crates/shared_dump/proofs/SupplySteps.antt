@@ -12,7 +12,8 @@ use Rattle.dump_pump.specs.declared.source.SourceEnd.{SourceEnd}
 use Rattle.dump_pump.specs.declared.source.SourceEnd.TheVariants as End
 use Rattle.dump_pump.specs.declared.source.Next.{Next}
 use Rattle.dump_pump.specs.declared.source.Next.TheVariants.{Part, Lost, Cancelled}
-use Rattle.dump_pump.specs.Sources.{IsNextPart, part_limit, parts_with}
+use Rattle.dump_pump.specs.Sources.{IsNextPart, parts_with}
+use Rattle.dump_pump.specs.PieceLaws.{piece_limit}
 use Rattle.heap_lock.specs.Calls.{Call}
 use Rattle.heap_lock.specs.Dumpers.{DumperState, Makes}
 use Rattle.heap_lock.specs.Laws.{pieces_given}
@@ -118,7 +119,7 @@ supply_still_told_after_part config t d2 count2 (Part q) not (inl u) count s =
 supply_still_told_after_part config t d2 count2 (Lost cause) not (inl u) count s =
     let w = u.1 in
     let got = one_piece_reply_more t.pin t.time s.asked.0 u.0 t.given (pieces_got_are_given t.given t.ended _ not s.asked.3) in
-    let limit : part_limit ≤ length t.given + 1 = omega (arith, u.3.1, s.counted) in
+    let limit : piece_limit ≤ length t.given + 1 = omega (arith, u.3.1, s.counted) in
     record {
       given = given_pieces_still_seen t.pin t.time t.start.seen t.given t.dumper.seen w.0.0 (NextPiece t.pin t.time, Said.Part u.0) d2.seen s.given w.0.1;
       legal = s.legal;

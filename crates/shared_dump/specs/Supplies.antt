@@ -15,7 +15,8 @@ use Rattle.dump_pump.specs.declared.source.SourceEnd.{SourceEnd}
 use Rattle.dump_pump.specs.declared.source.SourceEnd.TheVariants as End
 use Rattle.dump_pump.specs.declared.source.Next.{Next}
 use Rattle.dump_pump.specs.declared.source.Next.TheVariants.{Part, Lost, Cancelled}
-use Rattle.dump_pump.specs.Sources.{Supply, part_limit}
+use Rattle.dump_pump.specs.Sources.{Supply}
+use Rattle.dump_pump.specs.PieceLaws.{piece_limit}
 use Rattle.heap_lock.specs.Calls.{Call}
 use Rattle.heap_lock.specs.Dumpers.{AllAsk, DumperState}
 use Rattle.heap_lock.specs.Laws.{pieces_given}
@@ -54,7 +55,7 @@ supply_of pin time start d given count ended =
 -- what is seen of a source that tells its pieces
 abbrev pub told_supply : List Piece → ℕ → Option SourceEnd → Supply
 told_supply given count ended =
-    record { told = Some given; ended = ended; left = part_limit - count }
+    record { told = Some given; ended = ended; left = piece_limit - count }
 
 -- the first dumper in a ghost list
 abbrev pub first_dumper : List (DumperState × Unit {0}) → DumperState
@@ -94,7 +95,7 @@ WasRefused pin time start seen cause =
 abbrev pub WasTooMany : ℕ → ℕ → List Call → List Piece → List Call → LostCause → Type 0
 WasTooMany pin time start given seen cause =
     (p : Piece) × WasReplied pin time start seen (Said.Part p) × (p.last ≡ false)
-    × (part_limit ≤ length given + 1) × (cause ≡ Closed)
+    × (piece_limit ≤ length given + 1) × (cause ≡ Closed)
 
 -- why a source is lost
 abbrev pub IsLost : ℕ → ℕ → List Call → List Piece → List Call → LostCause → Type 0
@@ -117,7 +118,7 @@ IsNotLost (Some End.Cancelled) = Unit {0}
 
 -- a dumper got these pieces: those that were given, and one that was too many
 abbrev pub IsTooMany : List Piece → List Piece → Type 0
-IsTooMany given got = (p : Piece) × (got ≡ given ++ p ∷ []) × (part_limit ≤ length given + 1)
+IsTooMany given got = (p : Piece) × (got ≡ given ++ p ∷ []) × (piece_limit ≤ length given + 1)
 
 -- the pieces that a dumper got are those that were given; of a source that is lost, the last one may have been too many
 abbrev pub AreGot : List Piece → Option SourceEnd → List Piece → Type 0

@@ -5,8 +5,7 @@ ghost use Rattle.heap_lock.specs.Calls.{IsLegalLedger};
 ghost use Rattle.dump_pump.specs.Sources.{parts_in, parts_with};
 ghost use Rattle.shared_dump.specs.Supplies.{IsNotLost, IsSupplied, ended_with, nothing_of};
 
-use dump_pump::source::PART_LIMIT;
-use dump_pump::{Log, Next, Piece, Source, SourceEnd};
+use dump_pump::{Log, Next, PIECE_LIMIT, Piece, Source, SourceEnd};
 use heap_lock::{Dumper, Heap, LockedSource, LostCause};
 use std::marker::Model;
 use std::sync::Wait;
@@ -126,6 +125,6 @@ impl<'a, L: Heap, R: Wait> Source for ToldSource<'a, L, R> {
     }
 
     fn parts_left(&self) -> u64 {
-        PART_LIMIT.saturating_sub(self.source.count)
+        PIECE_LIMIT.saturating_sub(self.source.count)
     }
 }

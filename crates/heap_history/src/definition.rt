@@ -185,7 +185,7 @@ impl Definition {
     }
 
     /// Returns whether these are its name and its fields. Takes no memory.
-    pub fn is_of(&self, name: &Name, fields: &[Field]) -> bool
+    pub(crate) fn is_of(&self, name: &Name, fields: &[Field]) -> bool
         ensures { IsTrue result ↔
             ((name_of self.now ≡ name.now) × (fields_of self.now ≡ fields.now)) }
     {

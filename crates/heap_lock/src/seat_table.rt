@@ -86,7 +86,7 @@ impl HomeTable<TableSide> {
     }
 
     /// Adds the entry of this turn to both copies, which are equal. Takes no memory.
-    pub fn add_entry(
+    pub(crate) fn add_entry(
         &mut self,
         share: Badge<TableSide>,
         turn: u64,

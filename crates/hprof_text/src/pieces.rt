@@ -128,7 +128,11 @@ impl Segment {
 }
 
 /// Returns the first piece, and the cursor after it. Fails with NoMemory if an allocation fails.
-pub fn start_from<V: View>(alloc: Global, view: &V, time: u64) -> Result<(Piece, Cursor), Refusal>
+pub(crate) fn start_from<V: View>(
+    alloc: Global,
+    view: &V,
+    time: u64,
+) -> Result<(Piece, Cursor), Refusal>
     ensures piece { IfOk result (λ p. p.0 ≡ piece_of (V.ids view.now) (V.image view.now) time 0) }
     ensures next { IfOk result
         (λ p. IsAt (V.ids view.now) (V.image view.now) (V.places view.now) p.1 1) }
@@ -165,7 +169,7 @@ fn opening_bytes(
 
 /// Returns the piece of the segment at the cursor, or of the end if no sub-record is left, and the cursor after it. Fails with
 /// NoMemory if an allocation fails.
-pub fn segment_from<V: View>(
+pub(crate) fn segment_from<V: View>(
     alloc: Global,
     view: &V,
     cursor: Cursor,
@@ -196,7 +200,7 @@ pub fn segment_from<V: View>(
 }
 
 /// Returns the empty piece past the last.
-pub fn past_from<V: View>(alloc: Global, view: &V) -> (Piece, Cursor)
+pub(crate) fn past_from<V: View>(alloc: Global, view: &V) -> (Piece, Cursor)
     ensures piece { (time i : ℕ)
         → IsAt (V.ids view.now) (V.image view.now) (V.places view.now) Past i
         → result.0 ≡ piece_of (V.ids view.now) (V.image view.now) time i }

@@ -70,7 +70,7 @@ impl SegmentBytes {
     }
 
     /// Appends the head of a record whose body has `length` bytes. There must be room.
-    pub fn record_head(&mut self, tag: u8, length: u32)
+    pub(crate) fn record_head(&mut self, tag: u8, length: u32)
         requires { HasRoom self.old (record_head tag length) }
         ensures written { self.new.written ≡ self.old.written ++ record_head tag length }
         ensures limit { self.new.limit ≡ self.old.limit }
@@ -235,7 +235,7 @@ impl SegmentBytes {
     /// Appends an INSTANCE DUMP: own fields first, then the super's. There must be room.
     #[inline(always)]
     #[tactic(auto, unfolding(crate::specs::Text::dump_of))]
-    pub fn instance_dump(
+    pub(crate) fn instance_dump(
         &mut self,
         ids: IdSize,
         classes: &FirstClasses<'_>,
@@ -258,7 +258,13 @@ impl SegmentBytes {
 
     /// Appends an OBJECT ARRAY DUMP of at most 2,097,147 words. There must be room.
     #[tactic(auto, unfolding(crate::specs::Text::dump_of))]
-    pub fn object_array_dump(&mut self, ids: IdSize, object: u64, class: ClassNo, words: &[u64])
+    pub(crate) fn object_array_dump(
+        &mut self,
+        ids: IdSize,
+        object: u64,
+        class: ClassNo,
+        words: &[u64],
+    )
         requires room { HasRoom self.old (dump_of ids [] object (Array class) words.now) }
         requires small { length words.now ≤ large_array_limit }
         requires few { class < class_limit }
@@ -277,7 +283,13 @@ impl SegmentBytes {
 
     /// Appends a PRIMITIVE ARRAY DUMP of at most 2,097,147 words. There must be room.
     #[tactic(auto, unfolding(crate::specs::Text::dump_of, crate::specs::Text::value_bytes))]
-    pub fn primitive_array_dump(&mut self, ids: IdSize, object: u64, kind: Kind, words: &[u64])
+    pub(crate) fn primitive_array_dump(
+        &mut self,
+        ids: IdSize,
+        object: u64,
+        kind: Kind,
+        words: &[u64],
+    )
         requires room { HasRoom self.old (dump_of ids [] object (Prim kind) words.now) }
         requires small { length words.now ≤ large_array_limit }
         ensures written { self.new.written

@@ -105,7 +105,7 @@ fn colon_or_end(text: &[u8]) -> Option<usize>
 
 /// Reads all words that are left as fields, and marks their places in the text that isn't read yet. Returns false if one of
 /// them is no field.
-pub fn read_fields(mut words: Words, marks: &mut FieldSpans) -> bool
+pub(crate) fn read_fields(mut words: Words, marks: &mut FieldSpans) -> bool
     requires { length words ≤ LINE_LIMIT }
     ensures { MatchBool result
         ((plain_fields (words_of_line words.entry)
@@ -129,7 +129,11 @@ pub fn read_fields(mut words: Words, marks: &mut FieldSpans) -> bool
 }
 
 /// Returns copies of the fields of this text. Fails if an allocation fails.
-pub fn copied_all(alloc: Global, text: &[u8], marks: &[FieldSpan]) -> Result<Fields, AllocError>
+pub(crate) fn copied_all(
+    alloc: Global,
+    text: &[u8],
+    marks: &[FieldSpan],
+) -> Result<Fields, AllocError>
     requires { AreSpansWithin text.now marks.now }
     ensures { IfOk result (λ fs. fs ≡ map (field_of_span text.now) marks.now) }
 {

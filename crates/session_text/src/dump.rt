@@ -15,7 +15,7 @@ use hprof_text::PIECE_LIMIT;
 
 /// Adds a dump of a pin to a page, which is flushed whenever it is full: the data lines of the pin's pieces, and their length
 /// or the line of a refusal. Returns false if a write failed.
-pub fn write_dump<O: Outlet, C: Commands>(
+pub(crate) fn write_dump<O: Outlet, C: Commands>(
     page: &mut Page,
     outlet: &mut O,
     commands: &mut C,
@@ -56,7 +56,7 @@ fn write_total<O: Outlet>(page: &mut Page, outlet: &mut O, total: u64) -> bool
 
 /// Adds a dump of the current state to a page: opens a pin, dumps it as `write_dump` does, and closes it, also if a write
 /// fails. Returns false if one did.
-pub fn write_dump_now<O: Outlet, C: Commands>(
+pub(crate) fn write_dump_now<O: Outlet, C: Commands>(
     page: &mut Page,
     outlet: &mut O,
     commands: &mut C,

@@ -46,7 +46,7 @@ pub fn make_room<O: Outlet>(page: &mut Page, outlet: &mut O) -> bool
 }
 
 /// Adds a short text to a page, which is flushed first unless it has room for one more line. Returns false if a put failed.
-pub fn write_text<O: Outlet>(page: &mut Page, outlet: &mut O, text: &[u8]) -> bool
+pub(crate) fn write_text<O: Outlet>(page: &mut Page, outlet: &mut O, text: &[u8]) -> bool
     requires { length text.now ≤ TEXT_LIMIT }
     ensures { IsTextAdded text.now page.old (O.seen outlet.old) page.new (O.seen outlet.new)
         result }
@@ -59,7 +59,7 @@ pub fn write_text<O: Outlet>(page: &mut Page, outlet: &mut O, text: &[u8]) -> bo
 }
 
 /// Flushes a page and puts out a long text.
-pub fn write_long<O: Outlet>(page: &mut Page, outlet: &mut O, text: &[u8]) -> bool
+pub(crate) fn write_long<O: Outlet>(page: &mut Page, outlet: &mut O, text: &[u8]) -> bool
     ensures { IsTextAdded text.now page.old (O.seen outlet.old) page.new (O.seen outlet.new)
         result }
 {
@@ -67,7 +67,7 @@ pub fn write_long<O: Outlet>(page: &mut Page, outlet: &mut O, text: &[u8]) -> bo
 }
 
 /// Adds a space, a number and LF to a page, which is flushed first unless it has room for one more line.
-pub fn write_number_line<O: Outlet>(page: &mut Page, outlet: &mut O, n: u64) -> bool
+pub(crate) fn write_number_line<O: Outlet>(page: &mut Page, outlet: &mut O, n: u64) -> bool
     ensures { IsTextAdded (line (and_number n)) page.old (O.seen outlet.old) page.new
         (O.seen outlet.new) result }
 {

@@ -79,7 +79,7 @@ impl<'a, L: Heap, R: Wait> ToldSource<'a, L, R> {
     }
 
     /// Returns the dumper, which has made the calls of the source. The contract says what is known of the pieces that it gave.
-    pub fn into_dumper(self) -> Dumper<'a, L, R>
+    pub(crate) fn into_dumper(self) -> Dumper<'a, L, R>
         ensures dumper { result ≡ self.entry.dumper }
         ensures legal { IsLegalLedger L.config self.entry.dumper.seen }
         ensures supplied { IsSupplied L.config self.entry }

@@ -67,7 +67,7 @@ action_leaves_keep m a (LosesPins pins) = acted_keep m a
 
 -- ---- places rise
 
-step_raises_place_by_one : (keep : ℕ) (left : Undo) (v : HeapState) (t : Trail) → (stepped keep left v t).place ≡ t.place + 1
+pub step_raises_place_by_one : (keep : ℕ) (left : Undo) (v : HeapState) (t : Trail) → (stepped keep left v t).place ≡ t.place + 1
 unfolding stepped
 step_raises_place_by_one keep left v t = refl
 

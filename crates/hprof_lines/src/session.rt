@@ -15,6 +15,10 @@ use crate::roots::write_roots;
 use crate::static_objects::write_statics;
 use dump_pump::Outlet;
 use hprof_plan::{Plan, RootFound, Statics};
+use hprof_reader::tags::{
+    ROOT_JAVA_FRAME, ROOT_JNI_GLOBAL, ROOT_JNI_LOCAL, ROOT_MONITOR_USED, ROOT_NATIVE_STACK,
+    ROOT_STICKY_CLASS, ROOT_THREAD_BLOCK, ROOT_THREAD_OBJECT, ROOT_UNKNOWN,
+};
 use hprof_session::Walk;
 use indexmap::IndexSet;
 use std::alloc::{AllocError, Global};
@@ -34,7 +38,17 @@ pub(crate) fn static_ids(
 }
 
 // The tags of roots.
-const ROOT_TAGS: [u8; 9] = [0x01, 0x02, 0x03, 0x04, 0x05, 0x06, 0x07, 0x08, 0xff];
+const ROOT_TAGS: [u8; 9] = [
+    ROOT_JNI_GLOBAL,
+    ROOT_JNI_LOCAL,
+    ROOT_JAVA_FRAME,
+    ROOT_NATIVE_STACK,
+    ROOT_STICKY_CLASS,
+    ROOT_THREAD_BLOCK,
+    ROOT_MONITOR_USED,
+    ROOT_THREAD_OBJECT,
+    ROOT_UNKNOWN,
+];
 
 /// Puts out the lines of the session that makes the heap of a dump: its classes, as they are planned, the objects with their
 /// values and references, and the roots. Tells whether all of them are out: if not, a put failed. Fails if an allocation fails;

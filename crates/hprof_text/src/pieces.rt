@@ -16,13 +16,8 @@ use crate::segment_bytes::SegmentBytes;
 use crate::sizes::opening_size;
 use crate::{Bytes, Cursor, Piece, View};
 use heap_class::{FirstClasses, IdSize, ObjRef, Refusal};
+use hprof_records::tags::{HEAP_DUMP_END, HEAP_DUMP_SEGMENT};
 use std::alloc::Global;
-
-// The tag of a HEAP DUMP SEGMENT record.
-const HEAP_DUMP_SEGMENT: u8 = 0x1c;
-
-// The tag of the HEAP DUMP END record.
-const HEAP_DUMP_END: u8 = 0x2c;
 
 impl Segment {
     // Offers a view's items of a section from number `from` on. Returns the cursor at the first that wasn't taken.

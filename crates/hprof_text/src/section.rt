@@ -12,12 +12,7 @@ use crate::View;
 use crate::records::class_id;
 use crate::sizes::{class_size, root_size};
 use heap_class::{ClassNo, FirstClasses, IdSize};
-
-// The tag of ROOT STICKY CLASS.
-const ROOT_STICKY_CLASS: u8 = 0x05;
-
-// The tag of ROOT UNKNOWN.
-const ROOT_UNKNOWN: u8 = 0xff;
+use hprof_records::tags::{ROOT_STICKY_CLASS, ROOT_UNKNOWN};
 
 /// A section whose items have numbers.
 #[derive(Clone, Copy)]

@@ -18,6 +18,7 @@ pub fn feed<S: Source, R: Wait>(rt: &R, source: &mut S, sender: &Sender, end: &m
     ensures fed { IsFed (S.seen source.old) (S.seen source.new) (view end.new) result }
     ensures kept { S.kept source.new ≡ S.kept source.old }
 {
+    // Its contract bounds the number of parts that are left.
     let _most = source.parts_left();
     loop {
         match source.next() {

@@ -77,6 +77,7 @@ pub fn pump<S: Source, O: Outlet>(source: &mut S, outlet: &mut O) -> Pumped
         (O.seen outlet.new) result }
     ensures kept { S.kept source.new ≡ S.kept source.old }
 {
+    // Its contract bounds the number of parts that are left.
     let _most = source.parts_left();
     let mut total = 0;
     loop {

@@ -47,6 +47,7 @@ impl HomeTable<LedgerSide> {
         requires { HasCalls (table_of self.old) (all_in self.old) self.old }
         ensures { CallsAs self.old self.new (all_in self.old ++ E.call ∷ []) }
     {
+        // Only the contract uses these two.
         let _ = asked;
         let _ = told;
         let HomeTable { table, own } = self;

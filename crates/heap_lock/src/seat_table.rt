@@ -72,6 +72,7 @@ impl HomeTable<TableSide> {
         ensures share { IsShare share.table_id (entries_with self.old E.noted) result }
         ensures same { entries_in share.views ≡ entries_of self.old.own.me.0 }
     {
+        // Only the contract uses these two.
         let _ = turn;
         let _ = entry;
         let HomeTable { table, own } = self;

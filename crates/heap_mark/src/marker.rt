@@ -203,6 +203,7 @@ impl Marker {
             → work regions.new self.new ≡ before }
     {
         self.unshade(regions, pushed);
+        // Its contract says that the regions are whole.
         let _count = regions.count();
         self.gray.push_reserved(parent);
     }

@@ -309,6 +309,7 @@ impl Regions {
         requires { IsSome (used_at self.now.regions region) }
         ensures { result ≡ region }
     {
+        // Its contract bounds the number of the region.
         let _storage = self.storage(region as usize);
         region as u16
     }

@@ -33,6 +33,7 @@ pub fn apply(world: &mut World, event: &Event) -> Effect
     ensures legal { IsLegal world.new }
     ensures found { OnOk result (StaysFound world.old world.new) }
 {
+    // Its contract says that the heap is legal.
     let _phase = world.phase();
     AnyEvent(event).apply_to(world)
 }
@@ -51,6 +52,7 @@ pub fn apply_sort<E: ApplyEvent>(world: &mut World, event: &E) -> Effect
         × (e ≡ NoMemory))) }
     ensures found { OnOk result (StaysFound world.old world.new) }
 {
+    // Its contract says that the heap is legal.
     let _phase = world.phase();
     event.apply_to(world)
 }

@@ -92,6 +92,7 @@ impl NumberedSection {
             (option_to_list result)) }
         ensures known { IfSome result (IsOfClasses (V.image view.now).classes) }
     {
+        // Its contract says that what the view shows is within the limits of a dump.
         let _classes = view.classes();
         match self {
             NumberedSection::ClassDumps => Some(SubRecord::ClassDump(number)),

@@ -79,6 +79,7 @@ impl Segment {
         requires { IsOfClasses classes.now sub_record }
         ensures { IsOffered (sub_record_bytes ids classes.now sub_record) self.old self.new result }
     {
+        // Its contract bounds the number of classes.
         let _count = classes.len();
         let taken = self.takes(sub_record.size(ids, classes));
         if taken {
@@ -102,6 +103,7 @@ impl Segment {
         ensures { IsOffered (dump_of ids classes.now object (Instance class) words.now) self.old
             self.new result }
     {
+        // Its contract bounds the number of classes.
         let _count = classes.len();
         let taken = self.takes(instance_dump_size(ids, classes, class));
         if taken {
@@ -178,6 +180,7 @@ impl Segment {
             taken) }
         ensures refused { IfErr result (λ e. e ≡ NoMemory) }
     {
+        // Its contract bounds the number of classes.
         let _count = classes.len();
         match kind {
             ObjKind::Instance(class) => {

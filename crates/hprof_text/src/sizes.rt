@@ -16,6 +16,7 @@ pub fn instance_size(ids: IdSize, classes: &FirstClasses<'_>, class: ClassNo) ->
     ensures value { result ≡ instance_size ids classes.now class }
     ensures limit { result ≤ instance_size_limit }
 {
+    // Its contract bounds the number of slots.
     let _slots = classes.slots(class);
     classes.instance_size(ids, class) as u32
 }

@@ -34,7 +34,7 @@ pub use limits::{SessionLimits, session_limits};
 pub use printing::printed;
 pub use reply::cause_word;
 pub use talk::{serve, serve_local};
-pub use write::write_all;
+pub use write::{write_all, write_number};
 
 /// The way in which a session ended.
 #[derive(Clone, Copy, PartialEq, Eq)]

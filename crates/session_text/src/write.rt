@@ -1,5 +1,5 @@
 //! The writing of a page.
-ghost use Rattle.std.specs.Prelude.{◌≡◌, ◌≤◌, ◌++◌, [], length};
+ghost use Rattle.std.specs.Prelude.{◌≡◌, ◌≤◌, ◌++◌, [], decimal, length};
 ghost use Rattle.session_text.specs.Replies.{and_number, line};
 ghost use Rattle.session_text.specs.Writes.{IsTextWritten, IsTextAdded};
 ghost use Rattle.session_text.specs.declared.write.TheConstants.{LINE_START, TEXT_LIMIT};
@@ -20,6 +20,16 @@ pub fn write_all<O: Outlet>(outlet: &mut O, bytes: &[u8]) -> bool
     ensures { IsTextWritten bytes.now (O.seen outlet.old) (O.seen outlet.new) result }
 {
     put_all(outlet, bytes) >= bytes.len()
+}
+
+/// Puts out a number and the end of its line. Returns false if a put failed.
+pub fn write_number<O: Outlet>(outlet: &mut O, number: u64) -> bool
+    ensures { IsTextWritten (line (decimal number)) (O.seen outlet.old) (O.seen outlet.new) result }
+{
+    if !write_all(outlet, itoa::Buffer::new().format(number).as_bytes()) {
+        return false;
+    }
+    write_all(outlet, b"\n")
 }
 
 /// Puts out a page, which is empty afterwards. Returns false if a put failed.

@@ -9,7 +9,7 @@ use Rattle.dump_pump.specs.declared.transfer.Pumped.{Pumped}
 use Rattle.dump_pump.specs.declared.transfer.Pumped.TheVariants.{Done, OutletFailed, Lost, Cancelled}
 use Rattle.dump_pump.specs.Outlets.{Outgoing}
 use Rattle.dump_pump.specs.Pumps.{FitsPump}
-use Rattle.dump_pipe.specs.Watches.{watched}
+use Rattle.dump_pipe.specs.Cancellables.{cancellable}
 use Rattle.dump_pipe.specs.Streams.{IsStreamed}
 use Rattle.dump_pipe.proofs.BatchStreams.{some_piece_lists_equal}
 use Rattle.heap_lock.specs.Calls.{Call}
@@ -53,7 +53,7 @@ pieces_got_for_result given got out found e failures failures2 (Cancelled n) g h
 
 -- from a source that gave nothing
 pub fresh_source_puts_served_pin : (config : HeapSettings) (pin time : ℕ) (d : DumperState) (a t : ToldSupply) (was found : Bool) (w w2 : Outgoing) (r : Pumped) → a ≡ nothing_of pin time d → t.pin ≡ a.pin → t.time ≡ a.time → t.start ≡ a.start → IsSupplied config t
-    → IsStreamed (watched (told_supply a.given a.count a.ended) was) (watched (told_supply t.given t.count t.ended) found) w w2 r → PutsLive config pin time d t.dumper found w w2 r
+    → IsStreamed (cancellable (told_supply a.given a.count a.ended) was) (cancellable (told_supply t.given t.count t.ended) found) w w2 r → PutsLive config pin time d t.dumper found w w2 r
 fresh_source_puts_served_pin config pin time d a t was found w w2 r none p q o s done =
     let here : t.pin ≡ pin = p ∙ ap (λ (x : ToldSupply). x.pin) none in
     let when : t.time ≡ time = q ∙ ap (λ (x : ToldSupply). x.time) none in

@@ -8,22 +8,22 @@ use dump_pump::{Next, Source};
 /// A source that looks before each part whether anybody asked to cancel. It gives Cancelled if so, else the answer of its own
 /// source. The seat is one of the meter whose cancel word it is.
 #[derive(Drop)]
-pub struct Watched<'a, S: Source> {
+pub struct Cancellable<'a, S: Source> {
     pub source: S,
     pub cancel: Cancel<'a>,
     pub seat: FeedSeat,
     ghost met: { seat.meter ≡ cancel },
 }
 
-impl<'a, S: Source> Source for Watched<'a, S> {
+impl<'a, S: Source> Source for Cancellable<'a, S> {
     ghost use Rattle.atomic_table.specs.Seated.{TableId};
-    ghost use Rattle.dump_pipe.specs.Watches.{watched};
+    ghost use Rattle.dump_pipe.specs.Cancellables.{cancellable};
 
     ghost Kept = { S.Kept × TableId };
 
     ghost kept = { λ w. (S.kept w.source, w.cancel) };
 
-    ghost seen = { λ w. watched (S.seen w.source) w.seat.known };
+    ghost seen = { λ w. cancellable (S.seen w.source) w.seat.known };
 
     fn next(&mut self) -> Next {
         if self.cancel.is_asked(&mut self.seat) {

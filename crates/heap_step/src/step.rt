@@ -58,7 +58,7 @@ pub fn apply_sort<E: ApplyEvent>(world: &mut World, event: &E) -> Effect
 }
 
 /// Undoes the step that left this record and this state. There must be such a step. Takes no memory.
-#[tactic(auto, using(crate::proofs::Steps::taken_back))]
+#[tactic(auto, using(crate::proofs::Steps::undone_steps))]
 pub fn undo(world: &mut World, left: Undo)
     requires { (e : Event) × (before : HeapState) × IsStep e before world.old left }
     ensures { (e : Event) (before : HeapState) → IsStep e before world.old left

@@ -25,7 +25,7 @@ use Rattle.heap_pins.specs.Covers.{HasAll, Covers}
 use Rattle.heap_pins.specs.KeptCopies.{touched}
 use Rattle.heap_step.specs.declared.Event.{Event}
 use Rattle.heap_step.specs.Apply.{state_after}
-use Rattle.heap_step.specs.Laws.{IsTakenBack}
+use Rattle.heap_step.specs.Laws.{IsRestored}
 use Rattle.heap_pins.specs.Laws.{KeepsOthers, EventKeeps}
 use Rattle.heap_pins.proofs.CoveringCopies.{same_copy_covers, absent_copy_is_covered, copy_covers_through_another, changed_region_is_covered}
 use Rattle.heap_world.proofs.KeptParts.{length_unallocated}
@@ -255,6 +255,6 @@ undoing_keeps_region_count (Reclaim region storage) v = sym (length-set v.region
 
 -- ---- an accepted event
 
-pub event_keeps : (e : Event) (w : HeapState) → IsTakenBack e w → EventKeeps e w
+pub event_keeps : (e : Event) (w : HeapState) → IsRestored e w → EventKeeps e w
 event_keeps e w back legal accepted r ne =
     subst (λ (u : HeapState). Covers (region_frozen u.regions r) (region_frozen (state_after e w).regions r)) (back legal accepted) (keeps_others (undo_record e w) (state_after e w) r ne)

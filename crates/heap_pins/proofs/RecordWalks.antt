@@ -14,7 +14,7 @@ use Rattle.heap_step.specs.declared.Undo.{Undo}
 use Rattle.heap_step.specs.declared.Undo.TheVariants.{Put, Store, Reg, New, Class, Snap, Mark, Drain, Finish, Sweep, Reclaim}
 use Rattle.heap_step.specs.Laws.{IsStep}
 use Rattle.heap_step.specs.Records.{undone}
-use Rattle.heap_step.proofs.EventLaws.{undo_takes_back}
+use Rattle.heap_step.proofs.EventLaws.{undo_restores}
 use Rattle.heap_pins.specs.KeptCopies.{touched, patched, has_copy, with_copy}
 use Rattle.heap_pins.specs.KeptRegions.{blank, byte_revived}
 use Rattle.heap_pins.specs.Pin.{PinContents, byte_in, region_seen, state_kept, state_seen, states_of_region}
@@ -232,7 +232,7 @@ consequence_of_an_ok (Err e) f h = tt
 -- ---- the state before
 
 told_before : (left : Undo) (e : Event) (x : HeapState) → IsStep e (undone left x) x left → TellsBefore left (undone left x) x
-told_before left e x s = tells_before e (undone left x) x left (undo_takes_back e (undone left x)) s
+told_before left e x s = tells_before e (undone left x) x left (undo_restores e (undone left x)) s
 
 pin_before : (left : Undo) (e : Event) (x w : HeapState) (p q : PinContents) → IsStep e (undone left x) x left → IsWalkedBack left w p q → IsPinOf p x → IsPinOf q (undone left x)
 pin_before left e x w p q s b h = record {

@@ -23,7 +23,7 @@ use Rattle.heap_step.specs.declared.Undo.{Undo}
 use Rattle.heap_step.specs.declared.Undo.TheVariants.{Put, Store, Reg, New, Class, Snap, Mark, Drain, Finish, Sweep, Reclaim}
 use Rattle.heap_step.specs.Records.{undone}
 use Rattle.heap_step.specs.declared.Event.{Event}
-use Rattle.heap_step.specs.Laws.{IsStep, IsTakenBack}
+use Rattle.heap_step.specs.Laws.{IsStep, IsRestored}
 use Rattle.heap_region.specs.RegionCopies.{Frozen, frozen, region_frozen}
 use Rattle.heap_pins.specs.Shows.{AreFit, FitIn}
 use Rattle.heap_pins.proofs.RoomForCopies.{sweep_used, sweep_fit, reclaim_within}
@@ -317,7 +317,7 @@ no_state_without_copy regions b none = unused_region_has_state_zero regions b (g
 
 -- ---- all that a record tells
 
-pub tells_before : (e : Event) (before x : HeapState) (left : Undo) → IsTakenBack e before → IsStep e before x left → TellsBefore left before x
+pub tells_before : (e : Event) (before x : HeapState) (left : Undo) → IsRestored e before → IsStep e before x left → TellsBefore left before x
 tells_before e before x left law s =
     let back : undone left x ≡ before = (λ i. undone (s.recorded i) (s.gave i)) ∙ law s.legal s.accepted in
     subst (λ (w : HeapState). TellsBefore left w x) back (record {

@@ -22,7 +22,7 @@ use Rattle.heap_step.specs.declared.Event.{Event}
 use Rattle.heap_step.specs.declared.Undo.{Undo}
 use Rattle.heap_step.specs.declared.Undo.TheVariants.{Put, Store, New, Finish, Sweep, Reclaim}
 use Rattle.heap_step.specs.Laws.{IsStep}
-use Rattle.heap_step.proofs.Steps.{put_taken_back_is_before, reclaim_lifeless, store_is, sweep_before}
+use Rattle.heap_step.proofs.Steps.{put_undone_is_before, reclaim_lifeless, store_is, sweep_before}
 use Rattle.hprof_text.specs.Image.{DumpedObject, Image}
 use Rattle.heap_pins.specs.Images.{dumped_objects, image_of}
 use Rattle.heap_pins.specs.KeptCopies.{touched}
@@ -298,7 +298,7 @@ made_same k e before after a fresh m r old at s n =
 
 other_same : (k : ℕ) (e : Event) (before after : HeapState) (left : Undo) (at : ObjRef) → IsStep e before after left → is_finish left ≡ false → made_place left ≢ Some at → lives_as k (object_at before.regions at) ≡ lives_as k (object_at after.regions at)
 unfolding touched object_at states_before
-other_same k e before after (Put a s old) at st f n = written_same k before after a at s old (sym (ap (λ (w : HeapState). w.regions) (put_taken_back_is_before e before after (Put a s old) st a s old refl)))
+other_same k e before after (Put a s old) at st f n = written_same k before after a at s old (sym (ap (λ (w : HeapState). w.regions) (put_undone_is_before e before after (Put a s old) st a s old refl)))
 other_same k e before after (Store a s old logged) at st f n = written_same k before after a at s old (sym (ap (λ (w : HeapState). w.regions) (store_is e before after (Store a s old logged) st a s old logged refl)))
 other_same k e before after (New a fresh m r old) at st f n = made_same k e before after a fresh m r old at st (λ q. n (ap Some q))
 other_same k e before after (Finish log) at st f n = absurd (true≢false f)

@@ -30,7 +30,7 @@ use Rattle.heap_step.specs.Apply.{new_record, reg_record, refusal_of, sweep_reco
 use Rattle.heap_step.specs.Laws.{IsStep}
 use Rattle.heap_step.specs.Records.{undo_record}
 use Rattle.heap_step.proofs.Places.{new_object_stands_at_place}
-use Rattle.heap_step.proofs.Steps.{put_taken_back_is_before, store_is}
+use Rattle.heap_step.proofs.Steps.{put_undone_is_before, store_is}
 use Rattle.hprof_text.specs.Image.{DumpedObject, Image}
 use Rattle.heap_pins.specs.Images.{image_of, dumped_objects}
 use Rattle.heap_pins.specs.KeptCopies.{touched}
@@ -165,7 +165,7 @@ one_made e before after a true m r old at o s y n h =
 
 was_there : (e : Event) (before after : HeapState) (left : Undo) (at : ObjRef) (o : Object) → IsStep e before after left → written_at left ≢ Some at → object_at after.regions at ≡ Some o → o.live ≡ true → Was before at o
 unfolding touched states_before
-was_there e before after (Put a s old) at o st n h l = elsewhere_was before after a at s old o (sym (ap (λ (w : HeapState). w.regions) (put_taken_back_is_before e before after (Put a s old) st a s old refl))) (λ q. n (ap Some q)) h l
+was_there e before after (Put a s old) at o st n h l = elsewhere_was before after a at s old o (sym (ap (λ (w : HeapState). w.regions) (put_undone_is_before e before after (Put a s old) st a s old refl))) (λ q. n (ap Some q)) h l
 was_there e before after (Store a s old logged) at o st n h l = elsewhere_was before after a at s old o (sym (ap (λ (w : HeapState). w.regions) (store_is e before after (Store a s old logged) st a s old logged refl))) (λ q. n (ap Some q)) h l
 was_there e before after (New a fresh m r old) at o st n h l = elim (cases_Bool (made_by (New a fresh m r old) at)) [
   | inl y ↦ absurd (one_made e before after a fresh m r old at o st y (λ q. n (ap Some q)) h)

@@ -24,7 +24,7 @@ use Rattle.heap_step.specs.declared.Undo.{Undo}
 use Rattle.heap_step.specs.declared.Undo.TheVariants.{Put, Store, New, Sweep, Reclaim}
 use Rattle.heap_step.specs.Laws.{IsStep}
 use Rattle.heap_step.specs.Records.{undone}
-use Rattle.heap_step.proofs.EventLaws.{undo_takes_back}
+use Rattle.heap_step.proofs.EventLaws.{undo_restores}
 use Rattle.heap_step.proofs.Steps.{new_record_names_an_object, put_record_names_an_object, reclaim_empty, reclaim_inhabited, reclaim_is, store_there}
 use Rattle.heap_pins.specs.Covers.{Covers}
 use Rattle.heap_pins.specs.KeptCopies.{patched, touched, with_dead}
@@ -284,7 +284,7 @@ reclaimed_table left e before after s r u h =
 
 pub same_regions : (left : Undo) (e : Event) (before after : HeapState) → IsStep e before after left → length before.regions ≡ length after.regions
 same_regions left e before after s =
-    ap (λ (w : HeapState). length w.regions) (sym (undo_takes_back e before s.legal s.accepted) ∙ sym (ap₂ (λ (l : Undo) (w : HeapState). undone l w) s.recorded s.gave))
+    ap (λ (w : HeapState). length w.regions) (sym (undo_restores e before s.legal s.accepted) ∙ sym (ap₂ (λ (l : Undo) (w : HeapState). undone l w) s.recorded s.gave))
     ∙ sym (undoing_keeps_region_count left after)
 
 -- the sizes before the step

@@ -13,7 +13,7 @@ use Rattle.heap_step.specs.declared.Event.{Event}
 use Rattle.heap_step.specs.declared.Undo.{Undo}
 use Rattle.heap_step.specs.declared.Undo.TheVariants.{Put, Store, New, Finish, Sweep, Reclaim}
 use Rattle.heap_step.specs.Laws.{IsStep}
-use Rattle.heap_step.proofs.Steps.{put_taken_back_is_before, store_is}
+use Rattle.heap_step.proofs.Steps.{put_undone_is_before, store_is}
 use Rattle.heap_pins.specs.KeptCopies.{touched}
 use Rattle.heap_pins.specs.Walk.{TellsBefore, cell_state, dead_state, states_before}
 use Rattle.heap_pins.proofs.RecordCases.{sweep_touches_its_region}
@@ -196,7 +196,7 @@ finish_state log at f n e = absurd (no (sym (ap (λ (b : Bool). cond b 0 1) (ne_
 
 pub record_tells : (e : Event) (before after : HeapState) (left : Undo) (at : ObjRef) (k now : ℕ) → IsStep e before after left → slot_word after at k ≡ Some now → Tells (changed_by left at k now) before at k now
 unfolding touched states_before
-record_tells e before after (Put a s old) at k now st h = write_tells before after a at s k old now (sym (ap (λ (w : HeapState). w.regions) (put_taken_back_is_before e before after (Put a s old) st a s old refl))) h
+record_tells e before after (Put a s old) at k now st h = write_tells before after a at s k old now (sym (ap (λ (w : HeapState). w.regions) (put_undone_is_before e before after (Put a s old) st a s old refl))) h
 record_tells e before after (Store a s old logged) at k now st h = write_tells before after a at s k old now (sym (ap (λ (w : HeapState). w.regions) (store_is e before after (Store a s old logged) st a s old logged refl))) h
 record_tells e before after (New a fresh m r old) at k now st h =
     let t = told e before after (New a fresh m r old) st in

@@ -13,6 +13,7 @@ use hprof_text::{ShownObject, View};
 pub fn object_with<V: View>(view: &V, id: u64) -> Option<ShownObject<'_>>
     ensures { result ≡ object_with (V.image view.now) id }
 {
+    // Its contract says that what the view shows is within the limits of a dump.
     let _classes = view.classes();
     let mut passed = 0usize;
     let mut here = view.first();

@@ -35,7 +35,7 @@ use std::time::Clock;
 /// Listen, before anything is run, if the port can't be listened on, and with Memory if no thread or no random bytes for the
 /// key can be had. May wait.
 #[tactic(auto, using(crate::proofs::PageHindrances::no_memory_hinders))]
-pub fn explore_with_page<R, I: Inlet, O: Outlet>(
+pub(crate) fn explore_with_page<R, I: Inlet, O: Outlet>(
     rt: &R,
     request: Request<'_>,
     origin: Origin,

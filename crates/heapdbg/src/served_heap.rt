@@ -120,6 +120,7 @@ fn seats_for<L: Heap>(seats: Seats<L>, sessions: u64) -> (Seat<L>, Staff<L>)
     ensures first { result.0.role ≡ User }
     ensures staff { AreStaff sessions (result.1.marker ∷ result.1.sweeper ∷ result.1.users) }
 {
+    // Only the contract uses it.
     let _sessions = sessions;
     let mut users = seats;
     let Some(marker) = users.take() else {

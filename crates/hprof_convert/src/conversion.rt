@@ -98,6 +98,7 @@ fn convert_walk<O: Outlet>(
 {
     let found = find(alloc, walk)?;
     let plan = plan_classes(alloc, WIDEST_CLASSES, elements_with(area), &found)?;
+    // Its contract bounds the number of classes.
     let _number = plan.classes.len();
     let roots = found.roots.as_slice();
     if !write_session(alloc, outlet, walk, &plan, &found.objects, roots)? {

@@ -48,6 +48,7 @@ pub(crate) fn made_at(made: &[bool], i: usize) -> bool
 pub fn number_of(all: &Objects<'_, '_>, id: u64) -> Option<u64>
     ensures { result ≡ number_of (objects_told all.now) id }
 {
+    // Its contract bounds the number of objects.
     let _most = all.objects.len();
     match all.objects.get_index_of(&id) {
         Some(i) => if made_at(all.made, i) {

@@ -35,6 +35,7 @@ pub fn is_turn(objects: &IndexSet<u64>, i: usize, sub: &SubRecord<'_>) -> bool
     ensures value { result ≡ is_turn objects.now.keys i (sub_record sub.now) }
     ensures limit { result ≡ true → i < 2 ^ 63 }
 {
+    // Its contract bounds the number of objects.
     let _size = objects.len();
     match id_of(sub) {
         Some(id) => match objects.get_index_of(&id) {

@@ -10,6 +10,10 @@ use crate::output::{put_lines, put_some};
 use dump_pump::Outlet;
 use heap_step::Event;
 use hprof_plan::RootFound;
+use hprof_reader::tags::{
+    ROOT_JAVA_FRAME, ROOT_JNI_GLOBAL, ROOT_JNI_LOCAL, ROOT_MONITOR_USED, ROOT_NATIVE_STACK,
+    ROOT_STICKY_CLASS, ROOT_THREAD_BLOCK, ROOT_THREAD_OBJECT, ROOT_UNKNOWN,
+};
 use hprof_session::{MADE, push_fetch};
 use session_lines::Lines;
 use std::alloc::{AllocError, Global};
@@ -21,7 +25,17 @@ const NAMED: u64 = 6;
 const ROOTS: u64 = 7;
 
 /// The tags of roots.
-pub const ROOT_TAGS: [u8; 9] = [0x01, 0x02, 0x03, 0x04, 0x05, 0x06, 0x07, 0x08, 0xff];
+pub const ROOT_TAGS: [u8; 9] = [
+    ROOT_JNI_GLOBAL,
+    ROOT_JNI_LOCAL,
+    ROOT_JAVA_FRAME,
+    ROOT_NATIVE_STACK,
+    ROOT_STICKY_CLASS,
+    ROOT_THREAD_BLOCK,
+    ROOT_MONITOR_USED,
+    ROOT_THREAD_OBJECT,
+    ROOT_UNKNOWN,
+];
 
 /// Puts out the lines that keep the roots of a dump, in arrays of the kinds with these tags. Tells whether they are all out.
 /// Fails if an allocation fails.

@@ -35,6 +35,9 @@ pub use crate::shown_object::ShownObject;
 /// The most bytes of a segment's body, unless it is a single sub-record.
 pub const SEGMENT_LIMIT: u64 = 4096;
 
+/// The most pieces of a dump.
+pub const PIECE_LIMIT: u64 = 16_785_538;
+
 /// The bytes of a piece.
 pub type Bytes = Items<u8>;
 

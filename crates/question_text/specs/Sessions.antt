@@ -125,12 +125,12 @@ IsNoOrder l =
 abbrev pub NoneOrders : List (List ℕ) → Type 0
 NoneOrders lines = AllByRecursion IsNoOrder lines
 
--- these lines alone, under some marks of failed allocations, make the session that leads from m to n and has these answers
+-- these lines by themselves, with some allocations, make the session that leads from m to n and has these answers
 abbrev pub IsSessionOf : SessionLimits → ℕ → Machine → List (List ℕ × List ℕ) → Machine → Type 0
 IsSessionOf limits time m answered n =
-    (marks : List Allocation) × AllocationsFit m marks time (stream (lines_of answered))
-    × (session_of limits m marks time (stream (lines_of answered)) Over
-    ≡ (record { machine = n; marks = []; written = texts_of answered }, Eof))
+    (allocations : List Allocation) × AllocationsFit m allocations time (stream (lines_of answered))
+    × (session_of limits m allocations time (stream (lines_of answered)) Over
+    ≡ (record { machine = n; allocations = []; written = texts_of answered }, Eof))
 
 -- the lines were answered with this text, and those of the grammar of sessions as they are in a session of their own
 abbrev pub AnswersAlone : SessionLimits → ℕ → Machine → List (List ℕ) → List ℕ → Machine → Type 0

@@ -65,6 +65,18 @@ pub fn touched_region(left: &Undo) -> Option<u64>
     }
 }
 
+// Returns the region of which a sweep removed these dead objects, or None if there are none.
+#[inline(never)]
+fn swept_region(region: u16, dead: &DeadCells) -> Option<u64>
+    ensures { result ≡ touched (Sweep region dead.now) }
+{
+    if dead.len() == 0 {
+        None
+    } else {
+        Some(region as u64)
+    }
+}
+
 /// Returns the region of which a pin without a copy keeps something of a step with this record: that of a new object, or the
 /// one that `touched_region` returns. Takes no memory.
 #[inline(always)]
@@ -79,18 +91,6 @@ pub fn noted_region(left: &Undo) -> Option<u64>
         Undo::Sweep { region, dead } => swept_region(*region, dead),
         Undo::Reclaim { region, .. } => Some(*region as u64),
         _ => None,
-    }
-}
-
-// Returns the region of which a sweep removed these dead objects, or None if there are none.
-#[inline(never)]
-fn swept_region(region: u16, dead: &DeadCells) -> Option<u64>
-    ensures { result ≡ touched (Sweep region dead.now) }
-{
-    if dead.len() == 0 {
-        None
-    } else {
-        Some(region as u64)
     }
 }
 

@@ -61,13 +61,13 @@ asks_none_in : (bm : Bookmarks) (state : HeapState) (l : List ℕ) → is_commen
 asks_none_in bm state l e =
     ap₂ (λ (p q : Option Question). option_or p q) (of_comment (question_of_words bm) (no_question bm) (words_of_line l) e) (of_comment (named_question_of_words bm state) (names_nothing bm state) (words_of_line l) e)
 
-no_order : (bm : Bookmarks) (classes : List Class) (v : List ℕ) (ws : List (List ℕ)) → order_of_words bm classes ((35 ∷ v) ∷ ws) ≡ None
+comment_is_no_order : (bm : Bookmarks) (classes : List Class) (v : List ℕ) (ws : List (List ℕ)) → order_of_words bm classes ((35 ∷ v) ∷ ws) ≡ None
 unfolding order_of_words order_of_two
-no_order bm classes v [] = refl
-no_order bm classes v (w ∷ ws) = refl
+comment_is_no_order bm classes v [] = refl
+comment_is_no_order bm classes v (w ∷ ws) = refl
 
 orders_none : (bm : Bookmarks) (state : HeapState) (l : List ℕ) → is_comment l ≡ true → order_in bm state l ≡ None
-orders_none bm state l e = of_comment (order_of_words bm state.classes) (no_order bm state.classes) (words_of_line l) e
+orders_none bm state l e = of_comment (order_of_words bm state.classes) (comment_is_no_order bm state.classes) (words_of_line l) e
 
 opens_none : (bm : Bookmarks) (v : List ℕ) (ws : List (List ℕ)) → place_opened_by bm ((35 ∷ v) ∷ ws) ≡ None
 unfolding word_behind

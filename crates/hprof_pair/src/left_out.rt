@@ -44,22 +44,22 @@ pub(crate) fn count_lost(
     })
 }
 
-// Counts the classes of the dump that have no number in the heap.
-fn lost_classes(pair: &Pair<'_, '_, '_>) -> u64 {
+// Counts the slots that name objects that aren't made.
+fn lost_in(pair: &Pair<'_, '_, '_>, values: &[SlotValue]) -> u64 {
     let mut count: u64 = 0;
-    for k in 0..pair.second.all.plan.kinds.len() {
-        if class_in(pair.classes, k as u64).is_none() {
+    for value in values {
+        if names_object(*value) && pair.second_named(*value).is_none() {
             count = count.saturating_add(1);
         }
     }
     count
 }
 
-// Counts the slots that name objects that aren't made.
-fn lost_in(pair: &Pair<'_, '_, '_>, values: &[SlotValue]) -> u64 {
+// Counts the classes of the dump that have no number in the heap.
+fn lost_classes(pair: &Pair<'_, '_, '_>) -> u64 {
     let mut count: u64 = 0;
-    for value in values {
-        if names_object(*value) && pair.second_named(*value).is_none() {
+    for k in 0..pair.second.all.plan.kinds.len() {
+        if class_in(pair.classes, k as u64).is_none() {
             count = count.saturating_add(1);
         }
     }

@@ -1,3 +1,4 @@
 pub mod Opened
 pub mod Collected
 pub mod FoundWays
+pub mod NameIds

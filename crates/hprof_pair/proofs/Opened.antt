@@ -31,9 +31,20 @@ pub opened_each : (events : ℕ → List Event) (n count : ℕ) → n < count �
 unfolding events_from
 opened_each events n count less = ap (events_from events n) (one_less n count less)
 
+none_to_come : (n count : ℕ) → count ≤ n → count - n ≡ 0
+none_to_come n count past = omega (arith, past)
+
 pub closed_each : (events : ℕ → List Event) (n count : ℕ) → count ≤ n → events_from events n (count - n) ≡ []
 unfolding events_from
-closed_each events n count past = ap (events_from events n) (omega (arith, past))
+closed_each events n count past = ap (events_from events n) (none_to_come n count past)
+
+all_to_come : (count : ℕ) → count ≡ count - 0
+all_to_come count = omega arith
+
+-- nothing was put out of the events of each number
+pub each_begins : (w : Outgoing) (events : ℕ → List Event) (count : ℕ) → IsPutting w w [] (events_from events 0 (count - 0)) (lines_of (events_from events 0 count))
+each_begins w events count =
+    subst (λ (k : ℕ). IsPutting w w [] (events_from events 0 k) (lines_of (events_from events 0 count))) (all_to_come count) (putting_none w (events_from events 0 count))
 
 -- ---- ways
 

@@ -1,6 +1,7 @@
 -- The objects of a dump, by their numbers: first those of static fields, then those of the dump in its order.
 use Rattle.std.specs.Prelude.{ℕ, ◌+◌, ◌-◌, Bool, true, false, nat_lt, List, [], ◌∷◌, ◌++◌, length, map, slice_get, slice_index_or, Option, Some, None, option_and_then, if◌then◌else◌}
 use Rattle.std.specs.Option.{option_map_or}
+use Rattle.hprof_reader.specs.declared.fields.StaticField.{StaticField}
 use Rattle.hprof_reader.specs.SubRecords.{Sub, sub_record}
 use Rattle.hprof_session.specs.Walks.{ItemTold, record_told, sub_told}
 use Rattle.hprof_plan.specs.declared.planning.Statics.{Statics}
@@ -58,11 +59,11 @@ shape_of d n =
     if is_static d n then Some (Instance (length d.all.plan.kinds.entries + n))
     else if is_sub_made d n then option_and_then (λ s. option_and_then shape_made (making_event d.all.plan s)) (sub_of d n) else None
 
--- the values of the object of static fields with this number
-abbrev pub static_values : DumpTold → ℕ → List SlotValue
-static_values d n = option_map_or (λ (s : Statics). statics_from 0 s.fields.items) (slice_get d.all.plan.statics.items n) []
+-- the static fields that the object with this number has
+abbrev pub static_fields : DumpTold → ℕ → List StaticField
+static_fields d n = option_map_or (λ (s : Statics). s.fields.items) (slice_get d.all.plan.statics.items n) []
 
 -- the values of the slots of object n
 unfoldable pub values_of : DumpTold → ℕ → List SlotValue
 values_of d n =
-    if is_static d n then static_values d n else option_map_or (object_values d.all.plan d.all.ids) (sub_of d n) []
+    if is_static d n then statics_from 0 (static_fields d n) else option_map_or (object_values d.all.plan d.all.ids) (sub_of d n) []

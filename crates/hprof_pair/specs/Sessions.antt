@@ -1,5 +1,5 @@
 -- The session of two dumps of one program.
-use Rattle.std.specs.Prelude.{◌≡◌, ℕ, List, [], ◌∷◌, ◌++◌, codes, drop, flat_map, length, take}
+use Rattle.std.specs.Prelude.{◌≡◌, ℕ, List, [], ◌∷◌, ◌++◌, codes, drop, flat_map, length, take, Option}
 use Rattle.heap_class.specs.Limits.{widest_classes}
 use Rattle.hprof_session.specs.Places.{lines_of}
 use Rattle.hprof_session.specs.Walks.{ItemTold, Left}
@@ -40,15 +40,18 @@ kept_line = codes "collect\nopen -\n"
 abbrev pub collect_line : List ℕ
 collect_line = codes "collect\n"
 
+-- both, by the numbers of the second one's classes in the heap and by ways to the objects of the first
+abbrev pub pair_in : {elements : ℕ} {v w : Left} → Known elements v → Known elements w → List (Option ℕ) → List Way → PairTold
+pair_in a b numbers ways = record { first = dump_in a; second = dump_in b; classes = numbers; found = numbers_of ways }
+
 -- the text of the session of two dumps, by ways to the objects of the first
 abbrev pub pair_text : {elements : ℕ} {v w : Left} → Known elements v → Known elements w → List Way → List ℕ
 pair_text {elements} {v} {w} a b ways =
     let classes = joined widest_classes a.plan.classes (take b.plan.roots b.plan.classes) in
-    let p = record { first = dump_in a; second = dump_in b; classes = classes.numbers; found = numbers_of ways } in
     session_text a.plan v.ids a.found.objects.keys a.items a.found.roots.items
     ++ (kept_line
     ++ (class_lines (drop (length a.plan.classes) classes.classes)
-    ++ (lines_of (second_events p ways b.found.roots.items root_tags) ++ collect_line)))
+    ++ (lines_of (second_events (pair_in a b classes.numbers ways) ways b.found.roots.items root_tags) ++ collect_line)))
 
 -- this text is the session of what two walks come to, with some ways to the objects of the first that its roots reach
 pub record IsPairSession (elements : ℕ) (v w : Left) (text : List ℕ) : Type 0 where

@@ -4,11 +4,11 @@ ghost use Rattle.indexmap.specs.IndexMap.{index_map_len};
 ghost use Rattle.hprof_reader.specs.SubRecords.{sub_record};
 ghost use Rattle.hprof_session.specs.Walks.{ItemTold, item_told, left};
 ghost use Rattle.hprof_lines.specs.Passes.{IsWhole};
-ghost use Rattle.hprof_pair.specs.Dumps.{count_of, dump_told, is_static, is_sub_made, shape_of, static_values, sub_in, sub_of, subs_from, values_of};
+ghost use Rattle.hprof_pair.specs.Dumps.{count_of, dump_told, is_static, is_sub_made, shape_of, static_fields, sub_in, sub_of, subs_from, values_of};
 
 use crate::shapes::{Shape, shape_made};
 use hprof_lines::{Objects, SlotValue, add_statics, is_turn, making_event, read_object};
-use hprof_reader::SubRecord;
+use hprof_reader::{StaticField, SubRecord};
 use hprof_session::{Item, Walk, item_at};
 use indexmap::IndexSet;
 use std::alloc::{AllocError, Global};
@@ -99,9 +99,9 @@ impl<'s, 'a> Dump<'s, 'a> {
     /// Returns the class and size of object n, its class by the number in its plan, if it is made.
     #[tactic(auto, unfolding(crate::specs::Dumps::shape_of))]
     pub(crate) fn shape(&self, n: u64) -> Option<Shape>
-        requires { n < 2 ^ 63 }
         ensures { result ≡ shape_of (dump_told self.now) n }
     {
+        let _most = self.all.statics.len();
         if self.is_static(n) {
             return Some(Shape::Instance(self.all.plan.kinds.len() as u64 + n));
         }
@@ -120,7 +120,7 @@ impl<'s, 'a> Dump<'s, 'a> {
     {
         values.clear();
         if self.is_static(n) {
-            return self.add_static_values(values, n);
+            return add_statics(values, self.static_fields(n));
         }
         match self.sub(n) {
             Some(sub) => read_object(values, self.all.ids, self.all.plan, sub),
@@ -128,14 +128,13 @@ impl<'s, 'a> Dump<'s, 'a> {
         }
     }
 
-    // Adds the values of the object of static fields with this number.
-    fn add_static_values(&self, values: &mut Vec<SlotValue>, n: u64) -> Result<(), AllocError>
-        ensures { OnOk result (values.new.items
-            ≡ values.old.items ++ static_values (dump_told self.now) n) }
+    // Returns the static fields that the object with this number has.
+    fn static_fields(&self, n: u64) -> &'s [StaticField<'a>]
+        ensures { result.now ≡ static_fields (dump_told self.now) n }
     {
         match self.all.plan.statics.as_slice().get(n as usize) {
-            Some(statics) => add_statics(values, statics.fields.as_slice()),
-            None => Ok(()),
+            Some(statics) => statics.fields.as_slice(),
+            None => &[],
         }
     }
 }

@@ -68,6 +68,7 @@ impl Pair<'_, '_, '_> {
     fn id_number(&self, id: u64) -> Option<u64>
         ensures { result ≡ id_number (dump_told self.now.first) id }
     {
+        let _most = self.first.all.objects.len();
         match self.first.all.objects.get_index_of(&id) {
             Some(i) => Some(self.first.all.statics.len() as u64 + i as u64),
             None => None,
@@ -93,7 +94,6 @@ impl Pair<'_, '_, '_> {
 
     // Tells whether object m of the first dump is found again and has this class and size.
     fn is_like(&self, shape: Shape, m: u64) -> bool
-        requires { m < 2 ^ 64 }
         ensures { result ≡ is_like (pair_told self.now) shape m }
     {
         if !self.found.contains(&m) {
@@ -123,7 +123,7 @@ impl Pair<'_, '_, '_> {
         requires { n < 2 ^ 63 }
         ensures { result ≡ fresh_number (pair_told self.now) n }
     {
-        let number = self.first.count() + n;
+        let number = self.first.count().saturating_add(n);
         if number < PLACES { Some(number) } else { None }
     }
 

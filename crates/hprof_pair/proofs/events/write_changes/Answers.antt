@@ -1,13 +1,13 @@
 use Rattle.std.proofs.lemmas.Result.{err_from_is_err_and}
-use Rattle.hprof_lines.proofs.Puttings.{putting_none, putting_step, putting_step_failed, putting_stopped, putting_ends}
+use Rattle.hprof_lines.proofs.Puttings.{putting_step, putting_step_failed, putting_stopped, putting_ends}
 use Rattle.hprof_pair.specs.Changes.{change_events}
 use Rattle.hprof_pair.specs.Dumps.{count_of, dump_told}
 use Rattle.hprof_pair.specs.Pairs.{pair_told}
-use Rattle.hprof_pair.proofs.Opened.{opened_each, closed_each}
+use Rattle.hprof_pair.proofs.Opened.{each_begins, opened_each, closed_each}
 use Rattle.hprof_pair.proofs.events.write_changes.Goals as goal
 
 pub loop-n-init : goal.loop-n-init
-loop-n-init g c = rw c.new-lines.ensures (putting_none _ _)
+loop-n-init g c = rw c.new-lines.ensures (each_begins _ _ _)
 
 pub loop-n-preserved : goal.loop-n-preserved
 loop-n-preserved g c =

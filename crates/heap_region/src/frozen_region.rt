@@ -1,10 +1,12 @@
 //! A copy of a region, to be read after the region was overwritten.
 ghost use Rattle.std.specs.Prelude.{◌≡◌, ◌*◌, ◌+◌, ◌<◌, ◌≤◌, length, IfOk, IsSome, IfSome, Some};
-ghost use Rattle.heap_region.specs.Regions.{FitsWords};
+ghost use Rattle.heap_region.specs.Regions.{FitsWords, UsedRegion};
+ghost use Rattle.heap_region.specs.Turns.{turned_by};
 ghost use Rattle.heap_region.specs.RegionCopies.{frozen, frozen_object, frozen_with, frozen_word_set, frozen_words};
 ghost use Rattle.heap_region.specs.Limits.{heap_words};
 
 use crate::block::Block;
+use crate::quarter::Quarter;
 use crate::storage::{ObjectCopy, Storage, header_at, part, put_object};
 use heap_class::ObjKind;
 use std::alloc::{AllocError, Global};
@@ -47,6 +49,21 @@ impl Storage {
 }
 
 impl FrozenRegion {
+    // Turns the bits of all objects so many times, modulo 4.
+    pub(crate) fn turn_by(&mut self, turns: Quarter)
+        ensures { (u : UsedRegion) → self.old ≡ frozen u → self.new ≡ frozen (turned_by turns u) }
+    {
+        match turns {
+            Quarter::Zero => {}
+            Quarter::One => self.block.turn(),
+            Quarter::Two => {
+                self.block.turn();
+                self.block.turn();
+            }
+            Quarter::Three => self.block.turn_back(),
+        }
+    }
+
     /// Returns the size of each cell in words.
     pub fn cell_size(&self) -> u64
         ensures value { result ≡ self.now.cell_size }

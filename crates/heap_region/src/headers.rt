@@ -1,8 +1,8 @@
 //! The headers of a region's cells, whose bits are read by turns.
-ghost use Rattle.std.specs.Prelude.{◌≡◌, ◌<◌, ◌≤◌, [], length, map, Some, None, IsSome, option_map, count_by, replicate, slice_index_or, slice_set};
-ghost use Rattle.heap_region.specs.Layout.{with_bit, header_live};
+ghost use Rattle.std.specs.Prelude.{◌≡◌, ◌<◌, ◌≤◌, [], length, map, Some, None, IsSome, option_map, replicate, slice_index_or, slice_set};
+ghost use Rattle.heap_region.specs.Layout.{with_bit};
 ghost use Rattle.heap_region.specs.Limits.{cell_limit, heap_words};
-ghost use Rattle.heap_region.specs.TurnedHeaders.{header_dead, header_unmarked, turned_header, turned_back_header};
+ghost use Rattle.heap_region.specs.TurnedHeaders.{IsCounted, turned_header, turned_back_header};
 
 use crate::cell::{Bit, Cell, Header};
 use crate::counts::Counts;
@@ -32,7 +32,7 @@ impl Model for Headers {
 
 // Returns the header in a cell after a bit was written. There must be one.
 #[inline(always)]
-fn header_with(header: Option<Header>, bit: Bit, on: bool) -> Header
+pub(crate) fn header_with(header: Option<Header>, bit: Bit, on: bool) -> Header
     requires { IsSome header }
     ensures { option_map (with_bit bit on) header ≡ Some result }
 {
@@ -152,28 +152,12 @@ impl Headers {
         }
     }
 
-    // Returns the number of objects that aren't marked.
-    pub(crate) fn unmarked(&self) -> u64
-        ensures value { result ≡ count_by header_unmarked self.now }
-        ensures limit { result ≤ cell_limit }
+    // Returns how many objects there are, and of how many a bit isn't set.
+    #[inline(always)]
+    pub(crate) fn counts(&self) -> Counts
+        ensures { IsCounted self.now result }
     {
-        self.counts.unmarked as u64
-    }
-
-    // Returns the number of objects that aren't live.
-    pub(crate) fn dead(&self) -> u64
-        ensures value { result ≡ count_by header_dead self.now }
-        ensures limit { result ≤ cell_limit }
-    {
-        self.counts.dead as u64
-    }
-
-    // Returns the number of objects that are live.
-    pub(crate) fn live(&self) -> u64
-        ensures value { result ≡ count_by header_live self.now }
-        ensures limit { result ≤ cell_limit }
-    {
-        (self.counts.objects - self.counts.dead) as u64
+        self.counts
     }
 
     // Writes the header of the object in a free cell.

@@ -144,7 +144,8 @@ impl Pin {
     {
         let storage = storage.view();
         let copy = storage.freeze(world.regions().allocator())?;
-        self.kept.put(region as u64, copy, &storage_states(&storage));
+        self.kept
+            .put(region as u64, copy, &storage_states(&storage));
         Ok(())
     }
 }

@@ -51,8 +51,8 @@ table_of_mapped f sizes classes good slots free_classes pool capacity start tabl
   few = rw (length-map slots (option_map f)) table.few;
   good = λ r. subst IsGood (sym (slot_of_mapped f slots r)) (good (get_or slots r None) (table.good r));
   area = area_kept (map shown_region slots) (map shown_region (map (option_map f) slots)) start
-    (length-map (map (option_map f) slots) shown_region ∙ (length-map slots (option_map f) ∙ sym (length-map slots shown_region)))
-    (sizes_of_mapped f sizes slots) table.area;
+      (length-map (map (option_map f) slots) shown_region ∙ (length-map slots (option_map f) ∙ sym (length-map slots shown_region)))
+      (sizes_of_mapped f sizes slots) table.area;
 }
 
 turned_class : KeepsClass turned_region

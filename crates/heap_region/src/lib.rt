@@ -472,8 +472,7 @@ impl Regions {
         let was = self.header(at);
         self.totals = self.totals.without(Some(was));
         if self.slots.free(region, at.cell as usize) {
-            self.free_classes
-                .set(region, self.slots.free_class(region));
+            self.free_classes.set(region, self.slots.free_class(region));
         }
     }
 
@@ -530,8 +529,7 @@ impl Regions {
         take_head(&mut self.pool, region, self.area_start);
         self.totals = self.totals.plus(storage.counts());
         self.slots.put_in(region, storage);
-        self.free_classes
-            .set(region, self.slots.free_class(region));
+        self.free_classes.set(region, self.slots.free_class(region));
         self.waits.set(region, self.slots.wait_class(region));
     }
 
@@ -679,7 +677,10 @@ impl Regions {
             ≡ record self.old { regions = with_object at (bit_set bit on) self.old.regions } }
     {
         let was = self.header(at);
-        self.totals = self.totals.without(Some(was)).with(header_with(Some(was), bit, on));
+        self.totals = self
+            .totals
+            .without(Some(was))
+            .with(header_with(Some(was), bit, on));
         self.slots
             .set_bit(at.region as usize, at.cell as usize, bit, on);
     }

@@ -174,3 +174,10 @@ whole_turned Zero u whole = whole
 whole_turned One u whole = turned_region_stays_whole u whole
 whole_turned Two u whole = turned_region_stays_whole (turned_region u) (turned_region_stays_whole u whole)
 whole_turned Three u whole = turned_back_region_stays_whole u whole
+
+pub object_there : (q : Quarter) (u : UsedRegion) (cell : ℕ) → is_some (cell_object (turned_by q u) cell) ≡ is_some (cell_object u cell)
+object_there q u cell = ap is_some (cell_of_turned q u cell) ∙ go (cell_object u cell)
+  where
+    go : (x : Option Object) → is_some (option_map (object_turned_by q) x) ≡ is_some x
+    go None = refl
+    go (Some o) = refl

@@ -112,7 +112,6 @@ impl ObjectCopy {
 
     // Returns what counts of the object: its header.
     pub(crate) fn header(&self) -> Header
-        requires { length self.now.words ≤ heap_words }
         ensures { result ≡ header_of self.now }
     {
         Header {

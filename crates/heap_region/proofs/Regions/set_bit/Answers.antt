@@ -1,15 +1,26 @@
 use Rattle.std.proofs.Common.{refl}
 use Rattle.heap_region.specs.Layout.{bit_set, changed_at}
-use Rattle.heap_region.proofs.SlotChanges.{object_changed, slot_of_object}
-use Rattle.heap_region.proofs.WaitingRegions.{waiting_classes_of_changed_region}
+use Rattle.heap_region.proofs.SlotCalls.{bit_known, object_changed_in, object_totalled, totals_of_bit, totals_within, waits_of_changed}
+use Rattle.heap_region.proofs.SlotChanges.{slot_of_object}
 use Rattle.heap_region.proofs.Regions.set_bit.Goals as goal
 
+pub without-requires-clause-objects : goal.without-requires-clause-objects
+without-requires-clause-objects c = (object_totalled c.self.inside.slots _ c.args.at _ c.self.invariant.2 (rw (← c.self.view_is) at c.header-was.ensures) (rw (← c.self.view_is) at c.requires)).objects
+
+pub without-requires-clause-unmarked : goal.without-requires-clause-unmarked
+without-requires-clause-unmarked c = (object_totalled c.self.inside.slots _ c.args.at _ c.self.invariant.2 (rw (← c.self.view_is) at c.header-was.ensures) (rw (← c.self.view_is) at c.requires)).unmarked
+
+pub without-requires-clause-dead : goal.without-requires-clause-dead
+without-requires-clause-dead c = (object_totalled c.self.inside.slots _ c.args.at _ c.self.invariant.2 (rw (← c.self.view_is) at c.header-was.ensures) (rw (← c.self.view_is) at c.requires)).dead
+
 pub invariant_of-self : goal.invariant_of-self
-invariant_of-self c = (
-  (object_changed c.self.inside.slots.items _ _ _ _ c.self.invariant.0 _ c.self.view_is c.args.at (bit_set c.args.bit c.args.on) c.requires _ _ c.index_mut.ensures.value c.set_bit_in.ensures.value c.set_bit_in.ensures.whole).0,
-  waiting_classes_of_changed_region c.self.inside.slots.items _ c.args.at.region (λ u. changed_at u c.args.at.cell (bit_set c.args.bit c.args.on)) (λ u. refl) c.self.invariant.1 (slot_of_object c.self.inside.slots.items c.args.at (rw (← c.self.view_is) at c.requires)).1 _ _ c.index_mut.ensures.value c.set_bit_in.ensures.value,
-)
+invariant_of-self c =
+    let some = (slot_of_object c.self.inside.slots c.args.at (rw (← c.self.view_is) at c.requires)).1 in (
+      (object_changed_in c.self.inside.slots _ _ _ _ c.self.invariant.0 _ c.self.view_is c.args.at (bit_set c.args.bit c.args.on) c.requires _ c.set_bit.ensures.state c.set_bit.ensures.whole).0,
+      waits_of_changed c.self.inside.slots _ c.args.at.region (λ u. changed_at u c.args.at.cell (bit_set c.args.bit c.args.on)) (λ u. refl) c.self.invariant.1 some _ c.set_bit.ensures.state,
+      totals_of_bit c.self.inside.slots _ _ c.args.at c.args.bit c.args.on c.self.invariant.2 (rw (← c.self.view_is) at c.requires) _ (rw (← c.self.view_is) at c.header-was.ensures) _ c.header_with.ensures _ c.without.ensures.objects c.without.ensures.unmarked c.without.ensures.dead c.with.ensures.objects c.with.ensures.unmarked c.with.ensures.dead _ c.set_bit.ensures.state,
+    )
 
 pub returns : goal.returns
 returns c =
-    (object_changed c.self.inside.slots.items _ _ _ _ c.self.invariant.0 _ c.self.view_is c.args.at (bit_set c.args.bit c.args.on) c.requires _ _ c.index_mut.ensures.value c.set_bit_in.ensures.value c.set_bit_in.ensures.whole).1
+    (object_changed_in c.self.inside.slots _ _ _ _ c.self.invariant.0 _ c.self.view_is c.args.at (bit_set c.args.bit c.args.on) c.requires _ c.set_bit.ensures.state c.set_bit.ensures.whole).1

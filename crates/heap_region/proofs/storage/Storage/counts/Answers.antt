@@ -1,10 +1,7 @@
-use Rattle.std.proofs.Common.{ap, ◌∙◌}
-use Rattle.std.specs.Prelude.{count_by}
-use Rattle.heap_region.specs.Layout.{header_live}
-use Rattle.heap_region.proofs.TurnedRegions.{live_headers_counted_as_objects}
-use Rattle.heap_region.proofs.storage.Storage.live_objects.Goals as goal
+use Rattle.heap_region.proofs.TurnedRegions.{counts_of_headers_shown}
+use Rattle.heap_region.proofs.storage.Storage.counts.Goals as goal
 
-pub returns-clause-value : goal.returns-clause-value
-returns-clause-value c =
+pub returns : goal.returns
+returns c =
     let i = c.self.inside in
-    rw (← c.self.view_is) (c.live.ensures.value ∙ (ap (count_by header_live) c.headers.ensures ∙ live_headers_counted_as_objects i.cell_size i.block.words 0 i.block.headers))
+    rw (← c.self.view_is) (counts_of_headers_shown i.cell_size i.block.words i.block.headers _ (rw c.headers.ensures at c.counts.ensures))

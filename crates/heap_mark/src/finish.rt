@@ -14,7 +14,6 @@ pub fn first_pending(regions: &Regions) -> Option<u64>
 }
 
 /// Turns every region in use. Returns the number of objects that aren't live then. Takes constant time.
-#[tactic(auto, using(crate::proofs::UnmarkedCounts::dead_are), unfolding(crate::specs::MarkSteps::each_region))]
 pub fn turn_all(regions: &mut Regions) -> u64
     ensures regions { regions.new
         ≡ record regions.old { regions = each_region turned_region regions.old.regions } }
@@ -24,7 +23,6 @@ pub fn turn_all(regions: &mut Regions) -> u64
 }
 
 /// Undoes `turn_all`. Takes constant time.
-#[tactic(auto, unfolding(crate::specs::MarkSteps::each_region))]
 pub fn turn_all_back(regions: &mut Regions)
     ensures { regions.new
         ≡ record regions.old { regions = each_region turned_back_region regions.old.regions } }

@@ -107,7 +107,9 @@ impl ObjectCopy {
     pub(crate) fn turn_by(&mut self, turns: Quarter)
         ensures { self.new ≡ object_turned_by turns self.old }
     {
-        (self.live, self.mark) = bits_turned((self.live, self.mark), turns);
+        let (live, mark) = bits_turned(self.bits(), turns);
+        self.live = live;
+        self.mark = mark;
     }
 
     // Returns what counts of the object: its header.

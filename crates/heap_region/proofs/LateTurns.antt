@@ -1,8 +1,9 @@
 -- Turns of a region, modulo 4, and of a region whose storage was turned less far than the heap.
 use Rattle.std.proofs.Common.{◌≡◌, ℕ, zero, suc, ◌+◌, ◌<◌, Bool, true, false, not, List, [], ◌∷◌, length, map, Option, Some, None, is_none, is_some, IsSome, IfSome, option_map, get_or, set, refl, sym, ap, subst, ◌∙◌}
 use Rattle.std.proofs.lemmas.List.{length-map, get_or-map, map-set}
+use Rattle.heap_class.specs.declared.ObjKind.{ObjKind}
 use Rattle.heap_region.specs.Regions.{Object, UsedRegion, cell_object}
-use Rattle.heap_region.specs.Layout.{IsWholeRegion}
+use Rattle.heap_region.specs.Layout.{IsWholeRegion, changed_at, word_set, words_at, words_of}
 use Rattle.heap_region.specs.Table.{free_class_of, first_in, IsGood}
 use Rattle.heap_region.specs.Turns.{turned_object, turned_back_object, turned_region, turned_back_region, turned_by, object_turned_by}
 use Rattle.heap_region.specs.Quarters.{next_quarter, prior_quarter, since, is_zero}
@@ -181,3 +182,101 @@ object_there q u cell = ap is_some (cell_of_turned q u cell) ∙ go (cell_object
     go : (x : Option Object) → is_some (option_map (object_turned_by q) x) ≡ is_some x
     go None = refl
     go (Some o) = refl
+
+-- ---- what is read of a region that was turned less far
+
+-- an object that is shown is kept
+pub there_before_turns : (q : Quarter) (u : UsedRegion) (cell : ℕ) → IsSome (cell_object (turned_by q u) cell) → IsSome (cell_object u cell)
+there_before_turns q u cell some = go (cell_object u cell) (rw (cell_of_turned q u cell) at some)
+  where
+    go : (x : Option Object) → IsSome (option_map (object_turned_by q) x) → IsSome x
+    go None none = none
+    go (Some o) is = refl
+
+kind_kept : (q : Quarter) (o : Object) → (object_turned_by q o).kind ≡ o.kind
+kind_kept Zero o = refl
+kind_kept One o = refl
+kind_kept Two o = refl
+kind_kept Three o = refl
+
+words_kept : (q : Quarter) (o : Object) → (object_turned_by q o).words ≡ o.words
+words_kept Zero o = refl
+words_kept One o = refl
+words_kept Two o = refl
+words_kept Three o = refl
+
+pub kind_of_turned : (q : Quarter) (u : UsedRegion) (cell : ℕ) (k : ObjKind) → IfSome (cell_object u cell) (λ o. k ≡ o.kind) → IfSome (cell_object (turned_by q u) cell) (λ o. k ≡ o.kind)
+kind_of_turned q u cell k h = rw (cell_of_turned q u cell) (go (cell_object u cell) h)
+  where
+    go : (x : Option Object) → IfSome x (λ o. k ≡ o.kind) → IfSome (option_map (object_turned_by q) x) (λ o. k ≡ o.kind)
+    go None h = tt
+    go (Some o) h = h ∙ sym (kind_kept q o)
+
+pub words_of_turned : (q : Quarter) (u : UsedRegion) (cell : ℕ) → words_at (turned_by q u) cell ≡ words_at u cell
+words_of_turned q u cell = ap words_of (cell_of_turned q u cell) ∙ go (cell_object u cell)
+  where
+    go : (x : Option Object) → words_of (option_map (object_turned_by q) x) ≡ words_of x
+    go None = refl
+    go (Some o) = words_kept q o
+
+pub words_read_of_turned : (q : Quarter) (u : UsedRegion) (cell : ℕ) (ws : List ℕ) → IfSome (cell_object u cell) (λ o. ws ≡ o.words) → IfSome (cell_object (turned_by q u) cell) (λ o. ws ≡ o.words)
+words_read_of_turned q u cell ws h = rw (cell_of_turned q u cell) (go (cell_object u cell) h)
+  where
+    go : (x : Option Object) → IfSome x (λ o. ws ≡ o.words) → IfSome (option_map (object_turned_by q) x) (λ o. ws ≡ o.words)
+    go None h = tt
+    go (Some o) h = h ∙ sym (words_kept q o)
+
+abbrev HasBits : Bool × Bool → Object → Type 0
+HasBits bits o = (bits.0 ≡ o.live) × (bits.1 ≡ o.mark)
+
+pub bits_of_turned : (q : Quarter) (u : UsedRegion) (cell : ℕ) (bits r : Bool × Bool) → IfSome (cell_object u cell) (λ o. (bits.0 ≡ o.live) × (bits.1 ≡ o.mark)) → ((o : Object) → o.live ≡ bits.0 → o.mark ≡ bits.1 → (r.0 ≡ (object_turned_by q o).live) × (r.1 ≡ (object_turned_by q o).mark))
+    → IfSome (cell_object (turned_by q u) cell) (λ o. (r.0 ≡ o.live) × (r.1 ≡ o.mark))
+bits_of_turned q u cell bits r h turns = rw (cell_of_turned q u cell) (go (cell_object u cell) h)
+  where
+    go : (x : Option Object) → IfSome x (HasBits bits) → IfSome (option_map (object_turned_by q) x) (HasBits r)
+    go None h = tt
+    go (Some o) h = turns o (sym h.0) (sym h.1)
+
+-- a free class
+pub class_of_turned : (q : Quarter) (u : UsedRegion) → free_class_of (Some (turned_by q u)) ≡ free_class_of (Some u)
+unfolding turned_by turned_region turned_back_region
+class_of_turned Zero u = refl
+class_of_turned One u = refl
+class_of_turned Two u = refl
+class_of_turned Three u = refl
+
+pub first_of_turned : (q : Quarter) (u : UsedRegion) → first_in (Some (turned_by q u)) ≡ first_in (Some u)
+unfolding turned_by turned_region turned_back_region
+first_of_turned Zero u = refl
+first_of_turned One u = refl
+first_of_turned Two u = refl
+first_of_turned Three u = refl
+
+-- a word is written whatever the turns
+word_in_mapped : (f : Object → Object) (cell slot value : ℕ) → ((o : Object) → f (word_set slot value o) ≡ word_set slot value (f o)) → (cells : List (Option Object)) → map (option_map f) (set cells cell (option_map (word_set slot value) (get_or cells cell None))) ≡ set (map (option_map f) cells) cell (option_map (word_set slot value) (get_or (map (option_map f) cells) cell None))
+word_in_mapped f cell slot value swaps [] = refl
+word_in_mapped f zero slot value swaps (x ∷ cells) = ap (λ (y : Option Object). y ∷ map (option_map f) cells) (go x)
+  where
+    go : (x : Option Object) → option_map f (option_map (word_set slot value) x) ≡ option_map (word_set slot value) (option_map f x)
+    go None = refl
+    go (Some o) = ap Some (swaps o)
+word_in_mapped f (suc cell) slot value swaps (x ∷ cells) = ap (λ (l : List (Option Object)). option_map f x ∷ l) (word_in_mapped f cell slot value swaps cells)
+
+word_in_turned : (u : UsedRegion) (cell slot value : ℕ) → turned_region (changed_at u cell (word_set slot value)) ≡ changed_at (turned_region u) cell (word_set slot value)
+unfolding turned_region
+word_in_turned u cell slot value = ap (λ (l : List (Option Object)). record u { cells = l; pending = not u.pending }) (word_in_mapped turned_object cell slot value (λ o. refl) u.cells)
+
+pub word_set_in_turned : (q : Quarter) (u : UsedRegion) (cell slot value : ℕ) → turned_by q (changed_at u cell (word_set slot value)) ≡ changed_at (turned_by q u) cell (word_set slot value)
+unfolding turned_by turned_back_region
+word_set_in_turned Zero u cell slot value = refl
+word_set_in_turned One u cell slot value = word_in_turned u cell slot value
+word_set_in_turned Two u cell slot value = ap turned_region (word_in_turned u cell slot value) ∙ word_in_turned (turned_region u) cell slot value
+word_set_in_turned Three u cell slot value = ap (λ (l : List (Option Object)). record u { cells = l; pending = not u.pending }) (word_in_mapped turned_back_object cell slot value (λ o. refl) u.cells)
+
+-- ---- by call
+
+-- what a storage is after it was settled
+pub ruleset settling = (settled_shows, nothing_missed, no_turns_since)
+
+-- what is read of one that may not be
+pub ruleset late_reads = (class_of_turned, first_of_turned, whole_turned, word_set_in_turned, words_of_turned, there_before_turns)

@@ -52,6 +52,19 @@ pub(crate) fn bits_turned(bits: (bool, bool), turns: Quarter) -> (bool, bool)
     }
 }
 
+// Tells whether a region waits to be swept, after so many turns.
+#[tactic(auto, unfolding(crate::specs::Turns::turned_by, crate::specs::Turns::turned_region, crate::specs::Turns::turned_back_region))]
+fn pending_turned(pending: bool, turns: Quarter) -> bool
+    ensures { (u : UsedRegion) → u.pending ≡ pending → result ≡ (turned_by turns u).pending }
+{
+    match turns {
+        Quarter::Zero => pending,
+        Quarter::One => !pending,
+        Quarter::Two => pending,
+        Quarter::Three => !pending,
+    }
+}
+
 // Returns the counts of objects after so many turns.
 fn counts_turned(counts: Counts, turns: Quarter) -> Counts
     requires { (u : UsedRegion) × AreCounted u.cells counts }
@@ -97,10 +110,7 @@ impl<'a> RegionView<'a> {
     pub(crate) fn pending(&self) -> bool
         ensures { result ≡ self.now.pending }
     {
-        match self.turns.since(self.seen) {
-            Quarter::Zero | Quarter::Two => self.storage.pending(),
-            Quarter::One | Quarter::Three => !self.storage.pending(),
-        }
+        pending_turned(self.storage.pending(), self.turns.since(self.seen))
     }
 
     // Returns how many objects there are, and of how many a bit isn't set.

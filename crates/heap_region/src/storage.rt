@@ -253,6 +253,7 @@ impl Storage {
     }
 
     // Turns the bits so many times, modulo 4.
+    #[tactic(auto, unfolding(crate::specs::Turns::turned_by))]
     #[inline(never)]
     pub(crate) fn turn_by(&mut self, turns: Quarter)
         ensures { self.new ≡ turned_by turns self.old }
@@ -269,6 +270,7 @@ impl Storage {
     }
 
     /// Returns the region as it is read.
+    #[tactic(auto, unfolding(crate::specs::Turns::turned_by))]
     #[inline(always)]
     pub fn view(&self) -> RegionView<'_>
         ensures { result ≡ self.now }

@@ -45,3 +45,6 @@ slot_read_again turns slots r new lt = go slots r lt
 pub empty_slots_shown : (turns : Quarter) (n : ℕ) → map (shown_slot turns) (replicate n Empty) ≡ replicate n None
 empty_slots_shown turns zero = refl
 empty_slots_shown turns (suc n) = ap (λ (l : List (Option UsedRegion)). None ∷ l) (empty_slots_shown turns n)
+
+-- what a call finds and leaves of one slot
+pub ruleset slot_reads = (slot_shows, slot_within, used_slot_within, slot_changed, slot_read_again, slot_written)

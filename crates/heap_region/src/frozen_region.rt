@@ -37,8 +37,8 @@ impl Model for FrozenRegion {
 }
 
 impl Storage {
-    /// Returns a copy of the region. Fails if the allocation fails.
-    pub fn freeze(&self, alloc: Global) -> Result<FrozenRegion, AllocError>
+    // Returns a copy of the region. Fails if the allocation fails.
+    pub(crate) fn freeze(&self, alloc: Global) -> Result<FrozenRegion, AllocError>
         ensures { IfOk result (λ f. f ≡ frozen self.now) }
     {
         Ok(FrozenRegion {

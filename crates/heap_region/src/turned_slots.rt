@@ -74,6 +74,7 @@ impl Slots {
     }
 
     // Returns a region in use. None if it is empty or there is no such region.
+    #[tactic(auto, using(crate::proofs::SlotReads::slot_reads))]
     #[inline(always)]
     pub(crate) fn at(&self, region: usize) -> Option<RegionView<'_>>
         ensures value { MatchOption result (slice_index_or self.now region None ≡ None)
@@ -87,6 +88,7 @@ impl Slots {
     }
 
     // Returns the number of the cell size of a region that has a free cell, else 0.
+    #[tactic(auto, using(crate::proofs::SlotReads::slot_reads))]
     pub(crate) fn free_class(&self, region: usize) -> u8
         requires { region < length self.now }
         ensures value { result ≡ free_class_of (slice_index_or self.now region None) }
@@ -96,6 +98,7 @@ impl Slots {
     }
 
     // Returns the class of a region by whether it waits to be swept.
+    #[tactic(auto, using(crate::proofs::SlotReads::slot_reads))]
     pub(crate) fn wait_class(&self, region: usize) -> u8
         ensures { result ≡ wait_class_of (slice_index_or self.now region None) }
     {
@@ -106,6 +109,7 @@ impl Slots {
     }
 
     // Returns the cell that heads a region's free list, which must have one.
+    #[tactic(auto, using(crate::proofs::SlotReads::slot_reads))]
     #[inline(always)]
     pub(crate) fn free_head(&self, region: usize) -> usize
         requires { IsSome (first_in (slice_index_or self.now region None)) }
@@ -172,6 +176,7 @@ impl Slots {
     }
 
     // Writes one slot of an object. The storage needn't be turned for that.
+    #[tactic(auto, using(crate::proofs::SlotReads::slot_reads))]
     #[inline(always)]
     pub(crate) fn set_word(&mut self, region: usize, cell: usize, index: usize, value: u64)
         requires { index < length (words_of (slot_object (slice_index_or self.old region None) cell)) }
@@ -222,6 +227,7 @@ impl Slots {
     }
 
     // Moves the storage out of a region in use.
+    #[tactic(auto, using(crate::proofs::SlotReads::slot_reads))]
     pub(crate) fn take_out(&mut self, region: usize) -> Storage
         requires { IsSome (slice_index_or self.old region None) }
         ensures storage { slice_index_or self.old region None ≡ Some result }
@@ -231,6 +237,7 @@ impl Slots {
     }
 
     // Moves a storage into a region.
+    #[tactic(auto, using(crate::proofs::SlotReads::slot_reads))]
     pub(crate) fn put_in(&mut self, region: usize, storage: Storage)
         requires { region < length self.old }
         ensures { self.new ≡ slice_set self.old region (Some storage) }

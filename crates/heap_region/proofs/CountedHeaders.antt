@@ -17,11 +17,11 @@ header_count_after_set q hs cell x lt = sum_by-set (λ x. cond (q x) 1 0) hs cel
 counted_header_is_at_least_one : (q : Option Header → Bool) (hs : List (Option Header)) (cell : ℕ) → cell < length hs → q None ≡ false → one_if (q (get_or hs cell None)) ≤ count_by q hs
 counted_header_is_at_least_one q hs cell lt none = omega (arith, header_count_after_set q hs cell None lt, ap one_if none)
 
--- each count is at most 256
+-- each count is at most 2^24
 pub record AreFew (c : Counts) : Type 0 where
-  pub objects : c.objects ≤ 256
-  pub unmarked : c.unmarked ≤ 256
-  pub dead : c.dead ≤ 256
+  pub objects : c.objects ≤ 16777216
+  pub unmarked : c.unmarked ≤ 16777216
+  pub dead : c.dead ≤ 16777216
 
 pub counts_of_headers_are_few : (hs : List (Option Header)) (c : Counts) → IsCounted hs c → AreFew c
 counts_of_headers_are_few hs c is = record {

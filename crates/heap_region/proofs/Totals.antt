@@ -1,10 +1,11 @@
 -- How many objects all regions have, and of how many a bit isn't set.
-use Rattle.std.proofs.Common.{◌≡◌, ℕ, zero, suc, ◌+◌, ◌*◌, ◌<◌, ◌≤◌, Bool, true, false, not, cond, List, [], ◌∷◌, length, map, Option, Some, None, is_some, IsSome, option_map, get_or, set, refl, sym, ap, ap₂, subst, ◌∙◌, arith, length-set, replicate}
+use Rattle.std.proofs.Common.{◌≡◌, ℕ, zero, suc, ◌+◌, ◌-◌, ◌*◌, ◌<◌, ◌≤◌, Bool, true, false, not, cond, List, [], ◌∷◌, length, map, Option, Some, None, is_some, IsSome, option_map, get_or, set, refl, sym, ap, ap₂, subst, ◌∙◌, arith, length-set, replicate}
 use Rattle.std.specs.Prelude.{count_by}
 use Rattle.std.specs.List.{sum_by}
 use Rattle.std.proofs.lemmas.List.Sums.{sum_by-cons, sum_by-set, get_or-le-sum_by, count_by-le-length}
 use Rattle.heap_region.specs.Regions.{Object, UsedRegion, Region, used_part, cell_object}
-use Rattle.heap_region.specs.Live.{cells_of, is_dead}
+use Rattle.heap_region.specs.Layout.{IsWholeRegion}
+use Rattle.heap_region.specs.Live.{cells_of, is_dead, is_live}
 use Rattle.heap_region.specs.Slots.{AreCounted, AreTotals, objects_in_slot, dead_in_slot}
 use Rattle.heap_region.specs.Table.{IsGood, shown_region}
 use Rattle.heap_region.specs.Turns.{is_unmarked, turned_object, turned_back_object, turned_region, turned_back_region, turned_by, unmarked_in, unmarked_total}
@@ -51,10 +52,6 @@ abbrev is_marked : Option Object → Bool
 is_marked None = false
 is_marked (Some o) = o.mark
 
-abbrev is_live_object : Option Object → Bool
-is_live_object None = false
-is_live_object (Some o) = o.live
-
 not_not : (b : Bool) → b ≡ not (not b)
 not_not true = refl
 not_not false = refl
@@ -62,11 +59,17 @@ not_not false = refl
 marked_and_unmarked : (cells : List (Option Object)) → count_by is_marked cells + count_by is_unmarked cells ≡ count_by is_some cells
 marked_and_unmarked = counted_in_parts is_marked is_unmarked refl refl (λ o. not_not o.mark)
 
-live_and_dead : (cells : List (Option Object)) → count_by is_live_object cells + count_by is_dead cells ≡ count_by is_some cells
-live_and_dead = counted_in_parts is_live_object is_dead refl refl (λ o. not_not o.live)
+live_and_dead : (cells : List (Option Object)) → count_by is_live cells + count_by is_dead cells ≡ count_by is_some cells
+live_and_dead = counted_in_parts is_live is_dead refl refl (λ o. not_not o.live)
 
 pub dead_at_most : (cells : List (Option Object)) (c : Counts) → AreCounted cells c → c.dead ≤ c.objects
 dead_at_most cells c is = omega (arith, is.objects, is.dead, live_and_dead cells)
+
+pub live_counted : (cells : List (Option Object)) (c : Counts) → AreCounted cells c → c.objects - c.dead ≡ count_by is_live cells
+live_counted cells c is = omega (arith, is.objects, is.dead, live_and_dead cells)
+
+pub few_counted : (u : UsedRegion) (p : Option Object → Bool) → IsWholeRegion u → count_by p u.cells ≤ 256
+few_counted u p whole = omega (arith, count_by-le-length p u.cells, few_cells u.cell_size (length u.cells) whole.sized whole.covers)
 
 pub unmarked_at_most : (cells : List (Option Object)) (c : Counts) → AreCounted cells c → c.unmarked ≤ c.objects
 unmarked_at_most cells c is = omega (arith, is.objects, is.unmarked, marked_and_unmarked cells)
@@ -74,7 +77,7 @@ unmarked_at_most cells c is = omega (arith, is.objects, is.unmarked, marked_and_
 pub counted_turned : (cells : List (Option Object)) (c d : Counts) → AreCounted cells c → d.objects ≡ c.objects → d.unmarked + c.dead ≡ c.objects → d.dead ≡ c.unmarked → AreCounted (map (option_map turned_object) cells) d
 counted_turned cells c d is objects unmarked dead = record {
   objects = omega (arith, counted_alike is_some is_some turned_object refl (λ o. refl) cells, objects, is.objects);
-  unmarked = omega (arith, counted_alike is_unmarked is_live_object turned_object refl (λ o. sym (not_not o.live)) cells, live_and_dead cells, unmarked, is.dead, is.objects);
+  unmarked = omega (arith, counted_alike is_unmarked is_live turned_object refl (λ o. sym (not_not o.live)) cells, live_and_dead cells, unmarked, is.dead, is.objects);
   dead = omega (arith, counted_alike is_dead is_unmarked turned_object refl (λ o. refl) cells, dead, is.unmarked);
 }
 
@@ -100,7 +103,7 @@ summed_in_parts p q a is [] = refl
 summed_in_parts p q a is (x ∷ slots) = omega (arith, sum_by-cons p x slots, sum_by-cons q x slots, sum_by-cons a x slots, is x, summed_in_parts p q a is slots)
 
 abbrev live_in_slot : Option UsedRegion → ℕ
-live_in_slot x = count_by is_live_object (cells_of x)
+live_in_slot x = count_by is_live (cells_of x)
 
 abbrev marked_in_slot : Option UsedRegion → ℕ
 marked_in_slot x = count_by is_marked (cells_of x)
@@ -131,7 +134,7 @@ slot_counted_back p q none is (Some u) = counted_alike p q turned_back_object no
 pub totals_turned : (slots : List (Option UsedRegion)) (c d : Counts) → AreTotals slots c → d.objects ≡ c.objects → d.unmarked + c.dead ≡ c.objects → d.dead ≡ c.unmarked → AreTotals (map (option_map turned_region) slots) d
 totals_turned slots c d is objects unmarked dead = record {
   objects = omega (arith, summed_alike objects_in_slot objects_in_slot turned_region (slot_counted_alike is_some is_some refl (λ o. refl)) slots, objects, is.objects);
-  unmarked = omega (arith, summed_alike unmarked_in live_in_slot turned_region (slot_counted_alike is_unmarked is_live_object refl (λ o. sym (not_not o.live))) slots, live_and_dead_summed slots, unmarked, is.dead, is.objects);
+  unmarked = omega (arith, summed_alike unmarked_in live_in_slot turned_region (slot_counted_alike is_unmarked is_live refl (λ o. sym (not_not o.live))) slots, live_and_dead_summed slots, unmarked, is.dead, is.objects);
   dead = omega (arith, summed_alike dead_in_slot unmarked_in turned_region (slot_counted_alike is_dead is_unmarked refl (λ o. refl)) slots, dead, is.unmarked);
 }
 

@@ -298,7 +298,8 @@ impl Regions {
         ensures limit { result ≤ cell_limit }
     {
         let counts = self.storage(region as usize).counts();
-        (counts.objects - counts.dead) as u64
+        let live = counts.objects - counts.dead;
+        live as u64
     }
 
     /// Returns the number of objects of a region, which must be in use, that aren't live. Takes constant time.
@@ -308,7 +309,8 @@ impl Regions {
         ensures value { result ≡ count_by is_dead (cells_of (used_at self.now.regions region)) }
         ensures limit { result ≤ cell_limit }
     {
-        self.storage(region as usize).counts().dead as u64
+        let counts = self.storage(region as usize).counts();
+        counts.dead as u64
     }
 
     /// Returns the number of a region in use, as the places of its cells have it.

@@ -115,7 +115,8 @@ impl<'a> RegionView<'a> {
 
     // Returns how many objects there are, and of how many a bit isn't set.
     pub(crate) fn counts(&self) -> Counts
-        ensures { AreCounted self.now.cells result }
+        ensures counted { AreCounted self.now.cells result }
+        ensures whole { IsWholeRegion self.now }
     {
         counts_turned(self.storage.counts(), self.turns.since(self.seen))
     }

@@ -285,7 +285,8 @@ impl Storage {
     // Returns how many objects there are, and of how many a bit isn't set.
     #[inline(always)]
     pub(crate) fn counts(&self) -> Counts
-        ensures { AreCounted self.now.cells result }
+        ensures counted { AreCounted self.now.cells result }
+        ensures whole { IsWholeRegion self.now }
     {
         self.block.headers().counts()
     }

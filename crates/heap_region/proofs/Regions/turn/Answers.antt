@@ -5,8 +5,8 @@ use Rattle.heap_region.proofs.ShownRegions.{with_regions}
 use Rattle.heap_region.proofs.Totals.{total_dead_at_most, totals_turned, unmarked_shown_total}
 use Rattle.heap_region.proofs.Regions.turn.Goals as goal
 
-pub next-requires : goal.next-requires
-next-requires c = total_dead_at_most _ _ c.self.invariant.2
+pub next-self-inside-requires : goal.next-self-inside-requires
+next-self-inside-requires c = total_dead_at_most _ _ c.self.invariant.2
 
 pub invariant_of-self : goal.invariant_of-self
 invariant_of-self c =
@@ -14,7 +14,7 @@ invariant_of-self c =
     rw (c.turn.ensures, c.turn-2.ensures) (
       table_turned i.slots _ _ _ _ c.self.invariant.0,
       waits_turned i.slots _ c.self.invariant.1,
-      totals_turned i.slots _ _ c.self.invariant.2 c.next.ensures.objects c.next.ensures.unmarked c.next.ensures.dead,
+      totals_turned i.slots _ _ c.self.invariant.2 c.next-self-inside.ensures.objects c.next-self-inside.ensures.unmarked c.next-self-inside.ensures.dead,
     )
 
 pub returns-clause-turned : goal.returns-clause-turned

@@ -5,8 +5,8 @@ use Rattle.heap_region.proofs.ShownRegions.{with_regions}
 use Rattle.heap_region.proofs.Totals.{total_unmarked_at_most, totals_turned_back}
 use Rattle.heap_region.proofs.Regions.turn_back.Goals as goal
 
-pub prior-requires : goal.prior-requires
-prior-requires c = total_unmarked_at_most _ _ c.self.invariant.2
+pub prior-self-inside-requires : goal.prior-self-inside-requires
+prior-self-inside-requires c = total_unmarked_at_most _ _ c.self.invariant.2
 
 pub invariant_of-self : goal.invariant_of-self
 invariant_of-self c =
@@ -14,7 +14,7 @@ invariant_of-self c =
     rw (c.turn_back.ensures, c.turn.ensures) (
       table_turned_back i.slots _ _ _ _ c.self.invariant.0,
       waits_turned_back i.slots _ c.self.invariant.1,
-      totals_turned_back i.slots _ _ c.self.invariant.2 c.prior.ensures.objects c.prior.ensures.unmarked c.prior.ensures.dead,
+      totals_turned_back i.slots _ _ c.self.invariant.2 c.prior-self-inside.ensures.objects c.prior-self-inside.ensures.unmarked c.prior-self-inside.ensures.dead,
     )
 
 pub returns : goal.returns

@@ -1,4 +1,4 @@
-use Rattle.std.proofs.Common.{IsSome, IfSome, is_none, sym, subst, ap, ◌∙◌}
+use Rattle.std.proofs.Common.{arith, IsSome, IfSome, is_none, sym, subst, ap, ◌∙◌}
 use Rattle.heap_region.specs.Layout.{IsWholeRegion, bit_set, cell_filled, changed_at, pending_set, word_set}
 use Rattle.heap_region.specs.Pool.{blank_object, cell_freed}
 use Rattle.heap_region.specs.Regions.{slot_object}
@@ -11,7 +11,7 @@ use Rattle.heap_region.proofs.turned_slots.Slots.free.Goals as goal
 pub index_mut-requires : goal.index_mut-requires
 index_mut-requires c =
     let i = c.self.inside in
-    used_slot_within i.turns i.slots.items c.args.region (slot_of_object_is_used _ c.args.cell (rw (← c.self.view_is) at c.requires))
+    omega (arith, used_slot_within i.turns i.slots.items c.args.region (slot_of_object_is_used _ c.args.cell (rw (← c.self.view_is) at c.requires)), i.slots.ok.0)
 
 pub free_in-requires : goal.free_in-requires
 free_in-requires c =

@@ -1,4 +1,4 @@
-use Rattle.std.proofs.Common.{IsSome, IfSome, is_none, sym, subst, ap, ◌∙◌}
+use Rattle.std.proofs.Common.{arith, IsSome, IfSome, is_none, sym, subst, ap, ◌∙◌}
 use Rattle.heap_region.specs.Layout.{IsWholeRegion, bit_set, cell_filled, changed_at, pending_set, word_set}
 use Rattle.heap_region.specs.Pool.{blank_object, cell_freed}
 use Rattle.heap_region.specs.Regions.{slot_object}
@@ -11,7 +11,7 @@ use Rattle.heap_region.proofs.turned_slots.Slots.set_bit.Goals as goal
 pub index_mut-requires : goal.index_mut-requires
 index_mut-requires c =
     let i = c.self.inside in
-    used_slot_within i.turns i.slots.items c.args.region (slot_of_object_is_used _ c.args.cell (rw (← c.self.view_is) at c.requires))
+    omega (arith, used_slot_within i.turns i.slots.items c.args.region (slot_of_object_is_used _ c.args.cell (rw (← c.self.view_is) at c.requires)), i.slots.ok.0)
 
 pub set_bit_in-requires : goal.set_bit_in-requires
 set_bit_in-requires c =
@@ -23,7 +23,7 @@ pub returns-clause-state : goal.returns-clause-state
 returns-clause-state c =
     let i = c.self.inside in
     let lt = used_slot_within i.turns i.slots.items c.args.region (slot_of_object_is_used _ c.args.cell (rw (← c.self.view_is) at c.requires)) in
-    rw (← c.self.view_is) (slot_changed i.turns i.slots.items c.args.region (λ u. changed_at u c.args.cell (bit_set c.args.bit c.args.on)) _ _ lt c.index_mut.ensures.value c.set_bit_in.ensures.state)
+    rw (← c.self.view_is) (slot_changed i.turns i.slots.items c.args.region (λ u. changed_at u c.args.cell (bit_set c.args.bit c.args.on)) _ _ lt c.index_mut.ensures.value c.set_bit_in.ensures.value)
 
 pub returns-clause-whole : goal.returns-clause-whole
 returns-clause-whole c =

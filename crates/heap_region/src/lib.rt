@@ -471,9 +471,12 @@ impl Regions {
             → self.old ≡ taken at o before → self.new ≡ before }
     {
         let region = at.region as usize;
+        // They are written last, so that the header is read once.
         let was = self.header(at);
-        self.totals = self.totals.without(Some(was));
-        if self.slots.free(region, at.cell as usize) {
+        let totals = self.totals.without(Some(was));
+        let full = self.slots.free(region, at.cell as usize);
+        self.totals = totals;
+        if full {
             self.free_classes.set(region, self.slots.free_class(region));
         }
     }
@@ -678,13 +681,13 @@ impl Regions {
         ensures { self.new
             ≡ record self.old { regions = with_object at (bit_set bit on) self.old.regions } }
     {
+        // They are written last, so that the header is read once.
         let was = self.header(at);
-        self.totals = self
-            .totals
-            .without(Some(was))
-            .with(header_with(Some(was), bit, on));
+        let now = header_with(Some(was), bit, on);
+        let totals = self.totals.without(Some(was)).with(now);
         self.slots
             .set_bit(at.region as usize, at.cell as usize, bit, on);
+        self.totals = totals;
     }
 
     // Returns a region if it is in use.

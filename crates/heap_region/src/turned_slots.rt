@@ -1,7 +1,7 @@
 //! The regions of a heap, which are turned all at once. A region's storage is turned once it is changed.
 ghost use Rattle.std.specs.Prelude.{◌≡◌, ◌-◌, ◌<◌, ◌≤◌, length, map, Some, None, IfOk, IsSome, IfSome, IsSomeAnd, MatchOption, find, is_none, option_map, replicate, slice_index_or, slice_set};
 ghost use Rattle.std.specs.List.{range_with_len};
-ghost use Rattle.heap_region.specs.Regions.{FitsWords, slot_object};
+ghost use Rattle.heap_region.specs.Regions.{FitsWords, regions_for, slot_object};
 ghost use Rattle.heap_region.specs.Pool.{blank_object, cell_freed, is_run};
 ghost use Rattle.heap_region.specs.Legal.{IsArea};
 ghost use Rattle.heap_region.specs.Layout.{Heads, IsWholeRegion, changed_at, cell_filled, bit_set, pending_set, word_set, words_of};

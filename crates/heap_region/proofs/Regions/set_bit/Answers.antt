@@ -14,21 +14,21 @@ without-requires-clause-unmarked c = (object_totalled c.self.inside.slots _ c.ar
 pub without-requires-clause-dead : goal.without-requires-clause-dead
 without-requires-clause-dead c = (object_totalled c.self.inside.slots _ c.args.at _ c.self.invariant.2 (rw (← c.self.view_is) at c.header-was.ensures) (rw (← c.self.view_is) at c.requires)).dead
 
-pub with-self-inside-requires-clause-objects : goal.with-self-inside-requires-clause-objects
-with-self-inside-requires-clause-objects c = omega (arith, (totals_are_few c.self.inside.slots _ c.self.invariant.0.good c.self.invariant.0.few c.self.invariant.2).objects, c.without.ensures.objects)
+pub with-totals-requires-clause-objects : goal.with-totals-requires-clause-objects
+with-totals-requires-clause-objects c = omega (arith, (totals_are_few c.self.inside.slots _ c.self.invariant.0.good c.self.invariant.0.few c.self.invariant.2).objects, c.without.ensures.objects)
 
-pub with-self-inside-requires-clause-unmarked : goal.with-self-inside-requires-clause-unmarked
-with-self-inside-requires-clause-unmarked c = omega (arith, (totals_are_few c.self.inside.slots _ c.self.invariant.0.good c.self.invariant.0.few c.self.invariant.2).unmarked, c.without.ensures.unmarked)
+pub with-totals-requires-clause-unmarked : goal.with-totals-requires-clause-unmarked
+with-totals-requires-clause-unmarked c = omega (arith, (totals_are_few c.self.inside.slots _ c.self.invariant.0.good c.self.invariant.0.few c.self.invariant.2).unmarked, c.without.ensures.unmarked)
 
-pub with-self-inside-requires-clause-dead : goal.with-self-inside-requires-clause-dead
-with-self-inside-requires-clause-dead c = omega (arith, (totals_are_few c.self.inside.slots _ c.self.invariant.0.good c.self.invariant.0.few c.self.invariant.2).dead, c.without.ensures.dead)
+pub with-totals-requires-clause-dead : goal.with-totals-requires-clause-dead
+with-totals-requires-clause-dead c = omega (arith, (totals_are_few c.self.inside.slots _ c.self.invariant.0.good c.self.invariant.0.few c.self.invariant.2).dead, c.without.ensures.dead)
 
 pub invariant_of-self : goal.invariant_of-self
 invariant_of-self c =
     let some = (slot_of_object c.self.inside.slots c.args.at (rw (← c.self.view_is) at c.requires)).1 in (
       (object_changed_in c.self.inside.slots _ _ _ _ c.self.invariant.0 _ c.self.view_is c.args.at (bit_set c.args.bit c.args.on) c.requires _ c.set_bit.ensures.state c.set_bit.ensures.whole).0,
       waits_of_changed c.self.inside.slots _ c.args.at.region (λ u. changed_at u c.args.at.cell (bit_set c.args.bit c.args.on)) (λ u. refl) c.self.invariant.1 some _ c.set_bit.ensures.state,
-      totals_of_bit c.self.inside.slots _ _ c.args.at c.args.bit c.args.on c.self.invariant.2 (rw (← c.self.view_is) at c.requires) _ (rw (← c.self.view_is) at c.header-was.ensures) _ c.header_with.ensures _ c.without.ensures.objects c.without.ensures.unmarked c.without.ensures.dead c.with-self-inside.ensures.objects c.with-self-inside.ensures.unmarked c.with-self-inside.ensures.dead _ c.set_bit.ensures.state,
+      totals_of_bit c.self.inside.slots _ _ c.args.at c.args.bit c.args.on c.self.invariant.2 (rw (← c.self.view_is) at c.requires) _ (rw (← c.self.view_is) at c.header-was.ensures) _ c.header_with-now.ensures _ c.without.ensures.objects c.without.ensures.unmarked c.without.ensures.dead c.with-totals.ensures.objects c.with-totals.ensures.unmarked c.with-totals.ensures.dead _ c.set_bit.ensures.state,
     )
 
 pub returns : goal.returns

@@ -44,7 +44,8 @@ impl Quarter {
         self as u8 == other as u8
     }
 
-    // Returns the turns that lead from the other number to this one.
+    // Returns the turns that lead from the other number to this one. It is never inlined, since mostly there are none.
+    #[inline(never)]
     pub(crate) fn since(self, other: Quarter) -> Quarter
         ensures { result ≡ since self other }
     {

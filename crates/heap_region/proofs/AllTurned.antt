@@ -1,7 +1,8 @@
 -- What a turn of all regions leaves of their tables.
-use Rattle.std.proofs.Common.{◌≡◌, ℕ, zero, suc, ◌+◌, ◌<◌, ◌≤◌, Bool, true, false, not, ◌&&◌, List, [], ◌∷◌, length, map, Option, Some, None, is_none, IsSome, option_map, get_or, refl, sym, ap, subst, ◌∙◌, rules}
+use Rattle.std.proofs.Common.{◌≡◌, ℕ, zero, suc, ◌+◌, ◌<◌, ◌≤◌, Bool, true, false, not, eqb, ◌&&◌, List, [], ◌∷◌, length, map, Option, Some, None, is_none, IsSome, option_map, get_or, refl, sym, ap, subst, ◌∙◌, arith, rules}
 use Rattle.std.specs.Prelude.{nat_lt, if◌then◌else◌}
-use Rattle.std.proofs.lemmas.List.{length-map}
+use Rattle.std.proofs.lemmas.List.{get_or-map, length-map}
+use Rattle.memchr.specs.Find.{IsFirstByte, is_byte}
 use Rattle.heap_region.specs.Regions.{Object, UsedRegion, Region, Empty, InUse, in_used, used_at}
 use Rattle.heap_region.specs.Layout.{is_vacant}
 use Rattle.heap_region.specs.Legal.{IsArea}
@@ -128,3 +129,25 @@ pub waits_read_anew : (odd : Bool) (classes : List ℕ) → map (wait_turned (no
 waits_read_anew odd [] = refl
 waits_read_anew false (k ∷ classes) = ap (λ (l : List ℕ). wait_turned true k ∷ l) (waits_read_anew false classes)
 waits_read_anew true (k ∷ classes) = λ i. wait_turned_twice k i ∷ waits_read_anew true classes i
+
+class_reads : (odd : Bool) (k : ℕ) → eqb (wait_turned odd k) 1 ≡ eqb k (wait_turned odd 1)
+class_reads false k = refl
+class_reads true zero = refl
+class_reads true (suc zero) = refl
+class_reads true (suc (suc zero)) = refl
+class_reads true (suc (suc (suc k))) = refl
+
+passes_read : (odd : Bool) (classes : List ℕ) (k : ℕ) → k < length classes → eqb (get_or (map (wait_turned odd) classes) k 0) 1 ≡ eqb (get_or classes k 0) (wait_turned odd 1)
+passes_read odd classes k lt = ap (λ x. eqb x 1) (get_or-map (wait_turned odd) classes k 0 0 lt) ∙ class_reads odd (get_or classes k 0)
+
+-- the lowest region that is read as waiting is the lowest that is kept so
+pub first_read : (odd : Bool) (classes : List ℕ) (r : Option ℕ) → IsFirstByte (is_byte (wait_turned odd 1)) classes r → IsFirstByte (is_byte 1) (map (wait_turned odd) classes) r
+first_read odd classes None none = λ k low lt p. none k low (omega (arith, lt, length-map classes (wait_turned odd))) (sym (passes_read odd classes k (omega (arith, lt, length-map classes (wait_turned odd)))) ∙ p)
+first_read odd classes (Some i) h = (
+  record {
+    low = h.0.low;
+    high = omega (arith, h.0.high, length-map classes (wait_turned odd));
+    before = λ k low lt p. h.0.before k low lt (sym (passes_read odd classes k (omega (arith, lt, h.0.high))) ∙ p);
+  },
+  passes_read odd classes i h.0.high ∙ h.1,
+)

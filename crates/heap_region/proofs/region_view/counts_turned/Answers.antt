@@ -1,0 +1,21 @@
+use Rattle.heap_region.specs.Turns.{turned_by, turned_region, turned_back_region}
+use Rattle.heap_region.proofs.Totals.{counted_turned, counted_turned_back, dead_at_most, unmarked_at_most}
+use Rattle.heap_region.proofs.region_view.counts_turned.Goals as goal
+
+pub next-requires : goal.next-requires
+next-requires c = dead_at_most c.requires.0.cells _ c.requires.1
+
+pub prior-requires : goal.prior-requires
+prior-requires c = unmarked_at_most c.requires.0.cells _ c.requires.1
+
+pub returns-in-Zero : goal.returns-in-Zero
+unfolding turned_by
+returns-in-Zero c u is = is
+
+pub returns-in-One : goal.returns-in-One
+unfolding turned_by turned_region
+returns-in-One c u is = counted_turned u.cells _ _ is c.next.ensures.objects c.next.ensures.unmarked c.next.ensures.dead
+
+pub returns-in-Three : goal.returns-in-Three
+unfolding turned_by turned_back_region
+returns-in-Three c u is = counted_turned_back u.cells _ _ is c.prior.ensures.objects c.prior.ensures.unmarked c.prior.ensures.dead

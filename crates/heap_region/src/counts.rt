@@ -1,9 +1,9 @@
 //! How many objects a region or a heap has, and of how many a bit isn't set.
 ghost use Rattle.std.specs.Prelude.{◌≡◌, ◌+◌, ◌≤◌, Some, is_some};
 ghost use Rattle.heap_region.specs.Limits.{object_limit};
-ghost use Rattle.heap_region.specs.TurnedHeaders.{header_dead, header_unmarked, one_if};
+ghost use Rattle.heap_region.specs.TurnedHeaders.{header_dead, header_unmarked, live_counted, mark_counted, one_if};
 
-use crate::cell::Header;
+use crate::cell::{Bit, Header};
 
 // The numbers of the objects of a region or of a heap, of those that aren't marked, and of those that aren't live.
 #[derive(Clone, Copy)]
@@ -71,6 +71,30 @@ impl Counts {
                 dead: self.dead - one_if(!header.live),
             },
             None => self,
+        }
+    }
+
+    // Returns the counts after a bit of an object was written, which was `was`.
+    #[inline(always)]
+    pub(crate) fn with_bit(self, bit: Bit, was: bool, on: bool) -> Counts
+        requires unmarked { self.unmarked ≤ object_limit }
+        requires dead { self.dead ≤ object_limit }
+        requires marks { mark_counted bit was ≤ self.unmarked }
+        requires lives { live_counted bit was ≤ self.dead }
+        ensures objects { result.objects ≡ self.objects }
+        ensures unmarked { result.unmarked + mark_counted bit was
+            ≡ self.unmarked + mark_counted bit on }
+        ensures dead { result.dead + live_counted bit was ≡ self.dead + live_counted bit on }
+    {
+        match bit {
+            Bit::Live => Counts {
+                dead: self.dead + one_if(!on) - one_if(!was),
+                ..self
+            },
+            Bit::Mark => Counts {
+                unmarked: self.unmarked + one_if(!on) - one_if(!was),
+                ..self
+            },
         }
     }
 

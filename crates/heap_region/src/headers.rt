@@ -1,6 +1,6 @@
 //! The headers of a region's cells, whose bits are read by turns.
-ghost use Rattle.std.specs.Prelude.{◌≡◌, ◌<◌, ◌≤◌, [], length, map, Some, None, IsSome, option_map, replicate, slice_index_or, slice_set};
-ghost use Rattle.heap_region.specs.Layout.{with_bit};
+ghost use Rattle.std.specs.Prelude.{◌≡◌, ◌<◌, ◌≤◌, [], length, map, Some, None, IfSome, IsSome, option_map, replicate, slice_index_or, slice_set};
+ghost use Rattle.heap_region.specs.Layout.{header_bit, with_bit};
 ghost use Rattle.heap_region.specs.Limits.{cell_limit, heap_words};
 ghost use Rattle.heap_region.specs.TurnedHeaders.{IsCounted, turned_header, turned_back_header};
 
@@ -32,7 +32,7 @@ impl Model for Headers {
 
 // Returns the header in a cell after a bit was written. There must be one.
 #[inline(always)]
-pub(crate) fn header_with(header: Option<Header>, bit: Bit, on: bool) -> Header
+fn header_with(header: Option<Header>, bit: Bit, on: bool) -> Header
     requires { IsSome header }
     ensures { option_map (with_bit bit on) header ≡ Some result }
 {
@@ -40,6 +40,21 @@ pub(crate) fn header_with(header: Option<Header>, bit: Bit, on: bool) -> Header
         Some(header) => match bit {
             Bit::Live => Header { live: on, ..header },
             Bit::Mark => Header { mark: on, ..header },
+        },
+        None => unreachable!(),
+    }
+}
+
+// Returns a bit of the header in a cell. There must be one.
+#[inline(always)]
+fn bit_in(header: Option<Header>, bit: Bit) -> bool
+    requires { IsSome header }
+    ensures { IfSome header (λ h. result ≡ header_bit bit h) }
+{
+    match header {
+        Some(header) => match bit {
+            Bit::Live => header.live,
+            Bit::Mark => header.mark,
         },
         None => unreachable!(),
     }
@@ -183,18 +198,20 @@ impl Headers {
         set_header(&mut self.kept, cell, self.turn.kept(header));
     }
 
-    // Writes a bit of the object in a cell, which must have one.
+    // Writes a bit of the object in a cell, which must have one. Returns the bit that it had.
     #[inline(always)]
-    pub(crate) fn set_bit(&mut self, cell: usize, bit: Bit, on: bool)
+    pub(crate) fn set_bit(&mut self, cell: usize, bit: Bit, on: bool) -> bool
         requires { IsSome (slice_index_or self.old cell None) }
-        ensures { self.new
+        ensures state { self.new
             ≡ slice_set self.old cell
             (option_map (with_bit bit on) (slice_index_or self.old cell None)) }
+        ensures was { IfSome (slice_index_or self.old cell None) (λ h. result ≡ header_bit bit h) }
     {
         let was = self.at(cell);
         self.counts = self.counts.without(was).with(header_with(was, bit, on));
         let (kept_bit, kept_on) = self.turn.kept_bit(bit, on);
         set_bit_at(&mut self.kept, cell, kept_bit, kept_on);
+        bit_in(was, bit)
     }
 
     // Makes a cell free.

@@ -38,7 +38,6 @@ mod waits;
 use cell::{Bit, Header};
 use counts::Counts;
 pub use frozen_region::FrozenRegion;
-use headers::header_with;
 use heap_class::{ObjKind, ObjRef, Refusal};
 pub use lists::{FreeCells, PoolRegions};
 use region_classes::RegionClasses;
@@ -471,11 +470,9 @@ impl Regions {
             → self.old ≡ taken at o before → self.new ≡ before }
     {
         let region = at.region as usize;
-        // They are written last, so that the header is read once.
         let was = self.header(at);
-        let totals = self.totals.without(Some(was));
+        self.totals = self.totals.without(Some(was));
         let full = self.slots.free(region, at.cell as usize);
-        self.totals = totals;
         if full {
             self.free_classes.set(region, self.slots.free_class(region));
         }
@@ -681,13 +678,10 @@ impl Regions {
         ensures { self.new
             ≡ record self.old { regions = with_object at (bit_set bit on) self.old.regions } }
     {
-        // They are written last, so that the header is read once.
-        let was = self.header(at);
-        let now = header_with(Some(was), bit, on);
-        let totals = self.totals.without(Some(was)).with(now);
-        self.slots
+        let was = self
+            .slots
             .set_bit(at.region as usize, at.cell as usize, bit, on);
-        self.totals = totals;
+        self.totals = self.totals.with_bit(bit, was, on);
     }
 
     // Returns a region if it is in use.

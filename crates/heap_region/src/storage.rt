@@ -3,7 +3,7 @@
 ghost use Rattle.std.specs.Prelude.{◌≡◌, ℕ, ◌+◌, ◌-◌, ◌*◌, ◌/◌, ◌<◌, ◌≤◌, [], length, IfOk, IsSome, IfSome, slice_index, slice_index_or, replicate, take, drop, Some, None, is_none, is_some, option_map, slice_get, slice_set};
 ghost use Rattle.heap_region.specs.Regions.{FitsWords, block_words, cell_object};
 ghost use Rattle.heap_region.specs.Pool.{blank_object, cell_freed, fresh_region};
-ghost use Rattle.heap_region.specs.Layout.{IsBlockSize, IsWholeRegion, words_at, changed_at, word_set, bit_set, with_bit, cell_filled, Heads, overwritten, header_of};
+ghost use Rattle.heap_region.specs.Layout.{IsBlockSize, IsWholeRegion, words_at, changed_at, word_set, bit_of, bit_set, with_bit, cell_filled, Heads, overwritten, header_of};
 ghost use Rattle.heap_region.specs.Slots.{AreCounted};
 ghost use Rattle.heap_region.specs.Turns.{object_turned_by, turned_by, turned_region, turned_back_region};
 ghost use Rattle.heap_region.specs.Limits.{cell_limit, heap_words};
@@ -403,15 +403,16 @@ impl Storage {
         self.block.set_word(at, value);
     }
 
-    // Writes a bit of the object in the cell.
+    // Writes a bit of the object in the cell. Returns the bit that it had.
     #[tactic(auto, using(crate::proofs::Cells::shown_headers))]
     #[inline(always)]
-    pub(crate) fn set_bit(&mut self, cell: usize, bit: Bit, on: bool)
+    pub(crate) fn set_bit(&mut self, cell: usize, bit: Bit, on: bool) -> bool
         requires { IsSome (cell_object self.old cell) }
+        ensures was { IfSome (cell_object self.old cell) (λ o. result ≡ bit_of bit o) }
         ensures value { self.new ≡ changed_at self.old cell (bit_set bit on) }
         ensures whole { IsWholeRegion self.new }
     {
-        self.block.set_bit(cell, bit, on);
+        self.block.set_bit(cell, bit, on)
     }
 
     // Returns a copy of the object in the cell. Fails if the allocation fails.

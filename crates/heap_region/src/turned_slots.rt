@@ -4,7 +4,7 @@ ghost use Rattle.std.specs.List.{range_with_len};
 ghost use Rattle.heap_region.specs.Regions.{FitsWords, regions_for, slot_object};
 ghost use Rattle.heap_region.specs.Pool.{blank_object, cell_freed, is_run};
 ghost use Rattle.heap_region.specs.Legal.{IsArea};
-ghost use Rattle.heap_region.specs.Layout.{Heads, IsWholeRegion, changed_at, cell_filled, bit_set, pending_set, word_set, words_of};
+ghost use Rattle.heap_region.specs.Layout.{Heads, IsWholeRegion, changed_at, cell_filled, bit_of, bit_set, pending_set, word_set, words_of};
 ghost use Rattle.heap_region.specs.Table.{first_in, free_class_of, shown_region, wait_class_of};
 ghost use Rattle.heap_region.specs.Limits.{cell_limit, region_limit};
 ghost use Rattle.heap_region.specs.Slots.{shown_slot};
@@ -189,17 +189,19 @@ impl Slots {
         set_word_in(&mut self.slots[region], cell, index, value);
     }
 
-    // Writes a bit of an object.
+    // Writes a bit of an object. Returns the bit that it had.
     #[inline(always)]
-    pub(crate) fn set_bit(&mut self, region: usize, cell: usize, bit: Bit, on: bool)
+    pub(crate) fn set_bit(&mut self, region: usize, cell: usize, bit: Bit, on: bool) -> bool
         requires { IsSome (slot_object (slice_index_or self.old region None) cell) }
+        ensures was { IfSome (slot_object (slice_index_or self.old region None) cell)
+            (λ o. result ≡ bit_of bit o) }
         ensures state { self.new
             ≡ slice_set self.old region
             (option_map (λ u. changed_at u cell (bit_set bit on))
             (slice_index_or self.old region None)) }
         ensures whole { IfSome (slice_index_or self.new region None) (λ u. IsWholeRegion u) }
     {
-        set_bit_in(&mut self.slots[region], self.turns, cell, bit, on);
+        set_bit_in(&mut self.slots[region], self.turns, cell, bit, on)
     }
 
     // Sets whether a region waits to be swept.

@@ -27,5 +27,8 @@ invariant_of-self c =
     (counts_after_header_set _ i.counts _ c.args.cell c.at-was.result _ (cell_with_header_is_listed _ c.args.cell (rw (← c.self.view_is) at c.requires)) was c.self.invariant
     (record { objects = omega (arith, e.objects, f.objects); unmarked = omega (arith, e.unmarked, f.unmarked); dead = omega (arith, e.dead, f.dead) }))
 
-pub returns : goal.returns
-returns c = rw (← c.self.view_is, c.set_bit_at.ensures) (bit_shown c.self.inside.turn c.self.inside.kept.items c.args.cell c.kept_bit-kept_bit.result.0 c.args.bit c.kept_bit-kept_bit.result.1 c.args.on c.kept_bit-kept_bit.ensures)
+pub returns-clause-state : goal.returns-clause-state
+returns-clause-state c = rw (← c.self.view_is, c.set_bit_at.ensures) (bit_shown c.self.inside.turn c.self.inside.kept.items c.args.cell c.kept_bit-kept_bit.result.0 c.args.bit c.kept_bit-kept_bit.result.1 c.args.on c.kept_bit-kept_bit.ensures)
+
+pub returns-clause-was : goal.returns-clause-was
+returns-clause-was c = rw (← (rw (← c.self.view_is) at c.at-was.ensures)) c.bit_in.ensures

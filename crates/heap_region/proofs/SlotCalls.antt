@@ -1,15 +1,16 @@
 -- What a call that changes one region leaves of the tables, where the regions are told as a list.
-use Rattle.std.proofs.Common.{◌≡◌, ◌≢◌, ℕ, zero, suc, ◌+◌, ◌<◌, Bool, true, false, List, length, [], ◌∷◌, map, Option, Some, None, is_none, IsSome, IfSome, IsSomeAnd, option_map, get_or, set, refl, sym, ap, subst, ◌∙◌, get_or-set_same, arith, ◌≤◌, length-set}
+use Rattle.std.proofs.Common.{◌≡◌, ◌≢◌, ℕ, zero, suc, ◌+◌, ◌<◌, Bool, true, false, not, List, length, [], ◌∷◌, map, Option, Some, None, is_none, IsSome, IfSome, IsSomeAnd, option_map, get_or, set, refl, sym, ap, subst, ◌∙◌, get_or-set_same, arith, ◌≤◌, length-set}
 use Rattle.std.specs.Prelude.{is_some, slice_get}
 use Rattle.heap_class.specs.declared.ObjRef.{ObjRef}
 use Rattle.heap_region.specs.Regions.{Object, UsedRegion, FitsWords, cell_object, slot_object, used_at, object_at, with_object}
 use Rattle.heap_region.specs.Changes.{with_pending}
 use Rattle.heap_region.specs.Pool.{RegionPool, taken, freed, cell_freed}
-use Rattle.heap_region.specs.Layout.{Heads, IsWholeRegion, bit_set, changed_at, cell_filled, header_of, is_vacant, pending_set, with_bit, word_set}
+use Rattle.heap_region.specs.Layout.{Heads, IsWholeRegion, bit_of, bit_set, changed_at, cell_filled, header_of, is_vacant, pending_set, word_set}
 use Rattle.heap_region.specs.Slots.{AreCounted, AreTotals}
 use Rattle.heap_region.specs.Table.{AreWaiting, IsGood, first_in, free_class_of, shown_region, wait_class_of, IsRegionTable}
-use Rattle.heap_region.specs.TurnedHeaders.{header_dead, header_unmarked, one_if}
+use Rattle.heap_region.specs.TurnedHeaders.{header_dead, header_unmarked, live_counted, mark_counted, one_if}
 use Rattle.heap_region.specs.declared.cell.Bit.{Bit}
+use Rattle.heap_region.specs.declared.cell.Bit.TheVariants.{Live, Mark}
 use Rattle.heap_region.specs.declared.cell.Header.{Header}
 use Rattle.heap_region.specs.declared.counts.Counts.{Counts}
 use Rattle.heap_region.proofs.CellChanges.{heads_listed}
@@ -128,24 +129,41 @@ object_totalled slots c at was totals told there = go (get_or slots at.region No
         let lt = cell_within u at.cell (object_told slots at there u e) in
         of_cell u (cell_object u at.cell) (object_is_counted c u at.cell lt (subst (AreMoreTotals c) e (region_is_counted slots c at.region (slot_of_object slots at there).2 totals))) (told_object slots at was told there u e)
 
--- a bit is written
-pub totals_of_bit : (slots : List (Option UsedRegion)) (c d : Counts) (at : ObjRef) (bit : Bit) (on : Bool) → AreTotals slots c → IsSome (object_at (map shown_region slots) at) → (was : Header) → IfSome (object_at (map shown_region slots) at) (λ o. was ≡ header_of o) → (new : Header) → option_map (with_bit bit on) (Some was) ≡ Some new
-    → (b : Counts) → b.objects + one_if (is_some (Some was)) ≡ c.objects → b.unmarked + one_if (header_unmarked (Some was)) ≡ c.unmarked → b.dead + one_if (header_dead (Some was)) ≡ c.dead
-    → d.objects ≡ b.objects + 1 → d.unmarked ≡ b.unmarked + one_if (header_unmarked (Some new)) → d.dead ≡ b.dead + one_if (header_dead (Some new))
-    → (after : List (Option UsedRegion)) → after ≡ set slots at.region (option_map (λ u. changed_at u at.cell (bit_set bit on)) (get_or slots at.region None)) → AreTotals after d
-totals_of_bit slots c d at bit on totals there was told new now b less_objects less_unmarked less_dead objects unmarked dead after is =
-    totals_of_changed slots c d at.region at.cell (λ u. changed_at u at.cell (bit_set bit on)) (λ u. option_map (bit_set bit on) (cell_object u at.cell)) (λ u. refl) totals (slot_of_object slots at there).1
-    (λ u e. (cell_within u at.cell (object_told slots at there u e), differ (cell_object u at.cell) (told_object slots at was told there u e))) after is
+-- a bit is counted
+pub bit_is_counted : (slots : List (Option UsedRegion)) (c : Counts) (at : ObjRef) (bit : Bit) (was : Bool) → AreTotals slots c → IfSome (slot_object (get_or slots at.region None) at.cell) (λ o. was ≡ bit_of bit o) → IsSome (object_at (map shown_region slots) at) → (mark_counted bit was ≤ c.unmarked) × (live_counted bit was ≤ c.dead)
+bit_is_counted slots c at bit was totals told there = go (get_or slots at.region None) refl (slot_of_object slots at there).1 told
   where
-    differ : (x : Option Object) → IsSomeAnd x (λ o. was ≡ header_of o) → DifferIn c d x (option_map (bit_set bit on) x)
-    differ None h = absurd h
-    differ (Some o) h =
-        let new_is : new ≡ with_bit bit on (header_of o) = (let e : with_bit bit on was ≡ new = cc in sym e ∙ ap (with_bit bit on) h) in
-        record {
-          objects = omega (arith, less_objects, objects);
-          unmarked = omega (arith, less_unmarked, unmarked, ap (λ (k : Header). one_if (header_unmarked (Some k))) h, ap (λ (k : Header). one_if (header_unmarked (Some k))) new_is);
-          dead = omega (arith, less_dead, dead, ap (λ (k : Header). one_if (header_dead (Some k))) h, ap (λ (k : Header). one_if (header_dead (Some k))) new_is);
-        }
+    of_cell : (bit : Bit) (x : Option Object) → IsSome x → AreMoreObjects c x → IfSome x (λ o. was ≡ bit_of bit o) → (mark_counted bit was ≤ c.unmarked) × (live_counted bit was ≤ c.dead)
+    of_cell bit None some more h = absurd (cc)
+    of_cell Live (Some o) some more h = (omega arith, omega (arith, more.dead, ap (λ b. one_if (not b)) h))
+    of_cell Mark (Some o) some more h = (omega (arith, more.unmarked, ap (λ b. one_if (not b)) h), omega arith)
+
+    go : (x : Option UsedRegion) → get_or slots at.region None ≡ x → IsSome x → IfSome (slot_object x at.cell) (λ o. was ≡ bit_of bit o) → (mark_counted bit was ≤ c.unmarked) × (live_counted bit was ≤ c.dead)
+    go None e some h = absurd (cc)
+    go (Some u) e some h =
+        let here = object_told slots at there u e in
+        of_cell bit (cell_object u at.cell) here (object_is_counted c u at.cell (cell_within u at.cell here) (subst (AreMoreTotals c) e (region_is_counted slots c at.region (slot_of_object slots at there).2 totals))) h
+
+-- a bit is written
+pub totals_of_bit : (slots : List (Option UsedRegion)) (c d : Counts) (at : ObjRef) (bit : Bit) (on : Bool) → AreTotals slots c → IsSome (object_at (map shown_region slots) at) → (was : Bool) → IfSome (slot_object (get_or slots at.region None) at.cell) (λ o. was ≡ bit_of bit o)
+    → d.objects ≡ c.objects → d.unmarked + mark_counted bit was ≡ c.unmarked + mark_counted bit on → d.dead + live_counted bit was ≡ c.dead + live_counted bit on
+    → (after : List (Option UsedRegion)) → after ≡ set slots at.region (option_map (λ u. changed_at u at.cell (bit_set bit on)) (get_or slots at.region None)) → AreTotals after d
+totals_of_bit slots c d at bit on totals there was told objects unmarked dead after is =
+    totals_of_changed slots c d at.region at.cell (λ u. changed_at u at.cell (bit_set bit on)) (λ u. option_map (bit_set bit on) (cell_object u at.cell)) (λ u. refl) totals (slot_of_object slots at there).1
+    (λ u e. (cell_within u at.cell (object_told slots at there u e), differ bit (cell_object u at.cell) (object_told slots at there u e) (subst (λ x. IfSome (slot_object x at.cell) (λ o. was ≡ bit_of bit o)) e told) unmarked dead)) after is
+  where
+    differ : (bit : Bit) (x : Option Object) → IsSome x → IfSome x (λ o. was ≡ bit_of bit o) → d.unmarked + mark_counted bit was ≡ c.unmarked + mark_counted bit on → d.dead + live_counted bit was ≡ c.dead + live_counted bit on → DifferIn c d x (option_map (bit_set bit on) x)
+    differ bit None some h unmarked dead = absurd (cc)
+    differ Live (Some o) some h unmarked dead = record {
+      objects = omega (arith, objects);
+      unmarked = omega (arith, unmarked);
+      dead = omega (arith, dead, ap (λ b. one_if (not b)) h);
+    }
+    differ Mark (Some o) some h unmarked dead = record {
+      objects = omega (arith, objects);
+      unmarked = omega (arith, unmarked, ap (λ b. one_if (not b)) h);
+      dead = omega (arith, dead);
+    }
 
 vacant_is_none : {X : Type 0} (xs : List (Option X)) (cell : ℕ) → is_vacant xs cell ≡ true → get_or xs cell None ≡ None
 vacant_is_none [] cell e = refl

@@ -1,5 +1,5 @@
-use Rattle.std.proofs.Common.{arith, IsSome, IfSome, is_none, sym, subst, ap, ◌∙◌}
-use Rattle.heap_region.specs.Layout.{IsWholeRegion, bit_set, cell_filled, changed_at, pending_set, word_set}
+use Rattle.std.proofs.Common.{◌≡◌, arith, IsSome, IfSome, is_none, sym, subst, ap, ◌∙◌}
+use Rattle.heap_region.specs.Layout.{IsWholeRegion, bit_of, bit_set, cell_filled, changed_at, pending_set, word_set}
 use Rattle.heap_region.specs.Pool.{blank_object, cell_freed}
 use Rattle.heap_region.specs.Regions.{slot_object}
 use Rattle.heap_region.specs.Table.{first_in}
@@ -30,3 +30,9 @@ returns-clause-whole c =
     let i = c.self.inside in
     let lt = used_slot_within i.turns i.slots.items c.args.region (slot_of_object_is_used _ c.args.cell (rw (← c.self.view_is) at c.requires)) in
     subst (λ x. IfSome x (λ u. IsWholeRegion u)) (sym (slot_read_again i.turns i.slots.items c.args.region _ lt)) c.set_bit_in.ensures.whole
+
+pub returns-clause-was : goal.returns-clause-was
+returns-clause-was c =
+    let i = c.self.inside in
+    let lt = used_slot_within i.turns i.slots.items c.args.region (slot_of_object_is_used _ c.args.cell (rw (← c.self.view_is) at c.requires)) in
+    rw (← c.self.view_is) (subst (λ x. IfSome (slot_object x c.args.cell) (λ o. c.set_bit_in.result ≡ bit_of c.args.bit o)) (slot_shows i.turns i.slots.items c.args.region _ lt c.index_mut.ensures.value) c.set_bit_in.ensures.was)

@@ -179,7 +179,8 @@ impl Slots {
     #[tactic(auto, using(crate::proofs::SlotReads::slot_reads))]
     #[inline(always)]
     pub(crate) fn set_word(&mut self, region: usize, cell: usize, index: usize, value: u64)
-        requires { index < length (words_of (slot_object (slice_index_or self.old region None) cell)) }
+        requires { index
+            < length (words_of (slot_object (slice_index_or self.old region None) cell)) }
         ensures state { self.new
             ≡ slice_set self.old region
             (option_map (λ u. changed_at u cell (word_set index value))

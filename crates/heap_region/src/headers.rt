@@ -30,21 +30,6 @@ impl Model for Headers {
     ghost invariant = { λ h. IsCounted (shown_headers h.turn h.kept.items) h.counts };
 }
 
-// Returns the header in a cell after a bit was written. There must be one.
-#[inline(always)]
-fn header_with(header: Option<Header>, bit: Bit, on: bool) -> Header
-    requires { IsSome header }
-    ensures { option_map (with_bit bit on) header ≡ Some result }
-{
-    match header {
-        Some(header) => match bit {
-            Bit::Live => Header { live: on, ..header },
-            Bit::Mark => Header { mark: on, ..header },
-        },
-        None => unreachable!(),
-    }
-}
-
 // Returns a bit of the header in a cell. There must be one.
 #[inline(always)]
 fn bit_in(header: Option<Header>, bit: Bit) -> bool
@@ -207,11 +192,11 @@ impl Headers {
             (option_map (with_bit bit on) (slice_index_or self.old cell None)) }
         ensures was { IfSome (slice_index_or self.old cell None) (λ h. result ≡ header_bit bit h) }
     {
-        let was = self.at(cell);
-        self.counts = self.counts.without(was).with(header_with(was, bit, on));
+        let was = bit_in(self.at(cell), bit);
+        self.counts = self.counts.with_bit(bit, was, on);
         let (kept_bit, kept_on) = self.turn.kept_bit(bit, on);
         set_bit_at(&mut self.kept, cell, kept_bit, kept_on);
-        bit_in(was, bit)
+        was
     }
 
     // Makes a cell free.

@@ -2,4 +2,3 @@ pub mod SavedRuns
 pub mod PageHindrances
 pub mod RunDumps
 pub mod LoadedSeats
-pub mod RunPairs

@@ -1,4 +1,0 @@
-pub mod Opened
-pub mod Collected
-pub mod FoundWays
-pub mod NameIds

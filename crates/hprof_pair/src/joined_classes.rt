@@ -1,8 +1,8 @@
 //! The classes of a second dump in a heap that has those of a first.
-ghost use Rattle.std.specs.Prelude.{◌≡◌, ◌≤◌, ◌<◌, List, length, map, slice_get, take, Some, IfOk, OnOk};
+ghost use Rattle.std.specs.Prelude.{◌≡◌, ◌≤◌, ◌<◌, List, length, map, position, slice_get, take, true, None, Some, IfOk, OnOk};
 ghost use Rattle.std.specs.List.{list_any};
 ghost use Rattle.std.specs.Str.{bytes_eq};
-ghost use Rattle.heap_class.specs.Classes.{Class, fields_of};
+ghost use Rattle.heap_class.specs.Classes.{Class, fields_of, is_array_class};
 ghost use Rattle.heap_class.specs.Limits.{AreClassLimits};
 ghost use Rattle.hprof_pair.specs.JoinedClasses.{Joined, and_class, and_defined, class_line, joined, over, renamed};
 ghost use Rattle.hprof_pair.specs.JoinedSoFar.{AreJoined, IsDefinedAs};
@@ -11,7 +11,6 @@ use crate::shapes::class_in;
 use heap_class::{ClassLimits, ClassNo, Classes, Field, Fields, Name, NewClass, Refusal};
 use heap_step::Event;
 use hprof_plan::given_name;
-use indexmap::IndexSet;
 use session_lines::push_event;
 use std::alloc::{AllocError, Global};
 
@@ -20,8 +19,8 @@ use std::alloc::{AllocError, Global};
 pub(crate) struct JoinedClasses {
     /// The classes of the heap.
     pub(crate) classes: Classes,
-    /// The lines that define them, by their numbers.
-    pub(crate) known: IndexSet<Name>,
+    /// The lines that define them, in order.
+    pub(crate) known: Vec<Name>,
     /// The lines that define those that aren't of the first dump.
     pub(crate) text: Vec<u8>,
     /// The number in the heap of each class of the second dump, if it has one.
@@ -57,13 +56,13 @@ pub(crate) fn join_classes(
 }
 
 // Returns the lines that define classes.
-fn lines_of(alloc: Global, classes: &Classes) -> Result<IndexSet<Name>, AllocError>
-    ensures { IfOk result (λ lines. lines.keys ≡ map class_line classes.now) }
+fn lines_of(alloc: Global, classes: &Classes) -> Result<Vec<Name>, AllocError>
+    ensures { IfOk result (λ lines. lines.items ≡ map class_line classes.now) }
 {
-    let mut lines = IndexSet::new(alloc);
+    let mut lines = Vec::new(alloc);
     for k in 0..classes.len() {
         let line = line_over(alloc, classes, k, classes.sup(k))?;
-        lines.insert(line)?;
+        lines.push(line)?;
     }
     Ok(lines)
 }
@@ -131,12 +130,24 @@ fn join_class(
         None => None,
     };
     let line = line_over(alloc, second, k, sup)?;
-    let number = match joined.known.get_index_of(&line) {
-        Some(number) => Some(number as u64),
+    let number = match number_of_line(joined.known.as_slice(), &line) {
+        Some(number) => Some(number),
         None => define_class(alloc, limits, joined, second, k, sup)?,
     };
     joined.numbers.push(number)?;
     Ok(())
+}
+
+// Returns the number of the class that a line defines, if it is one of these.
+fn number_of_line(lines: &[Name], line: &Name) -> Option<ClassNo>
+    ensures { result ≡ position (bytes_eq line.now) lines.now }
+{
+    for (k, known) in lines.iter().enumerate() {
+        if line == known {
+            return Some(k as u64);
+        }
+    }
+    None
 }
 
 // Defines class k of the second dump with this super, by its name or another in its place, if the heap takes it. Returns its number.
@@ -150,6 +161,7 @@ fn define_class(
 ) -> Result<Option<ClassNo>, AllocError>
     requires limits { AreClassLimits limits }
     requires number { k < length second.now }
+    requires bare { is_array_class second.now k ≡ true → sup ≡ None }
     ensures { (first : List Class) (s : Joined) (c : Class) → AreJoined first joined.old s
         → slice_get second.now k ≡ Some c
         → IfOk result (λ o. IsDefinedAs first joined.old.numbers.items o joined.new
@@ -171,7 +183,7 @@ fn define_class(
         Ok(number) => {
             let line = line_over(alloc, &joined.classes, number, sup)?;
             joined.text.extend_from_slice(line.as_bytes())?;
-            joined.known.insert(line)?;
+            joined.known.push(line)?;
             Ok(Some(number))
         }
         Err(Refusal::NoMemory) => Err(AllocError),

@@ -1,10 +1,12 @@
 //! The classes of a second dump in a heap that has those of a first.
-ghost use Rattle.std.specs.Prelude.{◌≡◌, ◌≤◌, ◌<◌, List, length, map, position, slice_get, take, true, None, Some, IfOk, OnOk};
+ghost use Rattle.std.specs.Prelude.{◌≡◌, ◌≢◌, ◌≤◌, ◌<◌, List, length, map, position, slice_get, take, true, None, Some, IfOk, OnOk};
 ghost use Rattle.std.specs.List.{list_any};
 ghost use Rattle.std.specs.Str.{bytes_eq};
-ghost use Rattle.heap_class.specs.Classes.{Class, fields_of, is_array_class};
+ghost use Rattle.heap_class.specs.Classes.{Class, IsDefined, fields_of, is_array_class};
 ghost use Rattle.heap_class.specs.Limits.{AreClassLimits};
-ghost use Rattle.hprof_pair.specs.JoinedClasses.{Joined, and_class, and_defined, class_line, joined, over, renamed};
+ghost use Rattle.heap_class.specs.declared.Refusal.TheVariants.{NoMemory};
+ghost use Rattle.hprof_plan.specs.Accepted.{class_event};
+ghost use Rattle.hprof_pair.specs.JoinedClasses.{Joined, and_class, and_defined, and_found, class_line, joined, number_of_line, over, renamed, super_over};
 ghost use Rattle.hprof_pair.specs.JoinedSoFar.{AreJoined, IsDefinedAs};
 
 use crate::shapes::class_in;
@@ -75,19 +77,32 @@ fn line_over(
     sup: Option<ClassNo>,
 ) -> Result<Name, AllocError>
     requires { k < length classes.now }
-    ensures { IfOk result (λ line. (c : Class) → slice_get classes.now k ≡ Some c
-        → line ≡ class_line (over c sup)) }
+    ensures { (c : Class) → slice_get classes.now k ≡ Some c
+        → IfOk result (λ line. line ≡ class_line (over c sup)) }
 {
-    let name = Name::new(alloc, classes.name(k))?;
-    let event = if classes.is_array(k) {
-        Event::ArrayClass { name }
-    } else {
-        let fields = fields_of(alloc, classes, k)?;
-        Event::Class { name, sup, fields }
-    };
+    let event = event_over(alloc, classes, k, sup)?;
     let mut text = Vec::new(alloc);
     push_event(&mut text, &event)?;
     Ok(Name::from_vec(text))
+}
+
+// Returns the event that defines class k with this super.
+fn event_over(
+    alloc: Global,
+    classes: &Classes,
+    k: ClassNo,
+    sup: Option<ClassNo>,
+) -> Result<Event, AllocError>
+    requires { k < length classes.now }
+    ensures { (c : Class) → slice_get classes.now k ≡ Some c
+        → IfOk result (λ e. e ≡ class_event (over c sup)) }
+{
+    let name = Name::new(alloc, classes.name(k))?;
+    if classes.is_array(k) {
+        return Ok(Event::ArrayClass { name });
+    }
+    let fields = fields_of(alloc, classes, k)?;
+    Ok(Event::Class { name, sup, fields })
 }
 
 // Returns the own fields of class k.
@@ -119,23 +134,57 @@ fn join_class(
         → slice_get second.now k ≡ Some c
         → OnOk result (AreJoined first joined.new (and_class limits s c)) }
 {
-    let sup = match second.sup(k) {
-        Some(above) => match class_in(&joined.numbers, above) {
-            Some(number) => Some(number),
-            None => {
-                joined.numbers.push(None)?;
-                return Ok(());
-            }
+    // Its contract says that array classes have no super.
+    let _number = second.len();
+    match super_over(joined.numbers.as_slice(), second.sup(k)) {
+        Some(sup) => {
+            let number = number_over(alloc, limits, joined, second, k, sup)?;
+            joined.numbers.push(number)?;
+            Ok(())
+        }
+        None => {
+            joined.numbers.push(None)?;
+            Ok(())
+        }
+    }
+}
+
+// Returns the number in the heap of a class's super, or none if there is no super. Returns None if the super has no number there.
+fn super_over(numbers: &[Option<ClassNo>], sup: Option<ClassNo>) -> Option<Option<ClassNo>>
+    ensures { result ≡ super_over numbers.now sup }
+{
+    match sup {
+        Some(above) => match class_in(numbers, above) {
+            Some(number) => Some(Some(number)),
+            None => None,
         },
-        None => None,
-    };
+        None => Some(None),
+    }
+}
+
+// Returns the number of the class that the line of class k of the second dump with this super defines. Defines one, if there is
+// none and the heap takes it.
+fn number_over(
+    alloc: Global,
+    limits: ClassLimits,
+    joined: &mut JoinedClasses,
+    second: &Classes,
+    k: ClassNo,
+    sup: Option<ClassNo>,
+) -> Result<Option<ClassNo>, AllocError>
+    requires limits { AreClassLimits limits }
+    requires number { k < length second.now }
+    requires bare { is_array_class second.now k ≡ true → sup ≡ None }
+    ensures { (first : List Class) (s : Joined) (c : Class) → AreJoined first joined.old s
+        → slice_get second.now k ≡ Some c
+        → IfOk result (λ o. IsDefinedAs first joined.old.numbers.items o joined.new
+        (and_found limits s (over c sup) (number_of_line s.classes (over c sup)))) }
+{
     let line = line_over(alloc, second, k, sup)?;
-    let number = match number_of_line(joined.known.as_slice(), &line) {
-        Some(number) => Some(number),
-        None => define_class(alloc, limits, joined, second, k, sup)?,
-    };
-    joined.numbers.push(number)?;
-    Ok(())
+    match number_of_line(joined.known.as_slice(), &line) {
+        Some(number) => Ok(Some(number)),
+        None => define_class(alloc, limits, joined, second, k, sup),
+    }
 }
 
 // Returns the number of the class that a line defines, if it is one of these.
@@ -170,24 +219,52 @@ fn define_class(
     let number = joined.classes.len();
     let is_given = has_name(&joined.classes, second.name(k));
     let name = given_name(alloc, limits, is_given, number, second.name(k))?;
-    let defined = if second.is_array(k) {
-        joined.classes.define_array(limits, &name)
-    } else {
-        let fields = fields_of(alloc, second, k)?;
-        let (name, fields) = (&name, &fields);
-        joined
-            .classes
-            .define(limits, NewClass { name, sup, fields })
-    };
-    match defined {
+    match define_named(alloc, limits, &mut joined.classes, second, k, sup, &name)? {
         Ok(number) => {
             let line = line_over(alloc, &joined.classes, number, sup)?;
             joined.text.extend_from_slice(line.as_bytes())?;
             joined.known.push(line)?;
             Ok(Some(number))
         }
-        Err(Refusal::NoMemory) => Err(AllocError),
-        Err(_) => Ok(None),
+        Err(refusal) => none_defined(refusal),
+    }
+}
+
+// Defines class k of the second dump with this super by this name, unless it is refused.
+fn define_named(
+    alloc: Global,
+    limits: ClassLimits,
+    classes: &mut Classes,
+    second: &Classes,
+    k: ClassNo,
+    sup: Option<ClassNo>,
+    name: &Name,
+) -> Result<Result<ClassNo, Refusal>, AllocError>
+    requires limits { AreClassLimits limits }
+    requires number { k < length second.now }
+    requires bare { is_array_class second.now k ≡ true → sup ≡ None }
+    ensures { (c : Class) → slice_get second.now k ≡ Some c
+        → IfOk result (IsDefined limits
+        (record { name = name.now; sup = sup; fields = c.fields; is_array = c.is_array })
+        classes.old classes.new) }
+{
+    // Its contract says that array classes have no fields.
+    let _number = second.len();
+    if second.is_array(k) {
+        return Ok(classes.define_array(limits, name));
+    }
+    let fields = fields_of(alloc, second, k)?;
+    let fields = &fields;
+    Ok(classes.define(limits, NewClass { name, sup, fields }))
+}
+
+// Returns no number for a class that is refused. Fails if that is because an allocation failed.
+fn none_defined(refusal: Refusal) -> Result<Option<ClassNo>, AllocError>
+    ensures { IfOk result (λ o. (o ≡ None) × (refusal ≢ NoMemory)) }
+{
+    match refusal {
+        Refusal::NoMemory => Err(AllocError),
+        _ => Ok(None),
     }
 }
 

@@ -6,7 +6,7 @@ ghost use Rattle.hprof_session.specs.Walks.{ItemTold, left};
 ghost use Rattle.hprof_lines.specs.Outputs.{Writes};
 ghost use Rattle.hprof_lines.specs.Passes.{IsWhole};
 ghost use Rattle.hprof_lines.specs.Sessions.{root_tags, session_text};
-ghost use Rattle.hprof_pair.specs.Conversions.{ArePairConverted, IsPairPut};
+ghost use Rattle.hprof_pair.specs.Conversions.{ArePairConverted, IsPairPut, IsSecondConverted};
 ghost use Rattle.hprof_pair.specs.Events.{second_events};
 ghost use Rattle.hprof_pair.specs.Pairs.{pair_told};
 ghost use Rattle.hprof_pair.specs.Sessions.{collect_line, kept_line};
@@ -69,16 +69,13 @@ pub fn convert_pair<O: Outlet>(
     ensures { ArePairConverted area first.now second.now (O.seen outlet.old) (O.seen outlet.new)
         result }
 {
-    let Ok((header, rest)) = header_at(first) else {
-        return Err(PairFailure::FirstHeader);
-    };
-    let before = walk_after(header.ids, rest);
-    let Ok((header, rest)) = header_at(second) else {
-        return Err(PairFailure::SecondHeader);
-    };
-    let after = walk_after(header.ids, rest);
-    let sizes = (first.len() as u64, second.len() as u64);
-    convert_walks(alloc, outlet, area, before, after, sizes)
+    match header_at(first) {
+        Ok(read) => {
+            let walk = walk_after(read.0.ids, read.1);
+            convert_second(alloc, outlet, area, walk, first.len() as u64, second)
+        }
+        Err(_) => Err(PairFailure::FirstHeader),
+    }
 }
 
 // Returns the walk over these bytes, which follow a header.
@@ -89,6 +86,28 @@ fn walk_after(ids: IdSize, rest: &[u8]) -> Walk<'_>
         ids,
         segment: &[],
         rest,
+    }
+}
+
+// Puts out the session of what a walk over the first dump comes to, which has this size, and of the second dump.
+fn convert_second<O: Outlet>(
+    alloc: Global,
+    outlet: &mut O,
+    area: bool,
+    before: Walk<'_>,
+    size: u64,
+    second: &[u8],
+) -> Result<BothConverted, PairFailure>
+    ensures { IsSecondConverted area (left before.entry) second.now (O.seen outlet.old)
+        (O.seen outlet.new) result }
+{
+    match header_at(second) {
+        Ok(read) => {
+            let after = walk_after(read.0.ids, read.1);
+            let sizes = (size, second.len() as u64);
+            convert_walks(alloc, outlet, area, before, after, sizes)
+        }
+        Err(_) => Err(PairFailure::SecondHeader),
     }
 }
 

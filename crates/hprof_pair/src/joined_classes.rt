@@ -41,8 +41,7 @@ pub(crate) fn join_classes(
     requires limits { AreClassLimits limits }
     requires long { 22 ≤ limits.name_bytes }
     requires count { count ≤ length second.now }
-    ensures { IfOk result (λ j. AreJoined first.entry j
-        (joined limits first.entry (take count second.now))) }
+    ensures { IfOk result (λ j. AreJoined first j (joined limits first (take count second.now))) }
 {
     let known = lines_of(alloc, &first)?;
     let mut joined = JoinedClasses {

@@ -23,6 +23,6 @@ returns-then-not-branch g c =
 
 pub returns : goal.returns
 returns g c =
-    writes_then _ _ _ _ _ _ c.if-not-put_text.ensures
-    (writes_then _ _ _ _ _ _ c.if-not-put_text-2.ensures
-    (writes_then _ _ _ _ _ _ (rw c.if-not-branch.false at c.in_ok-write_events.ensures) c.put_text.ensures))
+    writes_then _ _ _ _ _ (Ok c.put_text-3.result) c.if-not-put_text.ensures
+    (writes_then _ _ _ _ _ (Ok c.put_text-3.result) c.if-not-put_text-2.ensures
+    (writes_then _ _ _ _ _ (Ok c.put_text-3.result) (rw c.if-not-branch.false at c.in_ok-write_events.ensures) c.put_text-3.ensures))

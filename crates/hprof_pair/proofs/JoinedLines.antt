@@ -28,8 +28,8 @@ use Rattle.hprof_pair.proofs.NameIds.{name_by_id}
 
 -- ---- the first of its like
 
-pub found_first : {X : Type 0} (p : X → Bool) (xs : List X) (i : ℕ) (d : X) → i < length xs → ((k : ℕ) → k < i → p (get_or xs k d) ≡ false) → p (get_or xs i d) ≡ true → Some i ≡ position p xs
-found_first p xs i d less none is =
+pub number_of_the_first : {X : Type 0} (p : X → Bool) (xs : List X) (i : ℕ) (d : X) → i < length xs → ((k : ℕ) → k < i → p (get_or xs k d) ≡ false) → p (get_or xs i d) ≡ true → Some i ≡ position p xs
+number_of_the_first p xs i d less none is =
     let at : position_or_len p xs ≡ i = position_or_len_is p xs i d (omega (arith, less)) none (λ _. is) in
     sym (ap (λ (n : ℕ). cond (nat_lt n (length xs)) (Some n) None) at ∙ ap (λ (b : Bool). cond b (Some i) None) (lt-ltb i (length xs) less))
 
@@ -47,15 +47,15 @@ other_before p xs i d none other k less = go (nat_lt k i) refl
 
 -- ---- classes and their parts
 
-no_class : Class
-no_class = record { name = []; sup = None; fields = []; is_array = false }
+nameless_class : Class
+nameless_class = record { name = []; sup = None; fields = []; is_array = false }
 
-class_there : (classes : List Class) (k : ℕ) → k < length classes → slice_get classes k ≡ Some (get_or classes k no_class)
-class_there classes k less = slice_get-get_or classes k no_class less
+class_of_its_number : (classes : List Class) (k : ℕ) → k < length classes → slice_get classes k ≡ Some (get_or classes k nameless_class)
+class_of_its_number classes k less = slice_get-get_or classes k nameless_class less
 
-pub name_is : (classes : List Class) (k : ℕ) (c : Class) → slice_get classes k ≡ Some c → name_of classes k ≡ c.name
+pub name_of_class_at : (classes : List Class) (k : ℕ) (c : Class) → slice_get classes k ≡ Some c → name_of classes k ≡ c.name
 unfolding name_of
-name_is classes k c there = ap (λ (o : Option Class). option_map_or (λ (x : Class). x.name) o []) there
+name_of_class_at classes k c there = ap (λ (o : Option Class). option_map_or (λ (x : Class). x.name) o []) there
 
 pub sup_is : (classes : List Class) (k : ℕ) (c : Class) → slice_get classes k ≡ Some c → sup_of classes k ≡ c.sup
 unfolding sup_of
@@ -81,8 +81,8 @@ array_is_bare classes k c table there array = bare_after [] classes k c table th
 -- so the number of its super is that of none
 pub bare_over : (classes : List Class) (k : ℕ) (numbers : List (Option ℕ)) (sup above : Option ℕ) → k < length classes → IsClassTable [] classes → above ≡ sup_of classes k → super_over numbers above ≡ Some sup → is_array_class classes k ≡ true → sup ≡ None
 bare_over classes k numbers sup above less table is found array =
-    let c = get_or classes k no_class in
-    let there = class_there classes k less in
+    let c = get_or classes k nameless_class in
+    let there = class_of_its_number classes k less in
     let none : above ≡ None = is ∙ sup_is classes k c there ∙ (array_is_bare classes k c table there array).0 in
     let both : Some sup ≡ Some None = sym found ∙ ap (super_over numbers) none in
     cc
@@ -136,8 +136,8 @@ field_name_at : (classes : List Class) (k i id : ℕ) → k < length classes →
 unfolding name_id
 field_name_at classes k i id less within told =
     let f = get_or (fields_of classes k) i no_field in
-    let c = get_or classes k no_class in
-    let at = class_there classes k less in
+    let c = get_or classes k nameless_class in
+    let at = class_of_its_number classes k less in
     let there : slice_get c.fields i ≡ Some f = ap (λ (fs : List Field). slice_get fs i) (sym (fields_are classes k c at)) ∙ slice_get-get_or (fields_of classes k) i no_field within in
     let is : id ≡ 1 + position_or_len (bytes_eq f.name) (name_table classes) = field_told (fields_of classes k) i (λ g. id ≡ name_id classes g.name) within told in
     let place : id - 1 ≡ position_or_len (bytes_eq f.name) (name_table classes) = omega (arith, is) in
@@ -171,13 +171,13 @@ one_field_more classes k i id bytes name kind before after less within told at i
 
 pub array_event : (classes : List Class) (k : ℕ) (c : Class) (name : List ℕ) (sup : Option ℕ) → slice_get classes k ≡ Some c → name ≡ name_of classes k → is_array_class classes k ≡ true → events.ArrayClass name ≡ class_event (over c sup)
 array_event classes k c name sup there is array =
-    ap events.ArrayClass (is ∙ name_is classes k c there)
+    ap events.ArrayClass (is ∙ name_of_class_at classes k c there)
     ∙ sym (ap (λ (b : Bool). cond b (events.ArrayClass c.name) (events.Class c.name sup c.fields)) (sym (array_is classes k c there) ∙ array))
 
 pub instance_event : (classes : List Class) (k : ℕ) (c : Class) (name : List ℕ) (sup : Option ℕ) (fields : List Field) → slice_get classes k ≡ Some c → name ≡ name_of classes k → is_array_class classes k ≡ false → fields ≡ fields_of classes k
     → events.Class name sup fields ≡ class_event (over c sup)
 instance_event classes k c name sup fields there is instance are =
-    ap (λ (n : List ℕ). events.Class n sup fields) (is ∙ name_is classes k c there)
+    ap (λ (n : List ℕ). events.Class n sup fields) (is ∙ name_of_class_at classes k c there)
     ∙ ap (events.Class c.name sup) (are ∙ fields_are classes k c there)
     ∙ sym (ap (λ (b : Bool). cond b (events.ArrayClass c.name) (events.Class c.name sup c.fields)) (sym (array_is classes k c there) ∙ instance))
 
@@ -186,13 +186,13 @@ pub line_more : (classes : List Class) (k : ℕ) (sup : Option ℕ) (line : List
     → ((c : Class) → slice_get classes k ≡ Some c → line ≡ class_line (over c sup)) → sup ≡ sup_of classes k
     → before ≡ map class_line (take k classes) → after ≡ before ++ line ∷ [] → after ≡ map class_line (take (k + 1) classes)
 line_more classes k sup line before after less lines is so_far more =
-    let c = get_or classes k no_class in
-    let there = class_there classes k less in
+    let c = get_or classes k nameless_class in
+    let there = class_of_its_number classes k less in
     more
     ∙ ap (λ (ls : List (List ℕ)). ls ++ line ∷ []) so_far
     ∙ ap (λ (l : List ℕ). map class_line (take k classes) ++ l ∷ []) (lines c there ∙ ap (λ (s : Option ℕ). class_line (over c s)) (is ∙ sup_is classes k c there))
     ∙ sym (map-append class_line (take k classes) (c ∷ []))
-    ∙ ap (map class_line) (sym (take_more classes k no_class less))
+    ∙ ap (map class_line) (sym (take_more classes k nameless_class less))
 
 pub all_lines : (classes : List Class) (k : ℕ) (lines : List (List ℕ)) → length classes ≤ k → lines ≡ map class_line (take k classes) → lines ≡ map class_line classes
 all_lines classes k lines past so_far = so_far ∙ ap (map class_line) (take_all k classes past)
@@ -203,10 +203,10 @@ all_lines classes k lines past so_far = so_far ∙ ap (map class_line) (take_all
 pub no_name_more : (name : List ℕ) (classes : List Class) (k : ℕ) (n : List ℕ) → k < length classes → n ≡ name_of classes k → list_any (λ (c : Class). bytes_eq c.name name) (take k classes) ≡ false → bytes_eq n name ≡ false
     → list_any (λ (c : Class). bytes_eq c.name name) (take (k + 1) classes) ≡ false
 no_name_more name classes k n less is none other =
-    let c = get_or classes k no_class in
+    let c = get_or classes k nameless_class in
     let p : Class → Bool = λ (x : Class). bytes_eq x.name name in
-    ap (list_any p) (take_more classes k no_class less) ∙ list_any-append p (take k classes) (c ∷ [])
-    ∙ neither (list_any p (take k classes)) (p c) none (ap (λ (m : List ℕ). bytes_eq m name) (sym (is ∙ name_is classes k c (class_there classes k less))) ∙ other)
+    ap (list_any p) (take_more classes k nameless_class less) ∙ list_any-append p (take k classes) (c ∷ [])
+    ∙ neither (list_any p (take k classes)) (p c) none (ap (λ (m : List ℕ). bytes_eq m name) (sym (is ∙ name_of_class_at classes k c (class_of_its_number classes k less))) ∙ other)
   where
     neither : (a b : Bool) → a ≡ false → b ≡ false → (a || (b || false)) ≡ false
     neither true b x y = cc
@@ -215,9 +215,9 @@ no_name_more name classes k n less is none other =
 
 pub name_found : (name : List ℕ) (classes : List Class) (k : ℕ) (n : List ℕ) → k < length classes → n ≡ name_of classes k → bytes_eq n name ≡ true → true ≡ list_any (λ (c : Class). bytes_eq c.name name) classes
 name_found name classes k n less is same =
-    let c = get_or classes k no_class in
-    let there = class_there classes k less in
-    sym (any_at classes k c there (ap (λ (m : List ℕ). bytes_eq m name) (sym (is ∙ name_is classes k c there)) ∙ same))
+    let c = get_or classes k nameless_class in
+    let there = class_of_its_number classes k less in
+    sym (any_at classes k c there (ap (λ (m : List ℕ). bytes_eq m name) (sym (is ∙ name_of_class_at classes k c there)) ∙ same))
   where
     any_at : (cs : List Class) (i : ℕ) (c : Class) → slice_get cs i ≡ Some c → bytes_eq c.name name ≡ true → list_any (λ (x : Class). bytes_eq x.name name) cs ≡ true
     any_at [] i c there it = cc
@@ -411,15 +411,15 @@ pub joined_next : (limits : ClassLimits) (first second : List Class) (k : ℕ) (
     → ((f : List Class) (s : Joined) (c : Class) → AreJoined f j s → slice_get second k ≡ Some c → AreJoined f next (and_class limits s c)) → AreJoined first next (joined limits first (take (k + 1) second))
 unfolding joined
 joined_next limits first second k j next less so_far more =
-    let c = get_or second k no_class in
+    let c = get_or second k nameless_class in
     let start : Joined = record { classes = first; numbers = [] } in
-    subst (AreJoined first next) (sym (ap (fold (and_class limits) start) (take_more second k no_class less) ∙ fold-append (and_class limits) start (take k second) (c ∷ [])))
-    (more first (joined limits first (take k second)) c so_far (class_there second k less))
+    subst (AreJoined first next) (sym (ap (fold (and_class limits) start) (take_more second k nameless_class less) ∙ fold-append (and_class limits) start (take k second) (c ∷ [])))
+    (more first (joined limits first (take k second)) c so_far (class_of_its_number second k less))
 
 -- ---- steps of one class
 
 pub class_at : (classes : List Class) (k : ℕ) → k < length classes → (c : Class) × (slice_get classes k ≡ Some c)
-class_at classes k less = (get_or classes k no_class, class_there classes k less)
+class_at classes k less = (get_or classes k nameless_class, class_of_its_number classes k less)
 
 pub same_line : (line known : List ℕ) (lines : List (List ℕ)) (k : ℕ) (b : Bool) → k < length lines → known ≡ get_or lines k known → bytes_eq line known ≡ b → bytes_eq line (get_or lines k []) ≡ b
 same_line line known lines k b less is same =

@@ -229,6 +229,18 @@ fn define_class(
     }
 }
 
+// Tells whether a class has the name.
+fn has_name(classes: &Classes, name: &[u8]) -> bool
+    ensures { result ≡ list_any (λ c. bytes_eq c.name name.now) classes.now }
+{
+    for k in 0..classes.len() {
+        if classes.name(k) == name {
+            return true;
+        }
+    }
+    false
+}
+
 // Defines class k of the second dump with this super by this name, unless it is refused.
 fn define_named(
     alloc: Global,
@@ -265,16 +277,4 @@ fn none_defined(refusal: Refusal) -> Result<Option<ClassNo>, AllocError>
         Refusal::NoMemory => Err(AllocError),
         _ => Ok(None),
     }
-}
-
-// Tells whether a class has the name.
-fn has_name(classes: &Classes, name: &[u8]) -> bool
-    ensures { result ≡ list_any (λ c. bytes_eq c.name name.now) classes.now }
-{
-    for k in 0..classes.len() {
-        if classes.name(k) == name {
-            return true;
-        }
-    }
-    false
 }

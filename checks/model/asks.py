@@ -6,15 +6,17 @@ from heap import FIRST_OBJECT, REGION_WORDS
 from questions import FORMS, QUESTIONS, Asking, field_names
 
 # What questions have to be answered, and how often at least: refusals by number, others by the words after `ok`.
-ABOUT_A_MOMENT = ("ok", "ok without AT", "no 22", "no 23", "no 24")
-UP_TO_A_PLACE = ("ok without AT", "ok up to a place", "no 24")
+ABOUT_MOMENTS = ("ok", "ok without AT", "no 22", "no 23", "no 24")
+ABOUT_A_MOMENT = (*ABOUT_MOMENTS, "ok by at")
+BETWEEN_PLACES = ("ok without AT", "ok up to a place", "no 24")
+UP_TO_A_PLACE = (*BETWEEN_PLACES, "ok by at")
 BY_NAME = ("ok by name", "bad by name")
 WANTED = {
     "histogram": ABOUT_A_MOMENT,
     "garbage": ABOUT_A_MOMENT,
-    "growth": ABOUT_A_MOMENT,
-    "kept": ("ok nothing", "ok some", *ABOUT_A_MOMENT[1:]),
-    "diff": ("ok nothing", "ok some", *ABOUT_A_MOMENT[1:]),
+    "growth": (*ABOUT_MOMENTS, "ok by a place's name"),
+    "kept": ("ok nothing", "ok some", *ABOUT_MOMENTS[1:]),
+    "diff": ("ok nothing", "ok some", *ABOUT_MOMENTS[1:]),
     "path": (*ABOUT_A_MOMENT, "no 27", "no 28"),
     "paths": ("ok one", "ok several", "ok all", *ABOUT_A_MOMENT[1:], "no 27", "no 28", "bad"),
     "retained": ("ok nothing", "ok itself", "ok more", "ok without AT", "no 22", "no 23", "no 24", "no 28"),
@@ -32,10 +34,10 @@ WANTED = {
     "born": ("ok place", "ok older", *UP_TO_A_PLACE, "no 28"),
     "wrote": ("ok place", "ok older", *UP_TO_A_PLACE, *BY_NAME, "no 9", "no 28"),
     "watch": ("ok nothing", "ok some", *UP_TO_A_PLACE, *BY_NAME, "no 9", "no 28"),
-    "writes": ("ok nothing", "ok some", *UP_TO_A_PLACE[1:], *BY_NAME, "no 2", "no 9"),
-    "when": ("ok place", "ok never", "ok count place", "ok count never", *UP_TO_A_PLACE[1:], *BY_NAME, "no 2", "no 9"),
+    "writes": ("ok nothing", "ok some", *BETWEEN_PLACES[1:], *BY_NAME, "no 2", "no 9"),
+    "when": ("ok place", "ok never", "ok count place", "ok count never", *BETWEEN_PLACES[1:], *BY_NAME, "no 2", "no 9"),
     "dropped": ("ok place", "ok older", "ok reached", *UP_TO_A_PLACE, "no 28"),
-    "history": ("ok", *UP_TO_A_PLACE),
+    "history": ("ok", "ok by a place's name", *UP_TO_A_PLACE),
     "life": ("ok nothing", "ok some", "ok several"),
     "cycles": ("ok nothing", "ok some", "ok several"),
     "pins": ("ok",),
@@ -43,9 +45,12 @@ WANTED = {
     "regions": ("ok",),
     "status": ("ok",),
     "collect": ("ok",),
-    "rewind": ("ok place", "no 24"),
+    "rewind": ("ok place", "ok by a place's name", "no 24"),
     "new": (*BY_NAME, "no 7", "no 10"),
-    "forward": ("ok place", "no 24", "no 29"),
+    "open": ("ok", "no 24", "no 25", "bad"),
+    "at": ("ok place", "ok by a place's name", "no 24", "bad"),
+    "name": ("ok place", "bad"),
+    "forward": ("ok place", "ok by a place's name", "no 24", "no 29"),
     "help": ("ok", "bad"),
     "comment": ("nothing",),
 }
@@ -54,11 +59,15 @@ LEAST = 3
 PAST = (b"born", b"wrote", b"watch", b"writes", b"when", b"dropped", b"history")
 
 
-def sorts(word, form, words, left_out, last, rows):
-    """Yields of what sorts an answer is, by its question, form and words, whether a moment was left out, the words of its last line,
-    and how many rows stand before that."""
+def sorts(word, form, words, left_out, at, last, rows):
+    """Yields of what sorts an answer is, by its question, form and words, whether a moment was left out, the place that questions are
+    about then, the words of its last line, and how many rows stand before that."""
     if left_out and last[0] == "ok":
         yield "ok without AT"
+        if at is not None:
+            yield "ok by at"
+    if any(str(each).startswith("@") and str(each)[1:2].isalpha() for each in words) and last[0] == "ok":
+        yield "ok by a place's name"
     if word in PAST and any(str(each).startswith("@") for each in words) and last[0] == "ok":
         yield "ok up to a place"
     if any(sort in "cks" and not str(each).isdigit() for sort, each in zip(form, words)) and last[0] in ("ok", "bad"):
@@ -104,9 +113,16 @@ class AskingDraw(Draw):
             return self.pin()
         return self.retained_place()
 
+    def place_with_name(self):
+        """Returns a word for a place that has a name, or for none."""
+        names = self.session.noted.names
+        return "@" + self.lots.pick([*(word.decode() for word in names), "nowhere"])
+
     def retained_place(self):
         """Returns a word for a place: mostly a retained one."""
         lots, machine = self.lots, self.machine
+        if self.session.noted.names and lots.once_in(3):
+            return self.place_with_name()
         if lots.once_in(6):
             return "@{}".format(lots.pick([max(0, machine.place - machine.retained - 1), machine.place + 1]))
         return f"@{machine.place - lots.below(machine.retained + 1)}"
@@ -161,6 +177,9 @@ class AskingDraw(Draw):
     def way_on(self):
         """Returns a word for a way forward: a number of steps, or a place. Mostly as many steps are undone."""
         lots, machine = self.lots, self.machine
+        ahead = [word.decode() for word, place in self.session.noted.names.items() if machine.place < place <= machine.place + len(machine.undone)]
+        if ahead and lots.once_in(3):
+            return "@" + lots.pick(ahead)
         count = lots.below(len(machine.undone) + 2)
         if lots.once_in(2):
             return lots.near(count, 70)
@@ -168,17 +187,21 @@ class AskingDraw(Draw):
 
     def ask(self):
         """Asks a question, or for help."""
-        word = self.lots.pick([*QUESTIONS, b"show", b"watch", b"writes", b"help"])
+        word = self.lots.pick([*QUESTIONS, b"show", b"watch", b"writes", b"help", b"name", b"name", b"at", b"dominators"])
         if self.machine.undone and self.lots.once_in(2):
             word = b"forward"
         draws = {"a": self.moment, "i": self.identifier, "c": self.asked_class, "s": self.asked_slot, "v": self.held_word}
         draws["p"] = lambda: self.lots.pick(["-", self.retained_place()])
         draws["k"] = lambda: self.lots.pick([*(each.name.decode() for each in self.state.classes), "absent"])
-        draws["r"] = lambda: self.retained_place() if self.lots.once_in(5) else f"@{max(0, self.machine.place + 1 - self.lots.below(5))}"
+        draws["r"] = lambda: self.retained_place() if self.lots.once_in(3) else f"@{max(0, self.machine.place + 1 - self.lots.below(5))}"
         draws["w"] = self.way_on
+        draws["l"] = self.place_with_name
+        draws["d"] = lambda: self.lots.pick(["a", "b", "c-1", "start", "Z" * 64, "Z" * 65, "7", "-", "a/b", "_a"])
         draws["n"] = lambda: self.lots.near(self.lots.below(8), 70)
         draws["m"] = lambda: self.lots.near(self.lots.pick([0, 1, 1, 2, 2, 3, 5, 9, 256, 257]), 70)
         draws["#"] = lambda: "count"
+        if word == b"at":
+            draws["p"] = lambda: "-" if self.lots.once_in(4) else self.retained_place()
         if word == b"show":
             draws |= {"i": self.shown_object, "n": self.asked_index}
         form = "" if word == b"help" else self.lots.pick(QUESTIONS[word].split("|"))
@@ -187,9 +210,10 @@ class AskingDraw(Draw):
         form = "".join(part[-1] for part in kept)
         left_out = any(part in ("?a", "?p") for part in parts if part not in kept)
         words = self.help_words() if word == b"help" else [draws[sort]() for sort in form]
+        at = self.session.noted.at
         accepted = self.say(word.decode(), *words)
         *rows, last, _ = self.lines[-1][1].split(b"\n")
-        for sort in sorts(word, form, words, left_out, last.decode().split(), len(rows)):
+        for sort in sorts(word, form, words, left_out, at, last.decode().split(), len(rows)):
             self.machine.sights.met[f"{word.decode()}: {sort}"] += 1
         return accepted
 

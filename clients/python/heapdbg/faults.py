@@ -8,7 +8,7 @@ from typing import Iterable, NamedTuple, Optional, Union
 LINE = re.compile(r"[ -~]*")
 WORD = re.compile(r"[!-~]+")
 QUESTIONS = """show registers classes objects values histogram growth kept diff path paths retained dominators dominator referrers garbage wrote watch writes when born dropped
-life history cycles pins cells regions status collect forward help""".split()
+life history cycles pins cells regions status collect forward at name help""".split()
 
 
 class NotDoneFacts(NamedTuple):

@@ -309,6 +309,7 @@ impl Regions {
         requires { IsSome (used_at self.now.regions region) }
         ensures { result ≡ region }
     {
+        // Its contract bounds the number of the region.
         let _storage = self.storage(region as usize);
         region as u16
     }
@@ -546,7 +547,7 @@ impl Regions {
     }
 
     /// Returns the free cells of a region in use, head first.
-    pub fn free_list(&self, region: u64) -> FreeCells<'_>
+    pub(crate) fn free_list(&self, region: u64) -> FreeCells<'_>
         requires { IsSome (used_at self.now.regions region) }
         ensures { IfSome (used_at self.now.regions region) (λ u. result ≡ u.free) }
     {

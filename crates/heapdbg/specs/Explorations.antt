@@ -6,6 +6,7 @@ use Rattle.session_text.specs.Answers.{AnswerRelation, AnswersCommand, Begins}
 use Rattle.session_text.specs.Machine.{opening_machine}
 use Rattle.question_text.specs.declared.asking.Asking.{Asking}
 use Rattle.heap_orders.specs.Redos.{no_redo, redo_limit}
+use Rattle.question_grammar.specs.Bookmarks.{no_bookmarks}
 use Rattle.question_text.specs.Sessions.{AskingActs, AskingAnswers, ServesAsking}
 use Rattle.session_text.specs.declared.Ended.{Ended}
 use Rattle.session_text.specs.declared.Ended.TheVariants.{Quit, Eof, CutLine, TooLong, ReadFault, TooManyReads, WriteFault, NoMemory}
@@ -25,11 +26,11 @@ use Rattle.hprof_convert.specs.declared.conversion.Failure.{Failure}
 use Rattle.hprof_convert.specs.declared.conversion.Failure.TheVariants as failure
 use Rattle.heapdbg.specs.Endings.{outcome_of}
 
--- a heap with these settings as it begins, with no step that can be taken again
+-- a heap with these settings as it begins, with no step that can be taken again and no name of a place
 abbrev pub IsOpening : Settings → Asking → Type 0
 IsOpening s c =
     (c.local.machine ≡ opening_machine (limits_of s) s.ids s.regions s.mutators s.keep)
-    × (c.redo ≡ no_redo (min s.keep redo_limit))
+    × (c.redo ≡ no_redo (min s.keep redo_limit)) × (c.bookmarks ≡ no_bookmarks)
 
 -- whether the heap of these settings has an area
 abbrev pub has_area : Settings → Bool

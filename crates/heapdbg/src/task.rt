@@ -44,7 +44,7 @@ use std::{env, io};
 
 /// Reads the command line, and does the task that it asks for between standard input and standard output. At terminals `explore`
 /// prompts, and shows rows in columns. `draw` reports lines that are refused.
-pub fn perform<R>(rt: &R, terminals: Terminals) -> Result<(), Failure>
+pub(crate) fn perform<R>(rt: &R, terminals: Terminals) -> Result<(), Failure>
 where
     R: AllocGlobal + Clock + Env + Eprint + Files + Input + Print,
     R: Net<Listener = TcpListener, Stream = TcpStream> + Threads + Wait + RandomSource,

@@ -186,11 +186,11 @@ number_or default least most (Some text) = number_in least most text
 abbrev pub option_value : Text → ℕ → ℕ → ℕ → List Row → Option ℕ
 option_value name default least most rows = number_or default least most (first_of name rows)
 
--- the text before this ending, if it ends so
+-- the text before this suffix, if it ends in it
 abbrev pub text_before : Text → Text → Option Text
-text_before ending text =
-    let front = take (length text - length ending) text in
-    if bytes_eq text (front ++ ending) then Some front else None
+text_before suffix text =
+    let front = take (length text - length suffix) text in
+    if bytes_eq text (front ++ suffix) then Some front else None
 
 -- this number of times a number, if that lies from least to most
 abbrev pub times_in : ℕ → ℕ → ℕ → ℕ → Option ℕ

@@ -293,11 +293,11 @@ fn size(text: &str, least: u64, most: u64) -> Option<u64>
     }
 }
 
-// Returns the text before an ending, or None if it doesn't end so.
-fn text_before<'a>(text: &'a str, ending: &str) -> Option<&'a str>
-    ensures { option_map (λ front. front.now) result ≡ text_before ending.now text.now }
+// Returns the text before a suffix, or None if the text doesn't end in it.
+fn text_before<'a>(text: &'a str, suffix: &str) -> Option<&'a str>
+    ensures { option_map (λ front. front.now) result ≡ text_before suffix.now text.now }
 {
-    text.strip_suffix(ending)
+    text.strip_suffix(suffix)
 }
 
 // Returns `times` times the number that a text of digits alone writes, or None if that isn't from `least` to `most` or the text is

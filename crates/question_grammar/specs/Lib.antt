@@ -1,4 +1,6 @@
+pub mod Bookmarks
 pub mod Questions
 pub mod NameWords
 pub mod NamedLines
+pub mod NoteLines
 pub mod Orders

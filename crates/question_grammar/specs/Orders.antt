@@ -10,27 +10,28 @@ use Rattle.heap_world.specs.State.{HeapState}
 use Rattle.session_grammar.specs.Grammar.{at_end, number_of_word, words_of_line}
 use Rattle.question_grammar.specs.declared.order.Order.{Order}
 use Rattle.question_grammar.specs.declared.order.Order.TheVariants.{Act, Collect, Forward, ForwardTo, RewindTo}
+use Rattle.question_grammar.specs.Bookmarks.{Bookmarks}
 use Rattle.question_grammar.specs.NameWords.{class_named}
 use Rattle.question_grammar.specs.Questions.{place_of_word}
 
 -- what is asked to be done with the place that a word names as `@P`
-abbrev pub to_place : (ℕ → Order) → List ℕ → Option Order
-to_place order w =
-    option_and_then (λ to. option_map (λ place. order place) to) (place_of_word w)
+abbrev pub to_place : Bookmarks → (ℕ → Order) → List ℕ → Option Order
+to_place b order w =
+    option_and_then (λ to. option_map (λ place. order place) to) (place_of_word b w)
 
 -- the rewind to the place that a word names as `@P`
-abbrev pub way_back : List ℕ → Option Order
-way_back w = to_place RewindTo w
+abbrev pub way_back : Bookmarks → List ℕ → Option Order
+way_back b w = to_place b RewindTo w
 
 -- the steps forward that a word counts, or those to the place that it names as `@P`
-abbrev pub way_on : List ℕ → Option Order
-way_on w = option_or (option_map (λ n. Forward n) (number_of_word w)) (to_place ForwardTo w)
+abbrev pub way_on : Bookmarks → List ℕ → Option Order
+way_on b w = option_or (option_map (λ n. Forward n) (number_of_word w)) (to_place b ForwardTo w)
 
 -- what a keyword and the word behind it ask to be done
-unfoldable pub order_of_two : List ℕ → List ℕ → Option Order
-order_of_two w v =
-    if bytes_eq w (codes "rewind") then way_back v
-    else (if bytes_eq w (codes "forward") then way_on v else None)
+unfoldable pub order_of_two : Bookmarks → List ℕ → List ℕ → Option Order
+order_of_two b w v =
+    if bytes_eq w (codes "rewind") then way_back b v
+    else (if bytes_eq w (codes "forward") then way_on b v else None)
 
 -- the class with this name; a number names none
 abbrev pub class_by_name : List Class → List ℕ → Option ℕ
@@ -51,13 +52,13 @@ new_by_name classes m (r ∷ name ∷ ws) =
     option_and_then (λ e. at_end (Act e) ws) (new_of classes m r name)
 
 -- what the words ask to be done; names in them are those of these classes
-unfoldable pub order_of_words : List Class → List (List ℕ) → Option Order
-order_of_words classes [] = None
-order_of_words classes (w ∷ []) = if bytes_eq w (codes "collect") then Some Collect else None
-order_of_words classes (w ∷ v ∷ ws) =
+unfoldable pub order_of_words : Bookmarks → List Class → List (List ℕ) → Option Order
+order_of_words b classes [] = None
+order_of_words b classes (w ∷ []) = if bytes_eq w (codes "collect") then Some Collect else None
+order_of_words b classes (w ∷ v ∷ ws) =
     if bytes_eq w (codes "new") then new_by_name classes v ws
-    else option_and_then (λ order. at_end order ws) (order_of_two w v)
+    else option_and_then (λ order. at_end order ws) (order_of_two b w v)
 
 -- what a line asks to be done; names in it are those of a state
-abbrev pub order_in : HeapState → List ℕ → Option Order
-order_in state l = order_of_words state.classes (words_of_line l)
+abbrev pub order_in : Bookmarks → HeapState → List ℕ → Option Order
+order_in b state l = order_of_words b state.classes (words_of_line l)

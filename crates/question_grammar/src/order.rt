@@ -2,8 +2,10 @@
 ghost use Rattle.std.specs.Prelude.{◌≡◌, ◌∷◌, []};
 ghost use Rattle.session_grammar.specs.Grammar.{words_of_line};
 ghost use Rattle.question_grammar.specs.declared.order.Order.TheVariants.{ForwardTo};
+ghost use Rattle.question_grammar.specs.Bookmarks.{no_bookmarks};
 ghost use Rattle.question_grammar.specs.Orders.{class_by_name, new_by_name, new_of, order_in, order_of_two, order_of_words, to_place, way_back, way_on};
 
+use crate::bookmarks::Bookmarks;
 use crate::name_words::class_named;
 use crate::question::place_of_word;
 use heap_class::FirstClasses;
@@ -28,18 +30,22 @@ pub enum Order {
     Act(Event),
 }
 
-/// Returns what a line asks to be done, or None if it is none of these lines. Names in it are those of this state's classes. Takes
-/// no memory.
-pub fn order_in(world: &World, line: &[u8]) -> Option<Order>
-    ensures { result ≡ order_in world.now line.now }
+/// Returns what a line asks to be done, or None if it is none of these lines. Names in it are those of the session's places and
+/// of this state's classes. Takes no memory.
+pub fn order_in(bookmarks: &Bookmarks, world: &World, line: &[u8]) -> Option<Order>
+    ensures { result ≡ order_in bookmarks.now world.now line.now }
 {
-    order_of_words(&world.classes().all(), Words::new(line))
+    order_of_words(bookmarks, &world.classes().all(), Words::new(line))
 }
 
 // Returns what the words ask to be done.
 #[tactic(auto, unfolding(crate::specs::Orders::order_of_words))]
-fn order_of_words(classes: &FirstClasses<'_>, mut words: Words) -> Option<Order>
-    ensures { result ≡ order_of_words classes.now (words_of_line words.entry) }
+fn order_of_words(
+    bookmarks: &Bookmarks,
+    classes: &FirstClasses<'_>,
+    mut words: Words,
+) -> Option<Order>
+    ensures { result ≡ order_of_words bookmarks.now classes.now (words_of_line words.entry) }
 {
     let keyword = words.next_word()?;
     let Some(word) = words.next_word() else {
@@ -48,13 +54,13 @@ fn order_of_words(classes: &FirstClasses<'_>, mut words: Words) -> Option<Order>
     if is_word(keyword, b"new") {
         return new_by_name(classes, word, words);
     }
-    at_end(order_of_two(keyword, word)?, words)
+    at_end(order_of_two(bookmarks, keyword, word)?, words)
 }
 
 // Returns what a word asks to be done that stands alone.
 #[tactic(auto, unfolding(crate::specs::Orders::order_of_words))]
 fn collection_by(keyword: &[u8]) -> Option<Order>
-    ensures { result ≡ order_of_words [] (keyword.now ∷ []) }
+    ensures { result ≡ order_of_words no_bookmarks [] (keyword.now ∷ []) }
 {
     if is_word(keyword, b"collect") {
         Some(Order::Collect)
@@ -95,40 +101,40 @@ fn class_by_name(classes: &FirstClasses<'_>, word: &[u8]) -> Option<u64>
 
 // Returns what a keyword and the word behind it ask to be done.
 #[tactic(auto, unfolding(crate::specs::Orders::order_of_two))]
-fn order_of_two(keyword: &[u8], word: &[u8]) -> Option<Order>
-    ensures { result ≡ order_of_two keyword.now word.now }
+fn order_of_two(bookmarks: &Bookmarks, keyword: &[u8], word: &[u8]) -> Option<Order>
+    ensures { result ≡ order_of_two bookmarks.now keyword.now word.now }
 {
     if is_word(keyword, b"rewind") {
-        way_back(word)
+        way_back(bookmarks, word)
     } else if is_word(keyword, b"forward") {
-        way_on(word)
+        way_on(bookmarks, word)
     } else {
         None
     }
 }
 
 // Returns the rewind to the place that a word names.
-fn way_back(word: &[u8]) -> Option<Order>
-    ensures { result ≡ way_back word.now }
+fn way_back(bookmarks: &Bookmarks, word: &[u8]) -> Option<Order>
+    ensures { result ≡ way_back bookmarks.now word.now }
 {
-    let place = place_of_word(word)??;
+    let place = place_of_word(bookmarks, word)??;
     Some(Order::RewindTo(place))
 }
 
 // Returns the way forward that a word counts, or that leads to the place that it names.
-fn way_on(word: &[u8]) -> Option<Order>
-    ensures { result ≡ way_on word.now }
+fn way_on(bookmarks: &Bookmarks, word: &[u8]) -> Option<Order>
+    ensures { result ≡ way_on bookmarks.now word.now }
 {
     match number_of(word) {
         Some(count) => Some(Order::Forward(count)),
-        None => way_on_to(word),
+        None => way_on_to(bookmarks, word),
     }
 }
 
 // Returns the way forward to the place that a word names.
-fn way_on_to(word: &[u8]) -> Option<Order>
-    ensures { result ≡ to_place ForwardTo word.now }
+fn way_on_to(bookmarks: &Bookmarks, word: &[u8]) -> Option<Order>
+    ensures { result ≡ to_place bookmarks.now ForwardTo word.now }
 {
-    let place = place_of_word(word)??;
+    let place = place_of_word(bookmarks, word)??;
     Some(Order::ForwardTo(place))
 }

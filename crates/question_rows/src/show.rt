@@ -7,9 +7,9 @@ ghost use Rattle.question_words.specs.Names.{IsClassThere, fields_up};
 ghost use Rattle.question_rows.specs.Objects.{IsShowText, and_value, element_row, element_rows, end_in, field_row, field_rows, first_in, is_marked, joined, mark_text, object_line, object_text, rows_in, shows_mark, slot_rows, value_text};
 
 use heap_class::{ClassNo, FirstClasses, Kind, ObjKind, Refusal};
-use heap_questions::{ShownObject, object_with};
+use heap_questions::object_with;
 use heap_trail::Machine;
-use hprof_text::View;
+use hprof_text::{ShownObject, View};
 use question_words::{
     At, SlotRange, Unanswered, field_name, place_of_object, push_class_name, push_number,
     push_reference, push_row, push_words,

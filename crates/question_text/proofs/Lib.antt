@@ -1,4 +1,5 @@
 pub mod NewWords
+pub mod NotedLines
 pub mod Comments
 pub mod HelpForms
 pub mod KeptPins

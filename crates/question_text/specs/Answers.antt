@@ -24,6 +24,7 @@ use Rattle.question_rows.specs.Histories.{IsHistoryText}
 use Rattle.question_rows.specs.Kept.{IsKeptText}
 use Rattle.question_rows.specs.Lives.{IsLifeText}
 use Rattle.question_rows.specs.Losses.{IsDroppedText}
+use Rattle.question_grammar.specs.Bookmarks.{Bookmarks}
 use Rattle.question_grammar.specs.NamedLines.{question_in}
 use Rattle.question_rows.specs.ObjectLists.{IsObjectsText}
 use Rattle.question_rows.specs.Objects.{IsShowText, shows_mark}
@@ -114,6 +115,7 @@ abbrev pub IsAnswerOf : Option Question → List ℕ → Machine → Option ℕ 
 IsAnswerOf None l m acts text = text ≡ unasked_text l
 IsAnswerOf (Some q) l m acts text = IsAnswer q m acts text
 
--- the answer of a line that the grammar of sessions doesn't know; names in it are those of the current state
-abbrev pub IsAnswerOfLine : List ℕ → Machine → Option ℕ → List ℕ → Type 0
-IsAnswerOfLine l m acts text = IsAnswerOf (question_in m.trail.current l) l m acts text
+-- the answer of a line that the grammar of sessions doesn't know and that sets nothing; names in it are those of the current state
+-- and of these bookmarks
+abbrev pub IsAnswerOfLine : List ℕ → Machine → Option ℕ → Bookmarks → List ℕ → Type 0
+IsAnswerOfLine l m acts b text = IsAnswerOf (question_in b m.trail.current l) l m acts text

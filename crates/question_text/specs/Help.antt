@@ -14,7 +14,7 @@ pub record LineForm : Type 0 where
 abbrev form_of : List ℕ → List ℕ → List ℕ → LineForm
 form_of key form example = record { key = key; form = form; example = example }
 
--- questions, `collect`, `forward` and `help`
+-- questions, `collect`, `forward`, `at`, `name` and `help`
 unfoldable pub question_forms : List LineForm
 question_forms =
     form_of (codes "histogram") (codes "histogram [AT]") (codes "histogram -")
@@ -51,6 +51,8 @@ question_forms =
     ∷ form_of (codes "status") (codes "status") (codes "status")
     ∷ form_of (codes "collect") (codes "collect") (codes "collect")
     ∷ form_of (codes "forward") (codes "forward N|@P") (codes "forward 1")
+    ∷ form_of (codes "at") (codes "at -|@P") (codes "at @120")
+    ∷ form_of (codes "name") (codes "name WORD") (codes "name start")
     ∷ form_of (codes "help") (codes "help WORD") (codes "help path")
     ∷ []
 

@@ -2,5 +2,6 @@ pub mod DominatorRows
 pub mod Help
 pub mod Comments
 pub mod Answers
+pub mod Notes
 pub mod Sessions
 pub mod StateDumps

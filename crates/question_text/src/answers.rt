@@ -11,7 +11,7 @@ use heap_class::Refusal;
 use heap_pins::PinView;
 use heap_questions::Wanted;
 use heap_trail::Machine;
-use question_grammar::{Question, question_in};
+use question_grammar::{Bookmarks, Question, question_in};
 use question_rows::{
     born_answer, cells_answer, classes_answer, cycles_answer, diff_text, dropped_answer,
     garbage_text, growth_answer, histogram_text, history_answer, kept_text, life_answer,
@@ -287,11 +287,18 @@ fn pair_lines(
 
 /// Returns the answer of a line that the grammar of sessions doesn't know: that of a question about a machine, which may have
 /// a chronicle of this length, or of `help`; and `bad command`, if it is neither. A question may name classes and fields of the
-/// current state where their numbers may stand. Answers NoMemory if an allocation fails. The line `collect` is no question.
-pub fn answer_line(alloc: Global, machine: &Machine, acts: Option<u64>, line: &[u8]) -> LineAnswer
-    ensures { IsAnswerOfLine line.now machine.now acts (line_answer_text result) }
+/// current state where their numbers may stand, and places by the session's bookmarks. Answers NoMemory if an allocation fails. The
+/// line `collect` is no question.
+pub fn answer_line(
+    alloc: Global,
+    machine: &Machine,
+    acts: Option<u64>,
+    bookmarks: &Bookmarks,
+    line: &[u8],
+) -> LineAnswer
+    ensures { IsAnswerOfLine line.now machine.now acts bookmarks.now (line_answer_text result) }
 {
-    match question_in(machine.world(), line) {
+    match question_in(bookmarks, machine.world(), line) {
         Some(question) => answer(alloc, machine, acts, question),
         None => unasked_answer(line),
     }

@@ -23,10 +23,10 @@ dump_in_memory k ids = record {
     plan = k.plan;
     ids = ids;
     objects = k.found.objects.keys;
-    made = k.made.items;
-    statics = k.statics.keys;
+    made = k.objects.made.items;
+    statics = k.objects.statics.keys;
   };
-  subs = map sub_record k.subs.items;
+  subs = map sub_record k.objects.subs.items;
 }
 
 -- two dumps, whose identifiers have these sizes
@@ -34,8 +34,8 @@ abbrev pub pair_in_memory : KnownPair → IdSize → IdSize → PairTold
 pair_in_memory k before after = record {
   first = dump_in_memory k.first before;
   second = dump_in_memory k.second after;
-  classes = k.joined.numbers.items;
-  found = k.ways.found.keys;
+  classes = k.both.joined.numbers.items;
+  found = k.both.ways.found.keys;
 }
 
 -- this is found in what a walk over a dump comes to, this is the plan of its classes, and these are its objects
@@ -55,7 +55,7 @@ pub record IsKnownPair (elements : ℕ) (v w : Left) (k : KnownPair) : Type 0 wh
   pub first : IsKnown elements v k.first
   pub second : IsKnown elements w k.second
   pub ways : AreWays (dump_in_memory k.first v.ids)
-      (root_ways (dump_in_memory k.first v.ids).all k.first.found.roots.items 0 root_tags) k.ways.ways.items
-  pub found : k.ways.found.keys ≡ numbers_of k.ways.ways.items
-  pub joined : AreJoined k.first.plan.classes k.joined
+      (root_ways (dump_in_memory k.first v.ids).all k.first.found.roots.items 0 root_tags) k.both.ways.ways.items
+  pub found : k.both.ways.found.keys ≡ numbers_of k.both.ways.ways.items
+  pub joined : AreJoined k.first.plan.classes k.both.joined
       (joined widest_classes k.first.plan.classes (take k.second.plan.roots k.second.plan.classes))

@@ -6,8 +6,10 @@ ghost use Rattle.hprof_session.specs.Walks.{ItemTold, left};
 ghost use Rattle.hprof_lines.specs.Outputs.{Writes};
 ghost use Rattle.hprof_lines.specs.Passes.{IsWhole};
 ghost use Rattle.hprof_lines.specs.Sessions.{root_tags, session_text};
+ghost use Rattle.hprof_convert.specs.Conversions.{elements_with};
 ghost use Rattle.hprof_pair.specs.Conversions.{ArePairConverted, IsPairPut, IsSecondConverted};
 ghost use Rattle.hprof_pair.specs.Events.{second_events};
+ghost use Rattle.hprof_pair.specs.KnownPairs.{IsKnownPair};
 ghost use Rattle.hprof_pair.specs.Pairs.{pair_told};
 ghost use Rattle.hprof_pair.specs.Sessions.{collect_line, kept_line};
 
@@ -123,13 +125,30 @@ fn convert_walks<O: Outlet>(
     ensures { IsPairPut area (left before.entry) (left after.entry) (O.seen outlet.old)
         (O.seen outlet.new) result }
 {
-    let elements = elements_with(area);
-    let known = know_pair(alloc, elements, before, after)?;
-    let pair = known.pair(before.ids, after.ids);
-    if !write_pair(alloc, outlet, before, &known, &pair)? {
+    let known = know_pair(alloc, elements_with(area), before, after)?;
+    put_known(alloc, outlet, area, (before, after), sizes, &known)
+}
+
+// Puts out the session of two dumps of which this is known, and counts what is left out. The dumps have these sizes.
+fn put_known<O: Outlet>(
+    alloc: Global,
+    outlet: &mut O,
+    area: bool,
+    walks: (Walk<'_>, Walk<'_>),
+    sizes: (u64, u64),
+    known: &KnownPair<'_, '_>,
+) -> Result<BothConverted, PairFailure>
+    requires { IsKnownPair (elements_with area) (left walks.0) (left walks.1) known.now }
+    ensures { IsPairPut area (left walks.entry.0) (left walks.entry.1) (O.seen outlet.old)
+        (O.seen outlet.new) result }
+{
+    // Only the contract uses it.
+    let _area = area;
+    let pair = known.pair(walks.0.ids, walks.1.ids);
+    if !write_pair(alloc, outlet, walks.0, known, &pair)? {
         return Err(PairFailure::Write);
     }
-    Ok(count_both(alloc, (before, after), sizes, &known, &pair)?)
+    Ok(count_both(alloc, walks, sizes, known, &pair)?)
 }
 
 // Puts out the session of two dumps. Tells whether all of it is out. Fails if an allocation fails.
@@ -152,8 +171,8 @@ fn write_pair<O: Outlet>(
         → Writes (O.seen outlet.old) (O.seen outlet.new)
         (session_text known.now.first.plan walk.entry.ids known.now.first.found.objects.keys items
         known.now.first.found.roots.items
-        ++ (kept_line ++ (known.now.joined.text.items
-        ++ (lines_of (second_events (pair_told pair.now) known.now.ways.ways.items
+        ++ (kept_line ++ (known.now.both.joined.text.items
+        ++ (lines_of (second_events (pair_told pair.now) known.now.both.ways.ways.items
         known.now.second.found.roots.items root_tags) ++ collect_line)))) result }
 {
     let (plan, found) = (&known.first.plan, &known.first.found);
@@ -161,8 +180,8 @@ fn write_pair<O: Outlet>(
     if !write_session(alloc, outlet, walk, plan, &found.objects, roots)? {
         return Ok(false);
     }
-    let text = known.joined.text.as_slice();
-    let ways = known.ways.ways.as_slice();
+    let text = known.both.joined.text.as_slice();
+    let ways = known.both.ways.ways.as_slice();
     let roots = known.second.found.roots.as_slice();
     write_second(alloc, outlet, pair, text, ways, roots)
 }

@@ -40,6 +40,7 @@ pair_of a b numbers found = record { first = a; second = b; classes = numbers; f
 -- the session of two dumps of which this is known
 pub known_makes_a_session : (elements : ℕ) (v w : Left) (k : KnownPair) (is : IsKnownPair elements v w k) (p : PairTold) → p ≡ pair_in_memory k v.ids w.ids
     → IsPairSession elements v w (text_of k v.ids is.first.finds.list p k.both.joined.text.items)
+unfolding known_of
 known_makes_a_session elements v w k is p told = record {
   first = a;
   second = b;

@@ -10,7 +10,7 @@ ghost use Rattle.hprof_lines.specs.Sessions.{root_tags, static_ids};
 ghost use Rattle.hprof_pair.specs.Dumps.{dump_told, subs_from};
 ghost use Rattle.hprof_pair.specs.JoinedClasses.{joined};
 ghost use Rattle.hprof_pair.specs.JoinedSoFar.{AreJoined};
-ghost use Rattle.hprof_pair.specs.KnownPairs.{IsKnown, IsKnownPair, dump_in_memory, pair_in_memory};
+ghost use Rattle.hprof_pair.specs.KnownPairs.{IsKnown, dump_in_memory, pair_in_memory};
 ghost use Rattle.hprof_pair.specs.Pairs.{pair_told};
 ghost use Rattle.hprof_pair.specs.Ways.{AreWays, numbers_of, root_ways};
 
@@ -43,11 +43,11 @@ pub(crate) struct KnownObjects<'a> {
 }
 
 /// Two dumps of one program, and what is known of both.
-#[derive(Drop)]
-pub(crate) struct KnownPair<'a, 'b> {
-    pub(crate) first: KnownDump<'a>,
-    pub(crate) second: KnownDump<'b>,
-    pub(crate) both: KnownBoth,
+#[derive(Clone, Copy)]
+pub(crate) struct KnownPair<'s, 'a, 'b> {
+    pub(crate) first: &'s KnownDump<'a>,
+    pub(crate) second: &'s KnownDump<'b>,
+    pub(crate) both: &'s KnownBoth,
 }
 
 /// Ways to the objects of the first of two dumps, and the classes of both.
@@ -76,12 +76,12 @@ impl<'a> KnownDump<'a> {
     }
 }
 
-impl<'a, 'b> KnownPair<'a, 'b> {
+impl<'s, 'a, 'b> KnownPair<'s, 'a, 'b> {
     /// Returns the pair of the dumps, whose identifiers have these sizes.
-    pub(crate) fn pair(&self, before: IdSize, after: IdSize) -> Pair<'_, 'a, 'b>
+    pub(crate) fn pair(&self, before: IdSize, after: IdSize) -> Pair<'s, 'a, 'b>
         ensures told { pair_told result ≡ pair_in_memory self.now before after }
-        ensures first { result.first.all.plan.now ≡ self.now.first.plan }
-        ensures second { result.second.all.plan.now ≡ self.now.second.plan }
+        ensures first { result.first.all.plan.now ≡ self.now.first.now.plan }
+        ensures second { result.second.all.plan.now ≡ self.now.second.now.plan }
     {
         Pair {
             first: self.first.dump(before),
@@ -92,27 +92,12 @@ impl<'a, 'b> KnownPair<'a, 'b> {
     }
 }
 
-/// Walks over two dumps, for arrays of at most this many elements. Fails if an allocation fails.
-pub(crate) fn know_pair<'a, 'b>(
+/// Walks over a dump, and plans its classes, for arrays of at most this many elements. Fails if an allocation fails.
+pub(crate) fn know<'a>(
     alloc: Global,
     elements: u64,
-    before: Walk<'a>,
-    after: Walk<'b>,
-) -> Result<KnownPair<'a, 'b>, AllocError>
-    ensures { IfOk result (IsKnownPair elements (left before.entry) (left after.entry)) }
-{
-    let first = know(alloc, elements, before)?;
-    let second = know(alloc, elements, after)?;
-    let both = know_both(alloc, elements, before.ids, &first, &second)?;
-    Ok(KnownPair {
-        first,
-        second,
-        both,
-    })
-}
-
-// Walks over a dump, and plans its classes.
-fn know<'a>(alloc: Global, elements: u64, walk: Walk<'a>) -> Result<KnownDump<'a>, AllocError>
+    walk: Walk<'a>,
+) -> Result<KnownDump<'a>, AllocError>
     ensures { IfOk result (IsKnown elements (left walk.entry)) }
 {
     let found = find(alloc, walk)?;
@@ -153,8 +138,9 @@ fn know_objects<'a>(
     })
 }
 
-// Finds ways to the objects of the first of two dumps, and joins their classes. The identifiers of the first have this size.
-fn know_both(
+/// Finds ways to the objects of the first of two dumps, and joins their classes. The identifiers of the first have this size. Fails
+/// if an allocation fails.
+pub(crate) fn know_both(
     alloc: Global,
     elements: u64,
     ids: IdSize,

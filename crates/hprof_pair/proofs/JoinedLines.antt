@@ -1,5 +1,5 @@
 -- Classes of a second dump that are joined to those of a first, one after another.
-use Rattle.std.proofs.Common.{◌≡◌, ◌≢◌, ◌⊎◌, inl, inr, ℕ, zero, suc, ◌+◌, ◌-◌, ◌<◌, ◌≤◌, Bool, true, false, not, cond, ◌||◌, ◌&&◌, List, [], ◌∷◌, ◌++◌, length, take, drop, map, get_or, Option, Some, None, Result, Ok, Err, refl, sym, ap, subst, ◌∙◌, append_assoc, lt-ltb, le-ltb, arith}
+use Rattle.std.proofs.Common.{◌≡◌, ◌≢◌, ◌⊎◌, inl, inr, ℕ, zero, suc, ◌+◌, ◌-◌, ◌<◌, ◌≤◌, Bool, true, false, not, cond, ◌||◌, ◌&&◌, List, [], ◌∷◌, ◌++◌, length, take, drop, map, get_or, Option, Some, None, Ok, Err, refl, sym, ap, subst, ◌∙◌, lt-ltb, le-ltb, arith}
 use Rattle.std.specs.Prelude.{flat_map, fold, is_none, nat_lt, option_map, position, slice_get, IfSome}
 use Rattle.std.specs.List.{list_any, position_or_len}
 use Rattle.std.specs.Option.{option_map_or}
@@ -8,7 +8,7 @@ use Rattle.std.proofs.lemmas.Grind.{flat_map-append}
 use Rattle.std.proofs.lemmas.List.{append-nil, drop_all, length-append, map-append, take_all, take_more}
 use Rattle.std.proofs.lemmas.List.Folds.{list_any-append}
 use Rattle.std.proofs.lemmas.List.Sums.{fold-append, position_or_len_is}
-use Rattle.std.proofs.lemmas.Option.{slice_get-get_or, slice_get_within, get_or_from_slice_get}
+use Rattle.std.proofs.lemmas.Option.{slice_get-get_or, slice_get_within}
 use Rattle.heap_class.specs.declared.ClassLimits.{ClassLimits}
 use Rattle.heap_class.specs.declared.Field.{Field}
 use Rattle.heap_class.specs.declared.Kind.{Kind}
@@ -17,11 +17,10 @@ use Rattle.heap_class.specs.declared.Refusal.TheVariants.{NoMemory}
 use Rattle.heap_class.specs.Classes.{Class, IsClassTable, IsDefined, array_class, class_refusal, fields_of, instance_class, is_array_class, name_id, name_of, name_table, names_in, sup_of}
 use Rattle.heap_class.specs.Refusals.{IsAnswered}
 use Rattle.heap_class.proofs.FirstUses.{bytes_flip, bytes_self}
-use Rattle.heap_step.specs.declared.Event.{Event}
 use Rattle.heap_step.specs.declared.Event.TheVariants as events
 use Rattle.hprof_plan.specs.Accepted.{class_event, class_lines, class_names, next_name}
 use Rattle.hprof_plan.specs.Names.{given_name, is_clean, other_name}
-use Rattle.hprof_pair.specs.JoinedClasses.{Joined, and_class, and_defined, and_found, and_number, class_line, class_over, joined, number_of_line, over, renamed, super_over}
+use Rattle.hprof_pair.specs.JoinedClasses.{Joined, and_class, and_defined, and_found, and_number, class_line, joined, number_of_line, over, renamed, super_over}
 use Rattle.hprof_pair.specs.JoinedSoFar.{AreJoined, IsDefinedAs}
 use Rattle.hprof_pair.specs.declared.joined_classes.JoinedClasses.{JoinedClasses}
 use Rattle.hprof_pair.proofs.NameIds.{name_by_id}

@@ -1,5 +1,5 @@
 -- The objects of a dump, by their numbers: first those of static fields, then those of the dump in its order.
-use Rattle.std.specs.Prelude.{ℕ, ◌+◌, ◌-◌, Bool, true, false, nat_lt, List, [], ◌∷◌, ◌++◌, length, map, slice_get, slice_index_or, Option, Some, None, option_and_then, if◌then◌else◌}
+use Rattle.std.specs.Prelude.{ℕ, ◌+◌, ◌-◌, Bool, false, nat_lt, List, [], ◌∷◌, ◌++◌, length, map, slice_get, slice_index_or, Option, Some, None, option_and_then, if◌then◌else◌}
 use Rattle.std.specs.Option.{option_map_or}
 use Rattle.hprof_reader.specs.declared.fields.StaticField.{StaticField}
 use Rattle.hprof_reader.specs.SubRecords.{Sub, sub_record}

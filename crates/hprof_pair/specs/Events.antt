@@ -1,5 +1,5 @@
 -- The events that make the heap of the second dump out of that of the first.
-use Rattle.std.specs.Prelude.{ℕ, zero, suc, ◌+◌, ◌==◌, ◌^◌, List, [], ◌∷◌, ◌++◌, flat_map, length, min, Option, Some, None, option_and_then, nat_lt, if◌then◌else◌}
+use Rattle.std.specs.Prelude.{ℕ, zero, suc, ◌+◌, ◌==◌, ◌^◌, List, [], ◌∷◌, ◌++◌, flat_map, length, min, nat_lt, if◌then◌else◌}
 use Rattle.std.specs.Option.{option_map_or, option_to_list}
 use Rattle.heap_step.specs.declared.Event.{Event}
 use Rattle.heap_step.specs.declared.Event.TheVariants.{NewArray}

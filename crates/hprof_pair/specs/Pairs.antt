@@ -1,5 +1,5 @@
 -- The numbers of a second dump's objects in a heap that has those of a first.
-use Rattle.std.specs.Prelude.{ℕ, ◌+◌, ◌-◌, ◌^◌, ◌&&◌, Bool, false, nat_eq, nat_lt, List, [], length, position, Option, Some, None, option_map, option_and_then, if◌then◌else◌}
+use Rattle.std.specs.Prelude.{ℕ, ◌+◌, ◌-◌, ◌^◌, ◌&&◌, Bool, false, nat_eq, nat_lt, List, length, position, Option, Some, None, option_map, option_and_then, if◌then◌else◌}
 use Rattle.std.specs.List.{list_any}
 use Rattle.std.specs.Option.{option_map_or}
 use Rattle.hprof_lines.specs.declared.values.SlotValue.{SlotValue}

@@ -1,5 +1,5 @@
 -- The session of two dumps of one program.
-use Rattle.std.specs.Prelude.{◌≡◌, ℕ, List, [], ◌∷◌, ◌++◌, codes, drop, flat_map, length, take, Option}
+use Rattle.std.specs.Prelude.{◌≡◌, ℕ, List, ◌++◌, codes, drop, length, take, Option}
 use Rattle.heap_class.specs.Limits.{widest_classes}
 use Rattle.hprof_session.specs.Places.{lines_of}
 use Rattle.hprof_session.specs.Walks.{ItemTold, Left}

@@ -1,6 +1,5 @@
 -- Classes and sizes of objects.
-use Rattle.std.specs.Prelude.{ℕ, ◌==◌, ◌&&◌, Bool, true, false, slice_index_or, Option, Some, None, List, option_map}
-use Rattle.heap_class.specs.declared.Kind.{Kind}
+use Rattle.std.specs.Prelude.{ℕ, ◌==◌, ◌&&◌, Bool, false, slice_index_or, Option, Some, None, List, option_map}
 use Rattle.heap_class.specs.Kinds.{type_code}
 use Rattle.heap_step.specs.declared.Event.{Event}
 use Rattle.heap_step.specs.declared.Event.TheVariants as events

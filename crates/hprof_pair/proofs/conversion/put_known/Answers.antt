@@ -1,4 +1,4 @@
-use Rattle.std.proofs.Common.{inl, inr, refl}
+use Rattle.std.proofs.Common.{inr}
 use Rattle.std.proofs.lemmas.Result.{err_from_is_err_and}
 use Rattle.hprof_convert.proofs.Endings.{all_is_a_part, found_whole}
 use Rattle.hprof_pair.proofs.PairSessions.{known_makes_a_session}

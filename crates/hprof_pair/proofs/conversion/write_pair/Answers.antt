@@ -1,4 +1,3 @@
-use Rattle.std.proofs.Common.{Ok, Err, false}
 use Rattle.std.proofs.lemmas.Result.{err_from_is_err_and}
 use Rattle.hprof_lines.proofs.Puttings.{cut_more, writes_then}
 use Rattle.hprof_pair.proofs.conversion.write_pair.Goals as goal

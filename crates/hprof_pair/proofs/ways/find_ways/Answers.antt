@@ -1,6 +1,6 @@
 use Rattle.std.proofs.Common.{arith}
 use Rattle.hprof_pair.specs.Dumps.{dump_told}
-use Rattle.hprof_pair.proofs.FoundWays.{search_begins, search_ends, search_goes_on}
+use Rattle.hprof_pair.proofs.FoundWays.{search_begins, search_goes_on}
 use Rattle.hprof_pair.proofs.ways.find_ways.Goals as goal
 
 pub loop-k-init : goal.loop-k-init

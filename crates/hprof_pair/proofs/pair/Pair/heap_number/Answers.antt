@@ -1,4 +1,4 @@
-use Rattle.std.proofs.Common.{◌≡◌, ℕ, Option, Some, None, sym, ap}
+use Rattle.std.proofs.Common.{◌≡◌, ℕ, Option, Some, None, ap}
 use Rattle.std.specs.Prelude.{option_and_then}
 use Rattle.std.specs.Option.{option_map_or}
 use Rattle.hprof_pair.specs.Pairs.{PairTold, fresh_number, heap_number, is_like, like_number, number_if, pair_told, second_shape, stayed}

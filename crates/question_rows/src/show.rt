@@ -195,7 +195,7 @@ fn push_end(text: &mut Vec<u8>, kind: Kind, word: u64) -> Result<(), AllocError>
 }
 
 // Appends a word of a kind: an id or `null`, or a number. Fails if an allocation fails.
-fn push_value(text: &mut Vec<u8>, kind: Kind, word: u64) -> Result<(), AllocError>
+pub(crate) fn push_value(text: &mut Vec<u8>, kind: Kind, word: u64) -> Result<(), AllocError>
     ensures { Appends (and_value kind word) text.old.items text.new.items result }
 {
     if kind.is_reference() {
@@ -233,7 +233,7 @@ fn push_element(text: &mut Vec<u8>, kind: Kind, index: u64, word: u64) -> Result
 
 // Appends the last line: the class, the number of the slots and a mark. The class must be there. Fails if an allocation fails.
 #[tactic(auto, unfolding(crate::specs::Objects::object_line))]
-fn push_object(
+pub(crate) fn push_object(
     text: &mut Vec<u8>,
     classes: &FirstClasses<'_>,
     object: &ShownObject<'_>,

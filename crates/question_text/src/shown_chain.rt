@@ -1,0 +1,144 @@
+//! The answer of `show` along fields.
+ghost use Rattle.std.specs.Prelude.{◌≡◌, ◌⊎◌, length, Err};
+ghost use Rattle.heap_class.specs.declared.Refusal.TheVariants.{NoMemory};
+ghost use Rattle.heap_pins.specs.Pin.{pin_image};
+ghost use Rattle.hprof_text.specs.Image.{IsDumpable, IsKnown};
+ghost use Rattle.question_words.specs.declared.rows.Unanswered.{Unanswered};
+ghost use Rattle.question_words.specs.Moments.{IsToldOf, told_text};
+ghost use Rattle.question_text.specs.ShownChains.{IsChainAnswer, IsExtentText, end_of, reference_at, reference_behind, reference_by, slot_of_kind};
+
+use heap_class::{FirstClasses, ObjKind, Refusal};
+use heap_pins::PinView;
+use heap_questions::{ObjectIndex, slot_kind};
+use heap_trail::Machine;
+use hprof_text::{ShownObject, View};
+use question_grammar::{Chain, Extent, Parts, slot_of};
+use question_rows::{show_answer, shows_mark, tree_answer};
+use question_words::{Unanswered, moment_at, view_of};
+use session_grammar::number::number_of;
+use std::alloc::Global;
+
+// Returns the lines of `show` along fields, or the reason why there are none.
+pub(crate) fn chain_lines(
+    alloc: Global,
+    machine: &Machine,
+    chain: Chain<'_>,
+) -> Result<Vec<u8>, Unanswered>
+    ensures { IsChainAnswer chain.entry machine.now (told_text result) }
+{
+    let moment = moment_at(machine, chain.at)?;
+    let view = view_of(machine, &moment)?;
+    let id = end_of(alloc, &view, chain.id, chain.fields)?;
+    let marked = shows_mark(machine, chain.at, id);
+    extent_lines(alloc, &view, id, chain.extent, marked)
+}
+
+// Returns the lines about an object of a view.
+fn extent_lines(
+    alloc: Global,
+    view: &PinView<'_>,
+    id: u64,
+    extent: Extent,
+    marked: bool,
+) -> Result<Vec<u8>, Unanswered>
+    ensures { IsToldOf (IsExtentText extent id marked) (pin_image view.now.pin view.now.state)
+        (told_text result) }
+{
+    match extent {
+        Extent::Slots(slots) => show_answer(alloc, view, id, slots, marked),
+        Extent::Levels(levels) => tree_answer(alloc, view, id, levels, marked),
+    }
+}
+
+// Returns the reference to which fields lead from an object of a view.
+fn end_of<V: View>(alloc: Global, view: &V, id: u64, fields: Parts<'_>) -> Result<u64, Unanswered>
+    ensures { (result ≡ end_of (V.image view.now) fields.entry id)
+        ⊎ (result ≡ Err (Unanswered.Refused NoMemory)) }
+{
+    let classes = view.classes();
+    let index = ObjectIndex::new(alloc, view)?;
+    end_along(&index, &classes, id, fields)
+}
+
+// Returns the reference to which fields lead from an object.
+fn end_along<V: View>(
+    index: &ObjectIndex<'_, V>,
+    classes: &FirstClasses<'_>,
+    id: u64,
+    mut fields: Parts<'_>,
+) -> Result<u64, Unanswered>
+    requires limits { IsDumpable index.now }
+    requires classes { classes.now ≡ index.now.classes }
+    ensures { result ≡ end_of index.now fields.entry id }
+{
+    let mut here = id;
+    while let Some(word) = fields.next_part() {
+        here = reference_behind(index, classes, here, word)?;
+    }
+    Ok(here)
+}
+
+// Returns what a field of the object with this id holds, which a word names.
+fn reference_behind<V: View>(
+    index: &ObjectIndex<'_, V>,
+    classes: &FirstClasses<'_>,
+    id: u64,
+    word: &[u8],
+) -> Result<u64, Unanswered>
+    requires limits { IsDumpable index.now }
+    requires classes { classes.now ≡ index.now.classes }
+    ensures { result ≡ reference_behind index.now id word.now }
+{
+    match index.object_with(id) {
+        Some(object) => reference_by(classes, &object, word),
+        None => Err(Unanswered::NoObject),
+    }
+}
+
+// Returns what a field of an object holds, which a word names. Fails with BadSlot if the object has no such field, and with
+// WrongKind if it holds a value.
+fn reference_by(
+    classes: &FirstClasses<'_>,
+    object: &ShownObject<'_>,
+    word: &[u8],
+) -> Result<u64, Unanswered>
+    requires { IsKnown classes.now object.now.kind (length object.now.words) }
+    ensures { result ≡ reference_by classes.now object.now word.now }
+{
+    match slot_of_kind(classes, object.kind(), word) {
+        Some(slot) => reference_at(classes, object, slot),
+        None => Err(Unanswered::Refused(Refusal::BadSlot)),
+    }
+}
+
+// Returns the slot of an object of this kind that a word names, by its number or by the name of a field.
+#[tactic(auto, unfolding(crate::specs::ShownChains::slot_of_kind))]
+fn slot_of_kind(classes: &FirstClasses<'_>, kind: ObjKind, word: &[u8]) -> Option<u64>
+    ensures { result ≡ slot_of_kind classes.now kind word.now }
+{
+    match kind {
+        ObjKind::Instance(class) => slot_of(classes, class, word),
+        _ => number_of(word),
+    }
+}
+
+// Returns what a slot of an object holds, if that is a reference.
+#[tactic(auto, unfolding(crate::specs::ShownChains::reference_at))]
+fn reference_at(
+    classes: &FirstClasses<'_>,
+    object: &ShownObject<'_>,
+    slot: u64,
+) -> Result<u64, Unanswered>
+    requires { IsKnown classes.now object.now.kind (length object.now.words) }
+    ensures { result ≡ reference_at classes.now object.now slot }
+{
+    let words = object.words();
+    if slot >= words.len() as u64 {
+        return Err(Unanswered::Refused(Refusal::BadSlot));
+    }
+    if slot_kind(classes, object.kind(), words.len() as u64, slot).is_reference() {
+        Ok(words[slot as usize])
+    } else {
+        Err(Unanswered::Refused(Refusal::WrongKind))
+    }
+}

@@ -112,10 +112,10 @@ fn next_class(classes: &FirstClasses<'_>, words: &mut Words) -> Option<ClassNo>
 fn class_by_name(classes: &FirstClasses<'_>, word: &[u8]) -> Option<ClassNo>
     ensures { result ≡ unless_number word.now (class_named classes.now word.now) }
 {
-    if number_of(word).is_some() {
-        return None;
+    match number_of(word) {
+        Some(_) => None,
+        None => class_named(classes, word),
     }
-    class_named(classes, word)
 }
 
 // Reads the next word as the name of a field of the object in a register. Returns its slot, or None if the object has none with

@@ -9,6 +9,7 @@ pub mod PastTexts
 pub mod SlotRows
 pub mod FieldRows
 pub mod NamedObjects
+pub mod TreeRows
 pub mod LivedRows
 pub mod PinRows
 pub mod UsedRegions

@@ -1,5 +1,5 @@
 //! The answer of `show` with a depth.
-ghost use Rattle.std.specs.Prelude.{◌≡◌, ◌⊎◌, ◌+◌, ◌<◌, ◌^◌, ◌++◌, length, Some, IfErr, IfOk, IfSome, OnOk};
+ghost use Rattle.std.specs.Prelude.{◌≡◌, ◌⊎◌, ◌+◌, ◌<◌, ◌^◌, ◌++◌, length, None, Some, IfErr, IfOk, IfSome, OnOk};
 ghost use Rattle.heap_class.specs.declared.Refusal.TheVariants.{NoMemory, TooLarge};
 ghost use Rattle.hprof_text.specs.Image.{IsDumpable, IsKnown};
 ghost use Rattle.question_words.specs.Appends.{Appends};
@@ -97,13 +97,32 @@ fn push_level<V: View>(
 {
     for slot in 0..object.words().len() {
         push_slot(rows, index, classes, object, level, slot)?;
-        if below > 0
-            && let Some(named) = object_at_slot(index, classes, object, slot)
-        {
-            push_level(rows, index, classes, &named, level + 1, below - 1)?;
-        }
+        let Some(named) = object_below(index, classes, object, slot, below) else {
+            continue;
+        };
+        push_level(rows, index, classes, &named, level + 1, below - 1)?;
     }
     Ok(())
+}
+
+// Returns the object that a slot of an object names, if there are levels below. The object must have the slot.
+fn object_below<'a, V: View>(
+    index: &'a ObjectIndex<'_, V>,
+    classes: &FirstClasses<'_>,
+    object: &ShownObject<'_>,
+    slot: usize,
+    below: u64,
+) -> Option<ShownObject<'a>>
+    requires classes { classes.now ≡ index.now.classes }
+    requires known { IsKnown classes.now object.now.kind (length object.now.words) }
+    requires within { slot < length object.now.words }
+    ensures none { below ≡ 0 → result ≡ None }
+    ensures named { 0 < below → result ≡ object_at_slot index.now object.now slot }
+{
+    if below == 0 {
+        return None;
+    }
+    object_at_slot(index, classes, object, slot)
 }
 
 // Returns the object that a slot of an object names. The object must have the slot.

@@ -66,6 +66,25 @@ fn new_by_name(classes: &FirstClasses<'_>, mut words: Words) -> Option<Event>
     at_end(Event::New { m, r, class }, words)
 }
 
+// Reads the next word as the name of a class. Returns None if it is none.
+fn next_class(classes: &FirstClasses<'_>, words: &mut Words) -> Option<ClassNo>
+    ensures { IsNextWord (next_class classes.now (words_of_line words.old))
+        (words_of_line words.new) result }
+{
+    let word = words.next_word()?;
+    class_by_name(classes, word)
+}
+
+// Returns the class with this name. A number names none.
+fn class_by_name(classes: &FirstClasses<'_>, word: &[u8]) -> Option<ClassNo>
+    ensures { result ≡ unless_number word.now (class_named classes.now word.now) }
+{
+    match number_of(word) {
+        Some(_) => None,
+        None => class_named(classes, word),
+    }
+}
+
 // Reads the words of `newarray M R NAME LEN`.
 fn array_by_name(classes: &FirstClasses<'_>, mut words: Words) -> Option<Event>
     ensures { result ≡ array_by_name classes.now (words_of_line words.entry) }
@@ -86,36 +105,6 @@ fn load_by_name(world: &World, mut words: Words) -> Option<Event>
     let from = next_number(&mut words)?;
     let slot = next_slot(world, m, from, &mut words)?;
     at_end(Event::Load { m, to, from, slot }, words)
-}
-
-// Reads the words of `store M TARGET NAME SOURCE` or `put M TARGET NAME VALUE`.
-fn write_by_name(world: &World, mut words: Words) -> Option<(u64, u64, u64, u64)>
-    ensures { result ≡ write_by_name world.now (words_of_line words.entry) }
-{
-    let m = next_number(&mut words)?;
-    let target = next_number(&mut words)?;
-    let slot = next_slot(world, m, target, &mut words)?;
-    let written = next_number(&mut words)?;
-    at_end((m, target, slot, written), words)
-}
-
-// Reads the next word as the name of a class. Returns None if it is none.
-fn next_class(classes: &FirstClasses<'_>, words: &mut Words) -> Option<ClassNo>
-    ensures { IsNextWord (next_class classes.now (words_of_line words.old))
-        (words_of_line words.new) result }
-{
-    let word = words.next_word()?;
-    class_by_name(classes, word)
-}
-
-// Returns the class with this name. A number names none.
-fn class_by_name(classes: &FirstClasses<'_>, word: &[u8]) -> Option<ClassNo>
-    ensures { result ≡ unless_number word.now (class_named classes.now word.now) }
-{
-    match number_of(word) {
-        Some(_) => None,
-        None => class_named(classes, word),
-    }
 }
 
 // Reads the next word as the name of a field of the object in a register. Returns its slot, or None if the object has none with
@@ -149,4 +138,15 @@ fn word_in(world: &World, m: u64, r: u64) -> Option<u64>
         return None;
     }
     registers.get((REGISTERS_EACH * m + r) as usize).copied()
+}
+
+// Reads the words of `store M TARGET NAME SOURCE` or `put M TARGET NAME VALUE`.
+fn write_by_name(world: &World, mut words: Words) -> Option<(u64, u64, u64, u64)>
+    ensures { result ≡ write_by_name world.now (words_of_line words.entry) }
+{
+    let m = next_number(&mut words)?;
+    let target = next_number(&mut words)?;
+    let slot = next_slot(world, m, target, &mut words)?;
+    let written = next_number(&mut words)?;
+    at_end((m, target, slot, written), words)
 }

@@ -10,6 +10,7 @@ pub mod SlotRows
 pub mod FieldRows
 pub mod NamedObjects
 pub mod TreeRows
+pub mod SlotNames
 pub mod LivedRows
 pub mod PinRows
 pub mod UsedRegions

@@ -49,9 +49,9 @@ slot_is_no_number state m q (w ∷ ws) r e = read_no_number w ws (slot_in_regist
 -- ---- what follows
 
 -- what goes on from the same words reads nothing, if what goes on from there doesn't
-behind : {A B C : Type 0} (o : Option C) (f : C → Option A) (g : C → Option B) (x : A) → ((c : C) → f c ≡ Some x → g c ≡ None) → option_and_then f o ≡ Some x → option_and_then g o ≡ None
-behind None f g x h e = refl
-behind (Some c) f g x h e = h c e
+nothing_behind : {A B C : Type 0} (o : Option C) (f : C → Option A) (g : C → Option B) (x : A) → ((c : C) → f c ≡ Some x → g c ≡ None) → option_and_then f o ≡ Some x → option_and_then g o ≡ None
+nothing_behind None f g x h e = refl
+nothing_behind (Some c) f g x h e = h c e
 
 -- what would go on from a number reads nothing, if there is a name instead
 instead : {A B C D : Type 0} (o : Option C) (p : Option D) (f : C → Option A) (g : D → Option B) (x : A) → ((c : C) → o ≡ Some c → p ≡ None) → option_and_then f o ≡ Some x → option_and_then g p ≡ None
@@ -66,10 +66,10 @@ mapped f (Some x) y e = (x, refl)
 
 new_by_name_alone : (classes : List Class) (ws : List (List ℕ)) (e : Event) → new_by_name classes ws ≡ Some e → three_numbers ws ≡ None
 new_by_name_alone classes ws e is =
-    behind (next_number ws) (λ (m : Read). option_and_then (λ (r : Read). option_and_then (λ (k : Read). at_end (New m.0 r.0 k.0) k.1) (next_class classes r.1)) (next_number m.1))
+    nothing_behind (next_number ws) (λ (m : Read). option_and_then (λ (r : Read). option_and_then (λ (k : Read). at_end (New m.0 r.0 k.0) k.1) (next_class classes r.1)) (next_number m.1))
     (λ (a : Read). option_and_then (λ (b : Read). option_and_then (λ (c : Read). at_end (a.0, b.0, c.0) c.1) (next_number b.1)) (next_number a.1)) e
     (λ m is.
-    behind (next_number m.1) (λ (r : Read). option_and_then (λ (k : Read). at_end (New m.0 r.0 k.0) k.1) (next_class classes r.1))
+    nothing_behind (next_number m.1) (λ (r : Read). option_and_then (λ (k : Read). at_end (New m.0 r.0 k.0) k.1) (next_class classes r.1))
     (λ (b : Read). option_and_then (λ (c : Read). at_end (m.0, b.0, c.0) c.1) (next_number b.1)) e
     (λ r is.
     instead (next_class classes r.1) (next_number r.1) (λ (k : Read). at_end (New m.0 r.0 k.0) k.1) (λ (c : Read). at_end (m.0, r.0, c.0) c.1) e
@@ -77,11 +77,11 @@ new_by_name_alone classes ws e is =
 
 array_by_name_alone : (classes : List Class) (ws : List (List ℕ)) (e : Event) → array_by_name classes ws ≡ Some e → four_numbers ws ≡ None
 array_by_name_alone classes ws e is =
-    behind (next_number ws)
+    nothing_behind (next_number ws)
     (λ (m : Read). option_and_then (λ (r : Read). option_and_then (λ (k : Read). option_and_then (λ (n : Read). at_end (NewArray m.0 r.0 k.0 n.0) n.1) (next_number k.1)) (next_class classes r.1)) (next_number m.1))
     (λ (a : Read). option_and_then (λ (b : Read). option_and_then (λ (c : Read). option_and_then (λ (d : Read). at_end (a.0, b.0, c.0, d.0) d.1) (next_number c.1)) (next_number b.1)) (next_number a.1)) e
     (λ m is.
-    behind (next_number m.1) (λ (r : Read). option_and_then (λ (k : Read). option_and_then (λ (n : Read). at_end (NewArray m.0 r.0 k.0 n.0) n.1) (next_number k.1)) (next_class classes r.1))
+    nothing_behind (next_number m.1) (λ (r : Read). option_and_then (λ (k : Read). option_and_then (λ (n : Read). at_end (NewArray m.0 r.0 k.0 n.0) n.1) (next_number k.1)) (next_class classes r.1))
     (λ (b : Read). option_and_then (λ (c : Read). option_and_then (λ (d : Read). at_end (m.0, b.0, c.0, d.0) d.1) (next_number c.1)) (next_number b.1)) e
     (λ r is.
     instead (next_class classes r.1) (next_number r.1) (λ (k : Read). option_and_then (λ (n : Read). at_end (NewArray m.0 r.0 k.0 n.0) n.1) (next_number k.1))
@@ -89,14 +89,14 @@ array_by_name_alone classes ws e is =
 
 load_by_name_alone : (state : HeapState) (ws : List (List ℕ)) (e : Event) → load_by_name state ws ≡ Some e → four_numbers ws ≡ None
 load_by_name_alone state ws e is =
-    behind (next_number ws)
+    nothing_behind (next_number ws)
     (λ (m : Read). option_and_then (λ (to : Read). option_and_then (λ (r : Read). option_and_then (λ (s : Read). at_end (Load m.0 to.0 r.0 s.0) s.1) (next_slot state m.0 r.0 r.1)) (next_number to.1)) (next_number m.1))
     (λ (a : Read). option_and_then (λ (b : Read). option_and_then (λ (c : Read). option_and_then (λ (d : Read). at_end (a.0, b.0, c.0, d.0) d.1) (next_number c.1)) (next_number b.1)) (next_number a.1)) e
     (λ m is.
-    behind (next_number m.1) (λ (to : Read). option_and_then (λ (r : Read). option_and_then (λ (s : Read). at_end (Load m.0 to.0 r.0 s.0) s.1) (next_slot state m.0 r.0 r.1)) (next_number to.1))
+    nothing_behind (next_number m.1) (λ (to : Read). option_and_then (λ (r : Read). option_and_then (λ (s : Read). at_end (Load m.0 to.0 r.0 s.0) s.1) (next_slot state m.0 r.0 r.1)) (next_number to.1))
     (λ (b : Read). option_and_then (λ (c : Read). option_and_then (λ (d : Read). at_end (m.0, b.0, c.0, d.0) d.1) (next_number c.1)) (next_number b.1)) e
     (λ to is.
-    behind (next_number to.1) (λ (r : Read). option_and_then (λ (s : Read). at_end (Load m.0 to.0 r.0 s.0) s.1) (next_slot state m.0 r.0 r.1))
+    nothing_behind (next_number to.1) (λ (r : Read). option_and_then (λ (s : Read). at_end (Load m.0 to.0 r.0 s.0) s.1) (next_slot state m.0 r.0 r.1))
     (λ (c : Read). option_and_then (λ (d : Read). at_end (m.0, to.0, c.0, d.0) d.1) (next_number c.1)) e
     (λ r is.
     instead (next_slot state m.0 r.0 r.1) (next_number r.1) (λ (s : Read). at_end (Load m.0 to.0 r.0 s.0) s.1) (λ (d : Read). at_end (m.0, to.0, r.0, d.0) d.1) e
@@ -104,11 +104,11 @@ load_by_name_alone state ws e is =
 
 write_by_name_alone : (state : HeapState) (ws : List (List ℕ)) (x : ℕ × ℕ × ℕ × ℕ) → write_by_name state ws ≡ Some x → four_numbers ws ≡ None
 write_by_name_alone state ws x is =
-    behind (next_number ws)
+    nothing_behind (next_number ws)
     (λ (m : Read). option_and_then (λ (r : Read). option_and_then (λ (s : Read). option_and_then (λ (n : Read). at_end (m.0, r.0, s.0, n.0) n.1) (next_number s.1)) (next_slot state m.0 r.0 r.1)) (next_number m.1))
     (λ (a : Read). option_and_then (λ (b : Read). option_and_then (λ (c : Read). option_and_then (λ (d : Read). at_end (a.0, b.0, c.0, d.0) d.1) (next_number c.1)) (next_number b.1)) (next_number a.1)) x
     (λ m is.
-    behind (next_number m.1) (λ (r : Read). option_and_then (λ (s : Read). option_and_then (λ (n : Read). at_end (m.0, r.0, s.0, n.0) n.1) (next_number s.1)) (next_slot state m.0 r.0 r.1))
+    nothing_behind (next_number m.1) (λ (r : Read). option_and_then (λ (s : Read). option_and_then (λ (n : Read). at_end (m.0, r.0, s.0, n.0) n.1) (next_number s.1)) (next_slot state m.0 r.0 r.1))
     (λ (b : Read). option_and_then (λ (c : Read). option_and_then (λ (d : Read). at_end (m.0, b.0, c.0, d.0) d.1) (next_number c.1)) (next_number b.1)) x
     (λ r is.
     instead (next_slot state m.0 r.0 r.1) (next_number r.1) (λ (s : Read). option_and_then (λ (n : Read). at_end (m.0, r.0, s.0, n.0) n.1) (next_number s.1))

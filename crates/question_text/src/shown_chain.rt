@@ -4,8 +4,9 @@ ghost use Rattle.heap_class.specs.declared.Refusal.TheVariants.{NoMemory};
 ghost use Rattle.heap_pins.specs.Pin.{pin_image};
 ghost use Rattle.hprof_text.specs.Image.{IsDumpable, IsKnown};
 ghost use Rattle.question_words.specs.declared.rows.Unanswered.{Unanswered};
-ghost use Rattle.question_words.specs.Moments.{IsToldOf, told_text};
-ghost use Rattle.question_text.specs.ShownChains.{IsChainAnswer, IsExtentText, end_of, reference_at, reference_behind, reference_by, slot_of_kind};
+ghost use Rattle.question_words.specs.Moments.{IsAnswerAbout, IsToldOf, image_at, told_text};
+ghost use Rattle.question_rows.specs.Objects.{shows_mark};
+ghost use Rattle.question_text.specs.ShownChains.{IsChainText, IsExtentText, end_of, reference_at, reference_behind, reference_by, slot_of_kind};
 
 use heap_class::{FirstClasses, ObjKind, Refusal};
 use heap_pins::PinView;
@@ -24,30 +25,32 @@ pub(crate) fn chain_lines(
     machine: &Machine,
     chain: Chain<'_>,
 ) -> Result<Vec<u8>, Unanswered>
-    ensures { IsChainAnswer chain.entry machine.now (told_text result) }
+    ensures { IsAnswerAbout
+        (IsChainText chain.entry (λ x. shows_mark chain.entry.at machine.now x))
+        (image_at chain.entry.at machine.now) (told_text result) }
 {
     let moment = moment_at(machine, chain.at)?;
-    let view = view_of(machine, &moment)?;
-    let id = end_of(alloc, &view, chain.id, chain.fields)?;
-    let marked = shows_mark(machine, chain.at, id);
-    extent_lines(alloc, &view, id, chain.extent, marked)
+    view_lines(alloc, machine, &view_of(machine, &moment)?, chain)
 }
 
-// Returns the lines about an object of a view.
-fn extent_lines(
+// Returns the lines about the state that a view of the machine shows.
+fn view_lines(
     alloc: Global,
+    machine: &Machine,
     view: &PinView<'_>,
-    id: u64,
-    extent: Extent,
-    marked: bool,
+    chain: Chain<'_>,
 ) -> Result<Vec<u8>, Unanswered>
-    ensures { IsToldOf (IsExtentText extent id marked) (pin_image view.now.pin view.now.state)
-        (told_text result) }
+    ensures { IsToldOf (IsChainText chain.entry (λ x. shows_mark chain.entry.at machine.now x))
+        (pin_image view.now.pin view.now.state) (told_text result) }
 {
-    match extent {
-        Extent::Slots(slots) => show_answer(alloc, view, id, slots, marked),
-        Extent::Levels(levels) => tree_answer(alloc, view, id, levels, marked),
-    }
+    let Chain {
+        at,
+        id,
+        fields,
+        extent,
+    } = chain;
+    let id = end_of(alloc, view, id, fields)?;
+    extent_lines(alloc, view, id, extent, shows_mark(machine, at, id))
 }
 
 // Returns the reference to which fields lead from an object of a view.
@@ -140,5 +143,22 @@ fn reference_at(
         Ok(words[slot as usize])
     } else {
         Err(Unanswered::Refused(Refusal::WrongKind))
+    }
+}
+
+// Returns the lines about an object of a view.
+fn extent_lines(
+    alloc: Global,
+    view: &PinView<'_>,
+    id: u64,
+    extent: Extent,
+    marked: bool,
+) -> Result<Vec<u8>, Unanswered>
+    ensures { IsToldOf (IsExtentText extent id marked) (pin_image view.now.pin view.now.state)
+        (told_text result) }
+{
+    match extent {
+        Extent::Slots(slots) => show_answer(alloc, view, id, slots, marked),
+        Extent::Levels(levels) => tree_answer(alloc, view, id, levels, marked),
     }
 }

@@ -8,7 +8,7 @@ use Rattle.std.proofs.lemmas.List.Sums.{fails_before_first}
 use Rattle.std.proofs.lemmas.Option.{slice_get_past}
 use Rattle.heap_world.specs.State.{register_index}
 use Rattle.session_grammar.proofs.TextWords.{no_position_past_end, position_found_within_list}
-use Rattle.question_grammar.specs.Chains.{parts_of_word}
+use Rattle.question_grammar.specs.Parts.{parts_of_word}
 
 -- the first part ends at the first dot
 pub first_part : (w : List ℕ) (n : ℕ) → Some n ≡ position (λ b. b == 46) w → parts_of_word w ≡ take n w ∷ parts_of_word (drop (n + 1) w)

@@ -1,6 +1,5 @@
 -- Lines of `show` that follow fields from an object, or also show the objects below it.
-use Rattle.std.specs.Prelude.{ℕ, List, [], ◌∷◌, ◌==◌, nat_le, codes, Option, Some, None, option_map, option_and_then, if◌then◌else◌}
-use Rattle.std.specs.List.{slice_split}
+use Rattle.std.specs.Prelude.{ℕ, List, [], ◌∷◌, nat_le, codes, Option, Some, None, option_map, option_and_then, if◌then◌else◌}
 use Rattle.std.specs.Str.{bytes_eq}
 use Rattle.session_grammar.specs.Grammar.{at_end, number_of_word, words_of_line}
 use Rattle.question_words.specs.declared.at.At.{At}
@@ -10,11 +9,8 @@ use Rattle.question_grammar.specs.declared.chain.Chain.{Chain}
 use Rattle.question_grammar.specs.declared.chain.Extent.{Extent}
 use Rattle.question_grammar.specs.declared.chain.Extent.TheVariants.{Levels, Slots}
 use Rattle.question_grammar.specs.Bookmarks.{Bookmarks, default_at}
+use Rattle.question_grammar.specs.Parts.{parts_of_word}
 use Rattle.question_grammar.specs.Questions.{at_of_word}
-
--- what stands between the dots of a word
-abbrev pub parts_of_word : List ℕ → List (List ℕ)
-parts_of_word w = slice_split (λ b. b == 46) w
 
 -- an id, and the fields behind it
 abbrev pub id_and_fields : List (List ℕ) → Option (ℕ × List (List ℕ))

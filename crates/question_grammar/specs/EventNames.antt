@@ -1,5 +1,5 @@
 -- Lines of events that name a class or a field: `new`, `newarray`, `load`, `store` and `put`.
-use Rattle.std.specs.Prelude.{ℕ, List, [], ◌∷◌, codes, is_some, nat_lt, slice_get, Option, Some, None, option_map, option_and_then, if◌then◌else◌}
+use Rattle.std.specs.Prelude.{ℕ, List, [], ◌∷◌, codes, is_some, nat_lt, slice_get, Option, None, option_map, option_and_then, if◌then◌else◌}
 use Rattle.std.specs.Str.{bytes_eq}
 use Rattle.heap_class.specs.Classes.{Class}
 use Rattle.heap_step.specs.declared.Event.{Event}

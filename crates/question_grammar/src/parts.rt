@@ -1,7 +1,7 @@
 //! What stands between the dots of a word.
 ghost use Rattle.std.specs.Prelude.{◌≡◌, ◌<◌, ◌==◌, [], ◌∷◌, length, IfSome, MatchOption};
 ghost use Rattle.std.specs.List.{position};
-ghost use Rattle.question_grammar.specs.Chains.{parts_of_word};
+ghost use Rattle.question_grammar.specs.Parts.{parts_of_word};
 
 use std::marker::Model;
 
@@ -17,7 +17,7 @@ pub struct Parts<'a> {
 impl<'a> Model for Parts<'a> {
     ghost use Rattle.std.specs.Prelude.{List, ℕ, []};
     ghost use Rattle.std.specs.Option.{option_map_or};
-    ghost use Rattle.question_grammar.specs.Chains.{parts_of_word};
+    ghost use Rattle.question_grammar.specs.Parts.{parts_of_word};
 
     ghost Value = { List (List ℕ) };
 

@@ -11,7 +11,7 @@ use Rattle.question_words.proofs.FieldsAbove.{fields_more, fields_none}
 
 -- the name of a field, if there is one
 abbrev pub name_in : Option Field → List ℕ
-name_in o = option_map_or (λ (f : Field). f.name) [] o
+name_in o = option_map_or (λ (f : Field). f.name) o []
 
 get_behind : {A : Type 0} (xs ys : List A) (i n : ℕ) → i ≡ length xs + n → slice_get (xs ++ ys) i ≡ slice_get ys n
 get_behind [] ys i n e = let same : i ≡ n = omega (arith, e) in ap (slice_get ys) same

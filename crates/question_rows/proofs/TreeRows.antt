@@ -62,11 +62,11 @@ branches_within below image level o k n h =
 
 -- the rows of a slot that names nothing, or whose object isn't listed
 pub branch_alone : (below : DumpedObject → List (List ℕ)) (image : Image) (level : ℕ) (o : DumpedObject) (k : ℕ) → object_at_slot image o k ≡ None → branch below image level o k ≡ tree_row image level o k ∷ []
-branch_alone below image level o k e = ap (λ (named : Option DumpedObject). tree_row image level o k ∷ option_map_or below [] named) e
+branch_alone below image level o k e = ap (λ (named : Option DumpedObject). tree_row image level o k ∷ option_map_or below named []) e
 
 -- the rows of a slot that names an object
 pub branch_with : (below : DumpedObject → List (List ℕ)) (image : Image) (level : ℕ) (o p : DumpedObject) (k : ℕ) → object_at_slot image o k ≡ Some p → branch below image level o k ≡ tree_row image level o k ∷ below p
-branch_with below image level o p k e = ap (λ (named : Option DumpedObject). tree_row image level o k ∷ option_map_or below [] named) e
+branch_with below image level o p k e = ap (λ (named : Option DumpedObject). tree_row image level o k ∷ option_map_or below named []) e
 
 joined_both : (rows others : List (List ℕ)) → joined (rows ++ others) ≡ joined rows ++ joined others
 joined_both rows others = flat_map-append (λ (row : List ℕ). row) rows others

@@ -21,8 +21,8 @@ use Rattle.question_rows.specs.Objects.{and_value, joined, object_line}
 -- the name of slot s of the instances of class k: that of its field
 unfoldable pub slot_name : List Class → ℕ → ℕ → List ℕ
 slot_name classes k s =
-    option_map_or (λ (f : Field). f.name) []
-    (slice_get (fields_up classes (length classes) (Some k)) s)
+    option_map_or (λ (f : Field). f.name)
+    (slice_get (fields_up classes (length classes) (Some k)) s) []
 
 -- a space, and the name of slot s of an object of this kind, or its number in an array
 unfoldable pub and_slot_name : List Class → ObjKind → ℕ → List ℕ
@@ -63,7 +63,7 @@ tree_row image level o s =
 -- the rows of slot s of an object at this level: its own, and behind it those that `below` tells of the object that it names
 abbrev pub branch : (DumpedObject → List (List ℕ)) → Image → ℕ → DumpedObject → ℕ → List (List ℕ)
 branch below image level o s =
-    tree_row image level o s ∷ option_map_or below [] (object_at_slot image o s)
+    tree_row image level o s ∷ option_map_or below (object_at_slot image o s) []
 
 -- the rows of the first n slots of an object
 abbrev pub branches : (DumpedObject → List (List ℕ)) → Image → ℕ → DumpedObject → ℕ

@@ -171,16 +171,16 @@ event_alone : (state : HeapState) (w : List ℕ) (ws : List (List ℕ)) (e : Eve
 unfolding event_by_name
 event_alone state w ws e is = go (bytes_eq w (codes "new")) (bytes_eq w (codes "newarray")) (bytes_eq w (codes "load")) (bytes_eq w (codes "store")) (bytes_eq w (codes "put")) refl refl refl refl refl is
   where
-    go : (new array load store put : Bool) → bytes_eq w (codes "new") ≡ new → bytes_eq w (codes "newarray") ≡ array → bytes_eq w (codes "load") ≡ load → bytes_eq w (codes "store") ≡ store → bytes_eq w (codes "put") ≡ put
-        → cond new (new_by_name state.classes ws)
-        (cond array (array_by_name state.classes ws)
-        (cond load (load_by_name state ws)
-        (cond store (option_map (λ (n : ℕ × ℕ × ℕ × ℕ). Store n.0 n.1 n.2 n.3) (write_by_name state ws)) (cond put (option_map (λ (n : ℕ × ℕ × ℕ × ℕ). Put n.0 n.1 n.2 n.3) (write_by_name state ws)) None)))) ≡ Some e
+    go : (makes lists reads stores puts : Bool) → bytes_eq w (codes "new") ≡ makes → bytes_eq w (codes "newarray") ≡ lists → bytes_eq w (codes "load") ≡ reads → bytes_eq w (codes "store") ≡ stores → bytes_eq w (codes "put") ≡ puts
+        → cond makes (new_by_name state.classes ws)
+        (cond lists (array_by_name state.classes ws)
+        (cond reads (load_by_name state ws)
+        (cond stores (option_map (λ (n : ℕ × ℕ × ℕ × ℕ). Store n.0 n.1 n.2 n.3) (write_by_name state ws)) (cond puts (option_map (λ (n : ℕ × ℕ × ℕ × ℕ). Put n.0 n.1 n.2 n.3) (write_by_name state ws)) None)))) ≡ Some e
         → IsEventAlone w ws
-    go true array load store put h i j k l is = alone_by w (codes "new") ws h (no_new ws (new_by_name_alone state.classes ws e is)) (λ bm. new_asks_nothing bm ws)
-    go false true load store put h i j k l is = alone_by w (codes "newarray") ws i (no_array ws (array_by_name_alone state.classes ws e is)) (λ bm. array_asks_nothing bm ws)
-    go false false true store put h i j k l is = alone_by w (codes "load") ws j (no_load ws (load_by_name_alone state ws e is)) (λ bm. load_asks_nothing bm ws)
-    go false false false true put h i j k l is =
+    go true lists reads stores puts h i j k l is = alone_by w (codes "new") ws h (no_new ws (new_by_name_alone state.classes ws e is)) (λ bm. new_asks_nothing bm ws)
+    go false true reads stores puts h i j k l is = alone_by w (codes "newarray") ws i (no_array ws (array_by_name_alone state.classes ws e is)) (λ bm. array_asks_nothing bm ws)
+    go false false true stores puts h i j k l is = alone_by w (codes "load") ws j (no_load ws (load_by_name_alone state ws e is)) (λ bm. load_asks_nothing bm ws)
+    go false false false true puts h i j k l is =
         let x = mapped (λ (n : ℕ × ℕ × ℕ × ℕ). Store n.0 n.1 n.2 n.3) (write_by_name state ws) e is in
         alone_by w (codes "store") ws k (no_store ws (write_by_name_alone state ws x.0 x.1)) (λ bm. store_asks_nothing bm ws)
     go false false false false true h i j k l is =

@@ -38,13 +38,13 @@ reference_at classes o s =
 -- what a field of an object holds, which a word names
 abbrev pub reference_by : List Class → DumpedObject → List ℕ → Result ℕ Unanswered
 reference_by classes o w =
-    option_map_or (λ s. reference_at classes o s) (Err (Unanswered.Refused BadSlot))
-    (slot_of_kind classes o.kind w)
+    option_map_or (λ s. reference_at classes o s) (slot_of_kind classes o.kind w)
+    (Err (Unanswered.Refused BadSlot))
 
 -- the same of the object x
 abbrev pub reference_behind : Image → ℕ → List ℕ → Result ℕ Unanswered
 reference_behind image x w =
-    option_map_or (λ o. reference_by image.classes o w) (Err NoObject) (object_with image x)
+    option_map_or (λ o. reference_by image.classes o w) (object_with image x) (Err NoObject)
 
 -- ---- fields, one after another
 

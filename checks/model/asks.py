@@ -61,6 +61,9 @@ WANTED = {
 LEAST = 3
 # The events that name a class or a field, beside `new`.
 BY_NAMES = (b"newarray", b"load", b"store", b"put")
+# How often lines are asked.
+WEIGHTS = dict.fromkeys(QUESTIONS, 2) | dict.fromkeys(BY_NAMES, 1)
+WEIGHTS |= {b"show": 6, b"watch": 4, b"writes": 4, b"help": 2, b"name": 6, b"at": 4, b"dominators": 4}
 # The questions about the steps up to a place.
 PAST = (b"born", b"wrote", b"watch", b"writes", b"when", b"dropped", b"history")
 
@@ -237,7 +240,7 @@ class AskingDraw(Draw):
 
     def ask(self):
         """Asks a question, or for help."""
-        word = self.lots.pick([*QUESTIONS, b"show", b"show", b"show", b"watch", b"writes", b"help", b"name", b"name", b"at", b"dominators"])
+        word = self.lots.weighed(WEIGHTS)
         if self.machine.undone and self.lots.once_in(2):
             word = b"forward"
         draws = {"a": self.moment, "i": self.identifier, "c": self.asked_class, "s": self.asked_slot, "v": self.held_word}

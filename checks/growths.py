@@ -412,12 +412,12 @@ def wrong_saves(program, library, lines):
 # is read by up to 65,536 bytes, also what is read ahead of a served session, to know its first line; a line of 32,768 bytes has
 # at most 8,192 fields, and where one stands takes 6 bytes; parts of a saved dump are joined to 64 KiB; a record of the ring
 # takes at most 32 bytes, and it has room for up to 64 records more than are kept; a step that can be taken again takes at most 72
-# bytes where questions may be answered, as in `save`; the parser of the command line asks up to three times for a list of the
-# options of `serve`, with room for 32 of 608 bytes. Nothing else is larger than a region's box, which has 1,024 words and room for
-# 256 headers of 16 bytes: not a part of a dump of these heaps, a page of answers, the gray stack (8 bytes for each of 256 cells of
-# a region), or lists of at most 256 regions or 3 sessions.
+# bytes where questions may be answered, as in `save`; the parser of the command line is made up to three times, and asks each time
+# for a list of the options of `explore` and one of those of `serve`, each with room for 32 of 608 bytes. Nothing else is larger
+# than a region's box, which has 1,024 words and room for 256 headers of 16 bytes: not a part of a dump of these heaps, a page of
+# answers, the gray stack (8 bytes for each of 256 cells of a region), or lists of at most 256 regions or 3 sessions.
 READ, FIELDS, PAGE, RECORD, EVENT, BOX = 65_536, 8192 * 6, 65_536, 32, 72, 8192 + 4096
-OPTIONS = [32 * 608] * 3
+OPTIONS = [32 * 608] * 6
 MARGIN = 1.25
 
 

@@ -93,8 +93,10 @@ explore_line =
     with_rule
     (with_rule
     (with_rule
+    (with_rule
     (with_rule (with_rule (session_line (codes "explore")) (value_option (codes "from")))
     dump_option)
+    (value_option (codes "then")))
     (value_option (codes "port")))
     (value_option (codes "page")))
     secret_option

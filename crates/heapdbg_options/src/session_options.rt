@@ -1,7 +1,7 @@
 //! The command lines of the tasks between standard input and standard output.
-ghost use Rattle.std.specs.Prelude.{◌≡◌, Some, false, option_map, true};
+ghost use Rattle.std.specs.Prelude.{◌≡◌, Some, option_map, true};
 ghost use Rattle.clap.specs.Words.{found_of, rows_of};
-ghost use Rattle.heapdbg_options.specs.CommandLine.{draw_in, dump_origin, explore_in, has_second, origin_in, own_page, port_limit, run_in, runs_dump, second_task};
+ghost use Rattle.heapdbg_options.specs.CommandLine.{draw_in, dump_origin, explore_in, has_second, origin_in, own_page, port_limit, run_in, second_task};
 ghost use Rattle.heapdbg_options.specs.Refusals.{IsExploreOrMistake, IsOutside, IsTaskOrMistake, IsValueOrMistake};
 ghost use Rattle.heapdbg_options.specs.declared.refusal.Mistake.TheVariants.{OwnPage, Second};
 ghost use Rattle.heapdbg_options.specs.declared.settings.Task.TheVariants.{Explore};
@@ -213,20 +213,27 @@ fn own_task(origin: Origin, page: Option<&str>) -> Result<Task, Mistake>
 // Returns the task of `explore`, in which the session of two dumps is run first if a second one is given.
 fn second_task(second: bool, task: Task) -> Result<Task, Mistake>
     ensures { IsValueOrMistake (second_task second task)
-        (λ m. (m ≡ Second) × (second ≡ true) × (runs_dump task ≡ false)) result }
+        (λ m. (m ≡ Second) × (second ≡ true)) result }
 {
     if !second {
         return Ok(task);
     }
     match task {
-        Task::Explore {
-            origin: Origin::Dump,
-            page,
-        } => Ok(Task::Explore {
-            origin: Origin::Dumps,
-            page,
-        }),
-        _ => Err(Mistake::Second),
+        Task::Explore { origin, page } => match origin {
+            Origin::Dump => {
+                let origin = Origin::Dumps;
+                Ok(Task::Explore { origin, page })
+            }
+            Origin::Fresh => Err(Mistake::Second),
+            Origin::Lines => Err(Mistake::Second),
+            Origin::Dumps => Err(Mistake::Second),
+        },
+        Task::Run(_) => Err(Mistake::Second),
+        Task::Draw(_) => Err(Mistake::Second),
+        Task::Save(_) => Err(Mistake::Second),
+        Task::Serve(_) => Err(Mistake::Second),
+        Task::Ask { port: _, secret: _ } => Err(Mistake::Second),
+        Task::Fetch { port: _, secret: _ } => Err(Mistake::Second),
     }
 }
 

@@ -11,6 +11,7 @@ pub mod FieldRows
 pub mod NamedObjects
 pub mod TreeRows
 pub mod SlotNames
+pub mod TreeObjects
 pub mod LivedRows
 pub mod PinRows
 pub mod UsedRegions

@@ -1,6 +1,6 @@
 -- Rows of an object and of those below it, slot by slot.
-use Rattle.std.proofs.Common.{◌≡◌, ◌∙◌, ◌+◌, ◌-◌, ◌<◌, ◌≤◌, ℕ, zero, suc, List, [], ◌∷◌, ◌++◌, Option, Some, None, length, ap, refl, sym, arith, append_assoc}
-use Rattle.std.specs.Prelude.{flat_map}
+use Rattle.std.proofs.Common.{◌≡◌, ◌∙◌, ◌+◌, ◌-◌, ◌<◌, ◌≤◌, ℕ, zero, suc, List, [], ◌∷◌, ◌++◌, Option, Some, None, length, ap, refl, sym, arith, append_assoc, inl, inr}
+use Rattle.std.specs.Prelude.{◌⊎◌, flat_map}
 use Rattle.std.specs.List.{range_with_len}
 use Rattle.std.specs.Option.{option_map_or}
 use Rattle.std.proofs.lemmas.List.{append-nil, length-append}
@@ -60,13 +60,29 @@ branches_within below image level o k n h =
 
 -- ---- texts
 
--- the rows of a slot that names nothing, or whose object isn't listed
-pub branch_alone : (below : DumpedObject → List (List ℕ)) (image : Image) (level : ℕ) (o : DumpedObject) (k : ℕ) → object_at_slot image o k ≡ None → branch below image level o k ≡ tree_row image level o k ∷ []
-branch_alone below image level o k e = ap (λ (named : Option DumpedObject). tree_row image level o k ∷ option_map_or below named []) e
+-- nothing is listed below the last level
+none_below : (image : Image) (level : ℕ) (named : Option DumpedObject) → option_map_or (rows_below 0 image level) named [] ≡ []
+none_below image level None = refl
+none_below image level (Some p) = refl
 
--- the rows of a slot that names an object
-pub branch_with : (below : DumpedObject → List (List ℕ)) (image : Image) (level : ℕ) (o p : DumpedObject) (k : ℕ) → object_at_slot image o k ≡ Some p → branch below image level o k ≡ tree_row image level o k ∷ below p
-branch_with below image level o p k e = ap (λ (named : Option DumpedObject). tree_row image level o k ∷ option_map_or below named []) e
+-- the rows of a slot whose object isn't listed: it names none, or no level is left
+pub branch_alone : (n : ℕ) (image : Image) (level : ℕ) (o : DumpedObject) (k : ℕ) (row : List ℕ) → row ≡ tree_row image.classes level o k (object_at_slot image o k) → (n ≡ 0) ⊎ (object_at_slot image o k ≡ None)
+    → branch (rows_below n image level) image level o k ≡ row ∷ []
+branch_alone n image level o k row is (inl e) =
+    ap (λ m. branch (rows_below m image level) image level o k) e
+    ∙ ap (λ rows. tree_row image.classes level o k (object_at_slot image o k) ∷ rows) (none_below image level (object_at_slot image o k))
+    ∙ ap (λ r. r ∷ []) (sym is)
+branch_alone n image level o k row is (inr e) =
+    ap (λ (named : Option DumpedObject). tree_row image.classes level o k (object_at_slot image o k) ∷ option_map_or (rows_below n image level) named []) e ∙ ap (λ r. r ∷ []) (sym is)
+
+-- the rows of a slot whose object is listed
+pub branch_with : (n m : ℕ) (image : Image) (level : ℕ) (o p : DumpedObject) (k : ℕ) (row : List ℕ) → n ≡ m + 1 → row ≡ tree_row image.classes level o k (object_at_slot image o k) → object_at_slot image o k ≡ Some p
+    → branch (rows_below n image level) image level o k ≡ row ∷ tree_rows m image (level + 1) p
+branch_with n m image level o p k row down is e =
+    let s : n ≡ suc m = omega (arith, down) in
+    ap (λ i. branch (rows_below i image level) image level o k) s
+    ∙ ap (λ (named : Option DumpedObject). tree_row image.classes level o k (object_at_slot image o k) ∷ option_map_or (rows_below (suc m) image level) named []) e
+    ∙ ap (λ r. r ∷ tree_rows m image (level + 1) p) (sym is)
 
 joined_both : (rows others : List (List ℕ)) → joined (rows ++ others) ≡ joined rows ++ joined others
 joined_both rows others = flat_map-append (λ (row : List ℕ). row) rows others

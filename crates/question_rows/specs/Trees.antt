@@ -51,19 +51,25 @@ abbrev pub and_kind_and_value : Kind → ℕ → List ℕ
 and_kind_and_value k w = (codes " " ++ kind_word k) ++ and_value k w
 
 -- the row of slot s of an object at this level, with the class of the object that it names
-unfoldable pub tree_row : Image → ℕ → DumpedObject → ℕ → List ℕ
-tree_row image level o s =
+unfoldable pub tree_row : List Class → ℕ → DumpedObject → ℕ → Option DumpedObject → List ℕ
+tree_row classes level o s named =
     line
-    (((((codes "row" ++ and_number level) ++ and_number s) ++ and_slot_name image.classes o.kind s)
-    ++ and_kind_and_value (kind_at image.classes o s) (slice_index o.words s))
-    ++ and_class image.classes (object_at_slot image o s))
+    (((((codes "row" ++ and_number level) ++ and_number s) ++ and_slot_name classes o.kind s)
+    ++ and_kind_and_value (kind_at classes o s) (slice_index o.words s)) ++ and_class classes named)
 
 -- ---- levels
 
--- the rows of slot s of an object at this level: its own, and behind it those that `below` tells of the object that it names
+-- the rows of a slot that names this object, if it names one: its own, and behind it those that `below` tells of the object
+abbrev pub branch_by : (DumpedObject → List (List ℕ)) → List Class → ℕ → DumpedObject → ℕ
+    → Option DumpedObject
+    → List (List ℕ)
+branch_by below classes level o s named =
+    tree_row classes level o s named ∷ option_map_or below named []
+
+-- the rows of slot s of an object at this level
 abbrev pub branch : (DumpedObject → List (List ℕ)) → Image → ℕ → DumpedObject → ℕ → List (List ℕ)
 branch below image level o s =
-    tree_row image level o s ∷ option_map_or below (object_at_slot image o s) []
+    branch_by below image.classes level o s (object_at_slot image o s)
 
 -- the rows of the first n slots of an object
 abbrev pub branches : (DumpedObject → List (List ℕ)) → Image → ℕ → DumpedObject → ℕ

@@ -118,8 +118,8 @@ fn push_slot<V: View>(
     requires classes { classes.now ≡ index.now.classes }
     requires known { IsKnown classes.now object.now.kind (length object.now.words) }
     requires within { slot < length object.now.words }
-    ensures text { OnOk result (rows.new.text.items
-        ≡ rows.old.text.items ++ tree_row index.now level object.now slot) }
+    ensures text { OnOk result (rows.new.text.items ≡ rows.old.text.items
+        ++ tree_row classes.now level object.now slot (object_at_slot index.now object.now slot)) }
     ensures room { OnOk result (rows.new.room + 1 ≡ rows.old.room) }
     ensures refused { IfErr result
         (λ e. (e ≡ NoMemory) ⊎ ((e ≡ TooLarge) × (rows.old.room ≡ 0))) }
@@ -128,25 +128,26 @@ fn push_slot<V: View>(
         return Err(Refusal::TooLarge);
     }
     rows.room -= 1;
-    push_tree_row(&mut rows.text, index, classes, object, level, slot)?;
+    let named = object_at_slot(index, classes, object, slot);
+    push_tree_row(&mut rows.text, classes, object, level, slot, named)?;
     Ok(())
 }
 
-// Appends the row of a slot of an object at a level. Fails if an allocation fails.
+// Appends the row of a slot of an object at a level, with the class of the object that it names, which must be there. Fails if an
+// allocation fails.
 #[tactic(auto, unfolding(crate::specs::Trees::tree_row))]
-fn push_tree_row<V: View>(
+fn push_tree_row(
     text: &mut Vec<u8>,
-    index: &ObjectIndex<'_, V>,
     classes: &FirstClasses<'_>,
     object: &ShownObject<'_>,
     level: u64,
     slot: usize,
+    named: Option<ShownObject<'_>>,
 ) -> Result<(), AllocError>
-    requires limits { IsDumpable index.now }
-    requires classes { classes.now ≡ index.now.classes }
     requires known { IsKnown classes.now object.now.kind (length object.now.words) }
+    requires there { IfSome named (λ o. IsClassThere classes.now o.kind) }
     requires within { slot < length object.now.words }
-    ensures { Appends (tree_row index.now level object.now slot)
+    ensures { Appends (tree_row classes.now level object.now slot named.entry)
         text.old.items text.new.items result }
 {
     push_row(text, level)?;
@@ -154,7 +155,7 @@ fn push_tree_row<V: View>(
     push_slot_name(text, classes, object.kind(), slot as u64)?;
     let kind = kind_at(classes, object, slot);
     push_kind_and_value(text, kind, object.words()[slot])?;
-    push_class(text, classes, object_at_slot(index, classes, object, slot))?;
+    push_class(text, classes, named)?;
     push_words(text, b"\n")
 }
 

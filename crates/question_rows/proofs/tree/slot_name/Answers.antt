@@ -1,4 +1,4 @@
-use Rattle.std.proofs.Common.{◌≡◌, ◌∙◌, ◌+◌, ◌-◌, ◌<◌, ℕ, Option, arith, length, subst, sym}
+use Rattle.std.proofs.Common.{◌≡◌, ◌∙◌, ◌+◌, ◌-◌, ◌<◌, ℕ, Option, arith, length, refl, subst, sym}
 use Rattle.std.specs.Prelude.{IfSome}
 use Rattle.question_rows.specs.Trees.{slot_name}
 use Rattle.question_words.proofs.FieldsAbove.{lower}
@@ -11,9 +11,9 @@ returns-in_default c =
     let cs = c.args.classes.now in
     sym (sym c.loop-depth.invariant.name ∙ no_name cs (length cs - c.loop-depth.depth) c.loop-depth.left c.loop-depth.here c.in_default.is)
 
-pub returns-if-left-own : goal.returns-if-left-own
+pub returns-then-left-own : goal.returns-then-left-own
 unfolding slot_name
-returns-if-left-own c =
+returns-then-left-own c =
     let cs = c.args.classes.now in
     let n = length cs - c.loop-depth.depth in
     let m = length cs - (c.loop-depth.depth + 1) in

@@ -12,6 +12,7 @@ pub mod NamedObjects
 pub mod TreeRows
 pub mod SlotNames
 pub mod TreeObjects
+pub mod TreeRoom
 pub mod LivedRows
 pub mod PinRows
 pub mod UsedRegions

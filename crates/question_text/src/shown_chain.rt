@@ -1,7 +1,8 @@
 //! The answer of `show` along fields.
-ghost use Rattle.std.specs.Prelude.{◌≡◌, ◌⊎◌, length, Err};
+ghost use Rattle.std.specs.Prelude.{◌≡◌, ◌⊎◌, ◌<◌, length, Err};
 ghost use Rattle.heap_class.specs.declared.Refusal.TheVariants.{NoMemory};
 ghost use Rattle.heap_pins.specs.Pin.{pin_image};
+ghost use Rattle.heap_questions.specs.Graph.{slot_refers};
 ghost use Rattle.hprof_text.specs.Image.{IsDumpable, IsKnown};
 ghost use Rattle.question_words.specs.declared.rows.Unanswered.{Unanswered};
 ghost use Rattle.question_words.specs.Moments.{IsAnswerAbout, IsToldOf, image_at, told_text};
@@ -10,7 +11,7 @@ ghost use Rattle.question_text.specs.ShownChains.{IsChainText, IsExtentText, end
 
 use heap_class::{FirstClasses, ObjKind, Refusal};
 use heap_pins::PinView;
-use heap_questions::{ObjectIndex, slot_kind};
+use heap_questions::ObjectIndex;
 use heap_trail::Machine;
 use hprof_text::{ShownObject, View};
 use question_grammar::{Chain, Extent, Parts, slot_of};
@@ -139,7 +140,7 @@ fn reference_at(
     if slot >= words.len() as u64 {
         return Err(Unanswered::Refused(Refusal::BadSlot));
     }
-    if slot_kind(classes, object.kind(), words.len() as u64, slot).is_reference() {
+    if slot_refers(classes, object.kind(), words.len() as u64, slot) {
         Ok(words[slot as usize])
     } else {
         Err(Unanswered::Refused(Refusal::WrongKind))
@@ -160,5 +161,19 @@ fn extent_lines(
     match extent {
         Extent::Slots(slots) => show_answer(alloc, view, id, slots, marked),
         Extent::Levels(levels) => tree_answer(alloc, view, id, levels, marked),
+    }
+}
+
+// Tells whether a slot of an object of this kind, which has `words` words, holds a reference.
+#[tactic(auto, unfolding(heap_questions::specs::Graph::slot_refers))]
+fn slot_refers(classes: &FirstClasses<'_>, kind: ObjKind, words: u64, slot: u64) -> bool
+    requires known { IsKnown classes.now kind words }
+    requires within { slot < words }
+    ensures { result ≡ slot_refers classes.now kind slot }
+{
+    match kind {
+        ObjKind::Instance(class) => classes.slots(class)[slot as usize].is_reference(),
+        ObjKind::Array(_) => true,
+        ObjKind::Prim(kind) => kind.is_reference(),
     }
 }

@@ -18,9 +18,9 @@ each_for : {X : Type 0} {P Q : X → Type 0} → ((x : X) → P x → Q x) → (
 each_for f [] h = tt
 each_for f (x ∷ xs) h = (f x h.0, each_for f xs h.1)
 
-each_and : {X : Type 0} {P : X → Type 0} (xs : List X) (y : X) → AllByRecursion P xs → P y → AllByRecursion P (xs ++ y ∷ [])
-each_and [] y h p = (p, tt)
-each_and (x ∷ xs) y h p = (h.0, each_and xs y h.1 p)
+each_and : {X : Type 0} (P : X → Type 0) (xs : List X) (y : X) → AllByRecursion P xs → P y → AllByRecursion P (xs ++ y ∷ [])
+each_and P [] y h p = (p, tt)
+each_and P (x ∷ xs) y h p = (h.0, each_and P xs y h.1 p)
 
 contains_next : {X : Type 0} (x : X) (xs : List X) (y : X) → Contains xs y → Contains (x ∷ xs) y
 contains_next x xs y h = (h.0 + 1, omega (arith, h.1), ap (λ (k : ℕ). get_or (x ∷ xs) k y) (add-one h.0) ∙ h.2)
@@ -151,7 +151,7 @@ search_goes_on d roots ways k v less is so_far =
       to_roots = each_for still roots so_far.to_roots;
       onwards =
           subst (AllByRecursion (λ (w : Way). AllByRecursion (IsReached grown) (ways_out d w.number))) (sym first)
-          (each_and (take k ways) v (each_for (λ (w : Way) h. each_for still (ways_out d w.number) h) (take k ways) so_far.onwards) all.reached);
+          (each_and (λ (w : Way). AllByRecursion (IsReached grown) (ways_out d w.number)) (take k ways) v (each_for (λ (w : Way) h. each_for still (ways_out d w.number) h) (take k ways) so_far.onwards) all.reached);
       few = omega (arith, less, ap length all.is ∙ length-append ways all.added);
     }
 

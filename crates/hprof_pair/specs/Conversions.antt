@@ -31,6 +31,15 @@ IsPairPut area v w old new (Err failure.Memory) =
 IsPairPut area v w old new (Err failure.Write) =
     (text : List ℕ) × IsPairSession (elements_with area) v w text × PutsPart 1 old new text
 
+-- the session of what a walk comes to and of a second dump was put out so, if that begins with a header; or it doesn't, and nothing
+-- was put out
+abbrev pub IsSecondConverted : Bool → Left → List ℕ → Outgoing → Outgoing
+    → Result BothConverted PairFailure → Type 0
+IsSecondConverted area v second old new result =
+    ((h : Header) × (after : List ℕ) × (second ≡ header_text h ++ after)
+    × IsPairPut area v (walk_after h after) old new result)
+    ⊎ (HasNoHeader second × (result ≡ Err failure.SecondHeader) × (new ≡ old))
+
 -- two dumps were converted: both begin with a header, and the session of what the walks over the rest come to was put out so; or
 -- one of them doesn't, and nothing was put out
 abbrev pub ArePairConverted : Bool → List ℕ → List ℕ → Outgoing → Outgoing

@@ -25,9 +25,14 @@ number_of_line classes c = position (bytes_eq (class_line c)) (map class_line cl
 abbrev pub over : Class → Option ℕ → Class
 over c sup = record { name = c.name; sup = sup; fields = c.fields; is_array = c.is_array }
 
+-- the number in the heap of the super of a class, or none if it has no super; None if the super has no number there
+abbrev pub super_over : List (Option ℕ) → Option ℕ → Option (Option ℕ)
+super_over numbers None = Some None
+super_over numbers (Some s) = option_map Some (class_in numbers s)
+
 -- a class of the second dump as the heap has it: with the number of its super there; none if its super has none
 abbrev pub class_over : List (Option ℕ) → Class → Option Class
-class_over numbers c = option_map_or (λ s. option_map (λ k. over c (Some k)) (class_in numbers s)) c.sup (Some c)
+class_over numbers c = option_map (over c) (super_over numbers c.sup)
 
 -- the class with the name that it gets after these: its own, or another in its place
 abbrev pub renamed : ClassLimits → List Class → Class → Class

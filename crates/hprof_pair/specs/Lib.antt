@@ -7,4 +7,5 @@ pub mod Pairs
 pub mod Changes
 pub mod Events
 pub mod Sessions
+pub mod KnownPairs
 pub mod Conversions

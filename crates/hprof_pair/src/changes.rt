@@ -45,7 +45,6 @@ pub(crate) fn push_changes(
     pair: &Pair<'_, '_, '_>,
     n: u64,
 ) -> Result<(), AllocError>
-    requires number { n < 2 ^ 63 }
     requires first { index_map_len pair.now.first.all.plan.now.kinds
         ≤ length pair.now.first.all.plan.now.classes }
     requires second { index_map_len pair.now.second.all.plan.now.kinds

@@ -1,31 +1,26 @@
 //! The session of two dumps of one program, from their bytes.
-ghost use Rattle.std.specs.Prelude.{◌≡◌, List, [], length, map, take, IfOk};
-ghost use Rattle.heap_class.specs.Limits.{widest_classes};
-ghost use Rattle.hprof_reader.specs.SubRecords.{sub_record};
+ghost use Rattle.std.specs.Prelude.{◌≡◌, ◌≤◌, ◌<◌, ◌^◌, ◌++◌, List, [], length};
+ghost use Rattle.indexmap.specs.IndexMap.{index_map_len};
+ghost use Rattle.hprof_session.specs.Places.{lines_of};
 ghost use Rattle.hprof_session.specs.Walks.{ItemTold, left};
-ghost use Rattle.hprof_plan.specs.Finds.{Finds};
-ghost use Rattle.hprof_plan.specs.Plans.{IsPlan};
-ghost use Rattle.hprof_lines.specs.Passes.{IsWhole, made_from};
-ghost use Rattle.hprof_lines.specs.Sessions.{static_ids};
-ghost use Rattle.hprof_pair.specs.Conversions.{ArePairConverted, IsPairPut};
-ghost use Rattle.hprof_pair.specs.Dumps.{dump_told, subs_from};
-ghost use Rattle.hprof_pair.specs.JoinedClasses.{joined};
-ghost use Rattle.hprof_pair.specs.JoinedSoFar.{AreJoined};
+ghost use Rattle.hprof_lines.specs.Outputs.{Writes};
+ghost use Rattle.hprof_lines.specs.Passes.{IsWhole};
+ghost use Rattle.hprof_lines.specs.Sessions.{root_tags, session_text};
+ghost use Rattle.hprof_pair.specs.Conversions.{ArePairConverted, IsPairPut, IsSecondConverted};
+ghost use Rattle.hprof_pair.specs.Events.{second_events};
+ghost use Rattle.hprof_pair.specs.Pairs.{pair_told};
+ghost use Rattle.hprof_pair.specs.Sessions.{collect_line, kept_line};
 
-use crate::dump::{Dump, collect_subs};
-use crate::joined_classes::{JoinedClasses, join_classes};
+use crate::known::{KnownDump, KnownPair, know_pair};
 use crate::left_out::{Lost, count_lost};
 use crate::pair::Pair;
 use crate::session::write_second;
-use crate::ways::{Ways, find_ways};
 use dump_pump::Outlet;
-use heap_class::{IdSize, WIDEST_CLASSES};
+use heap_class::IdSize;
 use hprof_convert::{Converted, elements_with, left_out_of};
-use hprof_lines::{Objects, ROOT_TAGS, count_left_out, made_objects, static_ids, write_session};
-use hprof_plan::{Found, Plan, find, plan_classes};
-use hprof_reader::{SubRecord, header_at};
+use hprof_lines::{count_left_out, write_session};
+use hprof_reader::header_at;
 use hprof_session::Walk;
-use indexmap::IndexSet;
 use std::alloc::{AllocError, Global};
 
 /// What of two dumps is left out of their session.
@@ -74,16 +69,13 @@ pub fn convert_pair<O: Outlet>(
     ensures { ArePairConverted area first.now second.now (O.seen outlet.old) (O.seen outlet.new)
         result }
 {
-    let Ok((header, rest)) = header_at(first) else {
-        return Err(PairFailure::FirstHeader);
-    };
-    let before = walk_after(header.ids, rest);
-    let Ok((header, rest)) = header_at(second) else {
-        return Err(PairFailure::SecondHeader);
-    };
-    let after = walk_after(header.ids, rest);
-    let sizes = (first.len() as u64, second.len() as u64);
-    convert_walks(alloc, outlet, area, before, after, sizes)
+    match header_at(first) {
+        Ok(read) => {
+            let walk = walk_after(read.0.ids, read.1);
+            convert_second(alloc, outlet, area, walk, first.len() as u64, second)
+        }
+        Err(_) => Err(PairFailure::FirstHeader),
+    }
 }
 
 // Returns the walk over these bytes, which follow a header.
@@ -97,14 +89,26 @@ fn walk_after(ids: IdSize, rest: &[u8]) -> Walk<'_>
     }
 }
 
-// What is found in a dump, and its objects.
-#[derive(Drop)]
-struct KnownDump<'a> {
-    found: Found<'a>,
-    plan: Plan<'a>,
-    statics: IndexSet<u64>,
-    made: Vec<bool>,
-    subs: Vec<SubRecord<'a>>,
+// Puts out the session of what a walk over the first dump comes to, which has this size, and of the second dump.
+fn convert_second<O: Outlet>(
+    alloc: Global,
+    outlet: &mut O,
+    area: bool,
+    before: Walk<'_>,
+    size: u64,
+    second: &[u8],
+) -> Result<BothConverted, PairFailure>
+    ensures { IsSecondConverted area (left before.entry) second.now (O.seen outlet.old)
+        (O.seen outlet.new) result }
+{
+    match header_at(second) {
+        Ok(read) => {
+            let after = walk_after(read.0.ids, read.1);
+            let sizes = (size, second.len() as u64);
+            convert_walks(alloc, outlet, area, before, after, sizes)
+        }
+        Err(_) => Err(PairFailure::SecondHeader),
+    }
 }
 
 // Puts out the session of what two walks come to, and counts what is left out. The dumps have these sizes.
@@ -120,116 +124,71 @@ fn convert_walks<O: Outlet>(
         (O.seen outlet.new) result }
 {
     let elements = elements_with(area);
-    let first = know(alloc, elements, before)?;
-    let second = know(alloc, elements, after)?;
-    let dump = first.dump(before.ids);
-    let Ways { found, ways } = find_ways(alloc, &dump, first.found.roots.as_slice(), &ROOT_TAGS)?;
-    let joined = join_known(alloc, elements, &first, &second)?;
-    let pair = Pair {
-        first: dump,
-        second: second.dump(after.ids),
-        classes: joined.numbers.as_slice(),
-        found: &found,
-    };
-    let roots = first.found.roots.as_slice();
-    if !write_session(
-        alloc,
-        outlet,
-        before,
-        &first.plan,
-        &first.found.objects,
-        roots,
-    )? {
+    let known = know_pair(alloc, elements, before, after)?;
+    let pair = known.pair(before.ids, after.ids);
+    if !write_pair(alloc, outlet, before, &known, &pair)? {
         return Err(PairFailure::Write);
     }
-    let (text, roots) = (joined.text.as_slice(), second.found.roots.as_slice());
-    if !write_second(alloc, outlet, &pair, text, ways.as_slice(), roots)? {
-        return Err(PairFailure::Write);
-    }
-    let lost = count_lost(alloc, &pair, roots)?;
-    let first = left_out(alloc, before, &first, sizes.0)?;
-    let second = with_lost(left_out(alloc, after, &second, sizes.1)?, lost);
-    Ok(BothConverted { first, second })
+    Ok(count_both(alloc, (before, after), sizes, &known, &pair)?)
 }
 
-impl<'a> KnownDump<'a> {
-    // Returns the objects of the dump.
-    fn dump(&self, ids: IdSize) -> Dump<'_, 'a>
-        ensures { dump_told result ≡ record {
-          all = record {
-            plan = self.now.plan;
-            ids = ids;
-            objects = self.now.found.objects.keys;
-            made = self.now.made.items;
-            statics = self.now.statics.keys;
-          };
-          subs = map sub_record self.now.subs.items;
-        } }
-    {
-        Dump {
-            all: Objects {
-                plan: &self.plan,
-                ids,
-                objects: &self.found.objects,
-                made: self.made.as_slice(),
-                statics: &self.statics,
-            },
-            subs: self.subs.as_slice(),
-        }
-    }
-}
-
-// Walks over a dump, and plans its classes.
-fn know<'a>(alloc: Global, elements: u64, walk: Walk<'a>) -> Result<KnownDump<'a>, AllocError>
-    ensures finds { IfOk result (λ k. Finds (left walk.entry) k.found) }
-    ensures planned { IfOk result (λ k. IsPlan widest_classes elements k.found k.plan) }
-    ensures statics { IfOk result (λ k. k.statics.keys ≡ static_ids k.plan.statics.items) }
-    ensures made { (items : List ItemTold) → IsWhole (left walk.entry) items
-        → IfOk result (λ k. k.made.items
-        ≡ made_from k.plan k.found.objects.keys (length k.statics.keys) 0 items) }
-    ensures subs { (items : List ItemTold) → IsWhole (left walk.entry) items
-        → IfOk result (λ k. map sub_record k.subs.items
-        ≡ subs_from k.found.objects.keys 0 items) }
-{
-    let found = find(alloc, walk)?;
-    let plan = plan_classes(alloc, WIDEST_CLASSES, elements, &found)?;
-    let statics = static_ids(alloc, plan.statics.as_slice())?;
-    let before = statics.len() as u64;
-    let made = made_objects(alloc, walk, &plan, &found.objects, before)?;
-    let subs = collect_subs(alloc, walk, &found.objects)?;
-    Ok(KnownDump {
-        found,
-        plan,
-        statics,
-        made,
-        subs,
-    })
-}
-
-// Returns the classes of two dumps in a heap that has those of the first.
-fn join_known(
+// Puts out the session of two dumps. Tells whether all of it is out. Fails if an allocation fails.
+fn write_pair<O: Outlet>(
     alloc: Global,
-    elements: u64,
-    first: &KnownDump<'_>,
-    second: &KnownDump<'_>,
-) -> Result<JoinedClasses, AllocError>
-    requires first { IsPlan widest_classes elements first.now.found first.now.plan }
-    requires second { IsPlan widest_classes elements second.now.found second.now.plan }
-    ensures { IfOk result (λ j. AreJoined first.now.plan.classes j
-        (joined widest_classes first.now.plan.classes
-        (take second.now.plan.roots second.now.plan.classes))) }
+    outlet: &mut O,
+    walk: Walk<'_>,
+    known: &KnownPair<'_, '_>,
+    pair: &Pair<'_, '_, '_>,
+) -> Result<bool, AllocError>
+    requires kinds { index_map_len known.now.first.plan.kinds
+        ≤ length known.now.first.plan.classes }
+    requires classes { known.now.first.plan.roots < 2 ^ 62 }
+    requires first { index_map_len pair.now.first.all.plan.now.kinds
+        ≤ length pair.now.first.all.plan.now.classes }
+    requires second { index_map_len pair.now.second.all.plan.now.kinds
+        ≤ length pair.now.second.all.plan.now.classes }
+    requires roots { pair.now.first.all.plan.now.roots < 2 ^ 62 }
+    ensures { (items : List ItemTold) → IsWhole (left walk.entry) items
+        → Writes (O.seen outlet.old) (O.seen outlet.new)
+        (session_text known.now.first.plan walk.entry.ids known.now.first.found.objects.keys items
+        known.now.first.found.roots.items
+        ++ (kept_line ++ (known.now.joined.text.items
+        ++ (lines_of (second_events (pair_told pair.now) known.now.ways.ways.items
+        known.now.second.found.roots.items root_tags) ++ collect_line)))) result }
 {
-    let plan = plan_classes(alloc, WIDEST_CLASSES, elements, &first.found)?;
-    let Plan {
-        classes,
-        lines: _,
-        kinds: _,
-        statics: _,
-        roots: _,
-        elements: _,
-    } = plan;
-    let count = second.plan.roots;
-    join_classes(alloc, WIDEST_CLASSES, classes, &second.plan.classes, count)
+    let (plan, found) = (&known.first.plan, &known.first.found);
+    let roots = found.roots.as_slice();
+    if !write_session(alloc, outlet, walk, plan, &found.objects, roots)? {
+        return Ok(false);
+    }
+    let text = known.joined.text.as_slice();
+    let ways = known.ways.ways.as_slice();
+    let roots = known.second.found.roots.as_slice();
+    write_second(alloc, outlet, pair, text, ways, roots)
+}
+
+// Counts what of two dumps of these sizes is left out of their session.
+fn count_both(
+    alloc: Global,
+    walks: (Walk<'_>, Walk<'_>),
+    sizes: (u64, u64),
+    known: &KnownPair<'_, '_>,
+    pair: &Pair<'_, '_, '_>,
+) -> Result<BothConverted, AllocError>
+    requires first { index_map_len known.now.first.plan.kinds
+        ≤ length known.now.first.plan.classes }
+    requires second { index_map_len known.now.second.plan.kinds
+        ≤ length known.now.second.plan.classes }
+    requires pair { index_map_len pair.now.second.all.plan.now.kinds
+        ≤ length pair.now.second.all.plan.now.classes }
+{
+    let lost = count_lost(alloc, pair, known.second.found.roots.as_slice())?;
+    let first = left_out(alloc, walks.0, &known.first, sizes.0)?;
+    let second = left_out(alloc, walks.1, &known.second, sizes.1)?;
+    Ok(BothConverted {
+        first,
+        second: with_lost(second, lost),
+    })
 }
 
 // Returns what of a dump its own session leaves out.
@@ -238,7 +197,9 @@ fn left_out(
     walk: Walk<'_>,
     known: &KnownDump<'_>,
     size: u64,
-) -> Result<Converted, AllocError> {
+) -> Result<Converted, AllocError>
+    requires { index_map_len known.now.plan.kinds ≤ length known.now.plan.classes }
+{
     let roots = known.found.roots.as_slice();
     let left = count_left_out(alloc, walk, &known.plan, &known.found.objects, roots)?;
     Ok(left_out_of(&known.found, &known.plan, left, size))

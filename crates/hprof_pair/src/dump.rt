@@ -4,11 +4,12 @@ ghost use Rattle.indexmap.specs.IndexMap.{index_map_len};
 ghost use Rattle.hprof_reader.specs.SubRecords.{sub_record};
 ghost use Rattle.hprof_session.specs.Walks.{ItemTold, item_told, left};
 ghost use Rattle.hprof_lines.specs.Passes.{IsWhole};
+ghost use Rattle.hprof_lines.specs.Values.{statics_from};
 ghost use Rattle.hprof_pair.specs.Dumps.{count_of, dump_told, is_static, is_sub_made, shape_of, static_fields, sub_in, sub_of, subs_from, values_of};
 
 use crate::shapes::{Shape, shape_made};
 use hprof_lines::{Objects, SlotValue, add_statics, is_turn, making_event, read_object};
-use hprof_reader::{StaticField, SubRecord};
+use hprof_reader::SubRecord;
 use hprof_session::{Item, Walk, item_at};
 use indexmap::IndexSet;
 use std::alloc::{AllocError, Global};
@@ -120,7 +121,7 @@ impl<'s, 'a> Dump<'s, 'a> {
     {
         values.clear();
         if self.is_static(n) {
-            return add_statics(values, self.static_fields(n));
+            return self.add_static_values(values, n);
         }
         match self.sub(n) {
             Some(sub) => read_object(values, self.all.ids, self.all.plan, sub),
@@ -128,13 +129,14 @@ impl<'s, 'a> Dump<'s, 'a> {
         }
     }
 
-    // Returns the static fields that the object with this number has.
-    fn static_fields(&self, n: u64) -> &'s [StaticField<'a>]
-        ensures { result.now ≡ static_fields (dump_told self.now) n }
+    // Adds the values of the object of static fields with this number.
+    fn add_static_values(&self, values: &mut Vec<SlotValue>, n: u64) -> Result<(), AllocError>
+        ensures { OnOk result (values.new.items
+            ≡ values.old.items ++ statics_from 0 (static_fields (dump_told self.now) n)) }
     {
         match self.all.plan.statics.as_slice().get(n as usize) {
-            Some(statics) => statics.fields.as_slice(),
-            None => &[],
+            Some(statics) => add_statics(values, statics.fields.as_slice()),
+            None => Ok(()),
         }
     }
 }

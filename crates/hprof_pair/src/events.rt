@@ -150,7 +150,6 @@ pub(crate) fn write_made<O: Outlet>(
 // Appends the lines that make object n of the second dump, if it didn't stay.
 #[tactic(auto, unfolding(crate::specs::Events::made_events))]
 fn push_made(lines: &mut Lines, pair: &Pair<'_, '_, '_>, n: u64) -> Result<(), AllocError>
-    requires { n < 2 ^ 63 }
     ensures { OnOk result (lines.new ≡ lines.old ++ lines_of (made_events (pair_told pair.now) n)) }
 {
     match pair.heap_number(n) {

@@ -1,4 +1,7 @@
 //! What of the second dump a session leaves out.
+ghost use Rattle.std.specs.Prelude.{◌≤◌, length};
+ghost use Rattle.indexmap.specs.IndexMap.{index_map_len};
+
 use crate::pair::Pair;
 use crate::shapes::class_in;
 use hprof_lines::{SlotValue, names_object};
@@ -23,7 +26,10 @@ pub(crate) fn count_lost(
     alloc: Global,
     pair: &Pair<'_, '_, '_>,
     roots: &[RootFound],
-) -> Result<Lost, AllocError> {
+) -> Result<Lost, AllocError>
+    requires { index_map_len pair.now.second.all.plan.now.kinds
+        ≤ length pair.now.second.all.plan.now.classes }
+{
     let (mut objects, mut references) = (0u64, 0u64);
     let mut values = Vec::new(alloc);
     for n in 0..pair.second.count() {

@@ -7,6 +7,7 @@ mod conversion;
 mod dump;
 mod events;
 mod joined_classes;
+mod known;
 mod left_out;
 mod pair;
 mod roots;

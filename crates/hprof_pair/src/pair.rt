@@ -1,5 +1,5 @@
 //! The numbers of a second dump's objects in a heap that has those of a first.
-ghost use Rattle.std.specs.Prelude.{◌≡◌, ◌≤◌, ◌<◌, ◌^◌, Some};
+ghost use Rattle.std.specs.Prelude.{◌≡◌, Some};
 ghost use Rattle.hprof_reader.specs.SubRecords.{sub_record};
 ghost use Rattle.hprof_lines.specs.Passes.{id_of};
 ghost use Rattle.hprof_pair.specs.Dumps.{dump_told};
@@ -29,7 +29,6 @@ pub struct Pair<'s, 'a, 'b> {
 impl Pair<'_, '_, '_> {
     /// Returns the class and size in the heap of object n of the second dump, if it can be made.
     pub(crate) fn second_shape(&self, n: u64) -> Option<Shape>
-        requires { n < 2 ^ 63 }
         ensures { result ≡ second_shape (pair_told self.now) n }
     {
         match self.second.shape(n) {
@@ -42,9 +41,9 @@ impl Pair<'_, '_, '_> {
     // that with this id.
     #[tactic(auto, unfolding(crate::specs::Pairs::like_number))]
     fn like_number(&self, n: u64) -> Option<u64>
-        requires { n < 2 ^ 63 }
         ensures { result ≡ like_number (pair_told self.now) n }
     {
+        let _most = self.second.all.statics.len();
         if self.second.is_static(n) {
             let number = self.second.all.plan.kinds.len() as u64 + n;
             return match class_in(self.classes, number) {
@@ -78,8 +77,7 @@ impl Pair<'_, '_, '_> {
     // Returns the number of the object of the first dump that object n of the second is, if it stayed: with its id, class and size.
     #[tactic(auto, unfolding(crate::specs::Pairs::stayed))]
     fn stayed(&self, n: u64, shape: Shape) -> Option<u64>
-        requires number { n < 2 ^ 63 }
-        requires shape { second_shape (pair_told self.now) n ≡ Some shape }
+        requires { second_shape (pair_told self.now) n ≡ Some shape }
         ensures { result ≡ stayed (pair_told self.now) n }
     {
         match self.like_number(n) {
@@ -108,19 +106,19 @@ impl Pair<'_, '_, '_> {
     /// Returns the number in the heap of object n of the second dump, if it stayed or is made.
     #[tactic(auto, unfolding(crate::specs::Pairs::heap_number))]
     pub(crate) fn heap_number(&self, n: u64) -> Option<u64>
-        requires { n < 2 ^ 63 }
         ensures { result ≡ heap_number (pair_told self.now) n }
     {
-        let shape = self.second_shape(n)?;
-        match self.stayed(n, shape) {
-            Some(m) => Some(m),
-            None => self.fresh_number(n),
+        match self.second_shape(n) {
+            Some(shape) => match self.stayed(n, shape) {
+                Some(m) => Some(m),
+                None => self.fresh_number(n),
+            },
+            None => None,
         }
     }
 
     // Returns a number behind those of the first dump, if there is a place for such an object.
     fn fresh_number(&self, n: u64) -> Option<u64>
-        requires { n < 2 ^ 63 }
         ensures { result ≡ fresh_number (pair_told self.now) n }
     {
         let number = self.first.count().saturating_add(n);

@@ -9,14 +9,14 @@ use Rattle.question_rows.proofs.TreeRows.{branch_alone, branch_with, branches_on
 use Rattle.std.specs.Prelude.{◌⊎◌}
 
 -- one slot more has as many rows more
-longer : (n : ℕ) (image : Image) (level : ℕ) (o : DumpedObject) (k : ℕ) → length (branches (rows_below n image level) image level o (k + 1)) ≡ length (branches (rows_below n image level) image level o k) + length (branch (rows_below n image level) image level o k)
-longer n image level o k =
+branches_longer : (n : ℕ) (image : Image) (level : ℕ) (o : DumpedObject) (k : ℕ) → length (branches (rows_below n image level) image level o (k + 1)) ≡ length (branches (rows_below n image level) image level o k) + length (branch (rows_below n image level) image level o k)
+branches_longer n image level o k =
     ap (λ (rows : List (List ℕ)). length rows) (branches_on (rows_below n image level) image level o k)
     ∙ length-append (branches (rows_below n image level) image level o k) (branch (rows_below n image level) image level o k)
 
 -- there is no room for the row of a slot
-pub no_room : (n : ℕ) (image : Image) (level : ℕ) (o : DumpedObject) (k room first : ℕ) → k < length o.words → room ≡ 0 → room + length (branches (rows_below n image level) image level o k) ≡ first → first < length (tree_rows n image level o)
-no_room n image level o k room first l none is =
+pub no_room_for_row : (n : ℕ) (image : Image) (level : ℕ) (o : DumpedObject) (k room first : ℕ) → k < length o.words → room ≡ 0 → room + length (branches (rows_below n image level) image level o k) ≡ first → first < length (tree_rows n image level o)
+no_room_for_row n image level o k room first l none is =
     let all = ap (λ (rows : List (List ℕ)). length rows) (tree_is n image level o) in
     let within = branches_within (rows_below n image level) image level o k (length o.words) l in
     let one : 0 < length (branch (rows_below n image level) image level o k) = omega arith in
@@ -36,7 +36,7 @@ pub room_alone : (n : ℕ) (image : Image) (level : ℕ) (o : DumpedObject) (k r
     → left + length (branches (rows_below n image level) image level o (k + 1)) ≡ first
 room_alone n image level o k room left first alone is one =
     let size = ap (λ (rows : List (List ℕ)). length rows) (branch_alone n image level o k (tree_row image.classes level o k (object_at_slot image o k)) refl alone) in
-    omega (arith, longer n image level o k, size, is, one)
+    omega (arith, branches_longer n image level o k, size, is, one)
 
 pub text_alone : (n : ℕ) (image : Image) (classes : List Class) (level : ℕ) (o : DumpedObject) (k : ℕ) (first text new : List ℕ) → classes ≡ image.classes → (n ≡ 0) ⊎ (object_at_slot image o k ≡ None)
     → text ≡ first ++ joined (branches (rows_below n image level) image level o k) → new ≡ text ++ tree_row classes level o k (object_at_slot image o k)
@@ -53,7 +53,7 @@ pub room_with : (n m : ℕ) (image : Image) (level : ℕ) (o p : DumpedObject) (
     → rest + length (branches (rows_below n image level) image level o (k + 1)) ≡ first
 room_with n m image level o p k room left rest first down named is one further =
     let size = ap (λ (rows : List (List ℕ)). length rows) (branch_with n m image level o p k (tree_row image.classes level o k (object_at_slot image o k)) down refl named) in
-    omega (arith, longer n image level o k, size, is, one, further)
+    omega (arith, branches_longer n image level o k, size, is, one, further)
 
 pub text_with : (n m : ℕ) (image : Image) (classes : List Class) (level : ℕ) (o p : DumpedObject) (k : ℕ) (first text between new : List ℕ) → classes ≡ image.classes → n ≡ m + 1 → object_at_slot image o k ≡ Some p
     → text ≡ first ++ joined (branches (rows_below n image level) image level o k) → between ≡ text ++ tree_row classes level o k (object_at_slot image o k) → new ≡ between ++ joined (tree_rows m image (level + 1) p)

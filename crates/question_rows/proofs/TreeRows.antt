@@ -61,16 +61,16 @@ branches_within below image level o k n h =
 -- ---- texts
 
 -- nothing is listed below the last level
-none_below : (image : Image) (level : ℕ) (named : Option DumpedObject) → option_map_or (rows_below 0 image level) named [] ≡ []
-none_below image level None = refl
-none_below image level (Some p) = refl
+nothing_below_last : (image : Image) (level : ℕ) (named : Option DumpedObject) → option_map_or (rows_below 0 image level) named [] ≡ []
+nothing_below_last image level None = refl
+nothing_below_last image level (Some p) = refl
 
 -- the rows of a slot whose object isn't listed: it names none, or no level is left
 pub branch_alone : (n : ℕ) (image : Image) (level : ℕ) (o : DumpedObject) (k : ℕ) (row : List ℕ) → row ≡ tree_row image.classes level o k (object_at_slot image o k) → (n ≡ 0) ⊎ (object_at_slot image o k ≡ None)
     → branch (rows_below n image level) image level o k ≡ row ∷ []
 branch_alone n image level o k row is (inl e) =
     ap (λ m. branch (rows_below m image level) image level o k) e
-    ∙ ap (λ rows. tree_row image.classes level o k (object_at_slot image o k) ∷ rows) (none_below image level (object_at_slot image o k))
+    ∙ ap (λ rows. tree_row image.classes level o k (object_at_slot image o k) ∷ rows) (nothing_below_last image level (object_at_slot image o k))
     ∙ ap (λ r. r ∷ []) (sym is)
 branch_alone n image level o k row is (inr e) =
     ap (λ (named : Option DumpedObject). tree_row image.classes level o k (object_at_slot image o k) ∷ option_map_or (rows_below n image level) named []) e ∙ ap (λ r. r ∷ []) (sym is)

@@ -9,8 +9,8 @@ use Rattle.question_grammar.specs.declared.chain.Chain.{Chain}
 use Rattle.question_text.specs.ShownChains.{IsChainText, IsEndText, IsExtentText, end_of, reference_behind, result_and_then}
 
 -- a field leads on
-pub field_on : (image : Image) (old new : List (List ℕ)) (w : List ℕ) (x y : ℕ) → old ≡ w ∷ new → reference_behind image x w ≡ Ok y → end_of image new y ≡ end_of image old x
-field_on image old new w x y is leads =
+pub field_leads_on : (image : Image) (old new : List (List ℕ)) (w : List ℕ) (x y : ℕ) → old ≡ w ∷ new → reference_behind image x w ≡ Ok y → end_of image new y ≡ end_of image old x
+field_leads_on image old new w x y is leads =
     sym (ap (λ (ws : List (List ℕ)). end_of image ws x) is ∙ ap (λ (r : Result ℕ Unanswered). result_and_then (λ (z : ℕ). end_of image new z) r) leads)
 
 -- a field leads to nothing

@@ -14,11 +14,11 @@ use Rattle.question_rows.proofs.NamedObjects.{there}
 
 found_holds : {A : Type 0} (P : A → Type 0) (test : A → Bool) (xs : List A) (x : A) → AllByRecursion P xs → find test xs ≡ Some x → P x
 found_holds P test [] x all e = absurd (cc e)
-found_holds {A} P test (y ∷ ys) x all e = go (test y) e
+found_holds {A} P test (y ∷ ys) x all e = go (found_holds P test ys x all.1) (test y) e
   where
-    go : (b : Bool) → cond b (Some y) (find test ys) ≡ Some x → P x
-    go true e = let same : y ≡ x = ap (λ (o : Option A). unwrap_or o y) e in subst P same all.0
-    go false e = found_holds P test ys x all.1 e
+    go : (find test ys ≡ Some x → P x) → (b : Bool) → cond b (Some y) (find test ys) ≡ Some x → P x
+    go later true e = let same : y ≡ x = ap (λ (o : Option A). unwrap_or o y) e in subst P same all.0
+    go later false e = later e
 
 -- an object that is found has as many words as its class has slots
 pub object_known : (image : Image) (x : ℕ) (o : DumpedObject) → IsDumpable image → object_with image x ≡ Some o → IsKnown image.classes o.kind (length o.words)

@@ -1,6 +1,8 @@
 -- How many rows of a tree there is room for.
-use Rattle.std.proofs.Common.{◌≡◌, ◌∙◌, ◌+◌, ◌<◌, ℕ, List, [], ◌∷◌, ◌++◌, Option, None, Some, length, ap, refl, sym, subst, arith}
+use Rattle.std.proofs.Common.{◌≡◌, ◌∙◌, ◌+◌, ◌<◌, ℕ, zero, suc, List, [], ◌∷◌, ◌++◌, Option, None, Some, length, ap, inl, inr, refl, sym, arith}
 use Rattle.std.proofs.lemmas.List.{append-nil, length-append}
+use Rattle.heap_class.specs.declared.Refusal.{Refusal}
+use Rattle.heap_class.specs.declared.Refusal.TheVariants.{NoMemory, TooLarge}
 use Rattle.heap_class.specs.Classes.{Class}
 use Rattle.hprof_text.specs.Image.{DumpedObject, Image}
 use Rattle.question_rows.specs.Objects.{joined}
@@ -63,3 +65,27 @@ text_with n m image classes level o p k first text between new same down named i
     let b = branch_with n m image level o p k row down (ap (λ (cs : List Class). tree_row cs level o k (object_at_slot image o k)) same) named in
     text_on (rows_below n image level) image level o k first text new is
     (slot_text row (tree_rows m image (level + 1) p) text between new more further ∙ ap (λ (rows : List (List ℕ)). text ++ joined rows) (sym b))
+
+-- ---- what is known of one turn
+
+-- there is no object to list: no level is left, or the slot names none
+pub none_listed : (n : ℕ) (x y : Option DumpedObject) → (0 < n → x ≡ y) → x ≡ None → (n ≡ 0) ⊎ (y ≡ None)
+none_listed zero x y h e = inl refl
+none_listed (suc n) x y h e = inr (sym (h (omega arith)) ∙ e)
+
+-- an object is listed only if a level is left
+pub level_left : (n : ℕ) (x : Option DumpedObject) (p : DumpedObject) → (n ≡ 0 → x ≡ None) → x ≡ Some p → 0 < n
+level_left zero x p h e = let clash : None ≡ Some p = sym (h refl) ∙ e in absurd (cc clash)
+level_left (suc n) x p h e = omega arith
+
+-- why a slot is refused is why all are
+pub slot_refused : (n : ℕ) (image : Image) (level : ℕ) (o : DumpedObject) (k room first : ℕ) (e : Refusal) → k < length o.words → room + length (branches (rows_below n image level) image level o k) ≡ first → (e ≡ NoMemory) ⊎ ((e ≡ TooLarge) × (room ≡ 0))
+    → (e ≡ NoMemory) ⊎ ((e ≡ TooLarge) × (first < length (tree_rows n image level o)))
+slot_refused n image level o k room first e l is (inl h) = inl h
+slot_refused n image level o k room first e l is (inr h) = inr (h.0, no_room_for_row n image level o k room first l h.1 is)
+
+pub object_refused : (n m : ℕ) (image : Image) (level : ℕ) (o p : DumpedObject) (k room left first : ℕ) (e : Refusal) → k < length o.words → n ≡ m + 1 → object_at_slot image o k ≡ Some p
+    → room + length (branches (rows_below n image level) image level o k) ≡ first → left + 1 ≡ room → (e ≡ NoMemory) ⊎ ((e ≡ TooLarge) × (left < length (tree_rows m image (level + 1) p)))
+    → (e ≡ NoMemory) ⊎ ((e ≡ TooLarge) × (first < length (tree_rows n image level o)))
+object_refused n m image level o p k room left first e l down named is one (inl h) = inl h
+object_refused n m image level o p k room left first e l down named is one (inr h) = inr (h.0, no_room_below n m image level o p k room left first l down named is one h.1)

@@ -32,11 +32,13 @@ range_more a (suc n) =
 pub branches_on : (below : DumpedObject → List (List ℕ)) (image : Image) (level : ℕ) (o : DumpedObject) (k : ℕ) → branches below image level o (k + 1) ≡ branches below image level o k ++ branch below image level o k
 branches_on below image level o k =
     let s : k + 1 ≡ suc k = omega arith in
+    let same : 0 + k ≡ k = omega arith in
     let f : ℕ → List (List ℕ) = λ i. branch below image level o i in
     ap (λ n. flat_map f (range_with_len 0 n)) s
     ∙ ap (λ l. flat_map f l) (range_more 0 k)
     ∙ flat_map-append f (range_with_len 0 k) ((0 + k) ∷ [])
     ∙ ap (λ l. flat_map f (range_with_len 0 k) ++ l) (append-nil (f (0 + k)))
+    ∙ ap (λ i. flat_map f (range_with_len 0 k) ++ f i) same
 
 grows : (below : DumpedObject → List (List ℕ)) (image : Image) (level : ℕ) (o : DumpedObject) (k d : ℕ) → length (branches below image level o k) ≤ length (branches below image level o (k + d))
 grows below image level o k zero =

@@ -133,6 +133,41 @@ fn push_slot<V: View>(
     Ok(())
 }
 
+// Returns the object that a slot of an object names. The object must have the slot.
+#[tactic(auto, unfolding(crate::specs::Trees::object_at_slot))]
+fn object_at_slot<'a, V: View>(
+    index: &'a ObjectIndex<'_, V>,
+    classes: &FirstClasses<'_>,
+    object: &ShownObject<'_>,
+    slot: usize,
+) -> Option<ShownObject<'a>>
+    requires classes { classes.now ≡ index.now.classes }
+    requires known { IsKnown classes.now object.now.kind (length object.now.words) }
+    requires within { slot < length object.now.words }
+    ensures { result ≡ object_at_slot index.now object.now slot }
+{
+    if kind_at(classes, object, slot).is_reference() {
+        index.object_with(object.words()[slot])
+    } else {
+        None
+    }
+}
+
+// Returns the kind of a slot of an object, which must have it.
+#[tactic(auto, unfolding(crate::specs::Trees::kind_at))]
+fn kind_at(classes: &FirstClasses<'_>, object: &ShownObject<'_>, slot: usize) -> Kind
+    requires known { IsKnown classes.now object.now.kind (length object.now.words) }
+    requires within { slot < length object.now.words }
+    ensures { result ≡ kind_at classes.now object.now slot }
+{
+    slot_kind(
+        classes,
+        object.kind(),
+        object.words().len() as u64,
+        slot as u64,
+    )
+}
+
 // Appends the row of a slot of an object at a level, with the class of the object that it names, which must be there. Fails if an
 // allocation fails.
 #[tactic(auto, unfolding(crate::specs::Trees::tree_row))]
@@ -201,21 +236,6 @@ fn slot_name<'a>(classes: &'a FirstClasses<'_>, class: ClassNo, slot: u64) -> &'
     &[]
 }
 
-// Returns the kind of a slot of an object, which must have it.
-#[tactic(auto, unfolding(crate::specs::Trees::kind_at))]
-fn kind_at(classes: &FirstClasses<'_>, object: &ShownObject<'_>, slot: usize) -> Kind
-    requires known { IsKnown classes.now object.now.kind (length object.now.words) }
-    requires within { slot < length object.now.words }
-    ensures { result ≡ kind_at classes.now object.now slot }
-{
-    slot_kind(
-        classes,
-        object.kind(),
-        object.words().len() as u64,
-        slot as u64,
-    )
-}
-
 // Appends a space, a kind, and a word of it. Fails if an allocation fails.
 fn push_kind_and_value(text: &mut Vec<u8>, kind: Kind, word: u64) -> Result<(), AllocError>
     ensures { Appends (and_kind_and_value kind word) text.old.items text.new.items result }
@@ -239,26 +259,6 @@ fn push_class(
     };
     push_words(text, b" ")?;
     push_class_name(text, classes, object.kind())
-}
-
-// Returns the object that a slot of an object names. The object must have the slot.
-#[tactic(auto, unfolding(crate::specs::Trees::object_at_slot))]
-fn object_at_slot<'a, V: View>(
-    index: &'a ObjectIndex<'_, V>,
-    classes: &FirstClasses<'_>,
-    object: &ShownObject<'_>,
-    slot: usize,
-) -> Option<ShownObject<'a>>
-    requires classes { classes.now ≡ index.now.classes }
-    requires known { IsKnown classes.now object.now.kind (length object.now.words) }
-    requires within { slot < length object.now.words }
-    ensures { result ≡ object_at_slot index.now object.now slot }
-{
-    if kind_at(classes, object, slot).is_reference() {
-        index.object_with(object.words()[slot])
-    } else {
-        None
-    }
 }
 
 // Returns the object that a slot of an object names, if there are levels below. The object must have the slot.

@@ -147,6 +147,20 @@ fn reference_at(
     }
 }
 
+// Tells whether a slot of an object of this kind, which has `words` words, holds a reference.
+#[tactic(auto, unfolding(heap_questions::specs::Graph::slot_refers))]
+fn slot_refers(classes: &FirstClasses<'_>, kind: ObjKind, words: u64, slot: u64) -> bool
+    requires known { IsKnown classes.now kind words }
+    requires within { slot < words }
+    ensures { result ≡ slot_refers classes.now kind slot }
+{
+    match kind {
+        ObjKind::Instance(class) => classes.slots(class)[slot as usize].is_reference(),
+        ObjKind::Array(_) => true,
+        ObjKind::Prim(kind) => kind.is_reference(),
+    }
+}
+
 // Returns the lines about an object of a view.
 fn extent_lines(
     alloc: Global,
@@ -161,19 +175,5 @@ fn extent_lines(
     match extent {
         Extent::Slots(slots) => show_answer(alloc, view, id, slots, marked),
         Extent::Levels(levels) => tree_answer(alloc, view, id, levels, marked),
-    }
-}
-
-// Tells whether a slot of an object of this kind, which has `words` words, holds a reference.
-#[tactic(auto, unfolding(heap_questions::specs::Graph::slot_refers))]
-fn slot_refers(classes: &FirstClasses<'_>, kind: ObjKind, words: u64, slot: u64) -> bool
-    requires known { IsKnown classes.now kind words }
-    requires within { slot < words }
-    ensures { result ≡ slot_refers classes.now kind slot }
-{
-    match kind {
-        ObjKind::Instance(class) => classes.slots(class)[slot as usize].is_reference(),
-        ObjKind::Array(_) => true,
-        ObjKind::Prim(kind) => kind.is_reference(),
     }
 }

@@ -1,5 +1,5 @@
 use Rattle.std.proofs.Common.{inl, inr, refl}
-use Rattle.hprof_pair.proofs.PairSessions.{second_after_first}
+use Rattle.hprof_pair.proofs.SecondDumps.{second_after_first}
 use Rattle.hprof_pair.proofs.conversion.convert_pair.Goals as goal
 
 pub returns-in-Ok : goal.returns-in-Ok

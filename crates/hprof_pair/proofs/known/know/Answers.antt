@@ -1,19 +1,11 @@
-use Rattle.std.proofs.Common.{arith}
 use Rattle.hprof_convert.proofs.Endings.{found_whole}
-use Rattle.hprof_pair.proofs.PairSessions.{dump_is_told}
+use Rattle.hprof_pair.specs.declared.known.KnownDump.{KnownDump}
+use Rattle.hprof_pair.proofs.KnownDumps.{is_known}
 use Rattle.hprof_pair.proofs.known.know.Goals as goal
 
 pub returns : goal.returns
 returns c =
     let finds = c.in_ok-found.ensures in
-    let planned = c.in_ok-plan.ensures in
     let whole = found_whole _ c.in_ok-found.found finds in
-    record {
-      finds = finds;
-      planned = planned;
-      few = omega (arith, planned.counted, c.len-number.ensures.limit);
-      kinds = omega (arith, planned.placed, planned.counted);
-      dump =
-          dump_is_told _ _ _ finds.list _ _ _ (rw c.as_slice.ensures.value at c.in_ok-statics.ensures) (rw c.len.ensures.len at (c.in_ok-made.ensures finds.list whole))
-          (c.in_ok-subs.ensures finds.list whole);
-    }
+    let known : KnownDump = record { found = c.in_ok-found.found; plan = c.in_ok-plan.plan; statics = c.in_ok-statics.statics; made = c.in_ok-made.made; subs = c.in_ok-subs.subs } in
+    is_known _ _ known finds _ _ c.in_ok-plan.ensures c.len-number.ensures.limit c.as_slice.ensures.value c.in_ok-statics.ensures c.len.ensures.len (c.in_ok-made.ensures finds.list whole) (c.in_ok-subs.ensures finds.list whole)

@@ -69,9 +69,9 @@ text_with n m image classes level o p k first text between new same down named i
 -- ---- what is known of one turn
 
 -- there is no object to list: no level is left, or the slot names none
-pub none_listed : (n : ℕ) (x y : Option DumpedObject) → (0 < n → x ≡ y) → x ≡ None → (n ≡ 0) ⊎ (y ≡ None)
-none_listed zero x y h e = inl refl
-none_listed (suc n) x y h e = inr (sym (h (omega arith)) ∙ e)
+pub nothing_listed : (n : ℕ) (x y : Option DumpedObject) → (0 < n → x ≡ y) → x ≡ None → (n ≡ 0) ⊎ (y ≡ None)
+nothing_listed zero x y h e = inl refl
+nothing_listed (suc n) x y h e = inr (sym (h (omega arith)) ∙ e)
 
 -- an object is listed only if a level is left
 pub level_left : (n : ℕ) (x : Option DumpedObject) (p : DumpedObject) → (n ≡ 0 → x ≡ None) → x ≡ Some p → 0 < n

@@ -58,9 +58,9 @@ instead : {A B C D : Type 0} (o : Option C) (p : Option D) (f : C → Option A) 
 instead None p f g x h e = absurd (cc e)
 instead (Some c) p f g x h e = ap (λ q. option_and_then g q) (h c refl)
 
-mapped : {A B : Type 0} (f : A → B) (o : Option A) (y : B) → option_map f o ≡ Some y → (x : A) × (o ≡ Some x)
-mapped f None y e = absurd (cc e)
-mapped f (Some x) y e = (x, refl)
+mapped_from : {A B : Type 0} (f : A → B) (o : Option A) (y : B) → option_map f o ≡ Some y → (x : A) × (o ≡ Some x)
+mapped_from f None y e = absurd (cc e)
+mapped_from f (Some x) y e = (x, refl)
 
 -- ---- words of one event are no numbers alone
 
@@ -181,10 +181,10 @@ event_alone state w ws e is = go (bytes_eq w (codes "new")) (bytes_eq w (codes "
     go false true reads stores puts h i j k l is = alone_by w (codes "newarray") ws i (no_array ws (array_by_name_alone state.classes ws e is)) (λ bm. array_asks_nothing bm ws)
     go false false true stores puts h i j k l is = alone_by w (codes "load") ws j (no_load ws (load_by_name_alone state ws e is)) (λ bm. load_asks_nothing bm ws)
     go false false false true puts h i j k l is =
-        let x = mapped (λ (n : ℕ × ℕ × ℕ × ℕ). Store n.0 n.1 n.2 n.3) (write_by_name state ws) e is in
+        let x = mapped_from (λ (n : ℕ × ℕ × ℕ × ℕ). Store n.0 n.1 n.2 n.3) (write_by_name state ws) e is in
         alone_by w (codes "store") ws k (no_store ws (write_by_name_alone state ws x.0 x.1)) (λ bm. store_asks_nothing bm ws)
     go false false false false true h i j k l is =
-        let x = mapped (λ (n : ℕ × ℕ × ℕ × ℕ). Put n.0 n.1 n.2 n.3) (write_by_name state ws) e is in
+        let x = mapped_from (λ (n : ℕ × ℕ × ℕ × ℕ). Put n.0 n.1 n.2 n.3) (write_by_name state ws) e is in
         alone_by w (codes "put") ws l (no_put ws (write_by_name_alone state ws x.0 x.1)) (λ bm. put_asks_nothing bm ws)
     go false false false false false h i j k l is = absurd (cc is)
 
@@ -199,7 +199,7 @@ event_asks_nothing bm state [] e is = absurd (cc is)
 event_asks_nothing bm state (w ∷ ws) e is = let a = (event_alone state w ws e is).asks bm in (a.question, a.help)
 
 either_no_command : (bm : Bookmarks) (state : HeapState) (ws : List (List ℕ)) (o : Order) (order : Option Order) → order_of_words bm ws ≡ order → option_or order (option_map Act (event_of_words state ws)) ≡ Some o → command_of_words ws ≡ Bad
-either_no_command bm state ws o None h e = let x = mapped Act (event_of_words state ws) o e in event_no_command state ws x.0 x.1
+either_no_command bm state ws o None h e = let x = mapped_from Act (event_of_words state ws) o e in event_no_command state ws x.0 x.1
 either_no_command bm state ws o (Some p) h e = by_order bm ws p h
 
 pub orders_no_command : (bm : Bookmarks) (state : HeapState) (l : List ℕ) (o : Order) → order_in bm state l ≡ Some o → command_of_text l ≡ Bad
@@ -207,7 +207,7 @@ orders_no_command bm state l o e = bad_words l (either_no_command bm state (word
 
 either_asks_nothing : (bm : Bookmarks) (state : HeapState) (ws : List (List ℕ)) (o : Order) (order : Option Order) → order_of_words bm ws ≡ order → option_or order (option_map Act (event_of_words state ws)) ≡ Some o
     → (question_of_words bm ws ≡ None) × (help_of_words ws ≡ None)
-either_asks_nothing bm state ws o None h e = let x = mapped Act (event_of_words state ws) o e in event_asks_nothing bm state ws x.0 x.1
+either_asks_nothing bm state ws o None h e = let x = mapped_from Act (event_of_words state ws) o e in event_asks_nothing bm state ws x.0 x.1
 either_asks_nothing bm state ws o (Some p) h e = order_asks_nothing bm ws p h
 
 pub line_asks_nothing : (bm : Bookmarks) (state : HeapState) (l : List ℕ) (o : Order) → order_in bm state l ≡ Some o → (question_of bm l ≡ None) × (help_of l ≡ None)

@@ -4,7 +4,7 @@ use Rattle.heap_class.specs.Classes.{Class}
 use Rattle.hprof_text.specs.Image.{IsKnown}
 use Rattle.question_rows.specs.Trees.{object_at_slot}
 use Rattle.question_rows.proofs.TreeObjects.{named_known}
-use Rattle.question_rows.proofs.TreeRoom.{level_left, none_listed, object_refused, room_alone, room_with, slot_refused, text_alone, text_with}
+use Rattle.question_rows.proofs.TreeRoom.{level_left, nothing_listed, object_refused, room_alone, room_with, slot_refused, text_alone, text_with}
 use Rattle.question_rows.proofs.tree.+push_level.Goals as goal
 
 pub returns-in_err-push_slot-clause-refused : goal.returns-in_err-push_slot-clause-refused
@@ -20,7 +20,7 @@ loop-slot-preserved-in_default g t c =
     let image = c.args.index.now in
     let o = c.args.object.now in
     let k = c.loop-slot.slot in
-    let alone = none_listed c.args.below c.object_below.result (object_at_slot image o k) c.object_below.ensures.named c.in_default.is in
+    let alone = nothing_listed c.args.below c.object_below.result (object_at_slot image o k) c.object_below.ensures.named c.in_default.is in
     record {
       text = text_alone c.args.below image c.args.classes.now c.args.level o k c.args.rows.now.text.items c.loop-slot.rows.text.items c.push_slot.new.rows.text.items c.requires.classes alone c.loop-slot.invariant.text c.in_ok-push_slot.ensures.text;
       room = room_alone c.args.below image c.args.level o k c.loop-slot.rows.room c.push_slot.new.rows.room c.args.rows.now.room alone c.loop-slot.invariant.room c.in_ok-push_slot.ensures.room;

@@ -31,40 +31,41 @@ known_of elements w k is = record {
 -- the text of the session, from its parts
 abbrev text_of : KnownPair → IdSize → List ItemTold → PairTold → List ℕ → List ℕ
 text_of k ids items p lines =
-    session_text k.first.plan ids k.first.found.objects.keys items k.first.found.roots.items
-    ++ (kept_line ++ (lines ++ (lines_of (second_events p k.ways.ways.items k.second.found.roots.items root_tags) ++ collect_line)))
+    session_text k.first.now.plan ids k.first.now.found.objects.keys items k.first.now.found.roots.items
+    ++ (kept_line ++ (lines ++ (lines_of (second_events p k.both.now.ways.ways.items k.second.now.found.roots.items root_tags) ++ collect_line)))
 
 abbrev pair_of : DumpTold → DumpTold → List (Option ℕ) → List ℕ → PairTold
 pair_of a b numbers found = record { first = a; second = b; classes = numbers; found = found }
 
 -- the session of two dumps of which this is known
 pub known_makes_a_session : (elements : ℕ) (v w : Left) (k : KnownPair) (is : IsKnownPair elements v w k) (p : PairTold) → p ≡ pair_in_memory k v.ids w.ids
-    → IsPairSession elements v w (text_of k v.ids is.first.finds.list p k.joined.text.items)
+    → IsPairSession elements v w (text_of k v.ids is.first.finds.list p k.both.now.joined.text.items)
+unfolding known_of
 known_makes_a_session elements v w k is p told = record {
   first = a;
   second = b;
-  ways = k.ways.ways.items;
-  are_ways = subst (λ (d : DumpTold). AreWays d (root_ways d.all k.first.found.roots.items 0 root_tags) k.ways.ways.items) is.first.dump is.ways;
+  ways = k.both.now.ways.ways.items;
+  are_ways = subst (λ (d : DumpTold). AreWays d (root_ways d.all k.first.now.found.roots.items 0 root_tags) k.both.now.ways.ways.items) is.first.dump is.ways;
   is =
-      ap (λ (q : PairTold). text q k.joined.text.items) (told ∙ same)
-      ∙ ap (text (pair_in a b numbers k.ways.ways.items)) is.joined.text;
+      ap (λ (q : PairTold). text q k.both.now.joined.text.items) (told ∙ same)
+      ∙ ap (text (pair_in a b numbers k.both.now.ways.ways.items)) is.joined.text;
 }
   where
     a : Known elements v
-    a = known_of elements v k.first is.first
+    a = known_of elements v k.first.now is.first
 
     b : Known elements w
-    b = known_of elements w k.second is.second
+    b = known_of elements w k.second.now is.second
 
     numbers : List (Option ℕ)
-    numbers = (joined widest_classes k.first.plan.classes (take k.second.plan.roots k.second.plan.classes)).numbers
+    numbers = (joined widest_classes k.first.now.plan.classes (take k.second.now.plan.roots k.second.now.plan.classes)).numbers
 
     text : PairTold → List ℕ → List ℕ
     text q lines = text_of k v.ids is.first.finds.list q lines
 
-    same : pair_in_memory k v.ids w.ids ≡ pair_in a b numbers k.ways.ways.items
+    same : pair_in_memory k v.ids w.ids ≡ pair_in a b numbers k.both.now.ways.ways.items
     same =
-        ap (λ (d : DumpTold). pair_of d (dump_in_memory k.second w.ids) k.joined.numbers.items k.ways.found.keys) is.first.dump
-        ∙ ap (λ (d : DumpTold). pair_of (dump_in a) d k.joined.numbers.items k.ways.found.keys) is.second.dump
-        ∙ ap (λ (ns : List (Option ℕ)). pair_of (dump_in a) (dump_in b) ns k.ways.found.keys) is.joined.numbers
+        ap (λ (d : DumpTold). pair_of d (dump_in_memory k.second.now w.ids) k.both.now.joined.numbers.items k.both.now.ways.found.keys) is.first.dump
+        ∙ ap (λ (d : DumpTold). pair_of (dump_in a) d k.both.now.joined.numbers.items k.both.now.ways.found.keys) is.second.dump
+        ∙ ap (λ (ns : List (Option ℕ)). pair_of (dump_in a) (dump_in b) ns k.both.now.ways.found.keys) is.joined.numbers
         ∙ ap (pair_of (dump_in a) (dump_in b) numbers) is.found

@@ -23,19 +23,19 @@ dump_in_memory k ids = record {
     plan = k.plan;
     ids = ids;
     objects = k.found.objects.keys;
-    made = k.made.items;
-    statics = k.statics.keys;
+    made = k.objects.made.items;
+    statics = k.objects.statics.keys;
   };
-  subs = map sub_record k.subs.items;
+  subs = map sub_record k.objects.subs.items;
 }
 
 -- two dumps, whose identifiers have these sizes
 abbrev pub pair_in_memory : KnownPair → IdSize → IdSize → PairTold
 pair_in_memory k before after = record {
-  first = dump_in_memory k.first before;
-  second = dump_in_memory k.second after;
-  classes = k.joined.numbers.items;
-  found = k.ways.found.keys;
+  first = dump_in_memory k.first.now before;
+  second = dump_in_memory k.second.now after;
+  classes = k.both.now.joined.numbers.items;
+  found = k.both.now.ways.found.keys;
 }
 
 -- this is found in what a walk over a dump comes to, this is the plan of its classes, and these are its objects
@@ -52,10 +52,10 @@ pub record IsKnown (elements : ℕ) (w : Left) (k : KnownDump) : Type 0 where
 
 -- so it is with two dumps, these ways lead to the objects of the first, and these are the classes of both
 pub record IsKnownPair (elements : ℕ) (v w : Left) (k : KnownPair) : Type 0 where
-  pub first : IsKnown elements v k.first
-  pub second : IsKnown elements w k.second
-  pub ways : AreWays (dump_in_memory k.first v.ids)
-      (root_ways (dump_in_memory k.first v.ids).all k.first.found.roots.items 0 root_tags) k.ways.ways.items
-  pub found : k.ways.found.keys ≡ numbers_of k.ways.ways.items
-  pub joined : AreJoined k.first.plan.classes k.joined
-      (joined widest_classes k.first.plan.classes (take k.second.plan.roots k.second.plan.classes))
+  pub first : IsKnown elements v k.first.now
+  pub second : IsKnown elements w k.second.now
+  pub ways : AreWays (dump_in_memory k.first.now v.ids)
+      (root_ways (dump_in_memory k.first.now v.ids).all k.first.now.found.roots.items 0 root_tags) k.both.now.ways.ways.items
+  pub found : k.both.now.ways.found.keys ≡ numbers_of k.both.now.ways.ways.items
+  pub joined : AreJoined k.first.now.plan.classes k.both.now.joined
+      (joined widest_classes k.first.now.plan.classes (take k.second.now.plan.roots k.second.now.plan.classes))

@@ -6,12 +6,14 @@ ghost use Rattle.hprof_session.specs.Walks.{ItemTold, left};
 ghost use Rattle.hprof_lines.specs.Outputs.{Writes};
 ghost use Rattle.hprof_lines.specs.Passes.{IsWhole};
 ghost use Rattle.hprof_lines.specs.Sessions.{root_tags, session_text};
+ghost use Rattle.hprof_convert.specs.Conversions.{elements_with};
 ghost use Rattle.hprof_pair.specs.Conversions.{ArePairConverted, IsPairPut, IsSecondConverted};
 ghost use Rattle.hprof_pair.specs.Events.{second_events};
+ghost use Rattle.hprof_pair.specs.KnownPairs.{IsKnown, IsKnownPair};
 ghost use Rattle.hprof_pair.specs.Pairs.{pair_told};
 ghost use Rattle.hprof_pair.specs.Sessions.{collect_line, kept_line};
 
-use crate::known::{KnownDump, KnownPair, know_pair};
+use crate::known::{KnownDump, KnownPair, know, know_both};
 use crate::left_out::{Lost, count_lost};
 use crate::pair::Pair;
 use crate::session::write_second;
@@ -123,13 +125,71 @@ fn convert_walks<O: Outlet>(
     ensures { IsPairPut area (left before.entry) (left after.entry) (O.seen outlet.old)
         (O.seen outlet.new) result }
 {
-    let elements = elements_with(area);
-    let known = know_pair(alloc, elements, before, after)?;
-    let pair = known.pair(before.ids, after.ids);
-    if !write_pair(alloc, outlet, before, &known, &pair)? {
+    let first = know(alloc, elements_with(area), before)?;
+    convert_after(alloc, outlet, area, (before, after), sizes, &first)
+}
+
+// Puts out the session of two dumps, of the first of which this is known, and counts what is left out. The dumps have these sizes.
+fn convert_after<O: Outlet>(
+    alloc: Global,
+    outlet: &mut O,
+    area: bool,
+    walks: (Walk<'_>, Walk<'_>),
+    sizes: (u64, u64),
+    first: &KnownDump<'_>,
+) -> Result<BothConverted, PairFailure>
+    requires { IsKnown (elements_with area) (left walks.0) first.now }
+    ensures { IsPairPut area (left walks.entry.0) (left walks.entry.1) (O.seen outlet.old)
+        (O.seen outlet.new) result }
+{
+    let second = know(alloc, elements_with(area), walks.1)?;
+    convert_known(alloc, outlet, area, walks, sizes, first, &second)
+}
+
+// Puts out the session of two dumps of which this is known, and counts what is left out. The dumps have these sizes.
+fn convert_known<O: Outlet>(
+    alloc: Global,
+    outlet: &mut O,
+    area: bool,
+    walks: (Walk<'_>, Walk<'_>),
+    sizes: (u64, u64),
+    first: &KnownDump<'_>,
+    second: &KnownDump<'_>,
+) -> Result<BothConverted, PairFailure>
+    requires first { IsKnown (elements_with area) (left walks.0) first.now }
+    requires second { IsKnown (elements_with area) (left walks.1) second.now }
+    ensures { IsPairPut area (left walks.entry.0) (left walks.entry.1) (O.seen outlet.old)
+        (O.seen outlet.new) result }
+{
+    let both = know_both(alloc, elements_with(area), walks.0.ids, first, second)?;
+    let known = KnownPair {
+        first,
+        second,
+        both: &both,
+    };
+    put_known(alloc, outlet, area, walks, sizes, &known)
+}
+
+// Puts out the session of a pair of dumps of which all is known, and counts what is left out. The dumps have these sizes.
+fn put_known<O: Outlet>(
+    alloc: Global,
+    outlet: &mut O,
+    area: bool,
+    walks: (Walk<'_>, Walk<'_>),
+    sizes: (u64, u64),
+    known: &KnownPair<'_, '_, '_>,
+) -> Result<BothConverted, PairFailure>
+    requires { IsKnownPair (elements_with area) (left walks.0) (left walks.1) known.now }
+    ensures { IsPairPut area (left walks.entry.0) (left walks.entry.1) (O.seen outlet.old)
+        (O.seen outlet.new) result }
+{
+    // Only the contract uses it.
+    let _area = area;
+    let pair = known.pair(walks.0.ids, walks.1.ids);
+    if !write_pair(alloc, outlet, walks.0, known, &pair)? {
         return Err(PairFailure::Write);
     }
-    Ok(count_both(alloc, (before, after), sizes, &known, &pair)?)
+    Ok(count_both(alloc, walks, sizes, known, &pair)?)
 }
 
 // Puts out the session of two dumps. Tells whether all of it is out. Fails if an allocation fails.
@@ -137,12 +197,12 @@ fn write_pair<O: Outlet>(
     alloc: Global,
     outlet: &mut O,
     walk: Walk<'_>,
-    known: &KnownPair<'_, '_>,
+    known: &KnownPair<'_, '_, '_>,
     pair: &Pair<'_, '_, '_>,
 ) -> Result<bool, AllocError>
-    requires kinds { index_map_len known.now.first.plan.kinds
-        ≤ length known.now.first.plan.classes }
-    requires classes { known.now.first.plan.roots < 2 ^ 62 }
+    requires kinds { index_map_len known.now.first.now.plan.kinds
+        ≤ length known.now.first.now.plan.classes }
+    requires classes { known.now.first.now.plan.roots < 2 ^ 62 }
     requires first { index_map_len pair.now.first.all.plan.now.kinds
         ≤ length pair.now.first.all.plan.now.classes }
     requires second { index_map_len pair.now.second.all.plan.now.kinds
@@ -150,19 +210,19 @@ fn write_pair<O: Outlet>(
     requires roots { pair.now.first.all.plan.now.roots < 2 ^ 62 }
     ensures { (items : List ItemTold) → IsWhole (left walk.entry) items
         → Writes (O.seen outlet.old) (O.seen outlet.new)
-        (session_text known.now.first.plan walk.entry.ids known.now.first.found.objects.keys items
-        known.now.first.found.roots.items
-        ++ (kept_line ++ (known.now.joined.text.items
-        ++ (lines_of (second_events (pair_told pair.now) known.now.ways.ways.items
-        known.now.second.found.roots.items root_tags) ++ collect_line)))) result }
+        (session_text known.now.first.now.plan walk.entry.ids known.now.first.now.found.objects.keys items
+        known.now.first.now.found.roots.items
+        ++ (kept_line ++ (known.now.both.now.joined.text.items
+        ++ (lines_of (second_events (pair_told pair.now) known.now.both.now.ways.ways.items
+        known.now.second.now.found.roots.items root_tags) ++ collect_line)))) result }
 {
     let (plan, found) = (&known.first.plan, &known.first.found);
     let roots = found.roots.as_slice();
     if !write_session(alloc, outlet, walk, plan, &found.objects, roots)? {
         return Ok(false);
     }
-    let text = known.joined.text.as_slice();
-    let ways = known.ways.ways.as_slice();
+    let text = known.both.joined.text.as_slice();
+    let ways = known.both.ways.ways.as_slice();
     let roots = known.second.found.roots.as_slice();
     write_second(alloc, outlet, pair, text, ways, roots)
 }
@@ -172,19 +232,19 @@ fn count_both(
     alloc: Global,
     walks: (Walk<'_>, Walk<'_>),
     sizes: (u64, u64),
-    known: &KnownPair<'_, '_>,
+    known: &KnownPair<'_, '_, '_>,
     pair: &Pair<'_, '_, '_>,
 ) -> Result<BothConverted, AllocError>
-    requires first { index_map_len known.now.first.plan.kinds
-        ≤ length known.now.first.plan.classes }
-    requires second { index_map_len known.now.second.plan.kinds
-        ≤ length known.now.second.plan.classes }
+    requires first { index_map_len known.now.first.now.plan.kinds
+        ≤ length known.now.first.now.plan.classes }
+    requires second { index_map_len known.now.second.now.plan.kinds
+        ≤ length known.now.second.now.plan.classes }
     requires pair { index_map_len pair.now.second.all.plan.now.kinds
         ≤ length pair.now.second.all.plan.now.classes }
 {
     let lost = count_lost(alloc, pair, known.second.found.roots.as_slice())?;
-    let first = left_out(alloc, walks.0, &known.first, sizes.0)?;
-    let second = left_out(alloc, walks.1, &known.second, sizes.1)?;
+    let first = left_out(alloc, walks.0, known.first, sizes.0)?;
+    let second = left_out(alloc, walks.1, known.second, sizes.1)?;
     Ok(BothConverted {
         first,
         second: with_lost(second, lost),

@@ -1,37 +1,13 @@
-use Rattle.std.proofs.Common.{ℕ, inl, inr, refl, subst}
+use Rattle.std.proofs.Common.{ℕ, inl, refl, subst}
 use Rattle.std.proofs.lemmas.Result.{err_from_is_err_and}
-use Rattle.hprof_convert.proofs.Endings.{all_is_a_part, found_whole}
-use Rattle.hprof_pair.specs.KnownPairs.{IsKnownPair}
-use Rattle.hprof_pair.proofs.PairSessions.{known_makes_a_session}
+use Rattle.hprof_session.specs.Walks.{left}
+use Rattle.hprof_pair.specs.KnownPairs.{IsKnown}
 use Rattle.hprof_pair.proofs.conversion.convert_walks.Goals as goal
 
-pub returns-in_err-known : goal.returns-in_err-known
-returns-in_err-known g c =
+pub convert_after-requires : goal.convert_after-requires
+convert_after-requires g c = subst (λ (n : ℕ). IsKnown n (left c.args.before) c.in_ok-first.first) c.elements_with.ensures c.in_ok-first.ensures
+
+pub returns-in_err-first : goal.returns-in_err-first
+returns-in_err-first g c =
     let e = err_from_is_err_and c.from_residual.result c.from_residual.ensures.1 in
     rw (e.1, e.2) (inl refl)
-
-pub returns-in_err-write_pair : goal.returns-in_err-write_pair
-returns-in_err-write_pair g c =
-    let known = subst (λ (n : ℕ). IsKnownPair n _ _ c.in_ok-known.known) c.elements_with-elements.ensures c.in_ok-known.ensures in
-    let finds = known.first.finds in
-    let e = err_from_is_err_and c.from_residual-in_err-write_pair.result c.from_residual-in_err-write_pair.ensures.1 in
-    rw (e.1, e.2) (inr (_, known_makes_a_session _ _ _ c.in_ok-known.known known _ c.pair-pair.ensures.told, c.in_err-write_pair.ensures finds.list (found_whole _ _ finds)))
-
-pub returns-then-not-branch : goal.returns-then-not-branch
-returns-then-not-branch g c =
-    let known = subst (λ (n : ℕ). IsKnownPair n _ _ c.in_ok-known.known) c.elements_with-elements.ensures c.in_ok-known.ensures in
-    let finds = known.first.finds in
-    (_, known_makes_a_session _ _ _ c.in_ok-known.known known _ c.pair-pair.ensures.told, rw c.if-not-branch.true at (c.in_ok-write_pair.ensures finds.list (found_whole _ _ finds)))
-
-pub returns-in_err-count_both : goal.returns-in_err-count_both
-returns-in_err-count_both g c =
-    let known = subst (λ (n : ℕ). IsKnownPair n _ _ c.in_ok-known.known) c.elements_with-elements.ensures c.in_ok-known.ensures in
-    let finds = known.first.finds in
-    let e = err_from_is_err_and c.from_residual-in_err-count_both.result c.from_residual-in_err-count_both.ensures.1 in
-    rw (e.1, e.2) (inr (_, known_makes_a_session _ _ _ c.in_ok-known.known known _ c.pair-pair.ensures.told, all_is_a_part _ _ _ (rw c.if-not-branch.false at (c.in_ok-write_pair.ensures finds.list (found_whole _ _ finds)))))
-
-pub returns : goal.returns
-returns g c =
-    let known = subst (λ (n : ℕ). IsKnownPair n _ _ c.in_ok-known.known) c.elements_with-elements.ensures c.in_ok-known.ensures in
-    let finds = known.first.finds in
-    (_, known_makes_a_session _ _ _ c.in_ok-known.known known _ c.pair-pair.ensures.told, rw c.if-not-branch.false at (c.in_ok-write_pair.ensures finds.list (found_whole _ _ finds)))

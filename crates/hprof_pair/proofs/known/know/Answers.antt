@@ -7,5 +7,5 @@ pub returns : goal.returns
 returns c =
     let finds = c.in_ok-found.ensures in
     let whole = found_whole _ c.in_ok-found.found finds in
-    let known : KnownDump = record { found = c.in_ok-found.found; plan = c.in_ok-plan.plan; statics = c.in_ok-statics.statics; made = c.in_ok-made.made; subs = c.in_ok-subs.subs } in
-    is_known _ _ known finds _ _ c.in_ok-plan.ensures c.len-number.ensures.limit c.as_slice.ensures.value c.in_ok-statics.ensures c.len.ensures.len (c.in_ok-made.ensures finds.list whole) (c.in_ok-subs.ensures finds.list whole)
+    let known : KnownDump = record { found = c.in_ok-found.found; plan = c.in_ok-plan.plan; objects = c.in_ok-objects.objects } in
+    is_known _ _ known finds c.in_ok-plan.ensures c.len-number.ensures.limit c.in_ok-objects.ensures.statics (c.in_ok-objects.ensures.made finds.list whole) (c.in_ok-objects.ensures.subs finds.list whole)

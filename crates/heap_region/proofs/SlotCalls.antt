@@ -103,8 +103,8 @@ totals_of_word slots c at slot value totals there after is =
     (λ u e. (cell_within u at.cell (object_told slots at there u e), no_word_counts c (cell_object u at.cell) (word_set slot value) (λ o. refl) (λ o. refl))) after is
 
 -- the object of a header that is told
-told_object : (slots : List (Option UsedRegion)) (at : ObjRef) (was : Header) → IfSome (object_at (map shown_region slots) at) (λ o. was ≡ header_of o) → IsSome (object_at (map shown_region slots) at) → (u : UsedRegion) → get_or slots at.region None ≡ Some u → IsSomeAnd (cell_object u at.cell) (λ o. was ≡ header_of o)
-told_object slots at was told there u e = go (cell_object u at.cell) (object_told slots at there u e) (subst (λ x. IfSome (slot_object x at.cell) (λ o. was ≡ header_of o)) e (rw (object_shown slots at) at told))
+told_object : (slots : List (Option UsedRegion)) (at : ObjRef) (was : Header) → IfSome (slot_object (get_or slots at.region None) at.cell) (λ o. was ≡ header_of o) → IsSome (object_at (map shown_region slots) at) → (u : UsedRegion) → get_or slots at.region None ≡ Some u → IsSomeAnd (cell_object u at.cell) (λ o. was ≡ header_of o)
+told_object slots at was told there u e = go (cell_object u at.cell) (object_told slots at there u e) (subst (λ x. IfSome (slot_object x at.cell) (λ o. was ≡ header_of o)) e told)
   where
     go : (x : Option Object) → IsSome x → IfSome x (λ o. was ≡ header_of o) → IsSomeAnd x (λ o. was ≡ header_of o)
     go None some h = absurd (cc)
@@ -116,7 +116,7 @@ pub record AreMoreHeaders (c : Counts) (was : Header) : Type 0 where
   pub unmarked : one_if (header_unmarked (Some was)) ≤ c.unmarked
   pub dead : one_if (header_dead (Some was)) ≤ c.dead
 
-pub object_totalled : (slots : List (Option UsedRegion)) (c : Counts) (at : ObjRef) (was : Header) → AreTotals slots c → IfSome (object_at (map shown_region slots) at) (λ o. was ≡ header_of o) → IsSome (object_at (map shown_region slots) at) → AreMoreHeaders c was
+pub object_totalled : (slots : List (Option UsedRegion)) (c : Counts) (at : ObjRef) (was : Header) → AreTotals slots c → IfSome (slot_object (get_or slots at.region None) at.cell) (λ o. was ≡ header_of o) → IsSome (object_at (map shown_region slots) at) → AreMoreHeaders c was
 object_totalled slots c at was totals told there = go (get_or slots at.region None) refl (slot_of_object slots at there).1
   where
     of_cell : (u : UsedRegion) (x : Option Object) → AreMoreObjects c x → IsSomeAnd x (λ o. was ≡ header_of o) → AreMoreHeaders c was
@@ -192,7 +192,7 @@ totals_of_filled slots c d at o n totals ready good new is objects unmarked dead
         )
 
 -- a cell is freed
-pub totals_of_freed : (slots : List (Option UsedRegion)) (c d : Counts) (at : ObjRef) → AreTotals slots c → IsSome (object_at (map shown_region slots) at) → (was : Header) → IfSome (object_at (map shown_region slots) at) (λ o. was ≡ header_of o)
+pub totals_of_freed : (slots : List (Option UsedRegion)) (c d : Counts) (at : ObjRef) → AreTotals slots c → IsSome (object_at (map shown_region slots) at) → (was : Header) → IfSome (slot_object (get_or slots at.region None) at.cell) (λ o. was ≡ header_of o)
     → d.objects + one_if (is_some (Some was)) ≡ c.objects → d.unmarked + one_if (header_unmarked (Some was)) ≡ c.unmarked → d.dead + one_if (header_dead (Some was)) ≡ c.dead
     → (after : List (Option UsedRegion)) → after ≡ set slots at.region (option_map (λ u. cell_freed u at.cell) (get_or slots at.region None)) → AreTotals after d
 totals_of_freed slots c d at totals there was told objects unmarked dead after is =

@@ -398,11 +398,13 @@ impl Block {
         }
     }
 
-    // Makes a cell free.
-    pub(crate) fn free(&mut self, cell: usize)
-        requires { cell < length self.old.headers }
-        ensures { self.new
+    // Makes a cell free, which must have an object. Returns the header that it had.
+    #[inline(always)]
+    pub(crate) fn free(&mut self, cell: usize) -> Header
+        requires { IsSome (slice_index_or self.old.headers cell None) }
+        ensures state { self.new
             ≡ record self.old { headers = slice_set self.old.headers cell None } }
+        ensures was { slice_index_or self.old.headers cell None ≡ Some result }
     {
         match &mut self.parts {
             Parts::Region(block) => block.headers.free(cell),

@@ -30,6 +30,18 @@ impl Model for Headers {
     ghost invariant = { λ h. IsCounted (shown_headers h.turn h.kept.items) h.counts };
 }
 
+// Returns the header in a cell. There must be one.
+#[inline(always)]
+fn header_in(header: Option<Header>) -> Header
+    requires { IsSome header }
+    ensures { header ≡ Some result }
+{
+    match header {
+        Some(header) => header,
+        None => unreachable!(),
+    }
+}
+
 // Returns a bit of the header in a cell. There must be one.
 #[inline(always)]
 fn bit_in(header: Option<Header>, bit: Bit) -> bool
@@ -199,14 +211,17 @@ impl Headers {
         was
     }
 
-    // Makes a cell free.
-    pub(crate) fn free(&mut self, cell: usize)
-        requires { cell < length self.old }
-        ensures { self.new ≡ slice_set self.old cell None }
+    // Makes a cell free, which must have an object. Returns the header that it had.
+    #[inline(always)]
+    pub(crate) fn free(&mut self, cell: usize) -> Header
+        requires { IsSome (slice_index_or self.old cell None) }
+        ensures state { self.new ≡ slice_set self.old cell None }
+        ensures was { slice_index_or self.old cell None ≡ Some result }
     {
-        let was = self.at(cell);
-        self.counts = self.counts.without(was);
+        let was = header_in(self.at(cell));
+        self.counts = self.counts.without(Some(was));
         set_free(&mut self.kept, cell);
+        was
     }
 
     // Makes each object live if it was marked, and marked if it wasn't live.

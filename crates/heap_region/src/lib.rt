@@ -13,7 +13,7 @@ ghost use Rattle.heap_region.specs.RegionCopies.{region_frozen};
 ghost use Rattle.heap_region.specs.Regions.{FitsWords, Object, UsedRegion, in_used, object_at, object_of, used_at, id_of, ref_of, with_object, with_word};
 ghost use Rattle.heap_region.specs.Pool.{RegionPool, opening_pool, alloc_refusal, is_fresh, free_place, pending_place, first_run, new_place, taken, freed, released, restored, allocated, unallocated, blank_object};
 ghost use Rattle.heap_region.specs.Legal.{IsCellTable, IsRegionPool, MayRestore};
-ghost use Rattle.heap_region.specs.Layout.{IsCellSize, bit_set, header_of};
+ghost use Rattle.heap_region.specs.Layout.{IsCellSize, bit_set};
 ghost use Rattle.heap_region.specs.Changes.{WritesLive, WritesMark, WritesPending};
 ghost use Rattle.heap_region.specs.Live.{cells_of, is_dead, is_live};
 ghost use Rattle.heap_region.specs.Turns.{turned_region, turned_back_region, unmarked_total};
@@ -470,9 +470,8 @@ impl Regions {
             → self.old ≡ taken at o before → self.new ≡ before }
     {
         let region = at.region as usize;
-        let was = self.header(at);
+        let (full, was) = self.slots.free(region, at.cell as usize);
         self.totals = self.totals.without(Some(was));
-        let full = self.slots.free(region, at.cell as usize);
         if full {
             self.free_classes.set(region, self.slots.free_class(region));
         }
@@ -651,23 +650,6 @@ impl Regions {
         ensures limit { IfSome result (λ region. region < region_limit) }
     {
         self.slots.first_run(self.area_start, count)
-    }
-
-    // Returns the header of the object in the cell, which must have one.
-    #[tactic(auto, using(crate::proofs::ShownRegions::object_lookups))]
-    #[inline(always)]
-    fn header(&self, at: ObjRef) -> Header
-        requires { IsSome (object_at self.now.regions at) }
-        ensures { IfSome (object_at self.now.regions at) (λ o. result ≡ header_of o) }
-    {
-        let storage = self.storage(at.region as usize);
-        let (live, mark) = storage.bits(at.cell as usize);
-        Header {
-            kind: storage.kind(at.cell as usize),
-            len: storage.len(at.cell as usize),
-            live,
-            mark,
-        }
     }
 
     // Writes a bit of an object, which must be there.

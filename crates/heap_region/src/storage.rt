@@ -432,17 +432,20 @@ impl Storage {
         })
     }
 
-    // Takes the object out of the cell, which then heads the free list.
+    // Takes the object out of the cell, which then heads the free list. Returns the object's header.
     #[tactic(auto, using(crate::proofs::Cells::headers_lie))]
-    pub(crate) fn free(&mut self, cell: usize)
+    #[inline(always)]
+    pub(crate) fn free(&mut self, cell: usize) -> Header
         requires { IsSome (cell_object self.old cell) }
+        ensures was { IfSome (cell_object self.old cell) (λ o. result ≡ header_of o) }
         ensures state { self.new ≡ cell_freed self.old cell }
         ensures whole { IsWholeRegion self.new }
     {
         let start = cell * self.cell_size as usize;
         self.block.set_word(start, self.head as u64);
-        self.block.free(cell);
+        let was = self.block.free(cell);
         self.head = (cell + 1) as u16;
+        was
     }
 
     // Puts a new object into the cell, which heads the free list.

@@ -4,13 +4,13 @@ ghost use Rattle.std.specs.List.{range_with_len};
 ghost use Rattle.heap_region.specs.Regions.{FitsWords, regions_for, slot_object};
 ghost use Rattle.heap_region.specs.Pool.{blank_object, cell_freed, is_run};
 ghost use Rattle.heap_region.specs.Legal.{IsArea};
-ghost use Rattle.heap_region.specs.Layout.{Heads, IsWholeRegion, changed_at, cell_filled, bit_of, bit_set, pending_set, word_set, words_of};
+ghost use Rattle.heap_region.specs.Layout.{Heads, IsWholeRegion, changed_at, cell_filled, bit_of, bit_set, header_of, pending_set, word_set, words_of};
 ghost use Rattle.heap_region.specs.Table.{first_in, free_class_of, shown_region, wait_class_of};
 ghost use Rattle.heap_region.specs.Limits.{cell_limit, region_limit};
 ghost use Rattle.heap_region.specs.Slots.{shown_slot};
 ghost use Rattle.heap_region.specs.Turns.{turned_region, turned_back_region};
 
-use crate::cell::Bit;
+use crate::cell::{Bit, Header};
 use crate::quarter::Quarter;
 use crate::region_view::RegionView;
 use crate::sizes::regions_for;
@@ -163,14 +163,17 @@ impl Slots {
         take_in(&mut self.slots[region], self.turns, cell, kind, len, mark)
     }
 
-    // Takes the object out of its cell. Tells whether no cell was free before.
-    pub(crate) fn free(&mut self, region: usize, cell: usize) -> bool
+    // Takes the object out of its cell. Tells whether no cell was free before, and the object's header.
+    #[inline(always)]
+    pub(crate) fn free(&mut self, region: usize, cell: usize) -> (bool, Header)
         requires { IsSome (slot_object (slice_index_or self.old region None) cell) }
         ensures state { self.new
             ≡ slice_set self.old region
             (option_map (λ u. cell_freed u cell) (slice_index_or self.old region None)) }
         ensures whole { IfSome (slice_index_or self.new region None) (λ u. IsWholeRegion u) }
-        ensures full { result ≡ is_none (first_in (slice_index_or self.old region None)) }
+        ensures full { result.0 ≡ is_none (first_in (slice_index_or self.old region None)) }
+        ensures was { IfSome (slot_object (slice_index_or self.old region None) cell)
+            (λ o. result.1 ≡ header_of o) }
     {
         free_in(&mut self.slots[region], self.turns, cell)
     }

@@ -34,7 +34,8 @@ impl Model for Waits {
 // Returns the class that is kept or read, if the other is read or kept.
 #[inline(always)]
 fn class_read(odd: bool, class: u8) -> u8
-    ensures { result ≡ wait_turned odd class }
+    ensures value { result ≡ wait_turned odd class }
+    ensures limit { 1 ≤ class → 1 ≤ result }
 {
     if odd {
         match class {

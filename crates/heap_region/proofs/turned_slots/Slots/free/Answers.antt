@@ -1,5 +1,5 @@
-use Rattle.std.proofs.Common.{arith, IsSome, IfSome, is_none, sym, subst, ap, ◌∙◌}
-use Rattle.heap_region.specs.Layout.{IsWholeRegion, bit_set, cell_filled, changed_at, pending_set, word_set}
+use Rattle.std.proofs.Common.{◌≡◌, arith, IsSome, IfSome, is_none, sym, subst, ap, ◌∙◌}
+use Rattle.heap_region.specs.Layout.{IsWholeRegion, bit_set, header_of, cell_filled, changed_at, pending_set, word_set}
 use Rattle.heap_region.specs.Pool.{blank_object, cell_freed}
 use Rattle.heap_region.specs.Regions.{slot_object}
 use Rattle.heap_region.specs.Table.{first_in}
@@ -36,3 +36,9 @@ returns-clause-full c =
     let i = c.self.inside in
     let lt = used_slot_within i.turns i.slots.items c.args.region (slot_of_object_is_used _ c.args.cell (rw (← c.self.view_is) at c.requires)) in
     rw (← c.self.view_is) (c.free_in.ensures.full ∙ ap (λ x. is_none (first_in x)) (slot_shows i.turns i.slots.items c.args.region _ lt c.index_mut.ensures.value))
+
+pub returns-clause-was : goal.returns-clause-was
+returns-clause-was c =
+    let i = c.self.inside in
+    let lt = used_slot_within i.turns i.slots.items c.args.region (slot_of_object_is_used _ c.args.cell (rw (← c.self.view_is) at c.requires)) in
+    rw (← c.self.view_is) (subst (λ x. IfSome (slot_object x c.args.cell) (λ o. c.free_in.result.1 ≡ header_of o)) (slot_shows i.turns i.slots.items c.args.region _ lt c.index_mut.ensures.value) c.free_in.ensures.was)

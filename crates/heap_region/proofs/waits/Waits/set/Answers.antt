@@ -12,4 +12,4 @@ set-requires c =
 pub returns : goal.returns
 returns c =
     let i = c.self.inside in
-    rw (← c.self.view_is, c.set.ensures, c.class_read.ensures) (map-set (wait_turned i.odd) i.classes c.args.region (wait_turned i.odd c.args.class) ∙ ap (set (map (wait_turned i.odd) i.classes) c.args.region) (wait_read i.odd c.args.class))
+    rw (← c.self.view_is, c.set.ensures, c.class_read.ensures.value) (map-set (wait_turned i.odd) i.classes c.args.region (wait_turned i.odd c.args.class) ∙ ap (set (map (wait_turned i.odd) i.classes) c.args.region) (wait_read i.odd c.args.class))

@@ -15,7 +15,7 @@ use Rattle.heap_region.proofs.Sound.{shown}
 
 -- ---- headers that are all changed, but not in their lengths
 
-abbrev KeepsLen : (Header → Header) → Type 0
+abbrev pub KeepsLen : (Header → Header) → Type 0
 KeepsLen f = (h : Header) → (f h).len ≡ h.len
 
 vacant_after_header_map : (f : Header → Header) (hs : List (Option Header)) → map is_none (map (option_map f) hs) ≡ map is_none hs
@@ -23,7 +23,7 @@ vacant_after_header_map f [] = refl
 vacant_after_header_map f (None ∷ hs) = ap (λ bs. true ∷ bs) (vacant_after_header_map f hs)
 vacant_after_header_map f (Some h ∷ hs) = ap (λ bs. false ∷ bs) (vacant_after_header_map f hs)
 
-header_map_keeps_fit : (f : Header → Header) → KeepsLen f → (size : ℕ) (hs : List (Option Header)) (cell : ℕ) → CellHeaderFits size (get_or hs cell None) → CellHeaderFits size (get_or (map (option_map f) hs) cell None)
+pub header_map_keeps_fit : (f : Header → Header) → KeepsLen f → (size : ℕ) (hs : List (Option Header)) (cell : ℕ) → CellHeaderFits size (get_or hs cell None) → CellHeaderFits size (get_or (map (option_map f) hs) cell None)
 header_map_keeps_fit f len size [] cell fits = fits
 header_map_keeps_fit f len size (None ∷ hs) zero fits = fits
 header_map_keeps_fit f len size (Some h ∷ hs) zero fits = rw (len h) fits

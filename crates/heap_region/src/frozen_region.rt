@@ -1,7 +1,7 @@
 //! A copy of a region, to be read after the region was overwritten.
 ghost use Rattle.std.specs.Prelude.{◌≡◌, ◌*◌, ◌+◌, ◌<◌, ◌≤◌, length, IfOk, IsSome, IfSome, Some};
 ghost use Rattle.heap_region.specs.Regions.{FitsWords, UsedRegion};
-ghost use Rattle.heap_region.specs.Turns.{turned_by};
+ghost use Rattle.heap_region.specs.Turns.{turned_back_region, turned_by, turned_region};
 ghost use Rattle.heap_region.specs.RegionCopies.{frozen, frozen_object, frozen_with, frozen_word_set, frozen_words};
 ghost use Rattle.heap_region.specs.Limits.{heap_words};
 
@@ -49,18 +49,34 @@ impl Storage {
 }
 
 impl FrozenRegion {
+    // Turns the bits of all objects.
+    fn turn(&mut self)
+        ensures { (u : UsedRegion) → self.old ≡ frozen u → self.new ≡ frozen (turned_region u) }
+    {
+        self.block.turn();
+    }
+
+    // Undoes `turn`.
+    fn turn_back(&mut self)
+        ensures { (u : UsedRegion) → self.old ≡ frozen u
+            → self.new ≡ frozen (turned_back_region u) }
+    {
+        self.block.turn_back();
+    }
+
     // Turns the bits of all objects so many times, modulo 4.
+    #[tactic(auto, unfolding(crate::specs::Turns::turned_by))]
     pub(crate) fn turn_by(&mut self, turns: Quarter)
         ensures { (u : UsedRegion) → self.old ≡ frozen u → self.new ≡ frozen (turned_by turns u) }
     {
         match turns {
             Quarter::Zero => {}
-            Quarter::One => self.block.turn(),
+            Quarter::One => self.turn(),
             Quarter::Two => {
-                self.block.turn();
-                self.block.turn();
+                self.turn();
+                self.turn();
             }
-            Quarter::Three => self.block.turn_back(),
+            Quarter::Three => self.turn_back(),
         }
     }
 

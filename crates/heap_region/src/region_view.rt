@@ -53,7 +53,6 @@ pub(crate) fn bits_turned(bits: (bool, bool), turns: Quarter) -> (bool, bool)
 }
 
 // Tells whether a region waits to be swept, after so many turns.
-#[tactic(auto, unfolding(crate::specs::Turns::turned_by, crate::specs::Turns::turned_region, crate::specs::Turns::turned_back_region))]
 fn pending_turned(pending: bool, turns: Quarter) -> bool
     ensures { (u : UsedRegion) → u.pending ≡ pending → result ≡ (turned_by turns u).pending }
 {

@@ -1,9 +1,16 @@
-use Rattle.heap_region.specs.Turns.{turned_by, turned_region, turned_back_region}
+use Rattle.std.proofs.Common.{arith, map, option_map}
+use Rattle.heap_region.specs.Turns.{turned_by, turned_object, turned_region, turned_back_region}
 use Rattle.heap_region.proofs.Totals.{counted_turned, counted_turned_back, dead_at_most, unmarked_at_most}
 use Rattle.heap_region.proofs.region_view.counts_turned.Goals as goal
 
 pub next-requires : goal.next-requires
 next-requires c = dead_at_most c.requires.0.cells _ c.requires.1
+
+pub next-requires-2 : goal.next-requires-2
+next-requires-2 c = dead_at_most c.requires.0.cells _ c.requires.1
+
+pub next-requires-3 : goal.next-requires-3
+next-requires-3 c = omega (arith, unmarked_at_most c.requires.0.cells _ c.requires.1, c.next-2.ensures.objects, c.next-2.ensures.dead)
 
 pub prior-requires : goal.prior-requires
 prior-requires c = unmarked_at_most c.requires.0.cells _ c.requires.1
@@ -15,6 +22,12 @@ returns-in-Zero c u is = is
 pub returns-in-One : goal.returns-in-One
 unfolding turned_by turned_region
 returns-in-One c u is = counted_turned u.cells _ _ is c.next.ensures.objects c.next.ensures.unmarked c.next.ensures.dead
+
+pub returns-in-Two : goal.returns-in-Two
+unfolding turned_by turned_region
+returns-in-Two c u is =
+    let once = counted_turned u.cells _ c.next-2.result is c.next-2.ensures.objects c.next-2.ensures.unmarked c.next-2.ensures.dead in
+    counted_turned (map (option_map turned_object) u.cells) c.next-2.result _ once c.next-3.ensures.objects c.next-3.ensures.unmarked c.next-3.ensures.dead
 
 pub returns-in-Three : goal.returns-in-Three
 unfolding turned_by turned_back_region

@@ -1,0 +1,23 @@
+use Rattle.std.proofs.Common.{◌≡◌, Bool, true, false, not, refl, sym, ap, ◌∙◌}
+use Rattle.heap_region.specs.Turns.{turned_by, turned_region, turned_back_region}
+use Rattle.heap_region.proofs.region_view.pending_turned.Goals as goal
+
+not_twice : (b : Bool) → b ≡ not (not b)
+not_twice true = refl
+not_twice false = refl
+
+pub returns-in-Zero : goal.returns-in-Zero
+unfolding turned_by
+returns-in-Zero c u is = sym is
+
+pub returns-in-One : goal.returns-in-One
+unfolding turned_by turned_region
+returns-in-One c u is = ap not (sym is)
+
+pub returns-in-Two : goal.returns-in-Two
+unfolding turned_by turned_region
+returns-in-Two c u is = sym is ∙ not_twice u.pending
+
+pub returns-in-Three : goal.returns-in-Three
+unfolding turned_by turned_back_region
+returns-in-Three c u is = ap not (sym is)

@@ -122,7 +122,7 @@ impl<'a> RegionView<'a> {
 
     // Returns the free cells, head first.
     pub(crate) fn free_list(self) -> FreeCells<'a>
-        ensures { result ≡ self.free }
+        ensures { result ≡ self.entry.free }
     {
         self.storage.free_list()
     }
@@ -206,7 +206,7 @@ impl<'a> RegionView<'a> {
     // Returns the words of the object in the cell, in slot order.
     pub(crate) fn words(self, cell: usize) -> &'a [u64]
         requires { IsSome (cell_object self cell) }
-        ensures { IfSome (cell_object self cell) (λ o. result.now ≡ o.words) }
+        ensures { IfSome (cell_object self.entry cell) (λ o. result.now ≡ o.words) }
     {
         self.storage.words(cell)
     }

@@ -270,7 +270,6 @@ impl Storage {
     }
 
     /// Returns the region as it is read.
-    #[tactic(auto, unfolding(crate::specs::Turns::turned_by))]
     #[inline(always)]
     pub fn view(&self) -> RegionView<'_>
         ensures { result ≡ self.now }

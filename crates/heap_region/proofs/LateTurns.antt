@@ -277,6 +277,3 @@ word_set_in_turned Three u cell slot value = ap (λ (l : List (Option Object)). 
 
 -- what a storage is after it was settled
 pub ruleset settling = (settled_shows, nothing_missed, no_turns_since)
-
--- what is read of one that may not be
-pub ruleset late_reads = (class_of_turned, first_of_turned, whole_turned, word_set_in_turned, words_of_turned, there_before_turns)

@@ -15,6 +15,16 @@ abbrev pub shown_slot : Quarter → Slot → Option UsedRegion
 shown_slot turns Empty = None
 shown_slot turns (Used seen u) = Some (turned_by (since turns seen) u)
 
+-- the storage of a region in use, as it was turned when it was last changed
+abbrev pub kept_slot : Slot → Option UsedRegion
+kept_slot Empty = None
+kept_slot (Used seen u) = Some u
+
+-- a place of the table with f of the storage in it
+abbrev pub in_slot : (UsedRegion → UsedRegion) → Slot → Slot
+in_slot f Empty = Empty
+in_slot f (Used seen u) = Used seen (f u)
+
 -- ---- counts
 
 -- the number of objects of a region

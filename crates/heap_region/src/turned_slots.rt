@@ -88,7 +88,6 @@ impl Slots {
     }
 
     // Returns the number of the cell size of a region that has a free cell, else 0.
-    #[tactic(auto, using(crate::proofs::SlotReads::slot_reads))]
     pub(crate) fn free_class(&self, region: usize) -> u8
         requires { region < length self.now }
         ensures value { result ≡ free_class_of (slice_index_or self.now region None) }
@@ -98,7 +97,6 @@ impl Slots {
     }
 
     // Returns the class of a region by whether it waits to be swept.
-    #[tactic(auto, using(crate::proofs::SlotReads::slot_reads))]
     pub(crate) fn wait_class(&self, region: usize) -> u8
         ensures { result ≡ wait_class_of (slice_index_or self.now region None) }
     {
@@ -109,7 +107,6 @@ impl Slots {
     }
 
     // Returns the cell that heads a region's free list, which must have one.
-    #[tactic(auto, using(crate::proofs::SlotReads::slot_reads))]
     #[inline(always)]
     pub(crate) fn free_head(&self, region: usize) -> usize
         requires { IsSome (first_in (slice_index_or self.now region None)) }
@@ -179,7 +176,6 @@ impl Slots {
     }
 
     // Writes one slot of an object. The storage needn't be turned for that.
-    #[tactic(auto, using(crate::proofs::SlotReads::slot_reads))]
     #[inline(always)]
     pub(crate) fn set_word(&mut self, region: usize, cell: usize, index: usize, value: u64)
         requires { index
@@ -233,7 +229,6 @@ impl Slots {
     }
 
     // Moves the storage out of a region in use.
-    #[tactic(auto, using(crate::proofs::SlotReads::slot_reads))]
     pub(crate) fn take_out(&mut self, region: usize) -> Storage
         requires { IsSome (slice_index_or self.old region None) }
         ensures storage { slice_index_or self.old region None ≡ Some result }
@@ -243,7 +238,6 @@ impl Slots {
     }
 
     // Moves a storage into a region.
-    #[tactic(auto, using(crate::proofs::SlotReads::slot_reads))]
     pub(crate) fn put_in(&mut self, region: usize, storage: Storage)
         requires { region < length self.old }
         ensures { self.new ≡ slice_set self.old region (Some storage) }

@@ -6,11 +6,11 @@ use Rattle.heap_region.proofs.region_view.counts_turned.Goals as goal
 pub next-requires : goal.next-requires
 next-requires c = dead_at_most c.requires.0.cells _ c.requires.1
 
-pub next-requires-2 : goal.next-requires-2
-next-requires-2 c = dead_at_most c.requires.0.cells _ c.requires.1
+pub next-requires-in-Two : goal.next-requires-in-Two
+next-requires-in-Two c = dead_at_most c.requires.0.cells _ c.requires.1
 
-pub next-requires-3 : goal.next-requires-3
-next-requires-3 c = omega (arith, unmarked_at_most c.requires.0.cells _ c.requires.1, c.next-2.ensures.objects, c.next-2.ensures.dead)
+pub next-requires-in-Two-2 : goal.next-requires-in-Two-2
+next-requires-in-Two-2 c = omega (arith, unmarked_at_most c.requires.0.cells _ c.requires.1, c.next-in-Two.ensures.objects, c.next-in-Two.ensures.dead)
 
 pub prior-requires : goal.prior-requires
 prior-requires c = unmarked_at_most c.requires.0.cells _ c.requires.1
@@ -26,8 +26,8 @@ returns-in-One c u is = counted_turned u.cells _ _ is c.next.ensures.objects c.n
 pub returns-in-Two : goal.returns-in-Two
 unfolding turned_by turned_region
 returns-in-Two c u is =
-    let once = counted_turned u.cells _ c.next-2.result is c.next-2.ensures.objects c.next-2.ensures.unmarked c.next-2.ensures.dead in
-    counted_turned (map (option_map turned_object) u.cells) c.next-2.result _ once c.next-3.ensures.objects c.next-3.ensures.unmarked c.next-3.ensures.dead
+    let once = counted_turned u.cells _ c.next-in-Two.result is c.next-in-Two.ensures.objects c.next-in-Two.ensures.unmarked c.next-in-Two.ensures.dead in
+    counted_turned (map (option_map turned_object) u.cells) c.next-in-Two.result _ once c.next-in-Two-2.ensures.objects c.next-in-Two-2.ensures.unmarked c.next-in-Two-2.ensures.dead
 
 pub returns-in-Three : goal.returns-in-Three
 unfolding turned_by turned_back_region

@@ -38,10 +38,12 @@ fn class_read(odd: bool, class: u8) -> u8
     ensures limit { 1 ≤ class → 1 ≤ result }
 {
     if odd {
-        match class {
-            WAITING => SETTLED,
-            SETTLED => WAITING,
-            _ => class,
+        if class == WAITING {
+            SETTLED
+        } else if class == SETTLED {
+            WAITING
+        } else {
+            class
         }
     } else {
         class

@@ -9,5 +9,14 @@ other_class (suc zero) first second = absurd (first refl)
 other_class (suc (suc zero)) first second = absurd (second refl)
 other_class (suc (suc (suc k))) first second = refl
 
-pub returns-in_default-clause-value : goal.returns-in_default-clause-value
-returns-in_default-clause-value c = ?
+pub returns-then-class-eq-WAITING-clause-value : goal.returns-then-class-eq-WAITING-clause-value
+returns-then-class-eq-WAITING-clause-value c = rw (c.if-odd.true, c.if-class-eq-WAITING.true) refl
+
+pub returns-then-class-eq-SETTLED-clause-value : goal.returns-then-class-eq-SETTLED-clause-value
+returns-then-class-eq-SETTLED-clause-value c = rw (c.if-odd.true, c.if-class-eq-SETTLED.true) refl
+
+pub returns-else-class-eq-SETTLED-clause-value : goal.returns-else-class-eq-SETTLED-clause-value
+returns-else-class-eq-SETTLED-clause-value c = rw c.if-odd.true (other_class c.args.class c.if-class-eq-WAITING.false c.if-class-eq-SETTLED.false)
+
+pub returns-else-odd-clause-value : goal.returns-else-odd-clause-value
+returns-else-odd-clause-value c = rw c.if-odd.false refl

@@ -13,9 +13,15 @@ use Rattle.hprof_pair.specs.declared.conversion.PairFailure.{PairFailure}
 use Rattle.hprof_pair.specs.declared.conversion.PairFailure.TheVariants.{FirstHeader, SecondHeader, Memory as NoRoom, Write as Unput}
 use Rattle.heapdbg_options.specs.declared.settings.Origin.TheVariants.{Dumps}
 use Rattle.heapdbg.proofs.RunDumps.{front_end_is_enough}
-use Rattle.heapdbg.specs.Explorations.{IsHindrance, IsPairFault, IsPairHindrance, IsPairRunFrom, IsRunFirst, load_fault}
+use Rattle.heapdbg.specs.Explorations.{IsHindrance, IsPairFault, IsPairHindrance, IsPairRun, IsPairRunFrom, IsRunFirst, load_fault}
 use Rattle.heapdbg.specs.declared.failure.Fault.{Fault}
 use Rattle.heapdbg.specs.declared.failure.Fault.TheVariants.{Accept, Connect, Cut, From, Hprof, Listen, Long, Lost, Memory, Out, Read, Reads, Secret, Write}
+
+-- the session of two dumps was run if the outlet that ran the lines put to it was put that session
+put_pair_is_run : {S : Type 0} (limits : SessionLimits) (says begins : AnswerRelation S) (area : Bool) (first second text : List ℕ) (b : S) (w : Outgoing) (d : S)
+    → IsPairText area first second text → w.out ≡ text → IsTextLoaded limits says begins w.out b d → IsPairRun limits area says begins first second b d
+put_pair_is_run limits says begins area first second text b w d session is loaded =
+    (text, session, subst (λ run. IsTextLoaded limits says begins run b d) is loaded)
 
 -- what a conversion put out to an outlet that ran it is the session of two dumps
 pub converted_pair_is_run : {S : Type 0} (limits : SessionLimits) (says begins : AnswerRelation S) (area : Bool) (first second : List ℕ) (start : Option S) (w : Outgoing) (converted : Result BothConverted PairFailure) (left : Result S Ended) (result : Result S Fault)
@@ -27,7 +33,7 @@ converted_pair_is_run {S} limits says begins area first second start w converted
   where
     run : (begun : Option S) (done : Result BothConverted PairFailure) → ArePairConverted area first second (record { out = []; failures = 0 }) w done → IsOk done → IsTextLoadedFrom limits says begins w.out begun d → IsPairRunFrom limits area says begins first second begun d
     run None done put ok loaded = tt
-    run (Some b) (Ok x) (inl c) ok loaded = (c.6.0, (c.0, c.1, c.2, c.3, c.4, c.5, c.6.1), subst (λ text. IsTextLoaded limits says begins text b d) c.6.2.out loaded)
+    run (Some b) (Ok x) (inl c) ok loaded = put_pair_is_run limits says begins area first second c.6.0 b w d (c.0, c.1, c.2, c.3, c.4, c.5, c.6.1) c.6.2.out loaded
     run (Some b) (Ok x) (inr (inl none)) ok loaded = cc none.1
     run (Some b) (Ok x) (inr (inr none)) ok loaded = cc none.1
     run (Some b) (Err e) put ok loaded = cc ok

@@ -77,7 +77,7 @@ ROWS = {
     "objects": f"{ID} {NAMED} {NUMBER}( unreached)?", "cells": f"{NUMBER} (4|16|64|256|1024) (-|sweep) [.omgx]+",
     "life": f"{NAMED} ({NUMBER}|older) (-|{NUMBER}|older) (-|{NUMBER})", "cycles": f"{NUMBER} {NUMBER} {NUMBER}", "regions": f"{NUMBER} (4|16|64|256|1024) {NUMBER} {NUMBER} {NUMBER} (-|waits)",
     "status": f"(phase (idle|marking)|(place|retained|gray|undrained|unswept|regions|acts) {NUMBER})",
-    "dominators": f"{ID} {NUMBER} {NUMBER} {NAMED}", "dominator": f"{ID} {NAMED}", "show": f"{NUMBER} {NAMED} [a-z]+ ({NUMBER}|null|{ID})",
+    "dominators": f"{ID} {NUMBER} {NUMBER} {NAMED}", "dominator": f"{ID} {NAMED}", "show": f"({NUMBER} )?{NUMBER} {NAMED} [a-z]+ ({NUMBER}|null|{ID}( {NAMED})?)",
     "retained": f"{NUMBER} {NUMBER} {NAMED}", "kept": f"{NUMBER} {NUMBER} {NAMED}", "watch": f"{NUMBER} ({NUMBER} {NUMBER}|(null|{ID}) (null|{ID}))",
     "writes": f"{NUMBER} {ID} ({NUMBER} {NUMBER}|(null|{ID}) (null|{ID}))",
     "diff": f"{ID} (made|gone|{NUMBER} ({NUMBER} {NUMBER}|(null|{ID}) (null|{ID})))",
@@ -87,6 +87,8 @@ ROWS = {
 # What standard error may tell of dumps.
 TOLD = re.compile(rb"(heapdbg: dump (PinLimit|Rewound)( \(\d+ times\))?\n)*(heapdbg: nothing is told of further dumps\n)?")
 PATTERNS = {word: re.compile(f"({answer})|{REFUSED}") for word, answer in ANSWERS.items()}
+# A line that names a field. It is a bad command, too, if the register names no object with such a field.
+BY_NAME = re.compile("(load [0-9]+ [0-9]+ [0-9]+|put [0-9]+ [0-9]+) [a-z]+( [0-9]+)?")
 DATA = re.compile("data ([0-9a-f]{2}){1,64}")
 BEFORE = {"dump": DATA, "piece": DATA} | {word: re.compile(f"row {row}") for word, row in ROWS.items()}
 # What adds nothing to the chronicle, by its first word; and how many entries `collect` adds, about.
@@ -105,6 +107,7 @@ def line_by_lot(lot):
         (4, f"newarray {mutator} {register} {lot.randrange(3)} {lot.randrange(9)}"),
         (4, f"newprim {mutator} {register} {lot.choice(['int', 'long', 'object', 'byte'])} {lot.randrange(40)}"),
         (12, f"load {mutator} {register} {other} {slot}"),
+        (1, f"load {mutator} {register} {other} next"), (1, f"put {mutator} {register} {lot.choice(['count', 'wide'])} {lot.randrange(99)}"),
         (15, f"store {mutator} {register} {lot.randrange(2)} {other}"),
         (15, f"put {mutator} {register} {lot.randrange(2, 4)} {lot.randrange(1 << 33)}"),
         (6, f"move {mutator} {register} {lot.randrange(MUTATORS)} {other}"),
@@ -125,7 +128,7 @@ def line_by_lot(lot):
         (0.3, f"writes {lot.randrange(3)} {slot}{lot.choice(['', f' @{lot.randrange(3000)}', f' @{lot.randrange(3000)} -'])}"),
         (0.3, f"when {lot.randrange(3)} {slot} {lot.choice(['0', 'null', '7'])}{lot.choice(['', f' @{lot.randrange(3000)}', f' @{lot.randrange(3000)} -'])}"),
         (1, f"values {lot.choice(['', '- '])}{lot.randrange(3)} {slot}"),
-        (1, f"show {lot.choice(['', '- '])}0x{0x10000000 + lot.randrange(1 << 8) * 32:08x}{lot.choice(['', ' 1 2', ' 9 9'])}"),
+        (1, f"show {lot.choice(['', '- '])}0x{0x10000000 + lot.randrange(1 << 8) * 32:08x}{lot.choice(['', '.next', '.next.left', '.0'])}{lot.choice(['', ' 1 2', ' 9 9', ' 1', ' 3'])}"),
         (1, f"history {lot.randrange(30)}"),
         (0.3, f"life 0x{0x10000000 + lot.randrange(1 << 8) * 32:08x}"),
     )
@@ -144,7 +147,8 @@ class Client(Session):
         """Returns a reply, once it has looked at it."""
         data, got = super().reply(line, came)
         word = line.split()[0]
-        if not PATTERNS[word].fullmatch(got) or data and not (word in BEFORE and all(map(BEFORE[word].fullmatch, data))):
+        is_answer = PATTERNS[word].fullmatch(got) or got == "bad command" and BY_NAME.fullmatch(line)
+        if not is_answer or data and not (word in BEFORE and all(map(BEFORE[word].fullmatch, data))):
             self.wrong.append(f"{line!r} was answered {got!r} after {len(data)} lines, first {data[:1]!r}")
         text = b"" if word in ROWS else bytes.fromhex("".join(each[5:] for each in data))
         if got.startswith("ok dump "):

@@ -146,6 +146,21 @@ class Replies(unittest.TestCase):
         asked = b"show 0x10000000 2 18446744073709551615\nshow @4 0x10000000 1 1\nshow 3 0x10000000 0 0\n"
         self.assertEqual(heap.writer.getvalue(), asked)
 
+    def test_slots_along_fields(self):
+        rows = "row 0 0 next object 0x10000020 Node", "row 1 0 next object null", "row 0 1 v long 7", "ok object Node 2"
+        heap = canned("row 0 next object null", "ok object Node 1", *rows, "ok", "ok value 7", "ok", "ok object 0x10000040")
+        self.assertEqual(heap.show(None, 0x10000000, along=("first", 2)), [(0, "next", "object", None)])
+        tree = heap.tree("@4", 0x10000000, 1, along=["next"])
+        self.assertEqual(tree, [(0, 0, "next", "object", 0x10000020, "Node"), (1, 0, "next", "object", None, None), (0, 1, "v", "long", 7, None)])
+        heap.put(0, 1, "v", 7)
+        self.assertEqual(heap.load(0, 2, 1, "v"), 7)
+        heap.store(0, 1, "next", 2)
+        heap.new_array(0, 3, "[Node;", 4)
+        with self.assertRaises(BadCommand):
+            heap.show(None, 8, along=["a.b"])
+        asked = b"show 0x10000000.first.2\nshow @4 0x10000000.next 1\nput 0 1 v 7\nload 0 2 1 v\nstore 0 1 next 2\nnewarray 0 3 [Node; 4\n"
+        self.assertEqual(heap.writer.getvalue(), asked)
+
     def test_classes_pins_and_collect(self):
         pins = "row 1 3 held 2", "row 4 9 lost Rewound", "row 5 7 lost Memory", "ok 3"
         heap = canned("row 0 Node - next:object v:long", "row 1 Nodes array", "ok 2", *pins, "ok condemned 3 swept 5")
@@ -657,6 +672,10 @@ class Names(unittest.TestCase):
             self.assertEqual(heap.show(None, array), [(0, "0", "object", None), (1, "1", "object", node)])
             self.assertEqual(heap.show(None, array, first=1), [(1, "1", "object", node)])
             self.assertEqual(heap.show("@6", array, count=1), [(0, "0", "object", None)])
+            self.assertEqual(heap.show(None, array, along=[1]), heap.show(None, node))
+            self.assertEqual(heap.tree(None, array, 0), [(0, 0, "0", "object", None, None), (0, 1, "1", "object", node, "2024")])
+            self.assertEqual(heap.tree("@6", array, 1)[2:], [(1, 0, "next", "object", None, None)])
+            self.assertEqual(heap.load(0, 2, 1, "next"), None)
             self.assertEqual(heap.path("@6", node), [(0, 1, node)])
             self.assertEqual(heap.referrers(heap.open(), node), [(0, 1), (array, 1)])
             self.assertEqual((heap.born(node), heap.wrote(array, 1)), (("place", 5), ("place", 6)))

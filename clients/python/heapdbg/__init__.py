@@ -40,6 +40,7 @@ from .rows import (
     SlotValue,
     SlotWrite,
     Swept,
+    TreeRow,
     When,
 )
 from .session import Batch, Later, Session
@@ -49,5 +50,6 @@ __all__ += ["NotDoneFacts", "RegionFact", "TooFarFacts", "LostFact", "NothingToR
 __all__ += ["Moment", "Now", "Place", "Named", "Pin", "PinAt", "ObjectId", "Swept", "Collected", "Piece"]
 __all__ += ["Cells", "ClassCount", "ClassGrowth", "ClassRow", "Dominator", "Field", "HeldPin", "Holding", "LostPin", "ListedObject"]
 __all__ += ["NullRegister", "Register", "PastStep", "RegisterReference", "RegisterStep", "SlotChange", "SlotReference", "SlotRow"]
-__all__ += ["EndedCycle", "Life", "ObjectDifference", "RegionRow", "SlotDifference", "SlotStep", "SlotValue", "SlotWrite", "When"]
+__all__ += ["EndedCycle", "Life", "ObjectDifference", "RegionRow", "SlotDifference", "SlotStep", "SlotValue", "SlotWrite", "TreeRow"]
+__all__ += ["When"]
 __all__ += ["Recorder", "Call", "Cost", "UnknownName"]

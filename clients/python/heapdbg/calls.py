@@ -3,7 +3,7 @@ from __future__ import annotations
 
 from typing import Any, Optional, Sequence, Union
 
-from .faults import word_of
+from .faults import BadCommand, word_of
 from .moments import Moment, Named, Now, Pin, PinAt, Place, about, word_of_moment
 from .rows import (
     Cells,
@@ -36,6 +36,7 @@ from .rows import (
     SlotValue,
     SlotWrite,
     Swept,
+    TreeRow,
     When,
     bytes_of,
     cells_of,
@@ -65,6 +66,7 @@ from .rows import (
     rows_by,
     slot,
     swept,
+    tree_slot,
     valued,
     written,
 )
@@ -83,6 +85,19 @@ Name = Union[int, str]
 
 # More rows than any answer has: the number of a pin alone would be taken for a number of rows.
 MOST = (1 << 64) - 1
+
+
+def word_of_name(name: Name) -> str:
+    """Returns the word of a class or a slot in a line."""
+    return str(name) if isinstance(name, int) else word_of(name)
+
+
+def fields_from(of: int, along: Sequence[Name]) -> str:
+    """Returns the word of an object with fields behind it. A field with a dot in its name can be given by its number alone."""
+    dotted = [field for field in along if "." in str(field)]
+    if dotted:
+        raise BadCommand(f"the name of a field has a dot: {dotted[0]!r}")
+    return ".".join([str(ObjectId(of)), *map(word_of_name, along)])
 
 
 class Calls:
@@ -112,25 +127,25 @@ class Calls:
         """Makes an instance of a class in register `r` of mutator `m`, and returns its id."""
         return self.send(f"new {m} {r} {word_of(str(of_class))}", loaded)
 
-    def new_array(self, m: int, r: int, class_number: int, length: int) -> ObjectId:
-        """Makes an object array, and returns its id."""
-        return self.send(f"newarray {m} {r} {class_number} {length}", loaded)
+    def new_array(self, m: int, r: int, of_class: Name, length: int) -> ObjectId:
+        """Makes an object array of a class, and returns its id."""
+        return self.send(f"newarray {m} {r} {word_of_name(of_class)} {length}", loaded)
 
     def new_values(self, m: int, r: int, kind: str, length: int) -> ObjectId:
         """Makes an array of values of a kind, and returns its id."""
         return self.send(f"newprim {m} {r} {word_of(kind)} {length}", loaded)
 
-    def load(self, m: int, to: int, source: int, slot: int) -> Union[ObjectId, int, None]:
+    def load(self, m: int, to: int, source: int, slot: Name) -> Union[ObjectId, int, None]:
         """Reads a slot: returns a value, or an id or None, which is then in register `to`."""
-        return self.send(f"load {m} {to} {source} {slot}", loaded)
+        return self.send(f"load {m} {to} {source} {word_of_name(slot)}", loaded)
 
-    def store(self, m: int, target: int, slot: int, source: int) -> None:
+    def store(self, m: int, target: int, slot: Name, source: int) -> None:
         """Writes what register `source` holds to a reference slot of the object in register `target`."""
-        return self.order(f"store {m} {target} {slot} {source}")
+        return self.order(f"store {m} {target} {word_of_name(slot)} {source}")
 
-    def put(self, m: int, target: int, slot: int, value: int) -> None:
+    def put(self, m: int, target: int, slot: Name, value: int) -> None:
         """Writes a value slot of the object in register `target`."""
-        return self.order(f"put {m} {target} {slot} {value}")
+        return self.order(f"put {m} {target} {word_of_name(slot)} {value}")
 
     def move(self, m: int, to: int, from_m: int, source: int) -> None:
         """Copies a register of mutator `from_m` to one of mutator `m`."""
@@ -205,13 +220,18 @@ class Calls:
         name is 1 to 64 ASCII letters, digits, `_`, `-` and `.`, the first a letter."""
         return self.send(f"name {word_of(word)}", number)
 
-    def show(self, moment: Moment, of: int, first: int = 0, count: Optional[int] = None) -> list[SlotRow]:
+    def show(self, moment: Moment, of: int, first: int = 0, count: Optional[int] = None, along: Sequence[Name] = ()) -> list[SlotRow]:
         """Returns a `SlotRow` for each slot of an object, or for each from the slot `first` on: for `count` of these, if there are
-        as many."""
-        line = f"show{about(moment)} {ObjectId(of)}"
+        as many. With fields, by their names or numbers, it is the object to which they lead from this one, one after another."""
+        line = f"show{about(moment)} {fields_from(of, along)}"
         if first or count is not None:
             line += f" {first} {MOST if count is None else count}"
         return self.send(line, rows_by(slot))
+
+    def tree(self, moment: Moment, of: int, depth: int, along: Sequence[Name] = ()) -> list[TreeRow]:
+        """Returns a `TreeRow` for each slot of an object, and behind each those of the object that it names, `depth` levels down, 0 to
+        8. With fields it is the object to which they lead from this one, as for `show`."""
+        return self.send(f"show{about(moment)} {fields_from(of, along)} {depth}", rows_by(tree_slot))
 
     def registers(self, moment: Moment = None) -> list[Union[Register, NullRegister]]:
         """Returns a `Register` for each register that names an object, and a `NullRegister` for each other."""

@@ -241,7 +241,7 @@ fn regions_after(origin: Origin, wide: bool) -> u64
 {
     match origin {
         Origin::Fresh | Origin::Lines => 16,
-        Origin::Dump => most_regions(wide),
+        Origin::Dump | Origin::Dumps => most_regions(wide),
     }
 }
 
@@ -339,7 +339,7 @@ fn keep_after(origin: Origin, usual: u64) -> u64
 {
     match origin {
         Origin::Fresh | Origin::Lines => usual,
-        Origin::Dump => NARROW_KEEP,
+        Origin::Dump | Origin::Dumps => NARROW_KEEP,
     }
 }
 
@@ -424,7 +424,7 @@ fn area_after(origin: Origin, wide: bool, regions: u64) -> u64
 {
     match origin {
         Origin::Fresh | Origin::Lines => 0,
-        Origin::Dump => if wide { regions / 4 } else { 0 },
+        Origin::Dump | Origin::Dumps => if wide { regions / 4 } else { 0 },
     }
 }
 

@@ -1,17 +1,22 @@
 -- A comment is no line of the grammar of sessions, no question and no line that asks for help.
 use Rattle.std.proofs.Common.{◌≡◌, ◌∙◌, ap, ap₂, ℕ, Bool, true, false, cond, List, [], ◌∷◌, None, refl, sym, subst}
-use Rattle.std.specs.Prelude.{Option, codes, slice_index, take}
+use Rattle.std.specs.Prelude.{Option, codes, option_map, slice_index, take}
 use Rattle.std.specs.Option.{option_or}
 use Rattle.std.specs.Str.{bytes_eq}
 use Rattle.std.proofs.lemmas.Slice.Eq.{bytes_eq-Decides}
-use Rattle.heap_class.specs.Classes.{Class}
+use Rattle.heap_step.specs.declared.Event.{Event}
 use Rattle.heap_world.specs.State.{HeapState}
 use Rattle.session_grammar.specs.declared.command.Command.TheVariants.{Bad}
 use Rattle.session_grammar.specs.Grammar.{access_rules, all_rules, by_rule, class_rules, command_of_text, command_of_words, making_rules, marking_rules, session_rules, words_of_line}
 use Rattle.question_text.specs.declared.asking.Asking.{Asking}
+use Rattle.question_grammar.specs.declared.chain.Chain.{Chain}
+use Rattle.question_grammar.specs.declared.order.Order.{Order}
+use Rattle.question_grammar.specs.declared.order.Order.TheVariants.{Act}
 use Rattle.question_grammar.specs.declared.question.Question.{Question}
-use Rattle.question_text.specs.Answers.{IsAnswerOf}
+use Rattle.question_text.specs.Answers.{IsAnswerAlong, IsAnswerOf}
 use Rattle.question_grammar.specs.Bookmarks.{Bookmarks}
+use Rattle.question_grammar.specs.Chains.{chain_of, chain_of_words}
+use Rattle.question_grammar.specs.EventNames.{event_by_name, event_of_words}
 use Rattle.question_grammar.specs.NoteLines.{name_set_by, place_opened_by, place_set_by, word_behind}
 use Rattle.question_grammar.specs.Orders.{order_in, order_of_two, order_of_words}
 use Rattle.question_text.specs.Comments.{is_comment, is_comment_words, unasked_text}
@@ -61,13 +66,25 @@ asks_none_in : (bm : Bookmarks) (state : HeapState) (l : List ℕ) → is_commen
 asks_none_in bm state l e =
     ap₂ (λ (p q : Option Question). option_or p q) (of_comment (question_of_words bm) (no_question bm) (words_of_line l) e) (of_comment (named_question_of_words bm state) (names_nothing bm state) (words_of_line l) e)
 
-comment_is_no_order : (bm : Bookmarks) (classes : List Class) (v : List ℕ) (ws : List (List ℕ)) → order_of_words bm classes ((35 ∷ v) ∷ ws) ≡ None
+comment_is_no_order : (bm : Bookmarks) (v : List ℕ) (ws : List (List ℕ)) → order_of_words bm ((35 ∷ v) ∷ ws) ≡ None
 unfolding order_of_words order_of_two
-comment_is_no_order bm classes v [] = refl
-comment_is_no_order bm classes v (w ∷ ws) = refl
+comment_is_no_order bm v [] = refl
+comment_is_no_order bm v (w ∷ ws) = refl
+
+comment_is_no_event : (state : HeapState) (v : List ℕ) (ws : List (List ℕ)) → event_of_words state ((35 ∷ v) ∷ ws) ≡ None
+unfolding event_by_name
+comment_is_no_event state v ws = refl
 
 orders_none : (bm : Bookmarks) (state : HeapState) (l : List ℕ) → is_comment l ≡ true → order_in bm state l ≡ None
-orders_none bm state l e = of_comment (order_of_words bm state.classes) (comment_is_no_order bm state.classes) (words_of_line l) e
+orders_none bm state l e =
+    ap₂ (λ (o : Option Order) (event : Option Event). option_or o (option_map Act event))
+    (of_comment (order_of_words bm) (comment_is_no_order bm) (words_of_line l) e) (of_comment (event_of_words state) (comment_is_no_event state) (words_of_line l) e)
+
+comment_is_no_chain : (bm : Bookmarks) (v : List ℕ) (ws : List (List ℕ)) → chain_of_words bm ((35 ∷ v) ∷ ws) ≡ None
+comment_is_no_chain bm v ws = refl
+
+chains_none : (bm : Bookmarks) (l : List ℕ) → is_comment l ≡ true → chain_of bm l ≡ None
+chains_none bm l e = of_comment (chain_of_words bm) (comment_is_no_chain bm) (words_of_line l) e
 
 opens_none : (bm : Bookmarks) (v : List ℕ) (ws : List (List ℕ)) → place_opened_by bm ((35 ∷ v) ∷ ws) ≡ None
 unfolding word_behind
@@ -107,4 +124,5 @@ pub comment_silent : (l text : List ℕ) (c d : Asking) → is_comment l ≡ tru
 comment_silent l text c d e a =
     let state = c.local.machine.trail.current in
     let alone = answered_alone l text c d (orders_none c.bookmarks state l e) (sets_none c.bookmarks l e) a in
-    (subst (λ (q : Option Question). IsAnswerOf q l c.local.machine None text) (asks_none_in c.bookmarks state l e) alone.0 ∙ no_text l e, alone.1)
+    let along = subst (λ (q : Option Question). IsAnswerOf q (chain_of c.bookmarks l) l c.local.machine None text) (asks_none_in c.bookmarks state l e) alone.0 in
+    (subst (λ (chain : Option Chain). IsAnswerAlong chain l c.local.machine text) (chains_none c.bookmarks l e) along ∙ no_text l e, alone.1)

@@ -1,4 +1,6 @@
 pub mod NewWords
+pub mod NewEvents
+pub mod NewChains
 pub mod NotedLines
 pub mod Comments
 pub mod HelpForms

@@ -1,26 +1,22 @@
 -- No line that asks a question is one of the grammar of sessions.
 use Rattle.std.proofs.Common.{◌≡◌, ap, ℕ, Bool, true, false, cond, List, [], ◌∷◌, Some, None, refl, sym, subst}
-use Rattle.std.specs.Prelude.{Option, codes, drop, find, if◌then◌else◌, is_some, ◌&&◌, length, nat_le, nat_lt, option_and_then, option_map, slice_index, take}
+use Rattle.std.specs.Prelude.{Option, codes, drop, find, ◌&&◌, length, nat_le, nat_lt, option_and_then, option_map, slice_index, take}
 use Rattle.std.specs.List.{AllByRecursion}
 use Rattle.std.specs.Option.{option_or}
 use Rattle.std.specs.Str.{bytes_eq}
 use Rattle.std.proofs.lemmas.Slice.Eq.{bytes_eq-Decides}
 use Rattle.heap_world.specs.State.{HeapState}
-use Rattle.heap_class.specs.Classes.{Class}
-use Rattle.heap_step.specs.declared.Event.{Event}
-use Rattle.heap_step.specs.declared.Event.TheVariants.{New}
-use Rattle.heap_trail.specs.declared.Action.TheVariants.{Rewind, Step}
+use Rattle.heap_trail.specs.declared.Action.TheVariants.{Rewind}
 use Rattle.session_grammar.specs.declared.command.Command.TheVariants.{Ask, Bad}
-use Rattle.session_grammar.specs.Grammar.{access_rules, all_rules, at_end, by_rule, class_rules, command_of_text, command_of_words, is_plain, making_rules, marking_rules, next_number, number_of_word, session_rules, words_of_line}
+use Rattle.session_grammar.specs.Grammar.{access_rules, all_rules, at_end, by_rule, class_rules, command_of_text, command_of_words, is_plain, making_rules, marking_rules, number_of_word, session_rules, words_of_line}
 use Rattle.question_grammar.specs.declared.question.Question.{Question}
 use Rattle.question_grammar.specs.declared.order.Order.{Order}
-use Rattle.question_grammar.specs.declared.order.Order.TheVariants.{Act, Collect, RewindTo}
+use Rattle.question_grammar.specs.declared.order.Order.TheVariants.{Collect, RewindTo}
 use Rattle.question_words.specs.declared.at.At.{At}
 use Rattle.question_words.specs.declared.at.At.TheVariants.{Current, Pin, Place}
 use Rattle.question_grammar.specs.Bookmarks.{Bookmarks}
-use Rattle.question_grammar.specs.Orders.{class_by_name, new_by_name, new_of, order_in, order_of_two, order_of_words, way_back, way_on}
+use Rattle.question_grammar.specs.Orders.{order_of_two, order_of_words, way_back, way_on}
 use Rattle.question_text.specs.Help.{help_about, help_of, help_of_words}
-use Rattle.question_grammar.specs.NameWords.{class_named}
 use Rattle.question_grammar.specs.NamedLines.{named_question_of_words, named_rules, question_in}
 use Rattle.question_grammar.specs.Questions.{QuestionRule, at_of_word, past_rules, place_behind, place_of, question_by, question_of, question_of_words, question_rules}
 
@@ -33,7 +29,7 @@ bad_words l e = go (is_plain l)
     go false = refl
 
 -- a keyword that no rule of sessions has
-abbrev IsNew : List ℕ → Type 0
+abbrev pub IsNew : List ℕ → Type 0
 IsNew key = (ws : List (List ℕ)) → by_rule all_rules key ws ≡ None
 
 all_new : (bm : Bookmarks) → AllByRecursion (λ (r : QuestionRule). IsNew r.0) (question_rules bm)
@@ -165,82 +161,22 @@ order_beside : (bm : Bookmarks) (w v : List ℕ) (ws : List (List ℕ)) (o : Ord
 order_beside bm w v ws o None is e = absurd (cc e)
 order_beside bm w v ws o (Some p) is e = two_no_command bm w v ws p is
 
--- a name is no number
-name_is_no_number : (classes : List Class) (name : List ℕ) (k : ℕ) → class_by_name classes name ≡ Some k → number_of_word name ≡ None
-name_is_no_number classes name k e = go (number_of_word name) e
-  where
-    go : (number : Option ℕ) → (if is_some number then None else class_named classes name) ≡ Some k → number ≡ None
-    go None e = refl
-    go (Some n) e = absurd (cc e)
-
--- the name of a class that makes a new object is no number
-new_of_no_number : (classes : List Class) (m r name : List ℕ) (e : Event) → new_of classes m r name ≡ Some e → number_of_word name ≡ None
-new_of_no_number classes m r name e is = go (number_of_word m) (number_of_word r) (class_by_name classes name) refl is
-  where
-    go : (a b class : Option ℕ) → class_by_name classes name ≡ class → option_and_then (λ (m : ℕ). option_and_then (λ (r : ℕ). option_map (λ (k : ℕ). New m r k) class) b) a ≡ Some e → number_of_word name ≡ None
-    go None b class h is = absurd (cc is)
-    go (Some m) None class h is = absurd (cc is)
-    go (Some m) (Some r) None h is = absurd (cc is)
-    go (Some m) (Some r) (Some k) h is = name_is_no_number classes name k h
-
-no_new_without_number : (m r name : List ℕ) (ws : List (List ℕ)) → number_of_word name ≡ None → by_rule all_rules (codes "new") (m ∷ r ∷ name ∷ ws) ≡ None
-unfolding by_rule class_rules making_rules access_rules marking_rules session_rules
-no_new_without_number m r name ws e = first (number_of_word m)
-  where
-    third : (a b : ℕ) → option_map (λ (n : ℕ × ℕ × ℕ). Ask (Step (New n.0 n.1 n.2))) (option_and_then (λ (c : ℕ × List (List ℕ)). at_end (a, b, c.0) c.1) (option_map (λ (n : ℕ). (n, ws)) (number_of_word name))) ≡ None
-    third a b =
-        ap (λ (o : Option ℕ). option_map (λ (n : ℕ × ℕ × ℕ). Ask (Step (New n.0 n.1 n.2))) (option_and_then (λ (c : ℕ × List (List ℕ)). at_end (a, b, c.0) c.1) (option_map (λ (n : ℕ). (n, ws)) o))) e
-
-    second : (a : ℕ) (r' : Option ℕ)
-        → option_map (λ (n : ℕ × ℕ × ℕ). Ask (Step (New n.0 n.1 n.2)))
-        (option_and_then (λ (b : ℕ × List (List ℕ)). option_and_then (λ (c : ℕ × List (List ℕ)). at_end (a, b.0, c.0) c.1) (next_number b.1)) (option_map (λ (n : ℕ). (n, name ∷ ws)) r')) ≡ None
-    second a None = refl
-    second a (Some b) = third a b
-
-    first : (m' : Option ℕ)
-        → option_map (λ (n : ℕ × ℕ × ℕ). Ask (Step (New n.0 n.1 n.2)))
-        (option_and_then
-        (λ (a : ℕ × List (List ℕ)). option_and_then (λ (b : ℕ × List (List ℕ)). option_and_then (λ (c : ℕ × List (List ℕ)). at_end (a.0, b.0, c.0) c.1) (next_number b.1)) (next_number a.1))
-        (option_map (λ (n : ℕ). (n, r ∷ name ∷ ws)) m')) ≡ None
-    first None = refl
-    first (Some a) = second a (number_of_word r)
-
-makes_new_beside : (classes : List Class) (w m r name : List ℕ) (ws : List (List ℕ)) (o : Order) (event : Option Event) → bytes_eq w (codes "new") ≡ true → new_of classes m r name ≡ event
-    → option_and_then (λ (e : Event). at_end (Act e) ws) event ≡ Some o → command_of_words (w ∷ m ∷ r ∷ name ∷ ws) ≡ Bad
-makes_new_beside classes w m r name ws o None word is e = absurd (cc e)
-makes_new_beside classes w m r name ws o (Some event) word is e =
-    let none = subst (λ (x : List ℕ). by_rule all_rules x (m ∷ r ∷ name ∷ ws) ≡ None) (sym ((bytes_eq-Decides w (codes "new")).0 word)) (no_new_without_number m r name ws (new_of_no_number classes m r name event is)) in
-    rw none refl
-
-by_new : (classes : List Class) (w m : List ℕ) (ws : List (List ℕ)) (o : Order) → bytes_eq w (codes "new") ≡ true → new_by_name classes m ws ≡ Some o → command_of_words (w ∷ m ∷ ws) ≡ Bad
-by_new classes w m [] o word e = absurd (cc e)
-by_new classes w m (r ∷ []) o word e = absurd (cc e)
-by_new classes w m (r ∷ name ∷ ws) o word e = makes_new_beside classes w m r name ws o (new_of classes m r name) word refl e
-
-by_order : (bm : Bookmarks) (classes : List Class) (ws : List (List ℕ)) (o : Order) → order_of_words bm classes ws ≡ Some o → command_of_words ws ≡ Bad
+pub by_order : (bm : Bookmarks) (ws : List (List ℕ)) (o : Order) → order_of_words bm ws ≡ Some o → command_of_words ws ≡ Bad
 unfolding order_of_words
-by_order bm classes [] o e = absurd (cc e)
-by_order bm classes (w ∷ []) o e = go (bytes_eq w (codes "collect")) refl e
+by_order bm [] o e = absurd (cc e)
+by_order bm (w ∷ []) o e = go (bytes_eq w (codes "collect")) refl e
   where
     go : (b : Bool) → bytes_eq w (codes "collect") ≡ b → cond b (Some Collect) None ≡ Some o → command_of_words (w ∷ []) ≡ Bad
     go true h e = collects_alone w h
     go false h e = absurd (cc e)
-by_order bm classes (w ∷ v ∷ ws) o e = go (bytes_eq w (codes "new")) refl e
-  where
-    go : (b : Bool) → bytes_eq w (codes "new") ≡ b
-        → cond b (new_by_name classes v ws) (option_and_then (λ (p : Order). at_end p ws) (order_of_two bm w v)) ≡ Some o → command_of_words (w ∷ v ∷ ws) ≡ Bad
-    go true h e = by_new classes w v ws o h e
-    go false h e = order_beside bm w v ws o (order_of_two bm w v) refl e
-
-pub orders_no_command : (bm : Bookmarks) (state : HeapState) (l : List ℕ) (o : Order) → order_in bm state l ≡ Some o → command_of_text l ≡ Bad
-orders_no_command bm state l o e = bad_words l (by_order bm state.classes (words_of_line l) o e)
+by_order bm (w ∷ v ∷ ws) o e = order_beside bm w v ws o (order_of_two bm w v) refl e
 
 -- ---- what is done asks nothing
 
 -- a keyword that no question and no line that asks for help has
-record AsksNothing (bm : Bookmarks) (key : List ℕ) (ws : List (List ℕ)) : Type 0 where
-  question : question_of_words bm (key ∷ ws) ≡ None
-  help : help_of_words (key ∷ ws) ≡ None
+pub record AsksNothing (bm : Bookmarks) (key : List ℕ) (ws : List (List ℕ)) : Type 0 where
+  pub question : question_of_words bm (key ∷ ws) ≡ None
+  pub help : help_of_words (key ∷ ws) ≡ None
 
 collect_asks_nothing : (bm : Bookmarks) → AsksNothing bm (codes "collect") []
 unfolding question_of_words question_rules past_rules
@@ -250,12 +186,8 @@ rewind_asks_nothing : (bm : Bookmarks) (ws : List (List ℕ)) → AsksNothing bm
 unfolding question_of_words question_rules past_rules
 rewind_asks_nothing bm ws = record { question = refl; help = refl }
 
-new_asks_nothing : (bm : Bookmarks) (ws : List (List ℕ)) → AsksNothing bm (codes "new") ws
-unfolding question_of_words question_rules past_rules
-new_asks_nothing bm ws = record { question = refl; help = refl }
-
 -- the same of a word that is such a keyword
-word_asks_nothing : (bm : Bookmarks) (w key : List ℕ) (ws : List (List ℕ)) → bytes_eq w key ≡ true → AsksNothing bm key ws → AsksNothing bm w ws
+pub word_asks_nothing : (bm : Bookmarks) (w key : List ℕ) (ws : List (List ℕ)) → bytes_eq w key ≡ true → AsksNothing bm key ws → AsksNothing bm w ws
 word_asks_nothing bm w key ws word none = subst (λ (x : List ℕ). AsksNothing bm x ws) (sym ((bytes_eq-Decides w key).0 word)) none
 
 forward_asks_nothing : (bm : Bookmarks) (ws : List (List ℕ)) → AsksNothing bm (codes "forward") ws
@@ -276,18 +208,13 @@ order_beside_asks_nothing : (bm : Bookmarks) (w v : List ℕ) (ws : List (List �
 order_beside_asks_nothing bm w v ws o None is e = absurd (cc e)
 order_beside_asks_nothing bm w v ws o (Some p) is e = two_asks_nothing bm w v ws p is
 
-pub order_asks_nothing : (bm : Bookmarks) (classes : List Class) (ws : List (List ℕ)) (o : Order) → order_of_words bm classes ws ≡ Some o → (question_of_words bm ws ≡ None) × (help_of_words ws ≡ None)
+pub order_asks_nothing : (bm : Bookmarks) (ws : List (List ℕ)) (o : Order) → order_of_words bm ws ≡ Some o → (question_of_words bm ws ≡ None) × (help_of_words ws ≡ None)
 unfolding order_of_words
-order_asks_nothing bm classes [] o e = absurd (cc e)
-order_asks_nothing bm classes (w ∷ []) o e = go (bytes_eq w (codes "collect")) refl e
+order_asks_nothing bm [] o e = absurd (cc e)
+order_asks_nothing bm (w ∷ []) o e = go (bytes_eq w (codes "collect")) refl e
   where
     go : (b : Bool) → bytes_eq w (codes "collect") ≡ b → cond b (Some Collect) None ≡ Some o → (question_of_words bm (w ∷ []) ≡ None) × (help_of_words (w ∷ []) ≡ None)
     go true h e = let a = word_asks_nothing bm w (codes "collect") [] h (collect_asks_nothing bm) in (a.question, a.help)
     go false h e = absurd (cc e)
-order_asks_nothing bm classes (w ∷ v ∷ ws) o e = go (bytes_eq w (codes "new")) refl e
-  where
-    go : (b : Bool) → bytes_eq w (codes "new") ≡ b
-        → cond b (new_by_name classes v ws) (option_and_then (λ (p : Order). at_end p ws) (order_of_two bm w v)) ≡ Some o
-        → (question_of_words bm (w ∷ v ∷ ws) ≡ None) × (help_of_words (w ∷ v ∷ ws) ≡ None)
-    go true h e = let a = word_asks_nothing bm w (codes "new") (v ∷ ws) h (new_asks_nothing bm (v ∷ ws)) in (a.question, a.help)
-    go false h e = let a = order_beside_asks_nothing bm w v ws o (order_of_two bm w v) refl e in (a.question, a.help)
+order_asks_nothing bm (w ∷ v ∷ ws) o e =
+    let a = order_beside_asks_nothing bm w v ws o (order_of_two bm w v) refl e in (a.question, a.help)

@@ -6,22 +6,27 @@ use Rattle.std.specs.Str.{bytes_eq}
 use Rattle.std.proofs.lemmas.Slice.Eq.{bytes_eq-Decides}
 use Rattle.heap_trail.specs.Machine.{Machine}
 use Rattle.heap_trail.specs.declared.Action.TheVariants.{OpenPin}
+use Rattle.heap_step.specs.declared.Event.{Event}
 use Rattle.heap_world.specs.State.{HeapState}
 use Rattle.session_grammar.specs.declared.command.Command.TheVariants.{Ask, Bad}
 use Rattle.session_grammar.specs.Grammar.{access_rules, at_end, by_rule, class_rules, command_of_words, making_rules, marking_rules, number_of_word, place_or_dash, session_rules, words_of_line}
 use Rattle.question_grammar.specs.Bookmarks.{Bookmarks, place_named}
+use Rattle.question_grammar.specs.Chains.{chain_of_words}
+use Rattle.question_grammar.specs.EventNames.{event_by_name, event_of_words}
 use Rattle.question_grammar.specs.NamedLines.{named_question_of_words, named_rules}
 use Rattle.question_grammar.specs.NoteLines.{name_of_word, name_set, place_by_name, place_opened, place_set, word_behind}
 use Rattle.question_grammar.specs.Orders.{order_in, order_of_two, order_of_words}
 use Rattle.question_grammar.specs.Questions.{past_rules, place_of_word, question_of, question_of_words, question_rules}
 use Rattle.question_grammar.specs.declared.order.Order.{Order}
+use Rattle.question_grammar.specs.declared.order.Order.TheVariants.{Act}
 use Rattle.question_grammar.specs.declared.question.Question.{Question}
 use Rattle.question_text.specs.declared.asking.Asking.{Asking}
 use Rattle.question_text.specs.Answers.{IsAnswerOfLine}
 use Rattle.question_text.specs.Help.{help_of, help_of_words}
 use Rattle.question_text.specs.Notes.{NotesBy}
 use Rattle.question_text.specs.Sessions.{AnswersLine, AskingAnswers, IsAlone, OpensOrAnswers}
-use Rattle.question_text.proofs.NewWords.{bad_words, order_asks_nothing, same_by_numbers}
+use Rattle.question_text.proofs.NewEvents.{line_asks_nothing}
+use Rattle.question_text.proofs.NewWords.{bad_words, same_by_numbers}
 
 -- ---- the word behind a keyword
 
@@ -49,27 +54,30 @@ said_behind key ws says a (Some v) is e = (v, behind_is key ws v is, e)
 
 record AreAlone (bm : Bookmarks) (state : HeapState) (ws : List (List ℕ)) : Type 0 where
   command : command_of_words ws ≡ Bad
-  order : order_of_words bm state.classes ws ≡ None
+  order : order_of_words bm ws ≡ None
+  event : event_of_words state ws ≡ None
   question : question_of_words bm ws ≡ None
   named : named_question_of_words bm state ws ≡ None
+  chain : chain_of_words bm ws ≡ None
   help : help_of_words ws ≡ None
 
 alone_line : (bm : Bookmarks) (state : HeapState) (l : List ℕ) (ws : List (List ℕ)) → words_of_line l ≡ ws → AreAlone bm state ws → IsAlone bm state l
 alone_line bm state l ws is a =
     let b : AreAlone bm state (words_of_line l) = subst (AreAlone bm state) (sym is) a in record {
       command = bad_words l b.command;
-      order = b.order;
+      order = ap₂ (λ (o : Option Order) (event : Option Event). option_or o (option_map Act event)) b.order b.event;
       question = ap₂ (λ (p q : Option Question). option_or p q) b.question b.named;
+      chain = b.chain;
       help = b.help;
     }
 
 at_words : (bm : Bookmarks) (state : HeapState) (v : List ℕ) → AreAlone bm state (codes "at" ∷ v ∷ [])
-unfolding by_rule class_rules making_rules access_rules marking_rules session_rules order_of_words order_of_two question_of_words question_rules past_rules named_question_of_words named_rules
-at_words bm state v = record { command = refl; order = refl; question = refl; named = refl; help = refl }
+unfolding by_rule class_rules making_rules access_rules marking_rules session_rules order_of_words order_of_two event_by_name question_of_words question_rules past_rules named_question_of_words named_rules
+at_words bm state v = record { command = refl; order = refl; event = refl; question = refl; named = refl; chain = refl; help = refl }
 
 name_words : (bm : Bookmarks) (state : HeapState) (v : List ℕ) → AreAlone bm state (codes "name" ∷ v ∷ [])
-unfolding by_rule class_rules making_rules access_rules marking_rules session_rules order_of_words order_of_two question_of_words question_rules past_rules named_question_of_words named_rules
-name_words bm state v = record { command = refl; order = refl; question = refl; named = refl; help = refl }
+unfolding by_rule class_rules making_rules access_rules marking_rules session_rules order_of_words order_of_two event_by_name question_of_words question_rules past_rules named_question_of_words named_rules
+name_words bm state v = record { command = refl; order = refl; event = refl; question = refl; named = refl; chain = refl; help = refl }
 
 pub place_alone : (bm : Bookmarks) (state : HeapState) (l : List ℕ) (to : Option ℕ) → place_set bm l ≡ Some to → IsAlone bm state l
 place_alone bm state l to e =
@@ -111,8 +119,8 @@ no_open v e =
     ap (λ (o : Option (Option ℕ)). unwrap_or (option_map (λ at. Ask (OpenPin at)) (option_and_then (λ (a : Option ℕ × List (List ℕ)). at_end a.0 a.1) (option_map (λ at. (at, [])) o))) Bad) e
 
 open_words : (bm : Bookmarks) (state : HeapState) (v : List ℕ) → place_or_dash v ≡ None → AreAlone bm state (codes "open" ∷ v ∷ [])
-unfolding order_of_words order_of_two question_of_words question_rules past_rules named_question_of_words named_rules
-open_words bm state v e = record { command = no_open v e; order = refl; question = refl; named = refl; help = refl }
+unfolding order_of_words order_of_two event_by_name question_of_words question_rules past_rules named_question_of_words named_rules
+open_words bm state v e = record { command = no_open v e; order = refl; event = refl; question = refl; named = refl; chain = refl; help = refl }
 
 opened_word : (bm : Bookmarks) (l : List ℕ) (place : ℕ) → place_opened bm l ≡ Some place → (v : List ℕ) × (words_of_line l ≡ codes "open" ∷ v ∷ []) × (place_by_name bm v ≡ Some place)
 opened_word bm l place e = said_behind (codes "open") (words_of_line l) (λ w. place_by_name bm w) place (word_behind (codes "open") (words_of_line l)) refl e
@@ -174,7 +182,7 @@ answered_alone l text c d none sets a = same_opening (place_opened c.bookmarks l
 
 -- no order is asked, if the line asks something else
 no_order : (bm : Bookmarks) (state : HeapState) (l : List ℕ) → ((question_of bm l ≡ None) × (help_of l ≡ None) → ⊥) → order_in bm state l ≡ None
-no_order bm state l h = none_of (order_in bm state l) (λ o t. h (order_asks_nothing bm state.classes (words_of_line l) o t))
+no_order bm state l h = none_of (order_in bm state l) (λ o t. h (line_asks_nothing bm state l o t))
 
 pub question_changes_nothing : (l text : List ℕ) (q : Question) (c d : Asking) → question_of c.bookmarks l ≡ Some q → AskingAnswers l c text d → d ≡ c
 question_changes_nothing l text q c d e a =

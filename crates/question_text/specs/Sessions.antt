@@ -21,6 +21,7 @@ use Rattle.session_text.specs.Talks.{IsLine, Serves, stream}
 use Rattle.session_text.specs.declared.limits.SessionLimits.{SessionLimits}
 use Rattle.question_text.specs.declared.asking.Asking.{Asking}
 use Rattle.question_grammar.specs.Bookmarks.{Bookmarks}
+use Rattle.question_grammar.specs.Chains.{chain_of}
 use Rattle.question_text.specs.Notes.{NotesLine}
 use Rattle.question_grammar.specs.declared.order.Order.{Order}
 use Rattle.heap_orders.specs.Collections.{TakenStep}
@@ -83,11 +84,12 @@ ServesAsking limits time a b c w c' w' ended =
     Serves limits (AnswersCommand AskingActs AskingAnswers time)
     (Begins AskingActs AskingAnswers time) a b c w c' w' ended
 
--- a line isn't one of the grammar of sessions, no order, no question and no line that asks for help
+-- a line isn't one of the grammar of sessions, no order, no question, not one along fields either, and no line that asks for help
 pub record IsAlone (b : Bookmarks) (state : HeapState) (l : List ℕ) : Type 0 where
   pub command : command_of_text l ≡ Bad
   pub order : order_in b state l ≡ None
   pub question : question_in b state l ≡ None
+  pub chain : chain_of b l ≡ None
   pub help : help_of l ≡ None
 
 -- ---- a session without its questions

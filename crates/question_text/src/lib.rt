@@ -15,12 +15,14 @@ ghost use Rattle.heap_world.specs.State.{HeapState};
 ghost use Rattle.session_grammar.specs.declared.command.Command.TheVariants.{Bad};
 ghost use Rattle.std.specs.List.{AllByRecursion};
 ghost use Rattle.session_grammar.specs.Grammar.{Rule, all_rules, command_of_text};
+ghost use Rattle.question_grammar.specs.declared.chain.Chain.{Chain};
 ghost use Rattle.question_grammar.specs.declared.question.Question.{Question};
 ghost use Rattle.question_text.specs.declared.asking.Asking.{Asking};
 ghost use Rattle.heap_orders.specs.Collections.{IsWholeCycle, TakenStep};
 ghost use Rattle.question_text.specs.Comments.{is_comment};
 ghost use Rattle.question_text.specs.Help.{HasForm, help_of};
 ghost use Rattle.question_grammar.specs.Bookmarks.{Bookmarks};
+ghost use Rattle.question_grammar.specs.Chains.{chain_of};
 ghost use Rattle.question_grammar.specs.NamedLines.{question_in};
 ghost use Rattle.question_grammar.specs.NoteLines.{name_set, place_opened, place_set};
 ghost use Rattle.question_grammar.specs.declared.order.Order.{Order};
@@ -41,6 +43,7 @@ mod dominator_rows;
 mod help;
 mod notes;
 mod session;
+mod shown_chain;
 mod state_dump;
 mod watch;
 
@@ -52,13 +55,15 @@ pub use session::serve_asking;
 pub use state_dump::dump_at;
 pub use watch::{BAD_COMMAND, Watch};
 
-/// States that no line that asks a question, by numbers alone or by names of classes and fields, is one of the grammar of
-/// sessions, so that each of these keeps its meaning.
+/// States that no line that asks a question, by numbers alone, by names of classes and fields, or along fields, is one of the grammar
+/// of sessions, so that each of these keeps its meaning.
 pub fn questions_are_new()
     ensures numbers { (b : Bookmarks) (l : List ℕ) (q : Question)
         → question_of b l ≡ Some q → command_of_text l ≡ Bad }
     ensures names { (b : Bookmarks) (w : HeapState) (l : List ℕ) (q : Question)
         → question_in b w l ≡ Some q → command_of_text l ≡ Bad }
+    ensures chains { (b : Bookmarks) (l : List ℕ) (c : Chain)
+        → chain_of b l ≡ Some c → command_of_text l ≡ Bad }
 {}
 
 /// States that a line that asks a question by numbers alone asks the same one whatever names a heap has.
@@ -72,7 +77,7 @@ pub fn help_is_new()
     ensures { (l text : List ℕ) → help_of l ≡ Some text → command_of_text l ≡ Bad }
 {}
 
-/// States the same of the lines that change the heap: `collect`, `rewind @P`, `forward` and `new M R NAME`.
+/// States the same of the lines that change the heap: `collect`, `rewind @P`, `forward`, and events that name a class or a field.
 pub fn orders_are_new()
     ensures { (b : Bookmarks) (state : HeapState) (l : List ℕ) (o : Order)
         → order_in b state l ≡ Some o → command_of_text l ≡ Bad }
@@ -101,7 +106,7 @@ pub fn comments_are_silent()
 {}
 
 /// States that a question and a line that asks for help change nothing, and that no other line which the grammar of sessions
-/// doesn't know changes anything but bookmarks, except for `collect`, `rewind @P`, `forward`, `new M R NAME` and `open @WORD`.
+/// doesn't know changes anything but bookmarks, except for `collect`, `rewind @P`, `forward`, events by names and `open @WORD`.
 pub fn questions_change_nothing()
     ensures questions { (l text : List ℕ) (q : Question) (c d : Asking)
         → question_of c.bookmarks l ≡ Some q → AskingAnswers l c text d → d ≡ c }
@@ -124,7 +129,7 @@ pub fn collect_is_determined()
 {}
 
 /// States that the lines of a session with questions that the grammar of sessions knows are answered, and leave the machine, as
-/// a session of these lines alone does, if none is `collect`, `rewind @P`, `forward`, `new M R NAME` or `open @WORD`.
+/// a session of these lines alone does, if none is `collect`, `rewind @P`, `forward`, an event by a name or `open @WORD`.
 pub fn questions_can_be_left_out()
     ensures { (limits : SessionLimits) (time : ℕ) (lines : List (List ℕ)) (text : List ℕ)
         (c d : Asking) → NoneOrders lines
@@ -133,7 +138,7 @@ pub fn questions_can_be_left_out()
 {}
 
 /// States that some list of actions leads to the machine that a session with questions leaves, `collect`, `rewind @P`, `forward`,
-/// `new M R NAME` and `open @WORD` included.
+/// events by names and `open @WORD` included.
 pub fn asking_session_is_list()
     ensures { (limits : SessionLimits) (time : ℕ) (lines : List (List ℕ)) (text : List ℕ)
         (c d : Asking) → AnswersAll limits

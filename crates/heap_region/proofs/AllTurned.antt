@@ -1,6 +1,7 @@
 -- What a turn of all regions leaves of their tables.
 use Rattle.std.proofs.Common.{◌≡◌, ℕ, zero, suc, ◌+◌, ◌<◌, ◌≤◌, Bool, true, false, not, eqb, ◌&&◌, List, [], ◌∷◌, length, map, Option, Some, None, is_none, IsSome, option_map, get_or, refl, sym, ap, subst, ◌∙◌, arith, rules}
 use Rattle.std.specs.Prelude.{nat_lt, if◌then◌else◌}
+use Rattle.std.proofs.lemmas.Bool.{ne_eqb}
 use Rattle.std.proofs.lemmas.List.{get_or-map, length-map}
 use Rattle.memchr.specs.Find.{IsFirstByte, is_byte}
 use Rattle.heap_region.specs.Regions.{Object, UsedRegion, Region, Empty, InUse, in_used, used_at}
@@ -135,7 +136,7 @@ class_reads false k = refl
 class_reads true zero = refl
 class_reads true (suc zero) = refl
 class_reads true (suc (suc zero)) = refl
-class_reads true (suc (suc (suc k))) = refl
+class_reads true (suc (suc (suc k))) = ne_eqb (suc (suc (suc k))) 1 (λ e. omega arith) ∙ sym (ne_eqb (suc (suc (suc k))) 2 (λ e. omega arith))
 
 passes_read : (odd : Bool) (classes : List ℕ) (k : ℕ) → k < length classes → eqb (get_or (map (wait_turned odd) classes) k 0) 1 ≡ eqb (get_or classes k 0) (wait_turned odd 1)
 passes_read odd classes k lt = ap (λ x. eqb x 1) (get_or-map (wait_turned odd) classes k 0 0 lt) ∙ class_reads odd (get_or classes k 0)

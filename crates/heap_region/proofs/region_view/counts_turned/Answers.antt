@@ -17,18 +17,18 @@ prior-requires c = unmarked_at_most c.requires.0.cells _ c.requires.1
 
 pub returns-in-Zero : goal.returns-in-Zero
 unfolding turned_by
-returns-in-Zero c u is = is
+returns-in-Zero c u is = rw c.in-Zero.is is
 
 pub returns-in-One : goal.returns-in-One
 unfolding turned_by turned_region
-returns-in-One c u is = counted_turned u.cells _ _ is c.next.ensures.objects c.next.ensures.unmarked c.next.ensures.dead
+returns-in-One c u is = rw c.in-One.is (counted_turned u.cells _ _ is c.next.ensures.objects c.next.ensures.unmarked c.next.ensures.dead)
 
 pub returns-in-Two : goal.returns-in-Two
 unfolding turned_by turned_region
 returns-in-Two c u is =
     let once = counted_turned u.cells _ c.next-in-Two.result is c.next-in-Two.ensures.objects c.next-in-Two.ensures.unmarked c.next-in-Two.ensures.dead in
-    counted_turned (map (option_map turned_object) u.cells) c.next-in-Two.result _ once c.next-in-Two-2.ensures.objects c.next-in-Two-2.ensures.unmarked c.next-in-Two-2.ensures.dead
+    rw c.in-Two.is (counted_turned (map (option_map turned_object) u.cells) c.next-in-Two.result _ once c.next-in-Two-2.ensures.objects c.next-in-Two-2.ensures.unmarked c.next-in-Two-2.ensures.dead)
 
 pub returns-in-Three : goal.returns-in-Three
 unfolding turned_by turned_back_region
-returns-in-Three c u is = counted_turned_back u.cells _ _ is c.prior.ensures.objects c.prior.ensures.unmarked c.prior.ensures.dead
+returns-in-Three c u is = rw c.in-Three.is (counted_turned_back u.cells _ _ is c.prior.ensures.objects c.prior.ensures.unmarked c.prior.ensures.dead)

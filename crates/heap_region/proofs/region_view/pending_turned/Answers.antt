@@ -8,16 +8,16 @@ not_twice false = refl
 
 pub returns-in-Zero : goal.returns-in-Zero
 unfolding turned_by
-returns-in-Zero c u is = sym is
+returns-in-Zero c u is = rw c.in-Zero.is (sym is)
 
 pub returns-in-One : goal.returns-in-One
 unfolding turned_by turned_region
-returns-in-One c u is = ap not (sym is)
+returns-in-One c u is = rw c.in-One.is (ap not (sym is))
 
 pub returns-in-Two : goal.returns-in-Two
 unfolding turned_by turned_region
-returns-in-Two c u is = sym is ∙ not_twice u.pending
+returns-in-Two c u is = rw c.in-Two.is (sym is ∙ not_twice u.pending)
 
 pub returns-in-Three : goal.returns-in-Three
 unfolding turned_by turned_back_region
-returns-in-Three c u is = ap not (sym is)
+returns-in-Three c u is = rw c.in-Three.is (ap not (sym is))

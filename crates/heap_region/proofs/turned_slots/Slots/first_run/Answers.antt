@@ -12,7 +12,7 @@ overflow_add-first-in_default c = omega (arith, c.loop-region.invariant.far, c.l
 
 pub returns-then-region-first-clause-value : goal.returns-then-region-first-clause-value
 returns-then-region-first-clause-value c =
-    run_found c.args.self.now c.args.start c.args.count c.loop-region.first c.loop-region.region c.requires.area c.requires.count.0 c.loop-region.invariant c.loop-region.auto.region c.in_default.ensures.value c.loop-region-test.true (omega (arith, c.if-region-first.true))
+    run_found c.args.self.now c.args.start c.args.count c.loop-region.first c.loop-region.region c.requires.area c.requires.count.0 c.loop-region.invariant c.loop-region.auto.region c.in_default.ensures.value (omega (arith, c.loop-region-test.true, c.len-region-end.ensures)) (omega (arith, c.if-region-first.true))
 
 pub loop-region-preserved : goal.loop-region-preserved
 loop-region-preserved c =

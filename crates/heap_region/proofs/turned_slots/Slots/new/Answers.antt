@@ -1,4 +1,4 @@
-use Rattle.std.proofs.Common.{length, ap, arith}
+use Rattle.std.proofs.Common.{◌≡◌, length, ap, arith}
 use Rattle.std.proofs.lemmas.List.{length-replicate}
 use Rattle.heap_region.specs.declared.slots.Slot.{Slot}
 use Rattle.heap_region.specs.declared.slots.Slot.TheVariants.{Empty}
@@ -11,4 +11,6 @@ push_reserved-requires c =
     omega (arith, ap length c.loop-i.invariant.slots, length-replicate c.loop-i.i none, c.loop-i.slots.ok.0, c.loop-i.invariant.places)
 
 pub returns : goal.returns
-returns c = rw c.loop-i.invariant.slots (empty_slots_shown _ _)
+returns c =
+    let all : c.loop-i.i ≡ c.args.count = omega arith in
+    rw (c.loop-i.invariant.slots, all) (empty_slots_shown _ c.args.count)

@@ -10,7 +10,7 @@ asks for the same below a class that isn't there, so that the line is read and n
 KIND `mixed` makes an object or an array now and then, and else stores, loads, puts, moves and clears.
 KIND `mixed_full` is the same after 248 regions were filled by an array each.
 KIND `marking` fills every region but the last with one list, and then begins a cycle and, again and again, cuts the list
-behind the marker, so that the barrier logs an unmarked object, drains, marks and walks on; and rewinds to where the cycle began.
+after the marker, so that the barrier logs an unmarked object, drains, marks and walks on; and rewinds to where the cycle began.
 KIND `cycles` fills every region but the last with nodes of two lists in turn, drops one of them, runs a whole cycle with a
 store, sweeps every region, which copies half of its objects, and makes the dropped list again, and so on.
 KIND `rewinds` makes objects and writes them, undoes a few steps now and then, and at times up to 20,000, which it repeats.

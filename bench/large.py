@@ -30,7 +30,7 @@ class Heap:
         return int(pathlib.Path(f"/proc/{self.ran.pid}/schedstat").read_text().split()[0])
 
     def answers(self, count):
-        """Reads up to the last line of the answer of so many lines. Returns the last."""
+        """Reads the answers to this many lines. Returns the last line of the last answer."""
         line = b""
         while count:
             line = self.ran.stdout.readline()
@@ -38,7 +38,7 @@ class Heap:
         return line
 
     def say(self, lines, count):
-        """Has lines answered, of which there are so many. Returns how long that took for each, in nanoseconds, and the last answer."""
+        """Has lines answered, `count` of them. Returns how long that took for each, in nanoseconds, and the last answer."""
         begun = self.nanoseconds()
         writer = threading.Thread(target=self.write, args=(lines,))
         writer.start()

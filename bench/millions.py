@@ -156,7 +156,7 @@ def told(name, begun):
 
 
 class Hunt:
-    """A session of `explore` behind the lines of a file, or of a dump's session."""
+    """A session of `explore` after the lines of a file, or of a dump's session."""
 
     def __init__(self, program, option, path, *words):
         words = [program, "explore", *words, option, str(path)]

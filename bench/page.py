@@ -3,7 +3,7 @@
 
 The heap is a list of 65,000 nodes of two slots, with 65,536 retained steps. Prints how long it takes, in milliseconds, from the
 navigation until the whole page has been drawn for the first time, from a click on the time line until the heap at that place is
-shown, and from a click on an object of the list until it is shown; and the same of the answers that make up a look, without a
+shown, and from a click on an object of the list until it is shown; and the same for the answers that make up a look, without a
 browser. Medians, each with its slowest. Says in one line if no browser is there. With CHECK=1 the status is 1 if the first two
 medians are not below FIRST and MOVE."""
 import http.client

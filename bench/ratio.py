@@ -79,7 +79,7 @@ class Bench:
         return counts, answers[0]
 
     def cost(self, options, before, text):
-        """Returns the instructions that both programs take for a text behind another, and what they answer."""
+        """Returns the instructions that both programs take for a text after another, and what they answer."""
         (base, told), (whole, answer) = self.instructions(options, before), self.instructions(options, before + text)
         return [more - less for more, less in zip(whole, base)], answer[len(told) :]
 

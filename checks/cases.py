@@ -228,7 +228,7 @@ class Script:
 
 
 def of_a_long_log():
-    """Returns the case of a list that a cycle's log holds whole: drained, marked, and all of it taken back."""
+    """Returns the case of a list that a cycle's log holds whole: drained, marked, and all of it undone."""
     script = Script()
     script.add_list(1101)
     script.add("snap\n", "ok pushed 1\n")
@@ -249,7 +249,7 @@ def of_a_long_log():
 
 
 def of_a_full_region():
-    """Returns the case of a full region of which a sweep leaves node 100 alone, and which is filled again; all taken back."""
+    """Returns the case of a full region of which a sweep leaves node 100 alone, and which is filled again; all undone."""
     script = Script()
     script.add_list(256)
     script.add("move 0 2 0 0\n", "ok\n")
@@ -270,7 +270,7 @@ def of_a_full_region():
 
 def tell_free_cells(script, place):
     """Has nodes and arrays fill the free cells of the first two regions, of which each has all but its cell 0 free in order, and
-    no more; then all that is taken back."""
+    no more; then all that is undone."""
     for index in range(1, 256):
         script.add_object("new 0 3 0\n", index)
     for index in range(1, 64):
@@ -311,7 +311,7 @@ def tell_taken(script):
 
 
 def of_reuse():
-    """Returns the case of a region that a sweep empties and an array takes, and of all that taken back. What the heap holds is told
+    """Returns the case of a region that a sweep empties and an array takes, and of undoing all that. What the heap holds is told
     after each step, there and back, by steps that are then undone."""
     script = Script()
     script.add("class Node - next:object v:long\nnew 0 0 0\n", "ok class 0\nok object 0x10000000\n")

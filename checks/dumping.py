@@ -170,7 +170,7 @@ def all_unread(program):
 
 def unread_errors(program):
     """Yields what a client has after 3,000 dumps that were refused, while nobody reads standard error: its whole dump. The server
-    ends as ever, and has told of all that were refused."""
+    ends as usual, and has reported all that were refused."""
     with DumpServer(program, 1, "--questions", "1") as server, server.session() as session:
         pins = [session.open().pin for _ in range(4)]
         refused = {server.dump() for _ in range(3000)}

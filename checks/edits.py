@@ -168,7 +168,7 @@ def check(folder, edits):
 
 
 def told_of(function, said):
-    """Returns the lines of a check that tell of a function and its closures, and the errors in their proofs."""
+    """Returns the lines of a check that are about a function and its closures, and the errors in their proofs."""
     above, _, name = function.rpartition("::")
     path, above = re.escape(function), re.escape(above)
     own = re.compile(rf"fn \w+::(\S+::)?({path}|({above}::)?fn::({above}::)?{name}::\S+): ")
@@ -251,7 +251,7 @@ def try_all(words):
     edits = [Edit(it, it.parts[-2]) for it in sorted(TOP.glob("edits/*/*.edit"))]
     unknown = set(words) - {edit.crate for edit in edits} - {edit.name for edit in edits}
     if unknown:
-        print(f"edits/ has nothing of {', '.join(sorted(unknown))}")
+        print(f"edits/ has no {', '.join(sorted(unknown))}")
         return 2
     chosen = [edit for edit in edits if not words or edit.crate in words or edit.name in words]
     by_crate = {}

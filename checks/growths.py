@@ -3,13 +3,14 @@
 
 Usage: checks/growths.py [-v] PROGRAM
 A session ends by `memory` before it reads, or refuses one line and answers all others as a session without that line, or loses
-a pin and answers all but its pieces as if it hadn't. A line that was refused is answered as ever when it is given once more,
-and so are all after it. So it is beside a page, and with a question in place of a line. Two clients are served at a time: a
-session that ends by `memory` has answered nothing, and the other one goes on, also beside workers and dumps, each of which is
-whole or a beginning. A save is the dump of the session's last state, or a beginning of it if the dump is lost by Memory. If it
-is lost before its first byte, or the session isn't dumped, a file that was there stays as it was, and no file is made. No
-session asks for much more memory at once than its settings need, and no rewind asks for any. Prints a line for each session
-that goes otherwise, and with -v for each how many allocations were refused; ends with status 1 if one goes otherwise."""
+a pin and answers all but its pieces as if it hadn't. A line that was refused is answered as usual when it is given once more,
+and so are all lines after it. The same holds beside a page, and for a question instead of a line. Two clients are served at a
+time: a session that ends by `memory` has answered nothing, and the other one goes on, also beside workers and dumps, each of
+which is whole or a beginning. A save is the dump of the session's last state, or a beginning of it if the dump is lost by
+Memory. If it is lost before its first byte, or the session isn't dumped, a file that was there stays as it was, and no file is
+made. No session asks for much more memory at once than its settings need, and no rewind asks for any, nor does a sweep that
+finds no dead object beside a pin. Prints a line for each session that misbehaves, and with -v for each how many allocations
+were refused; ends with status 1 if one misbehaves."""
 import contextlib
 import os
 import pathlib
@@ -50,7 +51,8 @@ QUESTIONS = """class Node - next:object v:long, array Nodes, new 0 0 0, new 0 1 
     retained 0x10000020, dominators, dominators 1, dominators 0x10000000, dominator 0x10000020, referrers 0x10000000, registers, classes, objects,
     objects 1 0 1 7, values 0 1, values 1 1 0, show 0x10000000, show @9 0x10000020, watch 0x10000020 1, writes 0 1, when 0 1 7, dropped 0x10000040,
     history 9, history @9 3, life 0x10000000, cycles, pins, cells, regions, status, show 0x10000060 1 1, when count 0 2,
-    rewind 3, forward 2, forward 9"""
+    show 0x10000000.next, show @9 0x10000000.next.next 3, show 0x10000060.1 8, put 0 0 v 6, newarray 0 4 Nodes 2, rewind 2,
+    rewind 3, forward 2, forward 9, name here, name there, name here, open @here, at @here, histogram, history 2"""
 
 # A session of a wide heap: as many classes and regions as make each table grow, names longer and pins more than other heaps allow, and a
 # cycle beside these pins.
@@ -187,7 +189,7 @@ def went_well(command, library, lines, number):
 
 
 def wrong_sessions(command, library, lines, tries=1):
-    """Yields the numbers of the allocations after whose refusal a session goes otherwise than it may, and then how many it makes."""
+    """Yields the numbers of the allocations after whose refusal a session misbehaves, and then how many it makes."""
     for number in range(1, LIMIT):
         went = in_tries(tries, lambda number=number: went_well(command, library, lines, number))
         if went is None:
@@ -319,8 +321,8 @@ def connected(server, port):
 
 
 def wrong_acts(program, library, lines):
-    """Yields the numbers of the allocations after whose refusal a session of a shared heap goes otherwise than it may, and then how many
-    it makes."""
+    """Yields the numbers of the allocations after whose refusal a session of a shared heap misbehaves, and then how many it
+    makes."""
     command = [program, "run", "--regions", "2"]
     for number in range(1, LIMIT):
         status, words, answers, error = served(program, library, number, [text_of(lines)])
@@ -384,8 +386,7 @@ def is_saved(program, library, lines, found, dump):
 
 
 def wrong_saves(program, library, lines):
-    """Yields the numbers of the allocations after whose refusal a session that is saved goes otherwise than it may, and then how
-    many it makes."""
+    """Yields the numbers of the allocations after whose refusal a session that is saved misbehaves, and then how many it makes."""
     for number in range(1, LIMIT):
         status, found, error, dump = saved(program, library, lines, number)
         if not error:
@@ -411,12 +412,12 @@ def wrong_saves(program, library, lines):
 # is read by up to 65,536 bytes, also what is read ahead of a served session, to know its first line; a line of 32,768 bytes has
 # at most 8,192 fields, and where one stands takes 6 bytes; parts of a saved dump are joined to 64 KiB; a record of the ring
 # takes at most 32 bytes, and it has room for up to 64 records more than are kept; a step that can be taken again takes at most 72
-# bytes where questions may be answered, as in `save`; the parser of the command line asks up to three times for a list of the
-# options of `serve`, with room for 32 of 608 bytes. Nothing else is larger than a region's box, which has 1,024 words and room for
-# 256 headers of 16 bytes: not a part of a dump of these heaps, a page of answers, the gray stack (8 bytes for each of 256 cells of
-# a region), or lists of at most 256 regions or 3 sessions.
+# bytes where questions may be answered, as in `save`; the parser of the command line is made up to three times, and asks each time
+# for a list of the options of `explore` and one of those of `serve`, each with room for 32 of 608 bytes. Nothing else is larger
+# than a region's box, which has 1,024 words and room for 256 headers of 16 bytes: not a part of a dump of these heaps, a page of
+# answers, the gray stack (8 bytes for each of 256 cells of a region), or lists of at most 256 regions or 3 sessions.
 READ, FIELDS, PAGE, RECORD, EVENT, BOX = 65_536, 8192 * 6, 65_536, 32, 72, 8192 + 4096
-OPTIONS = [32 * 608] * 3
+OPTIONS = [32 * 608] * 6
 MARGIN = 1.25
 
 
@@ -482,6 +483,9 @@ STEPS = """class Node - next:object v:long, array [Node;, new 0 0 0, new 0 1 0, 
     store 0 0 0 1, store 0 2 0 0, load 0 4 0 0, load 0 4 0 1, move 1 0 0 0, clear 0 1, clear 0 4, snap, new 0 5 0, clear 0 3,
     store 0 0 0 5, mark, mark, drain, mark, mark, finish, sweep 0, snap, mark, mark, mark, finish, sweep 0, clear 0 2, clear 0 5,
     clear 1 0, clear 0 0, snap, finish, sweep 0"""
+# An object, and a cycle that leaves it.
+LIVE = "class Node - v:long, new 0 0 0"
+SWEPT = "snap, mark, finish, sweep 0, open -, open 5, put 0 0 0 7"
 # The places at which pins are opened: before the first step, in the first cycle, and before and after the sweep that removes two.
 PINNED = 0, 18, 30, 31
 
@@ -530,8 +534,8 @@ def taken_steps(session, steps, pinned):
 
 
 def wrong_undoing(program, library, pinned):
-    """Yields what goes otherwise than it may in a session that takes all steps, with pins opened at these places, undoes them one by one
-    and closes the pins, and takes the steps and undoes them at once: no rewind and no `close` asks for memory."""
+    """Yields what goes wrong in a session that takes all steps, with pins opened at these places, undoes them one by one and closes
+    the pins, and takes the steps and undoes them at once: no rewind and no `close` may ask for memory."""
     steps = words_of(STEPS)
     last = len(steps)
     with Counted(program, library) as session:
@@ -545,6 +549,16 @@ def wrong_undoing(program, library, pinned):
         yield from taken_steps(session, steps, pinned)
         if (found := session.reply(b"rewind %d" % last)) != (b"ok place 0", 0):
             yield f"rewind {last}: {found[0]!r} after {found[1]} requests"
+
+
+def wrong_sweep(program, library):
+    """Yields what goes otherwise than it may where a sweep finds no dead object beside a pin: it asks for no memory, and a pin on the state
+    before it for as much as one on the state after it. The first write to the region then makes three copies."""
+    with Counted(program, library) as session:
+        yield from taken_steps(session, words_of(LIVE), (2,))
+        *cycle, after, before, put = [session.reply(line)[1] for line in words_of(SWEPT)]
+        if any(cycle) or after != before or put != 3:
+            yield f"a sweep that finds no dead object: {cycle}, {after}, {before} and {put} requests"
 
 
 def told(name, numbers, verbose):
@@ -590,6 +604,9 @@ def main(heapdbg, verbose=False):
             for line in wrong_undoing(program, library, pinned):
                 print(f"undoing with {len(pinned)} pins, {line}")
                 good = False
+        for line in wrong_sweep(program, library):
+            print(line)
+            good = False
     return 0 if good else 1
 
 

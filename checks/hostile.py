@@ -36,8 +36,8 @@ OPTIONS = ("--sessions", str(SEATS), "--stay", "1", "--idle", "2", "--questions"
 REFUSED, LONG = b"clear 0 9\n", b"class A -" + 680 * b" a:int" + b"\n"
 # How many lines wait for their replies, and how many bytes a client that doesn't read takes.
 AHEAD, ROOM = 40, 4096
-# How much longer a round trip may take beside hostile clients; the most milliseconds of all but one in a hundred beside eight that
-# take no rest; and of a fetch. Each is the best of so many parts, since others work on the machine, too.
+# How much longer a round trip may take beside hostile clients; the most milliseconds for all but one in a hundred beside eight that
+# take no rest; and the most for a fetch. Each is the best of several parts, since others work on the machine, too.
 TIMES, CROWD_MS, FETCH_MS, PARTS = 2, 5, 100, 3
 # The most milliseconds of these in a run of less than a minute, which tells only whether somebody stands still.
 STILL_MS = 1000
@@ -52,7 +52,7 @@ TOLD = re.compile(rb"(heapdbg: dump \w+( \(\d+ times\))?\n){0,999}(heapdbg: noth
 
 
 def connected(port, room=None):
-    """Returns a connection; with a `room` of so many bytes for what isn't read."""
+    """Returns a connection, with `room` bytes for what isn't read if that is given."""
     client = socket.socket()
     if room:
         client.setsockopt(socket.SOL_SOCKET, socket.SO_RCVBUF, room)
@@ -90,7 +90,7 @@ def slow(port, _):
 
 
 def flooding(port, _, line=REFUSED, ahead=AHEAD):
-    """Sends lines whose replies are a line each, so many before their replies, and no fewer at any time."""
+    """Sends lines whose replies are a line each: `ahead` lines before the first reply, and then another one for each reply."""
     with connected(port) as client:
         client.sendall(line * ahead)
         while come := client.recv(1 << 16):

@@ -2,8 +2,9 @@
 """Runs the hunts of docs/HUNT.md on the built program and on the model, and compares what comes with what the page says.
 
 Usage: checks/hunt.py [PROGRAM ..]
-Each hunt explores a file. In its blocks a line behind `> ` is given to `heapdbg explore`; the lines after it are what it must be
-answered, where `..` stands for any lines. A hunt has at most ten questions. Prints a line for each difference and ends with status 1 if there is one."""
+Each hunt explores a file. In its blocks a line after `> ` is given to `heapdbg explore`; the lines below it are the answer that
+must come, where `..` stands for any lines. A hunt has at most ten questions. Prints a line for each difference and ends with
+status 1 if there is one."""
 import os
 import pathlib
 import re

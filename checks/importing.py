@@ -27,7 +27,7 @@ SESSIONS = ("leak", "orders", "services", "point")
 MOST_ELEMENTS, MOST_WITH_AREA, MOST_FIELDS = 1024, 2_097_147, 64
 WIDTHS = {4: 1, 5: 2, 6: 4, 7: 8, 8: 1, 9: 2, 10: 4, 11: 8}
 OBJECT = 2
-# The tag of each kind of root, the bytes behind its id (an identifier, if negative), and the class of the arrays that keep them.
+# The tag of each kind of root, the bytes after its id (an identifier, if negative), and the class of the arrays that keep them.
 ROOTS = {0x01: (-1, "JNI_global"), 0x02: (8, "JNI_local"), 0x03: (8, "Java_frame"), 0x04: (4, "native_stack"), 0x05: (0, "sticky_class"),
          0x06: (4, "thread_block"), 0x07: (0, "monitor_used"), 0x08: (8, "thread_object"), 0xFF: (0, "unknown_root")}
 
@@ -208,9 +208,10 @@ def pairs_of_roots(old, new):
     return pairs
 
 
-def difference(old, new):
-    """Returns how the heap of a session differs from the dump that it is of, from the roots on; None if it doesn't."""
-    waiting, seen = pairs_of_roots(old, new), {}
+def difference(old, new, seen=None):
+    """Returns how the heap of a session differs from the dump that it is of, from the roots on; None if it doesn't. Notes in `seen` the
+    like of each object that is reached."""
+    waiting, seen = pairs_of_roots(old, new), {} if seen is None else seen
     if waiting is None:
         return "the roots aren't as many"
     while waiting:
@@ -235,7 +236,7 @@ def difference(old, new):
 
 
 def left_out(dump):
-    """Returns what is told of what a session leaves out of a dump that has no fault and keeps within all other limits."""
+    """Returns what is reported as left out by the session of a dump that has no fault and keeps within all other limits."""
     made = {number for number in [*dump.objects, *dump.classes] if dump.is_made(number)}
     slots = [slot for number in dump.objects for slot in dump.parts(number)[1]]
     kept = sum(len(dump.statics_of(number)) for number in dump.classes if number in made)
@@ -286,6 +287,79 @@ def java_dump(folder):
     dump = folder / "cache.hprof"
     subprocess.run(["java", "-cp", str(folder), "Cache", str(dump)], check=True, capture_output=True, timeout=LIMIT)
     return dump
+
+
+def java_pair(folder):
+    """Returns two dumps of one program in Java, or None where Java isn't installed."""
+    if not (shutil.which("javac") and shutil.which("java")):
+        return None
+    subprocess.run(["javac", "-d", str(folder), str(TOP / "examples/Growing.java")], check=True, capture_output=True, timeout=LIMIT)
+    dumps = folder / "before.hprof", folder / "after.hprof"
+    subprocess.run(["java", "-cp", str(folder), "Growing", *map(str, dumps)], check=True, capture_output=True, timeout=LIMIT)
+    return dumps
+
+
+def written(answers, path):
+    """Writes the dump in these answers to a file. Returns what is left of them after it."""
+    text, bytes_of = answers.splitlines(), bytearray()
+    while text and text[0].startswith(b"data "):
+        bytes_of += bytes.fromhex(text.pop(0)[5:].decode())
+    path.write_bytes(bytes_of)
+    return b"\n".join(text[1:]) + b"\n"
+
+
+def histogram(dump):
+    """Returns how many objects of each class or kind a dump has, and their bytes."""
+    counts = {}
+    for number in dump.objects:
+        name, slots = dump.parts(number)
+        objects, size = counts.get(name, (0, 0))
+        counts[name] = objects + 1, size + sum(dump.widths[kind] for _, kind, _ in slots)
+    return counts
+
+
+def stays(first, second, number):
+    """Tells whether both dumps have an object with this id, of a class with one name, and of one size."""
+    if number not in first.objects or number not in second.objects:
+        return False
+    (tag, of, values), (other, to, others) = first.objects[number], second.objects[number]
+    if tag != other or tag != 0x21 and len(values) != len(others):
+        return False
+    return of == to if tag == 0x23 else first.class_name(of) == second.class_name(to)
+
+
+def paired(program, importer, dumps, folder, *words):
+    """Yields what is wrong with the heap of two dumps: pin 1 must have that of the first, and the current state that of the second, and
+    an object must have one id in both exactly if it stayed. `explore --from` with the session of both must answer likewise."""
+    name, session = " and ".join(dump.name for dump in dumps), folder / "pair.session"
+    lines = b"dump 1\ndump -\ngrowth 1 -\nkept 1 -\ndiff 1 -\nclasses\n"
+    ran = subprocess.run([program, "explore", *words, "--hprof", str(dumps[0]), "--then", str(dumps[1])], input=lines, capture_output=True, timeout=LIMIT)
+    wrote = subprocess.run([importer, "--area", str(dumps[0]), "--then", str(dumps[1]), str(session)], capture_output=True, timeout=LIMIT)
+    replayed = subprocess.run([program, "explore", *(words or USUAL), "--from", str(session)], input=lines, capture_output=True, timeout=LIMIT)
+    if ran.returncode or wrote.returncode or ran.stdout != replayed.stdout:
+        yield f"{name}: explore --then ends with {ran.returncode}, {ran.stderr!r}; importing with {wrote.returncode}, or another answer"
+        return
+    if b": no " in ran.stderr or ran.stderr != wrote.stderr.replace(b"heapdbg-import:", b"heapdbg:"):
+        yield f"{name}: explore --then reports {ran.stderr!r}"
+    made = folder / "pinned.hprof", folder / "current.hprof"
+    answers = written(written(ran.stdout, made[0]), made[1])
+    given, heaps, likes = [Dump(dump, True) for dump in dumps], [Dump(dump, True) for dump in made], ({}, {})
+    for old, new, seen in zip(given, heaps, likes):
+        different = difference(old, new, seen)
+        if different:
+            yield f"{name}: {different}"
+            return
+        tops = {root for _, root in new.roots} & set(new.objects)
+        arrays = {value for top in tops for _, _, value in new.parts(top)[1] if value}
+        if set(new.objects) != set(seen.values()) & set(new.objects) | tops | arrays:
+            yield f"{name}: a heap has {len(new.objects)} objects, of which the roots reach {len(seen)}"
+    for number in set(likes[0]) & set(likes[1]):
+        if number in given[0].objects and stays(*given, number) != (likes[0][number] == likes[1][number]):
+            yield f"{name}: object {number:#x} has the ids {likes[0][number]:#x} and {likes[1][number]:#x}"
+    counts = [histogram(heap) for heap in heaps]
+    grown = sum(counts[0].get(kind) != counts[1].get(kind) for kind in {**counts[0], **counts[1]})
+    if f"ok {grown}".encode() != next(line for line in answers.splitlines() if line.startswith(b"ok")):
+        yield f"{name}: {grown} classes must have grown or shrunk: {answers[:2000]!r}"
 
 
 def told(program, option, path, words, name=None, command=("explore",), lines=QUESTIONS):
@@ -448,6 +522,20 @@ def large_arrays(program, importer, folder):
             yield f"a dump whose large arrays the area has no room for: {few!r}"
 
 
+def paired_sessions(program, importer, folder):
+    """Yields what is wrong with pairs of dumps of a session: of its state after a part of its lines and at its end, and of one state."""
+    for name in SESSIONS:
+        lines = (TOP / f"examples/{name}.session").read_bytes().splitlines(keepends=True)
+        part, dumps = folder / "part.session", (folder / f"{name}-part.hprof", folder / f"{name}-whole.hprof")
+        for ids in "4", "8":
+            for dump, count in zip(dumps, (len(lines) * 2 // 3, len(lines))):
+                part.write_bytes(b"".join(lines[:count]))
+                saved(program, ["--ids", ids, "--keep", "65536"], part, dump)
+            yield from paired(program, importer, dumps, folder)
+            yield from paired(program, importer, (dumps[1], dumps[1]), folder)
+            yield from paired(program, importer, dumps[::-1], folder, *WIDE)
+
+
 def differences(program, importer):
     """Yields what is wrong."""
     with tempfile.TemporaryDirectory(prefix="importing-") as name:
@@ -471,6 +559,11 @@ def differences(program, importer):
         yield from unread(program, folder / "leak-8.hprof", folder)
         yield from refusals(importer, folder / "leak-8.hprof", folder)
         yield from cut_dumps(importer, folder / "leak-4.hprof", folder)
+        yield from paired_sessions(program, importer, folder)
+        pair = java_pair(folder)
+        if pair:
+            yield from paired(program, importer, pair, folder)
+            yield from paired(program, importer, pair[::-1], folder)
         java = java_dump(folder)
         if java:
             yield from imported(program, importer, java, folder)

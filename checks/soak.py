@@ -54,7 +54,7 @@ FACTS = {18: f" {NUMBER} {NUMBER}", 19: f" {NUMBER}", 20: f" {NUMBER}", 21: f" {
 NAMED = r"[^ ]+"
 NAMES = """NoMemory NoClass ClassLimit BadName DuplicateName FieldLimit BadRegister NullRegister BadSlot WrongKind OutOfRange TooLarge HeapFull
 AlreadyMarking NotMarking NothingToMark NothingToDrain NotDone SweepPending NothingToSweep TooFar NoPin Lost NotRetained PinLimit
-ChronicleFull Unreachable NoObject NothingToRedo""".split()
+ChronicleFull Unreachable NoObject NothingToRedo NameLimit""".split()
 REFUSED = "|".join(f"no {number} {name}{FACTS.get(number, '')}" for number, name in enumerate(NAMES, 1))
 # What a line may be answered if it is not refused, by its first word.
 ANSWERS = {
@@ -69,6 +69,7 @@ ANSWERS = {
     "regions": f"ok {NUMBER}", "cycles": f"ok {NUMBER}", "life": f"ok {NUMBER}", "kept": f"ok {NUMBER} {NUMBER}", "diff": f"ok {NUMBER}",
     "retained": f"ok {NUMBER} {NUMBER}", "watch": f"ok {NUMBER}", "writes": f"ok {NUMBER}", "when": f"ok (place {NUMBER}|never)", "values": f"ok {NUMBER}",
     "collect": f"ok condemned {NUMBER} swept {NUMBER}", "forward": f"no 29 NothingToRedo {NUMBER} 0|no 24 NotRetained",
+    "at": f"ok place {NUMBER}|bad command", "name": f"ok place {NUMBER}",
 }
 # A row of the answer to a question, by its first word.
 ROWS = {
@@ -76,7 +77,7 @@ ROWS = {
     "objects": f"{ID} {NAMED} {NUMBER}( unreached)?", "cells": f"{NUMBER} (4|16|64|256|1024) (-|sweep) [.omgx]+",
     "life": f"{NAMED} ({NUMBER}|older) (-|{NUMBER}|older) (-|{NUMBER})", "cycles": f"{NUMBER} {NUMBER} {NUMBER}", "regions": f"{NUMBER} (4|16|64|256|1024) {NUMBER} {NUMBER} {NUMBER} (-|waits)",
     "status": f"(phase (idle|marking)|(place|retained|gray|undrained|unswept|regions|acts) {NUMBER})",
-    "dominators": f"{ID} {NUMBER} {NUMBER} {NAMED}", "dominator": f"{ID} {NAMED}", "show": f"{NUMBER} {NAMED} [a-z]+ ({NUMBER}|null|{ID})",
+    "dominators": f"{ID} {NUMBER} {NUMBER} {NAMED}", "dominator": f"{ID} {NAMED}", "show": f"({NUMBER} )?{NUMBER} {NAMED} [a-z]+ ({NUMBER}|null|{ID}( {NAMED})?)",
     "retained": f"{NUMBER} {NUMBER} {NAMED}", "kept": f"{NUMBER} {NUMBER} {NAMED}", "watch": f"{NUMBER} ({NUMBER} {NUMBER}|(null|{ID}) (null|{ID}))",
     "writes": f"{NUMBER} {ID} ({NUMBER} {NUMBER}|(null|{ID}) (null|{ID}))",
     "diff": f"{ID} (made|gone|{NUMBER} ({NUMBER} {NUMBER}|(null|{ID}) (null|{ID})))",
@@ -89,7 +90,7 @@ PATTERNS = {word: re.compile(f"({answer})|{REFUSED}") for word, answer in ANSWER
 DATA = re.compile("data ([0-9a-f]{2}){1,64}")
 BEFORE = {"dump": DATA, "piece": DATA} | {word: re.compile(f"row {row}") for word, row in ROWS.items()}
 # What adds nothing to the chronicle, by its first word; and how many entries `collect` adds, about.
-NO_ACTS = {"open", "dump", "piece", "close", "what", "when", "forward", *ROWS}
+NO_ACTS = {"open", "dump", "piece", "close", "what", "when", "forward", "at", "name", *ROWS}
 COLLECTED = 300
 
 
@@ -104,6 +105,7 @@ def line_by_lot(lot):
         (4, f"newarray {mutator} {register} {lot.randrange(3)} {lot.randrange(9)}"),
         (4, f"newprim {mutator} {register} {lot.choice(['int', 'long', 'object', 'byte'])} {lot.randrange(40)}"),
         (12, f"load {mutator} {register} {other} {slot}"),
+        (1, f"load {mutator} {register} {other} next"), (1, f"put {mutator} {register} {lot.choice(['count', 'wide'])} {lot.randrange(99)}"),
         (15, f"store {mutator} {register} {lot.randrange(2)} {other}"),
         (15, f"put {mutator} {register} {lot.randrange(2, 4)} {lot.randrange(1 << 33)}"),
         (6, f"move {mutator} {register} {lot.randrange(MUTATORS)} {other}"),
@@ -111,7 +113,8 @@ def line_by_lot(lot):
         (3, "snap"), (12, "mark"), (8, "drain"), (3, "finish"), (6, f"sweep {lot.randrange(16)}"),
         (1, f"rewind {lot.randrange(1, 30) if lot.randrange(4) == 0 else 2000}"),
         (1, "what is this"), (0.1, "collect"), (0.3, f"forward {lot.choice(['1', '@'])}{lot.randrange(30)}"), (1, "histogram -"), (1, "garbage -"), (1, f"kept @{lot.randrange(3000)}"), (1, "registers -"), (1, "pins"),
-        (1, "objects -"), (1, "cells"), (1, "regions"), (1, "cycles"), (1, "status"),
+        (0.3, f"at {lot.choice(['-', f'@{lot.randrange(3000)}', f'@n{lot.randrange(300)}'])}"), (0.3, f"name n{lot.randrange(300)}"),
+        (1, f"objects{lot.choice(['', ' -'])}"), (1, "cells"), (1, "regions"), (1, "cycles"), (1, "status"),
         (1, f"path - 0x{0x10000000 + lot.randrange(1 << 12) * 8:08x}"),
         (1, f"paths {lot.choice(['', '- '])}0x{0x10000000 + lot.randrange(1 << 8) * 32:08x} {lot.choice([1, 4])}"),
         (1, f"retained {lot.choice(['', '- '])}0x{0x10000000 + lot.randrange(1 << 12) * 8:08x}"),
@@ -123,7 +126,7 @@ def line_by_lot(lot):
         (0.3, f"writes {lot.randrange(3)} {slot}{lot.choice(['', f' @{lot.randrange(3000)}', f' @{lot.randrange(3000)} -'])}"),
         (0.3, f"when {lot.randrange(3)} {slot} {lot.choice(['0', 'null', '7'])}{lot.choice(['', f' @{lot.randrange(3000)}', f' @{lot.randrange(3000)} -'])}"),
         (1, f"values {lot.choice(['', '- '])}{lot.randrange(3)} {slot}"),
-        (1, f"show {lot.choice(['', '- '])}0x{0x10000000 + lot.randrange(1 << 8) * 32:08x}{lot.choice(['', ' 1 2', ' 9 9'])}"),
+        (1, f"show {lot.choice(['', '- '])}0x{0x10000000 + lot.randrange(1 << 8) * 32:08x}{lot.choice(['', '.next', '.next.left', '.0'])}{lot.choice(['', ' 1 2', ' 9 9', ' 1', ' 3'])}"),
         (1, f"history {lot.randrange(30)}"),
         (0.3, f"life 0x{0x10000000 + lot.randrange(1 << 8) * 32:08x}"),
     )

@@ -320,8 +320,8 @@ def read_list(done):
 
 
 def change_lists(server, mutator, is_over, read):
-    """Changes a list that register 0 of a mutator names until the cycles are over: adds a node behind the first one, takes the
-    second one out, or reads the list and forgets it. Adds to `read` whether it had just its nodes, each time."""
+    """Changes a list that register 0 of a mutator names until the cycles are over: adds a node after the first one, takes the
+    second one out, or reads the list and forgets it. Adds to `read`, each time, whether the list had exactly its nodes."""
     nodes, number = [], 0
     with server.client() as client, client.makefile("rb") as come:
         def done(*lines):

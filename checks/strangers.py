@@ -192,7 +192,7 @@ def idle_sessions(program):
 
 
 def idle_strangers(program):
-    """Yields how sessions of a heap with a word end from which nothing comes for a second: before the word, and behind it."""
+    """Yields how sessions of a heap with a word end if nothing comes from them for a second: before the word, and after it."""
     with guarded(program, 2, "--idle", str(IDLE)) as (server, _), server.client() as silent, server.client() as friend:
         friend.sendall(WORD + b"\nclear 0 0\n")
         with concurrent.futures.ThreadPoolExecutor() as pool:
@@ -225,8 +225,9 @@ def small_client(server):
 
 
 def unread_dumps(program):
-    """Yields how sessions end that nobody reads: one with `dump -`, and one with a pin of its own, whose last act is a piece of it, after
-    ten seconds, by a failed write, and the first leaves no pin. One whose other answers nobody reads goes on, and gives all."""
+    """Yields how sessions end that nobody reads: one with `dump -`, and one with a pin of its own, whose last act is a piece of it.
+    Both end after ten seconds, by a failed write, and the first leaves no pin. A session whose other answers nobody reads goes on,
+    and gives all."""
     with full_server(program, 4) as (server, session), contextlib.ExitStack() as stack:
         answer = sum(len(line) + 1 for line in session.say("help"))
         unread = [stack.enter_context(small_client(server)) for _ in range(3)]

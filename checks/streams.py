@@ -2,11 +2,11 @@
 """Runs the built program over streams that cut, are interrupted or fail, and compares what comes with what must come.
 
 Usage: checks/streams.py PROGRAM ..
-The streams are those of checks/streams.c. Sessions that are read and written in parts are answered as ever; a read that fails, or
-would block, ends a session behind the answers to the lines read whole, and such a write behind the bytes that are out. A save and a
-fetch go into files that fail, and a save is whole though its thread begins late or isn't made. Behind a served session that a fault
-ended, the next client finds the state that it must have left. Prints a line for each difference and ends with status 1 if there is
-one. Prints nothing if all is well."""
+The streams are those of checks/streams.c. Sessions that are read and written in parts are answered as usual. A read that fails,
+or would block, ends a session after the answers to the lines that were read whole; such a write ends it after the bytes that
+are out. A save and a fetch go into files that fail, and a save is whole even if its thread begins late or isn't made. After a
+served session that a fault ended, the next client finds the state that this session must have left. Prints a line for each
+difference and ends with status 1 if there is one. Prints nothing if all is well."""
 import concurrent.futures
 import contextlib
 import os
@@ -268,8 +268,8 @@ def left_by(program, lines, questions, **rules):
 
 
 def states_left(program):
-    """Yields served sessions that end at each byte by a read or a write that fails, and the state that the next client finds: the one
-    behind the lines read whole, or up to the line that was being answered."""
+    """Yields served sessions that end at each byte by a read or a write that fails, and the state that the next client finds: the
+    one after the lines that were read whole, or after the line that was being answered."""
     for lines in (EXAMPLE, SWEPT):
         for count in range(len(lines)):
             read = lines[: lines.rfind(b"\n", 0, count) + 1]

@@ -45,7 +45,7 @@ class Shell:
         return Typed(command, self.folder, self.path, lines, self.ports.values())
 
     def waits_for_lines(self, name, count):
-        """Returns once a file of the folder has so many lines."""
+        """Returns once a file of the folder has this many lines."""
         for _ in range(LIMIT * 20):
             file = self.folder / name
             if file.exists() and file.read_bytes().count(b"\n") >= count:
@@ -110,7 +110,7 @@ class Typed:
         self.waits_until(lambda: port in listened(), f"nothing listens on {port}")
 
     def waits_for_lines(self, count):
-        """Returns once the command has written so many lines to standard output."""
+        """Returns once the command has written this many lines to standard output."""
         self.waits_until(lambda: self.text(self.out).count(b"\n") >= count, f"fewer lines than {count}")
 
     def stopped(self):

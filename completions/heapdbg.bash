@@ -9,7 +9,7 @@ _heapdbg() {
             mapfile -t COMPREPLY < <(compgen -W "4 8" -- "$word")
             return
             ;;
-        --out | --from | --hprof | --secret)
+        --out | --from | --hprof | --then | --secret)
             compopt -o filenames
             mapfile -t COMPREPLY < <(compgen -f -- "$word")
             return
@@ -34,7 +34,7 @@ _heapdbg() {
             return
             ;;
         run) options="$heap --questions --hprof" ;;
-        explore) options="$heap --from --hprof --port --page --secret" ;;
+        explore) options="$heap --from --hprof --then --port --page --secret" ;;
         draw) options="$heap --out --hprof" ;;
         save) options="$heap --out --to --questions" ;;
         serve) options="$heap --port --sessions --workers --dumps --page --questions --roll --stay --idle --secret --hprof" ;;

@@ -1,8 +1,9 @@
 #!/usr/bin/env python3
 """Prints a session that a viewer of Java heaps can show whole: `java.py < SESSION`.
 
-It is java.session, and then the session, which defines none of those classes, with the numbers of its classes and places after
-theirs: a class without a super gets java/lang/Object, and an array `[NAME;` of objects its name in Java."""
+It prints java.session, and then the given session, which must not define those classes itself. Numbers of classes and places in
+that session are raised so that they come after those of java.session. A class without a super gets the super java/lang/Object,
+and an array class `[NAME;` of objects gets its name in Java."""
 import pathlib
 import sys
 
@@ -13,7 +14,7 @@ NUMBERS = {"class": 2, "new": 3, "newarray": 3, "open": 1}
 
 
 def moved(line):
-    """Returns a line, moved behind the first ones."""
+    """Returns a line, with its numbers as they are after the first lines."""
     words = line.split()
     at = NUMBERS.get(words[0], len(words)) if words else 0
     if at < len(words) and words[at].isdigit():

@@ -50,7 +50,7 @@ class Item:
 
 
 def items_of(text):
-    """Returns the items of a file, and the lines behind the last."""
+    """Returns the items of a file, and the lines after the last."""
     items, before, item, attribute = [], [], None, False
     for line in text.split("\n"):
         if item:

@@ -33,7 +33,7 @@ SESSIONS = {
     "spread": (Draw.spread, (1500,), 6, {"regions": 40, "mutators": 6, "keep": 100}),
     "spoken": (Draw.speak, (600,), 2, {"regions": 2, "keep": 50}),
     "limits": (Draw.reach_limits, (), 1, {"regions": 256, "mutators": 16, "keep": 65536}),
-    "asked": (AskingDraw.play, (1500,), 16, {"regions": 5, "keep": 40}),
+    "asked": (AskingDraw.play, (1500,), 18, {"regions": 5, "keep": 40}),
     "asked-short": (AskingDraw.play, (1000,), 4, {"regions": 4, "keep": 300, "ids": 4}),
     "wide": (Draw.play, (1500,), 2, {"regions": 4, "keep": 12, "wide": 1}),
     "wide-limits": (Draw.reach_limits, (), 1, {"regions": 300, "mutators": 16, "keep": 70000, "wide": 1}),
@@ -46,8 +46,8 @@ SESSIONS = {
 NAMES = [f"{name}-{number}" for name, (_, _, count, _) in SESSIONS.items() for number in range(1, count + 1)]
 # The sessions with questions, which go to `explore`.
 ASKED = ("asked", "asked-short", "asked-wide", "asked-large")
-# How sessions end: what stands behind the last line, what it is answered, and the status and standard error of the program. The last
-# one is by as many of its letters as make a line too long.
+# How sessions end: what comes after the last line, how it is answered, and the status and standard error of the program. The last
+# one has as many letters as make a line too long.
 ENDS = (
     (b"", b"", 0, b""),
     (b"end\nclear 0 0\nmark", b"", 0, b""),

@@ -2,19 +2,21 @@
 from re import findall
 
 from draws import Draw
-from heap import FIRST_OBJECT, REGION_WORDS
+from heap import FIRST_OBJECT, REGION_WORDS, REGISTERS
 from questions import FORMS, QUESTIONS, Asking, field_names
 
 # What questions have to be answered, and how often at least: refusals by number, others by the words after `ok`.
-ABOUT_A_MOMENT = ("ok", "ok without AT", "no 22", "no 23", "no 24")
-UP_TO_A_PLACE = ("ok without AT", "ok up to a place", "no 24")
+ABOUT_MOMENTS = ("ok", "ok without AT", "no 22", "no 23", "no 24")
+ABOUT_A_MOMENT = (*ABOUT_MOMENTS, "ok by at")
+BETWEEN_PLACES = ("ok without AT", "ok up to a place", "no 24")
+UP_TO_A_PLACE = (*BETWEEN_PLACES, "ok by at")
 BY_NAME = ("ok by name", "bad by name")
 WANTED = {
     "histogram": ABOUT_A_MOMENT,
     "garbage": ABOUT_A_MOMENT,
-    "growth": ABOUT_A_MOMENT,
-    "kept": ("ok nothing", "ok some", *ABOUT_A_MOMENT[1:]),
-    "diff": ("ok nothing", "ok some", *ABOUT_A_MOMENT[1:]),
+    "growth": (*ABOUT_MOMENTS, "ok by a place's name"),
+    "kept": ("ok nothing", "ok some", *ABOUT_MOMENTS[1:]),
+    "diff": ("ok nothing", "ok some", *ABOUT_MOMENTS[1:]),
     "path": (*ABOUT_A_MOMENT, "no 27", "no 28"),
     "paths": ("ok one", "ok several", "ok all", *ABOUT_A_MOMENT[1:], "no 27", "no 28", "bad"),
     "retained": ("ok nothing", "ok itself", "ok more", "ok without AT", "no 22", "no 23", "no 24", "no 28"),
@@ -28,14 +30,14 @@ WANTED = {
     "classes": ABOUT_A_MOMENT,
     "objects": (*ABOUT_A_MOMENT, "ok of class", "ok by value", *BY_NAME, "no 2", "no 9"),
     "values": ("ok nothing", "ok some", "ok several", "ok without AT", *BY_NAME, "no 2", "no 9", "no 22", "no 23", "no 24"),
-    "show": ("ok", "ok no slot", "ok some slots", *ABOUT_A_MOMENT[1:], "no 28"),
+    "show": ("ok", "ok no slot", "ok some slots", "ok along", "ok below", *ABOUT_A_MOMENT[1:], "no 9", "no 10", "no 28", "bad"),
     "born": ("ok place", "ok older", *UP_TO_A_PLACE, "no 28"),
     "wrote": ("ok place", "ok older", *UP_TO_A_PLACE, *BY_NAME, "no 9", "no 28"),
     "watch": ("ok nothing", "ok some", *UP_TO_A_PLACE, *BY_NAME, "no 9", "no 28"),
-    "writes": ("ok nothing", "ok some", *UP_TO_A_PLACE[1:], *BY_NAME, "no 2", "no 9"),
-    "when": ("ok place", "ok never", "ok count place", "ok count never", *UP_TO_A_PLACE[1:], *BY_NAME, "no 2", "no 9"),
+    "writes": ("ok nothing", "ok some", *BETWEEN_PLACES[1:], *BY_NAME, "no 2", "no 9"),
+    "when": ("ok place", "ok never", "ok count place", "ok count never", *BETWEEN_PLACES[1:], *BY_NAME, "no 2", "no 9"),
     "dropped": ("ok place", "ok older", "ok reached", *UP_TO_A_PLACE, "no 28"),
-    "history": ("ok", *UP_TO_A_PLACE),
+    "history": ("ok", "ok by a place's name", *UP_TO_A_PLACE),
     "life": ("ok nothing", "ok some", "ok several"),
     "cycles": ("ok nothing", "ok some", "ok several"),
     "pins": ("ok",),
@@ -43,26 +45,46 @@ WANTED = {
     "regions": ("ok",),
     "status": ("ok",),
     "collect": ("ok",),
-    "rewind": ("ok place", "no 24"),
+    "rewind": ("ok place", "ok by a place's name", "no 24"),
     "new": (*BY_NAME, "no 7", "no 10"),
-    "forward": ("ok place", "no 24", "no 29"),
+    "newarray": (*BY_NAME, "no 7", "no 10"),
+    "load": (*BY_NAME, "ok null by name"),
+    "store": (*BY_NAME, "no 10"),
+    "put": (*BY_NAME, "no 10", "no 11"),
+    "open": ("ok", "no 24", "no 25", "bad"),
+    "at": ("ok place", "ok by a place's name", "no 24", "bad"),
+    "name": ("ok place", "bad"),
+    "forward": ("ok place", "ok by a place's name", "no 24", "no 29"),
     "help": ("ok", "bad"),
     "comment": ("nothing",),
 }
 LEAST = 3
+# The events that name a class or a field, beside `new`.
+BY_NAMES = (b"newarray", b"load", b"store", b"put")
+# How often lines are asked.
+WEIGHTS = dict.fromkeys(QUESTIONS, 2) | dict.fromkeys(BY_NAMES, 1)
+WEIGHTS |= {b"show": 6, b"watch": 4, b"writes": 4, b"help": 2, b"name": 6, b"at": 4, b"dominators": 4}
 # The questions about the steps up to a place.
 PAST = (b"born", b"wrote", b"watch", b"writes", b"when", b"dropped", b"history")
 
 
-def sorts(word, form, words, left_out, last, rows):
-    """Yields of what sorts an answer is, by its question, form and words, whether a moment was left out, the words of its last line,
-    and how many rows stand before that."""
+def sorts(word, form, words, left_out, at, last, rows):
+    """Yields of what sorts an answer is, by its question, form and words, whether a moment was left out, the place that questions are
+    about then, the words of its last line, and how many rows stand before that."""
     if left_out and last[0] == "ok":
         yield "ok without AT"
+        if at is not None:
+            yield "ok by at"
+    if any(str(each).startswith("@") and str(each)[1:2].isalpha() for each in words) and last[0] == "ok":
+        yield "ok by a place's name"
     if word in PAST and any(str(each).startswith("@") for each in words) and last[0] == "ok":
         yield "ok up to a place"
-    if any(sort in "cks" and not str(each).isdigit() for sort, each in zip(form, words)) and last[0] in ("ok", "bad"):
+    if any(sort in "cksf" and not str(each).isdigit() for sort, each in zip(form, words)) and last[0] in ("ok", "bad"):
         yield f"{last[0]} by name"
+        if word == b"load" and last[1] == "null":
+            yield "ok null by name"
+    if word == b"show" and last[0] == "ok" and any("." in str(each) for each in words):
+        yield "ok along"
     if word == b"retained" and last[0] == "ok":
         yield "ok " + {"0": "nothing", "1": "itself"}.get(last[1], "more")
     elif word == b"objects" and "c" in form and last[0] == "ok" and last[1] != "0":
@@ -80,6 +102,8 @@ def sorts(word, form, words, left_out, last, rows):
             yield "ok all"
     elif word == b"when" and "#" in form and last[0] == "ok":
         yield f"ok count {last[1]}"
+    elif word == b"show" and form.endswith("e") and last[0] == "ok":
+        yield "ok below"
     elif word == b"show" and form.endswith("nn") and last[0] == "ok":
         yield "ok some slots" if rows else "ok no slot"
     else:
@@ -104,9 +128,16 @@ class AskingDraw(Draw):
             return self.pin()
         return self.retained_place()
 
+    def place_with_name(self):
+        """Returns a word for a place that has a name, or for none."""
+        names = self.session.noted.names
+        return "@" + self.lots.pick([*(word.decode() for word in names), "nowhere"])
+
     def retained_place(self):
         """Returns a word for a place: mostly a retained one."""
         lots, machine = self.lots, self.machine
+        if self.session.noted.names and lots.once_in(3):
+            return self.place_with_name()
         if lots.once_in(6):
             return "@{}".format(lots.pick([max(0, machine.place - machine.retained - 1), machine.place + 1]))
         return f"@{machine.place - lots.below(machine.retained + 1)}"
@@ -142,6 +173,44 @@ class AskingDraw(Draw):
         slots, longest = max(((len(thing.words), word) for word, thing in self.state.objects()), default=(0, 0))
         return f"0x{longest:08x}" if slots > 1024 and self.lots.once_in(2) else self.identifier()
 
+    def object_along(self):
+        """Returns a word for an object, often with fields behind it, most of which lead on."""
+        lots, there = self.lots, dict(self.state.objects())
+        parts = [str(self.shown_object())]
+        here = int(parts[0], 16)
+        for _ in range(lots.pick([0, 0, 1, 2, 3])):
+            thing = there.get(here)
+            slots = [slot for slot, word in enumerate(thing.words) if word in there] if thing else []
+            if not slots or lots.once_in(12):
+                return ".".join([*parts, lots.pick(["absent", "0", "1", "7", ""])] if lots.once_in(4) else parts)
+            slot = lots.pick(slots)
+            names = field_names(self.state.classes, thing.what[1]) if thing.what[0] == "instance" and lots.once_in(2) else []
+            parts.append(names[slot] if slot < len(names) else str(slot))
+            here = thing.words[slot]
+        return ".".join(parts)
+
+    def register_with_fields(self):
+        """Returns a mutator, one of its registers, and the names of fields: mostly those of the object that the register names."""
+        lots, there = self.lots, dict(self.state.objects())
+        things = [(index, there.get(word)) for index, word in enumerate(self.state.registers)]
+        named = [(index, field_names(self.state.classes, thing.what[1])) for index, thing in things if thing and thing.what[0] == "instance"]
+        if not named or lots.once_in(12):
+            return lots.below(self.mutators + 1), lots.below(REGISTERS + 1), ["next", "v"]
+        index, names = lots.pick(named)
+        return *divmod(index, REGISTERS), names
+
+    def event_words(self, word):
+        """Returns the words of an event that names a class or a field."""
+        lots = self.lots
+        if word == b"newarray":
+            names = [each.name.decode() for each in self.state.classes if each.is_array or lots.once_in(3)]
+            return [lots.near(self.mutator(), 70), lots.near(lots.below(REGISTERS), 70), lots.pick([*names, "absent"]), self.length()]
+        m, r, names = self.register_with_fields()
+        name = lots.pick([*names, *names, *names, "absent"])
+        if word == b"load":
+            return [m, lots.near(lots.below(REGISTERS), 70), r, name]
+        return [m, r, name, lots.near(lots.below(REGISTERS), 70) if word == b"store" else lots.pick([0, 1, 7, 256, 1 << 40])]
+
     def asked_index(self):
         """Returns a number for the first slot that is shown, or for how many: a small one, or one near how many some object has."""
         lots = self.lots
@@ -161,6 +230,9 @@ class AskingDraw(Draw):
     def way_on(self):
         """Returns a word for a way forward: a number of steps, or a place. Mostly as many steps are undone."""
         lots, machine = self.lots, self.machine
+        ahead = [word.decode() for word, place in self.session.noted.names.items() if machine.place < place <= machine.place + len(machine.undone)]
+        if ahead and lots.once_in(3):
+            return "@" + lots.pick(ahead)
         count = lots.below(len(machine.undone) + 2)
         if lots.once_in(2):
             return lots.near(count, 70)
@@ -168,28 +240,36 @@ class AskingDraw(Draw):
 
     def ask(self):
         """Asks a question, or for help."""
-        word = self.lots.pick([*QUESTIONS, b"show", b"watch", b"writes", b"help"])
+        word = self.lots.weighed(WEIGHTS)
         if self.machine.undone and self.lots.once_in(2):
             word = b"forward"
         draws = {"a": self.moment, "i": self.identifier, "c": self.asked_class, "s": self.asked_slot, "v": self.held_word}
         draws["p"] = lambda: self.lots.pick(["-", self.retained_place()])
         draws["k"] = lambda: self.lots.pick([*(each.name.decode() for each in self.state.classes), "absent"])
-        draws["r"] = lambda: self.retained_place() if self.lots.once_in(5) else f"@{max(0, self.machine.place + 1 - self.lots.below(5))}"
+        draws["r"] = lambda: self.retained_place() if self.lots.once_in(3) else f"@{max(0, self.machine.place + 1 - self.lots.below(5))}"
         draws["w"] = self.way_on
+        draws["l"] = self.place_with_name
+        draws["d"] = lambda: self.lots.pick(["a", "b", "c-1", "start", "Z" * 64, "Z" * 65, "7", "-", "a/b", "_a"])
         draws["n"] = lambda: self.lots.near(self.lots.below(8), 70)
         draws["m"] = lambda: self.lots.near(self.lots.pick([0, 1, 1, 2, 2, 3, 5, 9, 256, 257]), 70)
         draws["#"] = lambda: "count"
+        if word == b"at":
+            draws["p"] = lambda: "-" if self.lots.once_in(4) else self.retained_place()
         if word == b"show":
-            draws |= {"i": self.shown_object, "n": self.asked_index}
+            draws |= {"o": self.object_along, "n": self.asked_index, "e": lambda: self.lots.pick([0, 1, 1, 2, 2, 3, 8, 9])}
         form = "" if word == b"help" else self.lots.pick(QUESTIONS[word].split("|"))
         parts = findall(r"\??.", form)
         kept = [part for part in parts if part[0] != "?" or not self.lots.once_in(4)]
         form = "".join(part[-1] for part in kept)
         left_out = any(part in ("?a", "?p") for part in parts if part not in kept)
-        words = self.help_words() if word == b"help" else [draws[sort]() for sort in form]
+        if word in BY_NAMES:
+            words = self.event_words(word)
+        else:
+            words = self.help_words() if word == b"help" else [draws[sort]() for sort in form]
+        at = self.session.noted.at
         accepted = self.say(word.decode(), *words)
         *rows, last, _ = self.lines[-1][1].split(b"\n")
-        for sort in sorts(word, form, words, left_out, last.decode().split(), len(rows)):
+        for sort in sorts(word, form, words, left_out, at, last.decode().split(), len(rows)):
             self.machine.sights.met[f"{word.decode()}: {sort}"] += 1
         return accepted
 

@@ -5,7 +5,7 @@ from machine import Machine
 MOST_DIGITS = 20
 DATA_BYTES = 64
 
-# What stands behind the word of a line: "n" a number, "k" a kind, "w" any word, "-" a number or a hyphen, "@" a place or a hyphen.
+# What follows the word of a line: "n" a number, "k" a kind, "w" any word, "-" a number or a hyphen, "@" a place or a hyphen.
 FORMS = {
     b"array": "w",
     b"new": "nnn",

@@ -193,13 +193,13 @@ def late(heap, head):
 
 
 def left(heap):
-    """Yields whether a client that has been quiet for 20 seconds is let go, and not much before. Takes these seconds."""
+    """Yields whether a client that has been quiet for 20 seconds is disconnected, and not much earlier. Takes these seconds."""
     with heap.connect() as client:
         client.sendall(b"POST /ask HTTP/1.1\r\n")
         began = time.monotonic()
         client.settimeout(40)
         come = client.recv(1)
-        yield "a client that went quiet is let go", (come, 19 < time.monotonic() - began < 30), (b"", True)
+        yield "a client that went quiet is disconnected", (come, 19 < time.monotonic() - began < 30), (b"", True)
 
 
 def until_late(cases):
@@ -232,7 +232,7 @@ def main(program, *pictures):
             cases += until_late(load(program))
     for name, found, wanted in cases:
         if found != wanted:
-            print(f"page: {name}: {found!r} in place of {wanted!r}")
+            print(f"page: {name}: {found!r} instead of {wanted!r}")
             well = False
     return well
 

@@ -61,7 +61,7 @@ def places(program):
 
 
 def dumps(program):
-    """Yields sessions that dump large arrays, each of which stands in a segment of its own."""
+    """Yields sessions that dump large arrays, each of which has a segment to itself."""
     lines = b"newprim 0 0 long 1025\nput 0 0 1024 7\nput 0 0 0 258\ndump -\n"
     wanted = made(SECOND) + b"ok\nok\n" + dump_replies(long_array(1, [258, *[0] * 1023, 7]), root(1))
     yield "a dump of a large array", run(program, ["run", *AREA], lines), (0, wanted, b"")

@@ -55,7 +55,7 @@ def run_after(program, lines, given, *words):
 
 
 def slowly(path):
-    """Writes lines to a pipe with a name: so many that the clock is looked at, as many when it is time for a count, and a few that are
+    """Writes lines to a named pipe: enough for the clock to be looked at, as many again when a count is due, and a few that are
     refused or cut."""
     with open(path, "wb", buffering=0) as pipe:
         pipe.write(b"snap\n" + b"\n" * 1023)

@@ -63,7 +63,7 @@ def run(program, words, given=b"", **how):
 
 
 def run_by_terminal(program, words, given=b""):
-    """Returns the same of a run whose standard error is a terminal."""
+    """Returns the same for a run whose standard error is a terminal."""
     terminal, error = os.openpty()
     ran = subprocess.run(
         ["heapdbg", *words], executable=program, input=given, stdout=subprocess.PIPE, stderr=error, timeout=SECONDS

@@ -48,7 +48,7 @@ PUTS = 300
 
 
 def dumping_beside_writes(port):
-    """The first client dumps the place behind the point's lines again and again, while the second writes to the point."""
+    """The first client dumps the place after the point's lines again and again, while the second writes to the point."""
     with connected(port) as first, connected(port) as second:
         dumps, writes = [answered(first, POINT, len(POINT_MADE))], []
         writer = threading.Thread(target=lambda: writes.extend(answered(second, b"put 0 0 0 8\n", 3) for _ in range(PUTS)))

@@ -45,7 +45,7 @@ def as_words(settings):
 
 def settings_shown(program):
     """Yields sessions that show all settings, by each command that opens a heap, as (name, what happened, what must happen). Each
-    option comes last once, behind all others: such a line has 11 to 15 words."""
+    option comes last once, after all others: such a line has 11 to 15 words."""
     names = list(SMALL)
     turned = [{name: SMALL[name] for name in names[at:] + names[:at]} for at in range(len(names))]
     for given in (*turned, LARGE, LEAST, {}):
@@ -62,7 +62,7 @@ def settings_shown(program):
 
 
 def sizes_by_names(program):
-    """Yields sessions whose sizes have a `k` or an `m`. Of so many steps as are kept one more can't be undone."""
+    """Yields sessions whose sizes have a `k` or an `m`: one step more than are kept can't be undone."""
     for words, kept in ((["--keep", "2k"], 2048), (["--keep=003k"], 3072), (["--keep", "64k"], 65_536), (["--keep", "1m", "--wide", "1"], 1_048_576)):
         ran = run(program, ["run", *words], b"clear 0 0\n" * (kept + 1) + b"rewind %d\n" % (kept + 1))
         yield " ".join(words), ran, (0, b"ok\n" * (kept + 1) + b"no 21 TooFar %d %d\n" % (kept + 1, kept), b"")
@@ -73,7 +73,7 @@ def sizes_by_names(program):
 
 
 def kept_by_default(program):
-    """Yields sessions without `--keep`: of so many steps as are kept one more can't be undone."""
+    """Yields sessions without `--keep`: one step more than are kept can't be undone."""
     for words, kept in ((["run"], 1024), (["run", "--wide"], 1024), (["explore"], 65_536)):
         ran = run(program, words, b"clear 0 0\n" * (kept + 1) + b"rewind %d\n" % (kept + 1))
         yield f"{' '.join(words)} without --keep", ran, (0, b"ok\n" * (kept + 1) + b"no 21 TooFar %d %d\n" % (kept + 1, kept), b"")

@@ -60,6 +60,7 @@ TYPED = [
     b"class Other - i:int description:int a:boolean\n",
     b"new 0 0 1\n",
     b"show - 0x10000020\n",
+    b"show 0x10000020 0\n",
     b"newprim 0 1 long 100\n",
     b"histogram\n",
     b"rewind 1\n",
@@ -83,6 +84,11 @@ heapdbg 4> |  SLOT  NAME         KIND     VALUE
      0  i            int          0
      1  description  int          0
      2  a            boolean      0
+ok object Other 3
+heapdbg 4> |  LEVEL  SLOT  NAME         KIND     VALUE  CLASS
+      0     0  i            int          0
+      0     1  description  int          0
+      0     2  a            boolean      0
 ok object Other 3
 heapdbg 4> |ok object 0x10002000
 heapdbg 5> |  OBJECTS  BYTES  CLASS

@@ -20,7 +20,7 @@ def classes(count):
 
 
 def arrays(count):
-    """Returns lines that fill `count` regions with an array each, and what they are answered where there are so many."""
+    """Returns lines that fill `count` regions with an array each, and the answers to them if the heap has that many regions."""
     return b"newprim 0 0 long 1024\n" * count, b"".join(b"ok object 0x%08x\n" % (0x10000000 + 8192 * number) for number in range(count))
 
 

@@ -17,7 +17,8 @@ import time
 import unittest
 
 import heapdbg
-from heapdbg import BadCommand, Cells, Collected, Ended, EndedCycle, Field, Now, ObjectId, Piece, Pin, PinAt, Place, Refused, RegionRow, Session, Swept, fetch
+from heapdbg import BadCommand, Cells, Collected, Ended, EndedCycle, Field, Named, Now, ObjectId, Piece, Pin, PinAt, Place, Refused, RegionRow, Session, Swept
+from heapdbg import fetch
 
 PROGRAM = os.path.abspath(sys.argv[1]) if len(sys.argv) > 1 else "heapdbg"
 NODE = [("next", "object"), ("v", "long")]
@@ -135,14 +136,29 @@ class Replies(unittest.TestCase):
         self.assertEqual(rows, [(0, "next", "object", 0x10000020), (1, "v", "long", 7), (2, "x", "object", None)])
         self.assertEqual(heap.dropped(0x10000000), ("reached",))
         self.assertEqual(heap.born(0x10000000), ("older", 4))
-        self.assertEqual(heap.writer.getvalue(), b"show - 0x10000000\ndropped 0x10000000\nborn 0x10000000\n")
+        self.assertEqual(heap.writer.getvalue(), b"show 0x10000000\ndropped 0x10000000\nborn 0x10000000\n")
 
     def test_some_slots(self):
         heap = canned("row 2 x object null", "ok object Node 3", "row 1 v long 7", "ok object Node 3", "ok object Node 3")
         self.assertEqual(heap.show(None, 0x10000000, first=2), [(2, "x", "object", None)])
         self.assertEqual(heap.show("@4", 0x10000000, 1, 1), [(1, "v", "long", 7)])
         self.assertEqual(heap.show(3, 0x10000000, count=0), [])
-        asked = b"show - 0x10000000 2 18446744073709551615\nshow @4 0x10000000 1 1\nshow 3 0x10000000 0 0\n"
+        asked = b"show 0x10000000 2 18446744073709551615\nshow @4 0x10000000 1 1\nshow 3 0x10000000 0 0\n"
+        self.assertEqual(heap.writer.getvalue(), asked)
+
+    def test_slots_along_fields(self):
+        rows = "row 0 0 next object 0x10000020 Node", "row 1 0 next object null", "row 0 1 v long 7", "ok object Node 2"
+        heap = canned("row 0 next object null", "ok object Node 1", *rows, "ok", "ok value 7", "ok", "ok object 0x10000040")
+        self.assertEqual(heap.show(None, 0x10000000, along=("first", 2)), [(0, "next", "object", None)])
+        tree = heap.tree("@4", 0x10000000, 1, along=["next"])
+        self.assertEqual(tree, [(0, 0, "next", "object", 0x10000020, "Node"), (1, 0, "next", "object", None, None), (0, 1, "v", "long", 7, None)])
+        heap.put(0, 1, "v", 7)
+        self.assertEqual(heap.load(0, 2, 1, "v"), 7)
+        heap.store(0, 1, "next", 2)
+        heap.new_array(0, 3, "[Node;", 4)
+        with self.assertRaises(BadCommand):
+            heap.show(None, 8, along=["a.b"])
+        asked = b"show 0x10000000.first.2\nshow @4 0x10000000.next 1\nput 0 1 v 7\nload 0 2 1 v\nstore 0 1 next 2\nnewarray 0 3 [Node; 4\n"
         self.assertEqual(heap.writer.getvalue(), asked)
 
     def test_classes_pins_and_collect(self):
@@ -168,21 +184,21 @@ class Replies(unittest.TestCase):
         numbers = {"place": 9, "retained": 4, "gray": 1, "undrained": 2, "unswept": 3, "regions": 16, "acts": 12}
         self.assertEqual(told, numbers)
         self.assertEqual(heap.objects(), [])
-        self.assertEqual(heap.writer.getvalue(), b"objects 2\ncells\nstatus\nobjects -\n")
+        self.assertEqual(heap.writer.getvalue(), b"objects 2\ncells\nstatus\nobjects\n")
 
     def test_values(self):
         heap = canned("row null 3", "row 0x10000020 1", "ok 2", "row 7 2", "row 18446744073709551615 1", "ok 2", "ok 0")
         self.assertEqual(heap.values(None, 0, 1), [(None, 3), (0x10000020, 1)])
         self.assertEqual(heap.values(Place(7), 2, 0), [(7, 2), (2**64 - 1, 1)])
         self.assertEqual(heap.values(PinAt(2, 9), 1, 63), [])
-        self.assertEqual(heap.writer.getvalue(), b"values - 0 1\nvalues @7 2 0\nvalues 2 1 63\n")
+        self.assertEqual(heap.writer.getvalue(), b"values 0 1\nvalues @7 2 0\nvalues 2 1 63\n")
 
     def test_names(self):
         heap = canned(*["ok 0"] * 4, "ok place 3", "row 5 0 7", "ok 1")
         self.assertEqual((heap.objects(None, "a/B"), heap.objects(None, "a/B", "next", None)), ([], []))
         self.assertEqual((heap.values(Place(3), "a/B", "next"), heap.writes("a/B", 1)), ([], []))
         self.assertEqual((heap.wrote(16, "next"), heap.watch(16, "next")), (("place", 3), [(5, 0, 7)]))
-        lines = b"objects - a/B", b"objects - a/B next null", b"values @3 a/B next", b"writes a/B 1", b"wrote 0x00000010 next", b"watch 0x00000010 next"
+        lines = b"objects a/B", b"objects a/B next null", b"values @3 a/B next", b"writes a/B 1", b"wrote 0x00000010 next", b"watch 0x00000010 next"
         self.assertEqual(heap.writer.getvalue(), b"".join(line + b"\n" for line in lines))
         for call in (lambda: heap.values(None, "a b", 0), lambda: heap.writes(0, ""), lambda: heap.wrote(16, "x\n")):
             self.assertRaises(BadCommand, call)
@@ -223,7 +239,7 @@ class Replies(unittest.TestCase):
         heap = canned("row 0x10000020 1 16 Node", "ok 1", "ok 0", "ok 0")
         self.assertEqual(heap.dominators(of=0x10000000), [(0x10000020, 1, 16, "Node")])
         self.assertEqual((heap.dominators(Pin(1), of=16), heap.dominators(Place(7), 3, 0x10000000)), ([], []))
-        self.assertEqual(heap.writer.getvalue(), b"dominators - 0x10000000\ndominators 1 0x00000010\ndominators @7 0x10000000 3\n")
+        self.assertEqual(heap.writer.getvalue(), b"dominators 0x10000000\ndominators 1 0x00000010\ndominators @7 0x10000000 3\n")
 
     def test_regions(self):
         heap = canned("row 0 4 5 3 2 waits", "row 7 64 1 1 0 -", "ok 2", "ok 0")
@@ -378,8 +394,18 @@ class Columns(unittest.TestCase):
         heap.dump(Now())
         heap.piece(PinAt(2, 5))
         heap.close(Pin(2))
-        words = [line.split(" ", 1)[1] for line in heap.writer.getvalue().decode().splitlines()]
-        self.assertEqual(words, ["-", "@816", "1", "2", "-", "3", "@4", "@1 -", "1 -", "@5", "-", "1", "-", "2", "2"])
+        words = [line.partition(" ")[2] for line in heap.writer.getvalue().decode().splitlines()]
+        self.assertEqual(words, ["-", "@816", "1", "2", "", "3", "@4", "@1 -", "1 -", "@5", "-", "1", "-", "2", "2"])
+
+    def test_places_with_names(self):
+        heap = canned("ok place 7", "ok place 7", "ok place 9", "ok 0", "ok 0", "ok 0", "ok pin 1 at 7", "ok place 7", "no 30 NameLimit")
+        self.assertEqual((heap.name("start"), heap.at(Named("start")), heap.at()), (7, 7, 9))
+        self.assertEqual((heap.growth(Named("start")), heap.history(3), heap.objects(None, 0)), ([], [], []))
+        self.assertEqual((heap.open(Named("start")), heap.rewind(Named("start"))), ((1, 7), 7))
+        self.assertRaises(Refused, lambda: heap.name("one.more"))
+        self.assertRaises(BadCommand, lambda: heap.name("two words"))
+        lines = b"name start", b"at @start", b"at -", b"growth @start -", b"history 3", b"objects - 0", b"open @start", b"rewind @start"
+        self.assertEqual(heap.writer.getvalue(), b"".join(line + b"\n" for line in (*lines, b"name one.more")))
 
     def test_facts(self):
         texts = "no 18 NotDone 2 1", "no 19 SweepPending 3", "no 20 NothingToSweep 9", "no 21 TooFar 5 4", "no 23 Lost Rewound", "no 2 NoClass"
@@ -646,6 +672,10 @@ class Names(unittest.TestCase):
             self.assertEqual(heap.show(None, array), [(0, "0", "object", None), (1, "1", "object", node)])
             self.assertEqual(heap.show(None, array, first=1), [(1, "1", "object", node)])
             self.assertEqual(heap.show("@6", array, count=1), [(0, "0", "object", None)])
+            self.assertEqual(heap.show(None, array, along=[1]), heap.show(None, node))
+            self.assertEqual(heap.tree(None, array, 0), [(0, 0, "0", "object", None, None), (0, 1, "1", "object", node, "2024")])
+            self.assertEqual(heap.tree("@6", array, 1)[2:], [(1, 0, "next", "object", None, None)])
+            self.assertEqual(heap.load(0, 2, 1, "next"), None)
             self.assertEqual(heap.path("@6", node), [(0, 1, node)])
             self.assertEqual(heap.referrers(heap.open(), node), [(0, 1), (array, 1)])
             self.assertEqual((heap.born(node), heap.wrote(array, 1)), (("place", 5), ("place", 6)))

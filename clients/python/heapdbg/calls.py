@@ -3,8 +3,8 @@ from __future__ import annotations
 
 from typing import Any, Optional, Sequence, Union
 
-from .faults import word_of
-from .moments import Moment, Now, Pin, PinAt, Place, up_to, word_of_moment
+from .faults import BadCommand, word_of
+from .moments import Moment, Named, Now, Pin, PinAt, Place, about, word_of_moment
 from .rows import (
     Cells,
     ClassCount,
@@ -36,6 +36,7 @@ from .rows import (
     SlotValue,
     SlotWrite,
     Swept,
+    TreeRow,
     When,
     bytes_of,
     cells_of,
@@ -65,6 +66,7 @@ from .rows import (
     rows_by,
     slot,
     swept,
+    tree_slot,
     valued,
     written,
 )
@@ -85,9 +87,22 @@ Name = Union[int, str]
 MOST = (1 << 64) - 1
 
 
+def word_of_name(name: Name) -> str:
+    """Returns the word of a class or a slot in a line."""
+    return str(name) if isinstance(name, int) else word_of(name)
+
+
+def fields_from(of: int, along: Sequence[Name]) -> str:
+    """Returns the word of an object with fields behind it. A field with a dot in its name can be given by its number alone."""
+    dotted = [field for field in along if "." in str(field)]
+    if dotted:
+        raise BadCommand(f"the name of a field has a dot: {dotted[0]!r}")
+    return ".".join([str(ObjectId(of)), *map(word_of_name, along)])
+
+
 class Calls:
     """The lines of a session as methods. `send` sends a line and returns what becomes of its reply, and `order` does so for a
-    line whose reply is only `ok`. The types are those of a session's values: a batch returns a `Later` in place of each."""
+    line whose reply is only `ok`. The types are those of a session's values: a batch returns a `Later` instead of each."""
 
     def send(self, line: str, reader: Reader) -> Any:
         """Sends a line whose reply `reader` turns into a value."""
@@ -112,25 +127,25 @@ class Calls:
         """Makes an instance of a class in register `r` of mutator `m`, and returns its id."""
         return self.send(f"new {m} {r} {word_of(str(of_class))}", loaded)
 
-    def new_array(self, m: int, r: int, class_number: int, length: int) -> ObjectId:
-        """Makes an object array, and returns its id."""
-        return self.send(f"newarray {m} {r} {class_number} {length}", loaded)
+    def new_array(self, m: int, r: int, of_class: Name, length: int) -> ObjectId:
+        """Makes an object array of a class, and returns its id."""
+        return self.send(f"newarray {m} {r} {word_of_name(of_class)} {length}", loaded)
 
     def new_values(self, m: int, r: int, kind: str, length: int) -> ObjectId:
         """Makes an array of values of a kind, and returns its id."""
         return self.send(f"newprim {m} {r} {word_of(kind)} {length}", loaded)
 
-    def load(self, m: int, to: int, source: int, slot: int) -> Union[ObjectId, int, None]:
+    def load(self, m: int, to: int, source: int, slot: Name) -> Union[ObjectId, int, None]:
         """Reads a slot: returns a value, or an id or None, which is then in register `to`."""
-        return self.send(f"load {m} {to} {source} {slot}", loaded)
+        return self.send(f"load {m} {to} {source} {word_of_name(slot)}", loaded)
 
-    def store(self, m: int, target: int, slot: int, source: int) -> None:
+    def store(self, m: int, target: int, slot: Name, source: int) -> None:
         """Writes what register `source` holds to a reference slot of the object in register `target`."""
-        return self.order(f"store {m} {target} {slot} {source}")
+        return self.order(f"store {m} {target} {word_of_name(slot)} {source}")
 
-    def put(self, m: int, target: int, slot: int, value: int) -> None:
+    def put(self, m: int, target: int, slot: Name, value: int) -> None:
         """Writes a value slot of the object in register `target`."""
-        return self.order(f"put {m} {target} {slot} {value}")
+        return self.order(f"put {m} {target} {word_of_name(slot)} {value}")
 
     def move(self, m: int, to: int, from_m: int, source: int) -> None:
         """Copies a register of mutator `from_m` to one of mutator `m`."""
@@ -164,16 +179,16 @@ class Calls:
 
     # ---- the past and dumps
 
-    def rewind(self, by: Union[int, Place]) -> int:
+    def rewind(self, by: Union[int, Place, Named]) -> int:
         """Undoes this many of the last steps, or those since a place, and returns the place."""
         return self.send(f"rewind {by}", number)
 
-    def forward(self, by: Union[int, Place]) -> int:
+    def forward(self, by: Union[int, Place, Named]) -> int:
         """Takes this many of the steps again that rewinds undid, or those up to a place, and returns the place. The heap has to answer
         questions: `explore`, or `serve --questions 1`; a served heap refuses it."""
         return self.send(f"forward {by}", number)
 
-    def open(self, place: Union[Place, Now, int, None] = None) -> PinAt:
+    def open(self, place: Union[Place, Named, Now, int, None] = None) -> PinAt:
         """Opens a pin on a retained place, or on the current state, and returns a `PinAt`."""
         return self.send(f"open {word_of_moment(place)}", pinned)
 
@@ -195,28 +210,45 @@ class Calls:
 
     # ---- questions, of a heapdbg that answers them
 
-    def show(self, moment: Moment, of: int, first: int = 0, count: Optional[int] = None) -> list[SlotRow]:
+    def at(self, moment: Union[Place, Named, Now, None] = None) -> int:
+        """Sets the state that questions of this session are about if they are given no moment: the retained state at a place, or the
+        current one. Returns its place."""
+        return self.send(f"at {word_of_moment(moment)}", number)
+
+    def name(self, word: str) -> int:
+        """Gives a name to the place of the current state, in this session, and returns the place: `Named(word)` is a moment then. A
+        name is 1 to 64 ASCII letters, digits, `_`, `-` and `.`, the first a letter."""
+        return self.send(f"name {word_of(word)}", number)
+
+    def show(self, moment: Moment, of: int, first: int = 0, count: Optional[int] = None, along: Sequence[Name] = ()) -> list[SlotRow]:
         """Returns a `SlotRow` for each slot of an object, or for each from the slot `first` on: for `count` of these, if there are
-        as many."""
-        line = f"show {word_of_moment(moment)} {ObjectId(of)}"
+        as many. With fields, by their names or numbers, it is the object to which they lead from this one, one after another."""
+        line = f"show{about(moment)} {fields_from(of, along)}"
         if first or count is not None:
             line += f" {first} {MOST if count is None else count}"
         return self.send(line, rows_by(slot))
 
+    def tree(self, moment: Moment, of: int, depth: int, along: Sequence[Name] = ()) -> list[TreeRow]:
+        """Returns a `TreeRow` for each slot of an object, and behind each those of the object that it names, `depth` levels down, 0 to
+        8. With fields it is the object to which they lead from this one, as for `show`."""
+        return self.send(f"show{about(moment)} {fields_from(of, along)} {depth}", rows_by(tree_slot))
+
     def registers(self, moment: Moment = None) -> list[Union[Register, NullRegister]]:
         """Returns a `Register` for each register that names an object, and a `NullRegister` for each other."""
-        return self.send(f"registers {word_of_moment(moment)}", rows_by(register))
+        return self.send(f"registers{about(moment)}", rows_by(register))
 
     def classes(self, moment: Moment = None) -> list[ClassRow]:
         """Returns a `ClassRow` for each class."""
-        return self.send(f"classes {word_of_moment(moment)}", rows_by(defined))
+        return self.send(f"classes{about(moment)}", rows_by(defined))
 
     def objects(
         self, moment: Moment = None, of_class: Optional[Name] = None, slot: Optional[Name] = None, value: Union[ObjectId, int, None] = None
     ) -> list[ListedObject]:
         """Returns a `ListedObject` for each live object, in the order of a dump: for those of a class, or for those of them with this
-        value in a slot, None for null. A class and a slot are numbers or names; a text of digits is a number."""
-        words = [word_of_moment(moment)]
+        value in a slot, None for null. A class and a slot are numbers or names; a text of digits is a number. With the number of a
+        class alone None is `Now()`, since a number alone would be a pin."""
+        alone = of_class is not None and slot is None and str(of_class).isdigit()
+        words = [] if moment is None and not alone else [word_of_moment(moment)]
         if of_class is not None:
             words.append(word_of(str(of_class)))
         if slot is not None:
@@ -225,11 +257,11 @@ class Calls:
 
     def values(self, moment: Moment, of_class: Name, slot: Name) -> list[SlotValue]:
         """Returns a `SlotValue` for each value that a slot has in the objects of a class: those of most objects first."""
-        return self.send(f"values {word_of_moment(moment)} {word_of(str(of_class))} {word_of(str(slot))}", rows_by(valued))
+        return self.send(f"values{about(moment)} {word_of(str(of_class))} {word_of(str(slot))}", rows_by(valued))
 
     def histogram(self, moment: Moment = None) -> list[ClassCount]:
         """Returns a `ClassCount` for each class that has objects, the most bytes first."""
-        return self.send(f"histogram {word_of_moment(moment)}", rows_by(counted))
+        return self.send(f"histogram{about(moment)}", rows_by(counted))
 
     def growth(self, older: Moment, newer: Moment = None) -> list[ClassGrowth]:
         """Returns a `ClassGrowth` for each class that differs between two moments."""
@@ -247,50 +279,48 @@ class Calls:
 
     def path(self, moment: Moment, to: int) -> list[Union[RegisterStep, SlotStep]]:
         """Returns a shortest path to an object: a `RegisterStep`, then a `SlotStep` for each slot."""
-        return self.send(f"path {word_of_moment(moment)} {ObjectId(to)}", rows_by(path_step))
+        return self.send(f"path{about(moment)} {ObjectId(to)}", rows_by(path_step))
 
     def paths(self, moment: Moment, to: int, most: int) -> list[list[Union[RegisterStep, SlotStep]]]:
         """Returns up to `most` paths to an object, 1 to 256, each as `path` has it. No two start at the same register by the same
         slot: each is the shortest that starts like none of those before it."""
-        return self.send(f"paths {word_of_moment(moment)} {ObjectId(to)} {most}", paths_of_rows)
+        return self.send(f"paths{about(moment)} {ObjectId(to)} {most}", paths_of_rows)
 
     def retained(self, moment: Moment, of: int) -> list[ClassCount]:
         """Returns a `ClassCount` for each class of the objects that are reached, and wouldn't be without this one, itself
         among them. What several objects retain may overlap."""
-        return self.send(f"retained {word_of_moment(moment)} {ObjectId(of)}", rows_by(counted))
+        return self.send(f"retained{about(moment)} {ObjectId(of)}", rows_by(counted))
 
     def dominators(self, moment: Moment = None, most: Optional[int] = None, of: Optional[int] = None) -> list[Holding]:
         """Returns a `Holding` for each object that a register reaches and no other object dominates, or, with an object, for each
         that it dominates immediately: the most bytes first; at most `most`, or all. These rows overlap nowhere."""
-        word = word_of_moment(moment)
-        if of is not None:
-            word = f"{word} {ObjectId(of)}"
-        if word.isdigit() and most is None:
+        words = about(moment) + ("" if of is None else f" {ObjectId(of)}")
+        if words.strip().isdigit() and most is None:
             most = MOST
-        return self.send(f"dominators {word}" + ("" if most is None else f" {most}"), rows_by(holding))
+        return self.send(f"dominators{words}" + ("" if most is None else f" {most}"), rows_by(holding))
 
     def dominator(self, moment: Moment, of: int) -> list[Dominator]:
         """Returns a `Dominator` for each other object without which an object wouldn't be reached, each the immediate dominator of
         the one before."""
-        return self.send(f"dominator {word_of_moment(moment)} {ObjectId(of)}", rows_by(dominating))
+        return self.send(f"dominator{about(moment)} {ObjectId(of)}", rows_by(dominating))
 
     def referrers(self, moment: Moment, of: int) -> list[Union[RegisterReference, SlotReference]]:
         """Returns what names an object: a `RegisterReference` for each register, then a `SlotReference` for each slot."""
-        return self.send(f"referrers {word_of_moment(moment)} {ObjectId(of)}", rows_by(reference))
+        return self.send(f"referrers{about(moment)} {ObjectId(of)}", rows_by(reference))
 
     def garbage(self, moment: Moment = None) -> list[ClassCount]:
         """Returns a `ClassCount` for each class with live objects that no register reaches."""
-        return self.send(f"garbage {word_of_moment(moment)}", rows_by(counted))
+        return self.send(f"garbage{about(moment)}", rows_by(counted))
 
     def wrote(self, of: int, slot: Name, moment: Moment = None) -> When:
         """Returns the `When` of the newest retained step that changed a slot: ("place", P), or ("older", P). With a `Place` it is
         about the object and the steps up to there."""
-        return self.send(f"wrote {up_to(moment)}{ObjectId(of)} {word_of(str(slot))}", place_or_older)
+        return self.send(f"wrote{about(moment)} {ObjectId(of)} {word_of(str(slot))}", place_or_older)
 
     def watch(self, of: int, slot: Name, moment: Moment = None) -> list[SlotChange]:
         """Returns a `SlotChange` for each retained step that changed a slot since its object was made, the oldest first. With a
         `Place` it is about the object and the steps up to there."""
-        return self.send(f"watch {ObjectId(of)} {word_of(str(slot))} {up_to(moment)}".rstrip(), rows_by(changed))
+        return self.send(f"watch {ObjectId(of)} {word_of(str(slot))}{about(moment)}", rows_by(changed))
 
     def writes(self, of_class: Name, slot: Name, after: Moment = None, to: Moment = None) -> list[SlotWrite]:
         """Returns a `SlotWrite` for each retained step that changed a slot of some object of a class, the oldest first. With a
@@ -319,17 +349,17 @@ class Calls:
     def born(self, of: int, moment: Moment = None) -> When:
         """Returns the `When` of the step that made an object: ("place", P), or ("older", P). With a `Place` it is about the object
         and the steps up to there."""
-        return self.send(f"born {up_to(moment)}{ObjectId(of)}", place_or_older)
+        return self.send(f"born{about(moment)} {ObjectId(of)}", place_or_older)
 
     def dropped(self, of: int, moment: Moment = None) -> When:
         """Returns the `When` of the step after which no register reached an object: ("place", P), ("reached",) or ("older", P).
         With a `Place` it is about the object and the steps up to there."""
-        return self.send(f"dropped {up_to(moment)}{ObjectId(of)}", place_or_older)
+        return self.send(f"dropped{about(moment)} {ObjectId(of)}", place_or_older)
 
     def history(self, count: int, moment: Moment = None) -> list[PastStep]:
         """Returns a `PastStep` for each of the newest retained steps, or of those that led to a `Place`, the newest first. A pin has
         no history."""
-        return self.send(f"history {word_of_moment(moment)} {count}", rows_by(past))
+        return self.send(f"history{about(moment)} {count}", rows_by(past))
 
     def life(self, of: int) -> list[Life]:
         """Returns a `Life` for each object that had an id in a retained state, the oldest first."""

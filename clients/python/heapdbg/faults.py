@@ -1,4 +1,4 @@
-"""What is raised in place of a reply: a refusal, a line that isn't known, the end of a session."""
+"""What is raised instead of a reply: a refusal, a line that isn't known, the end of a session."""
 from __future__ import annotations
 
 import re
@@ -8,7 +8,7 @@ from typing import Iterable, NamedTuple, Optional, Union
 LINE = re.compile(r"[ -~]*")
 WORD = re.compile(r"[!-~]+")
 QUESTIONS = """show registers classes objects values histogram growth kept diff path paths retained dominators dominator referrers garbage wrote watch writes when born dropped
-life history cycles pins cells regions status collect forward help""".split()
+life history cycles pins cells regions status collect forward at name help""".split()
 
 
 class NotDoneFacts(NamedTuple):

@@ -24,6 +24,16 @@ class Place:
 
 
 @dataclass(frozen=True)
+class Named:
+    """The retained state at the place to which this session gave a name."""
+
+    word: str
+
+    def __str__(self) -> str:
+        return f"@{self.word}"
+
+
+@dataclass(frozen=True)
 class Pin:
     """The state that an open pin keeps, by the pin's number."""
 
@@ -40,17 +50,18 @@ class PinAt(NamedTuple):
     place: int
 
 
-# A moment. None is `Now()`, a number is that of a pin, and a text is the word of a line, such as `"@120"`.
-Moment = Union[Now, Place, Pin, PinAt, None, int, str]
+# A moment. None is what the session's `at` says, which is `Now()` unless it says otherwise; where two moments are meant, it is `Now()`.
+# A number is that of a pin, and a text is the word of a line, such as `"@120"`.
+Moment = Union[Now, Place, Named, Pin, PinAt, None, int, str]
 
 
-def up_to(moment: Moment) -> str:
-    """Returns the word of a moment in a line and a space behind it, or nothing for the current state."""
-    return "" if moment is None else f"{word_of_moment(moment)} "
+def about(moment: Moment) -> str:
+    """Returns a space and the word of a moment in a line, or nothing for None."""
+    return "" if moment is None else f" {word_of_moment(moment)}"
 
 
 def word_of_moment(moment: Moment) -> str:
-    """Returns the word of a moment in a line."""
+    """Returns the word of a moment in a line, `-` for None."""
     if moment is None:
         return "-"
     return str(moment.pin if isinstance(moment, PinAt) else moment)

@@ -194,6 +194,18 @@ class SlotRow(NamedTuple):
     value: Union[ObjectId, int, None]
 
 
+class TreeRow(NamedTuple):
+    """A slot of an object or of one below it: how many levels below, a slot as in `SlotRow`, and the class of the object that it names,
+    or None."""
+
+    level: int
+    slot: int
+    name: str
+    kind: str
+    value: Union[ObjectId, int, None]
+    class_name: Optional[str]
+
+
 class SlotChange(NamedTuple):
     """A step that changed a slot: the place that it led to, and what the slot held before and after it."""
 
@@ -458,6 +470,11 @@ def facts_by_name(_words: list, lines: list) -> dict[str, Union[int, str]]:
 def slot(row: list) -> SlotRow:
     """Reads SLOT NAME KIND VALUE."""
     return SlotRow(int(row[0]), row[1], row[2], id_of(row[3]) if row[2] == "object" else int(row[3]))
+
+
+def tree_slot(row: list) -> TreeRow:
+    """Reads LEVEL SLOT NAME KIND VALUE, or LEVEL SLOT NAME KIND ID CLASS."""
+    return TreeRow(int(row[0]), *slot(row[1:5]), row[5] if len(row) == 6 else None)
 
 
 def changed(row: list) -> SlotChange:

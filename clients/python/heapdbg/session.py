@@ -180,18 +180,20 @@ class Session(Calls):
         ids: Optional[int] = None,
         load: Optional[str] = None,
         hprof: Optional[str] = None,
+        then: Optional[str] = None,
         page: Optional[int] = None,
         stderr: Any = None,
         batched: bool = True,
     ) -> "Session":
         """Starts `heapdbg explore` on a heap of its own, with these options; `load` is the path of a file of lines that run first
-        (`--from`), `hprof` that of a heap dump whose heap is made first (`--hprof`), and the address of a `page` is in `text`
-        after the first reply. As nobody else acts on this heap, the session is batched unless `batched` is False."""
+        (`--from`), `hprof` that of a heap dump whose heap is made first (`--hprof`), `then` that of a later one (`--then`), and the
+        address of a `page` is in `text` after the first reply. As nobody else acts on this heap, the session is batched unless `batched` is False."""
         options = dict(regions=regions, area=area, mutators=mutators, keep=keep, time=time, ids=ids, page=page)
         words = [word for name, value in options.items() if value is not None for word in (f"--{name}", str(value))]
         words += ["--wide", "1"] if wide else []
         words += [] if load is None else ["--from", str(load)]
         words += [] if hprof is None else ["--hprof", str(hprof)]
+        words += [] if then is None else ["--then", str(then)]
         return cls.run(program, "explore", *words, stderr=stderr, batched=batched)
 
     @classmethod

@@ -2,7 +2,7 @@
 ghost use Rattle.std.specs.Prelude.{◌≡◌};
 ghost use Rattle.dump_client.specs.Fetches.{IsFetched, finish_of};
 
-use crate::watcher::Watcher;
+use crate::fetch_gauge::FetchGauge;
 use dump_pump::Outlet;
 use dump_pump::transfer::put_all;
 use hprof_records::Scan;
@@ -32,11 +32,11 @@ pub struct Fetched {
 
 /// Puts out all that an inlet gives, as it comes, until it ends or a read or a write fails. Tells whether that is a header and
 /// whole records, of which HEAP DUMP END is the last. Takes no memory. May wait.
-pub fn fetch<R: Wait, I: Inlet, O: Outlet, W: Watcher>(
+pub fn fetch<R: Wait, I: Inlet, O: Outlet, W: FetchGauge>(
     rt: &R,
     inlet: &mut I,
     outlet: &mut O,
-    watcher: &mut W,
+    gauge: &mut W,
 ) -> Fetched
     ensures { IsFetched (I.seen inlet.old) (I.seen inlet.new) (O.seen outlet.old)
         (O.seen outlet.new) result }
@@ -49,7 +49,7 @@ pub fn fetch<R: Wait, I: Inlet, O: Outlet, W: Watcher>(
             Take::Got(n) => {
                 let put = put_all(outlet, &room[..n]);
                 bytes = bytes.saturating_add(put as u64);
-                watcher.show(bytes);
+                gauge.show(bytes);
                 if put < n {
                     return Fetched {
                         bytes,

@@ -1,12 +1,11 @@
 //! The last line of a fetch.
-ghost use Rattle.std.specs.Prelude.{◌≡◌, decimal};
-ghost use Rattle.session_text.specs.Replies.{line};
+ghost use Rattle.std.specs.Prelude.{◌≡◌};
 ghost use Rattle.session_text.specs.Writes.{IsTextWritten};
 ghost use Rattle.dump_client.specs.Fetches.{finish_word, fetch_line_of};
 
 use crate::intake::{Fetched, Finish};
 use dump_pump::Outlet;
-use session_text::write_all;
+use session_text::{write_all, write_number};
 
 /// Puts out the last line: how the fetch ended, and the number of bytes that it put out. Returns whether all of it is out.
 pub fn write_last<O: Outlet>(writer: &mut O, fetched: &Fetched) -> bool
@@ -30,14 +29,4 @@ impl Finish {
             Finish::WriteFault => b"failed ",
         }
     }
-}
-
-// Puts out a number and the end of its line.
-fn write_number<O: Outlet>(writer: &mut O, number: u64) -> bool
-    ensures { IsTextWritten (line (decimal number)) (O.seen writer.old) (O.seen writer.new) result }
-{
-    if !write_all(writer, itoa::Buffer::new().format(number).as_bytes()) {
-        return false;
-    }
-    write_all(writer, b"\n")
 }

@@ -3,10 +3,11 @@ use Rattle.std.proofs.Common.{◌≡◌, ℕ, ◌<◌, ◌≤◌, Bool, true, fa
 use Rattle.std.proofs.lemmas.List.{append-nil}
 use Rattle.dump_pump.specs.LostCause.{LostCause}
 use Rattle.hprof_text.specs.declared.Piece.{Piece}
-use Rattle.dump_pump.specs.declared.source.Ending.TheVariants as End
+use Rattle.dump_pump.specs.declared.source.SourceEnd.TheVariants as End
 use Rattle.dump_pump.specs.declared.source.Next.{Next}
 use Rattle.dump_pump.specs.declared.source.Next.TheVariants.{Part, Lost, Cancelled}
-use Rattle.dump_pump.specs.Sources.{Supply, IsNextPart, more, part_limit, part_size_limit}
+use Rattle.dump_pump.specs.Sources.{Supply, IsNextPart, more}
+use Rattle.hprof_text.specs.Laws.{piece_limit, piece_size_limit}
 use Rattle.dump_pump.specs.Pumps.{joined, ends}
 use Rattle.dump_pump.proofs.PumpSteps.{told_and_no_piece_more, told_pieces_added_in_two_turns, joined_bytes_with_last_piece, pieces_end_as_last_piece}
 use Rattle.dump_pipe.specs.declared.surplus.Surplus.{Surplus}
@@ -70,7 +71,7 @@ next_part_of_equal_supply b c told left (Lost cause) is at n = (n.0 ∙ is, n.1)
 next_part_of_equal_supply b c told left Cancelled is at n = (n.0 ∙ is, n.1)
 
 -- nothing more, and a surplus
-pub batch_filled_with_surplus : (a b c : Supply) (batch batch1 batch2 : List ℕ) (left : ℕ) (r : Next) → IsFilling a b batch batch1 → IsNextPart b c r → left ≡ b.left → left ≤ part_limit → batch2 ≡ batch1
+pub batch_filled_with_surplus : (a b c : Supply) (batch batch1 batch2 : List ℕ) (left : ℕ) (r : Next) → IsFilling a b batch batch1 → IsNextPart b c r → left ≡ b.left → left ≤ piece_limit → batch2 ≡ batch1
     → IsFilled a c batch batch2 (Some (record { next = r; left = left })) false
 batch_filled_with_surplus a b c batch batch1 batch2 left r f n at most same = record {
   parts = f.parts;
@@ -88,7 +89,7 @@ batch_filled_with_surplus a b c batch batch1 batch2 left r f n at most same = re
 -- ---- a batch
 
 -- a part alone
-pub single_part_makes_batch : (a : Supply) (first : Piece) → length first.bytes ≤ part_size_limit → (first.last ≡ false → 0 < a.left) → (first.last ≡ true → a.ended ≡ Some End.Whole) → IsBatch a a first first None
+pub single_part_makes_batch : (a : Supply) (first : Piece) → length first.bytes ≤ piece_size_limit → (first.last ≡ false → 0 < a.left) → (first.last ≡ true → a.ended ≡ Some End.Whole) → IsBatch a a first first None
 single_part_makes_batch a first small left whole = record {
   parts = [];
   bytes = sym (append-nil first.bytes);

@@ -2,7 +2,7 @@ pub mod MeterSteps
 pub mod PipeSteps
 pub mod FeedSteps
 pub mod DrainSteps
-pub mod WatchedSources
+pub mod CancellableSources
 pub mod StreamEnds
 pub mod BatchFilling
 pub mod BatchStreams

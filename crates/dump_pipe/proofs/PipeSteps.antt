@@ -5,8 +5,8 @@ use lib.ListN.{get_elem?}
 use Rattle.crossbeam_channel.specs.Fifo.{Pushes, Pops, Forks, Merges, Learns}
 use Rattle.atomic_table.proofs.Lists.{at_set, set_else}
 use Rattle.dump_pipe.specs.declared.message.Message.{Message}
-use Rattle.dump_pipe.specs.declared.end_view.EndView.{EndView}
-use Rattle.dump_pipe.specs.declared.end_view.EndView.TheVariants.{Both, Sends, Gets, Spent}
+use Rattle.dump_pipe.specs.declared.end_side.EndSide.{EndSide}
+use Rattle.dump_pipe.specs.declared.end_side.EndSide.TheVariants.{Both, Sends, Gets, Spent}
 use Rattle.dump_pipe.specs.Pipes.{weigh, byte_limit, list_of, sends_of, gets_of, both_of, SitsAtEnd, IsInOrder, HasSent, HasGot, HasOrder}
 use Rattle.dump_pump.proofs.LongerLists.{item_of_list_with_one_more}
 
@@ -17,24 +17,24 @@ weigh_append (x ∷ xs) ys = omega (arith, weigh_append xs ys)
 pub empty_pipe_is_in_order : IsInOrder [] (Both [] [] ∷ [])
 empty_pipe_is_in_order = (0, 0, [], [], refl, omega arith, one)
   where
-    one : (seat : ℕ) (v : EndView) → get_elem? (Both [] [] ∷ []) seat ≡ some v → SitsAtEnd 0 0 [] [] seat v
+    one : (seat : ℕ) (v : EndSide) → get_elem? (Both [] [] ∷ []) seat ≡ some v → SitsAtEnd 0 0 [] [] seat v
     one zero v e = subst (SitsAtEnd 0 0 [] [] 0) (some-injective _ _ e) (refl, refl, refl, refl)
     one (suc n) v e = absurd (some-ne-none v (sym e))
 
 -- the other end is untouched where one end goes on
-receiver_sits_when_other_sends : (sender receiver : ℕ) (sent got sent' : List Message) (seat : ℕ) (v : EndView) → seat ≢ sender → SitsAtEnd sender receiver sent got seat v → SitsAtEnd sender receiver sent' got seat v
+receiver_sits_when_other_sends : (sender receiver : ℕ) (sent got sent' : List Message) (seat : ℕ) (v : EndSide) → seat ≢ sender → SitsAtEnd sender receiver sent got seat v → SitsAtEnd sender receiver sent' got seat v
 receiver_sits_when_other_sends s r sent got sent' seat (Both xs ys) ne h = absurd (ne h.0)
 receiver_sits_when_other_sends s r sent got sent' seat (Sends xs) ne h = absurd (ne h.0)
 receiver_sits_when_other_sends s r sent got sent' seat (Gets ys) ne h = h
 receiver_sits_when_other_sends s r sent got sent' seat Spent ne h = tt
 
-sender_sits_when_other_gets : (sender receiver : ℕ) (sent got got' : List Message) (seat : ℕ) (v : EndView) → seat ≢ receiver → SitsAtEnd sender receiver sent got seat v → SitsAtEnd sender receiver sent got' seat v
+sender_sits_when_other_gets : (sender receiver : ℕ) (sent got got' : List Message) (seat : ℕ) (v : EndSide) → seat ≢ receiver → SitsAtEnd sender receiver sent got seat v → SitsAtEnd sender receiver sent got' seat v
 sender_sits_when_other_gets s r sent got got' seat (Both xs ys) ne h = absurd (ne h.1)
 sender_sits_when_other_gets s r sent got got' seat (Sends xs) ne h = h
 sender_sits_when_other_gets s r sent got got' seat (Gets ys) ne h = absurd (ne h.0)
 sender_sits_when_other_gets s r sent got got' seat Spent ne h = tt
 
-other_seat_sits_at_pipe_end : (sender receiver : ℕ) (sent got : List Message) (sender' receiver' seat : ℕ) (v : EndView) → seat ≢ sender → seat ≢ receiver → SitsAtEnd sender receiver sent got seat v → SitsAtEnd sender' receiver' sent got seat v
+other_seat_sits_at_pipe_end : (sender receiver : ℕ) (sent got : List Message) (sender' receiver' seat : ℕ) (v : EndSide) → seat ≢ sender → seat ≢ receiver → SitsAtEnd sender receiver sent got seat v → SitsAtEnd sender' receiver' sent got seat v
 other_seat_sits_at_pipe_end s r sent got s' r' seat (Both xs ys) ns nr h = absurd (ns h.0)
 other_seat_sits_at_pipe_end s r sent got s' r' seat (Sends xs) ns nr h = absurd (ns h.0)
 other_seat_sits_at_pipe_end s r sent got s' r' seat (Gets ys) ns nr h = absurd (nr h.0)
@@ -102,14 +102,14 @@ pipe_ends_fork pass xs ys items views h at =
           (item_of_list_with_one_more now (Gets ys) v seat e),
     )
 
-pub sending_view_pushes_message : (n pass : ℕ) (v : EndView) (x : Message) → v ≡ Sends (list_of v) → weigh (list_of v ++ x ∷ []) ≤ byte_limit → Pushes IsInOrder n pass v x (HasSent v x)
-sending_view_pushes_message n pass v x is fits = subst (λ u. Pushes IsInOrder n pass u x (HasSent u x)) (sym is) (sending_end_pushes_message n pass (list_of v) x fits)
+pub sending_side_pushes_message : (n pass : ℕ) (v : EndSide) (x : Message) → v ≡ Sends (list_of v) → weigh (list_of v ++ x ∷ []) ≤ byte_limit → Pushes IsInOrder n pass v x (HasSent v x)
+sending_side_pushes_message n pass v x is fits = subst (λ u. Pushes IsInOrder n pass u x (HasSent u x)) (sym is) (sending_end_pushes_message n pass (list_of v) x fits)
 
-pub receiving_view_pops_message : (pass : ℕ) (v : EndView) → v ≡ Gets (list_of v) → Pops IsInOrder pass v (HasGot v)
-receiving_view_pops_message pass v is = subst (λ u. Pops IsInOrder pass u (HasGot u)) (sym is) (receiving_end_pops_message pass (list_of v))
+pub receiving_side_pops_message : (pass : ℕ) (v : EndSide) → v ≡ Gets (list_of v) → Pops IsInOrder pass v (HasGot v)
+receiving_side_pops_message pass v is = subst (λ u. Pops IsInOrder pass u (HasGot u)) (sym is) (receiving_end_pops_message pass (list_of v))
 
-pub both_view_forks : (pass : ℕ) (v : EndView) (xs ys : List Message) → v ≡ Both xs ys → Forks IsInOrder pass v (sends_of v) (gets_of v)
-both_view_forks pass v xs ys is = subst (λ u. Forks IsInOrder pass u (sends_of u) (gets_of u)) (sym is) (pipe_ends_fork pass xs ys)
+pub both_side_forks : (pass : ℕ) (v : EndSide) (xs ys : List Message) → v ≡ Both xs ys → Forks IsInOrder pass v (sends_of v) (gets_of v)
+both_side_forks pass v xs ys is = subst (λ u. Forks IsInOrder pass u (sends_of u) (gets_of u)) (sym is) (pipe_ends_fork pass xs ys)
 
 -- the two ends are one again
 pipe_ends_merge : (pass other : ℕ) (xs ys : List Message) → Merges IsInOrder pass (Sends xs) other (Gets ys) (Both xs ys) Spent
@@ -138,8 +138,8 @@ merged_ends_know_order pass xs ys items views h at =
     let mine = h.6 pass (Both xs ys) at in
     ap (λ l. l ++ items) mine.3 ∙ h.4 ∙ sym mine.2
 
-pub end_views_merge : (pass other : ℕ) (v w : EndView) → v ≡ Sends (list_of v) → w ≡ Gets (list_of w) → Merges IsInOrder pass v other w (both_of v w) Spent
-end_views_merge pass other v w is its = subst (λ (u : EndView × EndView). Merges IsInOrder pass u.0 other u.1 (both_of u.0 u.1) Spent) (λ i. (sym is i, sym its i)) (pipe_ends_merge pass other (list_of v) (list_of w))
+pub end_sides_merge : (pass other : ℕ) (v w : EndSide) → v ≡ Sends (list_of v) → w ≡ Gets (list_of w) → Merges IsInOrder pass v other w (both_of v w) Spent
+end_sides_merge pass other v w is its = subst (λ (u : EndSide × EndSide). Merges IsInOrder pass u.0 other u.1 (both_of u.0 u.1) Spent) (λ i. (sym is i, sym its i)) (pipe_ends_merge pass other (list_of v) (list_of w))
 
-pub both_view_knows_order : (pass : ℕ) (v : EndView) (xs ys : List Message) → v ≡ Both xs ys → Learns IsInOrder pass v (HasOrder v)
-both_view_knows_order pass v xs ys is = subst (λ u. Learns IsInOrder pass u (HasOrder u)) (sym is) (merged_ends_know_order pass xs ys)
+pub both_side_knows_order : (pass : ℕ) (v : EndSide) (xs ys : List Message) → v ≡ Both xs ys → Learns IsInOrder pass v (HasOrder v)
+both_side_knows_order pass v xs ys is = subst (λ u. Learns IsInOrder pass u (HasOrder u)) (sym is) (merged_ends_know_order pass xs ys)

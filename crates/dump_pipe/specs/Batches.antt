@@ -1,11 +1,12 @@
 -- Batches of the parts of a source.
 use Rattle.std.specs.Prelude.{◌≡◌, ℕ, ◌<◌, ◌≤◌, Bool, true, false, List, [], ◌∷◌, ◌++◌, length, Option, Some, None}
 use Rattle.hprof_text.specs.declared.Piece.{Piece}
-use Rattle.dump_pump.specs.declared.source.Ending.TheVariants as End
+use Rattle.dump_pump.specs.declared.source.SourceEnd.TheVariants as End
 use Rattle.dump_pump.specs.declared.source.Next.{Next}
 use Rattle.dump_pump.specs.declared.source.Next.TheVariants.{Part, Lost, Cancelled}
 use Rattle.dump_pump.specs.Pumps.{joined, ends}
-use Rattle.dump_pump.specs.Sources.{Supply, IsNextPart, more, part_limit, part_size_limit}
+use Rattle.dump_pump.specs.Sources.{Supply, IsNextPart, more}
+use Rattle.hprof_text.specs.Laws.{piece_limit, piece_size_limit}
 use Rattle.dump_pipe.specs.declared.surplus.Surplus.{Surplus}
 
 -- the largest number of bytes of a batch that has several parts
@@ -26,7 +27,7 @@ supply_at told left = record { told = told; ended = None; left = left }
 -- the source told these parts, and then the surplus
 abbrev pub IsAhead : Option (List Piece) → Supply → Option Surplus → Type 0
 IsAhead told s None = s.told ≡ told
-IsAhead told s (Some x) = IsNextPart (supply_at told x.left) s x.next × (x.left ≤ part_limit)
+IsAhead told s (Some x) = IsNextPart (supply_at told x.left) s x.next × (x.left ≤ piece_limit)
 
 -- there are parts left
 abbrev pub IsReady : Supply → Option Surplus → Type 0
@@ -71,14 +72,14 @@ pub record IsBatch (a b : Supply) (first batch : Piece) (surplus : Option Surplu
   pub parts : List Piece
   pub bytes : batch.bytes ≡ joined (first ∷ parts)
   pub last : batch.last ≡ ends (first ∷ parts)
-  pub small : length batch.bytes ≤ part_size_limit
+  pub small : length batch.bytes ≤ piece_size_limit
   pub rest : IsLeft (more a.told parts) a.left b surplus batch.last
 
 -- the next batch fits its parts, or the reason why there is none fits the end of the source
 abbrev pub SaysOfBatch : List Piece → ℕ → Supply → Option Surplus → Next → Type 0
 SaysOfBatch parts left b surplus (Part batch) =
     (batch.bytes ≡ joined parts) × (batch.last ≡ ends parts) × (0 < length parts)
-    × (length batch.bytes ≤ part_size_limit)
+    × (length batch.bytes ≤ piece_size_limit)
     × (parts_left surplus b.left < left) × (batch.last ≡ false → 0 < parts_left surplus b.left)
     × (batch.last ≡ true → (surplus ≡ None) × (b.ended ≡ Some End.Whole))
 SaysOfBatch parts left b surplus (Lost cause) =

@@ -1,16 +1,16 @@
 -- The effect of a feed.
 use Rattle.std.specs.Prelude.{◌≡◌, true, List, Some}
 use Rattle.hprof_text.specs.declared.Piece.{Piece}
-use Rattle.dump_pump.specs.declared.source.Ending.{Ending}
-use Rattle.dump_pump.specs.declared.source.Ending.TheVariants.{Whole}
+use Rattle.dump_pump.specs.declared.source.SourceEnd.{SourceEnd}
+use Rattle.dump_pump.specs.declared.source.SourceEnd.TheVariants.{Whole}
 use Rattle.dump_pump.specs.Sources.{Supply, more}
 use Rattle.dump_pump.specs.Pumps.{ends}
-use Rattle.dump_pipe.specs.declared.end_view.EndView.{EndView}
-use Rattle.dump_pipe.specs.declared.end_view.EndView.TheVariants.{Sends}
+use Rattle.dump_pipe.specs.declared.end_side.EndSide.{EndSide}
+use Rattle.dump_pipe.specs.declared.end_side.EndSide.TheVariants.{Sends}
 use Rattle.dump_pipe.specs.Pipes.{dump}
 
 -- the parts that the source gave were sent, and then how it ended
-pub record IsFed (a b : Supply) (v : EndView) (e : Ending) : Type 0 where
+pub record IsFed (a b : Supply) (v : EndSide) (e : SourceEnd) : Type 0 where
   pub given : List Piece
   pub told : b.told ≡ more a.told given
   pub sent : v ≡ Sends (dump given e)

@@ -4,7 +4,7 @@ pub mod Pipes
 pub mod Feeds
 pub mod Drains
 pub mod Streams
-pub mod Watches
+pub mod Cancellables
 pub mod Batches
 pub mod BatchedSources
 -- What clauses here, and proofs above, cite of the crates below.

@@ -3,15 +3,15 @@ use Rattle.std.specs.Prelude.{◌≡◌, ℕ, ◌+◌, ◌*◌, ◌≤◌, List,
 use mathlib.Core.Option.{some}
 use lib.ListN.{get_elem?}
 use Rattle.hprof_text.specs.declared.Piece.{Piece}
-use Rattle.dump_pump.specs.declared.source.Ending.{Ending}
-use Rattle.dump_pump.specs.Sources.{part_limit, part_size_limit}
+use Rattle.dump_pump.specs.declared.source.SourceEnd.{SourceEnd}
+use Rattle.hprof_text.specs.Laws.{piece_limit, piece_size_limit}
 use Rattle.dump_pipe.specs.declared.message.Message.{Message}
 use Rattle.dump_pipe.specs.declared.message.Message.TheVariants.{Part, End}
-use Rattle.dump_pipe.specs.declared.end_view.EndView.{EndView}
-use Rattle.dump_pipe.specs.declared.end_view.EndView.TheVariants.{Both, Sends, Gets, Spent}
+use Rattle.dump_pipe.specs.declared.end_side.EndSide.{EndSide}
+use Rattle.dump_pipe.specs.declared.end_side.EndSide.TheVariants.{Both, Sends, Gets, Spent}
 
--- parts, and then an ending
-abbrev pub dump : List Piece → Ending → List Message
+-- parts, and then how the source ended
+abbrev pub dump : List Piece → SourceEnd → List Message
 dump parts e = map Part parts ++ End e ∷ []
 
 -- the bytes of a message
@@ -26,40 +26,40 @@ weigh (m ∷ ms) = message_size m + weigh ms
 
 -- the largest number of bytes that are sent through a pipe
 abbrev pub byte_limit : ℕ
-byte_limit = part_limit * part_size_limit
+byte_limit = piece_limit * piece_size_limit
 
 -- the messages that an end sent, or received
-abbrev pub list_of : EndView → List Message
+abbrev pub list_of : EndSide → List Message
 list_of (Both xs ys) = xs
 list_of (Sends xs) = xs
 list_of (Gets ys) = ys
 list_of Spent = []
 
 -- an end that sends
-abbrev pub IsSending : EndView → Type 0
+abbrev pub IsSending : EndSide → Type 0
 IsSending v = v ≡ Sends (list_of v)
 
 -- an end that receives
-abbrev pub IsReceiving : EndView → Type 0
+abbrev pub IsReceiving : EndSide → Type 0
 IsReceiving v = v ≡ Gets (list_of v)
 
--- the end that sends, split off a view
-abbrev pub sends_of : EndView → EndView
+-- the end that sends, split off a side
+abbrev pub sends_of : EndSide → EndSide
 sends_of v = Sends (list_of v)
 
--- the end that receives, split off a view
-abbrev pub gets_of : EndView → EndView
+-- the end that receives, split off a side
+abbrev pub gets_of : EndSide → EndSide
 gets_of (Both xs ys) = Gets ys
 gets_of (Sends xs) = Gets []
 gets_of (Gets ys) = Gets []
 gets_of Spent = Gets []
 
 -- both ends as one
-abbrev pub both_of : EndView → EndView → EndView
+abbrev pub both_of : EndSide → EndSide → EndSide
 both_of v w = Both (list_of v) (list_of w)
 
 -- the rule for one end, if `sent` was sent and `got` was received
-abbrev pub SitsAtEnd : ℕ → ℕ → List Message → List Message → ℕ → EndView → Type 0
+abbrev pub SitsAtEnd : ℕ → ℕ → List Message → List Message → ℕ → EndSide → Type 0
 SitsAtEnd sender receiver sent got seat (Both xs ys) =
     (seat ≡ sender) × (seat ≡ receiver) × (xs ≡ sent) × (ys ≡ got)
 SitsAtEnd sender receiver sent got seat (Sends xs) = (seat ≡ sender) × (xs ≡ sent)
@@ -67,23 +67,23 @@ SitsAtEnd sender receiver sent got seat (Gets ys) = (seat ≡ receiver) × (ys �
 SitsAtEnd sender receiver sent got seat Spent = Unit {0}
 
 -- the messages received, and then those in the pipe, are those sent
-abbrev pub IsInOrder : List Message → List EndView → Type 0
+abbrev pub IsInOrder : List Message → List EndSide → Type 0
 IsInOrder items views =
     (sender receiver : ℕ) × (sent got : List Message) × (got ++ items ≡ sent)
     × (weigh sent ≤ byte_limit)
-    × ((seat : ℕ) (v : EndView) → get_elem? views seat ≡ some v
+    × ((seat : ℕ) (v : EndSide) → get_elem? views seat ≡ some v
     → SitsAtEnd sender receiver sent got seat v)
 
 -- one more message was sent
-abbrev pub HasSent : EndView → Message → EndView → Type 0
+abbrev pub HasSent : EndSide → Message → EndSide → Type 0
 HasSent v x w = w ≡ Sends (list_of v ++ x ∷ [])
 
 -- one more message was received
-abbrev pub HasGot : EndView → Message → EndView → Type 0
+abbrev pub HasGot : EndSide → Message → EndSide → Type 0
 HasGot v x w = (w ≡ Gets (list_of v ++ x ∷ [])) × (weigh (list_of v ++ x ∷ []) ≤ byte_limit)
 
 -- the messages received are a beginning of those sent
-abbrev pub HasOrder : EndView → List Message → Type 0
+abbrev pub HasOrder : EndSide → List Message → Type 0
 HasOrder (Both xs ys) items = ys ++ items ≡ xs
 HasOrder (Sends xs) items = Unit {0}
 HasOrder (Gets ys) items = Unit {0}

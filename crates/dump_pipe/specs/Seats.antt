@@ -1,8 +1,8 @@
 -- The models of a meter's seats in contracts.
 use Rattle.std.specs.Prelude.{ℕ, ◌+◌, ◌<◌, ◌^◌, Bool, false}
 use Rattle.atomic_table.specs.Seated.{TableId}
-use Rattle.dump_pipe.specs.declared.meter_view.MeterView.{MeterView}
-use Rattle.dump_pipe.specs.declared.meter_view.MeterView.TheVariants.{Whole, Out, Read, Ask, Feed, Met}
+use Rattle.dump_pipe.specs.declared.meter_side.MeterSide.{MeterSide}
+use Rattle.dump_pipe.specs.declared.meter_side.MeterSide.TheVariants.{Whole, Out, Read, Ask, Feed, Met}
 use Rattle.dump_pipe.specs.Pipes.{byte_limit}
 
 -- the largest number of seats that read
@@ -27,7 +27,7 @@ abbrev pub HasDumpRoom : SeatState ℕ → Type 0
 HasDumpRoom s = s.known + byte_limit < 2 ^ 64
 
 -- the number that a seat knows
-abbrev pub count_of_seat : MeterView → ℕ
+abbrev pub count_of_seat : MeterSide → ℕ
 count_of_seat Whole = 0
 count_of_seat (Out n) = n
 count_of_seat (Read n) = n
@@ -36,7 +36,7 @@ count_of_seat (Feed b) = 0
 count_of_seat (Met found b) = 0
 
 -- the mark that a seat knows
-abbrev pub flag : MeterView → Bool
+abbrev pub flag : MeterSide → Bool
 flag Whole = false
 flag (Out n) = false
 flag (Read n) = false

@@ -1,7 +1,7 @@
 //! Batches: the bytes of several parts of a dump, joined.
 ghost use Rattle.std.specs.Prelude.{◌≡◌, ◌<◌, ◌≤◌, length, false, true, None, Some, IfSome, if◌then◌else◌, ◌++◌};
-ghost use Rattle.dump_pump.specs.declared.source.Ending.TheVariants.{Whole};
-ghost use Rattle.dump_pump.specs.Sources.{part_size_limit};
+ghost use Rattle.dump_pump.specs.declared.source.SourceEnd.TheVariants.{Whole};
+ghost use Rattle.hprof_text.specs.Laws.{piece_size_limit};
 ghost use Rattle.dump_pipe.specs.Batches.{batch_room, IsAppended, IsDrawn, IsFilled, IsBatch, IsBatched, IsReady};
 
 use crate::surplus::Surplus;
@@ -51,7 +51,7 @@ fn batch_from<S: Source>(
     surplus: &mut Option<Surplus>,
     first: Piece,
 ) -> Piece
-    requires small { length first.bytes ≤ part_size_limit }
+    requires small { length first.bytes ≤ piece_size_limit }
     requires left { first.last ≡ false → 0 < (S.seen source.old).left }
     requires whole { first.last ≡ true → (S.seen source.old).ended ≡ Some Whole }
     requires empty { surplus.old ≡ None }

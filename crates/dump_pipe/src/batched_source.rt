@@ -5,7 +5,7 @@ ghost use Rattle.dump_pipe.specs.BatchedSources.{AreBatches, ended_by_batch, unb
 
 use crate::batch::next_batch;
 use crate::surplus::Surplus;
-use dump_pump::{Ending, Log, Next, Source};
+use dump_pump::{Log, Next, Source, SourceEnd};
 use hprof_text::Piece;
 use std::alloc::Global;
 use std::marker::{Brand, Model, PhantomData};
@@ -32,7 +32,7 @@ pub(crate) struct BatchedSource<S: Source, B: PartsBefore> {
     alloc: Global,
     surplus: Option<Surplus>,
     given: Log<Piece, ()>,
-    ended: Option<Ending>,
+    ended: Option<SourceEnd>,
     of: PhantomData<B>,
 }
 
@@ -55,7 +55,7 @@ impl<S: Source, B: PartsBefore> Model for BatchedSource<S, B> {
 }
 
 // Notes a batch that was given. Returns how the source ended, if it did.
-fn note(given: &mut Log<Piece, ()>, next: &Next) -> Option<Ending>
+fn note(given: &mut Log<Piece, ()>, next: &Next) -> Option<SourceEnd>
     ensures given { parts_in given.new.items ≡ parts_with (parts_in given.old.items) next.now }
     ensures ended { result ≡ ended_by_batch next.now }
 {
@@ -63,13 +63,13 @@ fn note(given: &mut Log<Piece, ()>, next: &Next) -> Option<Ending>
         Next::Part(piece) => {
             *given = given.and(piece, &());
             if piece.last {
-                Some(Ending::Whole)
+                Some(SourceEnd::Whole)
             } else {
                 None
             }
         }
-        Next::Lost(cause) => Some(Ending::Lost(*cause)),
-        Next::Cancelled => Some(Ending::Cancelled),
+        Next::Lost(cause) => Some(SourceEnd::Lost(*cause)),
+        Next::Cancelled => Some(SourceEnd::Cancelled),
     }
 }
 

@@ -2,10 +2,10 @@
 ghost use Rattle.std.specs.Prelude.{◌≡◌, ◌≤◌, ◌∷◌, ◌++◌, [], IfOk};
 ghost use Rattle.crossbeam_channel.specs.Claims.{view, IsSeatAt};
 ghost use Rattle.crossbeam_channel.specs.Ends.{sends_on, receives_on};
-ghost use Rattle.dump_pipe.specs.declared.end_view.EndView.TheVariants.{Sends, Gets};
+ghost use Rattle.dump_pipe.specs.declared.end_side.EndSide.TheVariants.{Sends, Gets};
 ghost use Rattle.dump_pipe.specs.Pipes.{weigh, list_of, byte_limit, IsSending, IsReceiving};
 
-use crate::end_view::EndView;
+use crate::end_side::EndSide;
 use crate::message::Message;
 use crossbeam_channel::protocol::{Join, Lesson, Outcome, Protocol, Split};
 use crossbeam_channel::{Pass, RuledReceiver, RuledSender, bounded_with};
@@ -18,9 +18,9 @@ pub const PIPE_LIMIT: usize = 8;
 /// The rule: what was received, and then what the pipe holds, is what was sent.
 pub struct InOrder;
 
-impl Protocol<Message, EndView> for InOrder {
+impl Protocol<Message, EndSide> for InOrder {
     ghost use Rattle.std.specs.Prelude.{[]};
-    ghost use Rattle.dump_pipe.specs.declared.end_view.EndView.TheVariants.{Both};
+    ghost use Rattle.dump_pipe.specs.declared.end_side.EndSide.TheVariants.{Both};
     ghost use Rattle.dump_pipe.specs.Pipes.{IsInOrder};
 
     ghost holds = { IsInOrder };
@@ -31,7 +31,7 @@ impl Protocol<Message, EndView> for InOrder {
 /// The split of a pipe's one end into two, and their join.
 pub struct Ends;
 
-impl Split<EndView> for Ends {
+impl Split<EndSide> for Ends {
     ghost use Rattle.dump_pipe.specs.Pipes.{sends_of, gets_of};
 
     ghost left = { sends_of };
@@ -39,8 +39,8 @@ impl Split<EndView> for Ends {
     ghost right = { gets_of };
 }
 
-impl Join<EndView> for Ends {
-    ghost use Rattle.dump_pipe.specs.declared.end_view.EndView.TheVariants.{Spent};
+impl Join<EndSide> for Ends {
+    ghost use Rattle.dump_pipe.specs.declared.end_side.EndSide.TheVariants.{Spent};
     ghost use Rattle.dump_pipe.specs.Pipes.{both_of};
 
     ghost both = { both_of };
@@ -51,7 +51,7 @@ impl Join<EndView> for Ends {
 /// The fact that both ends together know: the messages received are a beginning of those sent.
 pub struct Order;
 
-impl Lesson<Message, EndView> for Order {
+impl Lesson<Message, EndSide> for Order {
     ghost use Rattle.dump_pipe.specs.Pipes.{HasOrder};
 
     ghost fact = { HasOrder };
@@ -60,37 +60,37 @@ impl Lesson<Message, EndView> for Order {
 /// The outcome that a message was sent.
 pub struct Sent;
 
-impl Outcome<Message, EndView> for Sent {
+impl Outcome<Message, EndSide> for Sent {
     ghost use Rattle.dump_pipe.specs.Pipes.{HasSent};
 
     ghost then = { HasSent };
 }
 
-impl Lesson<Message, EndView> for Sent {
+impl Lesson<Message, EndSide> for Sent {
     ghost fact = { λ v items. Unit {0} };
 }
 
 /// The outcome that a message was received.
 pub struct Got;
 
-impl Outcome<Message, EndView> for Got {
+impl Outcome<Message, EndSide> for Got {
     ghost use Rattle.dump_pipe.specs.Pipes.{HasGot};
 
     ghost then = { HasGot };
 }
 
-impl Lesson<Message, EndView> for Got {
+impl Lesson<Message, EndSide> for Got {
     ghost fact = { λ v items. Unit {0} };
 }
 
 /// The end that sends.
-pub type Sender = RuledSender<Message, EndView, InOrder>;
+pub type Sender = RuledSender<Message, EndSide, InOrder>;
 
 /// The end that receives.
-pub type Receiver = RuledReceiver<Message, EndView, InOrder>;
+pub type Receiver = RuledReceiver<Message, EndSide, InOrder>;
 
 /// The knowledge of an end. It has no bytes.
-pub type End = Pass<Message, EndView>;
+pub type End = Pass<Message, EndSide>;
 
 /// The two ends of a pipe.
 #[derive(Drop)]

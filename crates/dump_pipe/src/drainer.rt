@@ -5,16 +5,16 @@ ghost use Rattle.crossbeam_channel.specs.Ends.{receives_on};
 ghost use Rattle.dump_pump.specs.Pumps.{bytes_of};
 ghost use Rattle.dump_pipe.specs.Seats.{HasDumpRoom, after_bytes};
 ghost use Rattle.dump_pipe.specs.Pipes.{list_of, IsReceiving};
-ghost use Rattle.dump_pipe.specs.Drains.{IsDrained, IsSkipped, answer_to_ending};
+ghost use Rattle.dump_pipe.specs.Drains.{IsDrained, IsSkipped, answer_to_source_end};
 
 use crate::channel::{End, Receiver, receive};
 use crate::counter::Counter;
 use crate::message::Message;
 use dump_pump::transfer::put_all;
-use dump_pump::{Ending, Outlet, Pumped};
+use dump_pump::{Outlet, Pumped, SourceEnd};
 use std::sync::Wait;
 
-/// Receives messages until the ending, and drops them.
+/// Receives messages until the end of the source, and drops them.
 pub fn skip<R: Wait>(rt: &R, receiver: &Receiver, end: &mut End)
     requires { IsSeatAt (receives_on receiver.now) end.old × IsReceiving (view end.old) }
     ensures end { IsSeatAt (receives_on receiver.now) end.new }
@@ -28,9 +28,9 @@ pub fn skip<R: Wait>(rt: &R, receiver: &Receiver, end: &mut End)
     unreachable!()
 }
 
-/// Puts out the parts that are received, each whole and in order, and counts their bytes, until the ending. After a put that
-/// failed it puts out nothing more, and receives all that is left. Waits while the pipe is empty. The sum has room for the
-/// bytes of a dump.
+/// Puts out the parts that are received, each whole and in order, and counts their bytes, until the source has ended. After a
+/// put that failed it puts out nothing more, and receives all that is left. Waits while the pipe is empty. The sum has room for
+/// the bytes of a dump.
 pub fn drain_pipe<O: Outlet, R: Wait>(
     rt: &R,
     receiver: &Receiver,
@@ -58,20 +58,20 @@ pub fn drain_pipe<O: Outlet, R: Wait>(
                     return Pumped::OutletFailed { bytes: total };
                 }
             }
-            Message::End(ending) => return answer(ending, total),
+            Message::End(ended) => return answer(ended, total),
         }
     }
     unreachable!()
 }
 
 // Returns the outcome of a drain in which no put failed.
-fn answer(ending: Ending, bytes: u64) -> Pumped
-    ensures answer { result ≡ answer_to_ending ending bytes }
+fn answer(ended: SourceEnd, bytes: u64) -> Pumped
+    ensures answer { result ≡ answer_to_source_end ended bytes }
     ensures counted { bytes_of result ≡ bytes }
 {
-    match ending {
-        Ending::Whole => Pumped::Done { bytes },
-        Ending::Lost(cause) => Pumped::Lost { cause, bytes },
-        Ending::Cancelled => Pumped::Cancelled { bytes },
+    match ended {
+        SourceEnd::Whole => Pumped::Done { bytes },
+        SourceEnd::Lost(cause) => Pumped::Lost { cause, bytes },
+        SourceEnd::Cancelled => Pumped::Cancelled { bytes },
     }
 }

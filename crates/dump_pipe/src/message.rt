@@ -1,5 +1,5 @@
 //! The messages of a pipe.
-use dump_pump::Ending;
+use dump_pump::SourceEnd;
 use hprof_text::Piece;
 
 /// A message of a pipe: the parts of a dump come, in order, and then how it ended.
@@ -8,5 +8,5 @@ pub enum Message {
     /// A part of the dump.
     Part(Piece),
     /// How the source ended. Nothing follows.
-    End(Ending),
+    End(SourceEnd),
 }

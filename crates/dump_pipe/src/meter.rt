@@ -1,10 +1,10 @@
 //! Meters, and the making of one with its seats.
 ghost use Rattle.std.specs.Prelude.{◌≡◌, ◌<◌, ◌≤◌, All, [], length, IfOk, false};
-ghost use Rattle.dump_pipe.specs.declared.meter_view.MeterView.TheVariants.{Out};
+ghost use Rattle.dump_pipe.specs.declared.meter_side.MeterSide.TheVariants.{Out};
 ghost use Rattle.dump_pipe.specs.Seats.{knows, meter_seat_limit};
 
 use crate::cancel::Cancel;
-use crate::meter_view::MeterView;
+use crate::meter_side::MeterSide;
 use crate::progress::Progress;
 use crate::rule::{Counts, Opens};
 use crate::seats::{AskSeat, FeedSeat, MeterSeat, OutSeat, ReadSeat};
@@ -19,7 +19,7 @@ pub const SEAT_LIMIT: usize = 16;
 /// A progress word and a cancel word. Contracts see which meter it is.
 #[derive(Drop)]
 pub struct Meter {
-    table: Table<(), MeterView, (), Counts, Global>,
+    table: Table<(), MeterSide, (), Counts, Global>,
 }
 
 impl Model for Meter {
@@ -53,8 +53,8 @@ pub struct NewMeter {
 // Creates `count` seats that read, beside the one that adds. Fails if an allocation fails.
 fn new_readers(
     alloc: Global,
-    table: &Shared<(), MeterView, (), Counts>,
-    out: &mut Seat<(), MeterView>,
+    table: &Shared<(), MeterSide, (), Counts>,
+    out: &mut Seat<(), MeterSide>,
     count: usize,
 ) -> Result<Vec<ReadSeat>, AllocError>
     requires table { (out.old.table_id ≡ table.now.table_id) × (0 < table.now.table_id.words) }

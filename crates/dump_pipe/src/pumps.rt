@@ -21,6 +21,7 @@ pub fn pump_counted<S: Source, O: Outlet>(
     ensures kept { S.kept source.new ≡ S.kept source.old }
     ensures counted { counter.new ≡ after_bytes counter.old (bytes_of result) }
 {
+    // Its contract bounds the number of parts that are left.
     let _most = source.parts_left();
     let mut total = 0;
     loop {

@@ -1,5 +1,5 @@
 //! The rule of a meter's two words, and the kinds of its seats.
-use crate::meter_view::MeterView;
+use crate::meter_side::MeterSide;
 use crate::seats::SeatKind;
 use atomic_table::{Join, Play, Split, TableRule};
 
@@ -7,8 +7,8 @@ use atomic_table::{Join, Play, Split, TableRule};
 /// 0, and it is 1 if a feeder found it so. A meter has one asker.
 pub struct Counts;
 
-impl TableRule<(), MeterView, ()> for Counts {
-    ghost use Rattle.dump_pipe.specs.declared.meter_view.MeterView.TheVariants.{Whole};
+impl TableRule<(), MeterSide, ()> for Counts {
+    ghost use Rattle.dump_pipe.specs.declared.meter_side.MeterSide.TheVariants.{Whole};
     ghost use Rattle.dump_pipe.specs.Meters.{IsMeter};
 
     ghost holds = { λ _ s. IsMeter s.words s.views };
@@ -20,7 +20,7 @@ impl TableRule<(), MeterView, ()> for Counts {
 pub struct Adds;
 
 impl SeatKind<u64> for Adds {
-    ghost use Rattle.dump_pipe.specs.declared.meter_view.MeterView.TheVariants.{Out};
+    ghost use Rattle.dump_pipe.specs.declared.meter_side.MeterSide.TheVariants.{Out};
     ghost use Rattle.dump_pipe.specs.Meters.{WasAdded};
 
     ghost view = { Out };
@@ -34,7 +34,7 @@ impl SeatKind<u64> for Adds {
 pub struct Reads;
 
 impl SeatKind<u64> for Reads {
-    ghost use Rattle.dump_pipe.specs.declared.meter_view.MeterView.TheVariants.{Read};
+    ghost use Rattle.dump_pipe.specs.declared.meter_side.MeterSide.TheVariants.{Read};
     ghost use Rattle.dump_pipe.specs.Meters.{WasRead};
 
     ghost view = { Read };
@@ -49,7 +49,7 @@ pub struct Asks;
 
 impl SeatKind<bool> for Asks {
     ghost use Rattle.std.specs.Prelude.{false};
-    ghost use Rattle.dump_pipe.specs.declared.meter_view.MeterView.TheVariants.{Ask};
+    ghost use Rattle.dump_pipe.specs.declared.meter_side.MeterSide.TheVariants.{Ask};
     ghost use Rattle.dump_pipe.specs.Meters.{WasAsked};
 
     ghost view = { Ask };
@@ -64,7 +64,7 @@ pub struct Looks;
 
 impl SeatKind<bool> for Looks {
     ghost use Rattle.std.specs.Prelude.{false};
-    ghost use Rattle.dump_pipe.specs.declared.meter_view.MeterView.TheVariants.{Feed};
+    ghost use Rattle.dump_pipe.specs.declared.meter_side.MeterSide.TheVariants.{Feed};
     ghost use Rattle.dump_pipe.specs.Meters.{WasLookedAt};
 
     ghost view = { Feed };
@@ -77,9 +77,9 @@ impl SeatKind<bool> for Looks {
 /// The way in which a new meter's seat is cut in two: the seat that adds, and the one that asks.
 pub struct Opens;
 
-impl Split<MeterView> for Opens {
+impl Split<MeterSide> for Opens {
     ghost use Rattle.std.specs.Prelude.{false};
-    ghost use Rattle.dump_pipe.specs.declared.meter_view.MeterView.TheVariants.{Ask, Out};
+    ghost use Rattle.dump_pipe.specs.declared.meter_side.MeterSide.TheVariants.{Ask, Out};
 
     ghost left = { λ _. Out 0 };
 
@@ -89,8 +89,8 @@ impl Split<MeterView> for Opens {
 /// The way in which a feeder takes in the asker, and the step by which they compare.
 pub struct Settles;
 
-impl Join<MeterView> for Settles {
-    ghost use Rattle.dump_pipe.specs.declared.meter_view.MeterView.TheVariants.{Met, Read};
+impl Join<MeterSide> for Settles {
+    ghost use Rattle.dump_pipe.specs.declared.meter_side.MeterSide.TheVariants.{Met, Read};
     ghost use Rattle.dump_pipe.specs.Seats.{flag};
 
     ghost both = { λ v w. Met (flag v) (flag w) };
@@ -98,7 +98,7 @@ impl Join<MeterView> for Settles {
     ghost spent = { Read 0 };
 }
 
-impl Play<(), MeterView> for Settles {
+impl Play<(), MeterSide> for Settles {
     ghost use Rattle.dump_pipe.specs.Meters.{WasSettled};
 
     ghost then = { WasSettled };

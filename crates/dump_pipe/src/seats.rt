@@ -2,17 +2,17 @@
 ghost use Rattle.std.specs.Prelude.{◌≡◌, []};
 ghost use Rattle.dump_pipe.specs.Seats.{knows};
 
-use crate::meter_view::MeterView;
+use crate::meter_side::MeterSide;
 use crate::rule::{Adds, Asks, Looks, Reads};
 use atomic_table::{Play, Seat, Split};
 use std::marker::{Model, PhantomData};
 
 /// What a seat of a meter can know.
 pub trait SeatFact {
-    ghost use Rattle.dump_pipe.specs.declared.meter_view.MeterView.{MeterView};
+    ghost use Rattle.dump_pipe.specs.declared.meter_side.MeterSide.{MeterSide};
 
-    // What a seat with this view knows.
-    ghost within: { MeterView → Self };
+    // What a seat with this side knows.
+    ghost within: { MeterSide → Self };
 }
 
 impl SeatFact for u64 {
@@ -31,11 +31,11 @@ impl SeatFact for bool {
 pub trait SeatKind<T> {
     ghost use Rattle.std.specs.Prelude.{ℕ};
     ghost use Rattle.atomic_table.specs.Table.{Step};
-    ghost use Rattle.dump_pipe.specs.declared.meter_view.MeterView.{MeterView};
+    ghost use Rattle.dump_pipe.specs.declared.meter_side.MeterSide.{MeterSide};
     ghost use Rattle.dump_pipe.specs.Meters.{Sat};
 
-    // The view of a seat that knows this.
-    ghost view: { T → MeterView };
+    // The side of a seat that knows this.
+    ghost view: { T → MeterSide };
 
     // What a new seat knows.
     ghost first: { T };
@@ -48,7 +48,7 @@ pub trait SeatKind<T> {
 /// the making of one beside another seat.
 #[derive(Drop)]
 pub struct MeterSeat<K: SeatKind<T>, T: SeatFact> {
-    pub(crate) seat: Seat<(), MeterView>,
+    pub(crate) seat: Seat<(), MeterSide>,
     pub(crate) of: PhantomData<(K, T)>,
 }
 
@@ -63,19 +63,19 @@ impl<K: SeatKind<T>, T: SeatFact> Model for MeterSeat<K, T> {
     ghost invariant = { λ s. s.seat.me ≡ (K.view (T.within s.seat.me.0), []) };
 }
 
-impl<K: SeatKind<T>, T: SeatFact> Split<MeterView> for MeterSeat<K, T> {
+impl<K: SeatKind<T>, T: SeatFact> Split<MeterSide> for MeterSeat<K, T> {
     ghost left = { λ v. v };
 
     ghost right = { λ _. K.view K.first };
 }
 
-impl<K: SeatKind<T>, T: SeatFact> Play<(), MeterView> for MeterSeat<K, T> {
+impl<K: SeatKind<T>, T: SeatFact> Play<(), MeterSide> for MeterSeat<K, T> {
     ghost then = { K.then };
 }
 
 impl<K: SeatKind<T>, T: SeatFact> MeterSeat<K, T> {
-    // Makes a seat of one with its view.
-    pub(crate) fn of(seat: Seat<(), MeterView>) -> MeterSeat<K, T>
+    // Makes a seat of one with its side.
+    pub(crate) fn of(seat: Seat<(), MeterSide>) -> MeterSeat<K, T>
         requires { seat.me ≡ (K.view (T.within seat.me.0), []) }
         ensures { result ≡ knows seat.table_id (T.within seat.me.0) }
     {

@@ -4,7 +4,7 @@ ghost use Rattle.crossbeam_channel.specs.Claims.{view, IsSeatAt};
 ghost use Rattle.crossbeam_channel.specs.Ends.{sends_on, receives_on};
 ghost use Rattle.dump_pump.specs.Pumps.{bytes_of};
 ghost use Rattle.dump_pipe.specs.Seats.{HasDumpRoom, after_bytes};
-ghost use Rattle.dump_pipe.specs.declared.end_view.EndView.TheVariants.{Sends, Gets};
+ghost use Rattle.dump_pipe.specs.declared.end_side.EndSide.TheVariants.{Sends, Gets};
 ghost use Rattle.dump_pipe.specs.Streams.{IsStreamed, CanFeed, CanDrain, MayFeed, MayDrain, MayStream, drained_bytes};
 
 use crate::channel::{BothEnds, End, Ends, Knowledge, Order, Receiver, Sender, pipe};
@@ -13,7 +13,7 @@ use crate::drainer::drain_pipe;
 use crate::feeder::feed;
 use crate::pumps::pump_counted;
 use crate::start::Start;
-use dump_pump::{Ending, Outlet, Pumped, Source};
+use dump_pump::{Outlet, Pumped, Source, SourceEnd};
 use std::alloc::Global;
 use std::sync::Wait;
 use std::thread::{Threads, join_mut};
@@ -73,7 +73,7 @@ fn pass_parts<S: Source + Send, O: Outlet, R: Threads + Wait + Sync>(
     let start = Start::new();
     let (sender, receiver) = (&ends.sender, &ends.receiver);
     let (one, other) = (&mut known.one, &mut known.other);
-    let mut feeder = || -> Option<Ending>
+    let mut feeder = || -> Option<SourceEnd>
         requires { CanFeed (S.seen source.now) (view one.now)
             × IsSeatAt (sends_on sender.now) one.now }
     { begin_feed(rt, &start, source, sender, one) };
@@ -96,7 +96,7 @@ fn begin_feed<S: Source, R: Wait>(
     source: &mut S,
     sender: &Sender,
     end: &mut End,
-) -> Option<Ending>
+) -> Option<SourceEnd>
     requires source { 0 < (S.seen source.old).left }
     requires end { IsSeatAt (sends_on sender.now) end.old × (view end.old ≡ Sends []) }
     ensures end { IsSeatAt (sends_on sender.now) end.new }

@@ -1,7 +1,7 @@
 //! A word of a meter, lent.
 ghost use Rattle.std.specs.Prelude.{◌≡◌};
 
-use crate::meter_view::MeterView;
+use crate::meter_side::MeterSide;
 use crate::rule::Counts;
 use atomic_table::Shared;
 use std::marker::{Model, PhantomData};
@@ -9,7 +9,7 @@ use std::marker::{Model, PhantomData};
 /// One of the two words of a meter, of which `W` says which. Contracts see the meter.
 #[derive(Drop)]
 pub struct Word<'a, W> {
-    pub(crate) table: &'a Shared<(), MeterView, (), Counts>,
+    pub(crate) table: &'a Shared<(), MeterSide, (), Counts>,
     which: PhantomData<W>,
 }
 
@@ -28,7 +28,7 @@ impl<'a, W> Model for Word<'a, W> {
 
 impl<'a, W> Word<'a, W> {
     // Lends a word of the meter with this table.
-    pub(crate) fn of(table: &'a Shared<(), MeterView, (), Counts>) -> Word<'a, W>
+    pub(crate) fn of(table: &'a Shared<(), MeterSide, (), Counts>) -> Word<'a, W>
         requires { table.now.table_id.words ≡ 2 }
         ensures { result ≡ table.now.table_id }
     {

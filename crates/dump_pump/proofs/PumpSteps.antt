@@ -3,10 +3,11 @@ use Rattle.std.proofs.Common.{◌≡◌, ℕ, ◌+◌, ◌-◌, ◌*◌, ◌<◌
 use Rattle.std.proofs.lemmas.List.{append-nil, length-drop, take_all}
 use Rattle.std.proofs.Math.Seq.{take-add}
 use Rattle.hprof_text.specs.declared.Piece.{Piece}
-use Rattle.dump_pump.specs.declared.source.Ending.{Ending}
+use Rattle.dump_pump.specs.declared.source.SourceEnd.{SourceEnd}
 use Rattle.dump_pump.specs.declared.transfer.Pumped.{Pumped}
 use Rattle.dump_pump.specs.Outlets.{Outgoing}
-use Rattle.dump_pump.specs.Sources.{Supply, more, part_size_limit}
+use Rattle.dump_pump.specs.Sources.{Supply, more}
+use Rattle.hprof_text.specs.Laws.{piece_size_limit}
 use Rattle.dump_pump.specs.Pumps.{joined, ends, FitsPump, IsPumped, PumpsOn}
 use Rattle.dump_pump.proofs.JoinedPieces.{joined_bytes_of_two_lists}
 
@@ -18,7 +19,7 @@ pub record IsOpen (a b : Supply) (w w' : Outgoing) (total : ℕ) : Type 0 where
   pub whole : w'.failures ≡ w.failures
   pub counted : total ≡ length (joined given)
   pub left : 0 < b.left
-  pub room : total + b.left * part_size_limit ≤ a.left * part_size_limit
+  pub room : total + b.left * piece_size_limit ≤ a.left * piece_size_limit
 
 pub told_and_no_piece_more : (told : Option (List Piece)) → told ≡ more told []
 told_and_no_piece_more (Some ps) = ap Some (sym (append-nil ps))
@@ -64,7 +65,7 @@ pump_open_after_part a b c w w' w2 n n' o (p, told, small, less, left, out, whol
   room = omega (arith, counted, o.room, small, less);
 }
 
-pump_fits_after_earlier_pieces : (ps given : List Piece) (out : List ℕ) (open_pump_has_ended : Option Ending) (f f' f2 : ℕ) (r : Pumped) → f' ≡ f → FitsPump given out open_pump_has_ended f' f2 r → FitsPump (ps ++ given) (joined ps ++ out) open_pump_has_ended f f2 r
+pump_fits_after_earlier_pieces : (ps given : List Piece) (out : List ℕ) (open_pump_has_ended : Option SourceEnd) (f f' f2 : ℕ) (r : Pumped) → f' ≡ f → FitsPump given out open_pump_has_ended f' f2 r → FitsPump (ps ++ given) (joined ps ++ out) open_pump_has_ended f f2 r
 pump_fits_after_earlier_pieces ps given out open_pump_has_ended f f' f2 (Pumped.Done n) same h = (ap (λ l. joined ps ++ l) h.0 ∙ sym (joined_bytes_of_two_lists ps given), list_ends_before_more_pieces ps given h.1, h.2, h.3 ∙ same)
 pump_fits_after_earlier_pieces ps given out open_pump_has_ended f f' f2 (Pumped.OutletFailed n) same h = h ∙ ap (λ n. n + 1) same
 pump_fits_after_earlier_pieces ps given out open_pump_has_ended f f' f2 (Pumped.Lost cause n) same h = (ap (λ l. joined ps ++ l) h.0 ∙ sym (joined_bytes_of_two_lists ps given), h.1, h.2 ∙ same)

@@ -17,9 +17,9 @@ pub record Writing (W : Type 0) : Type 0 where
   pub put : List ℕ
   pub failures : ℕ
 
--- the bytes of a ghost log
-abbrev pub log_bytes : List (ℕ × Unit {0}) → List ℕ
-log_bytes entries = map (λ e. e.0) entries
+-- the bytes of a ghost list
+abbrev pub ghost_bytes : List (ℕ × Unit {0}) → List ℕ
+ghost_bytes entries = map (λ e. e.0) entries
 
 -- the bytes that a writer told when its outlet was made, if any, and then those that were put out
 abbrev pub out_of : Option (List ℕ) → List ℕ → List ℕ

@@ -2,12 +2,13 @@
 use Rattle.std.specs.Prelude.{◌≡◌, ℕ, ◌+◌, ◌<◌, ◌≤◌, Bool, true, false, List, [], ◌∷◌, ◌++◌, take, length, Option, Some, None}
 use mathlib.Core.List.{IsPrefix}
 use Rattle.hprof_text.specs.declared.Piece.{Piece}
-use Rattle.dump_pump.specs.declared.source.Ending.{Ending}
-use Rattle.dump_pump.specs.declared.source.Ending.TheVariants as End
+use Rattle.dump_pump.specs.declared.source.SourceEnd.{SourceEnd}
+use Rattle.dump_pump.specs.declared.source.SourceEnd.TheVariants as End
 use Rattle.dump_pump.specs.declared.transfer.Pumped.{Pumped}
 use Rattle.dump_pump.specs.declared.transfer.Pumped.TheVariants.{Done, OutletFailed, Lost, Cancelled}
 use Rattle.dump_pump.specs.Outlets.{Outgoing}
-use Rattle.dump_pump.specs.Sources.{Supply, more, part_size_limit}
+use Rattle.dump_pump.specs.Sources.{Supply, more}
+use Rattle.hprof_text.specs.Laws.{piece_size_limit}
 
 -- the bytes of the parts, one after another
 abbrev pub joined : List Piece → List ℕ
@@ -35,7 +36,7 @@ PutsAll bytes w w' n =
     × (n < length bytes → w'.failures ≡ w.failures + 1)
 
 -- an outcome fits the parts given, the bytes put out, the end of the source, and the failures before and after
-abbrev pub FitsPump : List Piece → List ℕ → Option Ending → ℕ → ℕ → Pumped → Type 0
+abbrev pub FitsPump : List Piece → List ℕ → Option SourceEnd → ℕ → ℕ → Pumped → Type 0
 FitsPump given out ended failures failures' (Done n) =
     (out ≡ joined given) × (ends given ≡ true) × (ended ≡ Some End.Whole) × (failures' ≡ failures)
 FitsPump given out ended failures failures' (OutletFailed n) = failures' ≡ failures + 1
@@ -47,7 +48,7 @@ FitsPump given out ended failures failures' (Cancelled n) =
 -- a pump that had put out n bytes went on: a part more is out, whole, and more may come; or it ended so
 abbrev pub PumpsOn : Supply → Supply → Outgoing → Outgoing → ℕ → ℕ → Option Pumped → Type 0
 PumpsOn a b w w' n n' None =
-    (p : Piece) × (b.told ≡ more a.told (p ∷ [])) × (length p.bytes ≤ part_size_limit)
+    (p : Piece) × (b.told ≡ more a.told (p ∷ [])) × (length p.bytes ≤ piece_size_limit)
     × (b.left < a.left) × (0 < b.left) × (w'.out ≡ w.out ++ p.bytes)
     × (w'.failures ≡ w.failures) × (n' ≡ n + length p.bytes)
 PumpsOn a b w w' n n' (Some r) =

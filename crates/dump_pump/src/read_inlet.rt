@@ -3,8 +3,8 @@ ghost use Rattle.std.specs.Prelude.{◌≡◌, ◌<◌, [], length};
 ghost use Rattle.dump_pump.specs.Inlets.{IsTriedRead};
 
 use crate::Log;
+use crate::ghost_list::note_bytes;
 use crate::inlet::{Inlet, Take, count_of};
-use crate::ledger::note_bytes;
 use crate::write_outlet::INTERRUPT_LIMIT;
 use std::io::{ErrorKind, Read};
 use std::marker::Model;
@@ -21,7 +21,7 @@ pub struct ReadInlet<R: Read> {
 
 impl<R: Read> Model for ReadInlet<R> {
     ghost use Rattle.std.specs.Prelude.{length, map};
-    ghost use Rattle.dump_pump.specs.Outlets.{log_bytes};
+    ghost use Rattle.dump_pump.specs.Outlets.{ghost_bytes};
     ghost use Rattle.dump_pump.specs.Inlets.{InletState};
 
     ghost Value = { InletState R };
@@ -29,7 +29,7 @@ impl<R: Read> Model for ReadInlet<R> {
     ghost view = { λ i.
         record {
           reader = i.reader;
-          taken = log_bytes i.taken.items;
+          taken = ghost_bytes i.taken.items;
           reads = map (λ e. e.0) i.asked.items;
           failures = length i.failed.items;
         } };

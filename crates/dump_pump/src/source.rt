@@ -2,9 +2,6 @@
 use heap_class::LostCause;
 use hprof_text::Piece;
 
-/// The largest number of parts that a source has left.
-pub const PART_LIMIT: u64 = 16_785_538;
-
 /// The answer of a source that is asked for its next part.
 #[derive(Drop)]
 pub enum Next {
@@ -18,7 +15,7 @@ pub enum Next {
 
 /// The way in which a source ended.
 #[derive(Clone, Copy, PartialEq, Eq, Debug)]
-pub enum Ending {
+pub enum SourceEnd {
     /// It gave the part that is the last.
     Whole,
     /// The dump is lost.
@@ -31,7 +28,8 @@ pub enum Ending {
 /// them, how it ended, how many parts are left at most, and what stays as it was.
 pub trait Source {
     ghost use Rattle.std.specs.Prelude.{◌≡◌, ◌<◌, ◌≤◌};
-    ghost use Rattle.dump_pump.specs.Sources.{Supply, IsNextPart, part_limit};
+    ghost use Rattle.dump_pump.specs.Sources.{Supply, IsNextPart};
+    ghost use Rattle.hprof_text.specs.Laws.{piece_limit};
 
     // The type of what no call of `next` changes.
     ghost Kept: { Type 0 } = { Unit {0} };
@@ -47,8 +45,8 @@ pub trait Source {
         ensures next { IsNextPart (Self.seen self.old) (Self.seen self.new) result }
         ensures kept { Self.kept self.new ≡ Self.kept self.old };
 
-    /// Returns the largest number of parts that may be left, at most PART_LIMIT.
+    /// Returns the largest number of parts that may be left, at most PIECE_LIMIT.
     fn parts_left(&self) -> u64
         ensures left { result ≡ (Self.seen self.now).left }
-        ensures most { result ≤ part_limit };
+        ensures most { result ≤ piece_limit };
 }

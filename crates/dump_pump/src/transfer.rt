@@ -1,7 +1,7 @@
 //! Dumps, put out part by part.
 ghost use Rattle.std.specs.Prelude.{◌≡◌, ◌+◌, ◌<◌, ◌≤◌, ◌^◌};
 ghost use Rattle.dump_pump.specs.Pumps.{IsPumped, PumpsOn, PutsAll};
-ghost use Rattle.dump_pump.specs.Sources.{part_size_limit};
+ghost use Rattle.hprof_text.specs.Laws.{piece_size_limit};
 
 use crate::source::{Next, Source};
 use crate::{Outlet, Put};
@@ -42,11 +42,11 @@ pub fn pump_part<S: Source, O: Outlet>(
     total: &mut u64,
 ) -> Option<Pumped>
     requires source { 0 < (S.seen source.old).left }
-    requires room { total.old + part_size_limit < 2 ^ 64 }
+    requires room { total.old + piece_size_limit < 2 ^ 64 }
     ensures pumped { PumpsOn (S.seen source.old) (S.seen source.new) (O.seen outlet.old)
         (O.seen outlet.new) total.old total.new result }
     ensures kept { S.kept source.new ≡ S.kept source.old }
-    ensures grows { (total.old ≤ total.new) × (total.new ≤ total.old + part_size_limit) }
+    ensures grows { (total.old ≤ total.new) × (total.new ≤ total.old + piece_size_limit) }
 {
     match source.next() {
         Next::Part(piece) => {
@@ -77,6 +77,7 @@ pub fn pump<S: Source, O: Outlet>(source: &mut S, outlet: &mut O) -> Pumped
         (O.seen outlet.new) result }
     ensures kept { S.kept source.new ≡ S.kept source.old }
 {
+    // Its contract bounds the number of parts that are left.
     let _most = source.parts_left();
     let mut total = 0;
     loop {

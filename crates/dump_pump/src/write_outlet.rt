@@ -3,7 +3,7 @@ ghost use Rattle.std.specs.Prelude.{◌≡◌, ◌<◌, [], length};
 ghost use Rattle.std.specs.Io.KnownBytes.{Appends};
 ghost use Rattle.dump_pump.specs.Outlets.{IsTriedWrite};
 
-use crate::ledger::note_bytes;
+use crate::ghost_list::note_bytes;
 use crate::{Log, Outlet, Put};
 use std::io::{ErrorKind, Write};
 use std::marker::Model;
@@ -26,7 +26,7 @@ pub struct WriteOutlet<W: Write> {
 impl<W: Write> Model for WriteOutlet<W> {
     ghost use Rattle.std.specs.Prelude.{length};
     ghost use Rattle.std.specs.Io.KnownBytes.{Appends};
-    ghost use Rattle.dump_pump.specs.Outlets.{Writing, log_bytes};
+    ghost use Rattle.dump_pump.specs.Outlets.{Writing, ghost_bytes};
 
     ghost Value = { Writing W };
 
@@ -34,12 +34,12 @@ impl<W: Write> Model for WriteOutlet<W> {
         record {
           writer = o.writer;
           held = W.contents o.start.value;
-          put = log_bytes o.written.items;
+          put = ghost_bytes o.written.items;
           failures = length o.failed.items;
         } };
 
     ghost invariant = { λ o. Appends (W.contents o.start.value) (W.contents o.writer)
-        (log_bytes o.written.items) };
+        (ghost_bytes o.written.items) };
 }
 
 impl<W: Write> WriteOutlet<W> {

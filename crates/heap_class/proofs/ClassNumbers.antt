@@ -180,7 +180,7 @@ module _ (names : List (List ℕ)) (es : List ClassEntry) (e : ClassEntry) (t : 
       sym (named_at_place names (get_or names e.name []) e.name distinct last_within refl es (all_of_front (λ (d : ClassEntry). d.name < length names) es e below))
       ∙ (or_parts _ _ tests.1.1.1.0).0
 
--- ---- what there is after a class is defined, and after it is taken back
+-- ---- what there is after a class is defined, and after it is undone
 
 pub numbered_table_with_one_more : (old new : Names) (es : List ClassEntry) (e : ClassEntry) (k : ℕ)
     → IsNumberedTable old es → HasMoreNames old new → IsEntryTable (keys_of new) (es ++ e ∷ []) → k ≡ length es

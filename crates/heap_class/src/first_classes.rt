@@ -54,6 +54,7 @@ impl<'a> FirstClasses<'a> {
         ensures table { IsClassTable [] self.now }
         ensures limit { length self.now ≤ class_limit }
     {
+        // Its contract says that `define` would accept these classes.
         let _all = self.classes.len();
         self.count
     }

@@ -85,9 +85,9 @@ fn reach(keyword: &str) -> usize {
     }
 }
 
-// Tells whether a line with this keyword of a question changes the heap.
+// Tells whether a line with this keyword of a question changes the heap or what the session notes.
 fn changes(keyword: &str) -> bool {
-    keyword == "collect" || keyword == "forward"
+    matches!(keyword, "collect" | "forward" | "at" | "name")
 }
 
 // Returns how a line of this form names a state, or None if it names none.
@@ -97,6 +97,9 @@ pub(crate) fn state_names(form: &str) -> Option<&'static str> {
         .any(|word| word == "[@PLACE]" || word == "[@PLACE")
     {
         return Some("@PLACE is @P for the state at place P, or - for the current state");
+    }
+    if form.starts_with("at ") {
+        return Some("@P is the retained state at place P, - the current state");
     }
     if !form
         .split_ascii_whitespace()

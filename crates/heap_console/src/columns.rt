@@ -2,7 +2,7 @@
 ghost use Rattle.std.specs.Prelude.{◌≡◌, ◌<◌, [], length};
 
 use crate::heading::Heading;
-use dump_pump::ledger::note_bytes;
+use dump_pump::ghost_list::note_bytes;
 use dump_pump::{Log, Outlet, Put};
 use session_text::write_all;
 use std::alloc::{AllocError, Global};
@@ -30,11 +30,12 @@ pub struct ColumnOutlet<'a, O: Outlet + Drop> {
 
 impl<'a, O: Outlet + Drop> Model for ColumnOutlet<'a, O> {
     ghost use Rattle.std.specs.Prelude.{length};
-    ghost use Rattle.dump_pump.specs.Outlets.{Outgoing, log_bytes};
+    ghost use Rattle.dump_pump.specs.Outlets.{Outgoing, ghost_bytes};
 
     ghost Value = { Outgoing };
 
-    ghost view = { λ o. record { out = log_bytes o.put.items; failures = length o.failed.items } };
+    ghost view = { λ o.
+        record { out = ghost_bytes o.put.items; failures = length o.failed.items } };
 }
 
 // A column of some rows: how wide it is, and whether it has words that aren't numbers.

@@ -1,7 +1,7 @@
 //! An outlet that takes everything and keeps nothing.
 ghost use Rattle.std.specs.Prelude.{◌≡◌, []};
 
-use dump_pump::ledger::note_bytes;
+use dump_pump::ghost_list::note_bytes;
 use dump_pump::{Log, Outlet, Put};
 use std::marker::Model;
 
@@ -13,11 +13,11 @@ pub(crate) struct Discard {
 
 impl Model for Discard {
     ghost use Rattle.std.specs.Prelude.{ℕ, List};
-    ghost use Rattle.dump_pump.specs.Outlets.{log_bytes};
+    ghost use Rattle.dump_pump.specs.Outlets.{ghost_bytes};
 
     ghost Value = { List ℕ };
 
-    ghost view = { λ d. log_bytes d.put.items };
+    ghost view = { λ d. ghost_bytes d.put.items };
 }
 
 impl Discard {

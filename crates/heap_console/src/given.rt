@@ -4,8 +4,8 @@ ghost use Rattle.dump_pump.specs.Inlets.{IsTake};
 ghost use Rattle.heap_console.specs.Lines.{IsLineGiven};
 
 use dump_pump::Log;
+use dump_pump::ghost_list::note_bytes;
 use dump_pump::inlet::count_of;
-use dump_pump::ledger::note_bytes;
 use session_text::Take;
 use std::marker::Model;
 
@@ -20,14 +20,14 @@ pub(crate) struct Given {
 
 impl Model for Given {
     ghost use Rattle.std.specs.Prelude.{None, length, map};
-    ghost use Rattle.dump_pump.specs.Outlets.{log_bytes};
+    ghost use Rattle.dump_pump.specs.Outlets.{ghost_bytes};
     ghost use Rattle.dump_pump.specs.Inlets.{Incoming};
 
     ghost Value = { Incoming };
 
     ghost view = { λ g.
         record {
-          taken = log_bytes g.taken.items;
+          taken = ghost_bytes g.taken.items;
           left = None;
           reads = map (λ e. e.0) g.asked.items;
           failures = length g.failed.items;

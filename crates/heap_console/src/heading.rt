@@ -24,6 +24,7 @@ enum Rows {
     Objects,
     Values,
     Slots,
+    Levels,
     Changes,
     Writes,
     Steps,
@@ -62,14 +63,14 @@ fn rows_after(read: &[u8]) -> Rows {
         return Rows::Mixed;
     }
     match str::from_utf8(line) {
-        Ok(line) => rows_of(line.split_ascii_whitespace().next().unwrap_or("")),
+        Ok(line) => rows_of(line),
         Err(_) => Rows::Mixed,
     }
 }
 
-// Returns the rows that answer a question with this keyword.
-fn rows_of(keyword: &str) -> Rows {
-    match keyword {
+// Returns the rows that answer a question.
+fn rows_of(line: &str) -> Rows {
+    match line.split_ascii_whitespace().next().unwrap_or("") {
         "histogram" | "garbage" | "kept" | "retained" => Rows::Counts,
         "growth" => Rows::Growth,
         "diff" => Rows::Differences,
@@ -79,6 +80,7 @@ fn rows_of(keyword: &str) -> Rows {
         "classes" => Rows::Classes,
         "objects" => Rows::Objects,
         "values" => Rows::Values,
+        "show" if has_depth(line) => Rows::Levels,
         "show" => Rows::Slots,
         "watch" => Rows::Changes,
         "writes" => Rows::Writes,
@@ -90,6 +92,12 @@ fn rows_of(keyword: &str) -> Rows {
         "regions" => Rows::Regions,
         _ => Rows::Mixed,
     }
+}
+
+// Tells whether a line of `show` ends in a depth, the only word behind its id.
+fn has_depth(line: &str) -> bool {
+    let mut words = line.split_ascii_whitespace();
+    words.any(|word| word.starts_with("0x")) && words.count() == 1
 }
 
 // Returns the names of the columns of rows.
@@ -106,6 +114,7 @@ fn names_of(rows: Rows) -> &'static str {
         Rows::Objects => "ID CLASS SLOTS",
         Rows::Values => "VALUE OBJECTS",
         Rows::Slots => "SLOT NAME KIND VALUE",
+        Rows::Levels => "LEVEL SLOT NAME KIND VALUE CLASS",
         Rows::Changes => "PLACE OLD NEW",
         Rows::Writes => "PLACE ID OLD NEW",
         Rows::Steps => "PLACE EVENT",

@@ -64,7 +64,7 @@ impl<R: Clock + Eprint> LineReports<'_, R> {
     }
 
     /// Ends what shows how many lines were read, and tells how many refused lines weren't reported.
-    pub fn end_count(&mut self) {
+    pub(crate) fn end_count(&mut self) {
         self.count.end(self.number);
         let (name, unreported) = (self.name, self.unreported);
         if unreported > 0 {

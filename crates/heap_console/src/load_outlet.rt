@@ -10,7 +10,7 @@ use crate::line_reports::LineReports;
 use crate::load::report_ending;
 use crate::newest::NotingOutlet;
 use crate::text_inlet::TextInlet;
-use dump_pump::ledger::note_bytes;
+use dump_pump::ghost_list::note_bytes;
 use dump_pump::{Log, Outlet, Put};
 use session_text::{Commands, Ended, SessionLimits, serve};
 use std::alloc::Global;
@@ -59,7 +59,7 @@ pub struct LoadOutlet<'a, R, C: Commands + Drop, B: LoadStart<C>> {
 
 impl<'a, R, C: Commands + Drop, B: LoadStart<C>> Model for LoadOutlet<'a, R, C, B> {
     ghost use Rattle.std.specs.Prelude.{◌≡◌, length};
-    ghost use Rattle.dump_pump.specs.Outlets.{Outgoing, log_bytes};
+    ghost use Rattle.dump_pump.specs.Outlets.{Outgoing, ghost_bytes};
     ghost use Rattle.session_text.specs.Answers.{AnswersCommand};
     ghost use Rattle.session_text.specs.declared.Ended.TheVariants.{Eof};
     ghost use Rattle.heap_console.specs.Loads.{AreLinesRun};
@@ -67,11 +67,11 @@ impl<'a, R, C: Commands + Drop, B: LoadStart<C>> Model for LoadOutlet<'a, R, C, 
     ghost Value = { Outgoing };
 
     ghost view = { λ o.
-        record { out = log_bytes o.taken.items; failures = length o.failed.items } };
+        record { out = ghost_bytes o.taken.items; failures = length o.failed.items } };
 
     ghost invariant = { λ o. (o.limits ≡ B.limits) × (o.time ≡ B.time)
         × (o.ended ≡ Eof → length o.failed.items ≡ 0)
-        × AreLinesRun B.limits (AnswersCommand C.acts C.unknown B.time) (log_bytes o.taken.items)
+        × AreLinesRun B.limits (AnswersCommand C.acts C.unknown B.time) (ghost_bytes o.taken.items)
         B.start o.commands o.ended };
 }
 

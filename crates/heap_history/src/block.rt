@@ -162,6 +162,7 @@ impl EntryBlock {
         requires tells { TellsEntry pack entry.now }
         ensures { self.new.entries ≡ self.old.entries ++ kept_of entry.now ∷ [] }
     {
+        // Only the contract uses it.
         let _ = entry;
         self.packs.push_reserved(pack);
     }

@@ -3,7 +3,7 @@ ghost use Rattle.std.specs.Prelude.{◌≡◌, ◌↔◌, ◌<◌, ◌≤◌, �
 ghost use Rattle.std.specs.List.{flat_map};
 ghost use Rattle.heap_class.specs.declared.Field.{Field};
 ghost use Rattle.heap_history.specs.Kept.{all_letters, field_room, is_short, letter_room};
-ghost use Rattle.heap_history.specs.Definitions.{fields_in, fields_of, mark_of, name_of};
+ghost use Rattle.heap_history.specs.Definitions.{fields_in, fields_of, shape_of, name_of};
 
 use crate::same::is_same_kind;
 use arrayvec::ArrayVec;
@@ -18,7 +18,7 @@ pub const FIELD_ROOM: usize = 8;
 
 /// The kind of a field, and how many letters its name has.
 #[derive(Clone, Copy)]
-pub struct FieldMark {
+pub struct FieldShape {
     pub kind: Kind,
     pub length: u8,
 }
@@ -30,8 +30,8 @@ pub struct Definition {
     pub length: u8,
     /// How many fields there are.
     pub field_count: u8,
-    /// The marks of the fields, in order; the others may be any.
-    pub marks: [FieldMark; FIELD_ROOM],
+    /// The shapes of the fields, in order; the others may be any.
+    pub shapes: [FieldShape; FIELD_ROOM],
     /// The letters of the class's name and then of each field's; the others may be any.
     pub letters: [u8; LETTER_ROOM],
 }
@@ -81,45 +81,45 @@ fn placed_letters(letters: &[u8]) -> [u8; LETTER_ROOM]
     room
 }
 
-// Returns the marks of the fields at the beginning of a room of a fixed size.
-fn placed_marks(fields: &[Field]) -> [FieldMark; FIELD_ROOM]
+// Returns the shapes of the fields at the beginning of a room of a fixed size.
+fn placed_shapes(fields: &[Field]) -> [FieldShape; FIELD_ROOM]
     requires few { length fields.now ≤ field_room }
     requires short { length (flat_map (λ f. f.name) fields.now) ≤ letter_room }
-    ensures { take (length fields.now) result ≡ map mark_of fields.now }
+    ensures { take (length fields.now) result ≡ map shape_of fields.now }
 {
-    let mark = FieldMark {
+    let shape = FieldShape {
         kind: Kind::Object,
         length: 0,
     };
-    let mut marks = [mark; FIELD_ROOM];
+    let mut shapes = [shape; FIELD_ROOM];
     for i in 0..fields.len() {
-        marks[i] = mark_of(&fields[i]);
+        shapes[i] = shape_of(&fields[i]);
     }
-    marks
+    shapes
 }
 
-// Returns the mark of a field.
-fn mark_of(field: &Field) -> FieldMark
+// Returns the shape of a field.
+fn shape_of(field: &Field) -> FieldShape
     requires { length field.now.name ≤ letter_room }
-    ensures { result ≡ mark_of field.now }
+    ensures { result ≡ shape_of field.now }
 {
-    FieldMark {
+    FieldShape {
         kind: field.kind,
         length: field.name.as_bytes().len() as u8,
     }
 }
 
-// Returns whether these are the fields that the marks and the letters tell.
-fn are_fields(marks: &[FieldMark], letters: &[u8], fields: &[Field]) -> bool
-    ensures { IsTrue result ↔ (fields_in marks.now letters.now ≡ fields.now) }
+// Returns whether these are the fields that the shapes and the letters tell.
+fn are_fields(shapes: &[FieldShape], letters: &[u8], fields: &[Field]) -> bool
+    ensures { IsTrue result ↔ (fields_in shapes.now letters.now ≡ fields.now) }
 {
-    if marks.len() != fields.len() {
+    if shapes.len() != fields.len() {
         return false;
     }
     let mut left = letters;
-    for i in 0..marks.len() {
-        let (name, after) = split(left, marks[i].length);
-        if !is_field(name, marks[i].kind, &fields[i]) {
+    for i in 0..shapes.len() {
+        let (name, after) = split(left, shapes[i].length);
+        if !is_field(name, shapes[i].kind, &fields[i]) {
             return false;
         }
         left = after;
@@ -163,17 +163,17 @@ impl Definition {
         Some(Definition {
             length: name.as_bytes().len() as u8,
             field_count: fields.len() as u8,
-            marks: placed_marks(fields),
+            shapes: placed_shapes(fields),
             letters: placed_letters(letters.as_slice()),
         })
     }
 
-    // Returns the marks of the fields.
-    fn field_marks(&self) -> &[FieldMark]
-        ensures { result.now ≡ take self.now.field_count self.now.marks }
+    // Returns the shapes of the fields.
+    fn field_shapes(&self) -> &[FieldShape]
+        ensures { result.now ≡ take self.now.field_count self.now.shapes }
     {
         let count = min(self.field_count as usize, FIELD_ROOM);
-        &self.marks[..count]
+        &self.shapes[..count]
     }
 
     /// Returns whether this is its name. Takes no memory.
@@ -185,11 +185,11 @@ impl Definition {
     }
 
     /// Returns whether these are its name and its fields. Takes no memory.
-    pub fn is_of(&self, name: &Name, fields: &[Field]) -> bool
+    pub(crate) fn is_of(&self, name: &Name, fields: &[Field]) -> bool
         ensures { IsTrue result ↔
             ((name_of self.now ≡ name.now) × (fields_of self.now ≡ fields.now)) }
     {
         let (own, rest) = split(&self.letters, self.length);
-        is_name(own, name) && are_fields(self.field_marks(), rest, fields)
+        is_name(own, name) && are_fields(self.field_shapes(), rest, fields)
     }
 }

@@ -76,7 +76,7 @@ fn long_definition(event: &Event) -> Option<LongDeed>
 }
 
 /// Returns whether this is the long pack of the seat, the action and the answer. Takes no memory.
-pub fn is_long_pack_of(long: &LongPack, seat: u64, action: &Action, answer: Outcome) -> bool
+pub(crate) fn is_long_pack_of(long: &LongPack, seat: u64, action: &Action, answer: Outcome) -> bool
     ensures { IsTrue result ↔ (long_entry long.now ≡ entry seat action.now answer) }
 {
     long.seat == seat && is_deed_of(&long.deed, action) && tells_answer(long.answer, answer)

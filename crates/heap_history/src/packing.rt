@@ -175,7 +175,7 @@ fn has_second(told: Told) -> bool
 
 /// Returns an entry by its numbers, or None if it has lists, too many numbers, or a seat above 65,535. Takes no memory.
 #[inline(always)]
-pub fn pack_of(entry: &Entry) -> Option<Pack>
+pub(crate) fn pack_of(entry: &Entry) -> Option<Pack>
     ensures { IfSome result (λ p. TellsEntry p entry.now) }
 {
     let seat = entry.seat;

@@ -19,7 +19,7 @@ pub(crate) fn is_same_kind(a: Kind, b: Kind) -> bool
 }
 
 /// Returns whether two events are equal.
-pub fn is_same_event(a: &Event, b: &Event) -> bool
+pub(crate) fn is_same_event(a: &Event, b: &Event) -> bool
     ensures { IsTrue result ↔ (a.now ≡ b.now) }
 {
     match pack_event(a) {
@@ -103,7 +103,7 @@ fn is_array_class(other: &Event, name: &Name) -> bool
 }
 
 /// Returns whether two actions are equal.
-pub fn is_same_action(a: &Action, b: &Action) -> bool
+pub(crate) fn is_same_action(a: &Action, b: &Action) -> bool
     ensures { IsTrue result ↔ (a.now ≡ b.now) }
 {
     match a {
@@ -134,7 +134,7 @@ pub fn is_same_action(a: &Action, b: &Action) -> bool
 }
 
 /// Returns what a refusal says besides its name, or zeros.
-pub fn details(refusal: Refusal) -> (u64, u64)
+pub(crate) fn details(refusal: Refusal) -> (u64, u64)
     ensures { result ≡ details_of refusal }
 {
     match refusal {
@@ -152,7 +152,7 @@ pub fn details(refusal: Refusal) -> (u64, u64)
 }
 
 /// Returns whether two answers are equal.
-pub fn is_same_answer(a: Outcome, b: Outcome) -> bool
+pub(crate) fn is_same_answer(a: Outcome, b: Outcome) -> bool
     ensures { IsTrue result ↔ (a ≡ b) }
 {
     match a {

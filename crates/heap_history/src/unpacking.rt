@@ -102,7 +102,7 @@ fn copy(m: u64, to: u64, from_m: u64, from: u64) -> Action
 }
 
 /// Returns the answer of this sort with these numbers.
-pub fn outcome_in(told: Told, reason: u8, first: u64, second: u64) -> Outcome
+pub(crate) fn outcome_in(told: Told, reason: u8, first: u64, second: u64) -> Outcome
     ensures { result ≡ outcome_in told reason first second }
 {
     match told {

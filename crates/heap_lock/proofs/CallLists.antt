@@ -62,15 +62,15 @@ Leads m cs n = MayDrive m (map (λ c. c.0) cs) (map (λ c. c.1) cs) n
 
 pub first_call_leads_to_middle : (m n : Machine) (c : Call) (cs : List Call) → Leads m (c ∷ cs) n → (k : Machine) × MayReply m c.0 k c.1 × Leads k cs n
 unfolding machine_after replies_of
-first_call_leads_to_middle m n c cs ([], actions, marks, replies, ends) = absurd (cc actions)
-first_call_leads_to_middle m n c cs (x ∷ marked, actions, marks, replies, ends) =
+first_call_leads_to_middle m n c cs ([], actions, may, replies, ends) = absurd (cc actions)
+first_call_leads_to_middle m n c cs (x ∷ paired, actions, may, replies, ends) =
     let first : x.0 ≡ c.0 = cc actions in
-    let rest : map (λ a. a.0) marked ≡ map (λ (y : Call). y.0) cs = cc actions in
+    let rest : map (λ a. a.0) paired ≡ map (λ (y : Call). y.0) cs = cc actions in
     let reply : c.1 ≡ (acted_under m x).1 = cc replies in
-    let later : map (λ (y : Call). y.1) cs ≡ replies_of (acted_under m x).0 marked = cc replies in (
+    let later : map (λ (y : Call). y.1) cs ≡ replies_of (acted_under m x).0 paired = cc replies in (
       (acted_under m x).0,
-      (x.1, subst (λ (a : Action). MayStand m (a, x.1)) first marks.0, ap (λ (a : Action). acted_under m (a, x.1)) (sym first) ∙ (λ i. ((acted_under m x).0, sym reply i))),
-      (marked, rest, marks.1, later, ends),
+      (x.1, subst (λ (a : Action). MayStand m (a, x.1)) first may.0, ap (λ (a : Action). acted_under m (a, x.1)) (sym first) ∙ (λ i. ((acted_under m x).0, sym reply i))),
+      (paired, rest, may.1, later, ends),
     )
 
 calls_lead_from_first_call : (m k n : Machine) (c : Call) (cs : List Call) → MayReply m c.0 k c.1 → Leads k cs n → Leads m (c ∷ cs) n

@@ -72,10 +72,10 @@ CallsLeaveTrail m cs n = (n.trail ≡ trail_by m.keep m.trail cs) × (n.keep ≡
 
 no_call_leaves_machine : (m n : Machine) → Leads m [] n → n ≡ m
 unfolding machine_after
-no_call_leaves_machine m n ([], actions, marks, replies, ends) = ends
-no_call_leaves_machine m n (x ∷ marked, actions, marks, replies, ends) = absurd (clash actions)
+no_call_leaves_machine m n ([], actions, may, replies, ends) = ends
+no_call_leaves_machine m n (x ∷ paired, actions, may, replies, ends) = absurd (clash actions)
   where
-    clash : x.0 ∷ map (λ a. a.0) marked ≡ [] → ⊥
+    clash : x.0 ∷ map (λ a. a.0) paired ≡ [] → ⊥
     clash e = cc
 
 leading_calls_leave_trail : (m n : Machine) (cs : List Call) → Leads m cs n → MayAllEnter cs → CallsLeaveTrail m cs n

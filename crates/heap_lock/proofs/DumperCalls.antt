@@ -10,12 +10,12 @@ use Rattle.heap_trail.specs.Machine.{MayFail, MayReply, Machine, Granted, Denied
 use Rattle.heap_lock.specs.HomeTables.{SeatTable, Ledger, table_of}
 use Rattle.heap_history.specs.declared.entry.Entry.{Entry}
 use Rattle.atomic_table.specs.declared.badge.Badge.{Badge}
-use Rattle.heap_lock.specs.declared.ledger_view.LedgerView.{LedgerView}
-use Rattle.heap_lock.specs.declared.ledger_view.LedgerView.TheVariants.{Full, Seen}
+use Rattle.heap_lock.specs.declared.ledger_side.LedgerSide.{LedgerSide}
+use Rattle.heap_lock.specs.declared.ledger_side.LedgerSide.TheVariants.{Full, Seen}
 use Rattle.heap_lock.specs.Calls.{Call, call_of, IsHeapLedger, IsLedger, IsLegalLedger}
 use Rattle.heap_history.specs.History.{reply_of}
-use Rattle.heap_lock.specs.LedgerViews.{calls_of}
-use Rattle.heap_lock.specs.Ledgers.{all_in, calls_in, HasCalls, HasLedger, IsLedgerView, CallsAs}
+use Rattle.heap_lock.specs.LedgerSides.{calls_of}
+use Rattle.heap_lock.specs.Ledgers.{all_in, calls_in, HasCalls, HasLedger, AreSeenCalls, CallsAs}
 use Rattle.heap_history.specs.Chronicles.{ChronicleState}
 use Rattle.heap_lock.specs.LockStates.{LockState, IsDumperAct, IsUnderLock, lock_state}
 use Rattle.heap_lock.proofs.CallLists.{act_with_entry_in_ledger, dump_call_in_ledger}
@@ -83,9 +83,9 @@ pub ledger_under_lock_is_legal : (config : HeapSettings) (tables : List TableId)
 ledger_under_lock_is_legal config tables table m es seat_tables l k has = (m, es, has.1, k.legal)
 
 -- one who has seen all calls of the ledger has seen a legal ledger
-pub viewed_ledger_is_legal : (config : HeapSettings) (tables : List TableId) (table : TableId) (m : Machine) (es : List Entry) (seat_tables : List SeatTable) (l : Ledger) (b : Badge LedgerView) → IsUnderLock config tables m es seat_tables → HasLedger config table m es l → IsLedgerView (table_of l) (all_in l) b
-    → IsLedgerView table (calls_in b.views) b × IsLegalLedger config (calls_in b.views)
-viewed_ledger_is_legal config tables table m es seat_tables l b k has s =
+pub seen_ledger_is_legal : (config : HeapSettings) (tables : List TableId) (table : TableId) (m : Machine) (es : List Entry) (seat_tables : List SeatTable) (l : Ledger) (b : Badge LedgerSide) → IsUnderLock config tables m es seat_tables → HasLedger config table m es l → AreSeenCalls (table_of l) (all_in l) b
+    → AreSeenCalls table (calls_in b.views) b × IsLegalLedger config (calls_in b.views)
+seen_ledger_is_legal config tables table m es seat_tables l b k has s =
     let here : calls_in b.views ≡ all_in l = ap calls_in s.1 in
     ((s.0 ∙ has.0.1, s.1 ∙ ap (λ (cs : List Call). Seen cs ∷ []) (sym here)), subst (IsLegalLedger config) (sym here) (ledger_under_lock_is_legal config tables table m es seat_tables l k has))
 

@@ -25,7 +25,7 @@ use Rattle.heap_trail.proofs.ByTrail.{acts_alike, dumps_leave, place_rises_at_mo
 -- an act that is entered leaves the trail and is answered by the trail alone
 pub entered_act_follows_trail : (m m' : Machine) (a : Action) (r : Reply) → is_dump_action a ≡ false → MayReply m a m' r → MayEnter r → (m'.trail ≡ trail_after m.keep m.trail a) × (r ≡ reply_at m.keep m.trail a) × (m'.keep ≡ m.keep) × (m'.ids ≡ m.ids)
 unfolding trail_after reply_at
-entered_act_follows_trail m m' a r deed (mark, stands, is) enters = acts_alike Eight m m' a mark r deed is enters.0
+entered_act_follows_trail m m' a r deed (allocation, stands, is) enters = acts_alike Eight m m' a allocation r deed is enters.0
 
 action_raises_place_by_one : (keep : ℕ) (t : Trail) (a : Action) → (trail_after keep t a).place ≤ t.place + 1
 unfolding trail_after
@@ -118,8 +118,8 @@ move_of_kept_machine_is_due config tables m m' es seat_tables seat a o k deed mo
 
 -- the machine after a dumper's action may be kept in the place of the one before
 pub dumped_machine_under_lock : (config : HeapSettings) (tables : List TableId) (m m' : Machine) (es : List Entry) (seat_tables : List SeatTable) (a : Action) (r : Reply) → IsUnderLock config tables m es seat_tables → is_dump_action a ≡ true → MayReply m a m' r → IsUnderLock config tables m' es seat_tables
-dumped_machine_under_lock config tables m m' es seat_tables a r k dump (mark, stands, is) =
-    let left = dumps_leave m m' a mark r dump is in
+dumped_machine_under_lock config tables m m' es seat_tables a r k dump (allocation, stands, is) =
+    let left = dumps_leave m m' a allocation r dump is in
     record { legal = k.legal; keep = left.1 ∙ k.keep; ids = left.2 ∙ k.ids; folds = left.0 ∙ k.folds; seated = k.seated; count = k.count; booked = k.booked }
 
 -- a table that has the same entries again

@@ -4,7 +4,7 @@ pub mod SeatedHeaps
 pub mod DumperCalls
 pub mod PieceReplies
 pub mod StepReplies
-pub mod LedgerViewSteps
+pub mod LedgerSideSteps
 pub mod CallLists
 pub mod NumberedPins
 pub mod CallTrails

@@ -86,16 +86,16 @@ acted_numbered m (OpenPin at) h = open_numbered m (unwrap_or at m.trail.place) (
 acted_numbered m (NextPiece pin time) h = piece_numbered m pin time (pin_at pin m.pins) h
 acted_numbered m (ClosePin pin) h = close_numbered m pin (pin_at pin m.pins) h
 
-marked_numbered : (m : Machine) (a : Action) (k : Allocation) → AreNumbered m.pins → AreNumbered (acted_under m (a, k)).0.pins
+numbered_under_allocation : (m : Machine) (a : Action) (k : Allocation) → AreNumbered m.pins → AreNumbered (acted_under m (a, k)).0.pins
 unfolding acted_under
-marked_numbered m a Granted h = acted_numbered m a h
-marked_numbered m a Denied h = h
-marked_numbered m a (LosesPins pins) h = lost_numbered pins (acted m a).0.pins (acted_numbered m a h)
+numbered_under_allocation m a Granted h = acted_numbered m a h
+numbered_under_allocation m a Denied h = h
+numbered_under_allocation m a (LosesPins pins) h = lost_numbered pins (acted m a).0.pins (acted_numbered m a h)
 
-pub numbered_after : (m : Machine) (marked : List (Action × Allocation)) → AreNumbered m.pins → AreNumbered (machine_after m marked).pins
+pub numbered_after : (m : Machine) (paired : List (Action × Allocation)) → AreNumbered m.pins → AreNumbered (machine_after m paired).pins
 unfolding machine_after
 numbered_after m [] h = h
-numbered_after m ((a, k) ∷ marked) h = numbered_after (acted_under m (a, k)).0 marked (marked_numbered m a k h)
+numbered_after m ((a, k) ∷ paired) h = numbered_after (acted_under m (a, k)).0 paired (numbered_under_allocation m a k h)
 
 pub opening_numbered : (limits : Limits) (ids : IdSize) (regions mutators keep : ℕ) → AreNumbered (opening_machine limits ids regions mutators keep).pins
 unfolding opening_machine

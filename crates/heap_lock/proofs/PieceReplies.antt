@@ -28,15 +28,15 @@ next_piece_answers_piece_reply : (m : Machine) (pin time : ℕ) → IsPieceOrRef
 unfolding acted
 next_piece_answers_piece_reply m pin time = pin_answers_with_piece_reply pin time m (pin_at pin m.pins)
 
-marked_next_piece_answers_reply : (m : Machine) (pin time : ℕ) (mark : Allocation) → IsPieceOrRefusalReply (acted_under m (NextPiece pin time, mark)).1
+next_piece_under_allocation_answers_reply : (m : Machine) (pin time : ℕ) (allocation : Allocation) → IsPieceOrRefusalReply (acted_under m (NextPiece pin time, allocation)).1
 unfolding IsPieceOrRefusalReply acted_under
-marked_next_piece_answers_reply m pin time Granted = next_piece_answers_piece_reply m pin time
-marked_next_piece_answers_reply m pin time Denied = tt
-marked_next_piece_answers_reply m pin time (LosesPins pins) = next_piece_answers_piece_reply m pin time
+next_piece_under_allocation_answers_reply m pin time Granted = next_piece_answers_piece_reply m pin time
+next_piece_under_allocation_answers_reply m pin time Denied = tt
+next_piece_under_allocation_answers_reply m pin time (LosesPins pins) = next_piece_answers_piece_reply m pin time
 
 pub witnessed_refusal_is_piece_refusal : (config : HeapSettings) (pin time : ℕ) (e : Refusal) (before after : List Call) → Witnesses config before (NextPiece pin time) (Refused e) after → IsPieceRefusal e
 unfolding IsPieceOrRefusalReply
 witnessed_refusal_is_piece_refusal config pin time e before after w =
     let leads = subst (λ l. LeadsTo config l w.2.0) w.1 w.2.2.leads in
     let d = last_call_was_replied _ w.2.0 (before ++ w.0) (NextPiece pin time, Refused e) leads in
-    subst (λ r. IsPieceOrRefusalReply r.1) d.2.2 (marked_next_piece_answers_reply d.0 pin time d.2.0)
+    subst (λ r. IsPieceOrRefusalReply r.1) d.2.2 (next_piece_under_allocation_answers_reply d.0 pin time d.2.0)

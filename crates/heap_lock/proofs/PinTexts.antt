@@ -73,31 +73,31 @@ each_call_gives_its_bytes pin (ClosePin n) r = (refl, refl)
 -- ---- all calls
 
 abbrev CallsGivePinBytes : ℕ → Machine → List (Action × Allocation) → List Call → Type 0
-CallsGivePinBytes pin m marked cs = (bytes_given pin m marked ≡ joined (pieces_given pin cs)) × (gave_last pin m marked ≡ list_any (λ (q : Piece). q.last) (pieces_given pin cs))
+CallsGivePinBytes pin m paired cs = (bytes_given pin m paired ≡ joined (pieces_given pin cs)) × (gave_last pin m paired ≡ list_any (λ (q : Piece). q.last) (pieces_given pin cs))
 
-all_calls_give_their_bytes : (pin : ℕ) (m : Machine) (marked : List (Action × Allocation)) (cs : List Call) → map (λ a. a.0) marked ≡ map (λ (c : Call). c.0) cs → map (λ (c : Call). c.1) cs ≡ replies_of m marked → CallsGivePinBytes pin m marked cs
+all_calls_give_their_bytes : (pin : ℕ) (m : Machine) (paired : List (Action × Allocation)) (cs : List Call) → map (λ a. a.0) paired ≡ map (λ (c : Call). c.0) cs → map (λ (c : Call). c.1) cs ≡ replies_of m paired → CallsGivePinBytes pin m paired cs
 unfolding bytes_given gave_last pieces_given replies_of
 all_calls_give_their_bytes pin m [] [] actions replies = (refl, refl)
 all_calls_give_their_bytes pin m [] (c ∷ cs) actions replies = absurd (cc actions)
-all_calls_give_their_bytes pin m (x ∷ marked) [] actions replies = absurd (cc actions)
-all_calls_give_their_bytes pin m (x ∷ marked) (c ∷ cs) actions replies =
+all_calls_give_their_bytes pin m (x ∷ paired) [] actions replies = absurd (cc actions)
+all_calls_give_their_bytes pin m (x ∷ paired) (c ∷ cs) actions replies =
     let first : x.0 ≡ c.0 = cc actions in
-    let rest : map (λ a. a.0) marked ≡ map (λ (y : Call). y.0) cs = cc actions in
+    let rest : map (λ a. a.0) paired ≡ map (λ (y : Call). y.0) cs = cc actions in
     let reply : c.1 ≡ (acted_under m x).1 = cc replies in
-    let later : map (λ (y : Call). y.1) cs ≡ replies_of (acted_under m x).0 marked = cc replies in
-    let more = all_calls_give_their_bytes pin (acted_under m x).0 marked cs rest later in
+    let later : map (λ (y : Call). y.1) cs ≡ replies_of (acted_under m x).0 paired = cc replies in
+    let more = all_calls_give_their_bytes pin (acted_under m x).0 paired cs rest later in
     let one = subst (λ (y : Action × Reply). (piece_given pin y.0 y.1 ≡ joined (piece_replied pin c)) × (last_given pin y.0 y.1 ≡ list_any (λ (q : Piece). q.last) (piece_replied pin c))) (λ i. (sym first i, reply i)) (each_call_gives_its_bytes pin c.0 c.1) in (
       (λ i. one.0 i ++ more.0 i) ∙ sym (joined_bytes_of_two_lists (piece_replied pin c) (pieces_given pin cs)),
       (λ i. one.1 i || more.1 i) ∙ sym (list_any-append (λ (q : Piece). q.last) (piece_replied pin c) (pieces_given pin cs)),
     )
 
-marked_actions_ask_at_time : (pin time : ℕ) (marked : List (Action × Allocation)) (cs : List Call) → map (λ a. a.0) marked ≡ map (λ (c : Call). c.0) cs → CallsAskAt pin time cs → AskAt pin time marked
-marked_actions_ask_at_time pin time [] cs actions asks = tt
-marked_actions_ask_at_time pin time (x ∷ marked) [] actions asks = absurd (cc actions)
-marked_actions_ask_at_time pin time (x ∷ marked) (c ∷ cs) actions asks =
+paired_actions_ask_at_time : (pin time : ℕ) (paired : List (Action × Allocation)) (cs : List Call) → map (λ a. a.0) paired ≡ map (λ (c : Call). c.0) cs → CallsAskAt pin time cs → AskAt pin time paired
+paired_actions_ask_at_time pin time [] cs actions asks = tt
+paired_actions_ask_at_time pin time (x ∷ paired) [] actions asks = absurd (cc actions)
+paired_actions_ask_at_time pin time (x ∷ paired) (c ∷ cs) actions asks =
     let first : x.0 ≡ c.0 = cc actions in
-    let rest : map (λ a. a.0) marked ≡ map (λ (y : Call). y.0) cs = cc actions in
-    (subst (AsksAt pin time) (sym first) asks.0, marked_actions_ask_at_time pin time marked cs rest asks.1)
+    let rest : map (λ a. a.0) paired ≡ map (λ (y : Call). y.0) cs = cc actions in
+    (subst (AsksAt pin time) (sym first) asks.0, paired_actions_ask_at_time pin time paired cs rest asks.1)
 
 -- ---- the opening
 
@@ -131,7 +131,7 @@ given_pieces_tell_dump config before after at pin place time legal asks =
     let numbered = led_pins_stay_numbered start s.0 before (opening_numbered config.limits config.ids config.regions config.mutators config.keep) s.1 in
     let opens = opens_pin s.0 numbered at h.0 pin place (pinned_reply_of_plain_opening s.0 h.0 at pin place h.1) in
     let ids = (dumps_leave s.0 h.0 (OpenPin at) h.1.0 (Pinned pin place) refl h.1.2).2 ∙ by.1 in
-    let told = gives_text h.0 h.2.0 pin time place (image_of (state_ago (s.0.trail.place - place) s.0.trail)) opens.2 opens.1 (marked_actions_ask_at_time pin time h.2.0 after h.2.1 asks) in
+    let told = gives_text h.0 h.2.0 pin time place (image_of (state_ago (s.0.trail.place - place) s.0.trail)) opens.2 opens.1 (paired_actions_ask_at_time pin time h.2.0 after h.2.1 asks) in
     let all = all_calls_give_their_bytes pin h.0 h.2.0 after h.2.1 h.2.3 in
     let text : GivenPiecesBeginDump config h.0.ids s.0.trail pin place time after = (told.0, ap (λ l. l ++ told.0) (sym all.0) ∙ told.1, λ last. told.2 (all.1 ∙ last)) in
     subst (λ (x : IdSize × Trail). GivenPiecesBeginDump config x.0 x.1 pin place time after) (λ i. (ids i, by.0 i)) text

@@ -12,9 +12,9 @@ use Rattle.heap_lock.specs.declared.unnamed_seat.UnnamedSeat.{UnnamedSeat}
 use Rattle.heap_lock.specs.declared.table_side.TableSide.TheVariants.{WithSeat}
 use Rattle.heap_lock.specs.SeatEntries.{entries_in}
 use Rattle.heap_history.specs.History.{history_trail, entries_by}
-use Rattle.heap_lock.specs.declared.ledger_view.LedgerView.TheVariants.{Full}
+use Rattle.heap_lock.specs.declared.ledger_side.LedgerSide.TheVariants.{Full}
 use Rattle.heap_lock.specs.Calls.{IsLedger}
-use Rattle.heap_lock.specs.LedgerViews.{calls_of}
+use Rattle.heap_lock.specs.LedgerSides.{calls_of}
 use Rattle.heap_lock.specs.Ledgers.{all_in, HasCalls, HasLedger}
 use Rattle.heap_lock.proofs.CallLists.{opening_ledger_has_no_calls}
 use Rattle.heap_lock.proofs.DumperCalls.{ledger_holds_these_calls}

@@ -3,7 +3,7 @@ pub mod SeatEntries
 pub mod HomeTables
 pub mod Calls
 pub mod Dumpers
-pub mod LedgerViews
+pub mod LedgerSides
 pub mod Ledgers
 pub mod SeatTables
 pub mod Roles

@@ -77,9 +77,9 @@ IsSeatModel tables n b =
 
 -- this table of a seat, whose copy under the lock has these entries
 abbrev pub IsSeatTable : TableId → List (ℕ × Entry) → SeatTable → Type 0
-IsSeatTable table marks d =
+IsSeatTable table entries d =
     (d.table.shared.table_id.words ≡ 1) × (d.table.shared.table_id ≡ table)
-    × (d.own.table_id ≡ table) × (d.own.me ≡ (UnderLock marks, []))
+    × (d.own.table_id ≡ table) × (d.own.me ≡ (UnderLock entries, []))
 
 -- what holds under the lock: the chronicle is a legal history of the heap's seats, the machine's trail is what it leaves,
 -- and each seat's copy under the lock has its entries

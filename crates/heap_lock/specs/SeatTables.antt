@@ -18,13 +18,13 @@ HasCopy d =
 
 -- the same tables, and these entries under the lock
 abbrev pub CopiesAs : SeatTable → SeatTable → List TurnedEntry → Type 0
-CopiesAs d d' marks =
-    (table_of d' ≡ table_of d) × IsSeatOf d.own.table_id (UnderLock marks) d'.own
+CopiesAs d d' entries =
+    (table_of d' ≡ table_of d) × IsSeatOf d.own.table_id (UnderLock entries) d'.own
 
 -- a share of this table with this list
 abbrev pub IsShare : TableId → List TurnedEntry → Badge TableSide → Type 0
-IsShare table marks b = IsBadgeOf table (WithSeat marks) b
+IsShare table entries b = IsBadgeOf table (WithSeat entries) b
 
 -- the entries under the lock with one more
 abbrev pub entries_with : SeatTable → TurnedEntry → List TurnedEntry
-entries_with d mark = entries_of d.own.me.0 ++ mark ∷ []
+entries_with d noted = entries_of d.own.me.0 ++ noted ∷ []

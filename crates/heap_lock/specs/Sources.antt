@@ -9,15 +9,16 @@ use Rattle.heap_trail.specs.declared.Action.TheVariants.{NextPiece}
 use Rattle.heap_trail.specs.declared.Reply.TheVariants as Said
 use Rattle.heap_trail.specs.Laws.{IsPieceOfLegal}
 use Rattle.hprof_text.specs.declared.Piece.{Piece}
-use Rattle.dump_pump.specs.declared.source.Ending.{Ending}
+use Rattle.dump_pump.specs.declared.source.SourceEnd.{SourceEnd}
 use Rattle.dump_pump.specs.declared.source.Next.{Next}
 use Rattle.dump_pump.specs.declared.source.Next.TheVariants.{Part, Lost, Cancelled}
-use Rattle.dump_pump.specs.Sources.{Supply, part_limit}
+use Rattle.dump_pump.specs.Sources.{Supply}
+use Rattle.hprof_text.specs.Laws.{piece_limit}
 use Rattle.heap_lock.specs.Dumpers.{DumperState, Makes}
 
 -- after `count` pieces, of which none is told
-abbrev pub locked_supply : ℕ → Option Ending → Supply
-locked_supply count ending = record { told = None; ended = ending; left = part_limit - count }
+abbrev pub locked_supply : ℕ → Option SourceEnd → Supply
+locked_supply count ended = record { told = None; ended = ended; left = piece_limit - count }
 
 -- the refusals that a piece may get
 abbrev pub IsPieceRefusal : Refusal → Type 0
@@ -36,7 +37,7 @@ IsLoss e cause = ⊥
 -- a piece got after `count` others is given, or is one too many
 abbrev pub GivesPart : ℕ → Piece → Next → Type 0
 GivesPart count p (Part q) = q ≡ p
-GivesPart count p (Lost cause) = (p.last ≡ false) × (count + 1 ≡ part_limit) × (cause ≡ Closed)
+GivesPart count p (Lost cause) = (p.last ≡ false) × (count + 1 ≡ piece_limit) × (cause ≡ Closed)
 GivesPart count p Cancelled = ⊥
 
 -- the heap replied to a dumper's request for the pin's next piece: a piece of the dump of a legal state, or a refusal with this

@@ -3,7 +3,7 @@ ghost use Rattle.std.specs.Prelude.{◌≡◌, ◌≤◌, [], length, IfOk};
 ghost use Rattle.heap_trail.specs.declared.Action.TheVariants.{OpenPin, NextPiece, ClosePin};
 ghost use Rattle.heap_trail.specs.declared.Reply.TheVariants.{Pinned as PinnedReply, Part, Closed};
 ghost use Rattle.heap_trail.specs.Laws.{IsPieceOfLegal};
-ghost use Rattle.dump_pump.specs.Sources.{part_size_limit};
+ghost use Rattle.hprof_text.specs.Laws.{piece_size_limit};
 ghost use Rattle.heap_lock.specs.Calls.{IsLegalLedger};
 ghost use Rattle.heap_lock.specs.Dumpers.{IsOwnCall};
 
@@ -90,7 +90,7 @@ impl<'a, L: Heap, R: Wait> Dumper<'a, L, R> {
     pub fn next_piece(&mut self, pin: u64, time: u64) -> Result<Piece, Refusal>
         ensures call { IsOwnCall L.config self.old (NextPiece pin time) Part result self.new }
         ensures legal { IfOk result (λ p. IsPieceOfLegal L.config.ids time p) }
-        ensures small { IfOk result (λ p. length p.bytes ≤ part_size_limit) }
+        ensures small { IfOk result (λ p. length p.bytes ≤ piece_size_limit) }
     {
         let action = Action::NextPiece { pin, time };
         match self

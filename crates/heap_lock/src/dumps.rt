@@ -3,7 +3,7 @@ ghost use Rattle.std.specs.Prelude.{◌≡◌, ◌≤◌, length, IfOk, IfErr, O
 ghost use Rattle.heap_trail.specs.declared.Action.TheVariants.{OpenPin, NextPiece, ClosePin};
 ghost use Rattle.heap_trail.specs.declared.Reply.TheVariants.{Pinned as PinnedReply, Part, Closed, Refused};
 ghost use Rattle.heap_trail.specs.Laws.{IsPieceOfLegal};
-ghost use Rattle.dump_pump.specs.Sources.{part_size_limit};
+ghost use Rattle.hprof_text.specs.Laws.{piece_size_limit};
 ghost use Rattle.heap_lock.specs.Calls.{IsWitnessed};
 ghost use Rattle.heap_lock.specs.LockStates.{IsDumperAct};
 
@@ -17,7 +17,7 @@ use std::sync::Wait;
 
 impl<L: Heap> Kept<L> {
     /// Opens a pin on the retained state at the place `at`, or on the current state. Fails as `Machine::open_pin` does.
-    pub fn open_held(&mut self, at: Option<u64>) -> Result<PinAt, Refusal>
+    pub(crate) fn open_held(&mut self, at: Option<u64>) -> Result<PinAt, Refusal>
         ensures done { IfOk result
             (λ p. IsDumperAct (OpenPin at) self.old (PinnedReply p.pin p.at) self.new) }
         ensures refused { IfErr result
@@ -31,11 +31,11 @@ impl<L: Heap> Kept<L> {
     }
 
     /// Gives the next piece of a pin's dump: a piece of the dump of a legal state. Fails as `Machine::piece` does.
-    pub fn piece_held(&mut self, pin: u64, time: u64) -> Result<Piece, Refusal>
+    pub(crate) fn piece_held(&mut self, pin: u64, time: u64) -> Result<Piece, Refusal>
         ensures done { IfOk result
             (λ p. IsDumperAct (NextPiece pin time) self.old (Part p) self.new) }
         ensures legal { IfOk result (λ p. IsPieceOfLegal L.config.ids time p) }
-        ensures small { IfOk result (λ p. length p.bytes ≤ part_size_limit) }
+        ensures small { IfOk result (λ p. length p.bytes ≤ piece_size_limit) }
         ensures refused { IfErr result
             (λ e. IsDumperAct (NextPiece pin time) self.old (Refused e) self.new) }
         ensures unchanged { OnErr result (self.new.machine ≡ self.old.machine) }
@@ -47,7 +47,7 @@ impl<L: Heap> Kept<L> {
     }
 
     /// Closes a pin. Fails as `Machine::close_pin` does. Takes no memory.
-    pub fn close_held(&mut self, pin: u64) -> Result<(), Refusal>
+    pub(crate) fn close_held(&mut self, pin: u64) -> Result<(), Refusal>
         ensures done { IfOk result (λ u. IsDumperAct (ClosePin pin) self.old Closed self.new) }
         ensures refused { IfErr result
             (λ e. IsDumperAct (ClosePin pin) self.old (Refused e) self.new) }
@@ -91,7 +91,7 @@ impl<L: Heap> Shared<L> {
         ensures witnessed { IsWitnessed L.config witness.old (NextPiece pin time) Part result
             witness.new }
         ensures legal { IfOk result (λ p. IsPieceOfLegal L.config.ids time p) }
-        ensures small { IfOk result (λ p. length p.bytes ≤ part_size_limit) }
+        ensures small { IfOk result (λ p. length p.bytes ≤ piece_size_limit) }
     {
         let mut kept = self.lock(rt);
         kept.show(witness);

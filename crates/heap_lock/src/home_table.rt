@@ -1,4 +1,5 @@
-//! Tables of one word, each with the seat that stays with it. A view is cut in two, and two are made one.
+//! Tables of one word, each with the seat that stays with it. A seat's side, which is what it knows (its view, in the words of
+//! atomic_table), is cut in two, and two sides are made one.
 ghost use Rattle.std.specs.Prelude.{◌≡◌, [], ◌∷◌, IfOk};
 ghost use Rattle.heap_lock.specs.HomeTables.{IsSeatOf, table_of};
 
@@ -6,45 +7,45 @@ use atomic_table::{Join, Seat, Split, Table, TableRule};
 use std::alloc::{AllocError, Global};
 use std::marker::PhantomData;
 
-/// The views of a table.
-pub trait TableView {
+/// The sides of a table.
+pub trait Side {
     ghost use Rattle.std.specs.Prelude.{List};
 
-    // What holds of all views.
+    // What holds of all sides.
     ghost holds: { List Self → Type 0 };
 
-    // The view of the first seat.
+    // The side of the first seat.
     ghost first: { Self };
 
-    // A view that is cut in two: what its seat keeps, and what the new one has.
+    // A side that is cut in two: what its seat keeps, and what the new one has.
     ghost left: { Self → Self };
 
     ghost right: { Self → Self };
 
-    // Two views made one, and what the second seat is left with.
+    // Two sides made one, and what the second seat is left with.
     ghost both: { Self → Self → Self };
 
     ghost spent: { Self };
 }
 
-/// The rule of a table, with the cut of its views and their join.
-pub struct ViewRule<V: TableView> {
+/// The rule of a table, with the cut of its sides and their join.
+pub struct SideRule<V: Side> {
     of: PhantomData<V>,
 }
 
-impl<V: TableView> TableRule<(), V, ()> for ViewRule<V> {
+impl<V: Side> TableRule<(), V, ()> for SideRule<V> {
     ghost holds = { λ _ s. V.holds s.views };
 
     ghost first = { λ _. V.first };
 }
 
-impl<V: TableView> Split<V> for ViewRule<V> {
+impl<V: Side> Split<V> for SideRule<V> {
     ghost left = { V.left };
 
     ghost right = { V.right };
 }
 
-impl<V: TableView> Join<V> for ViewRule<V> {
+impl<V: Side> Join<V> for SideRule<V> {
     ghost both = { V.both };
 
     ghost spent = { V.spent };
@@ -57,12 +58,12 @@ pub struct AddsEntry<E> {
 
 /// A table of one word, with its first seat.
 #[derive(Drop)]
-pub struct HomeTable<V: TableView> {
-    pub table: Table<(), V, (), ViewRule<V>, Global>,
+pub struct HomeTable<V: Side> {
+    pub table: Table<(), V, (), SideRule<V>, Global>,
     pub own: Seat<(), V>,
 }
 
-impl<V: TableView> HomeTable<V> {
+impl<V: Side> HomeTable<V> {
     // Creates a table at which nothing was done.
     pub(crate) fn new(alloc: Global) -> Result<HomeTable<V>, AllocError>
         requires { V.holds (V.first ∷ []) }

@@ -2,10 +2,10 @@
 ghost use Rattle.std.specs.Prelude.{◌∷◌, ◌++◌, []};
 ghost use mathlib.Core.List.{IsPrefix};
 ghost use Rattle.heap_lock.specs.HomeTables.{table_of};
-ghost use Rattle.heap_lock.specs.Ledgers.{calls_in, all_in, HasCalls, IsLedgerView, CallsAs};
+ghost use Rattle.heap_lock.specs.Ledgers.{calls_in, all_in, HasCalls, AreSeenCalls, CallsAs};
 
-use crate::home_table::{AddsEntry, HomeTable, ViewRule};
-use crate::ledger_view::LedgerView;
+use crate::home_table::{AddsEntry, HomeTable, SideRule};
+use crate::ledger_side::LedgerSide;
 use atomic_table::{Badge, Play};
 use std::marker::Brand;
 
@@ -23,8 +23,8 @@ impl Called for Brand {
 }
 
 // The step that adds a call.
-impl<E: Called> Play<(), LedgerView> for AddsEntry<E> {
-    ghost use Rattle.heap_lock.specs.LedgerViews.{Added};
+impl<E: Called> Play<(), LedgerSide> for AddsEntry<E> {
+    ghost use Rattle.heap_lock.specs.LedgerSides.{Added};
 
     ghost then = { λ step m found n. Added E.call m n };
 }
@@ -32,56 +32,57 @@ impl<E: Called> Play<(), LedgerView> for AddsEntry<E> {
 /// The step that tells that what was seen is a beginning of all calls.
 pub struct Compares;
 
-impl Play<(), LedgerView> for Compares {
-    ghost use Rattle.heap_lock.specs.LedgerViews.{Compared};
+impl Play<(), LedgerSide> for Compares {
+    ghost use Rattle.heap_lock.specs.LedgerSides.{Compared};
 
     ghost then = { λ step m found n. Compared m n };
 }
 
-/// The table of a ledger, with its own view, which has all calls. A new one has none.
-pub type Ledger = HomeTable<LedgerView>;
+/// The table of a ledger, with its own side, which has all calls. A new one has none.
+pub type Ledger = HomeTable<LedgerSide>;
 
-impl HomeTable<LedgerView> {
+impl HomeTable<LedgerSide> {
     /// Adds a call with its reply: the one that `E` names, of what is asked and told. Takes no memory.
     pub fn note<E: Called, S, T>(&mut self, asked: &S, told: &T)
         requires { HasCalls (table_of self.old) (all_in self.old) self.old }
         ensures { CallsAs self.old self.new (all_in self.old ++ E.call ∷ []) }
     {
+        // Only the contract uses these two.
         let _ = asked;
         let _ = told;
         let HomeTable { table, own } = self;
         table.shared.load::<AddsEntry<E>>(own, 0);
     }
 
-    /// Splits off a view of all calls so far.
-    pub fn view(&mut self) -> Badge<LedgerView>
+    /// Splits off a side that has seen all calls so far.
+    pub fn seen(&mut self) -> Badge<LedgerSide>
         requires { HasCalls (table_of self.old) (all_in self.old) self.old }
         ensures ledger { CallsAs self.old self.new (all_in self.old) }
-        ensures view { IsLedgerView (table_of self.old) (all_in self.old) result }
+        ensures side { AreSeenCalls (table_of self.old) (all_in self.old) result }
     {
         let HomeTable { table, own } = self;
         table
             .shared
-            .split_seat::<ViewRule<LedgerView>>(own)
+            .split_seat::<SideRule<LedgerSide>>(own)
             .into_badge()
     }
 
-    /// Takes in a view, which is a beginning of all calls, and gives one of all calls so far. Takes no memory.
-    pub fn show(&mut self, view: Badge<LedgerView>) -> Badge<LedgerView>
+    /// Takes in a side that has seen the first calls, and gives one that has seen all calls so far. Takes no memory.
+    pub fn show(&mut self, side: Badge<LedgerSide>) -> Badge<LedgerSide>
         requires ledger { HasCalls (table_of self.old) (all_in self.old) self.old }
-        requires view { IsLedgerView (table_of self.old) (calls_in view.views) view }
+        requires side { AreSeenCalls (table_of self.old) (calls_in side.views) side }
         ensures ledger { CallsAs self.old self.new (all_in self.old) }
-        ensures view { IsLedgerView (table_of self.old) (all_in self.old) result }
-        ensures begins { IsPrefix (calls_in view.views) (all_in self.old) }
+        ensures side { AreSeenCalls (table_of self.old) (all_in self.old) result }
+        ensures begins { IsPrefix (calls_in side.views) (all_in self.old) }
     {
         let HomeTable { table, own } = self;
         table
             .shared
-            .join_seat::<ViewRule<LedgerView>>(own, view.into_seat());
+            .join_seat::<SideRule<LedgerSide>>(own, side.into_seat());
         table.shared.load::<Compares>(own, 0);
         table
             .shared
-            .split_seat::<ViewRule<LedgerView>>(own)
+            .split_seat::<SideRule<LedgerSide>>(own)
             .into_badge()
     }
 }

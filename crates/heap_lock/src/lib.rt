@@ -10,7 +10,7 @@ pub mod heap;
 pub mod home_table;
 pub mod laws;
 pub mod ledger;
-pub mod ledger_view;
+pub mod ledger_side;
 pub mod role;
 pub mod seat_table;
 pub mod source;

@@ -4,7 +4,7 @@ ghost use Rattle.heap_lock.specs.SeatEntries.{entries_of, entries_in};
 ghost use Rattle.heap_lock.specs.HomeTables.{table_of};
 ghost use Rattle.heap_lock.specs.SeatTables.{IsUnsplit, HasCopy, CopiesAs, IsShare, entries_with};
 
-use crate::home_table::{AddsEntry, HomeTable, ViewRule};
+use crate::home_table::{AddsEntry, HomeTable, SideRule};
 use crate::table_side::TableSide;
 use atomic_table::{Badge, Play};
 use heap_history::Entry;
@@ -16,20 +16,20 @@ pub trait NotedEntry {
     ghost use Rattle.std.specs.Prelude.{ℕ};
     ghost use Rattle.heap_history.specs.declared.entry.Entry.{Entry};
 
-    ghost mark: { ℕ × Entry };
+    ghost noted: { ℕ × Entry };
 }
 
 impl NotedEntry for Brand {
-    ghost use Rattle.heap_lock.specs.SeatEntries.{no_mark};
+    ghost use Rattle.heap_lock.specs.SeatEntries.{no_entry};
 
-    ghost mark = { no_mark };
+    ghost noted = { no_entry };
 }
 
 // The step that adds an entry to both lists, which were equal.
 impl<E: NotedEntry> Play<(), TableSide> for AddsEntry<E> {
     ghost use Rattle.heap_lock.specs.SeatEntries.{Noted};
 
-    ghost then = { λ step m found n. Noted E.mark m n };
+    ghost then = { λ step m found n. Noted E.noted m n };
 }
 
 /// The step that tells that both lists are equal.
@@ -54,7 +54,7 @@ impl HomeTable<TableSide> {
         let HomeTable { table, own } = self;
         table
             .shared
-            .split_seat::<ViewRule<TableSide>>(own)
+            .split_seat::<SideRule<TableSide>>(own)
             .into_badge()
     }
 
@@ -65,28 +65,29 @@ impl HomeTable<TableSide> {
         turn: u64,
         entry: &Snapshot<Entry>,
     ) -> Badge<TableSide>
-        requires mark { E.mark ≡ (turn, entry.now.value) }
+        requires noted { E.noted ≡ (turn, entry.now.value) }
         requires seat_table { HasCopy self.old }
         requires share { IsShare (table_of self.old) (entries_in share.views) share }
-        ensures seat_table { CopiesAs self.old self.new (entries_with self.old E.mark) }
-        ensures share { IsShare share.table_id (entries_with self.old E.mark) result }
+        ensures seat_table { CopiesAs self.old self.new (entries_with self.old E.noted) }
+        ensures share { IsShare share.table_id (entries_with self.old E.noted) result }
         ensures same { entries_in share.views ≡ entries_of self.old.own.me.0 }
     {
+        // Only the contract uses these two.
         let _ = turn;
         let _ = entry;
         let HomeTable { table, own } = self;
         table
             .shared
-            .join_seat::<ViewRule<TableSide>>(own, share.into_seat());
+            .join_seat::<SideRule<TableSide>>(own, share.into_seat());
         table.shared.load::<AddsEntry<E>>(own, 0);
         table
             .shared
-            .split_seat::<ViewRule<TableSide>>(own)
+            .split_seat::<SideRule<TableSide>>(own)
             .into_badge()
     }
 
     /// Adds the entry of this turn to both copies, which are equal. Takes no memory.
-    pub fn add_entry(
+    pub(crate) fn add_entry(
         &mut self,
         share: Badge<TableSide>,
         turn: u64,
@@ -114,11 +115,11 @@ impl HomeTable<TableSide> {
         let HomeTable { table, own } = self;
         table
             .shared
-            .join_seat::<ViewRule<TableSide>>(own, share.into_seat());
+            .join_seat::<SideRule<TableSide>>(own, share.into_seat());
         table.shared.load::<Agrees>(own, 0);
         table
             .shared
-            .split_seat::<ViewRule<TableSide>>(own)
+            .split_seat::<SideRule<TableSide>>(own)
             .into_badge()
     }
 }

@@ -1,9 +1,9 @@
-//! The copies of a seat's entries that the views of its table have.
-use crate::home_table::TableView;
+//! The copies of a seat's entries that the sides of its table have.
+use crate::home_table::Side;
 use heap_history::Entry;
 use std::collections::LinkedList;
 
-/// The lists that a table's views have. No value of this type is made.
+/// The lists that the sides of a table have. No value of this type is made.
 pub enum TableSide {
     /// Both copies.
     Whole(LinkedList<(u64, Entry)>, LinkedList<(u64, Entry)>),
@@ -15,8 +15,8 @@ pub enum TableSide {
     Spent,
 }
 
-// Spent views excepted, there is one view of both copies, or one of each, and the copies are equal.
-impl TableView for TableSide {
+// Spent sides excepted, there is one side with both copies, or one with each, and the copies are equal.
+impl Side for TableSide {
     ghost use Rattle.std.specs.Prelude.{[]};
     ghost use Rattle.heap_lock.specs.declared.table_side.TableSide.TheVariants.{Spent, Whole};
     ghost use Rattle.heap_lock.specs.SeatEntries.{AreSeatEntries, lock_side, seat_side, whole_of};

@@ -2,11 +2,11 @@
 ghost use Rattle.std.specs.Prelude.{◌≡◌};
 ghost use mathlib.Core.List.{IsPrefix};
 ghost use Rattle.heap_lock.specs.Calls.{IsHeapLedger, IsLegalLedger};
-ghost use Rattle.heap_lock.specs.Ledgers.{calls_in, IsLedgerView};
+ghost use Rattle.heap_lock.specs.Ledgers.{calls_in, AreSeenCalls};
 ghost use Rattle.heap_lock.specs.LockStates.{AreMet, AreAllCalls};
 
 use crate::heap::{Heap, Kept, Seat, Shared};
-use crate::ledger_view::LedgerView;
+use crate::ledger_side::LedgerSide;
 use atomic_table::Badge;
 use std::marker::{Model, PhantomData};
 use std::mem::replace;
@@ -16,21 +16,21 @@ use std::sync::Wait;
 /// may be all calls of a heap. It takes no memory.
 #[derive(Drop)]
 pub struct Witness<L: Heap> {
-    view: Badge<LedgerView>,
+    seen: Badge<LedgerSide>,
     heap: PhantomData<L>,
 }
 
 impl<L: Heap> Model for Witness<L> {
     ghost use Rattle.std.specs.Prelude.{List};
     ghost use Rattle.heap_lock.specs.Calls.{Call, IsLegalLedger};
-    ghost use Rattle.heap_lock.specs.Ledgers.{calls_in, IsLedgerView};
+    ghost use Rattle.heap_lock.specs.Ledgers.{calls_in, AreSeenCalls};
 
     ghost Value = { List Call };
 
-    ghost view = { λ w. calls_in w.view.views };
+    ghost view = { λ w. calls_in w.seen.views };
 
-    ghost invariant = { λ w. IsLedgerView L.ledger (calls_in w.view.views) w.view
-        × IsLegalLedger L.config (calls_in w.view.views) };
+    ghost invariant = { λ w. AreSeenCalls L.ledger (calls_in w.seen.views) w.seen
+        × IsLegalLedger L.config (calls_in w.seen.views) };
 }
 
 impl<L: Heap> Witness<L> {
@@ -38,7 +38,7 @@ impl<L: Heap> Witness<L> {
     pub fn legal(&self)
         ensures { IsLegalLedger L.config self.now }
     {
-        let _ = &self.view;
+        let _ = &self.seen;
     }
 }
 
@@ -50,7 +50,7 @@ impl<L: Heap> Kept<L> {
         ensures same { self.new ≡ self.old }
     {
         Witness {
-            view: self.ledger.view(),
+            seen: self.ledger.seen(),
             heap: PhantomData,
         }
     }
@@ -63,8 +63,8 @@ impl<L: Heap> Kept<L> {
         ensures heap { IsHeapLedger L.config self.old.machine self.old.chronicle self.old.ledger }
         ensures same { self.new ≡ self.old }
     {
-        let view = replace(&mut witness.view, Badge::blank());
-        witness.view = self.ledger.show(view);
+        let seen = replace(&mut witness.seen, Badge::blank());
+        witness.seen = self.ledger.show(seen);
     }
 
     /// Shows a witness all calls so far, and compares them with a seat: the acts among them are a history that has of the seat

@@ -1,4 +1,4 @@
--- What the marker's calls rest on: their refusals, and how each is taken back.
+-- What the marker's calls rest on: their refusals, and how each is undone.
 use Rattle.std.proofs.Common.{◌≡◌, ◌⊎◌, ℕ, ◌+◌, ◌-◌, ◌*◌, ◌<◌, ◌≤◌, Bool, true, false, not, cond, List, [], ◌∷◌, length, refl, sym, ap, subst, ◌∙◌, Some, None, IsSome, Contains, fold, arith}
 use mathlib.Core.Logic.{inl, inr}
 use Rattle.std.specs.Prelude.{nat_eq, nat_lt, slice_index, ◌==◌}

@@ -1,4 +1,4 @@
--- When a finish is refused, and how it is taken back.
+-- When a finish is refused, and how it is undone.
 use Rattle.std.proofs.Common.{◌≡◌, ℕ, zero, suc, ◌+◌, ◌-◌, ◌<◌, ◌≤◌, Bool, true, false, not, cond, List, [], ◌∷◌, length, map, Option, Some, None, refl, sym, ap, ap₂, ◌∙◌, arith}
 use Rattle.std.specs.Prelude.{nat_lt, slice_get, slice_index, option_map, if◌then◌else◌}
 use Rattle.std.specs.Option.{option_map_or}
@@ -88,20 +88,20 @@ map_back f g [] h = refl
 map_back f g (x ∷ xs) h = λ i. h 0 x refl i ∷ map_back f g xs (λ k y e. h (suc k) y e) i
 
 -- the cells of a region whose objects are all live
-finished_cells_taken_back : (cells : List (Option Object)) → ((c : ℕ) (o : Object) → slice_get cells c ≡ Some (Some o) → o.live ≡ true) → map (option_map unfinished_object) (map (option_map finished_object) cells) ≡ cells
-finished_cells_taken_back cells h = map_back _ _ cells back
+finished_cells_undone : (cells : List (Option Object)) → ((c : ℕ) (o : Object) → slice_get cells c ≡ Some (Some o) → o.live ≡ true) → map (option_map unfinished_object) (map (option_map finished_object) cells) ≡ cells
+finished_cells_undone cells h = map_back _ _ cells back
   where
     back : (c : ℕ) (x : Option Object) → slice_get cells c ≡ Some x → option_map unfinished_object (option_map finished_object x) ≡ x
     back c None e = refl
     back c (Some o) e = ap (λ (b : Bool). Some (record o { live = b })) (sym (h c o e))
 
-pub finished_regions_taken_back : (regions : List Region) → ((r : ℕ) → pending_in (slice_get regions r) ≡ false) → EachObject regions (λ at o. o.live ≡ true) → each_region unfinished_region (each_region finished_region regions) ≡ regions
+pub finished_regions_undone : (regions : List Region) → ((r : ℕ) → pending_in (slice_get regions r) ≡ false) → EachObject regions (λ at o. o.live ≡ true) → each_region unfinished_region (each_region finished_region regions) ≡ regions
 unfolding each_region unfinished_region finished_region each_object in_used
-finished_regions_taken_back regions swept live = map_back _ _ regions back
+finished_regions_undone regions swept live = map_back _ _ regions back
   where
     back : (r : ℕ) (x : Region) → slice_get regions r ≡ Some x → in_used unfinished_region (in_used finished_region x) ≡ x
     back r Empty e = refl
-    back r (InUse u) e = λ i. InUse (record u { pending = (sym (swept r) ∙ ap pending_in e) i; cells = finished_cells_taken_back u.cells (λ c o there. live (record { region = r; cell = c }) o (object_found_in_used_cell regions (record { region = r; cell = c }) u o (listed_region_is_in_use regions r u e) there)) i })
+    back r (InUse u) e = λ i. InUse (record u { pending = (sym (swept r) ∙ ap pending_in e) i; cells = finished_cells_undone u.cells (λ c o there. live (record { region = r; cell = c }) o (object_found_in_used_cell regions (record { region = r; cell = c }) u o (listed_region_is_in_use regions r u e) there)) i })
 
 pub phase_is : (p : Phase) → not (is_marking p) ≡ false → Marking ≡ p
 phase_is Idle h = cc
@@ -114,7 +114,7 @@ finish_undo : (s : MarkState) → finish_refusal s ≡ None → EachObject s.reg
 unfolding finish_refusal finished unfinished pending_regions
 finish_undo s accepted live within =
     let none = no_refusal_test_holds _ accepted in
-    let regions : each_region unfinished_region (each_region finished_region s.regions) ≡ s.regions = finished_regions_taken_back s.regions (none_pending s.regions 0 none.1.1.0) live in
+    let regions : each_region unfinished_region (each_region finished_region s.regions) ≡ s.regions = finished_regions_undone s.regions (none_pending s.regions 0 none.1.1.0) live in
     λ i. record s { regions = regions i; drained = all_drained _ _ _ none.1.0 within i; phase = phase_is s.phase none.0 i }
 
 pub finish_undone_gives_state_before : (before s : MarkState) (log : List ℕ) → finish_refusal before ≡ None → EachObject before.regions (λ at o. o.live ≡ true) → before.drained ≤ length before.log → log ≡ before.log → s ≡ finished before → unfinished log s ≡ before

@@ -1,4 +1,4 @@
--- What shading a list of ids does, and what takes it back.
+-- What shading a list of ids does, and what undoes it.
 use Rattle.std.proofs.Common.{◌≡◌, ◌≢◌, ℕ, ◌-◌, Bool, true, false, List, [], ◌∷◌, ◌++◌, length, take, drop, inl, inr, refl, sym, ap, subst, ◌∙◌, arith}
 use Rattle.std.specs.Prelude.{◌⊎◌, ◌↔◌, Contains, nat_eq, fold, option_map, if◌then◌else◌}
 use Rattle.std.specs.List.{IsDistinct}
@@ -114,7 +114,7 @@ unfolding newly_shaded IsDistinct
 shading_of_a_list [] s = record { gray = refl; log = refl; drained = refl; phase = refl; each = λ x. (λ c. absurd (omega (arith, c.1)), λ c. absurd (omega (arith, c.0.1))); distinct = tt; places = λ x. refl; marked = λ x c. absurd (omega (arith, c.1)); others = λ x absent. refl; rest = refl; back = refl }
 shading_of_a_list (x ∷ xs) s = shading_with_one_id_first s (fold shaded (shaded s x) xs) x xs _ (shading_of_a_list xs (shaded s x))
 
--- what was shaded is taken back by as many as the stack has grown
+-- what was shaded is undone by as many as the stack has grown
 pub unshaded_shading : (s t : MarkState) (xs new : List ℕ) (n : ℕ) → IsShading s t xs new → n ≡ length t.gray - length s.gray → unshaded n t ≡ s
 unfolding unshaded
 unshaded_shading s t xs new n h grown = λ i. record {

@@ -8,7 +8,7 @@ use Rattle.heap_region.specs.Turns.{turned_object, turned_back_object, turned_re
 use Rattle.heap_region.proofs.Lookups.{listed_region_is_in_use, object_found_in_used_cell}
 use Rattle.heap_mark.specs.MarkSteps.{MarkState, each_object, each_region, pending_regions, finish_refusal, finished_region, finished, unfinished_region}
 use Rattle.heap_mark.specs.Finish.{finished_object}
-use Rattle.heap_mark.proofs.Finishes.{pending_in, none_pending, map_back, finished_regions_taken_back}
+use Rattle.heap_mark.proofs.Finishes.{pending_in, none_pending, map_back, finished_regions_undone}
 
 -- f and g of each item, where they are the same at each
 maps_alike_at_each_item : {A B : Type 0} (f g : A → B) (xs : List A) → ((k : ℕ) (x : A) → slice_get xs k ≡ Some x → f x ≡ g x) → map f xs ≡ map g xs
@@ -51,7 +51,7 @@ turned_cells_turned_back cells = map_back _ _ cells back
     back c None e = refl
     back c (Some o) e = ap (λ (b : Bool). Some (record o { live = b })) (not_of_not o.live)
 
--- a turn is taken back whatever the regions are
+-- a turn is undone whatever the regions are
 turned_regions_turned_back : (regions : List Region) → each_region turned_back_region (each_region turned_region regions) ≡ regions
 unfolding each_region turned_region turned_back_region in_used
 turned_regions_turned_back regions = map_back _ _ regions back
@@ -65,4 +65,4 @@ pub turn_back_undoes : (before : MarkState) (regions : List Region) → finish_r
 unfolding finished
 turn_back_undoes before regions accepted live is =
     ap (each_region turned_back_region) (is ∙ sym (turn_ends before accepted live)) ∙ turned_regions_turned_back before.regions
-    ∙ sym (ap (each_region unfinished_region) is ∙ finished_regions_taken_back before.regions (finish_means_no_region_pending before accepted) live)
+    ∙ sym (ap (each_region unfinished_region) is ∙ finished_regions_undone before.regions (finish_means_no_region_pending before accepted) live)

@@ -1,4 +1,4 @@
--- The marker's steps are taken back.
+-- The marker's steps are undone.
 use Rattle.std.proofs.Common.{◌≡◌, ℕ, ◌+◌, ◌-◌, false, List, [], ◌∷◌, length, drop, refl, sym, ap, ◌∙◌, arith, Some}
 use Rattle.std.specs.Prelude.{◌==◌, slice_index, fold}
 use Rattle.std.proofs.lemmas.Bool.{eqb-false}

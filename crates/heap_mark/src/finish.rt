@@ -14,7 +14,7 @@ pub fn first_pending(regions: &Regions) -> Option<u64>
 }
 
 /// Turns every region in use. Returns the number of objects that aren't live then. Takes constant time.
-pub fn turn_all(regions: &mut Regions) -> u64
+pub(crate) fn turn_all(regions: &mut Regions) -> u64
     ensures regions { regions.new
         ≡ record regions.old { regions = each_region turned_region regions.old.regions } }
     ensures condemned { result ≡ dead_count regions.new.regions }
@@ -23,7 +23,7 @@ pub fn turn_all(regions: &mut Regions) -> u64
 }
 
 /// Undoes `turn_all`. Takes constant time.
-pub fn turn_all_back(regions: &mut Regions)
+pub(crate) fn turn_all_back(regions: &mut Regions)
     ensures { regions.new
         ≡ record regions.old { regions = each_region turned_back_region regions.old.regions } }
 {

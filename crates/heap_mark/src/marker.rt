@@ -28,7 +28,7 @@ pub struct Marked {
 }
 
 /// The log of a cycle that has ended, moved whole.
-pub type Log = Items<u64>;
+pub type CycleLog = Items<u64>;
 
 /// The outcome of `finish`.
 #[derive(Drop)]
@@ -36,7 +36,7 @@ pub struct Finished {
     /// The number of objects that aren't live now.
     pub condemned: u64,
     /// The log of the cycle, as `unfinish` needs it.
-    pub log: Log,
+    pub log: CycleLog,
 }
 
 /// The marker: a stack of gray ids with room for every object, a log of overwritten references with the number of its entries
@@ -203,6 +203,7 @@ impl Marker {
             → work regions.new self.new ≡ before }
     {
         self.unshade(regions, pushed);
+        // Its contract says that the regions are whole.
         let _count = regions.count();
         self.gray.push_reserved(parent);
     }
@@ -285,13 +286,13 @@ impl Marker {
         (self.drained, self.phase) = (0, Phase::Idle);
         Ok(Finished {
             condemned,
-            log: Log::from_vec(ids),
+            log: CycleLog::from_vec(ids),
         })
     }
 
     /// Undoes `finish`, given the log that it returned: marks the objects that are live, makes all of them live, lets no region
     /// wait to be swept, and has the log drained. Takes no memory.
-    pub fn unfinish(&mut self, regions: &mut Regions, log: Log)
+    pub fn unfinish(&mut self, regions: &mut Regions, log: CycleLog)
         requires { (before : MarkState) × (finish_refusal before ≡ None)
             × EachObject before.regions (λ at o. o.live ≡ true)
             × (regions.old.regions ≡ (finished before).regions) }

@@ -17,16 +17,17 @@ use Rattle.heap_trail.specs.declared.Action.{Action}
 use Rattle.heap_trail.specs.declared.Action.TheVariants.{Step, Rewind, OpenPin, NextPiece, ClosePin}
 use Rattle.heap_trail.specs.declared.Reply.{Reply}
 use Rattle.heap_trail.specs.declared.Reply.TheVariants.{Answered, Place, Refused}
-use Rattle.heap_trail.specs.Laws.{AreSteps, IsTrail}
+use Rattle.heap_trail.specs.Laws.{IsTrail}
 use Rattle.heap_trail.specs.Limits.{last_place}
 use Rattle.heap_trail.specs.Machine.{Machine, Allocation, Granted, Denied, LosesPins, MayFail, MayReply, acted, acted_under, after_result, after_step_at, is_dump_action, machine_after}
 use Rattle.heap_trail.specs.Pins.{Pins}
 use Rattle.heap_trail.specs.Trail.{Trail, retained, rewound, state_ago, stepped}
 use Rattle.heap_trail.proofs.ByTrail.{dumps_leave}
 use Rattle.heap_trail.proofs.KeptTrails.{trails_stay}
-use Rattle.heap_trail.proofs.RetainedStates.{recorded_state_is_legal}
-use Rattle.heap_trail.proofs.Rewinds.{retained_after_rewind}
-use Rattle.heap_trail.proofs.RewoundMachines.{machine_refuses_far_rewind, rewind_done, rewound_more, rewound_none}
+use Rattle.heap_trail.proofs.RetainedStates.{as_many_records_as_states, recorded_state_is_legal}
+use Rattle.heap_trail.proofs.Rewinds.{rewound_parts}
+use Rattle.heap_trail.proofs.RewindsOver.{step_raises_place_by_one}
+use Rattle.heap_trail.proofs.RewoundMachines.{machine_refuses_far_rewind, rewind_done, rewound_none}
 use Rattle.session_text.specs.Local.{LocalActs}
 use Rattle.heap_orders.specs.Redos.{AreLastEvents, IsRedoOf, IsStopped, LeadsTo, Redo, StopsBefore, TakesAgain, event_at, no_redo, noted, retaken, with_step, with_undone}
 
@@ -162,12 +163,6 @@ older_events (suc n) (e ∷ events) w d (v ∷ past) (left ∷ records) few h = 
 older_events (suc n) (e ∷ events) w d [] records few h = absurd h
 older_events (suc n) (e ∷ events) w d (v ∷ past) [] few h = absurd h
 
-same_length : (w : HeapState) (past : List HeapState) (records : List Undo) → AreSteps w past records → length records ≡ length past
-same_length w [] [] s = refl
-same_length w (v ∷ past) (left ∷ records) s = ap suc (same_length v past records s.1)
-same_length w [] (left ∷ records) s = absurd s
-same_length w (v ∷ past) [] s = absurd s
-
 -- the event number n led from the state before it back to where it led
 record LeadsUp (n keep : ℕ) (e : Event) (w d : HeapState) (past : List HeapState) (records : List Undo) : Type 0 where
   free : refusal_of e (slice_index_or (w ∷ past) (suc n) d) ≡ None
@@ -197,24 +192,13 @@ leads_up (suc n) keep e (x ∷ events) w d (v ∷ past) (left ∷ records) few l
 leads_up n keep e (x ∷ events) w d [] records few light h is = absurd h
 leads_up n keep e (x ∷ events) w d (v ∷ past) [] few light h is = absurd h
 
--- ---- two rewinds
-
-rewound_in_parts : (a b : ℕ) (t : Trail) → a + b ≤ retained t → rewound b (rewound a t) ≡ rewound (a + b) t
-rewound_in_parts a zero t few = rewound_none (rewound a t) ∙ ap (λ n. rewound n t) (let e : a ≡ a + 0 = omega arith in e)
-rewound_in_parts a (suc b) t few =
-    ap (λ n. rewound n (rewound a t)) (let e : suc b ≡ b + 1 = omega arith in e)
-    ∙ sym (rewound_more b (rewound a t) (omega (arith, few, retained_after_rewind a t)))
-    ∙ ap (rewound 1) (rewound_in_parts a b t (omega (arith, few)))
-    ∙ rewound_more (a + b) t (omega (arith, few))
-    ∙ ap (λ n. rewound n t) (let e : a + b + 1 ≡ a + suc b = omega arith in e)
-
 -- ---- one step again
 
 -- the undone step in this place of the events
 up_from : (m : Machine) (r : Redo) (last : Trail) (n : ℕ) (e : Event) → LeadsTo m r last → slice_get r.events n ≡ Some e → LeadsUp n m.keep e last.current last.current last.past last.records
 up_from m r last n e l is =
     let few = l.legal.few in
-    let same = same_length last.current last.past last.records l.legal.steps in
+    let same = as_many_records_as_states last.current last.past last.records l.legal.steps in
     leads_up n m.keep e r.events last.current last.current last.past last.records few (omega (arith, few, same)) l.events is
 
 stepped_up : (n keep place : ℕ) (e : Event) (last : Trail) → n < place → place ≡ last.place → LeadsUp n keep e last.current last.current last.past last.records
@@ -376,10 +360,6 @@ events_on limit e events m le legal free h =
     } in
     newest_events limit m.keep (e ∷ events) (state_after e m.trail.current) (m.trail.current ∷ m.trail.past) (undo_record e m.trail.current ∷ m.trail.records) le (step, h)
 
-place_on : (keep : ℕ) (left : Undo) (v : HeapState) (t : Trail) → (stepped keep left v t).place ≡ t.place + 1
-unfolding stepped
-place_on keep left v t = refl
-
 -- a trail from which nothing is undone
 pub leads_here : (k : Machine) (events : List Event) (limit : ℕ) → IsTrail k.keep k.trail → k.trail.place ≤ last_place → AreLastEvents events k.trail.current k.trail.past k.trail.records → limit ≤ k.keep
     → IsRedoOf k (record { events = events; ahead = 0; limit = limit })
@@ -390,7 +370,7 @@ step_noted : (m k : Machine) (r : Redo) (e : Event) → IsTrail k.keep k.trail �
 step_noted m k r e legal d l =
     let here = legal_here m r l.0 l.1 in
     let below = d.below in
-    let place = ap (λ (t : Trail). t.place) d.trail ∙ place_on m.keep (undo_record e m.trail.current) (state_after e m.trail.current) m.trail in
+    let place = ap (λ (t : Trail). t.place) d.trail ∙ step_raises_place_by_one m.keep (undo_record e m.trail.current) (state_after e m.trail.current) m.trail in
     let are = events_on r.limit e (drop r.ahead r.events) m l.1.kept here d.free (events_here m r l.0 l.1) in
     leads_here k (take r.limit (e ∷ drop r.ahead r.events)) r.limit legal (omega (arith, below, place))
     (subst (λ (t : Trail). AreLastEvents (take r.limit (e ∷ drop r.ahead r.events)) t.current t.past t.records) (sym d.trail) are)
@@ -404,7 +384,7 @@ rewind_leads m k r count last few d l =
       legal = subst (λ (keep : ℕ). IsTrail keep last) (sym d.keep) l.legal;
       placed = l.placed;
       events = l.events;
-      undone = d.trail ∙ ap (rewound count) l.undone ∙ rewound_in_parts r.ahead count last (omega (arith, few, there));
+      undone = d.trail ∙ ap (rewound count) l.undone ∙ rewound_parts r.ahead count last (omega (arith, few, there));
       few = few;
       kept = subst (λ (keep : ℕ). r.limit ≤ keep) (sym d.keep) l.kept;
     }

@@ -18,6 +18,7 @@ use Rattle.http_server.specs.declared.response.Response.{Response}
 use Rattle.http_server.specs.Response.{IsResponse}
 use Rattle.question_text.specs.Answers.{IsAnswerOfLine}
 use Rattle.question_words.specs.Moments.{image_at}
+use Rattle.question_grammar.specs.Bookmarks.{no_bookmarks}
 use Rattle.question_grammar.specs.Questions.{at_of_word}
 use Rattle.question_words.specs.declared.at.At.{At}
 use Rattle.heap_page.specs.Admission.{PageTerms, asked_of}
@@ -71,7 +72,7 @@ page_fields =
 -- the response with the answer of a line, about this machine and the length of this chronicle
 abbrev pub IsAnswerResponse : List ℕ → Machine → List Entry → Response → Type 0
 IsAnswerResponse line m chronicle r =
-    (text : List ℕ) × IsAnswerOfLine line m (Some (length chronicle)) text
+    (text : List ℕ) × IsAnswerOfLine line m (Some (length chronicle)) no_bookmarks text
     × IsResponse 200 text_fields text r
 
 -- the same, about the heap's machine and chronicle
@@ -109,7 +110,7 @@ IsResponseTo config s Page body r seen' =
     IsResponse 200 page_fields PAGE.now r × (seen' ≡ s.seen)
 IsResponseTo config s Line body r seen' = IsLineResponse config s.seen body r seen'
 IsResponseTo config s Dump body r seen' =
-    IsDumpResponse config s.seen s.terms.time (at_of_word body) r seen'
+    IsDumpResponse config s.seen s.terms.time (at_of_word no_bookmarks body) r seen'
 IsResponseTo config s (Refused status) body r seen' =
     IsResponse status fixed_fields [] r × (seen' ≡ s.seen)
 

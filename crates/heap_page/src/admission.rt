@@ -23,7 +23,7 @@ pub enum Asked {
 
 /// Returns what a request asks for. A request by another name of the host, or from a page of another server, is refused 403 before
 /// anything else of it is looked at; one without the key is refused 401.
-pub fn asked_of(request: &Request<Bytes>, terms: &PageTerms) -> Asked
+pub(crate) fn asked_of(request: &Request<Bytes>, terms: &PageTerms) -> Asked
     ensures { result ≡ asked_of terms.now (head_of request.now) }
 {
     if !is_admitted(request, terms) {

@@ -2,6 +2,7 @@
 ghost use Rattle.std.specs.Prelude.{◌≡◌, [], IfOk, OnOk, OnErr, Some, length};
 ghost use Rattle.session_text.specs.Replies.{line_answer_text};
 ghost use Rattle.question_text.specs.Answers.{IsAnswerOfLine};
+ghost use Rattle.question_grammar.specs.Bookmarks.{no_bookmarks};
 ghost use Rattle.question_grammar.specs.Questions.{at_of_word};
 ghost use Rattle.http_server.specs.Response.{IsBlank, IsResponse};
 ghost use Rattle.heap_class.specs.Table.{refusal_name};
@@ -16,7 +17,7 @@ use heap_class::Refusal;
 use heap_lock::{Heap, Kept, Machine, Shared, Witness};
 use http::{HeaderName, HeaderValue, Request, StatusCode, header};
 use http_server::{Response, Service};
-use question_grammar::at_of;
+use question_grammar::{Bookmarks, at_of};
 use question_text::{answer_line, dump_at};
 use question_words::At;
 use session_text::{LineAnswer, printed};
@@ -166,10 +167,11 @@ fn answer_response<L: Heap>(
 // Returns the answer of a line about the heap under its lock.
 fn answer_held<L: Heap>(alloc: Global, kept: &Kept<L>, line: &[u8]) -> LineAnswer
     ensures { IsAnswerOfLine line.now kept.now.machine (Some (length kept.now.chronicle))
-        (line_answer_text result) }
+        no_bookmarks (line_answer_text result) }
 {
     let acts = kept.chronicle().len() as u64;
-    answer_line(alloc, kept.machine(), Some(acts), line)
+    let bookmarks = Bookmarks::new(alloc);
+    answer_line(alloc, kept.machine(), Some(acts), &bookmarks, line)
 }
 
 // Fills a response with what is printed of an answer.
@@ -238,12 +240,13 @@ impl<'a, L: Heap, R: Wait> PageService<'a, L, R> {
     fn fill_dump_of(&mut self, word: &[u8], response: &mut Response) -> Result<(), AllocError>
         requires { IsResponse 200 fixed_fields [] response.old }
         ensures dump { OnOk result
-            (IsDumpResponse L.config self.old.seen self.old.terms.time (at_of_word word.now)
-            response.new self.new.seen) }
+            (IsDumpResponse L.config self.old.seen self.old.terms.time
+            (at_of_word no_bookmarks word.now) response.new self.new.seen) }
         ensures terms { self.new.terms ≡ self.old.terms }
         ensures err { OnErr result (self.new ≡ self.old) }
     {
-        match at_of(word) {
+        let bookmarks = Bookmarks::new(self.alloc);
+        match at_of(&bookmarks, word) {
             Some(at) => self.fill_dump(at, response),
             None => {
                 response.status = StatusCode::BAD_REQUEST;

@@ -76,14 +76,14 @@ impl PageTerms {
     }
 
     /// Tells whether a text is the key.
-    pub fn is_key(&self, text: &[u8]) -> bool
+    pub(crate) fn is_key(&self, text: &[u8]) -> bool
         ensures { result ≡ bytes_eq text.now self.now.key }
     {
         text == self.key.as_bytes()
     }
 
     /// Tells whether a text names this server: its computer and its port, which may be missing if it is that of HTTP.
-    pub fn is_own_host(&self, text: &[u8]) -> bool
+    pub(crate) fn is_own_host(&self, text: &[u8]) -> bool
         ensures { result ≡ is_own_host self.now.port text.now }
     {
         text == self.host.as_bytes()
@@ -91,7 +91,7 @@ impl PageTerms {
     }
 
     /// Tells whether a text is the origin of a page of this server.
-    pub fn is_own_origin(&self, text: &[u8]) -> bool
+    pub(crate) fn is_own_origin(&self, text: &[u8]) -> bool
         ensures { result ≡ is_own_origin self.now.port text.now }
     {
         text == self.origin.as_bytes()

@@ -5,7 +5,7 @@ use Rattle.heap_step.specs.declared.Undo.{Undo}
 use Rattle.heap_step.specs.declared.Event.{Event}
 use Rattle.heap_step.specs.Apply.{state_after}
 use Rattle.heap_step.specs.Records.{undone, undo_record}
-use Rattle.heap_step.specs.Laws.{IsTakenBack}
+use Rattle.heap_step.specs.Laws.{IsRestored}
 use Rattle.heap_pins.specs.Laws.{EventExtends, RecordExtends}
 use Rattle.heap_pins.proofs.RecordCases.{records_by_lists_they_keep}
 
@@ -28,5 +28,5 @@ record_extends left v = records_by_lists_they_keep (λ u. RecordExtends u v)
     (λ u k. rw (k.classes v) (take_of_whole_list v.classes))
     left
 
-pub event_extends : (e : Event) (w : HeapState) → IsTakenBack e w → EventExtends e w
+pub event_extends : (e : Event) (w : HeapState) → IsRestored e w → EventExtends e w
 event_extends e w back legal accepted = subst (λ (u : HeapState). take (length u.classes) (state_after e w).classes ≡ u.classes) (back legal accepted) (record_extends (undo_record e w) (state_after e w))

@@ -60,7 +60,7 @@ unfolding touched undone copy_for patched
 copy_covers left v r = by_region (λ u. touched u ≡ Some r → Covers (region_frozen (undone u v).regions r) (copy_for u v r))
     (λ at slot old. word at slot old)
     (λ at slot old logged. word at slot old)
-    (λ region dead t. subst (λ q. Covers (region_frozen (unswept region dead (pool_of v)).regions q) (option_map (with_dead dead) (region_frozen v.regions q))) (equal_options_name_same_region region r t) (same_copy_covers _ _ (sym (sweep_copied region dead (pool_of v)))))
+    (λ region d dead t. subst (λ q. Covers (region_frozen (unswept region (d ∷ dead) (pool_of v)).regions q) (option_map (with_dead (d ∷ dead)) (region_frozen v.regions q))) (equal_options_name_same_region region r t) (same_copy_covers _ _ (sym (sweep_copied region (d ∷ dead) (pool_of v)))))
     (λ region storage t. subst (λ q. Covers (region_frozen (restored region storage (pool_of v)).regions q) (Some (frozen storage))) (equal_options_name_same_region region r t) (reclaim_copied region storage (pool_of v)))
     (λ u n. record_that_touches_no_region u n r _)
     left

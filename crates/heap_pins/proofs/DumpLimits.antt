@@ -13,10 +13,10 @@ use Rattle.heap_class.specs.Classes.{Class, IsClassTable, class_refusal, is_inst
 use Rattle.heap_region.specs.Regions.{Object, Region, object_at, id_of, live_objects, live_places}
 use Rattle.heap_world.specs.State.{HeapState}
 use Rattle.heap_world.specs.Legal.{IsLegal, HasKind}
+use Rattle.heap_world.proofs.Words.{few_words}
 use Rattle.hprof_text.specs.Image.{DumpedObject, IsDumpable, IsKnown}
 use Rattle.heap_pins.specs.Images.{dumped_objects, image_of}
 use Rattle.heap_pins.proofs.LiveCounts.{Stands, live_stand, few_live}
-use Rattle.heap_class.proofs.FewSlots.{slots_few}
 use Rattle.heap_class.proofs.Slots.{class_found_is_in_table}
 
 -- ---- limits
@@ -44,12 +44,6 @@ unfolding is_instance_class is_array_class
 kind_of_slots_is_known classes (Instance k) n h = (class_found_is_in_table classes k (λ c. not c.is_array) h.0, h.1)
 kind_of_slots_is_known classes (Array k) n h = class_found_is_in_table classes k (λ c. c.is_array) h.0
 kind_of_slots_is_known classes (Prim kind) n h = tt
-
--- an object of the heap has no more words than a dump shows
-few_words : (classes : List Class) → IsClassTable [] classes → (kind : ObjKind) (n : ℕ) → HasKind classes kind n → n ≤ large_array_limit
-few_words classes t (Instance k) n h = omega (arith, h.1, slots_few classes t k)
-few_words classes t (Array k) n h = h.1
-few_words classes t (Prim kind) n h = h.1
 
 -- an object as a dump shows it
 abbrev object_as_dump_shows_it : List Region → ObjRef × Object → DumpedObject

@@ -1,5 +1,5 @@
 -- A pin that keeps what a step did shows after it what it showed before.
-use Rattle.std.proofs.Common.{◌≡◌, ℕ, ◌*◌, ◌<◌, Bool, true, false, List, length, length-set, set, Option, Some, None, refl, sym, ap, subst, ◌∙◌, arith}
+use Rattle.std.proofs.Common.{◌≡◌, ℕ, ◌*◌, ◌<◌, Bool, true, false, List, ◌∷◌, length, length-set, set, Option, Some, None, refl, sym, ap, subst, ◌∙◌, arith}
 use mathlib.Core.Logic.{inl, inr}
 use Rattle.std.proofs.lemmas.Bool.{cases_lt}
 use Rattle.std.proofs.lemmas.List.{get_or-set_same, get_or-set_other, set_past}
@@ -122,7 +122,7 @@ keeps_by_record (New at fresh m k old) v p sized cells shows = new_step_keeps (N
 keeps_by_record (Finish log) v p sized cells shows = untouching_step_keeps (Finish log) v p (record p { ended = true }) refl refl refl refl cells shows
 keeps_by_record (Put at slot old) v p sized cells shows = touching_step_keeps (Put at slot old) v p sized cells at.region refl shows
 keeps_by_record (Store at slot old logged) v p sized cells shows = touching_step_keeps (Store at slot old logged) v p sized cells at.region refl shows
-keeps_by_record (Sweep region dead) v p sized cells shows = touching_step_keeps (Sweep region dead) v p sized cells region refl shows
+keeps_by_record (Sweep region (d ∷ dead)) v p sized cells shows = touching_step_keeps (Sweep region (d ∷ dead)) v p sized cells region refl shows
 keeps_by_record (Reclaim region storage) v p sized cells shows = touching_step_keeps (Reclaim region storage) v p sized cells region refl shows
 keeps_by_record left v p sized cells shows = untouching_step_keeps left v p p refl refl refl refl cells shows
 

@@ -1,5 +1,5 @@
 -- A pin that keeps what a step did goes on showing the state of each cell.
-use Rattle.std.proofs.Common.{◌≡◌, ◌≢◌, ◌⊎◌, ℕ, ◌<◌, ◌≤◌, Bool, true, false, List, [], length, length-set, set, get_or, replicate, Option, Some, None, refl, sym, ap, subst, ◌∙◌, arith}
+use Rattle.std.proofs.Common.{◌≡◌, ◌≢◌, ◌⊎◌, ℕ, ◌<◌, ◌≤◌, Bool, true, false, List, [], ◌∷◌, length, length-set, set, get_or, replicate, Option, Some, None, refl, sym, ap, subst, ◌∙◌, arith}
 use mathlib.Core.Logic.{inl, inr}
 use Rattle.std.specs.Prelude.{is_some, slice_index_or, option_map, if◌then◌else◌}
 use Rattle.std.proofs.lemmas.List.{get_or-set_same, get_or-set_other, get_or-replicate, length-replicate, set_past}
@@ -22,7 +22,7 @@ use Rattle.heap_pins.proofs.CopiedRegions.{copy_covers, not_some_copy_is_none}
 use Rattle.heap_pins.proofs.CoveringCopies.{covered_by_none_is_none}
 use Rattle.heap_pins.proofs.Others.{undoing_keeps_region_count}
 use Rattle.heap_pins.proofs.RecordCases.{by_region, record_that_touches_no_region}
-use Rattle.heap_pins.proofs.States.{cell_states_before_elsewhere, cell_states_stay_elsewhere, no_state_past_the_list, no_state_without_copy, equal_places_are_same_place, unequal_places_not_same_place}
+use Rattle.heap_pins.proofs.States.{cell_states_before_elsewhere, cell_states_stay_elsewhere, no_state_past_the_list, no_state_without_copy, equal_places_are_same_place, unequal_places_not_same_place, sweep_of_none_tells_states_now}
 
 -- ---- 256 bytes for each region
 
@@ -160,7 +160,7 @@ unfolding touched copy_for
 uncopied_region_is_absent left v r = by_region (λ u. touched u ≡ Some r → copy_for u v r ≡ None → region_frozen v.regions r ≡ None)
     (λ at slot old t. unpatched (Put at slot old) (region_frozen v.regions r))
     (λ at slot old logged t. unpatched (Store at slot old logged) (region_frozen v.regions r))
-    (λ region dead t. unpatched (Sweep region dead) (region_frozen v.regions r))
+    (λ region d dead t. unpatched (Sweep region (d ∷ dead)) (region_frozen v.regions r))
     (λ region storage t none. cc)
     (λ u n. record_that_touches_no_region u n r _)
     left
@@ -252,6 +252,7 @@ kept_cell_is_shown (New at fresh m k old) v p b sized cells few = new_is_shown a
 kept_cell_is_shown (Finish log) v p b sized cells few = ended_cell_is_shown p (undone (Finish log) v).regions v.regions b (cell_states_before_elsewhere (Finish log) v b no_named_region)
 kept_cell_is_shown (Put at slot old) v p b sized cells few = copy_is_shown (Put at slot old) v p at.region b refl sized cells few
 kept_cell_is_shown (Store at slot old logged) v p b sized cells few = copy_is_shown (Store at slot old logged) v p at.region b refl sized cells few
-kept_cell_is_shown (Sweep region dead) v p b sized cells few = copy_is_shown (Sweep region dead) v p region b refl sized cells few
+kept_cell_is_shown (Sweep region []) v p b sized cells few = quiet_is_shown (Sweep region []) v p b refl (λ f. sweep_of_none_tells_states_now region f b)
+kept_cell_is_shown (Sweep region (d ∷ dead)) v p b sized cells few = copy_is_shown (Sweep region (d ∷ dead)) v p region b refl sized cells few
 kept_cell_is_shown (Reclaim region storage) v p b sized cells few = copy_is_shown (Reclaim region storage) v p region b refl sized cells few
 kept_cell_is_shown left v p b sized cells few = quiet_is_shown left v p b refl (λ f. refl)

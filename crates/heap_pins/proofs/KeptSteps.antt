@@ -1,5 +1,5 @@
 -- What a pin makes of a step is what it has to keep of it.
-use Rattle.std.proofs.Common.{◌≡◌, ℕ, Bool, true, false, List, Option, None, refl, sym, ap, ◌∙◌}
+use Rattle.std.proofs.Common.{◌≡◌, ◌≢◌, ℕ, Bool, true, false, List, [], ◌∷◌, length, Option, Some, None, refl, sym, ap, ◌∙◌, arith}
 use Rattle.std.specs.Prelude.{slice_index_or, Result, Ok, Err, OnOk, if◌then◌else◌}
 use Rattle.std.proofs.lemmas.Bool.{eq-eqb}
 use Rattle.heap_class.specs.declared.ObjRef.{ObjRef}
@@ -38,10 +38,27 @@ unfolding kept kept_if touched copy_for patched states_before
 store_is_kept e before v p at slot old logged s = told_states_are_kept (Store at slot old logged) v p at.region (copy_for (Store at slot old logged) v at.region) (cell_states v.regions) (has_copy at.region p) refl
     (λ c. cell_states_before_step e before v (Store at slot old logged) s (cell_of at.region c))
 
-pub sweep_is_kept : (e : Event) (before v : HeapState) (p : PinContents) (region : ℕ) (dead : List (ℕ × Object)) → IsStep e before v (Sweep region dead) → kept_dead v region dead p ≡ kept (Sweep region dead) v p
+pub sweep_is_kept : (e : Event) (before v : HeapState) (p : PinContents) (region : ℕ) (dead : List (ℕ × Object)) → length dead ≢ 0 → IsStep e before v (Sweep region dead) → kept_dead v region dead p ≡ kept (Sweep region dead) v p
 unfolding kept kept_if touched copy_for patched
-sweep_is_kept e before v p region dead s = told_states_are_kept (Sweep region dead) v p region (copy_for (Sweep region dead) v region) (states_before (Sweep region dead) (cell_states v.regions)) (has_copy region p) refl
-    (λ c. cell_states_before_step e before v (Sweep region dead) s (cell_of region c))
+sweep_is_kept e before v p region [] some s = absurd (some refl)
+sweep_is_kept e before v p region (d ∷ dead) some s = told_states_are_kept (Sweep region (d ∷ dead)) v p region (copy_for (Sweep region (d ∷ dead)) v region) (states_before (Sweep region (d ∷ dead)) (cell_states v.regions)) (has_copy region p) refl
+    (λ c. cell_states_before_step e before v (Sweep region (d ∷ dead)) s (cell_of region c))
+
+-- a sweep that found no dead object leaves the pin
+pub sweep_of_none_is_kept : (v : HeapState) (p : PinContents) (region : ℕ) (dead : List (ℕ × Object)) → length dead ≡ 0 → p ≡ kept (Sweep region dead) v p
+unfolding kept kept_if touched
+sweep_of_none_is_kept v p region [] none = refl
+sweep_of_none_is_kept v p region (d ∷ dead) none = absurd (omega (arith, none))
+
+pub sweep_of_none_touches_none : (region : ℕ) (dead : List (ℕ × Object)) → length dead ≡ 0 → None ≡ touched (Sweep region dead)
+unfolding touched
+sweep_of_none_touches_none region [] none = refl
+sweep_of_none_touches_none region (d ∷ dead) none = absurd (omega (arith, none))
+
+pub sweep_of_some_touches_its_region : (region : ℕ) (dead : List (ℕ × Object)) → length dead ≢ 0 → Some region ≡ touched (Sweep region dead)
+unfolding touched
+sweep_of_some_touches_its_region region [] some = absurd (some refl)
+sweep_of_some_touches_its_region region (d ∷ dead) some = refl
 
 pub reclaim_is_kept : (e : Event) (before v : HeapState) (p : PinContents) (region : ℕ) (storage : UsedRegion) → IsStep e before v (Reclaim region storage) → kept_region region storage p ≡ kept (Reclaim region storage) v p
 unfolding kept kept_if touched copy_for states_before

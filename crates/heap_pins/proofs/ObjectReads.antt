@@ -7,6 +7,7 @@ use Rattle.heap_region.specs.Regions.{Object, UsedRegion, Region, used_at, objec
 use Rattle.heap_region.specs.RegionCopies.{Frozen, frozen, frozen_object, region_frozen}
 use Rattle.heap_region.proofs.ShownRegions.{object_here}
 use Rattle.hprof_text.specs.Image.{DumpedObject}
+use Rattle.hprof_text.proofs.ViewedObjects.{object_of_its_parts}
 use Rattle.heap_pins.specs.Pin.{PinContents, place, places_from, copy_or_now, region_seen, cell_dumped, object_seen}
 use Rattle.heap_pins.specs.Shows.{IsSeen}
 use Rattle.heap_pins.proofs.NextPlace.{ComesAfter, each_place_has_a_successor}
@@ -84,6 +85,19 @@ unfolding object_seen
 region_id p regions at n s e is =
     subst (λ (x : Option Frozen). IfSome (option_and_then (cell_dumped at) x) (λ o. n ≡ o.id)) (sym s.2)
     (copy_named at s.1 n (is ∙ id_as_is regions at s.1 (sym (region_as_is p regions at e) ∙ s.2)))
+
+-- ---- the object
+
+-- in a copy
+pub copied_object_of_its_parts : (at : ObjRef) (f : Frozen) (d : DumpedObject) → d.id ≡ object_base + 8 * (1024 * at.region + at.cell * f.cell_size) → IfSome (frozen_object f at.cell) (λ o. d.kind ≡ o.kind) → IfSome (frozen_object f at.cell) (λ o. d.words ≡ o.words) → IfSome (cell_dumped at f) (λ o. d ≡ o)
+copied_object_of_its_parts at f d named kind words =
+    object_of_its_parts (cell_dumped at f) d (copy_named at f d.id named)
+    (property_of_dumped_cell at f (λ o. d.kind ≡ o.kind) (λ o. d.kind ≡ o.kind) (λ o x q. q) kind)
+    (property_of_dumped_cell at f (λ o. d.words ≡ o.words) (λ o. d.words ≡ o.words) (λ o x q. q) words)
+
+pub copied_object_is_seen : (p : PinContents) (regions : List Region) (at : ObjRef) (f : Frozen) (R : DumpedObject → Type 0) → slice_index_or p.copies at.region None ≡ Some f → IfSome (cell_dumped at f) R → IfSome (object_seen p regions at) R
+unfolding object_seen
+copied_object_is_seen p regions at f R e h = subst (λ (x : Option Frozen). IfSome (option_and_then (cell_dumped at) x) R) (sym (pin_sees_its_copy p regions at f e)) h
 
 -- ---- the next place
 

@@ -13,7 +13,7 @@ use Rattle.heap_world.specs.MarkSteps.{MarkState, each_object, each_region, with
 use Rattle.heap_world.proofs.Each.{used_region_after_each_change}
 use Rattle.heap_world.proofs.Shades.{length_marked}
 use Rattle.heap_world.proofs.WordWrites.{word_write_keeps_region_count}
-use Rattle.heap_sweep.specs.Sweep.{unswept}
+use Rattle.heap_sweep.specs.Sweep.{unswept, unswept_region}
 use Rattle.heap_world.specs.State.{HeapState, pool_of}
 use Rattle.heap_step.specs.declared.Undo.{Undo}
 use Rattle.heap_step.specs.declared.Undo.TheVariants.{Put, Store, Reg, New, Class, Snap, Mark, Drain, Finish, Sweep, Reclaim}
@@ -25,7 +25,7 @@ use Rattle.heap_pins.specs.Covers.{HasAll, Covers}
 use Rattle.heap_pins.specs.KeptCopies.{touched}
 use Rattle.heap_step.specs.declared.Event.{Event}
 use Rattle.heap_step.specs.Apply.{state_after}
-use Rattle.heap_step.specs.Laws.{IsTakenBack}
+use Rattle.heap_step.specs.Laws.{IsRestored}
 use Rattle.heap_pins.specs.Laws.{KeepsOthers, EventKeeps}
 use Rattle.heap_pins.proofs.CoveringCopies.{same_copy_covers, absent_copy_is_covered, copy_covers_through_another, changed_region_is_covered}
 use Rattle.heap_world.proofs.KeptParts.{length_unallocated}
@@ -201,6 +201,22 @@ other_regions_of_unsweep_same : (region : ℕ) (dead : List (ℕ × Object)) (s 
 unfolding unswept
 other_regions_of_unsweep_same region dead s r ne = used_region_after_other_change region r _ s.regions (different_options_differ_inside region r ne)
 
+-- a sweep that found no dead object changed no cell
+sweep_of_none_covers : (region : ℕ) (s : RegionPool) (r : ℕ) → Covers (region_frozen (unswept region [] s).regions r) (region_frozen s.regions r)
+unfolding unswept unswept_region
+sweep_of_none_covers region s r = go (same_or_not region r)
+  where
+    change : UsedRegion → UsedRegion
+    change u = unswept_region [] u
+
+    has : (u : UsedRegion) → HasAll (frozen (change u)) (frozen u)
+    has u = record { size = refl; count = refl; objects = λ c o e. (o, e, refl, refl) }
+
+    go : (region ≡ r) ⊎ (region ≢ r) → Covers (region_frozen (with_region region change s.regions) r) (region_frozen s.regions r)
+    go (inl e) = subst (λ (q : ℕ). Covers (region_frozen (with_region region change s.regions) q) (region_frozen s.regions q)) e
+        (changed_region_is_covered (with_region region change s.regions) s.regions region change (used_region_after_its_change region change s.regions) has)
+    go (inr ne) = unchanged_region_is_covered s.regions (with_region region change s.regions) r (used_region_after_other_change region r change s.regions ne)
+
 pub keeps_others : (left : Undo) (v : HeapState) → KeepsOthers left v
 unfolding undone touched
 keeps_others (Put at slot old) v r ne = unchanged_region_is_covered v.regions _ r (word_elsewhere at slot old r v.regions ne)
@@ -212,7 +228,8 @@ keeps_others Snap v r ne = snap_covers _ r
 keeps_others (Mark parent pushed) v r ne = mark_undone_covers parent pushed _ r
 keeps_others (Drain pushed) v r ne = drain_undone_covers pushed _ r
 keeps_others (Finish log) v r ne = finish_covers log _ r
-keeps_others (Sweep region dead) v r ne = unchanged_region_is_covered v.regions _ r (other_regions_of_unsweep_same region dead (pool_of v) r ne)
+keeps_others (Sweep region []) v r ne = sweep_of_none_covers region (pool_of v) r
+keeps_others (Sweep region (d ∷ dead)) v r ne = unchanged_region_is_covered v.regions _ r (other_regions_of_unsweep_same region (d ∷ dead) (pool_of v) r ne)
 keeps_others (Reclaim region storage) v r ne = unchanged_region_is_covered v.regions _ r (restored_elsewhere region r storage (pool_of v) (different_options_differ_inside region r ne))
 
 -- ---- how many regions
@@ -238,6 +255,6 @@ undoing_keeps_region_count (Reclaim region storage) v = sym (length-set v.region
 
 -- ---- an accepted event
 
-pub event_keeps : (e : Event) (w : HeapState) → IsTakenBack e w → EventKeeps e w
+pub event_keeps : (e : Event) (w : HeapState) → IsRestored e w → EventKeeps e w
 event_keeps e w back legal accepted r ne =
     subst (λ (u : HeapState). Covers (region_frozen u.regions r) (region_frozen (state_after e w).regions r)) (back legal accepted) (keeps_others (undo_record e w) (state_after e w) r ne)

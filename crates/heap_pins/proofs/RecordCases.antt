@@ -31,13 +31,19 @@ pub record TouchesNone (left : Undo) : Type 0 where
 pub record_that_touches_no_region : (left : Undo) → TouchesNone left → (r : ℕ) (P : Type 0) → touched left ≡ Some r → P
 record_that_touches_no_region left n r P t = no_region_is_named r P (sym n.none ∙ t)
 
+-- a sweep touches no other region than its own
+pub sweep_touches_its_region : (region : ℕ) (dead : List (ℕ × Object)) (r : ℕ) → touched (Sweep region dead) ≡ Some r → region ≡ r
+unfolding touched
+sweep_touches_its_region region [] r e = no_region_is_named r _ e
+sweep_touches_its_region region (d ∷ dead) r e = equal_options_name_same_region region r e
+
 -- each record that touches a region, and the others
-pub by_region : (P : Undo → Type 0) → ((at : ObjRef) (slot old : ℕ) → P (Put at slot old)) → ((at : ObjRef) (slot old : ℕ) (logged : Bool) → P (Store at slot old logged)) → ((region : ℕ) (dead : List (ℕ × Object)) → P (Sweep region dead))
+pub by_region : (P : Undo → Type 0) → ((at : ObjRef) (slot old : ℕ) → P (Put at slot old)) → ((at : ObjRef) (slot old : ℕ) (logged : Bool) → P (Store at slot old logged)) → ((region : ℕ) (d : ℕ × Object) (dead : List (ℕ × Object)) → P (Sweep region (d ∷ dead)))
     → ((region : ℕ) (storage : UsedRegion) → P (Reclaim region storage)) → ((left : Undo) → TouchesNone left → P left) → (left : Undo) → P left
-unfolding touched patched
+unfolding touched patched with_dead
 by_region P put store sweep reclaim other (Put at slot old) = put at slot old
 by_region P put store sweep reclaim other (Store at slot old logged) = store at slot old logged
-by_region P put store sweep reclaim other (Sweep region dead) = sweep region dead
+by_region P put store sweep reclaim other (Sweep region (d ∷ dead)) = sweep region d dead
 by_region P put store sweep reclaim other (Reclaim region storage) = reclaim region storage
 by_region P put store sweep reclaim other left = other left (record { none = refl; patch = λ f. refl })
 
@@ -59,7 +65,7 @@ unfolding touched patched copy_for walked_copy frozen_word_set
 by_patch P patches = by_region P
     (λ at slot old. patches (Put at slot old) at.region (record { region = refl; copy = λ v q. refl; walk = λ f. refl; size = λ f. refl }))
     (λ at slot old logged. patches (Store at slot old logged) at.region (record { region = refl; copy = λ v q. refl; walk = λ f. refl; size = λ f. refl }))
-    (λ region dead. patches (Sweep region dead) region (record { region = refl; copy = λ v q. refl; walk = λ f. refl; size = dead_size dead }))
+    (λ region d dead. patches (Sweep region (d ∷ dead)) region (record { region = refl; copy = λ v q. refl; walk = λ f. refl; size = dead_size (d ∷ dead) }))
 
 -- ---- registers and classes
 

@@ -1,5 +1,5 @@
 -- A pin that is walked back, record by record.
-use Rattle.std.proofs.Common.{◌≡◌, ◌⊎◌, ℕ, zero, suc, ◌+◌, ◌-◌, ◌*◌, ◌<◌, Bool, true, false, List, [], ◌∷◌, length, length-set, set, replicate, Option, Some, None, refl, sym, ap, subst, ◌∙◌, arith}
+use Rattle.std.proofs.Common.{◌≡◌, ◌≢◌, ◌⊎◌, ℕ, zero, suc, ◌+◌, ◌-◌, ◌*◌, ◌<◌, Bool, true, false, List, [], ◌∷◌, length, length-set, set, replicate, Option, Some, None, refl, sym, ap, subst, ◌∙◌, arith}
 use mathlib.Core.Logic.{inl, inr}
 use Rattle.std.specs.Prelude.{◌==◌, is_some, slice_get, slice_index_or, Result, Ok, Err, OnOk, if◌then◌else◌}
 use Rattle.std.proofs.lemmas.List.{get_or-set_same, get_or-set_other, length-replicate}
@@ -14,7 +14,7 @@ use Rattle.heap_step.specs.declared.Undo.{Undo}
 use Rattle.heap_step.specs.declared.Undo.TheVariants.{Put, Store, Reg, New, Class, Snap, Mark, Drain, Finish, Sweep, Reclaim}
 use Rattle.heap_step.specs.Laws.{IsStep}
 use Rattle.heap_step.specs.Records.{undone}
-use Rattle.heap_step.proofs.EventLaws.{undo_takes_back}
+use Rattle.heap_step.proofs.EventLaws.{undo_restores}
 use Rattle.heap_pins.specs.KeptCopies.{touched, patched, has_copy, with_copy}
 use Rattle.heap_pins.specs.KeptRegions.{blank, byte_revived}
 use Rattle.heap_pins.specs.Pin.{PinContents, byte_in, region_seen, state_kept, state_seen, states_of_region}
@@ -27,7 +27,7 @@ use Rattle.heap_pins.proofs.HeldPins.{property_of_first_state}
 use Rattle.heap_pins.proofs.KeptStates.{cells_with_byte_are_cells, cells_with_copy_are_cells, byte_is_written, other_byte_stays, IsTaken, taken_or_not, taken_state_was_empty, other_state_was_same, copy_shows_its_region, copy_leaves_others}
 use Rattle.heap_pins.proofs.OpenedPins.{blank_cells_are_cells, opened_pin_shows_its_state}
 use Rattle.heap_pins.proofs.Others.{undoing_keeps_region_count}
-use Rattle.heap_pins.proofs.States.{other_region_keeps_states, tells_before}
+use Rattle.heap_pins.proofs.States.{other_region_keeps_states, sweep_of_none_tells_states_now, tells_before}
 use Rattle.heap_pins.proofs.WalkInvariants.{walk_shows_beside_later_state, walk_shows_beside_itself, of_one_more}
 
 -- ---- the start
@@ -198,11 +198,19 @@ unfolding touched registers_before classes_before
 walk_back_over_finish left w p q log is cells h = subst (λ l. IsWalkedBack l w p q) (sym is)
     (walk_back_without_copy (Finish log) w p q refl (ap (λ (z : PinContents). z.classes) h.rest) (ap (λ (z : PinContents). z.registers) h.rest) (ap (λ (z : PinContents). z.copies) h.rest) (h.cells (length p.copies) cells) (finish_walks_back log w p q h))
 
-pub walk_back_over_sweep : (left : Undo) (w : HeapState) (p q : PinContents) (region : ℕ) (dead : List (ℕ × Object)) (f : Frozen) → left ≡ Sweep region dead → region < length p.copies → AreCells p.cells (length p.copies) → region_seen p w.regions region ≡ Some f
+pub walk_back_over_sweep : (left : Undo) (w : HeapState) (p q : PinContents) (region : ℕ) (dead : List (ℕ × Object)) (f : Frozen) → left ≡ Sweep region dead → length dead ≢ 0 → region < length p.copies → AreCells p.cells (length p.copies) → region_seen p w.regions region ≡ Some f
     → q ≡ with_copy_before (Sweep region dead) w region p → IsWalkedBack left w p q
 unfolding touched registers_before classes_before walked_copy patched
-walk_back_over_sweep left w p q region dead f is lt cells seen h = subst (λ l. IsWalkedBack l w p q) (sym is)
-    (walk_back_with_copy (Sweep region dead) w p q region (patched (Sweep region dead) f) refl lt cells refl refl (ap (walked_copy (Sweep region dead)) seen) h)
+walk_back_over_sweep left w p q region [] f is some lt cells seen h = absurd (some refl)
+walk_back_over_sweep left w p q region (d ∷ dead) f is some lt cells seen h = subst (λ l. IsWalkedBack l w p q) (sym is)
+    (walk_back_with_copy (Sweep region (d ∷ dead)) w p q region (patched (Sweep region (d ∷ dead)) f) refl lt cells refl refl (ap (walked_copy (Sweep region (d ∷ dead))) seen) h)
+
+-- nothing if there were none
+pub walk_back_over_sweep_of_none : (left : Undo) (w : HeapState) (p : PinContents) (region : ℕ) (dead : List (ℕ × Object)) → left ≡ Sweep region dead → length dead ≡ 0 → AreCells p.cells (length p.copies) → IsWalkedBack left w p p
+unfolding touched registers_before classes_before
+walk_back_over_sweep_of_none left w p region [] is none cells = subst (λ l. IsWalkedBack l w p p) (sym is)
+    (same_cells_walk_back (Sweep region []) w p p refl refl refl refl refl refl (λ f at. sweep_of_none_tells_states_now region f at) cells)
+walk_back_over_sweep_of_none left w p region (d ∷ dead) is none cells = absurd (omega (arith, none))
 
 pub reclaim_back : (left : Undo) (w : HeapState) (p q : PinContents) (region : ℕ) (storage : UsedRegion) → left ≡ Reclaim region storage → region < length p.copies → AreCells p.cells (length p.copies)
     → q ≡ with_copy_before (Reclaim region storage) w region p → IsWalkedBack left w p q
@@ -224,7 +232,7 @@ consequence_of_an_ok (Err e) f h = tt
 -- ---- the state before
 
 told_before : (left : Undo) (e : Event) (x : HeapState) → IsStep e (undone left x) x left → TellsBefore left (undone left x) x
-told_before left e x s = tells_before e (undone left x) x left (undo_takes_back e (undone left x)) s
+told_before left e x s = tells_before e (undone left x) x left (undo_restores e (undone left x)) s
 
 pin_before : (left : Undo) (e : Event) (x w : HeapState) (p q : PinContents) → IsStep e (undone left x) x left → IsWalkedBack left w p q → IsPinOf p x → IsPinOf q (undone left x)
 pin_before left e x w p q s b h = record {

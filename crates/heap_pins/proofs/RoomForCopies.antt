@@ -96,7 +96,7 @@ unfolding touched
 touched_region_is_in_heap e before after left s region = by_region (λ u. left ≡ u → touched u ≡ Some region → region < length after.regions)
     (λ at slot old is t. within at.region t (object_within after.regions at (put_record_names_an_object e before after left s at slot old is)))
     (λ at slot old logged is t. within at.region t (object_within after.regions at (store_there e before after left s at slot old logged is)))
-    (λ r dead is t. within r t (used_region_is_listed after.regions r (sweep_used e before after left s r dead is)))
+    (λ r d dead is t. within r t (used_region_is_listed after.regions r (sweep_used e before after left s r (d ∷ dead) is)))
     (λ r storage is t. within r t (reclaim_within e before after left s r storage is))
     (λ u n is. record_that_touches_no_region u n region _)
     left refl

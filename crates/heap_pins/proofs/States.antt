@@ -23,7 +23,7 @@ use Rattle.heap_step.specs.declared.Undo.{Undo}
 use Rattle.heap_step.specs.declared.Undo.TheVariants.{Put, Store, Reg, New, Class, Snap, Mark, Drain, Finish, Sweep, Reclaim}
 use Rattle.heap_step.specs.Records.{undone}
 use Rattle.heap_step.specs.declared.Event.{Event}
-use Rattle.heap_step.specs.Laws.{IsStep, IsTakenBack}
+use Rattle.heap_step.specs.Laws.{IsStep, IsRestored}
 use Rattle.heap_region.specs.RegionCopies.{Frozen, frozen, region_frozen}
 use Rattle.heap_pins.specs.Shows.{AreFit, FitIn}
 use Rattle.heap_pins.proofs.RoomForCopies.{sweep_used, sweep_fit, reclaim_within}
@@ -207,6 +207,31 @@ cell_states_before_sweep region dead s b some fit = choice_by_equal_numbers b.re
     ∙ ap (λ x. dead_state dead b.cell (cell_state x)) (ap (λ r. slot_object (used_at s.regions r) b.cell) (sym e) ∙ sym (object_of_used s.regions b)))
     (λ ne. equal_regions_have_equal_states (with_region region (unswept_region dead) s.regions) s.regions b (used_region_after_other_change region b.region (unswept_region dead) s.regions (λ e. ne (sym e))))
 
+-- a sweep that found no dead object changed no cell
+cells_of_sweep_of_none : (s : Option UsedRegion) (c : ℕ) → slot_object (option_map (unswept_region []) s) c ≡ slot_object s c
+unfolding unswept_region
+cells_of_sweep_of_none None c = refl
+cells_of_sweep_of_none (Some u) c = refl
+
+sweep_of_none_keeps_states : (region : ℕ) (regions : List Region) (b : ObjRef) → cell_states_of_regions (with_region region (unswept_region []) regions) b ≡ cell_states_of_regions regions b
+sweep_of_none_keeps_states region regions b = elim (same_or_not b.region region) [
+  | inl e ↦ ap cell_state (object_of_used (with_region region (unswept_region []) regions) b
+      ∙ ap (λ x. slot_object x b.cell) (ap (used_at (with_region region (unswept_region []) regions)) e ∙ used_region_after_its_change region (unswept_region []) regions)
+      ∙ cells_of_sweep_of_none (used_at regions region) b.cell
+      ∙ ap (λ r. slot_object (used_at regions r) b.cell) (sym e)
+      ∙ sym (object_of_used regions b))
+  | inr ne ↦ equal_regions_have_equal_states (with_region region (unswept_region []) regions) regions b (used_region_after_other_change region b.region (unswept_region []) regions (λ e. ne (sym e)))
+]
+
+-- so its record tells the states as they are
+pub sweep_of_none_tells_states_now : (region : ℕ) (f : ObjRef → ℕ) (b : ObjRef) → states_before (Sweep region []) f b ≡ f b
+unfolding states_before dead_state
+sweep_of_none_tells_states_now region f b = go (b.region == region)
+  where
+    go : (t : Bool) → (if t then f b else f b) ≡ f b
+    go true = refl
+    go false = refl
+
 region_set_is_used : (r : ℕ) (u : UsedRegion) (regions : List Region) → r < length regions → used_at (set regions r (InUse u)) r ≡ Some u
 unfolding used_at
 region_set_is_used r u regions lt = ap (option_and_then used_part) (set_item_is_got regions r (InUse u) lt)
@@ -240,7 +265,7 @@ unfolding states_before touched
 other_region_keeps_states left r f b t ne = by_region (λ u. touched u ≡ Some r → states_before u f b ≡ f b)
     (λ at slot old e. refl)
     (λ at slot old logged e. refl)
-    (λ region dead e. ap (λ t. if t then dead_state dead b.cell (f b) else f b) (ne_eqb b.region region (λ q. ne (q ∙ equal_options_name_same_region region r e))))
+    (λ region d dead e. ap (λ t. if t then dead_state (d ∷ dead) b.cell (f b) else f b) (ne_eqb b.region region (λ q. ne (q ∙ equal_options_name_same_region region r e))))
     (λ region storage e. ap (λ t. if t then cell_state (cell_object storage b.cell) else f b) (ne_eqb b.region region (λ q. ne (q ∙ equal_options_name_same_region region r e))))
     (λ u n. record_that_touches_no_region u n r _)
     left t
@@ -257,9 +282,10 @@ cell_states_before_elsewhere Snap x b ne = snap_state x.regions b
 cell_states_before_elsewhere (Mark parent pushed) x b ne = marks_keep_cell_states (take pushed x.gray) x.regions b
 cell_states_before_elsewhere (Drain pushed) x b ne = marks_keep_cell_states (take pushed x.gray) x.regions b
 cell_states_before_elsewhere (Finish log) x b ne = cell_states_before_finish x.regions b
-cell_states_before_elsewhere (Sweep region dead) x b ne =
-    equal_regions_have_equal_states (with_region region (unswept_region dead) x.regions) x.regions b (used_region_after_other_change region b.region (unswept_region dead) x.regions (λ e. ne (ap Some e)))
-    ∙ sym (other_region_keeps_states (Sweep region dead) region (cell_states_of_regions x.regions) b refl (λ e. ne (ap Some (sym e))))
+cell_states_before_elsewhere (Sweep region []) x b ne = sweep_of_none_keeps_states region x.regions b ∙ sym (sweep_of_none_tells_states_now region (cell_states_of_regions x.regions) b)
+cell_states_before_elsewhere (Sweep region (d ∷ dead)) x b ne =
+    equal_regions_have_equal_states (with_region region (unswept_region (d ∷ dead)) x.regions) x.regions b (used_region_after_other_change region b.region (unswept_region (d ∷ dead)) x.regions (λ e. ne (ap Some e)))
+    ∙ sym (other_region_keeps_states (Sweep region (d ∷ dead)) region (cell_states_of_regions x.regions) b refl (λ e. ne (ap Some (sym e))))
 cell_states_before_elsewhere (Reclaim region storage) x b ne =
     equal_regions_have_equal_states (set x.regions region (InUse storage)) x.regions b (restored_elsewhere region b.region storage (pool_of x) (λ e. ne (ap Some e)))
     ∙ sym (other_region_keeps_states (Reclaim region storage) region (cell_states_of_regions x.regions) b refl (λ e. ne (ap Some (sym e))))
@@ -291,7 +317,7 @@ no_state_without_copy regions b none = unused_region_has_state_zero regions b (g
 
 -- ---- all that a record tells
 
-pub tells_before : (e : Event) (before x : HeapState) (left : Undo) → IsTakenBack e before → IsStep e before x left → TellsBefore left before x
+pub tells_before : (e : Event) (before x : HeapState) (left : Undo) → IsRestored e before → IsStep e before x left → TellsBefore left before x
 tells_before e before x left law s =
     let back : undone left x ≡ before = (λ i. undone (s.recorded i) (s.gave i)) ∙ law s.legal s.accepted in
     subst (λ (w : HeapState). TellsBefore left w x) back (record {

@@ -64,7 +64,7 @@ unfolding patched
 has_patched left f g h = by_region (λ u. HasAll (patched u f) (patched u g))
     (λ at slot old. word_at f g at.cell slot old h)
     (λ at slot old logged. word_at f g at.cell slot old h)
-    (λ region dead. dead_at dead f g h)
+    (λ region d dead. dead_at (d ∷ dead) f g h)
     (λ region storage. h)
     (λ u n. rw (n.patch f, n.patch g) h)
     left

@@ -1,6 +1,6 @@
 -- What a pin keeps of a step: a copy of the region that it overwrote or reclaimed, the cells that it took, and whether it ended
 -- a cycle.
-use Rattle.std.specs.Prelude.{ℕ, Bool, true, false, List, [], fold, Option, Some, None, is_some, option_map, replicate, slice_index_or, slice_set, if◌then◌else◌}
+use Rattle.std.specs.Prelude.{ℕ, Bool, true, false, List, [], ◌∷◌, fold, Option, Some, None, is_some, option_map, replicate, slice_index_or, slice_set, if◌then◌else◌}
 use Rattle.heap_region.specs.Regions.{Object}
 use Rattle.heap_region.specs.RegionCopies.{Frozen, frozen, frozen_with, frozen_word_set, region_frozen}
 use Rattle.heap_class.specs.declared.ObjRef.{ObjRef}
@@ -10,11 +10,12 @@ use Rattle.heap_step.specs.declared.Undo.TheVariants.{Put, Store, New, Finish, S
 use Rattle.heap_step.specs.Records.{undone}
 use Rattle.heap_pins.specs.Pin.{PinContents, state_seen, states_of_region}
 
--- the region of which a step with this record overwrote a word or reclaimed an object
+-- the region of which a step with this record overwrote a word or reclaimed an object; a sweep that found no dead object did
+-- neither
 unfoldable pub touched : Undo → Option ℕ
 touched (Put at slot old) = Some at.region
 touched (Store at slot old logged) = Some at.region
-touched (Sweep region dead) = Some region
+touched (Sweep region (d ∷ dead)) = Some region
 touched (Reclaim region storage) = Some region
 touched left = None
 

@@ -15,7 +15,7 @@ mod reads;
 mod view;
 mod walk;
 
-use heap_step::undo_takes_back;
+use heap_step::undo_restores;
 pub use pin::{Pin, ends_cycle, noted_region, touched_region};
 pub use view::PinView;
 
@@ -30,7 +30,7 @@ pub fn event_keeps()
     ensures objects { (e : Event) (w : HeapState) → EventKeeps e w }
     ensures classes { (e : Event) (w : HeapState) → EventExtends e w }
 {
-    undo_takes_back();
+    undo_restores();
 }
 
 /// States that the record of a step tells the registers, the classes and the sorts of all cells before it, and the words that
@@ -38,7 +38,7 @@ pub fn event_keeps()
 pub fn tells_before()
     ensures { (left : Undo) (before x : HeapState) → IsRecordTold left before x }
 {
-    undo_takes_back();
+    undo_restores();
 }
 
 /// States that a pin that is walked one record further back is walked to the state before that step, and that a pin that was

@@ -6,6 +6,7 @@ ghost use Rattle.heap_region.specs.Regions.{object_at, used_at};
 ghost use Rattle.heap_region.specs.RegionCopies.{region_frozen};
 ghost use Rattle.heap_world.specs.State.{HeapState};
 ghost use Rattle.heap_step.specs.declared.Event.{Event};
+ghost use Rattle.heap_step.specs.declared.Undo.TheVariants.{Sweep};
 ghost use Rattle.heap_step.specs.Laws.{IsStep};
 ghost use Rattle.heap_pins.specs.Pin.{state_seen};
 ghost use Rattle.heap_pins.specs.KeptCopies.{ends_cycle, has_copy, kept, noted, touched, with_byte, with_dead};
@@ -58,8 +59,21 @@ pub fn touched_region(left: &Undo) -> Option<u64>
 {
     match left {
         Undo::Put { at, .. } | Undo::Store { at, .. } => Some(at.region as u64),
-        Undo::Sweep { region, .. } | Undo::Reclaim { region, .. } => Some(*region as u64),
+        Undo::Sweep { region, dead } => swept_region(*region, dead),
+        Undo::Reclaim { region, .. } => Some(*region as u64),
         _ => None,
+    }
+}
+
+// Returns the region of which a sweep removed these dead objects, or None if there are none.
+#[inline(never)]
+fn swept_region(region: u16, dead: &DeadCells) -> Option<u64>
+    ensures { result ≡ touched (Sweep region dead.now) }
+{
+    if dead.len() == 0 {
+        None
+    } else {
+        Some(region as u64)
     }
 }
 
@@ -74,7 +88,8 @@ pub fn noted_region(left: &Undo) -> Option<u64>
         Undo::Put { at, .. } | Undo::Store { at, .. } | Undo::New { at, .. } => Some(
             at.region as u64,
         ),
-        Undo::Sweep { region, .. } | Undo::Reclaim { region, .. } => Some(*region as u64),
+        Undo::Sweep { region, dead } => swept_region(*region, dead),
+        Undo::Reclaim { region, .. } => Some(*region as u64),
         _ => None,
     }
 }
@@ -115,10 +130,10 @@ impl Pin {
         self.kept.has_copy(region)
     }
 
-    /// Keeps of a step what the pin needs of it, by the step's record: a copy of the region that it overwrote or reclaimed, if
-    /// the pin has none, with what the record has of it; the cells that it took; and whether it ended a cycle. The step must
-    /// have left this record and led to this state. Fails with NoMemory if a copy can't be allocated, and the pin is unchanged
-    /// then.
+    /// Keeps of a step what the pin needs of it, by the step's record: a copy of the region of which it overwrote a word or
+    /// removed an object, if the pin has none, with what the record has of it; the cells that it took; and whether it ended a
+    /// cycle. The step must have left this record and led to this state. Fails with NoMemory if a copy can't be allocated, and
+    /// the pin is unchanged then.
     pub fn keep(&mut self, world: &World, left: &Undo) -> Result<(), Refusal>
         requires step { (e : Event) × (before : HeapState) × IsStep e before world.now left.now }
         requires sized { length self.old.copies ≡ length world.now.regions }
@@ -130,7 +145,13 @@ impl Pin {
         match left {
             Undo::Put { at, slot, old } => self.keep_word(world, *at, *slot as u64, *old),
             Undo::Store { at, slot, old, .. } => { self.keep_word(world, *at, *slot as u64, *old) }
-            Undo::Sweep { region, dead } => self.keep_dead(world, *region, dead),
+            Undo::Sweep { region, dead } => {
+                if dead.len() == 0 {
+                    Ok(())
+                } else {
+                    self.keep_dead(world, *region, dead)
+                }
+            }
             Undo::Reclaim { region, storage } => self.keep_region(world, *region, storage),
             Undo::New { at, fresh, .. } => {
                 self.keep_new(*at, *fresh);

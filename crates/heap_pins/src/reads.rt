@@ -1,8 +1,10 @@
 //! What a dump reads of a pin, beside the current state.
-ghost use Rattle.std.specs.Prelude.{◌≡◌, ℕ, ◌+◌, ◌<◌, ◌≤◌, ◌*◌, [], length, None, Some, IfSome, slice_get, slice_index_or, MatchOption};
+ghost use Rattle.std.specs.Prelude.{◌≡◌, ℕ, ◌+◌, ◌<◌, ◌≤◌, ◌*◌, [], length, None, Some, IsSome, IfSome, slice_get, slice_index_or, MatchOption};
 ghost use Rattle.memchr.specs.Find.{IsFirstByte, is_byte};
-ghost use Rattle.heap_region.specs.Limits.{cell_limit, region_limit};
-ghost use Rattle.heap_pins.specs.Pin.{IsPlaceAfter, byte_in, object_seen, places_seen, state_seen, states_seen};
+ghost use Rattle.heap_region.specs.Limits.{cell_limit, region_limit, region_words};
+ghost use Rattle.heap_region.specs.RegionCopies.{frozen_object};
+ghost use Rattle.heap_region.specs.Regions.{object_base};
+ghost use Rattle.heap_pins.specs.Pin.{IsPlaceAfter, byte_in, cell_dumped, object_seen, places_seen, state_seen, states_seen};
 ghost use Rattle.heap_pins.specs.Shows.{IsSeen};
 ghost use Rattle.heap_pins.specs.States.{IsFirstIn, IsFirstPlace, IsShownIf, state_by, state_in_storage};
 
@@ -11,6 +13,7 @@ use crate::pin::Pin;
 use heap_class::{ObjKind, ObjRef};
 use heap_region::{FrozenRegion, OBJECT_BASE, REGION_WORDS, RegionView};
 use heap_world::World;
+use hprof_text::ShownObject;
 use memchr::memchr;
 
 impl Pin {
@@ -51,7 +54,11 @@ impl Pin {
                 });
             }
         }
-        self.next_from(world, at)
+        // A call that is given the place of the result would keep it out of registers.
+        match self.next_from(world, at) {
+            Some(next) => Some(next),
+            None => None,
+        }
     }
 
     // Tells whether nothing is kept of a region and a cell of it has a live object. The pin shows that object then, be it that a
@@ -170,10 +177,7 @@ impl Pin {
         ensures { IfSome (object_seen self.now world.now.regions at) (λ o. result ≡ o.id) }
     {
         match self.copy_of(at.region) {
-            Some(copy) => {
-                let first = REGION_WORDS * at.region as u64 + at.cell as u64 * copy.cell_size();
-                OBJECT_BASE + 8 * first
-            }
+            Some(copy) => id_in(copy, at),
             None => world.regions().id(at),
         }
     }
@@ -189,6 +193,38 @@ impl Pin {
             None => world.regions().words(at),
         }
     }
+
+    /// Returns the object at this place, which must have one.
+    #[inline(always)]
+    pub fn object<'b>(&'b self, world: &'b World, at: ObjRef) -> ShownObject<'b>
+        requires { IsSeen self.now world.now.regions at }
+        ensures { IfSome (object_seen self.now world.now.regions at) (λ o. result ≡ o) }
+    {
+        match self.copy_of(at.region) {
+            Some(copy) => object_in(copy, at),
+            None => {
+                let regions = world.regions();
+                ShownObject::new(regions.id(at), regions.kind(at), regions.words(at))
+            }
+        }
+    }
+}
+
+// Returns the object at this place in a copy of its region, which must have one.
+#[inline(always)]
+fn object_in(copy: &FrozenRegion, at: ObjRef) -> ShownObject<'_>
+    requires { IsSome (frozen_object copy.now at.cell) }
+    ensures { IfSome (cell_dumped at copy.now) (λ o. result ≡ o) }
+{
+    let cell = at.cell as u64;
+    ShownObject::new(id_in(copy, at), copy.kind(cell), copy.words(cell))
+}
+
+// Returns the id of a cell in a copy of its region: the address of its first word.
+fn id_in(copy: &FrozenRegion, at: ObjRef) -> u64
+    ensures { result ≡ object_base + 8 * (region_words * at.region + at.cell * copy.now.cell_size) }
+{
+    OBJECT_BASE + 8 * (REGION_WORDS * at.region as u64 + at.cell as u64 * copy.cell_size())
 }
 
 // Returns the first cell of a region in use from one on that had a live object, by the bytes of its cells.

@@ -5,7 +5,7 @@ ghost use Rattle.heap_pins.specs.View.{ShowsSome};
 use crate::Pin;
 use heap_class::{FirstClasses, IdSize, ObjKind, ObjRef};
 use heap_world::World;
-use hprof_text::View;
+use hprof_text::{ShownObject, View};
 use std::marker::Model;
 
 /// A pin as a dump shows it, read beside a state that came later, with ids of one size.
@@ -64,6 +64,7 @@ impl<'a> View for PinView<'a> {
         pin.first(self.world)
     }
 
+    #[inline(always)]
     fn next(&self, at: ObjRef) -> Option<ObjRef> {
         let pin: &Pin = self.pin;
         pin.next(self.world, at)
@@ -83,5 +84,11 @@ impl<'a> View for PinView<'a> {
     fn words(&self, at: ObjRef) -> &[u64] {
         let pin: &Pin = self.pin;
         pin.words(self.world, at)
+    }
+
+    #[inline(always)]
+    fn object(&self, at: ObjRef) -> ShownObject<'_> {
+        let pin: &Pin = self.pin;
+        pin.object(self.world, at)
     }
 }

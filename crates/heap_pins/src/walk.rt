@@ -18,8 +18,8 @@ use heap_world::World;
 
 impl Pin {
     /// Takes the pin from the state after the step that left this record to the state before it; `world` is the current state,
-    /// beside which the pin must show the state after the step. Copies the region that the step overwrote or reclaimed. Fails
-    /// with NoMemory if the copy can't be allocated, and the pin is of no use then.
+    /// beside which the pin must show the state after the step. Copies the region of which the step overwrote a word or removed
+    /// an object. Fails with NoMemory if the copy can't be allocated, and the pin is of no use then.
     pub fn walk_back(&mut self, world: &World, left: &Undo) -> Result<(), Refusal>
         requires { CanWalk left.now world.now self.old }
         ensures walked { OnOk result (IsWalkedBack left.now world.now self.old self.new) }
@@ -51,7 +51,13 @@ impl Pin {
                 self.revive();
                 Ok(())
             }
-            Undo::Sweep { region, dead } => self.unsweep(world, *region, dead),
+            Undo::Sweep { region, dead } => {
+                if dead.len() == 0 {
+                    Ok(())
+                } else {
+                    self.unsweep(world, *region, dead)
+                }
+            }
             Undo::Reclaim { region, storage } => self.unreclaim(world, *region, storage),
             Undo::Snap | Undo::Mark { .. } | Undo::Drain { .. } => Ok(()),
         }

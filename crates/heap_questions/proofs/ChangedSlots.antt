@@ -13,7 +13,7 @@ use Rattle.heap_step.specs.declared.Event.{Event}
 use Rattle.heap_step.specs.declared.Undo.{Undo}
 use Rattle.heap_step.specs.declared.Undo.TheVariants.{Put, Store, New}
 use Rattle.heap_step.specs.Laws.{IsStep}
-use Rattle.heap_step.proofs.Steps.{put_taken_back_is_before, store_is}
+use Rattle.heap_step.proofs.Steps.{put_undone_is_before, store_is}
 use Rattle.heap_pins.proofs.DumpLimits.{kind_of_slots_is_known}
 use Rattle.heap_trail.specs.Trail.{Trail, retained, state_ago}
 use Rattle.heap_trail.proofs.RetainedRecords.{HasRecord}
@@ -32,7 +32,7 @@ same_word e before after left at k now st h c = when_false _ _ c (record_tells e
 
 -- the word before any step that didn't make the object
 pub before_is : (e : Event) (before after : HeapState) (left : Undo) (at : ObjRef) (k now : ℕ) → IsStep e before after left → slot_word after at k ≡ Some now → made_by left at ≡ false → slot_word before at k ≡ Some (word_before left at k now)
-before_is e before after (Put a s old) at k now st h m = write_before before after a at s k old now (sym (ap (λ (w : HeapState). w.regions) (put_taken_back_is_before e before after (Put a s old) st a s old refl))) h
+before_is e before after (Put a s old) at k now st h m = write_before before after a at s k old now (sym (ap (λ (w : HeapState). w.regions) (put_undone_is_before e before after (Put a s old) st a s old refl))) h
 before_is e before after (Store a s old logged) at k now st h m = write_before before after a at s k old now (sym (ap (λ (w : HeapState). w.regions) (store_is e before after (Store a s old logged) st a s old logged refl))) h
 before_is e before after (New a fresh r m' old) at k now st h m = same_word e before after (New a fresh r m' old) at k now st h m
 before_is e before after left at k now st h m = same_word e before after left at k now st h refl

@@ -22,12 +22,13 @@ use Rattle.heap_step.specs.declared.Event.{Event}
 use Rattle.heap_step.specs.declared.Undo.{Undo}
 use Rattle.heap_step.specs.declared.Undo.TheVariants.{Put, Store, New, Finish, Sweep, Reclaim}
 use Rattle.heap_step.specs.Laws.{IsStep}
-use Rattle.heap_step.proofs.Steps.{put_taken_back_is_before, reclaim_lifeless, store_is, sweep_before}
+use Rattle.heap_step.proofs.Steps.{put_undone_is_before, reclaim_lifeless, store_is, sweep_before}
 use Rattle.hprof_text.specs.Image.{DumpedObject, Image}
 use Rattle.heap_pins.specs.Images.{dumped_objects, image_of}
 use Rattle.heap_pins.specs.KeptCopies.{touched}
 use Rattle.heap_pins.specs.Pin.{PinContents}
 use Rattle.heap_pins.specs.Walk.{TellsBefore, cell_state, states_before}
+use Rattle.heap_pins.proofs.RecordCases.{sweep_touches_its_region}
 use Rattle.heap_pins.proofs.ShownImages.{shown}
 use Rattle.heap_trail.specs.Trail.{Trail, state_ago}
 use Rattle.heap_trail.proofs.RetainedRecords.{HasRecord}
@@ -297,13 +298,13 @@ made_same k e before after a fresh m r old at s n =
 
 other_same : (k : ℕ) (e : Event) (before after : HeapState) (left : Undo) (at : ObjRef) → IsStep e before after left → is_finish left ≡ false → made_place left ≢ Some at → lives_as k (object_at before.regions at) ≡ lives_as k (object_at after.regions at)
 unfolding touched object_at states_before
-other_same k e before after (Put a s old) at st f n = written_same k before after a at s old (sym (ap (λ (w : HeapState). w.regions) (put_taken_back_is_before e before after (Put a s old) st a s old refl)))
+other_same k e before after (Put a s old) at st f n = written_same k before after a at s old (sym (ap (λ (w : HeapState). w.regions) (put_undone_is_before e before after (Put a s old) st a s old refl)))
 other_same k e before after (Store a s old logged) at st f n = written_same k before after a at s old (sym (ap (λ (w : HeapState). w.regions) (store_is e before after (Store a s old logged) st a s old logged refl)))
 other_same k e before after (New a fresh m r old) at st f n = made_same k e before after a fresh m r old at st (λ q. n (ap Some q))
 other_same k e before after (Finish log) at st f n = absurd (true≢false f)
 other_same k e before after (Sweep region dead) at st f n = elim (cases_eq at.region region) [
   | inl r ↦ swept_same k e before after region dead at st r
-  | inr r ↦ untouched_same k (Sweep region dead) before after at (told e before after (Sweep region dead) st) (λ q. r (sym (same_Some region at.region q))) (sweep_state region dead at (states_after after) r)
+  | inr r ↦ untouched_same k (Sweep region dead) before after at (told e before after (Sweep region dead) st) (λ q. r (sym (sweep_touches_its_region region dead at.region q))) (sweep_state region dead at (states_after after) r)
 ]
 other_same k e before after (Reclaim region storage) at st f n = elim (cases_eq at.region region) [
   | inl r ↦ reclaimed_same k e before after region storage at st r

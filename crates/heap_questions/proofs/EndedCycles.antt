@@ -30,7 +30,7 @@ use Rattle.heap_step.specs.Records.{undo_record, undone}
 use Rattle.heap_step.specs.declared.Event.{Event}
 use Rattle.heap_step.specs.declared.Undo.{Undo}
 use Rattle.heap_step.specs.declared.Undo.TheVariants.{Finish, New, Reclaim, Snap, Sweep}
-use Rattle.heap_step.proofs.EventLaws.{undo_takes_back}
+use Rattle.heap_step.proofs.EventLaws.{undo_restores}
 use Rattle.heap_step.proofs.Places.{new_object_stands_at_place}
 use Rattle.heap_step.proofs.Steps.{finish_before, finish_is, sweep_before}
 use Rattle.heap_pins.specs.Walk.{TellsBefore, cell_state, states_before}
@@ -296,16 +296,16 @@ finish_ends e before after log s = (
   ap (λ (w : HeapState). w.phase) (finish_before e before after (Finish log) s log refl).3,
 )
 
-taken_back : (left : Undo) (v : HeapState) → is_finish left ≡ false → (undone left v).phase ≡ Marking → v.phase ≡ Marking
+cycle_runs_on : (left : Undo) (v : HeapState) → is_finish left ≡ false → (undone left v).phase ≡ Marking → v.phase ≡ Marking
 unfolding undone unsnapped unmarked undrained unshaded
-taken_back (Finish log) v n e = absurd (false≢true (sym n))
-taken_back Snap v n e = clash e
-taken_back left v n e = e
+cycle_runs_on (Finish log) v n e = absurd (false≢true (sym n))
+cycle_runs_on Snap v n e = clash e
+cycle_runs_on left v n e = e
 
 pub others_end_none : (left : Undo) (e : Event) (before after : HeapState) → IsStep e before after left → is_finish left ≡ false → before.phase ≡ Marking → after.phase ≡ Idle → ⊥
 others_end_none left e before after s n running idle =
-    let back : undone left after ≡ before = ap₂ undone s.recorded s.gave ∙ undo_takes_back e before s.legal s.accepted in
-    clash (sym idle ∙ taken_back left after n (ap (λ (w : HeapState). w.phase) back ∙ running))
+    let back : undone left after ≡ before = ap₂ undone s.recorded s.gave ∙ undo_restores e before s.legal s.accepted in
+    clash (sym idle ∙ cycle_runs_on left after n (ap (λ (w : HeapState). w.phase) back ∙ running))
 
 -- ---- step by step
 

@@ -30,7 +30,7 @@ use Rattle.heap_step.specs.Apply.{new_record, reg_record, refusal_of, sweep_reco
 use Rattle.heap_step.specs.Laws.{IsStep}
 use Rattle.heap_step.specs.Records.{undo_record}
 use Rattle.heap_step.proofs.Places.{new_object_stands_at_place}
-use Rattle.heap_step.proofs.Steps.{put_taken_back_is_before, store_is}
+use Rattle.heap_step.proofs.Steps.{put_undone_is_before, store_is}
 use Rattle.hprof_text.specs.Image.{DumpedObject, Image}
 use Rattle.heap_pins.specs.Images.{image_of, dumped_objects}
 use Rattle.heap_pins.specs.KeptCopies.{touched}
@@ -39,6 +39,7 @@ use Rattle.heap_pins.specs.Shows.{IsPinOf}
 use Rattle.heap_pins.specs.View.{ShowsSome}
 use Rattle.heap_pins.specs.Walk.{TellsBefore, cell_state, states_before}
 use Rattle.heap_pins.proofs.LiveCounts.{Stands, live_stand}
+use Rattle.heap_pins.proofs.RecordCases.{sweep_touches_its_region}
 use Rattle.heap_pins.proofs.RecordWalks.{walked_pin_holds_its_state}
 use Rattle.heap_pins.proofs.ShownImages.{image_is, object_seen_as_dump_shows, shown}
 use Rattle.heap_trail.specs.Trail.{Trail, state_ago}
@@ -164,7 +165,7 @@ one_made e before after a true m r old at o s y n h =
 
 was_there : (e : Event) (before after : HeapState) (left : Undo) (at : ObjRef) (o : Object) → IsStep e before after left → written_at left ≢ Some at → object_at after.regions at ≡ Some o → o.live ≡ true → Was before at o
 unfolding touched states_before
-was_there e before after (Put a s old) at o st n h l = elsewhere_was before after a at s old o (sym (ap (λ (w : HeapState). w.regions) (put_taken_back_is_before e before after (Put a s old) st a s old refl))) (λ q. n (ap Some q)) h l
+was_there e before after (Put a s old) at o st n h l = elsewhere_was before after a at s old o (sym (ap (λ (w : HeapState). w.regions) (put_undone_is_before e before after (Put a s old) st a s old refl))) (λ q. n (ap Some q)) h l
 was_there e before after (Store a s old logged) at o st n h l = elsewhere_was before after a at s old o (sym (ap (λ (w : HeapState). w.regions) (store_is e before after (Store a s old logged) st a s old logged refl))) (λ q. n (ap Some q)) h l
 was_there e before after (New a fresh m r old) at o st n h l = elim (cases_Bool (made_by (New a fresh m r old) at)) [
   | inl y ↦ absurd (one_made e before after a fresh m r old at o st y (λ q. n (ap Some q)) h)
@@ -174,7 +175,7 @@ was_there e before after (Finish log) at o st n h l =
     untouched_was (Finish log) before after at o (told e before after (Finish log) st) (λ q. none-some at.region q) (ap (λ (k : ℕ). cond (k == 0) 0 1) (state_of_live _ o h l)) h
 was_there e before after (Sweep region dead) at o st n h l = elim (cases_eq at.region region) [
   | inl r ↦ (o, sweep_was e before after region dead at o st r h, l, refl, refl)
-  | inr r ↦ untouched_was (Sweep region dead) before after at o (told e before after (Sweep region dead) st) (λ q. r (sym (same_Some region at.region q))) (sweep_state region dead at (states_after after) r ∙ state_of_live _ o h l) h
+  | inr r ↦ untouched_was (Sweep region dead) before after at o (told e before after (Sweep region dead) st) (λ q. r (sym (sweep_touches_its_region region dead at.region q))) (sweep_state region dead at (states_after after) r ∙ state_of_live _ o h l) h
 ]
 was_there e before after (Reclaim region storage) at o st n h l = elim (cases_eq at.region region) [
   | inl r ↦ absurd (reclaimed_none e before after region storage at o st r h)

@@ -66,13 +66,6 @@ others_more image x i y o others h e n k p lt g = elim (cases_eq k i) [
 pub said_of : (P : DumpedObject → Type 0) (x : Option DumpedObject) (o : DumpedObject) → x ≡ Some o → IfSome x P → P o
 said_of P x o e h = subst (λ (y : Option DumpedObject). IfSome y P) e h
 
--- the object with the id, by what a view tells of it
-pub shown_is : (image : Image) (x i y : ℕ) (kind : ObjKind) (words : List ℕ) (o : DumpedObject) → AreOthers image x i → slice_get image.objects i ≡ Some o → y ≡ o.id → y ≡ x → kind ≡ o.kind → words ≡ o.words → Some (dumped x kind words) ≡ object_with image x
-shown_is image x i y kind words o others h a b k w =
-    ap (λ z. Some (dumped z kind words)) (sym b ∙ a)
-    ∙ ap₂ (λ m ws. Some (dumped o.id m ws)) k w
-    ∙ sym (object_is image x i o others h (sym a ∙ b))
-
 -- ---- the object of a node
 
 pub node_placed : (image : Image) (places : List ObjRef) (nodes : List Node) (x j : ℕ) (at : ObjRef) → AreNodes image places nodes → node_with nodes x ≡ Some j → ((n : Node) → slice_get nodes j ≡ Some n → at ≡ n.at) → slice_get places j ≡ Some at
@@ -96,11 +89,10 @@ id_of_node image places nodes x j o h e g =
     sym (node_at nodes x j m.0 e m.1)
     ∙ same_Some m.0.id o.id (sym (ap (option_map (λ (n : Node). n.id)) m.1) ∙ sym (slice_get-map (λ (n : Node). n.id) nodes j) ∙ ap (λ l. slice_get l j) h.ids ∙ slice_get-map (λ (o : DumpedObject). o.id) image.objects j ∙ ap (option_map (λ (o : DumpedObject). o.id)) g)
 
-pub node_object : (image : Image) (places : List ObjRef) (nodes : List Node) (x j : ℕ) (kind : ObjKind) (words : List ℕ) → AreNodes image places nodes → node_with nodes x ≡ Some j → IfSome (slice_get image.objects j) (λ o. kind ≡ o.kind) → IfSome (slice_get image.objects j) (λ o. words ≡ o.words) → Some (dumped x kind words) ≡ object_with image x
-node_object image places nodes x j kind words n e k w =
+pub node_object : (image : Image) (places : List ObjRef) (nodes : List Node) (x j : ℕ) (d : DumpedObject) → AreNodes image places nodes → node_with nodes x ≡ Some j → IfSome (slice_get image.objects j) (λ o. d ≡ o) → Some d ≡ object_with image x
+node_object image places nodes x j d n e h =
     let o = item_of_list_within image.objects j (omega (arith, node_within nodes x j e, as_many image places nodes n)) in
-    ap (λ z. Some (dumped z kind words)) (id_of_node image places nodes x j o.0 n e o.1)
-    ∙ ap₂ (λ m ws. Some (dumped o.0.id m ws)) (said_of (λ (o : DumpedObject). kind ≡ o.kind) (slice_get image.objects j) o.0 o.1 k) (said_of (λ (o : DumpedObject). words ≡ o.words) (slice_get image.objects j) o.0 o.1 w)
+    ap Some (said_of (λ (o : DumpedObject). d ≡ o) (slice_get image.objects j) o.0 o.1 h)
     ∙ sym (object_of_node image places nodes x j n e ∙ o.1)
 
 pub no_object : (image : Image) (places : List ObjRef) (nodes : List Node) (x : ℕ) → AreNodes image places nodes → node_with nodes x ≡ None → None ≡ object_with image x

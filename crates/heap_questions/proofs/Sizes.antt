@@ -24,7 +24,7 @@ use Rattle.heap_step.specs.declared.Undo.{Undo}
 use Rattle.heap_step.specs.declared.Undo.TheVariants.{Put, Store, New, Sweep, Reclaim}
 use Rattle.heap_step.specs.Laws.{IsStep}
 use Rattle.heap_step.specs.Records.{undone}
-use Rattle.heap_step.proofs.EventLaws.{undo_takes_back}
+use Rattle.heap_step.proofs.EventLaws.{undo_restores}
 use Rattle.heap_step.proofs.Steps.{new_record_names_an_object, put_record_names_an_object, reclaim_empty, reclaim_inhabited, reclaim_is, store_there}
 use Rattle.heap_pins.specs.Covers.{Covers}
 use Rattle.heap_pins.specs.KeptCopies.{patched, touched, with_dead}
@@ -175,9 +175,9 @@ tells left before after sizes r u t s l whole e = by_region (λ k. TellsBefore k
       | inl q ↦ patch_tells (Store at slot old logged) (frozen_word_set at.cell slot old) (word_size at.cell slot old) before after sizes r u (t.touched_region r (region_frozen after.regions r) (ap Some (sym q)) (same_copy_covers _ _ refl)) s e
       | inr q ↦ others_tell (Store at slot old logged) before after sizes r u t s (λ z. q (sym (same_Some at.region r z))) e
     ])
-    (λ region dead t is. elim (cases_eq r region) [
-      | inl q ↦ patch_tells (Sweep region dead) (with_dead dead) (dead_size dead) before after sizes r u (t.touched_region r (region_frozen after.regions r) (ap Some (sym q)) (same_copy_covers _ _ refl)) s e
-      | inr q ↦ others_tell (Sweep region dead) before after sizes r u t s (λ z. q (sym (same_Some region r z))) e
+    (λ region d dead t is. elim (cases_eq r region) [
+      | inl q ↦ patch_tells (Sweep region (d ∷ dead)) (with_dead (d ∷ dead)) (dead_size (d ∷ dead)) before after sizes r u (t.touched_region r (region_frozen after.regions r) (ap Some (sym q)) (same_copy_covers _ _ refl)) s e
+      | inr q ↦ others_tell (Sweep region (d ∷ dead)) before after sizes r u t s (λ z. q (sym (same_Some region r z))) e
     ])
     (λ region storage t is. reclaim_tells region storage before after sizes r u t s (l region storage is) whole e)
     (λ k n t is. ap (λ xs. get_or xs r 0) (sizes_stay k n.none sizes) ∙ plain_tells k before after sizes r u n.none t s e)
@@ -284,7 +284,7 @@ reclaimed_table left e before after s r u h =
 
 pub same_regions : (left : Undo) (e : Event) (before after : HeapState) → IsStep e before after left → length before.regions ≡ length after.regions
 same_regions left e before after s =
-    ap (λ (w : HeapState). length w.regions) (sym (undo_takes_back e before s.legal s.accepted) ∙ sym (ap₂ (λ (l : Undo) (w : HeapState). undone l w) s.recorded s.gave))
+    ap (λ (w : HeapState). length w.regions) (sym (undo_restores e before s.legal s.accepted) ∙ sym (ap₂ (λ (l : Undo) (w : HeapState). undone l w) s.recorded s.gave))
     ∙ sym (undoing_keeps_region_count left after)
 
 -- the sizes before the step

@@ -13,9 +13,10 @@ use Rattle.heap_step.specs.declared.Event.{Event}
 use Rattle.heap_step.specs.declared.Undo.{Undo}
 use Rattle.heap_step.specs.declared.Undo.TheVariants.{Put, Store, New, Finish, Sweep, Reclaim}
 use Rattle.heap_step.specs.Laws.{IsStep}
-use Rattle.heap_step.proofs.Steps.{put_taken_back_is_before, store_is}
+use Rattle.heap_step.proofs.Steps.{put_undone_is_before, store_is}
 use Rattle.heap_pins.specs.KeptCopies.{touched}
 use Rattle.heap_pins.specs.Walk.{TellsBefore, cell_state, dead_state, states_before}
+use Rattle.heap_pins.proofs.RecordCases.{sweep_touches_its_region}
 use Rattle.heap_questions.specs.Changes.{changed_by, made_by, slot_word}
 use Rattle.heap_questions.proofs.ToldObjects.{covered, is_there, none_there, reclaimed_none, state_there, sweep_was, told}
 
@@ -195,7 +196,7 @@ finish_state log at f n e = absurd (no (sym (ap (λ (b : Bool). cond b 0 1) (ne_
 
 pub record_tells : (e : Event) (before after : HeapState) (left : Undo) (at : ObjRef) (k now : ℕ) → IsStep e before after left → slot_word after at k ≡ Some now → Tells (changed_by left at k now) before at k now
 unfolding touched states_before
-record_tells e before after (Put a s old) at k now st h = write_tells before after a at s k old now (sym (ap (λ (w : HeapState). w.regions) (put_taken_back_is_before e before after (Put a s old) st a s old refl))) h
+record_tells e before after (Put a s old) at k now st h = write_tells before after a at s k old now (sym (ap (λ (w : HeapState). w.regions) (put_undone_is_before e before after (Put a s old) st a s old refl))) h
 record_tells e before after (Store a s old logged) at k now st h = write_tells before after a at s k old now (sym (ap (λ (w : HeapState). w.regions) (store_is e before after (Store a s old logged) st a s old logged refl))) h
 record_tells e before after (New a fresh m r old) at k now st h =
     let t = told e before after (New a fresh m r old) st in
@@ -212,7 +213,7 @@ record_tells e before after (Sweep region dead) at k now st h =
           word_of_object before at k o.0 (sweep_was e before after region dead at o.0 st r o.1) ∙ o.2
       | inr r ↦
           let t = told e before after (Sweep region dead) st in
-          untouched (Sweep region dead) before after at k now t (λ q. r (sym (same_Some region at.region q))) (λ z. there after at k now h (sym (t.states at ∙ sweep_state region dead at (λ b. cell_state (object_at after.regions b)) r) ∙ z)) h
+          untouched (Sweep region dead) before after at k now t (λ q. r (sym (sweep_touches_its_region region dead at.region q))) (λ z. there after at k now h (sym (t.states at ∙ sweep_state region dead at (λ b. cell_state (object_at after.regions b)) r) ∙ z)) h
     ]
 record_tells e before after (Reclaim region storage) at k now st h =
     elim (cases_eq at.region region) [

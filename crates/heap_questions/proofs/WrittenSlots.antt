@@ -14,8 +14,8 @@ use Rattle.heap_step.specs.declared.Undo.{Undo}
 use Rattle.heap_step.specs.declared.Undo.TheVariants.{Put, Store, New}
 use Rattle.heap_step.specs.Laws.{IsStep}
 use Rattle.heap_step.specs.Records.{undone}
-use Rattle.heap_step.proofs.EventLaws.{undo_takes_back}
-use Rattle.heap_step.proofs.Steps.{put_taken_back_is_before, put_record_names_an_object, put_record_slot_within_object, store_is, store_there, store_within}
+use Rattle.heap_step.proofs.EventLaws.{undo_restores}
+use Rattle.heap_step.proofs.Steps.{put_undone_is_before, put_record_names_an_object, put_record_slot_within_object, store_is, store_there, store_within}
 use Rattle.heap_pins.specs.Pin.{PinContents, object_seen}
 use Rattle.heap_pins.specs.Shows.{IsSeen, ShowsState}
 use Rattle.heap_pins.specs.WalkedPins.{CanWalk, IsFreshPin, IsWalked, IsWalkedBack}
@@ -45,7 +45,7 @@ unfolding state_ago
 state_there t n l = slice_get-get_or (t.current ∷ t.past) n t.current (omega (arith, l))
 
 back_is : (e : Event) (before x : HeapState) (left : Undo) → IsStep e before x left → undone left x ≡ before
-back_is e before x left s = ap₂ (λ (u : Undo) (v : HeapState). undone u v) s.recorded s.gave ∙ undo_takes_back e before s.legal s.accepted
+back_is e before x left s = ap₂ (λ (u : Undo) (v : HeapState). undone u v) s.recorded s.gave ∙ undo_restores e before s.legal s.accepted
 
 pub opened : (t : Trail) (w : HeapState) (p : PinContents) → w ≡ t.current → IsFreshPin p w → IsPinAgo p t 0
 unfolding state_ago
@@ -113,7 +113,7 @@ old_here before after a at slot s x old now p q r e h =
 old_is : (e : Event) (before after : HeapState) (left : Undo) (s : ℕ) (at : ObjRef) (old now : ℕ) → IsStep e before after left → overwritten left s ≡ Some (at, old) → slot_word after at s ≡ Some now → slot_word before at s ≡ Some old
 old_is e before after (Put a slot x) s at old now st h w =
     let p = of_test (slot == s) a at x old h in
-    old_here before after a at slot s x old now p.1 (eqb-true slot s p.0) p.2 (sym (ap (λ (v : HeapState). v.regions) (put_taken_back_is_before e before after (Put a slot x) st a slot x refl))) w
+    old_here before after a at slot s x old now p.1 (eqb-true slot s p.0) p.2 (sym (ap (λ (v : HeapState). v.regions) (put_undone_is_before e before after (Put a slot x) st a slot x refl))) w
 old_is e before after (Store a slot x logged) s at old now st h w =
     let p = of_test (slot == s) a at x old h in
     old_here before after a at slot s x old now p.1 (eqb-true slot s p.0) p.2 (sym (ap (λ (v : HeapState). v.regions) (store_is e before after (Store a slot x logged) st a slot x logged refl))) w

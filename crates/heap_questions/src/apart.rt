@@ -145,6 +145,7 @@ fn path_by_slot<V: View>(
         (NoneIsLeft (V.image view.now) (map route_of paths.now) id)) }
     ensures refused { IfErr result (λ e. e ≡ NoMemory) }
 {
+    // Its contract says that what the view shows is within the limits of a dump.
     let _classes = view.classes();
     let reach = search_starts(alloc, view, nodes, paths, goal)?;
     let queue = reach.queue.as_slice();
@@ -172,6 +173,7 @@ fn search_starts<V: View>(
         (with_starts (V.image view.now) (map route_of paths.now)) nodes.now r.queue.items goal) }
     ensures refused { IfErr result (λ e. e ≡ NoMemory) }
 {
+    // Its contract says that what the view shows is within the limits of a dump.
     let _classes = view.classes();
     let mut reach = nothing_found(alloc, nodes)?;
     find_starts(view, nodes, paths, &mut reach)?;

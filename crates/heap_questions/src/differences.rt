@@ -6,12 +6,11 @@ ghost use Rattle.heap_questions.specs.Differences.{AreDifferences, AreIdsOfBoth,
 ghost use Rattle.heap_questions.specs.Graph.{object_with};
 
 use crate::index::ObjectIndex;
-use crate::objects::ShownObject;
 use crate::past::SeenSlot;
 use crate::references::is_reference_slot;
 use crate::rows::row_number;
 use heap_class::{FirstClasses, Refusal};
-use hprof_text::View;
+use hprof_text::{ShownObject, View};
 use std::alloc::{AllocError, Global};
 
 /// What differs between two states of a heap.

@@ -4,9 +4,9 @@ ghost use Rattle.heap_class.specs.declared.Refusal.TheVariants.{NoMemory};
 ghost use Rattle.heap_questions.specs.Graph.{object_with};
 
 use crate::nodes::NodeList;
-use crate::objects::{ShownObject, shown_with};
+use crate::objects::shown_with;
 use heap_class::Refusal;
-use hprof_text::View;
+use hprof_text::{ShownObject, View};
 use std::alloc::{AllocError, Global};
 use std::marker::Model;
 

@@ -34,7 +34,7 @@ pub use held_values::{SlotValue, slot_values};
 pub use index::ObjectIndex;
 pub use kept::count_kept;
 pub use object_list::{ListedObject, list_objects, list_wanted};
-pub use objects::{ShownObject, object_with, slot_kind};
+pub use objects::{object_with, slot_kind};
 pub use order::ranking;
 pub use past::{
     EndedCycle, Life, Loss, PastEvent, PastStep, PastTrail, SeenSlot, SlotChange, SlotWrite, birth,

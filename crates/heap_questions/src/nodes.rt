@@ -62,6 +62,7 @@ fn nodes_of<V: View>(alloc: Global, view: &V) -> Result<Vec<Node>, Refusal>
     ensures few { IfOk result (λ ns. length ns.items ≤ object_limit) }
     ensures refused { IfErr result (λ e. e ≡ NoMemory) }
 {
+    // Its contract says that what the view shows is within the limits of a dump.
     let _classes = view.classes();
     let mut nodes = Vec::new(alloc);
     let mut here = view.first();

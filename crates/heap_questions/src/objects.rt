@@ -7,54 +7,19 @@ ghost use Rattle.heap_questions.specs.Search.{AreNodes};
 
 use crate::nodes::NodeList;
 use heap_class::{FirstClasses, Kind, ObjKind};
-use hprof_text::View;
-use std::marker::Model;
-
-/// An object that a view shows. Contracts see its id, its kind and its words.
-#[derive(Drop)]
-pub struct ShownObject<'a> {
-    id: u64,
-    kind: ObjKind,
-    words: &'a [u64],
-}
-
-impl<'a> Model for ShownObject<'a> {
-    ghost use Rattle.hprof_text.specs.Image.{DumpedObject};
-    ghost use Rattle.heap_questions.specs.Referrers.{dumped};
-
-    ghost Value = { DumpedObject };
-
-    ghost view = { λ o. dumped o.id o.kind o.words.now };
-}
-
-impl<'a> ShownObject<'a> {
-    /// Returns the kind of the object.
-    pub fn kind(&self) -> ObjKind
-        ensures { result ≡ self.now.kind }
-    {
-        self.kind
-    }
-
-    /// Returns the words of the object, in slot order.
-    pub fn words(&self) -> &[u64]
-        ensures { result.now ≡ self.now.words }
-    {
-        self.words
-    }
-}
+use hprof_text::{ShownObject, View};
 
 /// Returns the object with this id, or None if there is none. Reads each id before it once. Takes no memory.
 pub fn object_with<V: View>(view: &V, id: u64) -> Option<ShownObject<'_>>
     ensures { result ≡ object_with (V.image view.now) id }
 {
+    // Its contract says that what the view shows is within the limits of a dump.
     let _classes = view.classes();
     let mut passed = 0usize;
     let mut here = view.first();
     while let Some(at) = here {
         if view.id(at) == id {
-            let kind = view.kind(at);
-            let words = view.words(at);
-            return Some(ShownObject { id, kind, words });
+            return Some(view.object(at));
         }
         passed += 1;
         here = view.next(at);
@@ -72,12 +37,7 @@ pub(crate) fn shown_with<'a, V: View>(
     ensures { result ≡ object_with (V.image view.now) id }
 {
     match nodes.find(id) {
-        Some(node) => {
-            let at = nodes.place(node);
-            let kind = view.kind(at);
-            let words = view.words(at);
-            Some(ShownObject { id, kind, words })
-        }
+        Some(node) => Some(view.object(nodes.place(node))),
         None => None,
     }
 }

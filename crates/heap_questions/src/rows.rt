@@ -69,6 +69,7 @@ pub fn value_size(ids: IdSize, classes: &FirstClasses<'_>, kind: ObjKind, words:
 {
     match kind {
         ObjKind::Instance(class) => {
+            // Its contract bounds the number of slots.
             let _slots = classes.slots(class);
             classes.instance_size(ids, class)
         }
@@ -137,6 +138,7 @@ pub(crate) fn row_number(classes: &FirstClasses<'_>, kind: ObjKind, words: u64) 
     ensures value { result ≡ row_number kind }
     ensures within { result < class_rows + length classes.now }
 {
+    // Its contract bounds the number of classes.
     let _count = classes.len();
     match kind {
         ObjKind::Instance(class) | ObjKind::Array(class) => CLASS_ROWS + class as usize,

@@ -58,6 +58,7 @@ pub(crate) fn search<V: View>(
         → HasSearchedFor (V.image view.now) nodes.now r.queue.items j) }
     ensures refused { IfErr result (λ e. e ≡ NoMemory) }
 {
+    // Its contract says that what the view shows is within the limits of a dump.
     let _classes = view.classes();
     let mut reach = begin(alloc, view, nodes)?;
     search_on(view, nodes, &mut reach, goal)?;
@@ -85,6 +86,7 @@ fn find_roots<V: View>(view: &V, nodes: &NodeList, reach: &mut Reach) -> Result<
         nodes.now reach.new.seen.items reach.new.queue.items 0) }
     ensures refused { IfErr result (λ e. e ≡ NoMemory) }
 {
+    // Its contract says that what the view shows is within the limits of a dump.
     let _classes = view.classes();
     let registers = view.registers();
     for r in 0..registers.len() {

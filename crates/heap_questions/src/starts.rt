@@ -32,6 +32,7 @@ pub(crate) fn find_starts<V: View>(
         nodes.now reach.new.seen.items reach.new.queue.items 0) }
     ensures refused { IfErr result (λ e. e ≡ NoMemory) }
 {
+    // Its contract says that what the view shows is within the limits of a dump.
     let _classes = view.classes();
     let registers = view.registers();
     for r in 0..registers.len() {

@@ -317,6 +317,7 @@ impl Regions {
         requires { IsSome (used_at self.now.regions region) }
         ensures { result ≡ region }
     {
+        // Its contract bounds the number of the region.
         let _storage = self.storage(region as usize);
         region as u16
     }
@@ -547,7 +548,7 @@ impl Regions {
     }
 
     /// Returns the free cells of a region in use, head first.
-    pub fn free_list(&self, region: u64) -> FreeCells<'_>
+    pub(crate) fn free_list(&self, region: u64) -> FreeCells<'_>
         requires { IsSome (used_at self.now.regions region) }
         ensures { IfSome (used_at self.now.regions region) (λ u. result ≡ u.free) }
     {

@@ -15,7 +15,7 @@ impl Regions {
     }
 
     /// Returns the place of the next live object after a place, by region and cell.
-    pub fn next_live(&self, at: ObjRef) -> Option<ObjRef>
+    pub(crate) fn next_live(&self, at: ObjRef) -> Option<ObjRef>
         ensures { (i : ℕ) → slice_get (live_places self.now.regions) i ≡ Some at
             → result ≡ slice_get (live_places self.now.regions) (i + 1) }
     {

@@ -225,6 +225,7 @@ impl<'a, L: Heap, R: Wait> Actor<'a, L, R> {
         let mut kept = self.shared.lock(self.rt);
         kept.agree(&mut self.seat);
         kept.show(witness);
+        // Its contract says that the chronicle is a legal history.
         let _ = kept.chronicle();
         audit(&*kept, self.claims.as_slice())
     }

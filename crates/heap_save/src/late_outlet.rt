@@ -1,10 +1,10 @@
 //! Outlets that are made at their first put.
 ghost use Rattle.std.specs.Prelude.{◌≡◌, ◌+◌, ◌<◌, ◌++◌, length};
-ghost use Rattle.dump_pump.specs.Outlets.{log_bytes};
+ghost use Rattle.dump_pump.specs.Outlets.{ghost_bytes};
 ghost use Rattle.heap_save.specs.LateOutlets.{IsOutletAsked, IsPutThere, FitsLate, bytes_taken, failures_of, outlet_in, unasked, IsLate};
 
 use crate::outlets::Outlets;
-use dump_pump::ledger::note_bytes;
+use dump_pump::ghost_list::note_bytes;
 use dump_pump::{Log, Outlet, Put};
 use std::marker::{Brand, Model, PhantomData};
 
@@ -41,7 +41,7 @@ pub(crate) struct LateOutlet<P: Outlets, B: Origin<P>> {
 
 impl<P: Outlets, B: Origin<P>> Model for LateOutlet<P, B> {
     ghost use Rattle.std.specs.Prelude.{length};
-    ghost use Rattle.dump_pump.specs.Outlets.{log_bytes};
+    ghost use Rattle.dump_pump.specs.Outlets.{ghost_bytes};
     ghost use Rattle.heap_save.specs.LateOutlets.{Late, IsLate};
 
     ghost Value = { Late P P.Out };
@@ -50,12 +50,12 @@ impl<P: Outlets, B: Origin<P>> Model for LateOutlet<P, B> {
         record {
           target = o.target;
           opening = o.opening;
-          put = log_bytes o.written.items;
+          put = ghost_bytes o.written.items;
           failures = length o.failed.items;
         } };
 
     ghost invariant = { λ o. IsLate B.was P.makes P.Out.seen o.target o.opening
-        (log_bytes o.written.items) (length o.failed.items) };
+        (ghost_bytes o.written.items) (length o.failed.items) };
 }
 
 // Asks a target for its outlet, unless it was asked before.
@@ -84,8 +84,8 @@ fn put_there<O: Outlet>(opening: &mut Opening<O>, given: &[u8]) -> Put
 // Notes the bytes that a put took, or that it failed.
 fn note(written: &mut Log<u8, ()>, failed: &mut Log<(), ()>, given: &[u8], put: Put)
     requires { FitsLate given.now put }
-    ensures written { log_bytes written.new.items
-        ≡ log_bytes written.old.items ++ bytes_taken given.now put }
+    ensures written { ghost_bytes written.new.items
+        ≡ ghost_bytes written.old.items ++ bytes_taken given.now put }
     ensures failed { length failed.new.items ≡ length failed.old.items + failures_of put }
 {
     match put {

@@ -6,7 +6,7 @@ ghost use Rattle.heap_save.specs.Saves.{IsUncancelled, last_line};
 
 use dump_pump::{Outlet, Pumped};
 use machine_dump::LostCause;
-use session_text::write_all;
+use session_text::{write_all, write_number};
 
 // Puts out the last line: how the dump ended, and the number of bytes that the outlet took. A dump that was cancelled has no
 // such line.
@@ -35,14 +35,4 @@ fn write_line<O: Outlet>(writer: &mut O, words: &[u8], number: u64) -> bool
         return false;
     }
     write_number(writer, number)
-}
-
-// Puts out a number and the end of its line.
-fn write_number<O: Outlet>(writer: &mut O, number: u64) -> bool
-    ensures { IsTextWritten (line (decimal number)) (O.seen writer.old) (O.seen writer.new) result }
-{
-    if !write_all(writer, itoa::Buffer::new().format(number).as_bytes()) {
-        return false;
-    }
-    write_all(writer, b"\n")
 }

@@ -13,8 +13,8 @@ use Rattle.heap_server.specs.declared.client_session.SessionEnd.{SessionEnd}
 use Rattle.heap_server.specs.declared.client_session.SessionEnd.TheVariants.{Ran, Http, Stranger, Idle}
 use Rattle.heap_server.specs.declared.sessions.Terms.{Terms}
 use Rattle.heap_server.specs.Clients.{IsToldAs, ServesClient, TurnsAway, plain_end}
-use Rattle.heap_server.specs.Stations.{IsAttended, IsAttendedOn, IsAttendedStaying, IsLimited, Station, seat_acts, seat_answers, staying_begins, staying_says}
-use Rattle.heap_server.specs.StayingSeats.{ClosesEach, StayingStation}
+use Rattle.heap_server.specs.Stations.{IsAttended, IsAttendedOn, IsAttendedStaying, IsLimited, Station, first_station, seat_acts, seat_answers, staying_begins, staying_says}
+use Rattle.heap_server.specs.StayingSeats.{ClosesEach, StayingStation, first_staying}
 
 -- what a session does that answers questions or doesn't
 abbrev pub ServesSeat : SessionLimits → HeapSettings → Bool → ℕ → Option (List ℕ) → List ℕ → Bool → Incoming → Incoming → Station → Outgoing → Station → Outgoing → SessionEnd → Type 0
@@ -23,25 +23,25 @@ ServesSeat limits config questions time secret bytes failed b b' c w c' w' end =
 
 -- a session on these terms is one that answers questions, if they say so
 pub session_on_terms_is_attended : (config : HeapSettings) (terms : Terms) (questions failed : Bool) (bytes : List ℕ) (a b b' : Incoming) (s s' : SeatModel) (seen : List Call) (c c' : Station) (w w' : Outgoing) (end : SessionEnd) → terms.questions ≡ questions → IsAhead (longest_line terms.limits) bytes failed a b → IsLegalLedger config seen
-    → c ≡ record { seat = s; seen = seen } → s' ≡ c'.seat → ServesSeat terms.limits config questions terms.time terms.secret bytes failed b b' c w c' w' end → IsAttended config terms s a b' w w' s' end
+    → c ≡ first_station s seen → s' ≡ c'.seat → ServesSeat terms.limits config questions terms.time terms.secret bytes failed b b' c w c' w' end → IsAttended config terms s a b' w w' s' end
 session_on_terms_is_attended config terms questions failed bytes a b b' s s' seen c c' w w' end is ahead legal first last serves =
-    let from : Station = record { seat = s; seen = seen } in
-    let left : ServesSeat terms.limits config questions terms.time terms.secret bytes failed b b' c w (record { seat = s'; seen = c'.seen }) w' end = subst (λ (x : SeatModel). ServesSeat terms.limits config questions terms.time terms.secret bytes failed b b' c w (record { seat = x; seen = c'.seen }) w' end) (sym last) serves in
-    let begun : ServesSeat terms.limits config questions terms.time terms.secret bytes failed b b' from w (record { seat = s'; seen = c'.seen }) w' end = subst (λ (x : Station). ServesSeat terms.limits config questions terms.time terms.secret bytes failed b b' x w (record { seat = s'; seen = c'.seen }) w' end) first left in
+    let from : Station = first_station s seen in
+    let begun : ServesSeat terms.limits config questions terms.time terms.secret bytes failed b b' from w c' w' end = subst (λ (x : Station). ServesSeat terms.limits config questions terms.time terms.secret bytes failed b b' x w c' w' end) first serves in
     inl (record {
       bytes = bytes;
       failed = failed;
       left = b;
       seen = seen;
-      seen' = c'.seen;
+      last = c';
       ahead = ahead;
       legal = legal;
-      serves = subst (λ q. ServesSeat terms.limits config q terms.time terms.secret bytes failed b b' from w (record { seat = s'; seen = c'.seen }) w' end) (sym is) begun;
+      serves = subst (λ q. ServesSeat terms.limits config q terms.time terms.secret bytes failed b b' from w c' w' end) (sym is) begun;
+      seat = last;
     })
 
 -- a session of a heap that stays, and the closings at its end
 pub staying_session_is_attended : (config : HeapSettings) (terms : Terms) (failed : Bool) (bytes : List ℕ) (a b b' : Incoming) (s s' : SeatModel) (seen seen' : List Call) (c c' : StayingStation) (w w' : Outgoing) (end : SessionEnd) → IsAhead (longest_line terms.limits) bytes failed a b → IsLegalLedger config seen
-    → c ≡ record { seat = s; seen = seen; pins = []; questions = terms.questions } → s' ≡ c'.seat → ClosesEach config c'.pins c'.seen seen' → ServesClient terms.limits (staying_says config terms) (staying_begins config terms) terms.secret bytes failed b b' c w c' w' end → IsAttendedStaying config terms s a b' w w' s' end
+    → c ≡ first_staying s seen terms.questions → s' ≡ c'.seat → ClosesEach config c'.pins c'.seen seen' → ServesClient terms.limits (staying_says config terms) (staying_begins config terms) terms.secret bytes failed b b' c w c' w' end → IsAttendedStaying config terms s a b' w w' s' end
 staying_session_is_attended config terms failed bytes a b b' s s' seen seen' c c' w w' end ahead legal first last closes serves =
     inl (record {
       bytes = bytes;

@@ -13,7 +13,7 @@ use Rattle.heap_lock.specs.Action.TheVariants.{OpenPin, NextPiece, ClosePin}
 use Rattle.heap_lock.specs.Reply.{Reply}
 use Rattle.heap_lock.specs.Reply.TheVariants.{Answered, Place, Pinned, Part, Closed, Refused}
 use Rattle.dump_pump.specs.Pumps.{joined}
-use Rattle.dump_pump.specs.Sources.{part_limit}
+use Rattle.dump_pump.specs.PieceLaws.{piece_limit}
 use Rattle.heap_lock.specs.Calls.{Call, IsLegalLedger, Witnesses}
 use Rattle.heap_lock.specs.LockStates.{SeatModel}
 use Rattle.heap_lock.specs.Laws.{state_at}
@@ -127,7 +127,7 @@ legal_dump config seat seen pin time (suc n) c d so_far text s some =
 
 pub pin_dump : {S : Type 0} (config : HeapSettings) (seat : S → SeatModel) (seen : S → List Call) (pin time : ℕ) (c d : S) (text : List ℕ) → AnswersPinDump config seat seen pin time c text d
 pin_dump config seat seen pin time c d text s =
-    exact_text config pin time (seen d) text (dump_tells_its_text config seat seen pin time part_limit c d 0 text s).0 (legal_dump config seat seen pin time part_limit c d 0 text s (omega arith))
+    exact_text config pin time (seen d) text (dump_tells_its_text config seat seen pin time piece_limit c d 0 text s).0 (legal_dump config seat seen pin time piece_limit c d 0 text s (omega arith))
 
 -- ---- `dump -`
 
@@ -139,11 +139,11 @@ place_of_pin (Part piece) pin e = absurd (none-some pin e)
 place_of_pin Closed pin e = absurd (none-some pin e)
 place_of_pin (Refused x) pin e = absurd (none-some pin e)
 
-opened_dump : {S : Type 0} (config : HeapSettings) (seat : S → SeatModel) (seen : S → List Call) (time pin : ℕ) (r : Reply) (c opened d : S) (text : List ℕ) → pin_in r ≡ Some pin → OpensMet config (seat c) (seen c) None r (seen opened) → ClosesAfter (ActsJoined config seat seen) time r (Some pin) part_limit opened text d → IsOpenedDump config (seat c) time (seen c) (seen d) text
+opened_dump : {S : Type 0} (config : HeapSettings) (seat : S → SeatModel) (seen : S → List Call) (time pin : ℕ) (r : Reply) (c opened d : S) (text : List ℕ) → pin_in r ≡ Some pin → OpensMet config (seat c) (seen c) None r (seen opened) → ClosesAfter (ActsJoined config seat seen) time r (Some pin) piece_limit opened text d → IsOpenedDump config (seat c) time (seen c) (seen d) text
 opened_dump config seat seen time pin r c opened d text is o s =
     let w = o.3 in
     let place = place_of_pin r pin is in
-    let t = dump_tells_its_text config seat seen pin time part_limit opened s.0 0 text s.2 in
+    let t = dump_tells_its_text config seat seen pin time piece_limit opened s.0 0 text s.2 in
     let closed = witnessed_call_is_seen config (seen s.0) (ClosePin pin) s.1 (seen d) s.3.1 in
     let all = (calls_seen_in_turn config (seen opened) (seen s.0) (seen d) t.1 closed).0 in
     let before = o.0 ++ w.0 in (
@@ -159,7 +159,7 @@ opened_dump config seat seen time pin r c opened d text is o s =
       exact_text config pin time (seen d) text t.0 s.3.1.2,
     )
 
-opened_dump_tells_its_text : {S : Type 0} (config : HeapSettings) (seat : S → SeatModel) (seen : S → List Call) (time : ℕ) (r : Reply) (o : Option ℕ) (c opened d : S) (text : List ℕ) → pin_in r ≡ o → OpensMet config (seat c) (seen c) None r (seen opened) → ClosesAfter (ActsJoined config seat seen) time r o part_limit opened text d → IsUnopened text ⊎ IsOpenedDump config (seat c) time (seen c) (seen d) text
+opened_dump_tells_its_text : {S : Type 0} (config : HeapSettings) (seat : S → SeatModel) (seen : S → List Call) (time : ℕ) (r : Reply) (o : Option ℕ) (c opened d : S) (text : List ℕ) → pin_in r ≡ o → OpensMet config (seat c) (seen c) None r (seen opened) → ClosesAfter (ActsJoined config seat seen) time r o piece_limit opened text d → IsUnopened text ⊎ IsOpenedDump config (seat c) time (seen c) (seen d) text
 opened_dump_tells_its_text config seat seen time r None c opened d text is w s = inl (r, is, s.0)
 opened_dump_tells_its_text config seat seen time r (Some pin) c opened d text is w s = inr (opened_dump config seat seen time pin r c opened d text is w s)
 

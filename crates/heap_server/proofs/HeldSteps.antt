@@ -1,5 +1,5 @@
 -- What an act under the lock is as a step of the machine.
-use Rattle.std.proofs.Common.{◌≡◌, ◌∙◌, ℕ, ◌+◌, Bool, true, false, None, refl, sym, ap, ap₂, subst, inl, inr, List, [], ◌∷◌, ◌++◌, length, map, arith}
+use Rattle.std.proofs.Common.{◌≡◌, ◌∙◌, ℕ, ◌+◌, Bool, true, false, Some, None, refl, sym, ap, ap₂, subst, inl, inr, List, [], ◌∷◌, ◌++◌, length, map, arith}
 use Rattle.std.specs.Prelude.{Option, Result, Ok, Err, nat_le}
 use Rattle.std.specs.List.{enumerate_from}
 use Rattle.std.proofs.lemmas.List.{append_assoc, append-nil, length-append, length_push, map-append}
@@ -29,7 +29,8 @@ use Rattle.heap_lock.proofs.StepReplies.{step_replies_no_place}
 use Rattle.heap_orders.specs.Collections.{IsShortage, TakenStep}
 use Rattle.question_grammar.specs.declared.order.Order.{Order}
 use Rattle.heap_orders.proofs.CycleSteps.{short}
-use Rattle.heap_server.specs.JoinedAnswers.{AnswersForSeat, AnswersHeld, Gains, IsHeapOfSeat, LeavesSeen, entries_of_steps, order_obeyed}
+use Rattle.question_grammar.specs.Bookmarks.{Bookmarks}
+use Rattle.heap_server.specs.JoinedAnswers.{AnswersForSeat, AnswersHeld, DoesHeld, Gains, IsHeapOfSeat, LeavesSeen, entries_of_steps, order_obeyed}
 
 -- a step that is refused leaves the machine
 refused_step_leaves_machine : (m n : Machine) (e : Event) (r : Refusal) → acted m (Step e) ≡ (n, Refused r) → n ≡ m
@@ -148,19 +149,25 @@ pub leaves_seen : (config : HeapSettings) (Leads : LockState → SeatModel → T
 leaves_seen config Leads last s s' seen leads heap same sees =
     (last, subst (Leads last) (sym same) leads, subst (λ (x : SeatModel). IsHeapOfSeat config last.machine last.chronicle last.ledger x) (sym same) heap, sees)
 
+-- what is done as a line asks changes no bookmarks
+pub done_under_lock : (config : HeapSettings) (order : Order) (line : List ℕ) (k : LockState) (s s' : SeatModel) (b b' : Bookmarks) (text : List ℕ) (asked : Option Order) (seen' : List Call) → asked ≡ Some order → b' ≡ b
+    → LeavesSeen config (λ (last : LockState). DoesHeld config order k s text last s') s' seen' → LeavesSeen config (λ (last : LockState). AnswersHeld config asked line k s b text last s' b') s' seen'
+done_under_lock config order line k s s' b b' text asked seen' is same h =
+    (h.0, subst (λ (o : Option Order). AnswersHeld config o line k s b text h.0 s' b') (sym is) (h.1, same), h.2, h.3)
+
 -- an answer that one gives who saw the heap before, under the same lock
-pub answer_under_lock : (config : HeapSettings) (obeys : Bool) (line : List ℕ) (seen seen' : List Call) (order : Option Order) (text : List ℕ) (k k1 : LockState) (s s1 s' : SeatModel) → IsHeapOfSeat config k.machine k.chronicle k.ledger s → IsPrefix seen k.ledger → k1 ≡ k → s1 ≡ s → order ≡ order_obeyed obeys k1.machine.trail.current line
-    → LeavesSeen config (λ (last : LockState). AnswersHeld config order line k1 s1 text last s') s' seen' → AnswersForSeat config obeys line s seen text s' seen'
-answer_under_lock config obeys line seen seen' order text k k1 s s1 s' heap begins same seat asked h =
+pub answer_under_lock : (config : HeapSettings) (obeys : Bool) (line : List ℕ) (seen seen' : List Call) (order : Option Order) (text : List ℕ) (k k1 : LockState) (s s1 s' : SeatModel) (b b' : Bookmarks) → IsHeapOfSeat config k.machine k.chronicle k.ledger s → IsPrefix seen k.ledger → k1 ≡ k → s1 ≡ s → order ≡ order_obeyed obeys b k1.machine.trail.current line
+    → LeavesSeen config (λ (last : LockState). AnswersHeld config order line k1 s1 b text last s' b') s' seen' → AnswersForSeat config obeys line s seen b text s' seen' b'
+answer_under_lock config obeys line seen seen' order text k k1 s s1 s' b b' heap begins same seat asked h =
     record {
       first = k;
       last = h.0;
       begins = begins;
       from = heap;
       answers =
-          subst (λ (x : SeatModel). AnswersHeld config (order_obeyed obeys k.machine.trail.current line) line k x text h.0 s') seat
-          (subst (λ (x : LockState). AnswersHeld config (order_obeyed obeys x.machine.trail.current line) line x s1 text h.0 s') same
-          (subst (λ (o : Option Order). AnswersHeld config o line k1 s1 text h.0 s') asked h.1));
+          subst (λ (x : SeatModel). AnswersHeld config (order_obeyed obeys b k.machine.trail.current line) line k x b text h.0 s' b') seat
+          (subst (λ (x : LockState). AnswersHeld config (order_obeyed obeys b x.machine.trail.current line) line x s1 b text h.0 s' b') same
+          (subst (λ (o : Option Order). AnswersHeld config o line k1 s1 b text h.0 s' b') asked h.1));
       to = h.2;
       sees = h.3;
     }

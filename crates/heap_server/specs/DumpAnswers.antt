@@ -9,7 +9,7 @@ use Rattle.heap_lock.specs.Action.TheVariants.{OpenPin}
 use Rattle.heap_lock.specs.Reply.{Reply}
 use Rattle.heap_lock.specs.Reply.TheVariants.{Pinned}
 use Rattle.dump_pump.specs.Pumps.{joined}
-use Rattle.dump_pump.specs.Sources.{part_limit}
+use Rattle.dump_pump.specs.PieceLaws.{piece_limit}
 use Rattle.heap_lock.specs.Calls.{Call}
 use Rattle.heap_lock.specs.LockStates.{AreMet, SeatModel}
 use Rattle.heap_lock.specs.Laws.{IsAlone, state_at}
@@ -66,12 +66,12 @@ IsOpenedDump config s time seen later text =
 abbrev pub AnswersPinDump : {S : Type 0} → HeapSettings → (S → SeatModel) → (S → List Call) → ℕ → ℕ → S
     → List ℕ → S → Type 0
 AnswersPinDump config seat seen pin time c text d =
-    DumpsPin (ActsJoined config seat seen) pin time part_limit c text d
+    DumpsPin (ActsJoined config seat seen) pin time piece_limit c text d
     → IsDumpAnswer config pin time (seen d) text
 
 -- the answer to the line `dump -`
 abbrev pub AnswersNewDump : {S : Type 0} → HeapSettings → (S → SeatModel) → (S → List Call) → ℕ → S
     → List ℕ → S → Type 0
 AnswersNewDump config seat seen time c text d =
-    DumpsNow (ActsJoined config seat seen) time part_limit c text d
+    DumpsNow (ActsJoined config seat seen) time piece_limit c text d
     → IsUnopened text ⊎ IsOpenedDump config (seat c) time (seen c) (seen d) text

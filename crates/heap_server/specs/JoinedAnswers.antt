@@ -17,7 +17,8 @@ use Rattle.heap_lock.specs.Receipt.{Receipt}
 use Rattle.heap_lock.specs.Reply.{Reply}
 use Rattle.heap_lock.specs.LockStates.{SeatModel, IsHeldAct, IsNoEntry, LockState}
 use Rattle.session_text.specs.Replies.{reply_text}
-use Rattle.question_text.specs.Answers.{IsAnswerOfLine}
+use Rattle.question_grammar.specs.Bookmarks.{Bookmarks}
+use Rattle.question_text.specs.Notes.{NotesLine}
 use Rattle.heap_orders.specs.declared.cycle.CycleCounts.{CycleCounts}
 use Rattle.heap_orders.specs.Collections.{IsCycleAnswer, RunsCycle, TakenStep}
 use Rattle.question_words.specs.Moments.{steps_ago, refused_text}
@@ -85,20 +86,25 @@ abbrev pub LacksUndone : ℕ → LockState → SeatModel → List ℕ → LockSt
 LacksUndone n k s text k' s' =
     IsTextOrNoMemory (λ text. text ≡ nothing_to_redo_text n 0) text × (k' ≡ k) × (s' ≡ s)
 
--- what one who holds the lock does by a line that the grammar of sessions doesn't know, and its answer: what it asks to be done, as
--- acts of the seat; else nothing, and the answer of a question is about the heap's machine and the length of its chronicle
-abbrev pub AnswersHeld : HeapSettings → Option Order → List ℕ → LockState → SeatModel → List ℕ
-    → LockState
-    → SeatModel → Type 0
-AnswersHeld config (Some Collect) l k s text k' s' = CollectsHeld k s text k' s'
-AnswersHeld config (Some (RewindTo place)) l k s text k' s' =
+-- what one who holds the lock does as a line asks, by acts of the seat, and its answer
+abbrev pub DoesHeld : HeapSettings → Order → LockState → SeatModel → List ℕ → LockState → SeatModel
+    → Type 0
+DoesHeld config Collect k s text k' s' = CollectsHeld k s text k' s'
+DoesHeld config (RewindTo place) k s text k' s' =
     RewindsHeld config (steps_ago (Some place) k.machine.trail) k s text k' s'
-AnswersHeld config (Some (Forward n)) l k s text k' s' = LacksUndone n k s text k' s'
-AnswersHeld config (Some (ForwardTo place)) l k s text k' s' =
-    IsRefusedHeld NotRetained k s text k' s'
-AnswersHeld config (Some (Act e)) l k s text k' s' = ActsHeld config (Step e) k s text k' s'
-AnswersHeld config None l k s text k' s' =
-    IsAnswerOfLine l k.machine (Some (length k.chronicle)) text × (k' ≡ k) × (s' ≡ s)
+DoesHeld config (Forward n) k s text k' s' = LacksUndone n k s text k' s'
+DoesHeld config (ForwardTo place) k s text k' s' = IsRefusedHeld NotRetained k s text k' s'
+DoesHeld config (Act e) k s text k' s' = ActsHeld config (Step e) k s text k' s'
+
+-- the same of a line that the grammar of sessions doesn't know, in a session with these bookmarks: if it asks for nothing to be
+-- done, it changes at most these, and the answer of a question is about the heap's machine and the length of its chronicle
+abbrev pub AnswersHeld : HeapSettings → Option Order → List ℕ → LockState → SeatModel → Bookmarks
+    → List ℕ
+    → LockState → SeatModel → Bookmarks → Type 0
+AnswersHeld config (Some order) l k s b text k' s' b' =
+    DoesHeld config order k s text k' s' × (b' ≡ b)
+AnswersHeld config None l k s b text k' s' b' =
+    NotesLine l k.machine (Some (length k.chronicle)) b text b' × (k' ≡ k) × (s' ≡ s)
 
 -- someone who held the lock led to this heap of the seat, all of whose calls are seen
 abbrev pub LeavesSeen : HeapSettings → (LockState → Type 0) → SeatModel → List Call → Type 0
@@ -107,19 +113,21 @@ LeavesSeen config Leads s seen =
     × (seen ≡ last.ledger)
 
 -- what a line asks to be done, if lines may ask that here
-abbrev pub order_obeyed : Bool → HeapState → List ℕ → Option Order
-order_obeyed true state l = order_in state l
-order_obeyed false state l = None
+abbrev pub order_obeyed : Bool → Bookmarks → HeapState → List ℕ → Option Order
+order_obeyed true b state l = order_in b state l
+order_obeyed false b state l = None
 
 -- the answer of a line that the grammar of sessions doesn't know, under one lock, from when the witness had seen all calls so far,
 -- to when it has seen all again
 pub record AnswersForSeat (config : HeapSettings) (obeys : Bool) (l : List ℕ) (s : SeatModel)
-    (seen : List Call) (text : List ℕ) (s' : SeatModel) (seen' : List Call) : Type 0 where
+    (seen : List Call) (b : Bookmarks) (text : List ℕ) (s' : SeatModel) (seen' : List Call)
+    (b' : Bookmarks)
+    : Type 0 where
   pub first : LockState
   pub last : LockState
   pub begins : IsPrefix seen first.ledger
   pub from : IsHeapOfSeat config first.machine first.chronicle first.ledger s
-  pub answers : AnswersHeld config (order_obeyed obeys first.machine.trail.current l) l first s text
-      last s'
+  pub answers : AnswersHeld config (order_obeyed obeys b first.machine.trail.current l) l first s b
+      text last s' b'
   pub to : IsHeapOfSeat config last.machine last.chronicle last.ledger s'
   pub sees : seen' ≡ last.ledger

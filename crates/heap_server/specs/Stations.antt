@@ -17,25 +17,43 @@ use Rattle.heap_server.specs.Clients.{ServesClient, plain_end}
 use Rattle.heap_server.specs.JoinedActs.{IsJoined}
 use Rattle.heap_server.specs.JoinedAnswers.{AnswersForSeat}
 use Rattle.heap_server.specs.SocketTraffic.{Traffic}
-use Rattle.heap_server.specs.StayingSeats.{ClosesEach, StayingStation, staying_acts, staying_answers}
+use Rattle.heap_server.specs.StayingSeats.{ClosesEach, StayingStation, first_staying, staying_acts, staying_answers}
+use Rattle.question_grammar.specs.Bookmarks.{Bookmarks, no_bookmarks}
+use Rattle.question_grammar.specs.NoteLines.{place_opened}
+use Rattle.session_text.specs.Replies.{reply_text}
+use Rattle.heap_lock.specs.Action.TheVariants.{OpenPin}
+use Rattle.heap_lock.specs.Reply.{Reply}
 use Rattle.heap_server.specs.declared.client_session.SessionEnd.{SessionEnd}
 use Rattle.heap_server.specs.declared.client_session.SessionEnd.TheVariants.{Ran, Idle}
 use Rattle.heap_server.specs.declared.sessions.SeatEnd.{SeatEnd}
 use Rattle.heap_server.specs.declared.sessions.Terms.{Terms}
 
--- a session's seat, and the calls that its witness has seen
+-- a session's seat, the calls that its witness has seen, and what the session notes of places
 pub record Station : Type 0 where
   pub seat : SeatModel
   pub seen : List Call
+  pub bookmarks : Bookmarks
+
+-- that of a session that begins
+abbrev pub first_station : SeatModel → List Call → Station
+first_station s seen = record { seat = s; seen = seen; bookmarks = no_bookmarks }
 
 -- what an action does from a seat on a heap of these settings
 abbrev pub seat_acts : HeapSettings → Acts Station
-seat_acts config c a r d = IsJoined config c.seat c.seen a r d.seat d.seen
+seat_acts config c a r d =
+    IsJoined config c.seat c.seen a r d.seat d.seen × (d.bookmarks ≡ c.bookmarks)
+
+-- a pin is opened on the state at a place; or the seat answers a line, as it stands and without opening one
+abbrev pub OpensOrAnswers : HeapSettings → Option ℕ → AnswerRelation Station
+OpensOrAnswers config (Some place) l c text d =
+    (r : Reply) × seat_acts config c (OpenPin (Some place)) r d × (text ≡ reply_text r)
+OpensOrAnswers config None l c text d =
+    AnswersForSeat config true l c.seat c.seen c.bookmarks text d.seat d.seen d.bookmarks
 
 -- what a line does there that the grammar of sessions doesn't know, if questions are answered or not
 abbrev pub seat_answers : HeapSettings → Bool → AnswerRelation Station
 seat_answers config true l c text d =
-    AnswersForSeat config true l c.seat c.seen text d.seat d.seen
+    OpensOrAnswers config (place_opened c.bookmarks l) l c text d
 seat_answers config false l c text d = all_bad l c text d
 
 -- what a line does there on these terms
@@ -56,12 +74,12 @@ pub record IsServedFrom (config : HeapSettings) (terms : Terms) (s : SeatModel) 
   pub failed : Bool
   pub left : Incoming
   pub seen : List Call
-  pub seen' : List Call
+  pub last : Station
   pub ahead : IsAhead (longest_line terms.limits) bytes failed a left
   pub legal : IsLegalLedger config seen
   pub serves : ServesClient terms.limits (seat_says config terms) (seat_begins config terms)
-      terms.secret bytes failed left a'
-      (record { seat = s; seen = seen }) w (record { seat = s'; seen = seen' }) w' end
+      terms.secret bytes failed left a' (first_station s seen) w last w' end
+  pub seat : s' ≡ last.seat
 
 -- so it was; or memory for the first line was refused, and nothing was done or put out
 abbrev pub IsAttended : HeapSettings → Terms → SeatModel → Incoming → Incoming → Outgoing → Outgoing
@@ -94,7 +112,7 @@ pub record IsServedStaying (config : HeapSettings) (terms : Terms) (s : SeatMode
   pub legal : IsLegalLedger config seen
   pub serves : ServesClient terms.limits (staying_says config terms) (staying_begins config terms)
       terms.secret bytes failed left a'
-      (record { seat = s; seen = seen; pins = []; questions = terms.questions }) w last w' end
+      (first_staying s seen terms.questions) w last w' end
   pub closes : ClosesEach config last.pins last.seen seen'
   pub seat : s' ≡ last.seat
 

@@ -13,6 +13,8 @@ use Rattle.heap_lock.specs.Calls.{Call, Witnesses}
 use Rattle.heap_lock.specs.Entry.{Entry}
 use Rattle.heap_lock.specs.LockStates.{SeatModel}
 use Rattle.heap_lock.specs.Machine.{Machine}
+use Rattle.question_grammar.specs.Bookmarks.{Bookmarks, no_bookmarks}
+use Rattle.question_grammar.specs.NoteLines.{place_opened}
 use Rattle.question_grammar.specs.Questions.{question_of}
 use Rattle.question_grammar.specs.declared.question.Question.{Question}
 use Rattle.question_grammar.specs.declared.question.Question.TheVariants.{Pins}
@@ -41,17 +43,23 @@ is_pins q = false
 
 -- the line asks for the open pins
 abbrev pub asks_pins : List ℕ → Bool
-asks_pins l = is_pins (question_of l)
+asks_pins l = is_pins (question_of no_bookmarks l)
 
 -- ---- the pins of a session
 
--- a session's seat, the calls that its witness has seen, the pins that it opened and neither closed nor kept, and whether questions
--- are answered
+-- a session's seat, the calls that its witness has seen, what the session notes of places, the pins that it opened and neither
+-- closed nor kept, and whether questions are answered
 pub record StayingStation : Type 0 where
   pub seat : SeatModel
   pub seen : List Call
+  pub bookmarks : Bookmarks
   pub pins : List ℕ
   pub questions : Bool
+
+-- that of a session that begins
+abbrev pub first_staying : SeatModel → List Call → Bool → StayingStation
+first_staying s seen questions =
+    record { seat = s; seen = seen; bookmarks = no_bookmarks; pins = []; questions = questions }
 
 -- whether this pin is open
 abbrev pub is_open : Machine → ℕ → Bool
@@ -97,9 +105,10 @@ ActsNoted config c (Rewind n) r d = ActsWith config c c.seen (Rewind n) r d c.pi
 ActsNoted config c (NextPiece pin time) r d =
     ActsWith config c c.seen (NextPiece pin time) r d c.pins
 
--- the same, of a session that goes on to answer questions or not
+-- the same, of a session that goes on to answer questions or not, by the same bookmarks
 abbrev pub staying_acts : HeapSettings → Acts StayingStation
-staying_acts config c a r d = ActsNoted config c a r d × (d.questions ≡ c.questions)
+staying_acts config c a r d =
+    ActsNoted config c a r d × (d.questions ≡ c.questions) × (d.bookmarks ≡ c.bookmarks)
 
 -- ---- answers
 
@@ -112,7 +121,7 @@ keep_text false = reply_text (Refused NoPin)
 abbrev pub KeepsPin : HeapSettings → ℕ → StayingStation → List ℕ → StayingStation → Type 0
 KeepsPin config pin c text d =
     (left : List ℕ) × AreStillOpen config c.seat c.seen c.pins d.seen left
-    × (d.seat ≡ c.seat) × (d.pins ≡ without pin left)
+    × (d.seat ≡ c.seat) × (d.bookmarks ≡ c.bookmarks) × (d.pins ≡ without pin left)
     × (text ≡ keep_text (list_any (λ p. p == pin) left))
 
 -- the answer of the seat to a line that the grammar of sessions doesn't know; it does what the line asks to be done, if
@@ -120,8 +129,17 @@ KeepsPin config pin c text d =
 abbrev pub AnswersSeat : HeapSettings → Bool → List ℕ → StayingStation → List ℕ → StayingStation
     → Type 0
 AnswersSeat config obeys l c text d =
-    AnswersForSeat config obeys l c.seat c.seen text d.seat d.seen
+    AnswersForSeat config obeys l c.seat c.seen c.bookmarks text d.seat d.seen d.bookmarks
     × (d.pins ≡ c.pins)
+
+-- a pin is opened on the state at a place, and noted; or the seat answers a line
+abbrev pub OpensOrAnswersSeat : HeapSettings → Option ℕ → List ℕ → StayingStation → List ℕ
+    → StayingStation
+    → Type 0
+OpensOrAnswersSeat config (Some place) l c text d =
+    (r : Reply) × ActsNoted config c (OpenPin (Some place)) r d × (d.bookmarks ≡ c.bookmarks)
+    × (text ≡ reply_text r)
+OpensOrAnswersSeat config None l c text d = AnswersSeat config true l c text d
 
 -- the answer of a line that the grammar of sessions doesn't know: `keep PIN`; or, if questions are answered, that of the seat; or,
 -- if they aren't, that of `pins` alone
@@ -130,7 +148,8 @@ abbrev pub AnswersStaying : HeapSettings → Option ℕ → Bool → Bool → Li
     → StayingStation
     → Type 0
 AnswersStaying config (Some pin) questions pins l c text d = KeepsPin config pin c text d
-AnswersStaying config None true pins l c text d = AnswersSeat config true l c text d
+AnswersStaying config None true pins l c text d =
+    OpensOrAnswersSeat config (place_opened c.bookmarks l) l c text d
 AnswersStaying config None false true l c text d = AnswersSeat config false l c text d
 AnswersStaying config None false false l c text d = all_bad l c text d
 

@@ -2,7 +2,7 @@
 ghost use Rattle.std.specs.Prelude.{◌≡◌, ◌+◌, ◌≤◌, ◌<◌, ◌^◌, [], IfOk, drop, length, take, vec_capacity};
 ghost use Rattle.std.specs.Io.KnownBytes.{prepend_known};
 ghost use Rattle.dump_pump.specs.Inlets.{IsTriedRead, count_of};
-ghost use Rattle.dump_pump.specs.Outlets.{log_bytes};
+ghost use Rattle.dump_pump.specs.Outlets.{ghost_bytes};
 ghost use Rattle.session_text.specs.Buffers.{IsInletRead};
 ghost use Rattle.session_text.specs.Limits.{longest_line};
 ghost use Rattle.heap_server.specs.Ahead.{BeginsAhead, GoesOn, IsAhead, IsSeenBehind};
@@ -10,8 +10,8 @@ ghost use Rattle.session_grammar.specs.declared.TheConstants.{LINE_LIMIT};
 
 use crate::http::line_end;
 use dump_pump::Log;
+use dump_pump::ghost_list::note_bytes;
 use dump_pump::inlet::count_of;
-use dump_pump::ledger::note_bytes;
 use session_grammar::LINE_LIMIT;
 use session_text::{Inlet, SessionLimits, Take};
 use std::alloc::{AllocError, Global};
@@ -159,7 +159,7 @@ pub(crate) struct AheadInlet<I: Inlet + Drop, B: AheadOrigin> {
 impl<I: Inlet + Drop, B: AheadOrigin> Model for AheadInlet<I, B> {
     ghost use Rattle.std.specs.Prelude.{◌≡◌, drop, length, map};
     ghost use Rattle.std.specs.Io.KnownBytes.{prepend_known};
-    ghost use Rattle.dump_pump.specs.Outlets.{log_bytes};
+    ghost use Rattle.dump_pump.specs.Outlets.{ghost_bytes};
     ghost use Rattle.heap_server.specs.Ahead.{AheadState, IsGivenUpTo};
 
     ghost Value = { AheadState };
@@ -168,7 +168,7 @@ impl<I: Inlet + Drop, B: AheadOrigin> Model for AheadInlet<I, B> {
         record {
           last = I.seen i.inlet;
           seen = record {
-            taken = log_bytes i.taken.items;
+            taken = ghost_bytes i.taken.items;
             left = prepend_known (drop i.start i.ahead.bytes.items) (I.seen i.inlet).left;
             reads = map (λ e. e.0) i.asked.items;
             failures = length i.faults.items;
@@ -178,7 +178,7 @@ impl<I: Inlet + Drop, B: AheadOrigin> Model for AheadInlet<I, B> {
     ghost invariant = { λ i. (i.ahead.bytes.items ≡ B.start.bytes)
         × (i.ahead.failed ≡ B.start.failed)
         × IsGivenUpTo i.start B.start.bytes B.start.failed B.start.first (I.seen i.inlet)
-        (log_bytes i.taken.items) (map (λ e. e.0) i.asked.items) (length i.faults.items) };
+        (ghost_bytes i.taken.items) (map (λ e. e.0) i.asked.items) (length i.faults.items) };
 }
 
 impl<I: Inlet + Drop, B: AheadOrigin> AheadInlet<I, B> {

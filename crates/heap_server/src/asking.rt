@@ -55,6 +55,9 @@ impl<'a, L: Heap, R: Wait> Commands for AskingSeat<'a, L, R> {
     }
 
     fn answer_unknown(&mut self, alloc: Global, line: &[u8]) -> LineAnswer {
-        self.joined.answer_line(alloc, true, line)
+        match self.joined.place_opened(line) {
+            Some(place) => LineAnswer::Known(self.joined.act(Action::OpenPin(Some(place)))),
+            None => self.joined.answer_line(alloc, true, line),
+        }
     }
 }

@@ -5,13 +5,13 @@ ghost use Rattle.heap_lock.specs.declared.role.Role.TheVariants.{User};
 ghost use Rattle.heap_lock.specs.Action.TheVariants.{Step};
 ghost use mathlib.Core.List.{IsPrefix};
 ghost use Rattle.question_words.specs.Moments.{steps_ago};
-ghost use Rattle.heap_server.specs.JoinedAnswers.{ActsHeld, AnswersForSeat, AnswersHeld, CollectsHeld, IsHeapOfSeat, IsRefusedHeld, LacksUndone, LeavesSeen, RewindsHeld, RunsCycleHeld, order_obeyed};
+ghost use Rattle.heap_server.specs.JoinedAnswers.{ActsHeld, AnswersForSeat, AnswersHeld, CollectsHeld, DoesHeld, IsHeapOfSeat, IsRefusedHeld, LacksUndone, LeavesSeen, RewindsHeld, RunsCycleHeld, order_obeyed};
 
 use crate::joined::reply_to_act;
 use heap_lock::{Answer, Event, Heap, Kept, Machine, Outcome, Refusal, Reply, Seat, Witness};
 use heap_orders::{CycleCounts, Steps, collect_answer, nothing_to_redo, run_cycle};
-use question_grammar::{Order, order_in};
-use question_text::answer_line;
+use question_grammar::{Bookmarks, Order, order_in};
+use question_text::note_line;
 use question_words::steps_ago;
 use session_text::LineAnswer;
 use std::alloc::Global;
@@ -56,23 +56,25 @@ impl<'a, L: Heap> Steps for HeldHeap<'a, L> {
 }
 
 // Answers a line that the grammar of sessions doesn't know for one who holds the lock, and does what it asks to be done, if `obeys`
-// says so, as acts of the seat. The witness sees the calls before it, and then those of its acts.
+// says so, as acts of the seat. The witness sees the calls before it, and then those of its acts. If the line asks for nothing to
+// be done, the bookmarks note what it sets.
 pub(crate) fn answer_held<L: Heap>(
     alloc: Global,
     kept: &mut Kept<L>,
     seat: &mut Seat<L>,
     witness: &mut Witness<L>,
+    bookmarks: &mut Bookmarks,
     obeys: bool,
     line: &[u8],
 ) -> LineAnswer
     requires { seat.old.role ≡ User }
-    ensures answers { AnswersForSeat L.config obeys line.now seat.old witness.old
-        (line_answer_text result) seat.new witness.new }
+    ensures answers { AnswersForSeat L.config obeys line.now seat.old witness.old bookmarks.old
+        (line_answer_text result) seat.new witness.new bookmarks.new }
     ensures role { seat.new.role ≡ User }
 {
     see_all(kept, seat, witness);
-    let order = order_obeyed(kept, obeys, line);
-    answer_order(alloc, kept, seat, witness, order, line)
+    let order = order_obeyed(kept, bookmarks, obeys, line);
+    answer_order(alloc, kept, seat, witness, bookmarks, order, line)
 }
 
 // Compares the chronicle with the seat, and has the witness see all calls.
@@ -89,37 +91,63 @@ fn see_all<L: Heap>(kept: &mut Kept<L>, seat: &mut Seat<L>, witness: &mut Witnes
 }
 
 // Returns what a line asks to be done, if `obeys` says that it may ask that.
-fn order_obeyed<L: Heap>(kept: &Kept<L>, obeys: bool, line: &[u8]) -> Option<Order>
-    ensures { result ≡ order_obeyed obeys kept.now.machine.trail.current line.now }
+fn order_obeyed<L: Heap>(
+    kept: &Kept<L>,
+    bookmarks: &Bookmarks,
+    obeys: bool,
+    line: &[u8],
+) -> Option<Order>
+    ensures { result
+        ≡ order_obeyed obeys bookmarks.now kept.now.machine.trail.current line.now }
 {
     if obeys {
-        order_in(kept.machine().world(), line)
+        order_in(bookmarks, kept.machine().world(), line)
     } else {
         None
     }
 }
 
-// Answers a line for one who holds the lock, and does what it asks to be done.
+// Answers a line for one who holds the lock, and does what it asks to be done, or notes what it sets.
 fn answer_order<L: Heap>(
     alloc: Global,
     kept: &mut Kept<L>,
     seat: &mut Seat<L>,
     witness: &mut Witness<L>,
+    bookmarks: &mut Bookmarks,
     order: Option<Order>,
     line: &[u8],
 ) -> LineAnswer
     requires { seat.old.role ≡ User }
     ensures answers { LeavesSeen L.config (λ last. AnswersHeld L.config order line.now kept.old
-        seat.old (line_answer_text result) last seat.new) seat.new witness.new }
+        seat.old bookmarks.old (line_answer_text result) last seat.new bookmarks.new) seat.new
+        witness.new }
     ensures role { seat.new.role ≡ User }
 {
     match order {
-        Some(Order::Collect) => collect_held(alloc, kept, seat, witness),
-        Some(Order::RewindTo(place)) => rewind_held_to(kept, seat, witness, place),
-        Some(Order::Forward(count)) => lack_undone(alloc, kept, seat, witness, count),
-        Some(Order::ForwardTo(_)) => refuse_held(kept, seat, witness, Refusal::NotRetained),
-        Some(Order::Act(event)) => take_held(kept, seat, witness, event),
-        None => answer_question(alloc, kept, seat, witness, line),
+        Some(order) => do_held(alloc, kept, seat, witness, order),
+        None => note_held(alloc, kept, seat, witness, bookmarks, line),
+    }
+}
+
+// Does what a line asks to be done for one who holds the lock, and answers it.
+fn do_held<L: Heap>(
+    alloc: Global,
+    kept: &mut Kept<L>,
+    seat: &mut Seat<L>,
+    witness: &mut Witness<L>,
+    order: Order,
+) -> LineAnswer
+    requires { seat.old.role ≡ User }
+    ensures answers { LeavesSeen L.config (λ last. DoesHeld L.config order kept.old seat.old
+        (line_answer_text result) last seat.new) seat.new witness.new }
+    ensures role { seat.new.role ≡ User }
+{
+    match order {
+        Order::Collect => collect_held(alloc, kept, seat, witness),
+        Order::RewindTo(place) => rewind_held_to(kept, seat, witness, place),
+        Order::Forward(count) => lack_undone(alloc, kept, seat, witness, count),
+        Order::ForwardTo(_) => refuse_held(kept, seat, witness, Refusal::NotRetained),
+        Order::Act(event) => take_held(kept, seat, witness, event),
     }
 }
 
@@ -235,19 +263,21 @@ fn take_held<L: Heap>(
     LineAnswer::Known(reply)
 }
 
-// Answers a question about the heap.
-fn answer_question<L: Heap>(
+// Answers a line that asks for nothing to be done, such as a question about the heap, and notes what it sets.
+fn note_held<L: Heap>(
     alloc: Global,
     kept: &mut Kept<L>,
     seat: &mut Seat<L>,
     witness: &mut Witness<L>,
+    bookmarks: &mut Bookmarks,
     line: &[u8],
 ) -> LineAnswer
     ensures answers { LeavesSeen L.config (λ last. AnswersHeld L.config None line.now kept.old
-        seat.old (line_answer_text result) last seat.new) seat.new witness.new }
+        seat.old bookmarks.old (line_answer_text result) last seat.new bookmarks.new) seat.new
+        witness.new }
     ensures seat { seat.new ≡ seat.old }
 {
     see_all(kept, seat, witness);
     let acts = kept.chronicle().len() as u64;
-    answer_line(alloc, kept.machine(), Some(acts), line)
+    note_line(alloc, kept.machine(), Some(acts), bookmarks, line)
 }

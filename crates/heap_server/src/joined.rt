@@ -8,10 +8,13 @@ ghost use Rattle.heap_lock.specs.History.{reply_of};
 ghost use Rattle.session_text.specs.Replies.{line_answer_text};
 ghost use Rattle.heap_server.specs.JoinedActs.{IsReply, IsLegalPart, OpensMet};
 ghost use Rattle.heap_server.specs.JoinedAnswers.{AnswersForSeat};
+ghost use Rattle.heap_server.specs.Stations.{first_station};
 ghost use Rattle.heap_server.specs.StayingSeats.{AreStillOpen, is_open};
+ghost use Rattle.question_grammar.specs.NoteLines.{place_opened};
 
 use crate::held_heap::answer_held;
 use heap_lock::{Action, Heap, Machine, Outcome, Receipt, Refusal, Reply, Seat, Shared, Witness};
+use question_grammar::{Bookmarks, place_opened};
 use session_text::{Commands, LineAnswer};
 use std::alloc::Global;
 use std::marker::Model;
@@ -19,14 +22,15 @@ use std::sync::Wait;
 use std::thread;
 
 /// A user's seat, with its heap. What others do on the heap goes on between any two actions. Contracts see the seat, whose
-/// share has what this session did, in order, and the calls that its witness has seen: those up to this session's last dump
-/// call or question.
+/// share has what this session did, in order, the calls that its witness has seen, those up to this session's last dump call or
+/// question, and what the session notes of places.
 #[derive(Drop)]
 pub struct Joined<'a, L: Heap, R: Wait> {
     shared: &'a Shared<L>,
     rt: &'a R,
     seat: Seat<L>,
     witness: Witness<L>,
+    bookmarks: Bookmarks,
 }
 
 impl<'a, L: Heap, R: Wait> Model for Joined<'a, L, R> {
@@ -36,7 +40,8 @@ impl<'a, L: Heap, R: Wait> Model for Joined<'a, L, R> {
 
     ghost Value = { Station };
 
-    ghost view = { λ j. record { seat = j.seat; seen = j.witness } };
+    ghost view = { λ j.
+        record { seat = j.seat; seen = j.witness; bookmarks = j.bookmarks } };
 
     ghost invariant = { λ j. j.seat.role ≡ User };
 }
@@ -85,21 +90,23 @@ fn is_open(machine: &Machine, pin: u64) -> bool
 }
 
 impl<'a, L: Heap, R: Wait> Joined<'a, L, R> {
-    /// Creates the commands of this seat.
+    /// Creates the commands of this seat, for a session that begins.
     pub fn new(
+        alloc: Global,
         shared: &'a Shared<L>,
         rt: &'a R,
         seat: Seat<L>,
         witness: Witness<L>,
     ) -> Joined<'a, L, R>
         requires { seat.role ≡ User }
-        ensures { result ≡ record { seat = seat; seen = witness } }
+        ensures { result ≡ first_station seat witness }
     {
         Joined {
             shared,
             rt,
             seat,
             witness,
+            bookmarks: Bookmarks::new(alloc),
         }
     }
 
@@ -115,6 +122,7 @@ impl<'a, L: Heap, R: Wait> Joined<'a, L, R> {
     fn reply_to_open(&mut self, at: Option<u64>) -> Reply
         ensures done { OpensMet L.config self.old.seat self.old.seen at result self.new.seen }
         ensures seat { self.new.seat ≡ self.old.seat }
+        ensures bookmarks { self.new.bookmarks ≡ self.old.bookmarks }
         ensures small { IsSmall result }
     {
         self.shared.meet(self.rt, &mut self.seat, &mut self.witness);
@@ -132,6 +140,7 @@ impl<'a, L: Heap, R: Wait> Joined<'a, L, R> {
         ensures done { Witnesses L.config self.old.seen (NextPiece pin time) result
             self.new.seen }
         ensures seat { self.new.seat ≡ self.old.seat }
+        ensures bookmarks { self.new.bookmarks ≡ self.old.bookmarks }
         ensures legal { IsLegalPart L.config.ids time result }
         ensures small { IsSmall result }
     {
@@ -148,6 +157,7 @@ impl<'a, L: Heap, R: Wait> Joined<'a, L, R> {
     fn reply_to_close(&mut self, pin: u64) -> Reply
         ensures done { Witnesses L.config self.old.seen (ClosePin pin) result self.new.seen }
         ensures seat { self.new.seat ≡ self.old.seat }
+        ensures bookmarks { self.new.bookmarks ≡ self.old.bookmarks }
         ensures small { IsSmall result }
     {
         match self.shared.close_pin(self.rt, &mut self.witness, pin) {
@@ -161,6 +171,7 @@ impl<'a, L: Heap, R: Wait> Joined<'a, L, R> {
         ensures open { AreStillOpen L.config self.old.seat self.old.seen pins.old.items
             self.new.seen pins.new.items }
         ensures seat { self.new.seat ≡ self.old.seat }
+        ensures bookmarks { self.new.bookmarks ≡ self.old.bookmarks }
     {
         let mut kept = self.shared.lock(self.rt);
         kept.agree(&mut self.seat);
@@ -168,11 +179,19 @@ impl<'a, L: Heap, R: Wait> Joined<'a, L, R> {
         retain_open(kept.machine(), pins);
     }
 
-    // Answers a line that the grammar of sessions doesn't know, under the lock, and leaves the processor to others then. Does what it
-    // asks to be done, if `obeys` says so, as acts of this seat.
+    // Returns the place on whose state the line `open @WORD` opens a pin.
+    pub(crate) fn place_opened(&self, line: &[u8]) -> Option<u64>
+        ensures { result ≡ place_opened self.now.bookmarks line.now }
+    {
+        place_opened(&self.bookmarks, line)
+    }
+
+    // Answers a line that the grammar of sessions doesn't know and that opens no pin, under the lock, and leaves the processor to
+    // others then. Does what it asks to be done, if `obeys` says so, as acts of this seat, or notes what it sets.
     pub(crate) fn answer_line(&mut self, alloc: Global, obeys: bool, line: &[u8]) -> LineAnswer
         ensures { AnswersForSeat L.config obeys line.now self.old.seat self.old.seen
-            (line_answer_text result) self.new.seat self.new.seen }
+            self.old.bookmarks (line_answer_text result) self.new.seat self.new.seen
+            self.new.bookmarks }
     {
         let mut kept = self.shared.lock(self.rt);
         let answer = answer_held(
@@ -180,6 +199,7 @@ impl<'a, L: Heap, R: Wait> Joined<'a, L, R> {
             &mut *kept,
             &mut self.seat,
             &mut self.witness,
+            &mut self.bookmarks,
             obeys,
             line,
         );

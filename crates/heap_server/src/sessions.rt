@@ -200,7 +200,7 @@ fn attend_staying<L: Heap, R: Wait, I: Inlet + Drop, O: Outlet>(
         let end = SessionEnd::Ran(Ended::NoMemory);
         return Attended { end, inlet, seat };
     };
-    let joined = Joined::new(shared, rt, seat, shared.witness(rt));
+    let joined = Joined::new(alloc, shared, rt, seat, shared.witness(rt));
     let mut staying = Paced::new(StayingSeat::new(alloc, joined, terms.questions), hurry);
     let (end, inlet) = serve_client(alloc, inlet, ahead, outlet, &mut staying, terms);
     let seat = staying.into_commands().into_seat();
@@ -230,7 +230,7 @@ fn attend<L: Heap, R: Wait, I: Inlet + Drop, O: Outlet>(
         let end = SessionEnd::Ran(Ended::NoMemory);
         return Attended { end, inlet, seat };
     };
-    let joined = Joined::new(shared, rt, seat, shared.witness(rt));
+    let joined = Joined::new(alloc, shared, rt, seat, shared.witness(rt));
     if terms.questions {
         let mut asking = Paced::new(AskingSeat::new(joined), hurry);
         let (end, inlet) = serve_client(alloc, inlet, ahead, outlet, &mut asking, terms);

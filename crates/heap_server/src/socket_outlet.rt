@@ -2,7 +2,7 @@
 ghost use Rattle.std.specs.Prelude.{◌≡◌, []};
 
 use crate::socket::Half;
-use dump_pump::ledger::note_bytes;
+use dump_pump::ghost_list::note_bytes;
 use dump_pump::{Log, Outlet, Put, WriteOutlet};
 use std::marker::Model;
 
@@ -17,12 +17,12 @@ pub struct SocketOutlet {
 
 impl Model for SocketOutlet {
     ghost use Rattle.std.specs.Prelude.{length};
-    ghost use Rattle.dump_pump.specs.Outlets.{Outgoing, log_bytes};
+    ghost use Rattle.dump_pump.specs.Outlets.{Outgoing, ghost_bytes};
 
     ghost Value = { Outgoing };
 
     ghost view = { λ o.
-        record { out = log_bytes o.put.items; failures = length o.failed.items } };
+        record { out = ghost_bytes o.put.items; failures = length o.failed.items } };
 }
 
 impl SocketOutlet {

@@ -109,7 +109,7 @@ struct Ending {
 }
 
 // How the sessions from a seat ended, with what went through each one's socket.
-type SeatLog = Log<SessionEnd, Option<SocketTraffic>>;
+type SeatSessions = Log<SessionEnd, Option<SocketTraffic>>;
 
 // The promise that sessions on these terms were served from this seat, one after another.
 #[derive(Drop)]
@@ -118,7 +118,7 @@ struct StaysFrom<L: Heap> {
     terms: Terms,
 }
 
-impl<L: Heap> Promise<(SeatLog, Seat<L>)> for StaysFrom<L> {
+impl<L: Heap> Promise<(SeatSessions, Seat<L>)> for StaysFrom<L> {
     ghost use Rattle.heap_server.specs.Staying.{AreSessions};
 
     ghost kept_by = { λ p r. AreSessions L.config p.terms p.seat.value r.0.items r.1 };
@@ -192,7 +192,7 @@ fn tell_endings<R: Print + Wait>(rt: &R, endings: Receiver<Ending>) {
 // A thread that serves from a seat; None if it couldn't be started. Contracts see the seat and the terms that it began with.
 #[derive(Drop)]
 pub(crate) struct Standing<L: Heap> {
-    thread: Option<PromisedHandle<(SeatLog, Seat<L>), StaysFrom<L>>>,
+    thread: Option<PromisedHandle<(SeatSessions, Seat<L>), StaysFrom<L>>>,
 }
 
 impl<L: Heap> Model for Standing<L> {
@@ -246,7 +246,7 @@ fn begin_stays<'s, E, L: Heap + Send + Sync, R: Clock + Threads + Wait + Sync>(
 /// The sessions that were served from a seat, one after another, and the seat as they left it; one without a thread is gone.
 #[derive(Drop)]
 pub struct SeatStay {
-    pub sessions: SeatLog,
+    pub sessions: SeatSessions,
     pub unnamed_seat: Option<UnnamedSeat>,
 }
 
@@ -279,7 +279,7 @@ fn stay<L: Heap, R: Clock + Wait>(
     post: &Post<'_, L, R>,
     seat: Seat<L>,
     endings: Sender<Ending>,
-) -> (SeatLog, Seat<L>)
+) -> (SeatSessions, Seat<L>)
     requires { seat.role ≡ User }
     ensures { AreSessions L.config post.now.terms seat result.0.items result.1 }
 {
@@ -305,12 +305,12 @@ fn stay<L: Heap, R: Clock + Wait>(
 // Serves one client from a seat, and sends how its session ended, unless as many endings wait as may.
 fn serve_next<L: Heap, R: Clock + Wait>(
     post: &Post<'_, L, R>,
-    sessions: SeatLog,
+    sessions: SeatSessions,
     seat: Seat<L>,
     number: u64,
     stream: TcpStream,
     endings: &Sender<Ending>,
-) -> (SeatLog, Seat<L>)
+) -> (SeatSessions, Seat<L>)
     requires { seat.role ≡ User }
     ensures session { ServesNext L.config post.now.terms seat sessions.items result.1
         result.0.items }

@@ -3,14 +3,15 @@ ghost use Rattle.std.specs.Prelude.{◌≡◌, ◌==◌, ◌<◌, List, [], vec_
 ghost use Rattle.std.specs.List.{list_any};
 ghost use Rattle.heap_lock.specs.Calls.{Call};
 ghost use Rattle.heap_lock.specs.declared.role.Role.TheVariants.{User};
-ghost use Rattle.heap_server.specs.StayingSeats.{ActsWith, AnswersSeat, AnswersStaying, ClosesEach, KeepsPin, OpensNoted, asks_pins, kept_pin, with_opened, without};
+ghost use Rattle.heap_server.specs.StayingSeats.{ActsWith, AnswersSeat, AnswersStaying, ClosesEach, KeepsPin, OpensNoted, OpensOrAnswersSeat, asks_pins, kept_pin, with_opened, without};
+ghost use Rattle.question_grammar.specs.NoteLines.{place_opened};
 ghost use Rattle.heap_lock.specs.Action.TheVariants.{ClosePin};
 ghost use Rattle.heap_lock.specs.Machine.{IsSmall};
 ghost use Rattle.session_text.specs.Replies.{line_answer_text, pin_in};
 
 use crate::joined::Joined;
 use heap_lock::{Action, Heap, Refusal, Reply, Seat};
-use question_grammar::{Question, question_of};
+use question_grammar::{Bookmarks, Question, question_of};
 use session_grammar::command::one_number;
 use session_grammar::words::{Words, is_word};
 use session_text::{Commands, LineAnswer};
@@ -20,7 +21,7 @@ use std::sync::Wait;
 
 /// A user's seat, with its heap, that notes the pins which its session opens. Each is closed at the session's end, unless it was
 /// closed, or kept by the line `keep PIN`. It answers `pins`, and other questions if they are answered. Contracts see the seat, the
-/// calls that its witness has seen, and the pins that are noted.
+/// calls that its witness has seen, what the session notes of places, and the pins that are noted.
 #[derive(Drop)]
 pub(crate) struct StayingSeat<'a, L: Heap, R: Wait> {
     joined: Joined<'a, L, R>,
@@ -37,6 +38,7 @@ impl<'a, L: Heap, R: Wait> Model for StayingSeat<'a, L, R> {
         record {
           seat = s.joined.seat;
           seen = s.joined.seen;
+          bookmarks = s.joined.bookmarks;
           pins = s.pins.items;
           questions = s.questions;
         } };
@@ -56,10 +58,11 @@ fn kept_pin(line: &[u8]) -> Option<u64>
 }
 
 // Tells whether a line asks for the open pins.
-fn asks_pins(line: &[u8]) -> bool
+fn asks_pins(alloc: Global, line: &[u8]) -> bool
     ensures { result ≡ asks_pins line.now }
 {
-    matches!(question_of(line), Some(Question::Pins))
+    let bookmarks = Bookmarks::new(alloc);
+    matches!(question_of(&bookmarks, line), Some(Question::Pins))
 }
 
 // Returns the pin that a reply says was opened.
@@ -118,6 +121,7 @@ impl<'a, L: Heap, R: Wait> StayingSeat<'a, L, R> {
         ensures { result ≡ record {
           seat = joined.entry.seat;
           seen = joined.entry.seen;
+          bookmarks = joined.entry.bookmarks;
           pins = [];
           questions = questions;
         } }
@@ -147,6 +151,7 @@ impl<'a, L: Heap, R: Wait> StayingSeat<'a, L, R> {
     fn open(&mut self, at: Option<u64>) -> Reply
         ensures done { OpensNoted L.config self.old at result self.new }
         ensures questions { self.new.questions ≡ self.old.questions }
+        ensures bookmarks { self.new.bookmarks ≡ self.old.bookmarks }
         ensures small { IsSmall result }
     {
         self.joined.forget_closed(&mut self.pins);
@@ -163,6 +168,7 @@ impl<'a, L: Heap, R: Wait> StayingSeat<'a, L, R> {
         ensures done { ActsWith L.config self.old self.old.seen (ClosePin pin) result self.new
             (without pin self.old.pins) }
         ensures questions { self.new.questions ≡ self.old.questions }
+        ensures bookmarks { self.new.bookmarks ≡ self.old.bookmarks }
         ensures small { IsSmall result }
     {
         forget(&mut self.pins, pin);
@@ -174,6 +180,7 @@ impl<'a, L: Heap, R: Wait> StayingSeat<'a, L, R> {
         ensures done { ActsWith L.config self.old self.old.seen action result self.new
             self.old.pins }
         ensures questions { self.new.questions ≡ self.old.questions }
+        ensures bookmarks { self.new.bookmarks ≡ self.old.bookmarks }
         ensures small { IsSmall result }
     {
         self.joined.act(action)
@@ -194,7 +201,20 @@ impl<'a, L: Heap, R: Wait> StayingSeat<'a, L, R> {
         }
     }
 
-    // Answers a line as a seat that answers questions does.
+    // Answers a line as a seat that answers questions does. Opens a pin and notes it, if the line asks for that.
+    fn answer(&mut self, alloc: Global, line: &[u8]) -> LineAnswer
+        ensures answers { OpensOrAnswersSeat L.config
+            (place_opened self.old.bookmarks line.now) line.now self.old
+            (line_answer_text result) self.new }
+        ensures questions { self.new.questions ≡ self.old.questions }
+    {
+        match self.joined.place_opened(line) {
+            Some(place) => LineAnswer::Known(self.open(Some(place))),
+            None => self.ask(alloc, line, true),
+        }
+    }
+
+    // Answers a line that opens no pin as a seat that answers questions does.
     fn ask(&mut self, alloc: Global, line: &[u8], obeys: bool) -> LineAnswer
         ensures answers { AnswersSeat L.config obeys line.now self.old
             (line_answer_text result) self.new }
@@ -224,9 +244,9 @@ impl<'a, L: Heap, R: Wait> Commands for StayingSeat<'a, L, R> {
             return self.keep(pin);
         }
         if self.questions {
-            return self.ask(alloc, line, true);
+            return self.answer(alloc, line);
         }
-        if asks_pins(line) {
+        if asks_pins(alloc, line) {
             return self.ask(alloc, line, false);
         }
         LineAnswer::BadCommand

@@ -1,4 +1,4 @@
--- A new object is taken back.
+-- A new object is undone.
 use Rattle.std.proofs.Common.{Bool, None, Option, Some, false, refl, ℕ, ◌*◌, ◌+◌, ◌∙◌, ◌≡◌}
 use Rattle.std.proofs.lemmas.List.{set-get_or, set-set}
 use Rattle.std.specs.Option.{option_map_or}
@@ -25,7 +25,7 @@ free_list_head_is_empty w legal at = λ u used head. ((legal.regions.tables at.r
 pub pool_empty : (w : HeapState) → IsLegal w → (at : ObjRef) → PoolIsEmpty (pool_of w) at
 pool_empty w legal at = pool_is_empty (pool_of w) at legal.regions
 
--- of a legal heap, the allocation of a new object is taken back
+-- of a legal heap, the allocation of a new object is undone
 pool_back : (w : HeapState) → IsLegal w → (n : ℕ) (at : ObjRef) (fresh : Bool) (o : Object) → new_place n (pool_of w) ≡ Some (at, fresh) → unallocated at fresh (allocated at fresh o (pool_of w)) ≡ pool_of w
 pool_back w legal n at fresh o place = allocated_back at fresh o (pool_of w) n place (free_list_head_is_empty w legal at) (pool_empty w legal at)
 

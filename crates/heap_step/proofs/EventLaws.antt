@@ -8,7 +8,7 @@ use Rattle.heap_world.proofs.Sweep.{sweep_leaves_live}
 use Rattle.heap_world.specs.Legal.{IsLegal, IsLive}
 use Rattle.heap_world.specs.State.{HeapState}
 use Rattle.heap_step.specs.Apply.{refusal_of, state_after}
-use Rattle.heap_step.specs.Laws.{FinishSpares, IsTakenBack, KeepsLegal, StaysFound, SweepSpares}
+use Rattle.heap_step.specs.Laws.{FinishSpares, IsRestored, KeepsLegal, StaysFound, SweepSpares}
 use Rattle.heap_step.specs.declared.Event.{Event}
 use Rattle.heap_step.proofs.ClassEvents.{array_class_sound, class_sound}
 use Rattle.heap_step.proofs.Finish.{finish_sound}
@@ -40,8 +40,8 @@ each_event_is_sound (Event.Sweep region) = sweep_sound region
 pub keeps_legal : (e : Event) (w : HeapState) → KeepsLegal e w
 keeps_legal e w l accepted = clauses_make_heap_legal (state_after e w) ((each_event_is_sound e).legal w (legal_heap_has_clauses w l) accepted)
 
-pub undo_takes_back : (e : Event) (w : HeapState) → IsTakenBack e w
-undo_takes_back e = (each_event_is_sound e).back
+pub undo_restores : (e : Event) (w : HeapState) → IsRestored e w
+undo_restores e = (each_event_is_sound e).back
 
 pub stays_found : (e : Event) (w : HeapState) → IsLegal w → refusal_of e w ≡ None → StaysFound w (state_after e w)
 stays_found e w l = (each_event_is_sound e).found w (legal_heap_has_clauses w l)

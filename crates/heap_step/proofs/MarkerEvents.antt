@@ -20,13 +20,13 @@ use Rattle.heap_step.specs.declared.Event.{Event}
 use Rattle.heap_step.specs.declared.Undo.{Undo}
 use Rattle.heap_step.proofs.Soundness.{IsSound}
 
-mark_event_is_taken_back : (w : HeapState) → mark_refusal (marking_of w) ≡ None → undone (Undo.Mark (slice_index w.gray 0) (length (after_mark w).gray + 1 - length w.gray)) (after_mark w) ≡ w
+mark_event_is_undone : (w : HeapState) → mark_refusal (marking_of w) ≡ None → undone (Undo.Mark (slice_index w.gray 0) (length (after_mark w).gray + 1 - length w.gray)) (after_mark w) ≡ w
 unfolding undone after_mark mark_refusal
-mark_event_is_taken_back w accepted = ap (λ (s : MarkState). with_marking s w) (mark_undone w.classes (marking_of w) (no_refusal_test_holds _ accepted).1.0)
+mark_event_is_undone w accepted = ap (λ (s : MarkState). with_marking s w) (mark_undone w.classes (marking_of w) (no_refusal_test_holds _ accepted).1.0)
 
-drain_event_is_taken_back : (w : HeapState) → undone (Undo.Drain (length (after_drain w).gray - length w.gray)) (after_drain w) ≡ w
+drain_event_is_undone : (w : HeapState) → undone (Undo.Drain (length (after_drain w).gray - length w.gray)) (after_drain w) ≡ w
 unfolding undone after_drain
-drain_event_is_taken_back w = ap (λ (s : MarkState). with_marking s w) (drain_undone (marking_of w))
+drain_event_is_undone w = ap (λ (s : MarkState). with_marking s w) (drain_undone (marking_of w))
 
 pub snap_sound : IsSound Event.Snap
 unfolding refusal_of state_after undo_record undone snap_refusal after_snap
@@ -45,7 +45,7 @@ pub mark_sound : IsSound Event.Mark
 unfolding refusal_of state_after undo_record undone mark_refusal
 mark_sound = record {
   legal = clauses_after_mark;
-  back = λ w legal accepted. mark_event_is_taken_back w accepted;
+  back = λ w legal accepted. mark_event_is_undone w accepted;
   fits = λ w legal accepted. omega (arith, eqb-false (length w.gray) 0 (no_refusal_test_holds _ accepted).1.0);
   found = λ w l accepted i j x h. subst (λ v. IsMarked v x ⊎ Sheltered v x) (shaded_heap_is_after_mark w i) (greys_found w _ (mark_greys w (no_refusal_test_holds _ accepted).1.0) x h);
   shape = λ w l accepted x live. mark_shape w x;
@@ -63,7 +63,7 @@ pub drain_sound : IsSound Event.Drain
 unfolding refusal_of state_after undo_record undone drain_refusal
 drain_sound = record {
   legal = clauses_after_drain;
-  back = λ w legal accepted. drain_event_is_taken_back w;
+  back = λ w legal accepted. drain_event_is_undone w;
   fits = λ w legal accepted. drain_fits w;
   found = λ w l accepted i j x h. subst (λ v. IsMarked v x ⊎ Sheltered v x) (drain_state w i) (greys_found w _ (drain_greys w (not_refused_means_below w.drained (length w.log) (no_refusal_test_holds _ accepted).1.0)) x h);
   shape = λ w l accepted x live. drain_shape w x;

@@ -12,7 +12,7 @@ use Rattle.heap_world.specs.Events.{after_load, after_move, clear_refusal, is_re
 use Rattle.heap_world.specs.Legal.{IsMarked, Sheltered}
 use Rattle.heap_world.specs.State.{HeapState, is_register, register, with_register, word_of}
 use Rattle.heap_step.specs.Apply.{refusal_of, state_after, reg_record}
-use Rattle.heap_step.specs.Laws.{IsTakenBack, StaysFound}
+use Rattle.heap_step.specs.Laws.{IsRestored, StaysFound}
 use Rattle.heap_step.specs.Records.{undo_record, undone}
 use Rattle.heap_step.specs.declared.Event.{Event}
 use Rattle.heap_step.proofs.Fits.{true_if_not_is_false}
@@ -26,7 +26,7 @@ register_back w m r x = ap (λ l. record w { registers = l }) (set-set w.registe
 written_register : (w : HeapState) (m r x : ℕ) → is_register w m r ≡ true → is_register (with_register m r x w) m r ≡ true
 written_register w m r x there = ap (λ k. nat_lt r 8 && nat_lt (8 * m + r) k) (length-set w.registers (8 * m + r) x) ∙ there
 
-load_back : (w : HeapState) (m to from slot : ℕ) → IsTakenBack (Event.Load m to from slot) w
+load_back : (w : HeapState) (m to from slot : ℕ) → IsRestored (Event.Load m to from slot) w
 unfolding state_after undone undo_record reg_record after_load
 load_back w m to from slot legal accepted = go (is_reference_slot w (register w m from) slot)
   where

@@ -6,7 +6,7 @@ use Rattle.heap_world.proofs.Shapes.{KeepsShape}
 use Rattle.heap_world.specs.Legal.{IsLegal, IsLive}
 use Rattle.heap_world.specs.State.{HeapState}
 use Rattle.heap_step.specs.Apply.{refusal_of, state_after}
-use Rattle.heap_step.specs.Laws.{IsTakenBack, StaysFound}
+use Rattle.heap_step.specs.Laws.{IsRestored, StaysFound}
 use Rattle.heap_step.specs.Records.{undo_record}
 use Rattle.heap_step.specs.declared.Event.{Event}
 use Rattle.heap_step.proofs.Fits.{Fits}
@@ -16,7 +16,7 @@ pub record IsSound (e : Event) : Type 0 where
   -- it stays legal
   pub legal : (w : HeapState) → HasClauses w → refusal_of e w ≡ None → HasClauses (state_after e w)
   -- the record takes the event back
-  pub back : (w : HeapState) → IsTakenBack e w
+  pub back : (w : HeapState) → IsRestored e w
   -- and its state has what the record needs
   pub fits : (w : HeapState) → IsLegal w → refusal_of e w ≡ None → Fits (undo_record e w) (state_after e w)
   -- what a running cycle has marked or sheltered stays so

@@ -15,7 +15,7 @@ use Rattle.heap_step.specs.declared.Event.{Event}
 use Rattle.heap_step.specs.declared.Undo.{Undo}
 use Rattle.heap_step.specs.Records.{undone, undo_record}
 use Rattle.heap_step.specs.Laws.{IsStep}
-use Rattle.heap_step.proofs.EventLaws.{each_event_is_sound, keeps_legal, undo_takes_back}
+use Rattle.heap_step.proofs.EventLaws.{each_event_is_sound, keeps_legal, undo_restores}
 use Rattle.heap_step.proofs.Fits.{HasSlot, IsHeld, IsSnapped, IsFinished, IsSwept, IsInhabited, IsLifeless, Fits}
 
 -- ---- what holds of the state that a step gave, where the record is `was`
@@ -24,7 +24,7 @@ record_of_step_fits : (e : Event) (before after : HeapState) (left was : Undo) �
 record_of_step_fits e before after left was s is = subst (λ u. Fits u after) (sym s.recorded ∙ is) (subst (Fits (undo_record e before)) (sym s.gave) ((each_event_is_sound e).fits before s.legal s.accepted))
 
 record_of_step_leads_back : (e : Event) (before after : HeapState) (left was : Undo) → IsStep e before after left → left ≡ was → undone was after ≡ before
-record_of_step_leads_back e before after left was s is = (λ i. undone ((sym is ∙ s.recorded) i) (s.gave i)) ∙ undo_takes_back e before s.legal s.accepted
+record_of_step_leads_back e before after left was s is = (λ i. undone ((sym is ∙ s.recorded) i) (s.gave i)) ∙ undo_restores e before s.legal s.accepted
 
 state_before_step_is_legal : (e : Event) (before after : HeapState) (left was : Undo) → IsStep e before after left → left ≡ was → IsLegal (undone was after)
 state_before_step_is_legal e before after left was s is = subst IsLegal (sym (record_of_step_leads_back e before after left was s is)) s.legal
@@ -43,13 +43,13 @@ put_record_names_an_object e before after left s at slot old is = slot_belongs_t
 pub put_record_slot_within_object : (e : Event) (before after : HeapState) (left : Undo) → IsStep e before after left → (at : ObjRef) (slot old : ℕ) → left ≡ Undo.Put at slot old → IfSome (object_at after.regions at) (λ o. slot < length o.words)
 put_record_slot_within_object e before after left s at slot old is = slot_lies_within_object after at slot (record_of_step_fits e before after left (Undo.Put at slot old) s is)
 
-pub put_taken_back_is_legal : (e : Event) (before after : HeapState) (left : Undo) → IsStep e before after left → (at : ObjRef) (slot old : ℕ) → left ≡ Undo.Put at slot old → IsLegal (record after { regions = with_word at slot old after.regions })
+pub put_undone_is_legal : (e : Event) (before after : HeapState) (left : Undo) → IsStep e before after left → (at : ObjRef) (slot old : ℕ) → left ≡ Undo.Put at slot old → IsLegal (record after { regions = with_word at slot old after.regions })
 unfolding undone
-put_taken_back_is_legal e before after left s at slot old is = state_before_step_is_legal e before after left (Undo.Put at slot old) s is
+put_undone_is_legal e before after left s at slot old is = state_before_step_is_legal e before after left (Undo.Put at slot old) s is
 
-pub put_taken_back_is_before : (e : Event) (before after : HeapState) (left : Undo) → IsStep e before after left → (at : ObjRef) (slot old : ℕ) → left ≡ Undo.Put at slot old → record after { regions = with_word at slot old after.regions } ≡ before
+pub put_undone_is_before : (e : Event) (before after : HeapState) (left : Undo) → IsStep e before after left → (at : ObjRef) (slot old : ℕ) → left ≡ Undo.Put at slot old → record after { regions = with_word at slot old after.regions } ≡ before
 unfolding undone
-put_taken_back_is_before e before after left s at slot old is = record_of_step_leads_back e before after left (Undo.Put at slot old) s is
+put_undone_is_before e before after left s at slot old is = record_of_step_leads_back e before after left (Undo.Put at slot old) s is
 
 -- ---- the record of a store
 
@@ -66,9 +66,9 @@ store_within e before after left s at slot old logged is = slot_lies_within_obje
 pub store_entry : (e : Event) (before after : HeapState) (left : Undo) → IsStep e before after left → (at : ObjRef) (slot old : ℕ) (logged : Bool) → left ≡ Undo.Store at slot old logged → logged ≡ true → 0 < length after.log
 store_entry e before after left s at slot old logged is = (record_of_step_fits e before after left (Undo.Store at slot old logged) s is).1
 
-pub store_taken_back_is_legal : (e : Event) (before after : HeapState) (left : Undo) → IsStep e before after left → (at : ObjRef) (slot old : ℕ) (logged : Bool) → left ≡ Undo.Store at slot old logged → IsLegal (unstored after at slot old logged)
+pub store_undone_is_legal : (e : Event) (before after : HeapState) (left : Undo) → IsStep e before after left → (at : ObjRef) (slot old : ℕ) (logged : Bool) → left ≡ Undo.Store at slot old logged → IsLegal (unstored after at slot old logged)
 unfolding undone
-store_taken_back_is_legal e before after left s at slot old logged is = state_before_step_is_legal e before after left (Undo.Store at slot old logged) s is
+store_undone_is_legal e before after left s at slot old logged is = state_before_step_is_legal e before after left (Undo.Store at slot old logged) s is
 
 pub store_is : (e : Event) (before after : HeapState) (left : Undo) → IsStep e before after left → (at : ObjRef) (slot old : ℕ) (logged : Bool) → left ≡ Undo.Store at slot old logged → unstored after at slot old logged ≡ before
 unfolding undone
@@ -95,22 +95,22 @@ new_record_names_an_object e before after left s at fresh m r old is = let h : I
 pub new_register : (e : Event) (before after : HeapState) (left : Undo) → IsStep e before after left → (at : ObjRef) (fresh : Bool) (m r old : ℕ) → left ≡ Undo.New at fresh m r old → is_register after m r ≡ true
 new_register e before after left s at fresh m r old is = let h : IsHeld after at m r = record_of_step_fits e before after left (Undo.New at fresh m r old) s is in h.1
 
-pub new_taken_back_is_legal : (e : Event) (before after : HeapState) (left : Undo) → IsStep e before after left → (at : ObjRef) (fresh : Bool) (m r old : ℕ) → left ≡ Undo.New at fresh m r old → IsLegal (with_register m r old (with_pool (unallocated at fresh (pool_of after)) after))
+pub new_undone_is_legal : (e : Event) (before after : HeapState) (left : Undo) → IsStep e before after left → (at : ObjRef) (fresh : Bool) (m r old : ℕ) → left ≡ Undo.New at fresh m r old → IsLegal (with_register m r old (with_pool (unallocated at fresh (pool_of after)) after))
 unfolding undone
-new_taken_back_is_legal e before after left s at fresh m r old is = state_before_step_is_legal e before after left (Undo.New at fresh m r old) s is
+new_undone_is_legal e before after left s at fresh m r old is = state_before_step_is_legal e before after left (Undo.New at fresh m r old) s is
 
-pub new_taken_back_is_before : (e : Event) (before after : HeapState) (left : Undo) → IsStep e before after left → (at : ObjRef) (fresh : Bool) (m r old : ℕ) → left ≡ Undo.New at fresh m r old → with_register m r old (with_pool (unallocated at fresh (pool_of after)) after) ≡ before
+pub new_undone_is_before : (e : Event) (before after : HeapState) (left : Undo) → IsStep e before after left → (at : ObjRef) (fresh : Bool) (m r old : ℕ) → left ≡ Undo.New at fresh m r old → with_register m r old (with_pool (unallocated at fresh (pool_of after)) after) ≡ before
 unfolding undone
-new_taken_back_is_before e before after left s at fresh m r old is = record_of_step_leads_back e before after left (Undo.New at fresh m r old) s is
+new_undone_is_before e before after left s at fresh m r old is = record_of_step_leads_back e before after left (Undo.New at fresh m r old) s is
 
 -- ---- the record of a class
 
 pub class_record_has_a_class : (e : Event) (before after : HeapState) (left : Undo) → IsStep e before after left → left ≡ Undo.Class → 0 < length after.classes
 class_record_has_a_class e before after left s is = record_of_step_fits e before after left Undo.Class s is
 
-pub class_taken_back_is_legal : (e : Event) (before after : HeapState) (left : Undo) → IsStep e before after left → left ≡ Undo.Class → IsLegal (record after { classes = take (length after.classes - 1) after.classes })
+pub class_undone_is_legal : (e : Event) (before after : HeapState) (left : Undo) → IsStep e before after left → left ≡ Undo.Class → IsLegal (record after { classes = take (length after.classes - 1) after.classes })
 unfolding undone
-class_taken_back_is_legal e before after left s is = state_before_step_is_legal e before after left Undo.Class s is
+class_undone_is_legal e before after left s is = state_before_step_is_legal e before after left Undo.Class s is
 
 pub class_is : (e : Event) (before after : HeapState) (left : Undo) → IsStep e before after left → left ≡ Undo.Class → record after { classes = take (length after.classes - 1) after.classes } ≡ before
 unfolding undone
@@ -128,9 +128,9 @@ snap_is e before after left s is = record_of_step_leads_back e before after left
 pub mark_record_pushes_within_gray : (e : Event) (before after : HeapState) (left : Undo) → IsStep e before after left → (parent pushed : ℕ) → left ≡ Undo.Mark parent pushed → pushed ≤ length after.gray
 mark_record_pushes_within_gray e before after left s parent pushed is = record_of_step_fits e before after left (Undo.Mark parent pushed) s is
 
-pub mark_taken_back_is_legal : (e : Event) (before after : HeapState) (left : Undo) → IsStep e before after left → (parent pushed : ℕ) → left ≡ Undo.Mark parent pushed → IsLegal (with_marking (unmarked parent pushed (marking_of after)) after)
+pub mark_undone_is_legal : (e : Event) (before after : HeapState) (left : Undo) → IsStep e before after left → (parent pushed : ℕ) → left ≡ Undo.Mark parent pushed → IsLegal (with_marking (unmarked parent pushed (marking_of after)) after)
 unfolding undone
-mark_taken_back_is_legal e before after left s parent pushed is = state_before_step_is_legal e before after left (Undo.Mark parent pushed) s is
+mark_undone_is_legal e before after left s parent pushed is = state_before_step_is_legal e before after left (Undo.Mark parent pushed) s is
 
 pub mark_is : (e : Event) (before after : HeapState) (left : Undo) → IsStep e before after left → (parent pushed : ℕ) → left ≡ Undo.Mark parent pushed → with_marking (unmarked parent pushed (marking_of after)) after ≡ before
 unfolding undone
@@ -142,9 +142,9 @@ drain_within e before after left s pushed is = (record_of_step_fits e before aft
 pub drain_begun : (e : Event) (before after : HeapState) (left : Undo) → IsStep e before after left → (pushed : ℕ) → left ≡ Undo.Drain pushed → 0 < after.drained
 drain_begun e before after left s pushed is = (record_of_step_fits e before after left (Undo.Drain pushed) s is).1
 
-pub drain_taken_back_is_legal : (e : Event) (before after : HeapState) (left : Undo) → IsStep e before after left → (pushed : ℕ) → left ≡ Undo.Drain pushed → IsLegal (with_marking (undrained pushed (marking_of after)) after)
+pub drain_undone_is_legal : (e : Event) (before after : HeapState) (left : Undo) → IsStep e before after left → (pushed : ℕ) → left ≡ Undo.Drain pushed → IsLegal (with_marking (undrained pushed (marking_of after)) after)
 unfolding undone
-drain_taken_back_is_legal e before after left s pushed is = state_before_step_is_legal e before after left (Undo.Drain pushed) s is
+drain_undone_is_legal e before after left s pushed is = state_before_step_is_legal e before after left (Undo.Drain pushed) s is
 
 pub drain_is : (e : Event) (before after : HeapState) (left : Undo) → IsStep e before after left → (pushed : ℕ) → left ≡ Undo.Drain pushed → with_marking (undrained pushed (marking_of after)) after ≡ before
 unfolding undone
@@ -155,9 +155,9 @@ drain_is e before after left s pushed is = record_of_step_leads_back e before af
 pub finish_before : (e : Event) (before after : HeapState) (left : Undo) → IsStep e before after left → (log : List ℕ) → left ≡ Undo.Finish log → IsFinished after
 finish_before e before after left s log is = record_of_step_fits e before after left (Undo.Finish log) s is
 
-pub finish_taken_back_is_legal : (e : Event) (before after : HeapState) (left : Undo) → IsStep e before after left → (log : List ℕ) → left ≡ Undo.Finish log → IsLegal (with_marking (unfinished log (marking_of after)) after)
+pub finish_undone_is_legal : (e : Event) (before after : HeapState) (left : Undo) → IsStep e before after left → (log : List ℕ) → left ≡ Undo.Finish log → IsLegal (with_marking (unfinished log (marking_of after)) after)
 unfolding undone
-finish_taken_back_is_legal e before after left s log is = state_before_step_is_legal e before after left (Undo.Finish log) s is
+finish_undone_is_legal e before after left s log is = state_before_step_is_legal e before after left (Undo.Finish log) s is
 
 pub finish_is : (e : Event) (before after : HeapState) (left : Undo) → IsStep e before after left → (log : List ℕ) → left ≡ Undo.Finish log → with_marking (unfinished log (marking_of after)) after ≡ before
 unfolding undone
@@ -195,4 +195,4 @@ pub reclaim_is : (e : Event) (before after : HeapState) (left : Undo) → IsStep
 unfolding undone
 reclaim_is e before after left s region storage is = record_of_step_leads_back e before after left (Undo.Reclaim region storage) s is
 
-pub ruleset taken_back = (put_record_names_an_object, put_taken_back_is_legal, put_taken_back_is_before, store_there, store_is, reg_register, reg_legal, reg_is, new_record_names_an_object, new_register, new_taken_back_is_before, class_record_has_a_class, class_taken_back_is_legal, class_is, snap_is, mark_record_pushes_within_gray, mark_is, drain_within, drain_is, finish_is, sweep_is, reclaim_ready, reclaim_is)
+pub ruleset undone_steps = (put_record_names_an_object, put_undone_is_legal, put_undone_is_before, store_there, store_is, reg_register, reg_legal, reg_is, new_record_names_an_object, new_register, new_undone_is_before, class_record_has_a_class, class_undone_is_legal, class_is, snap_is, mark_record_pushes_within_gray, mark_is, drain_within, drain_is, finish_is, sweep_is, reclaim_ready, reclaim_is)

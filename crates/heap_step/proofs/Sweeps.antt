@@ -22,16 +22,16 @@ use Rattle.heap_world.specs.Events.{after_sweep}
 use Rattle.heap_world.specs.Legal.{IsLegal}
 use Rattle.heap_world.specs.State.{HeapState, pool_of, with_pool}
 use Rattle.heap_step.specs.Apply.{refusal_of, state_after, sweep_record}
-use Rattle.heap_step.specs.Laws.{IsTakenBack, StaysFound}
+use Rattle.heap_step.specs.Laws.{IsRestored, StaysFound}
 use Rattle.heap_step.specs.Records.{undo_record, undone}
 use Rattle.heap_step.specs.declared.Event.{Event}
 use Rattle.heap_step.specs.declared.Undo.{Undo}
 use Rattle.heap_step.proofs.Fits.{Fits, IsInhabited, IsLifeless}
 use Rattle.heap_step.proofs.Soundness.{IsSound}
 
-sweep_event_is_taken_back : (w : HeapState) (region : ℕ) → IsTakenBack (Event.Sweep region) w
+sweep_event_is_undone : (w : HeapState) (region : ℕ) → IsRestored (Event.Sweep region) w
 unfolding undone undo_record sweep_record state_after after_sweep refusal_of sweep_refusal dead_at
-sweep_event_is_taken_back w region legal accepted = go (is_emptied region (pool_of w)) refl
+sweep_event_is_undone w region legal accepted = go (is_emptied region (pool_of w)) refl
   where
     found : (u : UsedRegion) × (used_at w.regions region ≡ Some u) × (u.pending ≡ true)
     found = pending_is w.regions region (no_refusal_test_holds _ accepted).0
@@ -97,7 +97,7 @@ pub sweep_sound : (region : ℕ) → IsSound (Event.Sweep region)
 unfolding refusal_of state_after undo_record undone
 sweep_sound region = record {
   legal = λ w. sweep_legal w region;
-  back = λ w. sweep_event_is_taken_back w region;
+  back = λ w. sweep_event_is_undone w region;
   fits = λ w. sweep_fits w region;
   found = λ w. sweep_stays w region;
   shape = λ w l accepted x live. same_object_keeps_shape w (after_sweep region w) x (sweep_leaves_live w region x accepted live);

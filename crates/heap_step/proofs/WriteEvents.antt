@@ -14,7 +14,7 @@ use Rattle.heap_world.specs.Events.{after_put, after_store, is_logged, lacks_slo
 use Rattle.heap_world.specs.Legal.{IsLegal}
 use Rattle.heap_world.specs.State.{HeapState, marking_of, place_of, register, slot_kind, with_marking, word_of}
 use Rattle.heap_step.specs.Apply.{refusal_of, state_after}
-use Rattle.heap_step.specs.Laws.{IsTakenBack}
+use Rattle.heap_step.specs.Laws.{IsRestored}
 use Rattle.heap_step.specs.Records.{undo_record, undone}
 use Rattle.heap_step.specs.declared.Event.{Event}
 use Rattle.heap_step.specs.declared.Undo.{Undo}
@@ -75,9 +75,9 @@ put_event_is_sound m target slot value = record {
   run = λ w i. inr (sym (put_phase w m target slot value) ∙ i);
 }
 
-store_event_is_taken_back : (w : HeapState) (m target slot source : ℕ) → IsTakenBack (Event.Store m target slot source) w
+store_event_is_undone : (w : HeapState) (m target slot source : ℕ) → IsRestored (Event.Store m target slot source) w
 unfolding state_after undone undo_record after_store with_slot is_logged refusal_of store_refusal logged place_of without_last
-store_event_is_taken_back w m target slot source legal accepted = go (is_marking w.phase) (word_of w (register w m target) slot == 0)
+store_event_is_undone w m target slot source legal accepted = go (is_marking w.phase) (word_of w (register w m target) slot == 0)
   where
     x : ℕ
     x = register w m target
@@ -114,7 +114,7 @@ pub store_sound : (m : ℕ) (target : ℕ) (slot : ℕ) (source : ℕ) → IsSou
 unfolding refusal_of state_after undo_record undone
 store_sound m target slot source = record {
   legal = λ w. clauses_after_store w m target slot source;
-  back = λ w. store_event_is_taken_back w m target slot source;
+  back = λ w. store_event_is_undone w m target slot source;
   fits = λ w. store_fits w m target slot source;
   found = λ w l accepted i j. rewires_found w _ (form_rewires w _ (register w m target) slot (register w m source) i (store_form w m target slot source l accepted));
   shape = λ w l accepted x live. write_form_keeps_shape w _ (register w m target) slot (register w m source) x (store_form w m target slot source l accepted);

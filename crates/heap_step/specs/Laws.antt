@@ -21,8 +21,8 @@ abbrev pub KeepsLegal : Event → HeapState → Type 0
 KeepsLegal e w = IsLegal w → refusal_of e w ≡ None → IsLegal (state_after e w)
 
 -- an accepted event's record undoes it
-abbrev pub IsTakenBack : Event → HeapState → Type 0
-IsTakenBack e w = IsLegal w → refusal_of e w ≡ None → undone (undo_record e w) (state_after e w) ≡ w
+abbrev pub IsRestored : Event → HeapState → Type 0
+IsRestored e w = IsLegal w → refusal_of e w ≡ None → undone (undo_record e w) (state_after e w) ≡ w
 
 -- while a cycle runs, the objects that are marked or sheltered in the first state are so in the second
 abbrev pub StaysFound : HeapState → HeapState → Type 0

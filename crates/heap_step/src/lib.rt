@@ -6,7 +6,7 @@ ghost use Rattle.heap_world.specs.State.{HeapState};
 ghost use Rattle.heap_world.specs.Legal.{IsLegal};
 ghost use Rattle.heap_step.specs.declared.Event.{Event};
 ghost use Rattle.heap_step.specs.Apply.{refusal_of, state_after};
-ghost use Rattle.heap_step.specs.Laws.{FindsReached, FinishSpares, IdsFit, IsTakenBack, KeepsLegal, StaysFound, SweepSpares};
+ghost use Rattle.heap_step.specs.Laws.{FindsReached, FinishSpares, IdsFit, IsRestored, KeepsLegal, StaysFound, SweepSpares};
 
 mod events;
 mod sorts;
@@ -14,7 +14,7 @@ pub mod step;
 
 pub use events::AnyEvent;
 use heap_class::{ClassNo, Fields, Kind, Name, ObjRef, Refusal};
-use heap_mark::Log;
+use heap_mark::CycleLog;
 use heap_region::Storage;
 use heap_sweep::DeadCells;
 pub use sorts::{
@@ -174,7 +174,7 @@ pub enum Undo {
     },
     /// A cycle was ended: its log.
     Finish {
-        log: Log,
+        log: CycleLog,
     },
     /// A region was swept that keeps objects: its dead objects.
     Sweep {
@@ -200,8 +200,8 @@ pub fn keeps_legal()
 {}
 
 /// States that the record of each event that a legal heap accepts undoes it.
-pub fn undo_takes_back()
-    ensures { (e : Event) (w : HeapState) → IsTakenBack e w }
+pub fn undo_restores()
+    ensures { (e : Event) (w : HeapState) → IsRestored e w }
 {}
 
 /// States that while a cycle runs each accepted event of a legal heap keeps the marked and sheltered objects marked or

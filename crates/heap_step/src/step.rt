@@ -33,6 +33,7 @@ pub fn apply(world: &mut World, event: &Event) -> Effect
     ensures legal { IsLegal world.new }
     ensures found { OnOk result (StaysFound world.old world.new) }
 {
+    // Its contract says that the heap is legal.
     let _phase = world.phase();
     AnyEvent(event).apply_to(world)
 }
@@ -51,12 +52,13 @@ pub fn apply_sort<E: ApplyEvent>(world: &mut World, event: &E) -> Effect
         × (e ≡ NoMemory))) }
     ensures found { OnOk result (StaysFound world.old world.new) }
 {
+    // Its contract says that the heap is legal.
     let _phase = world.phase();
     event.apply_to(world)
 }
 
 /// Undoes the step that left this record and this state. There must be such a step. Takes no memory.
-#[tactic(auto, using(crate::proofs::Steps::taken_back))]
+#[tactic(auto, using(crate::proofs::Steps::undone_steps))]
 pub fn undo(world: &mut World, left: Undo)
     requires { (e : Event) × (before : HeapState) × IsStep e before world.old left }
     ensures { (e : Event) (before : HeapState) → IsStep e before world.old left

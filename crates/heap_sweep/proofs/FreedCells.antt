@@ -234,10 +234,10 @@ taken_each_with_last : (r : ℕ) (ds : List (ℕ × Object)) (d : ℕ × Object)
 taken_each_with_last r [] d s = refl
 taken_each_with_last r (x ∷ ds) d s = taken_each_with_last r ds d (taken (place r x.0) x.1 s)
 
-pub takes_back : (r k : ℕ) (ds : List (ℕ × Object)) (s : RegionPool) (u : UsedRegion) → used_at s.regions r ≡ Some u → AreHeld k ds u
+pub takes_freed_cells : (r k : ℕ) (ds : List (ℕ × Object)) (s : RegionPool) (u : UsedRegion) → used_at s.regions r ≡ Some u → AreHeld k ds u
     → CanTake r (reverse ds) (freed_each r ds s) × (taken_each r (reverse ds) (freed_each r ds s) ≡ s)
-takes_back r k [] s u used held = (tt, refl)
-takes_back r k (d ∷ ds) s u used held = go (takes_back r k ds (freed (place r d.0) s) (cell_freed u d.0) (region_used_after_freeing r d.0 s u used) held.1)
+takes_freed_cells r k [] s u used held = (tt, refl)
+takes_freed_cells r k (d ∷ ds) s u used held = go (takes_freed_cells r k ds (freed (place r d.0) s) (cell_freed u d.0) (region_used_after_freeing r d.0 s u used) held.1)
   where
     once : RegionPool
     once = freed (place r d.0) s

@@ -8,24 +8,24 @@ pub driven_none : (m : Machine) → MayDrive m [] [] m
 unfolding replies_of machine_after
 driven_none m = ([], refl, tt, refl, refl)
 
-actions_more : (marked : List (Action × Allocation)) (a : Action × Allocation) → map (λ a. a.0) (marked ++ a ∷ []) ≡ map (λ a. a.0) marked ++ a.0 ∷ []
+actions_more : (paired : List (Action × Allocation)) (a : Action × Allocation) → map (λ a. a.0) (paired ++ a ∷ []) ≡ map (λ a. a.0) paired ++ a.0 ∷ []
 actions_more [] a = refl
-actions_more (x ∷ marked) a = ap (λ l. x.0 ∷ l) (actions_more marked a)
+actions_more (x ∷ paired) a = ap (λ l. x.0 ∷ l) (actions_more paired a)
 
-allocations_with_one_action_more : (m : Machine) (marked : List (Action × Allocation)) (a : Action × Allocation) → AreAllocations m marked → MayStand (machine_after m marked) a → AreAllocations m (marked ++ a ∷ [])
+allocations_with_one_action_more : (m : Machine) (paired : List (Action × Allocation)) (a : Action × Allocation) → AreAllocations m paired → MayStand (machine_after m paired) a → AreAllocations m (paired ++ a ∷ [])
 unfolding machine_after
 allocations_with_one_action_more m [] a h s = (s, tt)
-allocations_with_one_action_more m (x ∷ marked) a h s = (h.0, allocations_with_one_action_more (acted_under m x).0 marked a h.1 s)
+allocations_with_one_action_more m (x ∷ paired) a h s = (h.0, allocations_with_one_action_more (acted_under m x).0 paired a h.1 s)
 
-replies_with_one_action_more : (m : Machine) (marked : List (Action × Allocation)) (a : Action × Allocation) → replies_of m (marked ++ a ∷ []) ≡ replies_of m marked ++ (acted_under (machine_after m marked) a).1 ∷ []
+replies_with_one_action_more : (m : Machine) (paired : List (Action × Allocation)) (a : Action × Allocation) → replies_of m (paired ++ a ∷ []) ≡ replies_of m paired ++ (acted_under (machine_after m paired) a).1 ∷ []
 unfolding replies_of machine_after
 replies_with_one_action_more m [] a = refl
-replies_with_one_action_more m (x ∷ marked) a = ap (λ l. (acted_under m x).1 ∷ l) (replies_with_one_action_more (acted_under m x).0 marked a)
+replies_with_one_action_more m (x ∷ paired) a = ap (λ l. (acted_under m x).1 ∷ l) (replies_with_one_action_more (acted_under m x).0 paired a)
 
-machine_after_one_action_more : (m : Machine) (marked : List (Action × Allocation)) (a : Action × Allocation) → machine_after m (marked ++ a ∷ []) ≡ (acted_under (machine_after m marked) a).0
+machine_after_one_action_more : (m : Machine) (paired : List (Action × Allocation)) (a : Action × Allocation) → machine_after m (paired ++ a ∷ []) ≡ (acted_under (machine_after m paired) a).0
 unfolding machine_after
 machine_after_one_action_more m [] a = refl
-machine_after_one_action_more m (x ∷ marked) a = machine_after_one_action_more (acted_under m x).0 marked a
+machine_after_one_action_more m (x ∷ paired) a = machine_after_one_action_more (acted_under m x).0 paired a
 
 -- one action more
 pub driven_more : (m : Machine) (actions : List Action) (replies : List Reply) (n k : Machine) (a : Action) (r : Reply) → MayDrive m actions replies n → MayReply n a k r → MayDrive m (actions ++ a ∷ []) (replies ++ r ∷ []) k

@@ -13,7 +13,7 @@ use Rattle.heap_trail.specs.Machine.{Machine, Allocation, Granted, Denied, Loses
 use Rattle.heap_trail.proofs.Alone.{Core, core, bared, action_alike_when_bared, acted_core}
 
 -- what an action that is answered, or refused for another reason than memory, leaves and replies
-pub acts_alike : (ids : IdSize) (m m' : Machine) (a : Action) (mark : Allocation) (r : Reply) → is_dump_action a ≡ false → acted_under m (a, mark) ≡ (m', r) → r ≢ Refused NoMemory
+pub acts_alike : (ids : IdSize) (m m' : Machine) (a : Action) (allocation : Allocation) (r : Reply) → is_dump_action a ≡ false → acted_under m (a, allocation) ≡ (m', r) → r ≢ Refused NoMemory
     → (m'.trail ≡ (acted (bared ids m) a).0.trail) × (r ≡ (acted (bared ids m) a).1) × (m'.keep ≡ m.keep) × (m'.ids ≡ m.ids)
 unfolding acted_under
 acts_alike ids m m' a Granted r deed is ne =
@@ -49,7 +49,7 @@ dump_leaves m (NextPiece pin time) dump = of_core m (acted m (NextPiece pin time
 dump_leaves m (ClosePin pin) dump = of_core m (acted m (ClosePin pin)).0 (acted_core m (ClosePin pin))
 
 -- a dumper's action leaves the trail, how many records are kept, and the size of ids
-pub dumps_leave : (m m' : Machine) (a : Action) (mark : Allocation) (r : Reply) → is_dump_action a ≡ true → acted_under m (a, mark) ≡ (m', r) → LeavesTrailKeepIds m m'
+pub dumps_leave : (m m' : Machine) (a : Action) (allocation : Allocation) (r : Reply) → is_dump_action a ≡ true → acted_under m (a, allocation) ≡ (m', r) → LeavesTrailKeepIds m m'
 unfolding acted_under
 dumps_leave m m' a Granted r dump is =
     let t = dump_leaves m a dump in

@@ -40,7 +40,7 @@ four_pins_open = refl
 pub starved_pin : StarvedPin
 unfolding open_heap_class open_heap_region open_heap_mark open_heap_sweep open_heap_world open_heap_step open_hprof_text open_heap_trail
 starved_pin = record {
-  marks = ((refl, refl), (tt, (tt, ((refl, refl), (tt, ((refl, refl), (tt, ((refl, refl), (tt, (tt, (tt, tt)))))))))));
+  allocations = ((refl, refl), (tt, (tt, ((refl, refl), (tt, ((refl, refl), (tt, ((refl, refl), (tt, (tt, (tt, tt)))))))))));
   replies = refl;
   lost = refl;
 }

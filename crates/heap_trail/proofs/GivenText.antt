@@ -197,11 +197,11 @@ acted_goes m (OpenPin at) = opening_a_pin_goes m (unwrap_or at m.trail.place) (o
 acted_goes m (NextPiece pin time) = piece_goes m pin time (pin_at pin m.pins)
 acted_goes m (ClosePin pin) = close_goes m pin (pin_at pin m.pins)
 
-marked_goes : (m : Machine) (a : Action) (k : Allocation) → Goes m (acted_under m (a, k)).0
+goes_under_allocation : (m : Machine) (a : Action) (k : Allocation) → Goes m (acted_under m (a, k)).0
 unfolding acted_under with_lost each_kept
-marked_goes m a Granted = acted_goes m a
-marked_goes m a Denied = record { ids = refl; next = omega arith }
-marked_goes m a (LosesPins pins) = record { ids = (acted_goes m a).ids; next = (acted_goes m a).next }
+goes_under_allocation m a Granted = acted_goes m a
+goes_under_allocation m a Denied = record { ids = refl; next = omega arith }
+goes_under_allocation m a (LosesPins pins) = record { ids = (acted_goes m a).ids; next = (acted_goes m a).next }
 
 -- ---- an action that asks for no piece of the pin
 
@@ -252,11 +252,11 @@ then_fate x y z (inl e) (inl d) = inl (d ∙ e)
 then_fate x y z (inr n) (inl d) = inr (subst NotKept (sym d) n)
 then_fate x y z f (inr n) = inr n
 
-marked_fate : (m : Machine) (a : Action) (k : Allocation) (pin : ℕ) → pin < m.pins.next → IsOther pin a → Fate (pin_at pin m.pins) (pin_at pin (acted_under m (a, k)).0.pins)
+fate_under_allocation : (m : Machine) (a : Action) (k : Allocation) (pin : ℕ) → pin < m.pins.next → IsOther pin a → Fate (pin_at pin m.pins) (pin_at pin (acted_under m (a, k)).0.pins)
 unfolding acted_under
-marked_fate m a Granted pin lt o = acted_fate m a pin lt o
-marked_fate m a Denied pin lt o = inl refl
-marked_fate m a (LosesPins pins) pin lt o = then_fate _ _ _ (acted_fate m a pin lt o) (lost_pins_fate pins pin (acted m a).0.pins)
+fate_under_allocation m a Granted pin lt o = acted_fate m a pin lt o
+fate_under_allocation m a Denied pin lt o = inl refl
+fate_under_allocation m a (LosesPins pins) pin lt o = then_fate _ _ _ (acted_fate m a pin lt o) (lost_pins_fate pins pin (acted m a).0.pins)
 
 piece_of_other_gives_nothing : (pin n t : ℕ) (r : Reply) → n ≢ pin → (piece_given pin (NextPiece n t) r ≡ []) × (last_given pin (NextPiece n t) r ≡ false)
 unfolding piece_given last_given
@@ -299,7 +299,7 @@ other_action_moves_the_pin pin time m a k place image g lt o here =
     let n = other_action_gives_nothing pin a (acted_under m (a, k)).1 o in
     record {
       given = g;
-      after = kept_or_not _ _ place image g (marked_fate m a k pin lt o) here;
+      after = kept_or_not _ _ place image g (fate_under_allocation m a k pin lt o) here;
       bytes = ap (λ l. l ++ concat (drop g (pieces_of m.ids image time))) n.0;
       last = no_truth _ n.1;
     }
@@ -381,7 +381,7 @@ pin_not_kept_stays_so x y n (inr d) = d
 other_action_is_silent : (pin : ℕ) (m : Machine) (a : Action) (k : Allocation) → pin < m.pins.next → IsOther pin a → NotKept (pin_at pin m.pins) → Silent pin m (a, k)
 other_action_is_silent pin m a k lt o n =
     let g = other_action_gives_nothing pin a (acted_under m (a, k)).1 o in
-    record { bytes = g.0; last = g.1; after = pin_not_kept_stays_so _ _ n (marked_fate m a k pin lt o) }
+    record { bytes = g.0; last = g.1; after = pin_not_kept_stays_so _ _ n (fate_under_allocation m a k pin lt o) }
 
 abbrev Refuses : ℕ → ℕ → Machine → Machine × Reply → Type 0
 Refuses pin time m r = (r.0 ≡ m) × (e : Refusal) × (r.1 ≡ Refused e)
@@ -428,7 +428,7 @@ action_on_unkept_is_silent pin m (ClosePin n) k lt not = other_action_is_silent 
 -- ---- a list of actions
 
 pub next_number_stays_above_pin : (pin : ℕ) (m : Machine) (a : Action) (k : Allocation) → pin < m.pins.next → pin < (acted_under m (a, k)).0.pins.next
-next_number_stays_above_pin pin m a k lt = omega (arith, lt, (marked_goes m a k).next)
+next_number_stays_above_pin pin m a k lt = omega (arith, lt, (goes_under_allocation m a k).next)
 
 actions_on_unkept_are_silent : (pin : ℕ) (m : Machine) (actions : List (Action × Allocation)) → pin < m.pins.next → NotKept (pin_at pin m.pins) → (bytes_given pin m actions ≡ []) × (gave_last pin m actions ≡ false)
 unfolding bytes_given gave_last
@@ -476,7 +476,7 @@ actions_give_pieces_from pin time m ((a, k) ∷ more) place image g lt asks here
 
     go : ((h : ℕ) → pin_at pin n.pins ≡ Some (Kept place image h) → GivesFrom pin time n more (pieces_of n.ids image time) h)
         → (pin_at pin n.pins ≡ Some (Kept place image s.given)) ⊎ NotKept (pin_at pin n.pins) → GivesFrom pin time m ((a, k) ∷ more) ps g
-    go more_given (inl kept) = joined (subst (λ i. GivesFrom pin time n more (pieces_of i image time) s.given) (marked_goes m a k).ids (more_given s.given kept))
+    go more_given (inl kept) = joined (subst (λ i. GivesFrom pin time n more (pieces_of i image time) s.given) (goes_under_allocation m a k).ids (more_given s.given kept))
     go more_given (inr not) =
         let q = actions_on_unkept_are_silent pin n more (next_number_stays_above_pin pin m a k lt) not in
         joined (concat (drop s.given ps), ap (λ l. l ++ concat (drop s.given ps)) q.0, no_truth _ q.1)

@@ -107,7 +107,7 @@ acted_trail m (OpenPin at) s = open_trail m (unwrap_or at m.trail.place) (open_r
 acted_trail m (NextPiece pin time) s = piece_trail m pin time (pin_at pin m.pins) s
 acted_trail m (ClosePin pin) s = close_trail m pin (pin_at pin m.pins) s
 
-under_trail : (m : Machine) (a : Action) (mark : Allocation) → HasTrail m → HasTrail (acted_under m (a, mark)).0
+under_trail : (m : Machine) (a : Action) (allocation : Allocation) → HasTrail m → HasTrail (acted_under m (a, allocation)).0
 unfolding acted_under
 under_trail m a Granted s = acted_trail m a s
 under_trail m a Denied s = s
@@ -116,4 +116,4 @@ under_trail m a (LosesPins pins) s = acted_trail m a s
 pub trails_stay : (m : Machine) (actions : List (Action × Allocation)) → IsTrail m.keep m.trail → IsTrail (machine_after m actions).keep (machine_after m actions).trail
 unfolding machine_after
 trails_stay m [] s = s
-trails_stay m ((a, mark) ∷ as') s = trails_stay (acted_under m (a, mark)).0 as' (under_trail m a mark s)
+trails_stay m ((a, allocation) ∷ as') s = trails_stay (acted_under m (a, allocation)).0 as' (under_trail m a allocation s)

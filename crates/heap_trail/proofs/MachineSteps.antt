@@ -12,7 +12,7 @@ use Rattle.heap_step.specs.declared.Answer.{Answer}
 use Rattle.heap_step.specs.declared.Undo.{Undo}
 use Rattle.heap_step.specs.Apply.{refusal_of, state_after, applied, applied_unless, event_may_grow}
 use Rattle.heap_step.specs.Records.{undo_record, undone}
-use Rattle.heap_step.specs.Laws.{IsStep, IsTakenBack}
+use Rattle.heap_step.specs.Laws.{IsStep, IsRestored}
 use Rattle.heap_trail.specs.declared.Action.TheVariants.{Step}
 use Rattle.heap_trail.specs.declared.Reply.TheVariants.{Answered, Refused}
 use Rattle.heap_trail.specs.Limits.{last_place}
@@ -28,9 +28,9 @@ pub record IsAccepted (e : Event) (w v : HeapState) (left : Undo) : Type 0 where
   pub gave : v ≡ state_after e w
   pub recorded : left ≡ undo_record e w
   pub after : IsLegal v
-  pub law : IsTakenBack e w
+  pub law : IsRestored e w
 
-pub accepted_event_from_its_parts : (e : Event) (w v : HeapState) (left : Undo) → refusal_of e w ≡ None → v ≡ state_after e w → left ≡ undo_record e w → IsLegal v → IsTakenBack e w → IsAccepted e w v left
+pub accepted_event_from_its_parts : (e : Event) (w v : HeapState) (left : Undo) → refusal_of e w ≡ None → v ≡ state_after e w → left ≡ undo_record e w → IsLegal v → IsRestored e w → IsAccepted e w v left
 accepted_event_from_its_parts e w v left accepted gave recorded after law = record { accepted = accepted; gave = gave; recorded = recorded; after = after; law = law }
 
 -- its record leads back

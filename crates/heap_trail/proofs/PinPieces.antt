@@ -12,7 +12,7 @@ use Rattle.hprof_text.specs.Cursors.{IsBefore, IsAt}
 use Rattle.hprof_text.specs.Laws.{piece_limit}
 use Rattle.hprof_text.specs.Segments.{segment_records, end_record, records_from, pieces_of}
 use Rattle.hprof_text.specs.Text.{sub_records}
-use Rattle.hprof_text.proofs.PieceCounts.{pieces_within_part_limit}
+use Rattle.hprof_text.proofs.PieceCounts.{pieces_within_piece_limit}
 use Rattle.heap_pins.specs.Pin.{PinContents, places_seen, pin_image}
 use Rattle.heap_pins.proofs.PinViews.{view_dumpable}
 use Rattle.heap_trail.specs.declared.held.Held.{Held}
@@ -64,7 +64,7 @@ cursor_past_the_pieces ids image places Past i at e = at
 
 pub pin_that_gives_may_count : (ids : IdSize) (w : HeapState) (h : Held) → CanGive ids w h → MayCount h
 pin_that_gives_may_count ids w (Kept place pin cursor given) can =
-    let few : length (pieces_of ids (pin_image pin w) 0) ≤ piece_limit = pieces_within_part_limit ids (pin_image pin w) 0 (view_dumpable pin w can.0) in
+    let few : length (pieces_of ids (pin_image pin w) 0) ≤ piece_limit = pieces_within_piece_limit ids (pin_image pin w) 0 (view_dumpable pin w can.0) in
     omega (arith, few, piece_count_of_a_dump ids (pin_image pin w) 0, can.1.1)
 pin_that_gives_may_count ids w (Lost place cause) can = tt
 

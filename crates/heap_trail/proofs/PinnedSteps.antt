@@ -118,7 +118,7 @@ unfolding with_lost each_kept
 no_lost_pin_changes_nothing ps = ap (λ l. record ps { open_pins = l }) (no_pin_of_list_lost ps.open_pins)
 
 abbrev pub MayAnswer : Machine → Event → Machine → Answer → Type 0
-MayAnswer m e n a = (mark : Allocation) × MayStand m (Step e, mark) × (acted_under m (Step e, mark) ≡ (n, Answered a))
+MayAnswer m e n a = (allocation : Allocation) × MayStand m (Step e, allocation) × (acted_under m (Step e, allocation) ≡ (n, Answered a))
 
 pub step_pinned : (ids : IdSize) (e : Event) (w v : HeapState) (left : Undo) (ring : Buffer Undo) (place keep next : ℕ) (ss ts : List NumberedPin) (answer : Answer) → IsRetaining w ring place keep → IsPinning ids w ring place next ss → IsAccepted e w v left → place < last_place
     → applied e w ≡ Ok (v, answer) → EachMayKeep left v ss ts → MayAnswer (machine_of ids w ring place keep next ss) e (machine_of ids v (with_record left ring) (place + 1) keep next ts) answer

@@ -32,12 +32,12 @@ answered_leads m e a h = go (nat_le last_place m.trail.place) h
     go true t = cc
     go false t = one (refusal_of e m.trail.current) refl t
 
--- so it was under each mark
-marked_leads : (m : Machine) (e : Event) (a : Answer) (mark : Allocation) → (acted_under m (Step e, mark)).1 ≡ Answered a → LeadsTo e m.trail.current (acted_under m (Step e, mark)).0.trail.current
+-- so it was with each allocation
+leads_under_allocation : (m : Machine) (e : Event) (a : Answer) (allocation : Allocation) → (acted_under m (Step e, allocation)).1 ≡ Answered a → LeadsTo e m.trail.current (acted_under m (Step e, allocation)).0.trail.current
 unfolding acted_under
-marked_leads m e a Granted h = answered_leads m e a h
-marked_leads m e a Denied h = cc
-marked_leads m e a (LosesPins pins) h = answered_leads m e a h
+leads_under_allocation m e a Granted h = answered_leads m e a h
+leads_under_allocation m e a Denied h = cc
+leads_under_allocation m e a (LosesPins pins) h = answered_leads m e a h
 
 leads_keeps : (t : Trail) (e : Event) (v : HeapState) → AreSteps t.current t.past t.records → LeadsTo e t.current v → KeepsReached e t v
 leads_keeps t e v steps led = record {
@@ -53,5 +53,5 @@ leads_keeps t e v steps led = record {
 
 pub keeps_reached : (m : Machine) (e : Event) (n : Machine) (a : Answer) → IsTrail m.keep m.trail → MayReply m (Step e) n (Answered a) → KeepsReached e m.trail n.trail.current
 keeps_reached m e n a trail may =
-    let led = marked_leads m e a may.0 (ap (λ (p : Machine × Reply). p.1) may.2) in
+    let led = leads_under_allocation m e a may.0 (ap (λ (p : Machine × Reply). p.1) may.2) in
     leads_keeps m.trail e n.trail.current trail.steps (subst (λ (p : Machine × Reply). LeadsTo e m.trail.current p.0.trail.current) may.2 led)

@@ -1,4 +1,4 @@
--- An action's reply, with the mark that may stand beside it.
+-- An action's reply, with an allocation that is possible for it.
 use Rattle.std.proofs.Common.{◌≡◌, sym, inl, inr}
 use Rattle.heap_class.specs.declared.Refusal.{Refusal}
 use Rattle.heap_trail.specs.declared.Action.{Action}

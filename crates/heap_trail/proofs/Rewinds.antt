@@ -85,7 +85,7 @@ pub retained_after_rewind : (a : ℕ) (t : Trail) → retained (rewound a t) ≡
 unfolding rewound
 retained_after_rewind a t = omega (arith, length-drop a t.past)
 
-rewound_parts : (a b : ℕ) (t : Trail) → a + b ≤ retained t → rewound b (rewound a t) ≡ rewound (a + b) t
+pub rewound_parts : (a b : ℕ) (t : Trail) → a + b ≤ retained t → rewound b (rewound a t) ≡ rewound (a + b) t
 rewound_parts a zero t few = rewound_none (rewound a t) ∙ ap (λ n. rewound n t) (let e : a ≡ a + 0 = omega arith in e)
 rewound_parts a (suc b) t few =
     ap (λ n. rewound n (rewound a t)) (let e : suc b ≡ b + 1 = omega arith in e)

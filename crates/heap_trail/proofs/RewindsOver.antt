@@ -39,14 +39,14 @@ step_stays_or_steps : (m : Machine) (e : Event) → StaysOrSteps m.keep m.trail 
 unfolding acted
 step_stays_or_steps m e = at_trail m e (nat_le last_place m.trail.place)
 
-marked_trail : (m : Machine) (e : Event) (k : Allocation) → StaysOrSteps m.keep m.trail (acted_under m (Step e, k)).0.trail
+trail_under_allocation : (m : Machine) (e : Event) (k : Allocation) → StaysOrSteps m.keep m.trail (acted_under m (Step e, k)).0.trail
 unfolding acted_under
-marked_trail m e Granted = step_stays_or_steps m e
-marked_trail m e Denied = inl refl
-marked_trail m e (LosesPins pins) = step_stays_or_steps m e
+trail_under_allocation m e Granted = step_stays_or_steps m e
+trail_under_allocation m e Denied = inl refl
+trail_under_allocation m e (LosesPins pins) = step_stays_or_steps m e
 
 action_stays_or_steps : (m : Machine) (a : Action) (k : Allocation) → is_rewind a ≡ false → StaysOrSteps m.keep m.trail (acted_under m (a, k)).0.trail
-action_stays_or_steps m (Step e) k deed = marked_trail m e k
+action_stays_or_steps m (Step e) k deed = trail_under_allocation m e k
 action_stays_or_steps m (Rewind n) k deed = absurd (cc deed)
 action_stays_or_steps m (OpenPin at) k deed = inl (ap (λ (c : Core). c.2) (under_core m (OpenPin at) k))
 action_stays_or_steps m (NextPiece pin time) k deed = inl (ap (λ (c : Core). c.2) (under_core m (NextPiece pin time) k))
@@ -67,7 +67,7 @@ action_leaves_keep m a (LosesPins pins) = acted_keep m a
 
 -- ---- places rise
 
-step_raises_place_by_one : (keep : ℕ) (left : Undo) (v : HeapState) (t : Trail) → (stepped keep left v t).place ≡ t.place + 1
+pub step_raises_place_by_one : (keep : ℕ) (left : Undo) (v : HeapState) (t : Trail) → (stepped keep left v t).place ≡ t.place + 1
 unfolding stepped
 step_raises_place_by_one keep left v t = refl
 

@@ -124,7 +124,7 @@ FourPinsOpen = RepliesAs 1 1
 
 -- ---- allocations that fail
 
--- actions with their marks and the replies to them: a class, a pin and a piece that get no memory, then all three; a step
+-- actions with their allocations and the replies to them: a class, a pin and a piece that get no memory, then all three; a step
 -- that loses the pin; and a rewind, which doesn't change the cause
 abbrev pub starved : List (Action × Allocation × Reply)
 starved =
@@ -141,13 +141,13 @@ starved =
     ∷ (NextPiece 1 0, Granted, Refused (IsLost Memory))
     ∷ []
 
--- these actions, each with its mark
+-- these actions, each with its allocation
 abbrev pub starved_actions : List (Action × Allocation)
 starved_actions = map (λ l. (l.0, l.1)) starved
 
--- the marks may stand beside the actions; an action that gets no memory changes nothing, and a lost pin keeps its cause
+-- the allocations are possible for the actions; an action that gets no memory changes nothing, and a lost pin keeps its cause
 pub record StarvedPin : Type 0 where
-  pub marks : AreAllocations (fresh_machine 1 1024) starved_actions
+  pub allocations : AreAllocations (fresh_machine 1 1024) starved_actions
   pub replies : replies_of (fresh_machine 1 1024) starved_actions ≡ map (λ l. l.2) starved
   pub lost : pin_at 1 (machine_after (fresh_machine 1 1024) starved_actions).pins
       ≡ Some (Gone 2 Memory)

@@ -1,4 +1,4 @@
--- All functions of this crate, opened at once, for worked examples by computation.
+-- For proofs: all functions of this crate, opened at once, for worked examples by computation.
 use Rattle.heap_trail.specs.Examples.{machine_at_end, replies_to}
 use Rattle.heap_trail.specs.Machine.{opening_machine, after_result, after_step_at, unless, after_rewind_by, after_open, counted, after_piece, after_close, acted, acted_under, machine_after, replies_of, may_grow, may_overwrite, is_accepted, without_dumps, all_granted}
 use Rattle.heap_pins.specs.Images.{dumped_objects, image_of}

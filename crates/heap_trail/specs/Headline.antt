@@ -30,10 +30,11 @@ IsBackAt m r =
     (r.0.trail.current ≡ m.trail.current) × (r.0.trail.place ≡ m.trail.place)
     × (r.1 ≡ Place m.trail.place)
 
--- a step that is answered, under any mark, and a rewind of one lead back to the state and the place before
+-- a step that is answered, with any allocation, and a rewind of one lead back to the state and the place before
 abbrev pub UndoesStep : Machine → Type 0
-UndoesStep m = (e : Event) (mark : Allocation) (n : Machine) (a : Answer)
-    → 1 ≤ m.keep → acted_under m (Step e, mark) ≡ (n, Answered a) → IsBackAt m (acted n (Rewind 1))
+UndoesStep m = (e : Event) (allocation : Allocation) (n : Machine) (a : Answer)
+    → 1 ≤ m.keep → acted_under m (Step e, allocation) ≡ (n, Answered a)
+    → IsBackAt m (acted n (Rewind 1))
 
 -- each rewind of n retained steps gives the state of n steps ago
 abbrev pub RewindsRetained : Machine → Type 0
@@ -68,8 +69,8 @@ unfoldable pub replies_beside_dumps : Machine → List (Action × Allocation) �
 replies_beside_dumps m actions =
     map (λ p. p.1) (filter (λ p. not (is_dump_action p.0.0)) (zip actions (replies_of m actions)))
 
--- steps and rewinds are answered as without the dumps, and lead to the same trail; marks that may stand with them may stand
--- without them
+-- steps and rewinds are answered as without the dumps, and lead to the same trail; allocations that are possible with
+-- them are possible without them
 abbrev pub GoesAsWithoutDumps : Machine → List (Action × Allocation) → Type 0
 GoesAsWithoutDumps m actions =
     let others = without_dumps actions in

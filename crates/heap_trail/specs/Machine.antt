@@ -97,7 +97,7 @@ acted m (OpenPin at) =
 acted m (NextPiece pin time) = after_piece pin time m (pin_at pin m.pins)
 acted m (ClosePin pin) = after_close pin m (pin_at pin m.pins)
 
--- ---- marks: which actions failed to get memory
+-- ---- allocations: which actions got their memory
 
 -- an action got its memory; it got none and was refused; or the step lost the named pins for lack of memory
 pub data Allocation : Type 0 where
@@ -105,7 +105,7 @@ pub data Allocation : Type 0 where
   Denied : Allocation
   LosesPins : List ℕ → Allocation
 
--- the machine after an action under a mark, and the reply
+-- the machine after an action with this allocation, and the reply
 unfoldable pub acted_under : Machine → Action × Allocation → Machine × Reply
 acted_under m (a, Granted) = acted m a
 acted_under m (a, Denied) = (m, Refused NoMemory)
@@ -122,7 +122,7 @@ unfoldable pub replies_of : Machine → List (Action × Allocation) → List Rep
 replies_of m [] = []
 replies_of m (a ∷ as') = let r = acted_under m a in r.1 ∷ replies_of r.0 as'
 
--- ---- which marks may stand beside an action
+-- ---- which allocations are possible for an action
 
 -- whether the action may allocate, and so be refused NoMemory
 unfoldable pub may_grow : Action → Machine → Bool
@@ -144,34 +144,36 @@ unfoldable pub is_accepted : Reply → Bool
 is_accepted (Refused r) = false
 is_accepted r = true
 
--- the mark may stand beside the action: a refusal only beside one that may allocate and isn't refused anyway, and a loss of
--- pins only beside one that may overwrite
+-- the allocation is possible for the action: a refusal only for one that may allocate and isn't refused anyway, and a loss of
+-- pins only for one that may overwrite
 abbrev pub MayStand : Machine → Action × Allocation → Type 0
 MayStand m (a, Granted) = ⊤
 MayStand m (a, Denied) = (may_grow a m ≡ true) × (is_accepted (acted m a).1 ≡ true)
 MayStand m (a, LosesPins pins) = (may_overwrite a ≡ true) × (is_accepted (acted m a).1 ≡ true)
 
--- each mark may stand beside its action
+-- each allocation is possible for its action
 abbrev pub AreAllocations : Machine → List (Action × Allocation) → Type 0
 AreAllocations m [] = ⊤
 AreAllocations m (a ∷ as') = MayStand m a × AreAllocations (acted_under m a).0 as'
 
 -- ---- what a call may answer
 
--- the action may leave n and give this reply, under a mark that may stand beside it
+-- the action may leave n and give this reply, with an allocation that is possible for it
 abbrev pub MayReply : Machine → Action → Machine → Reply → Type 0
-MayReply m a n r = (mark : Allocation) × MayStand m (a, mark) × (acted_under m (a, mark) ≡ (n, r))
+MayReply m a n r =
+    (allocation : Allocation) × MayStand m (a, allocation)
+    × (acted_under m (a, allocation) ≡ (n, r))
 
 -- the action may leave n and be refused with r, also for lack of memory
 abbrev pub MayFail : Machine → Action → Machine → Refusal → Type 0
 MayFail m a n r = (acted m a ≡ (n, Refused r)) ⊎ (MayStand m (a, Denied) × (r ≡ NoMemory))
 
--- under some marks these actions lead from m to n, with these replies
+-- with some allocations these actions lead from m to n, with these replies
 abbrev pub MayDrive : Machine → List Action → List Reply → Machine → Type 0
 MayDrive m actions replies n =
-    (marked : List (Action × Allocation)) × (map (λ a. a.0) marked ≡ actions)
-    × AreAllocations m marked
-    × (replies ≡ replies_of m marked) × (n ≡ machine_after m marked)
+    (paired : List (Action × Allocation)) × (map (λ a. a.0) paired ≡ actions)
+    × AreAllocations m paired
+    × (replies ≡ replies_of m paired) × (n ≡ machine_after m paired)
 
 -- a piece has at most `piece_size_limit` bytes
 abbrev pub IsSmall : Reply → Type 0
@@ -194,8 +196,8 @@ is_dump_action a = true
 unfoldable pub without_dumps : List (Action × Allocation) → List (Action × Allocation)
 without_dumps actions = filter (λ a. not (is_dump_action a.0)) actions
 
--- ---- the list with no marks
+-- ---- the list in which each action gets its memory
 
--- the actions, each with the mark that it got its memory
+-- the actions, each with its allocation granted
 unfoldable pub all_granted : List Action → List (Action × Allocation)
 all_granted actions = map (λ a. (a, Granted)) actions

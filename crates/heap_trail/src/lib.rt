@@ -39,7 +39,7 @@ pub use examples::{worked_dumps, worked_examples};
 use heap_class::{IdSize, ObjRef, Refusal};
 use heap_pins::{ends_cycle, noted_region, touched_region};
 use heap_step::step::undo;
-use heap_step::{Answer, AnyEvent, ApplyEvent, Event, Undo, apply_sort, undo_takes_back};
+use heap_step::{Answer, AnyEvent, ApplyEvent, Event, Undo, apply_sort, undo_restores};
 use heap_world::{Config, World};
 use held::NumberedPin;
 use hprof_text::Piece;
@@ -317,7 +317,7 @@ impl Machine {
             return Err(Refusal::ChronicleFull);
         }
         // By this law the record leads back to the state before.
-        undo_takes_back();
+        undo_restores();
         let (answer, left) = apply_sort(&mut self.world, event)?;
         remember(&mut self.pins, &self.world, &mut self.records, left);
         self.place += 1;

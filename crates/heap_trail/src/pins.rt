@@ -17,8 +17,8 @@ use hprof_text::{Cursor, Piece};
 const LAST_PIN: u64 = 0x4000_0000_0000_0000;
 
 impl Machine {
-    // Tells whether the state at this place is retained.
-    fn has_retained(&self, at: u64) -> bool
+    /// Tells whether the state at this place is retained. Takes no memory.
+    pub fn has_retained(&self, at: u64) -> bool
         ensures { result ≡ is_retained at self.now.trail }
     {
         at <= self.place && self.place - at <= self.retained_count()

@@ -22,7 +22,7 @@ ArePendingSweeps config seen (m ∷ ms) seen' =
     (region : ℕ) × (now : List Call) × SeesPending config seen region now
     × (m.1.action ≡ Step (Event.Sweep region)) × ArePendingSweeps config now ms seen'
 
--- what such a worker's ending says of the acts that it made and of what it saw after them
+-- what such a worker's end says of the acts that it made and of what it saw after them
 abbrev pub PendingEnds : HeapSettings → ℕ → List (ℕ × Entry) → List Call → List Call → SweepEnd
     → Type 0
 PendingEnds config turns gained seen seen' SweepEnd.Swept =

@@ -1,4 +1,4 @@
--- A store with its barrier, and what takes it back.
+-- A store with its barrier, and what undoes it.
 use Rattle.std.proofs.Common.{◌≡◌, ◌⊎◌, ℕ, ◌-◌, ◌<◌, ◌≤◌, Bool, true, false, not, [], ◌∷◌, ◌++◌, length, take, Some, None, refl, sym, ap, subst, ◌∙◌, inr, arith, length-take}
 use Rattle.std.specs.Prelude.{◌&&◌, ◌==◌, if◌then◌else◌, IfSome, IsTrue, slice_index}
 use Rattle.heap_class.proofs.Refusals.{no_refusal_test_holds}
@@ -111,7 +111,7 @@ store_held w v m target slot source old word room at b s k h e accepted r o a l 
     go true = refl
     go false = refl
 
--- ---- a store is taken back
+-- ---- a store is undone
 
 without_log : (w : HeapState) (room : ℕ) (b : Bool) → with_marker (if b then record (marker_of w room) { log = take (length w.log - 1) w.log } else marker_of w room) w ≡ record w { log = if b then without_last w.log else w.log }
 unfolding without_last

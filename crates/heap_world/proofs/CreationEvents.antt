@@ -276,7 +276,7 @@ pub parts_of_new_object_make_state : (w v : HeapState) (m r n x : ℕ) (kind : O
     → s ≡ allocated at fresh (blank_object kind n mark) (pool_of w) → x ≡ id_of s.regions at → rs ≡ slice_set w.registers (register_index m r) x → record (with_pool s w) { registers = rs } ≡ after_new m r kind n v
 parts_of_new_object_make_state w v m r n x kind mark at fresh s rs e marked place f id g = made m r n x kind mark w at fresh s rs marked place f id g ∙ ap (after_new m r kind n) e
 
--- ---- an object is taken back
+-- ---- an object is undone
 
 some_option_has_value : {A : Type 0} (p : Option A) → IsSome p → (x : A) × (p ≡ Some x)
 some_option_has_value None h = absurd (not_none h)

@@ -36,7 +36,7 @@ legal_state_of_room_is_sound v w room h l e = record { legal = l; ids = same_roo
 
 -- ---- a word is written
 
--- ---- what was done is taken back
+-- ---- what was done is undone
 
 pub word_held : (w v : HeapState) (slot word room : ℕ) (at : ObjRef) (s : RegionPool) → IsSoundHeap w room → w ≡ v → s ≡ record { regions = with_word at slot word w.regions; pool = w.pool; area_start = w.area_start } → IsLegal (record v { regions = with_word at slot word v.regions }) → IsSoundHeap (with_pool s w) room
 word_held w v slot word room at s h e f l = subst (λ (t : RegionPool). IsSoundHeap (with_pool t w) room) (sym f)

@@ -160,7 +160,7 @@ unsnap_held w v room k s h same p e f back = work_held w room (unsnapped (markin
     undone : unsnapped (marking_of w) ≡ marking_of p.0
     undone = unsnapped_is w v room k s same p e f back
 
--- a snap that is taken back gives the heap before it
+-- a snap that is undone gives the heap before it
 pub unsnap_back : (w v : HeapState) (room : ℕ) (k : MarkerState) (s : RegionPool) → w ≡ v → k ≡ after_work (unsnapped (marking_of w)) (marker_of w room)
     → s ≡ record (pool_of w) { regions = (unsnapped (marking_of w)).regions } → IsUnsnapped w k s → (p : IsSnapped v) → with_marker k (with_pool s w) ≡ p.0
 unsnap_back w v room k s same e f back p =

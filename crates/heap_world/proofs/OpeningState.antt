@@ -14,6 +14,7 @@ use Rattle.heap_world.specs.HeapParts.{heap_of_parts, IsSoundHeap}
 use Rattle.heap_region.specs.Regions.{object_of, ref_of}
 use Rattle.heap_region.proofs.Areas.{area_of_empty_regions}
 use Rattle.heap_region.proofs.Spares.{NamesSpare}
+use Rattle.heap_region.proofs.Tables.{no_blank_region_in_use}
 use Rattle.heap_region.specs.Limits.{region_limit}
 use Rattle.heap_world.specs.Limits.{mutator_limit}
 use Rattle.heap_world.specs.Legal.{IsLegal}
@@ -79,17 +80,13 @@ no_id_names_at_opening n x o = go (ref_of (replicate n Empty) x)
     go None h = cc
     go (Some at) h = no_object_in_opening_regions n at o h
 
-no_opening_region_in_use : (n r : ℕ) → used_at (replicate n Empty) r ≡ None
-unfolding used_at
-no_opening_region_in_use n r = no_opening_region_is_used n r
-
 -- with as many regions and mutators as there may be
 pub begins_legal : (limits : Limits) (n m : ℕ) → AreLimits limits → 1 ≤ n → n ≤ region_limit → 1 ≤ m → m ≤ mutator_limit → IsLegal (opening_state limits n m)
 unfolding opening_state IsDistinct
 begins_legal limits n m few n1 n_few m1 m_few = record {
   sized = record { limits = few; regions = (omega (arith, length-replicate n Empty), omega (arith, length-replicate n Empty)); area = ap (λ k. k - limits.area) (sym (length-replicate n Empty)); mutators = (m, m1, m_few, length-replicate {A = ℕ} (8 * m) 0) };
   classes = tt;
-  regions = record { tables = λ r u h. absurd (no_used_region_at_opening n r u h); pool = pool_names n (n - limits.area) (omega arith); area = area_of_empty_regions n (n - limits.area) (omega arith) (no_opening_region_in_use n) };
+  regions = record { tables = λ r u h. absurd (no_used_region_at_opening n r u h); pool = pool_names n (n - limits.area) (omega arith); area = area_of_empty_regions n (n - limits.area) (omega arith) (no_blank_region_in_use n) };
   objects = λ at o h. absurd (no_object_in_opening_regions n at o h);
   registers_live = λ x c other. absurd (other (sym c.2 ∙ all_zero (8 * m) c.0 x (omega (arith, c.1, length-replicate {A = ℕ} (8 * m) 0))));
   slots_live = λ x y live names. absurd (no_id_names_at_opening n x live.0 live.1);

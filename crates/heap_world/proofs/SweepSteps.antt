@@ -1,4 +1,4 @@
--- The sweeper's steps on what a heap holds, and what takes each back.
+-- The sweeper's steps on what a heap holds, and what undoes each.
 use Rattle.std.proofs.Common.{◌≡◌, ℕ, Bool, true, false, List, [], length, Option, None, Result, Ok, Err, sym, ap, subst, ◌∙◌}
 use Rattle.std.specs.Prelude.{OnOk, OnErr, if◌then◌else◌}
 use Rattle.std.specs.Option.{option_map_or}
@@ -49,7 +49,7 @@ unfolding after_sweep
 sweep_made w v r s (Ok x) same e = ap (λ (t : RegionPool). with_pool t w) e ∙ ap (after_sweep r) same
 sweep_made w v r s (Err x) same e = e
 
--- ---- a sweep that left objects is taken back
+-- ---- a sweep that left objects is undone
 
 -- the heap was swept so
 abbrev pub IsSweptHeap : ℕ → List (ℕ × Object) → HeapState → Type 0
@@ -94,11 +94,11 @@ unsweep_made w v r dead s same p back =
     ap (λ (t : RegionPool). with_pool t w) (dead_put_back_give_pool w v r dead s same p back ∙ sym (swept_pool_unswept v r dead p) ∙ ap (unswept r dead) (sym (pool_after_the_sweep w v r dead same p)))
     ∙ ap (λ (u : HeapState). with_pool (unswept r dead (pool_of u)) u) same
 
--- a sweep that is taken back gives the heap before it
+-- a sweep that is undone gives the heap before it
 pub unsweep_back : (w v : HeapState) (r : ℕ) (dead : List (ℕ × Object)) (s : RegionPool) → w ≡ v → IsPutBack (pool_of w) s dead r → (p : IsSweptHeap r dead v) → with_pool s w ≡ p.0
 unsweep_back w v r dead s same back p = ap (λ (t : RegionPool). with_pool t w) (dead_put_back_give_pool w v r dead s same p back) ∙ heap_before_sweep_by_pool w v r dead same p
 
--- ---- a sweep that left none is taken back
+-- ---- a sweep that left none is undone
 
 pub unreclaim_held : (w v : HeapState) (room r : ℕ) (u : UsedRegion) (s : RegionPool) → IsSoundHeap w room → w ≡ v → IsLegal (with_pool (restored r u (pool_of v)) v) → s ≡ restored r u (pool_of w) → IsSoundHeap (with_pool s w) room
 unreclaim_held w v room r u s h same l e = subst (λ (t : RegionPool). IsSoundHeap (with_pool t w) room) (sym e)

@@ -429,7 +429,7 @@ impl World {
 
     /// Tells whether mutator `m` has a register `r`.
     #[inline(always)]
-    pub fn has_register(&self, m: u64, r: u64) -> bool
+    pub(crate) fn has_register(&self, m: u64, r: u64) -> bool
         ensures { result ≡ is_register self.now m r }
     {
         is_register(&self.registers, m, r)

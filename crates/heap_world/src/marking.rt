@@ -8,7 +8,7 @@ ghost use Rattle.heap_world.specs.Events.{after_snap, after_mark, after_drain, a
 
 use super::World;
 use heap_class::Refusal;
-use heap_mark::{Finished, Log, Marked};
+use heap_mark::{CycleLog, Finished, Marked};
 
 impl World {
     /// Begins a cycle: marks and pushes each object that a register names, once, in the order of the registers. Returns the
@@ -99,7 +99,7 @@ impl World {
 
     /// Undoes `finish`, which must have led to this state, given the log that it returned. The heap must be legal afterwards.
     /// Takes no memory.
-    pub fn unfinish(&mut self, log: Log)
+    pub fn unfinish(&mut self, log: CycleLog)
         requires legal { IsLegal (with_marking (unfinished log (marking_of self.old)) self.old) }
         requires finished { (before : HeapState) × IsLegal before
             × (finish_refusal (marking_of before) ≡ None) × (self.old ≡ after_finish before) }

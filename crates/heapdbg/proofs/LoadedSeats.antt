@@ -11,6 +11,7 @@ use Rattle.heap_server.specs.Stations.{Station, seat_acts, seat_answers}
 use Rattle.heap_server.specs.Seated.{TableId}
 use Rattle.heap_server.specs.Tending.{AreStaff, IsSeatAfterRuns}
 use Rattle.heap_server.specs.declared.sessions.Terms.{Terms}
+use Rattle.question_grammar.specs.Bookmarks.{no_bookmarks}
 use Rattle.heapdbg_options.specs.HeapLimits.{HeapSettings}
 use Rattle.heapdbg_options.specs.declared.settings.Origin.{Origin}
 use Rattle.heapdbg_options.specs.declared.settings.Service.{Service}
@@ -24,8 +25,8 @@ use Rattle.heapdbg.specs.declared.served_heap.HeapServed.{HeapServed}
 -- lines that were run from a seat left it loaded
 pub run_from_a_seat_loads_it : (limits : SessionLimits) (area : Bool) (config : HeapSettings) (origin : Origin) (time : ℕ) (b c : Station) (s s' : SeatModel)
     → IsRunFirst limits area origin (AnswersCommand (seat_acts config) (seat_answers config true) time) (Begins (seat_acts config) (seat_answers config true) time) b c
-    → b.seat ≡ s → IsLegalLedger config b.seen → s' ≡ c.seat → IsSeatLoaded limits area config origin time s s'
-run_from_a_seat_loads_it limits area config origin time b c s s' run is legal left = (b, c, is, legal, run, left)
+    → b.seat ≡ s → IsLegalLedger config b.seen → b.bookmarks ≡ no_bookmarks → s' ≡ c.seat → IsSeatLoaded limits area config origin time s s'
+run_from_a_seat_loads_it limits area config origin time b c s s' run is legal unnamed left = (b, c, is, legal, unnamed, run, left)
 
 -- of the seats for workers and one user more, one is first to act
 staff_of_one_more : (n : ℕ) (seats : List SeatModel) → AreStaff (n + 1) seats → AreSeatsFor n seats

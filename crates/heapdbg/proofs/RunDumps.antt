@@ -37,7 +37,7 @@ dump_is_run_first limits area says begins dump b (Ok d) run = (dump, run)
 dump_is_run_first limits area says begins dump b (Err f) run = tt
 
 -- what ends the lines at the front of a text ends the text
-front_end_is_enough : {S : Type 0} (limits : SessionLimits) (says : AnswerRelation S) (front back : List ℕ) (start : Option S) (e : Ended) → IsLoadEnded limits says front start e → IsLoadEnded limits says (front ++ back) start e
+pub front_end_is_enough : {S : Type 0} (limits : SessionLimits) (says : AnswerRelation S) (front back : List ℕ) (start : Option S) (e : Ended) → IsLoadEnded limits says front start e → IsLoadEnded limits says (front ++ back) start e
 front_end_is_enough limits says front back start Quit ended = front_that_ends_is_enough limits says front back start ended
 front_end_is_enough limits says front back start TooLong ended = front_that_ends_is_enough limits says front back start ended
 front_end_is_enough limits says front back start CutLine ended = tt

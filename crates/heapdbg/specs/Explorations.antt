@@ -6,6 +6,7 @@ use Rattle.session_text.specs.Answers.{AnswerRelation, AnswersCommand, Begins}
 use Rattle.session_text.specs.Machine.{opening_machine}
 use Rattle.question_text.specs.declared.asking.Asking.{Asking}
 use Rattle.heap_orders.specs.Redos.{no_redo, redo_limit}
+use Rattle.question_grammar.specs.Bookmarks.{no_bookmarks}
 use Rattle.question_text.specs.Sessions.{AskingActs, AskingAnswers, ServesAsking}
 use Rattle.session_text.specs.declared.Ended.{Ended}
 use Rattle.session_text.specs.declared.Ended.TheVariants.{Quit, Eof, CutLine, TooLong, ReadFault, TooManyReads, WriteFault, NoMemory}
@@ -17,19 +18,23 @@ use Rattle.heapdbg.specs.declared.failure.Fault.{Fault}
 use Rattle.heapdbg.specs.declared.failure.Fault.TheVariants.{Cut, From, Hprof, Memory, Read, Reads, Write}
 use Rattle.heapdbg_options.specs.CommandLine.{limits_of}
 use Rattle.heapdbg_options.specs.declared.settings.Origin.{Origin}
-use Rattle.heapdbg_options.specs.declared.settings.Origin.TheVariants.{Fresh, Lines, Dump}
+use Rattle.heapdbg_options.specs.declared.settings.Origin.TheVariants.{Fresh, Lines, Dump, Dumps}
 use Rattle.heapdbg_options.specs.declared.settings.Settings.{Settings}
 use Rattle.hprof_convert.specs.Conversions.{HasNoHeader, IsDumpSession}
 use Rattle.hprof_convert.specs.declared.conversion.Converted.{Converted}
 use Rattle.hprof_convert.specs.declared.conversion.Failure.{Failure}
 use Rattle.hprof_convert.specs.declared.conversion.Failure.TheVariants as failure
+use Rattle.hprof_pair.specs.Conversions.{IsPairText}
+use Rattle.hprof_pair.specs.declared.conversion.BothConverted.{BothConverted}
+use Rattle.hprof_pair.specs.declared.conversion.PairFailure.{PairFailure}
+use Rattle.hprof_pair.specs.declared.conversion.PairFailure.TheVariants as pair_failure
 use Rattle.heapdbg.specs.Endings.{outcome_of}
 
--- a heap with these settings as it begins, with no step that can be taken again
+-- a heap with these settings as it begins, with no step that can be taken again and no name of a place
 abbrev pub IsOpening : Settings → Asking → Type 0
 IsOpening s c =
     (c.local.machine ≡ opening_machine (limits_of s) s.ids s.regions s.mutators s.keep)
-    × (c.redo ≡ no_redo (min s.keep redo_limit))
+    × (c.redo ≡ no_redo (min s.keep redo_limit)) × (c.bookmarks ≡ no_bookmarks)
 
 -- whether the heap of these settings has an area
 abbrev pub has_area : Settings → Bool
@@ -49,8 +54,22 @@ IsDumpRunFrom limits area says begins dump None c = ⊤
 IsDumpRunFrom limits area says begins dump (Some b) c =
     IsDumpRun limits area says begins dump b c
 
--- the lines of a file were run first, in a session that may have at most this, or the session of a dump was, for a heap with an
--- area or without one, or none were
+-- the lines of the whole session of these two dumps, for a heap with an area or without one, were served to its end, in a session
+-- that may have at most this
+abbrev pub IsPairRun : {S : Type 0} → SessionLimits → Bool → AnswerRelation S → AnswerRelation S
+    → List ℕ → List ℕ → S → S → Type 0
+IsPairRun limits area says begins first second b c =
+    (text : List ℕ) × IsPairText area first second text × IsTextLoaded limits says begins text b c
+
+-- the same from these commands on, if they are known
+abbrev pub IsPairRunFrom : {S : Type 0} → SessionLimits → Bool → AnswerRelation S → AnswerRelation S
+    → List ℕ → List ℕ → Option S → S → Type 0
+IsPairRunFrom limits area says begins first second None c = ⊤
+IsPairRunFrom limits area says begins first second (Some b) c =
+    IsPairRun limits area says begins first second b c
+
+-- the lines of a file were run first, in a session that may have at most this, or the session of a dump was, or of two, for a heap
+-- with an area or without one, or none were
 abbrev pub IsRunFirst : {S : Type 0} → SessionLimits → Bool → Origin → AnswerRelation S
     → AnswerRelation S → S → S → Type 0
 IsRunFirst limits area Fresh says begins b c = c ≡ b
@@ -58,6 +77,8 @@ IsRunFirst limits area Lines says begins b c =
     (ended : Ended) × IsLoaded limits says begins b c ended
 IsRunFirst limits area Dump says begins b c =
     (dump : List ℕ) × IsDumpRun limits area says begins dump b c
+IsRunFirst limits area Dumps says begins b c =
+    (first : List ℕ) × (second : List ℕ) × IsPairRun limits area says begins first second b c
 
 -- a session as it begins: over a heap as it begins, or as lines left it, which were run first
 abbrev pub IsSessionBegun : Origin → Settings → Asking → Type 0
@@ -79,6 +100,18 @@ IsDumpHindrance limits area says dump start Cut = ⊤
 IsDumpHindrance limits area says dump start Reads = ⊤
 IsDumpHindrance limits area says dump start f = ⊥
 
+-- why the session of these two dumps wasn't run, likewise
+abbrev pub IsPairHindrance : {S : Type 0} → SessionLimits → Bool → AnswerRelation S → List ℕ → List ℕ
+    → Option S → Fault → Type 0
+IsPairHindrance limits area says first second start Hprof =
+    HasNoHeader first
+    ⊎ (HasNoHeader second
+    ⊎ ((text : List ℕ) × IsPairText area first second text × IsTextEndedFrom limits says text start))
+IsPairHindrance limits area says first second start Memory = ⊤
+IsPairHindrance limits area says first second start Cut = ⊤
+IsPairHindrance limits area says first second start Reads = ⊤
+IsPairHindrance limits area says first second start f = ⊥
+
 -- the fault of lines that weren't all run, by why they weren't
 abbrev pub load_fault : Ended → Fault
 load_fault Quit = Hprof
@@ -99,12 +132,23 @@ IsLoadFault (Err failure.Memory) left f = f ≡ Memory
 IsLoadFault (Err failure.Write) (Ok d) f = f ≡ Write
 IsLoadFault (Err failure.Write) (Err ended) f = f ≡ load_fault ended
 
--- why a session doesn't begin: no memory, the file of lines can't be opened, the file of the dump can't be read, or its session
+-- the fault of two dumps, likewise
+abbrev pub IsPairFault : {S : Type 0} → Result BothConverted PairFailure → Result S Ended → Fault → Type 0
+IsPairFault (Ok converted) (Ok d) f = ⊥
+IsPairFault (Ok converted) (Err ended) f = f ≡ load_fault ended
+IsPairFault (Err pair_failure.FirstHeader) left f = f ≡ Hprof
+IsPairFault (Err pair_failure.SecondHeader) left f = f ≡ Hprof
+IsPairFault (Err pair_failure.Memory) left f = f ≡ Memory
+IsPairFault (Err pair_failure.Write) (Ok d) f = f ≡ Write
+IsPairFault (Err pair_failure.Write) (Err ended) f = f ≡ load_fault ended
+
+-- why a session doesn't begin: no memory, the file of lines can't be opened, the file of a dump can't be read, or its session
 -- wasn't run
 abbrev pub IsHindrance : Origin → Fault → Type 0
 IsHindrance Fresh f = f ≡ Memory
 IsHindrance Lines f = (f ≡ Memory) ⊎ (f ≡ From)
 IsHindrance Dump f = (f ≡ Memory) ⊎ ((f ≡ Hprof) ⊎ ((f ≡ Cut) ⊎ (f ≡ Reads)))
+IsHindrance Dumps f = (f ≡ Memory) ⊎ ((f ≡ Hprof) ⊎ ((f ≡ Cut) ⊎ (f ≡ Reads)))
 
 -- a session with questions over a heap with these settings, and how it ended; or it didn't begin, and then nothing is read or
 -- written

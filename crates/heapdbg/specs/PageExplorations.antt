@@ -19,6 +19,7 @@ use Rattle.heapdbg.specs.declared.failure.Fault.TheVariants.{Listen}
 use Rattle.heapdbg.specs.Endings.{outcome_of}
 use Rattle.heapdbg.specs.Explorations.{IsHindrance, IsRunFirst, has_area}
 use Rattle.heapdbg.specs.ServeOutcomes.{config_of}
+use Rattle.question_grammar.specs.Bookmarks.{no_bookmarks}
 
 -- a heap of these settings, which drops old entries, with one user's seat
 pub record IsMadeFor (of : HeapSettings) (made : Maker) : Type 0 where
@@ -27,12 +28,13 @@ pub record IsMadeFor (of : HeapSettings) (made : Maker) : Type 0 where
   pub users : AreUsers made.seats
   pub one : length made.seats ≡ 1
 
--- the only seat of such a heap, and calls that may have been made there
+-- the only seat of such a heap, and calls that may have been made there; no place has a name
 pub record IsSeated (config : HeapSettings) (c : Station) : Type 0 where
   pub made : Maker
   pub is : IsMadeFor config made
   pub only : made.seats ≡ c.seat ∷ []
   pub legal : IsLegalLedger config c.seen
+  pub unnamed : c.bookmarks ≡ no_bookmarks
 
 -- the terms of the session: it answers questions, and may have at most this
 abbrev pub own_terms : SessionLimits → ℕ → Terms

@@ -22,6 +22,7 @@ use Rattle.heapdbg.specs.declared.served_heap.HeapServed.{HeapServed}
 use Rattle.heapdbg.specs.declared.served_heap.Sessions.{Sessions}
 use Rattle.heapdbg.specs.declared.served_heap.Sessions.TheVariants.{Once, Stayed}
 use Rattle.heapdbg.specs.declared.served_heap.WorkersLeft.{WorkersLeft}
+use Rattle.question_grammar.specs.Bookmarks.{no_bookmarks}
 
 -- the marker's seat, the sweeper's, a user's that is first to act, and one for each of the sessions
 abbrev pub AreSeatsFor : ℕ → List SeatModel → Type 0
@@ -33,7 +34,7 @@ AreSeatsFor sessions seats = ⊥
 abbrev pub IsSeatLoaded : SessionLimits → Bool → HeapSettings → Origin → ℕ → SeatModel → SeatModel
     → Type 0
 IsSeatLoaded limits area config origin time s s' =
-    (b c : Station) × (b.seat ≡ s) × IsLegalLedger config b.seen
+    (b c : Station) × (b.seat ≡ s) × IsLegalLedger config b.seen × (b.bookmarks ≡ no_bookmarks)
     × IsRunFirst limits area origin
     (AnswersCommand (seat_acts config) (seat_answers config true) time)
     (Begins (seat_acts config) (seat_answers config true) time) b c

@@ -45,7 +45,7 @@ impl<I: Inlet> AskEnd<I> {
 /// ended. Returns the client. Fails with Connect, and then writes nothing, if no connection can be made; why, it says on standard
 /// error, if that is a terminal. Fails with Memory, and writes nothing, if an allocation fails or no thread can be started. May
 /// wait.
-pub fn ask_port<R, I: Inlet + Send + Drop + 'static, O: Outlet>(
+pub(crate) fn ask_port<R, I: Inlet + Send + Drop + 'static, O: Outlet>(
     rt: &R,
     port: u16,
     secret: Option<Secret>,

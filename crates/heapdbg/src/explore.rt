@@ -3,6 +3,7 @@ ghost use Rattle.std.specs.Prelude.{◌≡◌, min, IfErr, IfOk};
 ghost use Rattle.heapdbg_options.specs.CommandLine.{IsHeapWithin};
 ghost use Rattle.heapdbg.specs.Explorations.{IsExplored, IsOpening};
 ghost use Rattle.heap_orders.specs.Redos.{no_redo, redo_limit};
+ghost use Rattle.question_grammar.specs.Bookmarks.{no_bookmarks};
 
 use crate::failure::{Fault, outcome};
 use crate::first_lines::run_first;
@@ -87,6 +88,7 @@ fn asking_of<'a>(
 ) -> Result<Asking<'a>, Fault>
     ensures local { IfOk result (λ c. c.local ≡ local) }
     ensures none { IfOk result (λ c. c.redo ≡ no_redo (min keep redo_limit)) }
+    ensures unnamed { IfOk result (λ c. c.bookmarks ≡ no_bookmarks) }
     ensures fault { IfErr result (λ f. f ≡ Fault.Memory) }
 {
     match Asking::new(alloc, local, watch, keep) {

@@ -35,7 +35,7 @@ pub struct FetchEnd<S: Read, F: Write> {
 
 impl<S: Read, F: Write> FetchEnd<S, F> {
     /// Creates the outcome of a fetch that hasn't begun.
-    pub fn unfetched(fault: Fault) -> FetchEnd<S, F>
+    pub(crate) fn unfetched(fault: Fault) -> FetchEnd<S, F>
         ensures outcome { result.outcome ≡ Err fault }
         ensures dump { result.dump ≡ None }
     {
@@ -51,7 +51,7 @@ impl<S: Read, F: Write> FetchEnd<S, F> {
 /// Returns socket and file. Shows its progress on standard error if `shows` says so. Fails with Connect if no connection can be
 /// made and with Out if no file can be made, and then puts out nothing, and says why on standard error, if that is a terminal; else
 /// with Write if the last line can't be put out, with Cut, or with Out. May wait.
-pub fn fetch_port<R, O: Outlet>(
+pub(crate) fn fetch_port<R, O: Outlet>(
     rt: &R,
     port: u16,
     secret: Option<Secret>,

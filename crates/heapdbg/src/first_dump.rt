@@ -16,8 +16,8 @@ use std::fs::Files;
 use std::marker::Brand;
 use std::time::Clock;
 
-// How many refused lines of the session of a dump are reported: of a heap that is too small there may be millions.
-const REPORTED_LINES: u64 = 8;
+/// How many refused lines of the session of a dump are reported: of a heap that is too small there may be millions.
+pub(crate) const REPORTED_LINES: u64 = 8;
 
 /// Runs by these commands the lines of the session of the dump in the file of the path, and returns them as the lines left them.
 /// Reports the first refused lines as `run_first` does, and how many more were refused, and on standard error what of the dump is
@@ -117,8 +117,8 @@ fn commands_left<C: Drop>(
     }
 }
 
-// Returns the fault of a dump whose lines were run until this.
-fn fault_of_load(ended: Ended) -> Fault
+/// Returns the fault of a dump whose lines were run until this.
+pub(crate) fn fault_of_load(ended: Ended) -> Fault
     ensures { result ≡ load_fault ended }
 {
     match ended {

@@ -10,6 +10,7 @@ use crate::first_dump::load_dump;
 use crate::folder::is_folder;
 use crate::reasons::tell_path;
 use crate::request::Request;
+use crate::second_dump::load_dumps;
 use heap_console::load_lines;
 use heapdbg_options::settings::Origin;
 use session_text::{Commands, session_limits};
@@ -18,8 +19,8 @@ use std::fs::Files;
 use std::io::Error;
 use std::time::Clock;
 
-/// Runs by these commands the lines of the file of the path, or of the session of the dump in it, if `origin` says so, and returns
-/// them as the lines left them. Answers are not shown, and each line that is refused is reported on standard error, and if that is
+/// Runs by these commands the lines of the file of the path, or of the session of the dump in it, or of the session of two dumps, if
+/// `origin` says so, and returns them as the lines left them. Answers are not shown, and each line that is refused is reported on standard error, and if that is
 /// a terminal, about once a second how many lines were read, unless the settings are quiet. Fails with Memory, with From if a file
 /// of lines can't be opened or is a folder, and with Hprof as `load_dump` does; why, it says on standard error, if that is a
 /// terminal.
@@ -40,6 +41,7 @@ pub(crate) fn run_first<R: AllocGlobal + Clock + Eprint + Files, C: Commands + D
         Origin::Fresh => Ok(commands),
         Origin::Lines => load(rt, request, is_terminal, commands),
         Origin::Dump => load_dump(rt, request, is_terminal, commands),
+        Origin::Dumps => load_dumps(rt, request, is_terminal, commands),
     }
 }
 

@@ -19,6 +19,7 @@ mod reasons;
 mod request;
 mod run;
 mod save;
+mod second_dump;
 mod secret_file;
 mod serve;
 mod served_heap;

@@ -9,7 +9,7 @@ use session_text::{Local, Machine};
 use std::alloc::Global;
 
 /// Opens the heap that the settings ask for, for one session. Fails with Memory if it can't be allocated.
-pub fn open_local(alloc: Global, settings: &Settings) -> Result<Local, Fault>
+pub(crate) fn open_local(alloc: Global, settings: &Settings) -> Result<Local, Fault>
     requires { IsHeapWithin settings.now }
     ensures opening { IfOk result (λ l. l.machine ≡ opening_machine (limits_of settings.now)
         settings.now.ids settings.now.regions settings.now.mutators settings.now.keep) }

@@ -35,7 +35,7 @@ use std::time::Clock;
 /// Listen, before anything is run, if the port can't be listened on, and with Memory if no thread or no random bytes for the
 /// key can be had. May wait.
 #[tactic(auto, using(crate::proofs::PageHindrances::no_memory_hinders))]
-pub fn explore_with_page<R, I: Inlet, O: Outlet>(
+pub(crate) fn explore_with_page<R, I: Inlet, O: Outlet>(
     rt: &R,
     request: Request<'_>,
     origin: Origin,
@@ -91,9 +91,9 @@ where
         (I.seen reader.old) (I.seen reader.new) (O.seen writer.old) (O.seen writer.new) result }
 {
     let (shared, seats) = blank.open::<L>();
-    let seat = WatchedSeat::new(rt, &shared, only_seat(seats), &screen.console.watch);
-    let mut seat = run_first(rt, request, origin, screen.is_terminal, seat)?;
     let (alloc, time) = (rt.alloc(), request.settings.time);
+    let seat = WatchedSeat::new(alloc, rt, &shared, only_seat(seats), &screen.console.watch);
+    let mut seat = run_first(rt, request, origin, screen.is_terminal, seat)?;
     let limits = session_limits(request.settings.wide);
     let served = serve_beside_page(
         rt, alloc, &shared, page, reader, writer, &mut seat, time, limits,

@@ -1,5 +1,5 @@
 //! The progress of a dump, on a terminal.
-use dump_client::Watcher;
+use dump_client::FetchGauge;
 use heapdbg_options::IdSize;
 use machine_dump::{Gauge, dump_size};
 use session_text::Machine;
@@ -71,7 +71,7 @@ impl<R: Clock + Eprint> ProgressLine<'_, R> {
     }
 }
 
-impl<R: Clock + Eprint> Watcher for ProgressLine<'_, R> {
+impl<R: Clock + Eprint> FetchGauge for ProgressLine<'_, R> {
     fn show(&mut self, bytes: u64) {
         if self.is_due() {
             self.write_line(bytes);
@@ -109,7 +109,7 @@ impl<R: Clock + Eprint> Gauge for TerminalGauge<'_, R> {
     }
 
     fn show(&mut self, bytes: u64) {
-        Watcher::show(&mut self.line, bytes);
+        FetchGauge::show(&mut self.line, bytes);
     }
 
     fn end(&mut self, bytes: u64) {

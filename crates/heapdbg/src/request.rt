@@ -13,6 +13,8 @@ pub struct Request<'a> {
     /// The path of the file of which lines are run first: its own, or those of the session of the dump in it. None if there is
     /// none, or if an allocation failed.
     pub first: Option<&'a str>,
+    /// The path of the second of two dumps. None if there is none, or if an allocation failed.
+    pub second: Option<&'a str>,
     /// The path of the file of the secret. None if the command line names none, or if an allocation failed.
     pub secret: Option<&'a str>,
 }

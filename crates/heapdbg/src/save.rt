@@ -77,7 +77,7 @@ pub struct Destination<P> {
 }
 
 /// Returns the file of a path as a destination. A session fails with Out if the file can't be made.
-pub fn out_file<'a, R: AllocGlobal + Eprint + Files>(
+pub(crate) fn out_file<'a, R: AllocGlobal + Eprint + Files>(
     rt: &'a R,
     path: &'a str,
     is_terminal: bool,
@@ -95,7 +95,7 @@ pub fn out_file<'a, R: AllocGlobal + Eprint + Files>(
 }
 
 /// Returns a port as a destination. A session fails with Connect if no connection can be made.
-pub fn peer<R: AllocGlobal + Eprint + Net>(
+pub(crate) fn peer<R: AllocGlobal + Eprint + Net>(
     rt: &R,
     port: u16,
     is_terminal: bool,

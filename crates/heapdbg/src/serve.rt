@@ -56,7 +56,7 @@ impl ServiceEnd {
 /// `run_first` does if that session can't be run, with Accept if a client could not be accepted, and else with Write if a write
 /// failed. Says on standard error that clients are accepted, or why a port can't be listened on, if that is a terminal. May wait.
 #[tactic(auto, using(crate::proofs::LoadedSeats::end_over_a_heap_is_served, crate::proofs::PageHindrances::page_hinders))]
-pub fn serve_port<R, O: Outlet>(
+pub(crate) fn serve_port<R, O: Outlet>(
     rt: &R,
     request: Request<'_>,
     service: Service,

@@ -2,9 +2,11 @@
 ghost use Rattle.std.specs.Prelude.{◌≡◌, ◌∷◌, IfErr, IfOk, false, length, true};
 ghost use Rattle.session_text.specs.Limits.{session_limits};
 ghost use Rattle.heap_server.specs.Blanks.{IsNamed, seat_model_of};
+ghost use Rattle.heap_server.specs.Calls.{IsLegalLedger};
 ghost use Rattle.heap_server.specs.LockStates.{IsSeatModel};
 ghost use Rattle.heap_server.specs.Role.TheVariants.{User};
 ghost use Rattle.heap_server.specs.Tending.{AreStaff};
+ghost use Rattle.question_grammar.specs.Bookmarks.{no_bookmarks};
 ghost use Rattle.heapdbg.specs.Explorations.{IsHindrance, has_area};
 ghost use Rattle.heapdbg.specs.ServedHeaps.{AreSeatsFor, AreSessionsFrom, AreWorkersLeft, IsHeapServed, IsSeatLoaded};
 
@@ -120,6 +122,7 @@ fn seats_for<L: Heap>(seats: Seats<L>, sessions: u64) -> (Seat<L>, Staff<L>)
     ensures first { result.0.role ≡ User }
     ensures staff { AreStaff sessions (result.1.marker ∷ result.1.sweeper ∷ result.1.users) }
 {
+    // Only the contract uses it.
     let _sessions = sessions;
     let mut users = seats;
     let Some(marker) = users.take() else {
@@ -154,11 +157,26 @@ fn load<L: Heap, R: AllocGlobal + Clock + Eprint + Files + Wait>(
         (has_area request.entry.settings) L.config origin request.entry.settings.time seat) }
     ensures hindrance { IfErr result (IsHindrance origin) }
 {
-    let joined = Joined::new(shared, rt, seat, shared.witness(rt));
-    match run_first(rt, request, origin, is_terminal, AskingSeat::new(joined)) {
+    let commands = asking_from(rt.alloc(), rt, shared, seat);
+    match run_first(rt, request, origin, is_terminal, commands) {
         Ok(asking) => Ok(asking.into_seat()),
         Err(fault) => Err(fault),
     }
+}
+
+// Creates the commands of a seat, which answer questions, too.
+fn asking_from<'a, L: Heap, R: Wait>(
+    alloc: Global,
+    rt: &'a R,
+    shared: &'a Shared<L>,
+    seat: Seat<L>,
+) -> AskingSeat<'a, L, R>
+    requires { seat.role ≡ User }
+    ensures seat { result.seat ≡ seat }
+    ensures legal { IsLegalLedger L.config result.seen }
+    ensures unnamed { result.bookmarks ≡ no_bookmarks }
+{
+    AskingSeat::new(Joined::new(alloc, shared, rt, seat, shared.witness(rt)))
 }
 
 // Says that clients are accepted at a port, if standard error is a terminal.

@@ -44,7 +44,7 @@ use std::{env, io};
 
 /// Reads the command line, and does the task that it asks for between standard input and standard output. At terminals `explore`
 /// prompts, and shows rows in columns. `draw` reports lines that are refused.
-pub fn perform<R>(rt: &R, terminals: Terminals) -> Result<(), Failure>
+pub(crate) fn perform<R>(rt: &R, terminals: Terminals) -> Result<(), Failure>
 where
     R: AllocGlobal + Clock + Env + Eprint + Files + Input + Print,
     R: Net<Listener = TcpListener, Stream = TcpStream> + Threads + Wait + RandomSource,
@@ -140,11 +140,13 @@ where
     let line = line_of_words(alloc, words)?;
     let path = path_of_task(alloc, line.as_slice(), settings.task);
     let first = first_of_task(alloc, line.as_slice(), settings.task);
+    let second = path_option(alloc, line.as_slice(), "then");
     let secret = path_option(alloc, line.as_slice(), "secret");
     let request = Request {
         settings,
         path,
         first,
+        second,
         secret,
     };
     work(rt, request, screen, reader, input, writer)?;
@@ -199,7 +201,7 @@ fn path_of_origin<'a>(alloc: Global, line: &'a [&'a str], origin: Origin) -> Opt
     match origin {
         Origin::Fresh => None,
         Origin::Lines => path_option(alloc, line, "from"),
-        Origin::Dump => path_option(alloc, line, "hprof"),
+        Origin::Dump | Origin::Dumps => path_option(alloc, line, "hprof"),
     }
 }
 

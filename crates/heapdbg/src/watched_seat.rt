@@ -2,6 +2,7 @@
 ghost use Rattle.std.specs.Prelude.{◌≡◌};
 ghost use Rattle.heap_server.specs.Calls.{IsLegalLedger};
 ghost use Rattle.heap_server.specs.Role.TheVariants.{User};
+ghost use Rattle.question_grammar.specs.Bookmarks.{no_bookmarks};
 
 use heap_server::{Action, AskingSeat, Heap, Joined, Reply, Seat, Shared};
 use question_text::Watch;
@@ -31,6 +32,7 @@ impl<'a, L: Heap, R: Wait> Model for WatchedSeat<'a, L, R> {
 impl<'a, L: Heap, R: Wait> WatchedSeat<'a, L, R> {
     /// Creates the commands of a seat.
     pub(crate) fn new(
+        alloc: Global,
         rt: &'a R,
         shared: &'a Shared<L>,
         seat: Seat<L>,
@@ -39,8 +41,9 @@ impl<'a, L: Heap, R: Wait> WatchedSeat<'a, L, R> {
         requires { seat.role ≡ User }
         ensures seat { result.seat ≡ seat }
         ensures legal { IsLegalLedger L.config result.seen }
+        ensures unnamed { result.bookmarks ≡ no_bookmarks }
     {
-        let joined = Joined::new(shared, rt, seat, shared.witness(rt));
+        let joined = Joined::new(alloc, shared, rt, seat, shared.witness(rt));
         WatchedSeat {
             asking: AskingSeat::new(joined),
             shared,

@@ -1,5 +1,5 @@
 -- What the settings are that a command line asks for.
-use Rattle.std.proofs.Common.{◌≡◌, ◌∙◌, ◌<◌, ◌≤◌, ◌^◌, ◌*◌, ℕ, Bool, true, false, ◌&&◌, ◌||◌, cond, List, [], ◌∷◌, Option, Some, None, refl, sym, ap, subst, arith, codes, rules}
+use Rattle.std.proofs.Common.{◌≡◌, ◌∙◌, ◌⊎◌, ◌<◌, ◌≤◌, ◌^◌, ◌*◌, ℕ, Bool, true, false, ◌&&◌, ◌||◌, cond, List, [], ◌∷◌, Option, Some, None, inl, inr, refl, sym, ap, subst, true≢false, arith, codes, rules}
 use Rattle.std.specs.Prelude.{◌==◌, Err, is_some, not, find, drop, length, option_and_then, option_map, nat_le, nat_lt}
 use Rattle.std.specs.List.{list_all}
 use Rattle.std.specs.Option.{option_map_or}
@@ -14,10 +14,10 @@ use Rattle.clap.specs.Words.{Row, Text, first_of, subcommand_of}
 use Rattle.heap_class.specs.declared.IdSize.{IdSize}
 use Rattle.heap_class.specs.declared.IdSize.TheVariants.{Eight}
 use Rattle.heap_world.specs.Limits.{mutator_limit}
-use Rattle.heapdbg_options.specs.CommandLine.{AreNumbersOf, AreSettingsWithin, HasDefaults, IsTask, ask_in, idle_in, idle_limit, idle_of, is_guarded, has_secret, stays_in, stays_of, area_after, area_default, area_in, draw_in, dump_origin, dumps_in, dumps_of, dumps_with, page_beside, page_in, page_of, page_with, explore_in, explore_with, is_dump, is_lines, origin_in, origin_of, own_page, own_task, runs_dump, runs_lines, flag_in, fetch_in, heapdbg_line, id_size_in, id_size_of, is_given, is_task, IsOther, IsThird, keep_after, keep_default, keep_in, most_area, most_kept, most_regions, most_sessions, number_in, number_or, other_port, port_in, port_limit, questions_in, quiet_in, regions_in, rolls_in, save_in, serve_in, serve_with, sessions_in, sessions_of, settings_in, settings_over, settings_under, settings_with, target_in, task_in, third_port, time_limit, option_value, wide_in, workers_in, workers_of, counted_in, option_size, size_or, size_with, text_before, times_in, has_dump, regions_after, regions_default, run_in, usual_keep, wide_default, with_area_in}
+use Rattle.heapdbg_options.specs.CommandLine.{AreNumbersOf, AreSettingsWithin, HasDefaults, IsTask, ask_in, idle_in, idle_limit, idle_of, is_guarded, has_secret, stays_in, stays_of, area_after, area_default, area_in, draw_in, dump_origin, dumps_in, dumps_of, dumps_with, page_beside, page_in, page_of, page_with, explore_in, explore_with, is_dump, is_lines, is_pair, has_second, origin_in, origin_of, own_page, own_task, runs_dump, runs_lines, runs_pair, second_task, flag_in, fetch_in, heapdbg_line, id_size_in, id_size_of, is_given, is_task, IsOther, IsThird, keep_after, keep_default, keep_in, most_area, most_kept, most_regions, most_sessions, number_in, number_or, other_port, port_in, port_limit, questions_in, quiet_in, regions_in, rolls_in, save_in, serve_in, serve_with, sessions_in, sessions_of, settings_in, settings_over, settings_under, settings_with, target_in, task_in, third_port, time_limit, option_value, wide_in, workers_in, workers_of, counted_in, option_size, size_or, size_with, text_before, times_in, has_dump, regions_after, regions_default, run_in, usual_keep, wide_default, with_area_in}
 use Rattle.heapdbg_options.specs.declared.settings.Settings.{Settings}
 use Rattle.heapdbg_options.specs.declared.settings.Origin.{Origin}
-use Rattle.heapdbg_options.specs.declared.settings.Origin.TheVariants.{Fresh, Lines, Dump}
+use Rattle.heapdbg_options.specs.declared.settings.Origin.TheVariants.{Fresh, Lines, Dump, Dumps}
 use Rattle.heapdbg_options.specs.declared.settings.Service.{Service}
 use Rattle.heapdbg_options.specs.declared.settings.Task.{Task}
 use Rattle.heapdbg_options.specs.declared.settings.Task.TheVariants.{Run, Explore, Draw, Save, Serve, Ask, Fetch}
@@ -226,6 +226,8 @@ keep_after_within Fresh w usual within = within
 keep_after_within Lines w usual within = within
 keep_after_within Dump false usual within = (omega arith, omega arith)
 keep_after_within Dump true usual within = (omega arith, omega arith)
+keep_after_within Dumps false usual within = (omega arith, omega arith)
+keep_after_within Dumps true usual within = (omega arith, omega arith)
 
 -- as many steps as can be undone by default may be undone
 default_within : (task : Task) (w : Bool) → (1 ≤ keep_default task w) × (keep_default task w ≤ most_kept w)
@@ -238,6 +240,8 @@ regions_after_within Lines false = (omega arith, omega arith)
 regions_after_within Lines true = (omega arith, omega arith)
 regions_after_within Dump false = (omega arith, omega arith)
 regions_after_within Dump true = (omega arith, omega arith)
+regions_after_within Dumps false = (omega arith, omega arith)
+regions_after_within Dumps true = (omega arith, omega arith)
 
 -- as many regions as there are by default may be there
 default_regions_within : (task : Task) (w : Bool) → (1 ≤ regions_default task w) × (regions_default task w ≤ most_regions w)
@@ -248,6 +252,8 @@ area_after_within Fresh w r = omega arith
 area_after_within Lines w r = omega arith
 area_after_within Dump false r = omega arith
 area_after_within Dump true r = omega arith
+area_after_within Dumps false r = omega arith
+area_after_within Dumps true r = omega arith
 
 -- the area of a dump's heap may be there
 default_area_within : (task : Task) (w : Bool) (r : ℕ) → area_default task w r ≤ most_area w r
@@ -434,6 +440,29 @@ own_task_is_legal : (first : Option Origin) (page : Option Text) (task : Task) �
 own_task_is_legal None page task e = cc
 own_task_is_legal (Some origin) page task e = own_page_task_is_legal origin page task e
 
+-- what the task of `explore` has, and the same task after the session of two dumps, is what its task with a second dump or without has
+task_of_two_has : (P : Task → Type 0) (t task : Task) → ((page : Option ℕ) → t ≡ Explore Dump page → P (Explore Dumps page)) → second_task true t ≡ Some task → P task
+task_of_two_has P (Explore Dump page) task two e = let same : Explore Dumps page ≡ task = cc in subst P same (two page refl)
+task_of_two_has P (Explore Fresh page) task two e = cc
+task_of_two_has P (Explore Lines page) task two e = cc
+task_of_two_has P (Explore Dumps page) task two e = cc
+task_of_two_has P (Run origin) task two e = cc
+task_of_two_has P (Draw origin) task two e = cc
+task_of_two_has P (Save target) task two e = cc
+task_of_two_has P (Serve service) task two e = cc
+task_of_two_has P (Ask port secret) task two e = cc
+task_of_two_has P (Fetch port secret) task two e = cc
+
+second_task_has : (P : Task → Type 0) (second : Bool) (o : Option Task) (task : Task) → ((t : Task) → o ≡ Some t → P t) → ((page : Option ℕ) → second ≡ true → o ≡ Some (Explore Dump page) → P (Explore Dumps page))
+    → option_and_then (second_task second) o ≡ Some task → P task
+second_task_has P second None task one two e = cc
+second_task_has P false (Some t) task one two e = let same : t ≡ task = cc in subst P same (one t refl)
+second_task_has P true (Some t) task one two e = task_of_two_has P t task (λ page is. two page refl (ap Some is)) e
+
+dumps_as_dump : (page : Option ℕ) → IsTask (Explore Dump page) → IsTask (Explore Dumps page)
+dumps_as_dump None legal = tt
+dumps_as_dump (Some page) legal = legal
+
 explore_within : (from hprof page port : Option Text) (secret : Bool) (task : Task) → explore_with from hprof page port secret ≡ Some task → IsTask task
 explore_within from hprof page None false task e = own_task_is_legal (origin_in (is_some from) (is_some hprof)) page task e
 explore_within from hprof page None true task e = cc
@@ -450,7 +479,10 @@ explore_within None None None (Some text) secret task e = go (number_in 1 port_l
 
 task_within : (runs explores draws saves serves asks fetches : Bool) (rows : List Row) (task : Task) → task_by_flags_and_rows runs explores draws saves serves asks fetches rows ≡ Some task → IsTask task
 task_within true explores draws saves serves asks fetches rows task e = let same : Run (dump_origin (has_dump rows)) ≡ task = cc in subst IsTask same tt
-task_within false true draws saves serves asks fetches rows task e = explore_within (first_of (codes "from") rows) (first_of (codes "hprof") rows) (first_of (codes "page") rows) (first_of (codes "port") rows) (has_secret rows) task e
+task_within false true draws saves serves asks fetches rows task e =
+    second_task_has IsTask (has_second rows) (explore_with (first_of (codes "from") rows) (first_of (codes "hprof") rows) (first_of (codes "page") rows) (first_of (codes "port") rows) (has_secret rows)) task
+    (λ t is. explore_within (first_of (codes "from") rows) (first_of (codes "hprof") rows) (first_of (codes "page") rows) (first_of (codes "port") rows) (has_secret rows) t is)
+    (λ page second is. dumps_as_dump page (explore_within (first_of (codes "from") rows) (first_of (codes "hprof") rows) (first_of (codes "page") rows) (first_of (codes "port") rows) (has_secret rows) (Explore Dump page) is)) e
 task_within false false true saves serves asks fetches rows task e = let same : Draw (dump_origin (has_dump rows)) ≡ task = cc in subst IsTask same tt
 task_within false false false true serves asks fetches rows task e = save_within (first_of (codes "out") rows) (first_of (codes "to") rows) task e
 task_within false false false false true asks fetches rows task e = serve_within rows task e
@@ -542,12 +574,37 @@ explore_has P None None None (Some text) secret task one other e = go (number_in
     go None h = cc
     go (Some n) h = let same : Ask n secret ≡ task = cc in subst P same (other n)
 
+-- a dump that is run first is given, and the page is the task's
+dump_has_page : (from hprof page port : Option Text) (secret : Bool) (p : Option ℕ) → explore_with from hprof page port secret ≡ Some (Explore Dump p) → (is_some hprof ≡ true) × (own_page page ≡ Some p)
+dump_has_page from hprof page port secret p e = explore_has (λ t. (q : Option ℕ) → t ≡ Explore Dump q → (is_some hprof ≡ true) × (own_page page ≡ Some q)) from hprof page port secret (Explore Dump p) one (λ n q is. cc) e p refl
+  where
+    given : (from hprof : Bool) → origin_in from hprof ≡ Some Dump → hprof ≡ true
+    given from true is = refl
+    given false false is = cc
+    given true false is = cc
+
+    one : (origin : Origin) (r : Option ℕ) → origin_in (is_some from) (is_some hprof) ≡ Some origin → own_page page ≡ Some r → (q : Option ℕ) → Explore origin r ≡ Explore Dump q → (is_some hprof ≡ true) × (own_page page ≡ Some q)
+    one origin r is at q same = (given (is_some from) (is_some hprof) (let first : origin ≡ Dump = cc in is ∙ ap Some first), let last : r ≡ q = cc in at ∙ ap Some last)
+
+-- what is run first in `explore`: what one of the two options says, or the session of two dumps, if both are given
+abbrev IsExploreOrigin : List Row → Origin → Type 0
+IsExploreOrigin rows origin =
+    (origin_in (is_some (first_of (codes "from") rows)) (is_some (first_of (codes "hprof") rows)) ≡ Some origin)
+    ⊎ ((origin ≡ Dumps) × (is_some (first_of (codes "hprof") rows) ≡ true) × (has_second rows ≡ true))
+
 -- what a task of no served heap has, and what a served heap has, is what each task has
 each_task_has_property : (P : Task → Type 0) (runs explores draws saves serves asks fetches : Bool) (rows : List Row) (task : Task) → P (Run (dump_origin (has_dump rows)))
-    → ((origin : Origin) (p : Option ℕ) → origin_in (is_some (first_of (codes "from") rows)) (is_some (first_of (codes "hprof") rows)) ≡ Some origin → own_page (first_of (codes "page") rows) ≡ Some p → P (Explore origin p)) → P (Draw (dump_origin (has_dump rows))) → ((target : Target) → P (Save target))
+    → ((origin : Origin) (p : Option ℕ) → IsExploreOrigin rows origin → own_page (first_of (codes "page") rows) ≡ Some p → P (Explore origin p)) → P (Draw (dump_origin (has_dump rows))) → ((target : Target) → P (Save target))
     → ((port : ℕ) → P (Ask port (has_secret rows))) → ((port : ℕ) → P (Fetch port (has_secret rows))) → (serve_in rows ≡ Some task → P task) → task_by_flags_and_rows runs explores draws saves serves asks fetches rows ≡ Some task → P task
 each_task_has_property P true explores draws saves serves asks fetches rows task run explore draw save ask fetch serve e = let same : Run (dump_origin (has_dump rows)) ≡ task = cc in subst P same run
-each_task_has_property P false true draws saves serves asks fetches rows task run explore draw save ask fetch serve e = explore_has P (first_of (codes "from") rows) (first_of (codes "hprof") rows) (first_of (codes "page") rows) (first_of (codes "port") rows) (has_secret rows) task explore ask e
+each_task_has_property P false true draws saves serves asks fetches rows task run explore draw save ask fetch serve e =
+    let from = first_of (codes "from") rows in
+    let hprof = first_of (codes "hprof") rows in
+    let page = first_of (codes "page") rows in
+    let port = first_of (codes "port") rows in
+    second_task_has P (has_second rows) (explore_with from hprof page port (has_secret rows)) task
+    (λ t is. explore_has P from hprof page port (has_secret rows) t (λ origin p first at. explore origin p (inl first) at) ask is)
+    (λ p second is. let own = dump_has_page from hprof page port (has_secret rows) p is in explore Dumps p (inr (refl, own.0, second)) own.1) e
 each_task_has_property P false false true saves serves asks fetches rows task run explore draw save ask fetch serve e = let same : Draw (dump_origin (has_dump rows)) ≡ task = cc in subst P same draw
 each_task_has_property P false false false true serves asks fetches rows task run explore draw save ask fetch serve e = go (target_in (first_of (codes "out") rows) (first_of (codes "to") rows)) e
   where
@@ -606,6 +663,30 @@ ungiven_dump_is_unread from true origin none e = cc
 ungiven_file_is_unread : (given : Option Text) → given ≡ None → is_some given ≡ false
 ungiven_file_is_unread None none = refl
 ungiven_file_is_unread (Some path) none = cc
+
+-- so it is in `explore`
+explored_lines_are_given : (rows : List Row) (origin : Origin) → is_some (first_of (codes "from") rows) ≡ false → IsExploreOrigin rows origin → is_lines origin ≡ false
+explored_lines_are_given rows origin none (inl is) = ungiven_lines_are_unread (is_some (first_of (codes "from") rows)) (is_some (first_of (codes "hprof") rows)) origin none is
+explored_lines_are_given rows origin none (inr h) = ap is_lines h.0
+
+explored_dump_is_given : (rows : List Row) (origin : Origin) → is_some (first_of (codes "hprof") rows) ≡ false → IsExploreOrigin rows origin → is_dump origin ≡ false
+explored_dump_is_given rows origin none (inl is) = ungiven_dump_is_unread (is_some (first_of (codes "from") rows)) (is_some (first_of (codes "hprof") rows)) origin none is
+explored_dump_is_given rows origin none (inr h) = absurd (true≢false (sym h.1 ∙ none))
+
+-- where no second dump is given, the session of two is not run first
+one_dump_is_no_pair : (from hprof : Bool) (origin : Origin) → origin_in from hprof ≡ Some origin → is_pair origin ≡ false
+one_dump_is_no_pair false false origin e = let same : Fresh ≡ origin = cc in subst (λ o. is_pair o ≡ false) same refl
+one_dump_is_no_pair true false origin e = let same : Lines ≡ origin = cc in subst (λ o. is_pair o ≡ false) same refl
+one_dump_is_no_pair false true origin e = let same : Dump ≡ origin = cc in subst (λ o. is_pair o ≡ false) same refl
+one_dump_is_no_pair true true origin e = cc
+
+explored_pair_is_given : (rows : List Row) (origin : Origin) → has_second rows ≡ false → IsExploreOrigin rows origin → is_pair origin ≡ false
+explored_pair_is_given rows origin none (inl is) = one_dump_is_no_pair (is_some (first_of (codes "from") rows)) (is_some (first_of (codes "hprof") rows)) origin is
+explored_pair_is_given rows origin none (inr h) = absurd (true≢false (sym h.2 ∙ none))
+
+session_of_a_dump_is_no_pair : (dump : Bool) → is_pair (dump_origin dump) ≡ false
+session_of_a_dump_is_no_pair false = refl
+session_of_a_dump_is_no_pair true = refl
 
 -- the session of a dump is no file of lines
 dump_session_is_no_file : (dump : Bool) → is_lines (dump_origin dump) ≡ false
@@ -680,11 +761,14 @@ defaults_of words s e =
           refl (λ origin p is at. default_own (first_of (codes "page") rows) p (unnamed_option_has_no_row (codes "page") words asked.found refl asked.is asked.named other) at) refl (λ target. refl) (λ port. refl) (λ port. refl)
           (λ is. default_page rows s.task (unnamed_option_has_no_row (codes "page") words asked.found refl asked.is asked.named other) is) asked.task;
       from = λ other. each_task_has_property (λ t. runs_lines t ≡ false) (bytes_eq name (codes "run")) (bytes_eq name (codes "explore")) (bytes_eq name (codes "draw")) (bytes_eq name (codes "save")) (bytes_eq name (codes "serve")) (bytes_eq name (codes "ask")) (bytes_eq name (codes "fetch")) rows s.task
-          (dump_session_is_no_file (has_dump rows)) (λ origin p is at. ungiven_lines_are_unread (is_some (first_of (codes "from") rows)) (is_some (first_of (codes "hprof") rows)) origin (ungiven_file_is_unread (first_of (codes "from") rows) (unnamed_option_has_no_row (codes "from") words asked.found refl asked.is asked.named other)) is) (dump_session_is_no_file (has_dump rows)) (λ target. refl) (λ port. refl) (λ port. refl)
+          (dump_session_is_no_file (has_dump rows)) (λ origin p is at. explored_lines_are_given rows origin (ungiven_file_is_unread (first_of (codes "from") rows) (unnamed_option_has_no_row (codes "from") words asked.found refl asked.is asked.named other)) is) (dump_session_is_no_file (has_dump rows)) (λ target. refl) (λ port. refl) (λ port. refl)
           (λ is. let served = serve_rows_make_task rows s.task is in by_service runs_lines rows s.task served false (ap is_lines (sym served.origin) ∙ dump_session_is_no_file (has_dump rows))) asked.task;
       hprof = λ other. each_task_has_property (λ t. runs_dump t ≡ false) (bytes_eq name (codes "run")) (bytes_eq name (codes "explore")) (bytes_eq name (codes "draw")) (bytes_eq name (codes "save")) (bytes_eq name (codes "serve")) (bytes_eq name (codes "ask")) (bytes_eq name (codes "fetch")) rows s.task
-          (no_dump_given_none_run rows (unnamed_option_has_no_row (codes "hprof") words asked.found refl asked.is asked.named other)) (λ origin p is at. ungiven_dump_is_unread (is_some (first_of (codes "from") rows)) (is_some (first_of (codes "hprof") rows)) origin (ungiven_file_is_unread (first_of (codes "hprof") rows) (unnamed_option_has_no_row (codes "hprof") words asked.found refl asked.is asked.named other)) is) (no_dump_given_none_run rows (unnamed_option_has_no_row (codes "hprof") words asked.found refl asked.is asked.named other)) (λ target. refl) (λ port. refl) (λ port. refl)
+          (no_dump_given_none_run rows (unnamed_option_has_no_row (codes "hprof") words asked.found refl asked.is asked.named other)) (λ origin p is at. explored_dump_is_given rows origin (ungiven_file_is_unread (first_of (codes "hprof") rows) (unnamed_option_has_no_row (codes "hprof") words asked.found refl asked.is asked.named other)) is) (no_dump_given_none_run rows (unnamed_option_has_no_row (codes "hprof") words asked.found refl asked.is asked.named other)) (λ target. refl) (λ port. refl) (λ port. refl)
           (λ is. let served = serve_rows_make_task rows s.task is in by_service runs_dump rows s.task served false (ap is_dump (sym served.origin) ∙ no_dump_given_none_run rows (unnamed_option_has_no_row (codes "hprof") words asked.found refl asked.is asked.named other))) asked.task;
+      second = λ other. each_task_has_property (λ t. runs_pair t ≡ false) (bytes_eq name (codes "run")) (bytes_eq name (codes "explore")) (bytes_eq name (codes "draw")) (bytes_eq name (codes "save")) (bytes_eq name (codes "serve")) (bytes_eq name (codes "ask")) (bytes_eq name (codes "fetch")) rows s.task
+          (session_of_a_dump_is_no_pair (has_dump rows)) (λ origin p is at. explored_pair_is_given rows origin (ungiven_file_is_unread (first_of (codes "then") rows) (unnamed_option_has_no_row (codes "then") words asked.found refl asked.is asked.named other)) is) (session_of_a_dump_is_no_pair (has_dump rows)) (λ target. refl) (λ port. refl) (λ port. refl)
+          (λ is. let served = serve_rows_make_task rows s.task is in by_service runs_pair rows s.task served false (ap is_pair (sym served.origin) ∙ session_of_a_dump_is_no_pair (has_dump rows))) asked.task;
       idle = λ other. each_task_has_property (λ t. idle_of t ≡ 0) (bytes_eq name (codes "run")) (bytes_eq name (codes "explore")) (bytes_eq name (codes "draw")) (bytes_eq name (codes "save")) (bytes_eq name (codes "serve")) (bytes_eq name (codes "ask")) (bytes_eq name (codes "fetch")) rows s.task
           refl (λ origin p is at. refl) refl (λ target. refl) (λ port. refl) (λ port. refl)
           (λ is. let served = serve_rows_make_task rows s.task is in by_service idle_of rows s.task served 0 (ungiven_number_is_default (codes "idle") 0 1 idle_limit words asked.found served.service.idle refl asked.is asked.named served.idle other)) asked.task;

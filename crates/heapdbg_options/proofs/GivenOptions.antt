@@ -8,13 +8,16 @@ use Rattle.clap.specs.Words.{App, FailsBy, HasMatchesOf, Row, Text, fault_of, fi
 use Rattle.clap.specs.declared.error.Error.{Error}
 use Rattle.clap.specs.declared.parser.matches.ArgMatches.{ArgMatches}
 use Rattle.clap.specs.declared.parser.matches.Found.{Found}
-use Rattle.heapdbg_options.specs.CommandLine.{area_default, area_in, explore_in, has_secret, heapdbg_line, id_size_in, keep_default, keep_in, most_area, most_kept, number_in, option_value, path_of, port_limit, questions_in, regions_in, rolls_in, settings_over, settings_with, size_or, time_limit, wide_in, with_area_in}
+use Rattle.heapdbg_options.specs.CommandLine.{area_default, area_in, explore_in, explore_with, has_second, has_secret, heapdbg_line, id_size_in, keep_default, keep_in, most_area, most_kept, number_in, option_value, own_page, path_of, port_limit, questions_in, regions_in, rolls_in, second_task, settings_over, settings_with, size_or, time_limit, wide_in, with_area_in}
 use Rattle.heap_class.specs.declared.IdSize.{IdSize}
 use Rattle.heap_world.specs.Limits.{mutator_limit}
-use Rattle.heapdbg_options.specs.Refusals.{IsExploreMistake, IsExploreOrMistake, IsMistakeIn, IsNoSize, IsOutside, area_mistake, keep_mistake, IsTargetMistake, IsTaskOrMistake}
+use Rattle.heapdbg_options.specs.Refusals.{IsExploreMistake, IsExploreOrMistake, IsMistakeIn, IsNoSize, IsOutside, area_mistake, keep_mistake, IsTargetMistake, IsTaskOrMistake, IsValueOrMistake}
 use Rattle.heapdbg_options.specs.declared.refusal.Mistake.{Mistake}
+use Rattle.heapdbg_options.specs.declared.refusal.Mistake.TheVariants.{Second}
+use Rattle.heapdbg_options.specs.declared.settings.Origin.TheVariants.{Dump, Dumps}
 use Rattle.heapdbg_options.specs.declared.settings.Settings.{Settings}
 use Rattle.heapdbg_options.specs.declared.settings.Task.{Task}
+use Rattle.heapdbg_options.specs.declared.settings.Task.TheVariants.{Explore}
 
 -- ---- what is told of options
 
@@ -55,6 +58,47 @@ source_mistake_is_in_rows m rows (inr (inr (inl h))) = subst (λ x. IsMistakeIn 
 source_mistake_is_in_rows m rows (inr (inr (inr (inl h)))) = subst (λ x. IsMistakeIn x rows) (sym h.0) (inr (inr (inr (inl (refl, h.1, h.2)))))
 source_mistake_is_in_rows m rows (inr (inr (inr (inr h)))) = subst (λ x. IsMistakeIn x rows) (sym h.0) (h.1, h.2)
 
+-- the task of the options of `explore`, whether or not a second dump is given
+abbrev pub first_task_in : List Row → Option Task
+first_task_in rows =
+    explore_with (first_of (codes "from") rows) (first_of (codes "hprof") rows) (first_of (codes "page") rows) (first_of (codes "port") rows) (has_secret rows)
+
+-- where a second dump can't be given, no first is
+no_second_where_no_first : (from hprof page port : Option Text) (secret : Bool) (task : Task) → explore_with from hprof page port secret ≡ Some task → second_task true task ≡ None → is_some hprof ≡ false
+no_second_where_no_first from None page port secret task e none = refl
+no_second_where_no_first None (Some path) page (Some text) secret task e none = cc
+no_second_where_no_first (Some file) (Some path) page (Some text) secret task e none = cc
+no_second_where_no_first from (Some path) page None true task e none = cc
+no_second_where_no_first (Some file) (Some path) page None false task e none = cc
+no_second_where_no_first None (Some path) page None false task e none = go (own_page page) e
+  where
+    two : (t : Task) (p : Option ℕ) → Explore Dump p ≡ t → second_task true t ≡ Some (Explore Dumps p)
+    two t p same = ap (second_task true) (sym same)
+
+    go : (o : Option (Option ℕ)) → option_map (λ p. Explore Dump p) o ≡ Some task → true ≡ false
+    go None h = cc
+    go (Some p) h = let same : Explore Dump p ≡ task = cc in let both : Some (Explore Dumps p) ≡ None = sym (two task p same) ∙ none in cc
+
+-- the task after a second dump, or the mistake in that, is that of the rows
+pub second_task_from_rows : (rows : List Row) (task : Task) (second : Bool) (result : Result Task Mistake) → first_task_in rows ≡ Some task → second ≡ has_second rows
+    → IsValueOrMistake (second_task second task) (λ m. (m ≡ Second) × (second ≡ true)) result → IsTaskOrMistake explore_in rows result
+second_task_from_rows rows task second result first is h = go result (subst (λ b. IsValueOrMistake (second_task b task) (λ m. (m ≡ Second) × (b ≡ true)) result) is h)
+  where
+    read : explore_in rows ≡ second_task (has_second rows) task
+    read = ap (option_and_then (second_task (has_second rows))) first
+
+    none_for : (b : Bool) → b ≡ true → second_task b task ≡ None → second_task true task ≡ None
+    none_for b is none = ap (λ (x : Bool). second_task x task) (sym is) ∙ none
+
+    go : (r : Result Task Mistake) → IsValueOrMistake (second_task (has_second rows) task) (λ m. (m ≡ Second) × (has_second rows ≡ true)) r → IsTaskOrMistake explore_in rows r
+    go (Ok t) made = (read ∙ made.0, tt)
+    go (Err m) made =
+        (tt, (read ∙ made.1.0, subst (λ x. IsMistakeIn x rows) (sym made.1.1.0) (made.1.1.1, no_second_where_no_first (first_of (codes "from") rows) (first_of (codes "hprof") rows) (first_of (codes "page") rows) (first_of (codes "port") rows) (has_secret rows) task first (none_for (has_second rows) made.1.1.1 made.1.0))))
+
+-- a mistake in the other options is one of the rows
+pub first_mistake_is_in_rows : (rows : List Row) (m : Mistake) → IsTaskOrMistake first_task_in rows (Err m) → IsTaskOrMistake explore_in rows (Err m)
+first_mistake_is_in_rows rows m made = (tt, (ap (option_and_then (second_task (has_second rows))) made.1.0, made.1.1))
+
 -- the texts of the options of `explore` are those of their rows
 abbrev pub AreExploreTexts : Found → Option Text → Option Text → Option Text → Option Text → Type 0
 AreExploreTexts found from hprof page port =
@@ -62,7 +106,7 @@ AreExploreTexts found from hprof page port =
 
 -- its task, or a mistake in them, is that of the rows
 pub explore_task_from_rows : (found : Found) (from hprof page port : Option Text) (secret : Bool) (result : Result Task Mistake) → AreExploreTexts found from hprof page port → secret ≡ has_secret (rows_of found) → IsExploreOrMistake from hprof page port secret result
-    → IsTaskOrMistake explore_in (rows_of found) result
+    → IsTaskOrMistake first_task_in (rows_of found) result
 explore_task_from_rows found from hprof page port secret result texts guarded h =
     of_rows result
     (subst (λ b. IsExploreOrMistake (first_of (codes "from") (rows_of found)) (first_of (codes "hprof") (rows_of found)) (first_of (codes "page") (rows_of found)) (first_of (codes "port") (rows_of found)) b result) guarded
@@ -72,7 +116,7 @@ explore_task_from_rows found from hprof page port secret result texts guarded h 
     (subst (λ o. IsExploreOrMistake from hprof page o secret result) (texts.3 ∙ first_value-rows found (codes "port")) h)))))
   where
     of_rows : (r : Result Task Mistake) → IsExploreOrMistake (first_of (codes "from") (rows_of found)) (first_of (codes "hprof") (rows_of found)) (first_of (codes "page") (rows_of found)) (first_of (codes "port") (rows_of found)) (has_secret (rows_of found)) r
-        → IsTaskOrMistake explore_in (rows_of found) r
+        → IsTaskOrMistake first_task_in (rows_of found) r
     of_rows (Ok task) made = (made.0, tt)
     of_rows (Err m) made = (tt, (made.1.0, source_mistake_is_in_rows m (rows_of found) made.1.1))
 

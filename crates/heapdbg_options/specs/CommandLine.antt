@@ -16,7 +16,7 @@ use Rattle.heap_world.specs.RegionLimits.{region_limit}
 use Rattle.heap_world.specs.Limits.{AreHeapSettings, AreNarrowSettings, keep_limit, mutator_limit, narrow_keep, narrow_limits, narrow_regions, wide_limits, with_area}
 use Rattle.heap_world.specs.declared.Limits.{Limits}
 use Rattle.heapdbg_options.specs.declared.settings.Origin.{Origin}
-use Rattle.heapdbg_options.specs.declared.settings.Origin.TheVariants.{Fresh, Lines, Dump}
+use Rattle.heapdbg_options.specs.declared.settings.Origin.TheVariants.{Fresh, Lines, Dump, Dumps}
 use Rattle.heapdbg_options.specs.declared.settings.Service.{Service}
 use Rattle.heapdbg_options.specs.declared.settings.Task.{Task}
 use Rattle.heapdbg_options.specs.declared.settings.Task.TheVariants.{Run, Explore, Draw, Save, Serve, Ask, Fetch}
@@ -93,8 +93,10 @@ explore_line =
     with_rule
     (with_rule
     (with_rule
+    (with_rule
     (with_rule (with_rule (session_line (codes "explore")) (value_option (codes "from")))
     dump_option)
+    (value_option (codes "then")))
     (value_option (codes "port")))
     (value_option (codes "page")))
     secret_option
@@ -186,11 +188,11 @@ number_or default least most (Some text) = number_in least most text
 abbrev pub option_value : Text → ℕ → ℕ → ℕ → List Row → Option ℕ
 option_value name default least most rows = number_or default least most (first_of name rows)
 
--- the text before this ending, if it ends so
+-- the text before this suffix, if it ends in it
 abbrev pub text_before : Text → Text → Option Text
-text_before ending text =
-    let front = take (length text - length ending) text in
-    if bytes_eq text (front ++ ending) then Some front else None
+text_before suffix text =
+    let front = take (length text - length suffix) text in
+    if bytes_eq text (front ++ suffix) then Some front else None
 
 -- this number of times a number, if that lies from least to most
 abbrev pub times_in : ℕ → ℕ → ℕ → ℕ → Option ℕ
@@ -313,6 +315,7 @@ abbrev pub keep_after : Origin → ℕ → ℕ
 keep_after Fresh usual = usual
 keep_after Lines usual = usual
 keep_after Dump usual = narrow_keep
+keep_after Dumps usual = narrow_keep
 
 -- the number of a task's steps that can be undone, if the option is not given
 abbrev pub keep_default : Task → Bool → ℕ
@@ -323,6 +326,7 @@ abbrev pub regions_after : Origin → Bool → ℕ
 regions_after Fresh wide = 16
 regions_after Lines wide = 16
 regions_after Dump wide = most_regions wide
+regions_after Dumps wide = most_regions wide
 
 -- the number of a task's regions, if the option is not given
 abbrev pub regions_default : Task → Bool → ℕ
@@ -347,6 +351,7 @@ abbrev pub area_after : Origin → Bool → ℕ → ℕ
 area_after Fresh wide regions = 0
 area_after Lines wide regions = 0
 area_after Dump wide regions = if wide then regions / 4 else 0
+area_after Dumps wide regions = if wide then regions / 4 else 0
 
 -- the regions of the area of a task's heap, if the option is not given
 abbrev pub area_default : Task → Bool → ℕ → ℕ
@@ -429,11 +434,22 @@ explore_with (Some path) hprof page (Some text) secret = None
 explore_with None (Some path) page (Some text) secret = None
 explore_with None None (Some page) (Some text) secret = None
 
+-- a second dump is given
+abbrev pub has_second : List Row → Bool
+has_second rows = is_some (first_of (codes "then") rows)
+
+-- this task, but after the session of two dumps in place of that of one, if a second is given; none, if no dump is run first
+abbrev pub second_task : Bool → Task → Option Task
+second_task false task = Some task
+second_task true (Explore Dump page) = Some (Explore Dumps page)
+second_task true _ = None
+
 -- the task of the options of `explore`
 abbrev pub explore_in : List Row → Option Task
 explore_in rows =
-    explore_with (first_of (codes "from") rows) (first_of (codes "hprof") rows)
-    (first_of (codes "page") rows) (first_of (codes "port") rows) (has_secret rows)
+    option_and_then (second_task (has_second rows))
+    (explore_with (first_of (codes "from") rows) (first_of (codes "hprof") rows)
+    (first_of (codes "page") rows) (first_of (codes "port") rows) (has_secret rows))
 
 -- the target of a dump: one of the two options is given, and a port has to be one
 abbrev pub target_in : Option Text → Option Text → Option Target
@@ -682,20 +698,33 @@ abbrev pub is_lines : Origin → Bool
 is_lines Fresh = false
 is_lines Lines = true
 is_lines Dump = false
+is_lines Dumps = false
 
--- this is the session of a dump
+-- this is the session of a dump, or of two
 abbrev pub is_dump : Origin → Bool
 is_dump Fresh = false
 is_dump Lines = false
 is_dump Dump = true
+is_dump Dumps = true
+
+-- this is the session of two dumps
+abbrev pub is_pair : Origin → Bool
+is_pair Fresh = false
+is_pair Lines = false
+is_pair Dump = false
+is_pair Dumps = true
 
 -- the lines of a file are run first
 abbrev pub runs_lines : Task → Bool
 runs_lines task = is_lines (origin_of task)
 
--- the session of a dump is run first
+-- the session of a dump is run first, or of two
 abbrev pub runs_dump : Task → Bool
 runs_dump task = is_dump (origin_of task)
+
+-- the session of two dumps is run first
+abbrev pub runs_pair : Task → Bool
+runs_pair task = is_pair (origin_of task)
 
 -- an option that no word names has its default
 pub record HasDefaults (words : List Text) (s : Settings) : Type 0 where
@@ -713,6 +742,7 @@ pub record HasDefaults (words : List Text) (s : Settings) : Type 0 where
   pub workers : is_given (codes "workers") words ≡ false → workers_of s.task ≡ 0
   pub from : is_given (codes "from") words ≡ false → runs_lines s.task ≡ false
   pub hprof : is_given (codes "hprof") words ≡ false → runs_dump s.task ≡ false
+  pub second : is_given (codes "then") words ≡ false → runs_pair s.task ≡ false
   pub dumps : is_given (codes "dumps") words ≡ false → dumps_of s.task ≡ None
   pub page : is_given (codes "page") words ≡ false → page_of s.task ≡ None
   pub idle : is_given (codes "idle") words ≡ false → idle_of s.task ≡ 0

@@ -6,9 +6,9 @@ use Rattle.clap.specs.Words.{IsAmong, Row, Text, fault_of, first_of, subcommand_
 use Rattle.clap.specs.declared.error.kind.ErrorKind.{ErrorKind}
 use Rattle.clap.specs.declared.error.kind.ErrorKind.TheVariants.{DisplayHelp, DisplayVersion, OutOfMemory}
 use Rattle.heap_world.specs.Limits.{mutator_limit}
-use Rattle.heapdbg_options.specs.CommandLine.{dumps_with, explore_with, has_secret, heapdbg_line, id_size_in, idle_in, is_task, most_area, most_kept, most_regions, number_in, page_with, port_in, port_limit, questions_in, quiet_in, regions_in, rolls_in, sessions_in, settings_of, stays_in, option_value, size_in, time_limit, wide_in, workers_in}
+use Rattle.heapdbg_options.specs.CommandLine.{dumps_with, explore_with, has_second, has_secret, heapdbg_line, id_size_in, idle_in, is_task, most_area, most_kept, most_regions, number_in, page_with, port_in, port_limit, questions_in, quiet_in, regions_in, rolls_in, sessions_in, settings_of, stays_in, option_value, size_in, time_limit, wide_in, workers_in}
 use Rattle.heapdbg_options.specs.declared.refusal.Mistake.{Mistake}
-use Rattle.heapdbg_options.specs.declared.refusal.Mistake.TheVariants.{Command, Wide, Regions, WideRegions, Area, WideArea, Mutators, Keep, WideKeep, Time, Ids, Port, Sessions, Workers, Questions, Roll, Quiet, Dumps, Page, Idle, Stay, To, Place, Origin, Source, OwnPage, Secret}
+use Rattle.heapdbg_options.specs.declared.refusal.Mistake.TheVariants.{Command, Wide, Regions, WideRegions, Area, WideArea, Mutators, Keep, WideKeep, Time, Ids, Port, Sessions, Workers, Questions, Roll, Quiet, Dumps, Page, Idle, Stay, To, Place, Origin, Source, OwnPage, Secret, Second}
 use Rattle.heapdbg_options.specs.declared.settings.LineFault.{LineFault}
 use Rattle.heapdbg_options.specs.declared.settings.LineFault.TheVariants.{Bad, CommandText, Memory, OptionText}
 use Rattle.heapdbg_options.specs.declared.settings.Task.{Task}
@@ -81,6 +81,7 @@ IsMistakeIn Source rows =
 IsMistakeIn Secret rows =
     IsExploreMistake Secret (first_of (codes "from") rows) (first_of (codes "hprof") rows)
     (first_of (codes "page") rows) (first_of (codes "port") rows) (has_secret rows)
+IsMistakeIn Second rows = (has_second rows ≡ true) × (is_some (first_of (codes "hprof") rows) ≡ false)
 IsMistakeIn OwnPage rows = IsOutside 1 port_limit (first_of (codes "page") rows)
 IsMistakeIn Idle rows = idle_in rows ≡ None
 IsMistakeIn Stay rows = stays_in rows ≡ None
@@ -163,6 +164,7 @@ mistake_of Origin = codes "explore takes --from without --hprof"
 mistake_of Source = codes "explore takes --port without --from, --hprof and --page"
 mistake_of OwnPage = codes "--page takes 1 to 65535"
 mistake_of Secret = codes "explore takes --secret with --port alone"
+mistake_of Second = codes "explore takes --then with --hprof alone"
 
 -- the whole text of a mistake
 abbrev pub text_of_mistake : Mistake → Text

@@ -241,7 +241,7 @@ fn regions_after(origin: Origin, wide: bool) -> u64
 {
     match origin {
         Origin::Fresh | Origin::Lines => 16,
-        Origin::Dump => most_regions(wide),
+        Origin::Dump | Origin::Dumps => most_regions(wide),
     }
 }
 
@@ -293,11 +293,11 @@ fn size(text: &str, least: u64, most: u64) -> Option<u64>
     }
 }
 
-// Returns the text before an ending, or None if it doesn't end so.
-fn text_before<'a>(text: &'a str, ending: &str) -> Option<&'a str>
-    ensures { option_map (λ front. front.now) result ≡ text_before ending.now text.now }
+// Returns the text before a suffix, or None if the text doesn't end in it.
+fn text_before<'a>(text: &'a str, suffix: &str) -> Option<&'a str>
+    ensures { option_map (λ front. front.now) result ≡ text_before suffix.now text.now }
 {
-    text.strip_suffix(ending)
+    text.strip_suffix(suffix)
 }
 
 // Returns `times` times the number that a text of digits alone writes, or None if that isn't from `least` to `most` or the text is
@@ -339,7 +339,7 @@ fn keep_after(origin: Origin, usual: u64) -> u64
 {
     match origin {
         Origin::Fresh | Origin::Lines => usual,
-        Origin::Dump => NARROW_KEEP,
+        Origin::Dump | Origin::Dumps => NARROW_KEEP,
     }
 }
 
@@ -424,7 +424,7 @@ fn area_after(origin: Origin, wide: bool, regions: u64) -> u64
 {
     match origin {
         Origin::Fresh | Origin::Lines => 0,
-        Origin::Dump => if wide { regions / 4 } else { 0 },
+        Origin::Dump | Origin::Dumps => if wide { regions / 4 } else { 0 },
     }
 }
 

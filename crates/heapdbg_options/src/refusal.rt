@@ -69,6 +69,8 @@ pub enum Mistake {
     OwnPage,
     /// `--secret` of `explore` is given without `--port`.
     Secret,
+    /// `--then` of `explore` is given without `--hprof`.
+    Second,
 }
 
 impl Mistake {
@@ -105,6 +107,7 @@ impl Mistake {
             Mistake::Source => "explore takes --port without --from, --hprof and --page",
             Mistake::OwnPage => "--page takes 1 to 65535",
             Mistake::Secret => "explore takes --secret with --port alone",
+            Mistake::Second => "explore takes --then with --hprof alone",
         }
     }
 

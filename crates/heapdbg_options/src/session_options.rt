@@ -1,9 +1,9 @@
 //! The command lines of the tasks between standard input and standard output.
-ghost use Rattle.std.specs.Prelude.{◌≡◌, Some, option_map};
+ghost use Rattle.std.specs.Prelude.{◌≡◌, Some, option_map, true};
 ghost use Rattle.clap.specs.Words.{found_of, rows_of};
-ghost use Rattle.heapdbg_options.specs.CommandLine.{draw_in, dump_origin, explore_in, origin_in, own_page, port_limit, run_in};
+ghost use Rattle.heapdbg_options.specs.CommandLine.{draw_in, dump_origin, explore_in, has_second, origin_in, own_page, port_limit, run_in, second_task};
 ghost use Rattle.heapdbg_options.specs.Refusals.{IsExploreOrMistake, IsOutside, IsTaskOrMistake, IsValueOrMistake};
-ghost use Rattle.heapdbg_options.specs.declared.refusal.Mistake.TheVariants.{OwnPage};
+ghost use Rattle.heapdbg_options.specs.declared.refusal.Mistake.TheVariants.{OwnPage, Second};
 ghost use Rattle.heapdbg_options.specs.declared.settings.Task.TheVariants.{Explore};
 
 use crate::command_line::has_dump;
@@ -62,6 +62,13 @@ pub(crate) const EXPLORE: CommandRow = CommandRow {
         OptionRow {
             help: "File of a heap dump in HPROF, whose heap is made first; not with --from",
             ..HPROF
+        },
+        OptionRow {
+            name: "then",
+            value: "PATH",
+            help: "File of a later heap dump of the same program: pin 1 keeps the heap of --hprof, out of which the heap of this dump is made; only with --hprof",
+            is_required: false,
+            is_flag: false,
         },
         OptionRow {
             name: "port",
@@ -138,7 +145,7 @@ pub(crate) fn explore_task(options: &ArgMatches<'_>) -> Result<Task, Mistake>
     let port = options.get_str("port");
     let secret = has_secret(options);
     match choose_task(from, hprof, page, port, secret) {
-        Ok(task) => Ok(task),
+        Ok(task) => second_task(has_second(options), task),
         Err(mistake) => Err(mistake),
     }
 }
@@ -201,4 +208,38 @@ fn own_task(origin: Origin, page: Option<&str>) -> Result<Task, Mistake>
         }
         None => Err(Mistake::OwnPage),
     }
+}
+
+// Returns the task of `explore`, in which the session of two dumps is run first if a second one is given.
+fn second_task(second: bool, task: Task) -> Result<Task, Mistake>
+    ensures { IsValueOrMistake (second_task second task)
+        (λ m. (m ≡ Second) × (second ≡ true)) result }
+{
+    if !second {
+        return Ok(task);
+    }
+    match task {
+        Task::Explore { origin, page } => match origin {
+            Origin::Dump => {
+                let origin = Origin::Dumps;
+                Ok(Task::Explore { origin, page })
+            }
+            Origin::Fresh => Err(Mistake::Second),
+            Origin::Lines => Err(Mistake::Second),
+            Origin::Dumps => Err(Mistake::Second),
+        },
+        Task::Run(_) => Err(Mistake::Second),
+        Task::Draw(_) => Err(Mistake::Second),
+        Task::Save(_) => Err(Mistake::Second),
+        Task::Serve(_) => Err(Mistake::Second),
+        Task::Ask { port: _, secret: _ } => Err(Mistake::Second),
+        Task::Fetch { port: _, secret: _ } => Err(Mistake::Second),
+    }
+}
+
+// Tells whether a second dump is given.
+fn has_second(options: &ArgMatches<'_>) -> bool
+    ensures { result ≡ has_second (rows_of (found_of options.now)) }
+{
+    options.get_str("then").is_some()
 }

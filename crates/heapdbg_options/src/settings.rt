@@ -49,6 +49,8 @@ pub enum Origin {
     Lines,
     /// The lines of the session of a dump, in a file that the command line names.
     Dump,
+    /// The lines of the session of two dumps of one program, in two files that the command line names.
+    Dumps,
 }
 
 /// A task of the program.

@@ -98,6 +98,7 @@ fn convert_walk<O: Outlet>(
 {
     let found = find(alloc, walk)?;
     let plan = plan_classes(alloc, WIDEST_CLASSES, elements_with(area), &found)?;
+    // Its contract bounds the number of classes.
     let _number = plan.classes.len();
     let roots = found.roots.as_slice();
     if !write_session(alloc, outlet, walk, &plan, &found.objects, roots)? {
@@ -107,15 +108,15 @@ fn convert_walk<O: Outlet>(
     Ok(left_out_of(&found, &plan, left, size))
 }
 
-// Returns the most elements of an array in a heap with an area, or without one.
-fn elements_with(area: bool) -> u64
+/// Returns the most elements of an array in a heap with an area, or without one.
+pub fn elements_with(area: bool) -> u64
     ensures { result ≡ elements_with area }
 {
     if area { LARGE_ARRAY_LIMIT } else { ARRAY_LIMIT }
 }
 
-// Returns what is left out: of objects this, and of classes those that have no number.
-fn left_out_of(found: &Found<'_>, plan: &Plan<'_>, left: LeftOut, size: u64) -> Converted {
+/// Returns what is left out of a dump of `size` bytes: of objects this, and of classes those that have no number.
+pub fn left_out_of(found: &Found<'_>, plan: &Plan<'_>, left: LeftOut, size: u64) -> Converted {
     Converted {
         arrays: left.arrays,
         classes: (found.classes.len() as u64).saturating_sub(plan.kinds.len() as u64),

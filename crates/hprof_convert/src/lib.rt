@@ -6,5 +6,5 @@ mod report;
 #[cfg(test)]
 mod tests;
 
-pub use conversion::{Converted, Failure, convert};
+pub use conversion::{Converted, Failure, convert, elements_with, left_out_of};
 pub use report::tell_left_out;

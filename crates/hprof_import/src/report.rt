@@ -2,7 +2,7 @@
 
 /// Tells how the program is called.
 pub(crate) fn usage<R: Eprint>(rt: &R) {
-    let _ = eprintln!(rt; "usage: heapdbg-import [--area] FILE OUT");
+    let _ = eprintln!(rt; "usage: heapdbg-import [--area] FILE [--then SECOND] OUT");
 }
 
 /// Tells why a file can't be used.

@@ -14,4 +14,10 @@ mod tests;
 mod values;
 
 pub use left_out::{LeftOut, count_left_out};
-pub use session::write_session;
+pub use objects::{Objects, making_event, names_object, number_of};
+pub use output::{put_lines, put_some, put_text};
+pub use passes::{is_turn, made_objects};
+pub use roots::{ROOT_TAGS, push_clears, push_roots, roots_named};
+pub use session::{static_ids, write_session};
+pub use slots::read_object;
+pub use values::{SlotValue, add_statics};

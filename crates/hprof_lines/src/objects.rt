@@ -45,9 +45,10 @@ pub(crate) fn made_at(made: &[bool], i: usize) -> bool
 
 /// Returns the number of the object with this id, if it is made.
 #[tactic(auto, unfolding(crate::specs::Objects::number_of))]
-pub(crate) fn number_of(all: &Objects<'_, '_>, id: u64) -> Option<u64>
+pub fn number_of(all: &Objects<'_, '_>, id: u64) -> Option<u64>
     ensures { result ≡ number_of (objects_told all.now) id }
 {
+    // Its contract bounds the number of objects.
     let _most = all.objects.len();
     match all.objects.get_index_of(&id) {
         Some(i) => if made_at(all.made, i) {
@@ -64,7 +65,7 @@ pub(crate) fn number_of(all: &Objects<'_, '_>, id: u64) -> Option<u64>
 
 /// Tells whether a slot names an object.
 #[tactic(auto, unfolding(crate::specs::Objects::names_object))]
-pub(crate) fn names_object(value: SlotValue) -> bool
+pub fn names_object(value: SlotValue) -> bool
     ensures { result ≡ names_object value }
 {
     value.kind.is_reference() && value.value != 0
@@ -145,7 +146,7 @@ fn push_reference(
 
 /// Returns the event that makes an object, if it is made.
 #[tactic(auto, unfolding(crate::specs::Objects::making_event))]
-pub(crate) fn making_event(plan: &Plan<'_>, sub: &SubRecord<'_>) -> Option<Event>
+pub fn making_event(plan: &Plan<'_>, sub: &SubRecord<'_>) -> Option<Event>
     ensures event { result ≡ making_event plan.now (sub_record sub.now) }
     ensures line { IfSome result HasLine }
 {

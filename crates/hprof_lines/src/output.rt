@@ -10,7 +10,7 @@ use session_lines::Lines;
 const ENOUGH: usize = 65_536;
 
 /// Puts out bytes. Tells whether they are out.
-pub(crate) fn put_text<O: Outlet>(outlet: &mut O, bytes: &[u8]) -> bool
+pub fn put_text<O: Outlet>(outlet: &mut O, bytes: &[u8]) -> bool
     ensures { PutsOr (O.seen outlet.old) (O.seen outlet.new) bytes.now result }
 {
     let size = bytes.len();
@@ -22,7 +22,7 @@ pub(crate) fn put_text<O: Outlet>(outlet: &mut O, bytes: &[u8]) -> bool
 }
 
 /// Puts out all lines in memory, and drops them. Tells whether they are out.
-pub(crate) fn put_lines<O: Outlet>(outlet: &mut O, lines: &mut Lines) -> bool
+pub fn put_lines<O: Outlet>(outlet: &mut O, lines: &mut Lines) -> bool
     ensures put { PutsOr (O.seen outlet.old) (O.seen outlet.new) lines.old result }
     ensures dropped { lines.new ≡ [] }
 {
@@ -32,7 +32,7 @@ pub(crate) fn put_lines<O: Outlet>(outlet: &mut O, lines: &mut Lines) -> bool
 }
 
 /// Puts out all lines in memory if they are enough. Tells whether no put failed.
-pub(crate) fn put_some<O: Outlet>(outlet: &mut O, lines: &mut Lines) -> bool
+pub fn put_some<O: Outlet>(outlet: &mut O, lines: &mut Lines) -> bool
     ensures { PutsSome (O.seen outlet.old) (O.seen outlet.new) lines.old lines.new result }
 {
     let size = lines.as_slice().len();

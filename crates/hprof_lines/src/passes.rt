@@ -31,10 +31,11 @@ pub enum Pass {
 
 /// Tells whether a sub-record is the object at this place among the objects of the dump.
 #[tactic(auto, unfolding(crate::specs::Passes::is_turn))]
-pub(crate) fn is_turn(objects: &IndexSet<u64>, i: usize, sub: &SubRecord<'_>) -> bool
+pub fn is_turn(objects: &IndexSet<u64>, i: usize, sub: &SubRecord<'_>) -> bool
     ensures value { result ≡ is_turn objects.now.keys i (sub_record sub.now) }
     ensures limit { result ≡ true → i < 2 ^ 63 }
 {
+    // Its contract bounds the number of objects.
     let _size = objects.len();
     match id_of(sub) {
         Some(id) => match objects.get_index_of(&id) {
@@ -60,7 +61,7 @@ fn id_of(sub: &SubRecord<'_>) -> Option<u64>
 
 /// Returns whether each object of a dump is made; `before` is the number of objects that come before the first. Fails if an
 /// allocation fails.
-pub(crate) fn made_objects(
+pub fn made_objects(
     alloc: Global,
     walk: Walk<'_>,
     plan: &Plan<'_>,

@@ -10,6 +10,10 @@ use crate::output::{put_lines, put_some};
 use dump_pump::Outlet;
 use heap_step::Event;
 use hprof_plan::RootFound;
+use hprof_reader::tags::{
+    ROOT_JAVA_FRAME, ROOT_JNI_GLOBAL, ROOT_JNI_LOCAL, ROOT_MONITOR_USED, ROOT_NATIVE_STACK,
+    ROOT_STICKY_CLASS, ROOT_THREAD_BLOCK, ROOT_THREAD_OBJECT, ROOT_UNKNOWN,
+};
 use hprof_session::{MADE, push_fetch};
 use session_lines::Lines;
 use std::alloc::{AllocError, Global};
@@ -19,6 +23,19 @@ const NAMED: u64 = 6;
 
 // The register of the roots.
 const ROOTS: u64 = 7;
+
+/// The tags of roots.
+pub const ROOT_TAGS: [u8; 9] = [
+    ROOT_JNI_GLOBAL,
+    ROOT_JNI_LOCAL,
+    ROOT_JAVA_FRAME,
+    ROOT_NATIVE_STACK,
+    ROOT_STICKY_CLASS,
+    ROOT_THREAD_BLOCK,
+    ROOT_MONITOR_USED,
+    ROOT_THREAD_OBJECT,
+    ROOT_UNKNOWN,
+];
 
 /// Puts out the lines that keep the roots of a dump, in arrays of the kinds with these tags. Tells whether they are all out.
 /// Fails if an allocation fails.
@@ -77,8 +94,8 @@ fn push_kind(
     Ok(first + (numbers.len() as u64 + 1023) / 1024)
 }
 
-// Returns the numbers of the objects that roots of this tag name.
-fn roots_named(
+/// Returns the numbers of the objects that roots of this tag name. Fails if an allocation fails.
+pub fn roots_named(
     alloc: Global,
     all: &Objects<'_, '_>,
     tag: u8,
@@ -115,8 +132,14 @@ fn add_root(
     }
 }
 
-// Appends the lines by which roots of a kind name objects. Their arrays have this class, and stand from slot `first` on.
-fn push_roots(lines: &mut Lines, class: u64, first: u64, numbers: &[u64]) -> Result<(), AllocError>
+/// Appends the lines by which roots of a kind name objects. Their arrays have this class, and stand from slot `first` on. Fails if
+/// an allocation fails.
+pub fn push_roots(
+    lines: &mut Lines,
+    class: u64,
+    first: u64,
+    numbers: &[u64],
+) -> Result<(), AllocError>
     requires { first ≤ 1024 }
     ensures { OnOk result
         (lines.new ≡ lines.old ++ lines_of (kind_events class first numbers.now)) }
@@ -179,8 +202,8 @@ fn push_root_array(
     })
 }
 
-// Appends the lines that clear registers.
-fn push_clears(lines: &mut Lines, registers: &[u64]) -> Result<(), AllocError>
+/// Appends the lines that clear registers. Fails if an allocation fails.
+pub fn push_clears(lines: &mut Lines, registers: &[u64]) -> Result<(), AllocError>
     ensures { OnOk result (lines.new ≡ lines.old ++ lines_of (flat_map clear_event registers.now)) }
 {
     for r in registers {

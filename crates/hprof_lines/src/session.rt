@@ -11,7 +11,7 @@ ghost use Rattle.hprof_lines.specs.Sessions.{all_events, both_events, session_te
 use crate::objects::Objects;
 use crate::output::put_text;
 use crate::passes::{Pass, made_objects, write_pass};
-use crate::roots::write_roots;
+use crate::roots::{ROOT_TAGS, write_roots};
 use crate::static_objects::write_statics;
 use dump_pump::Outlet;
 use hprof_plan::{Plan, RootFound, Statics};
@@ -20,10 +20,7 @@ use indexmap::IndexSet;
 use std::alloc::{AllocError, Global};
 
 /// Returns the ids of the classes that have an object for their static fields. Fails if an allocation fails.
-pub(crate) fn static_ids(
-    alloc: Global,
-    statics: &[Statics<'_>],
-) -> Result<IndexSet<u64>, AllocError>
+pub fn static_ids(alloc: Global, statics: &[Statics<'_>]) -> Result<IndexSet<u64>, AllocError>
     ensures { IfOk result (λ s. s.keys ≡ static_ids statics.now) }
 {
     let mut ids = IndexSet::new(alloc);
@@ -32,9 +29,6 @@ pub(crate) fn static_ids(
     }
     Ok(ids)
 }
-
-// The tags of roots.
-const ROOT_TAGS: [u8; 9] = [0x01, 0x02, 0x03, 0x04, 0x05, 0x06, 0x07, 0x08, 0xff];
 
 /// Puts out the lines of the session that makes the heap of a dump: its classes, as they are planned, the objects with their
 /// values and references, and the roots. Tells whether all of them are out: if not, a put failed. Fails if an allocation fails;

@@ -12,7 +12,7 @@ use std::alloc::AllocError;
 
 /// Puts the values of the slots of an object that are kept in place of those given. Fails if an allocation fails.
 #[tactic(auto, unfolding(crate::specs::Slots::object_values))]
-pub(crate) fn read_object(
+pub fn read_object(
     slots: &mut Vec<SlotValue>,
     ids: IdSize,
     plan: &Plan<'_>,

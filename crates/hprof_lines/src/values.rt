@@ -107,10 +107,7 @@ fn add_if_kept(
 }
 
 /// Adds the values of static fields. Fails if an allocation fails.
-pub(crate) fn add_statics(
-    slots: &mut Vec<SlotValue>,
-    fields: &[StaticField<'_>],
-) -> Result<(), AllocError>
+pub fn add_statics(slots: &mut Vec<SlotValue>, fields: &[StaticField<'_>]) -> Result<(), AllocError>
     ensures { OnOk result (slots.new.items ≡ slots.old.items ++ statics_from 0 fields.now) }
 {
     for (i, field) in fields.iter().enumerate() {

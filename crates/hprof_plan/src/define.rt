@@ -28,6 +28,7 @@ pub(crate) fn none_defined(alloc: Global, limits: ClassLimits) -> Defined
     ensures defined { AreDefined limits result }
     ensures none { result.classes ≡ [] }
 {
+    // Only the contract uses it.
     let _limits = limits;
     Defined {
         classes: Classes::new(alloc),
@@ -100,6 +101,7 @@ fn give_name(
 fn memory_error(refusal: Refusal) -> AllocError
     requires { refusal ≡ Refusal.NoMemory }
 {
+    // Only the contract uses it.
     let _refusal = refusal;
     AllocError
 }

@@ -52,7 +52,9 @@ fn none_planned(alloc: Global, limits: ClassLimits, room: u64, found: &Found<'_>
     ensures planned { IsPlanned limits room found.now result }
     ensures none { result.kinds.entries ≡ [] }
 {
+    // Only the contract uses it.
     let _room = room;
+    // Its contract bounds the number of classes.
     let _size = found.classes.len();
     Planned {
         defined: none_defined(alloc, limits),

@@ -5,6 +5,7 @@ ghost use Rattle.hprof_session.specs.Walks.{item_told};
 ghost use Rattle.hprof_plan.specs.Items.{array_class_of, class_of, four_parts, eight_parts, id_parts, load_of, load_parts, name_of, object_of, root_of};
 
 use heap_class::IdSize;
+use hprof_reader::tags::{LOAD_CLASS, UTF8};
 use hprof_reader::{ClassDump, SubRecord};
 use hprof_session::Item;
 
@@ -58,7 +59,7 @@ pub(crate) fn name_of<'a>(ids: IdSize, item: Item<'a>) -> Option<(u64, &'a [u8])
     ensures { option_map (λ x. (x.0, x.1.now)) result ≡ name_of ids (item_told item.entry) }
 {
     match item {
-        Item::Record(record) => if record.tag == 0x01 {
+        Item::Record(record) => if record.tag == UTF8 {
             id_at(ids, record.body)
         } else {
             None
@@ -72,7 +73,7 @@ pub(crate) fn load_of(ids: IdSize, item: Item<'_>) -> Option<(u64, u64)>
     ensures { result ≡ load_of ids (item_told item.entry) }
 {
     match item {
-        Item::Record(record) => if record.tag == 0x02 {
+        Item::Record(record) => if record.tag == LOAD_CLASS {
             load_at(ids, record.body)
         } else {
             None

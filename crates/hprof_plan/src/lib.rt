@@ -15,4 +15,5 @@ mod static_classes;
 pub use dump::{Found, find};
 pub use fields::{own_fields, static_fields};
 pub use items::RootFound;
+pub use names::given_name;
 pub use planning::{Plan, Statics, plan_classes};

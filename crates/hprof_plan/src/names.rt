@@ -9,7 +9,7 @@ use std::alloc::{AllocError, Global};
 
 /// Returns the name, if a heap with these limits takes it, it doesn't begin with a full stop, and it isn't given already. Returns
 /// another name otherwise, made of the number. Fails if an allocation fails.
-pub(crate) fn given_name(
+pub fn given_name(
     alloc: Global,
     limits: ClassLimits,
     is_given: bool,

@@ -17,6 +17,7 @@ pub use class_dumps::{ClassDump, ClassHead, Entry, Table};
 pub use fault::Fault;
 pub use fields::{OwnField, StaticField, own_field_at, static_field_at};
 pub use header::{Header, header_at};
+pub use hprof_records::tags;
 pub use read_back::sub_records_are_read;
 pub use records::{Record, record_at};
 pub use sub_records::{Instance, ObjectArray, PrimArray, Root, SubRecord, sub_record_at};

@@ -10,6 +10,11 @@ use crate::fault::Fault;
 use crate::kinds::kind_at;
 use crate::numbers::{bytes_at, id_at, u1_at, u4_at};
 use heap_class::{IdSize, Kind};
+use hprof_records::tags::{
+    CLASS_DUMP, INSTANCE_DUMP, OBJECT_ARRAY_DUMP, PRIMITIVE_ARRAY_DUMP, ROOT_JAVA_FRAME,
+    ROOT_JNI_GLOBAL, ROOT_JNI_LOCAL, ROOT_MONITOR_USED, ROOT_NATIVE_STACK, ROOT_STICKY_CLASS,
+    ROOT_THREAD_BLOCK, ROOT_THREAD_OBJECT, ROOT_UNKNOWN,
+};
 
 /// A root: an object or a class that is reached from outside.
 #[derive(Clone, Copy, PartialEq, Eq, Debug)]
@@ -112,10 +117,10 @@ fn tagged_at(
         return root_at(ids, tag, size, bytes);
     }
     match tag {
-        0x20 => class_at(ids, bytes),
-        0x21 => instance_at(ids, bytes),
-        0x22 => array_at(ids, bytes),
-        0x23 => prim_at(ids, bytes),
+        CLASS_DUMP => class_at(ids, bytes),
+        INSTANCE_DUMP => instance_at(ids, bytes),
+        OBJECT_ARRAY_DUMP => array_at(ids, bytes),
+        PRIMITIVE_ARRAY_DUMP => prim_at(ids, bytes),
         _ => Err(Fault::Tag),
     }
 }
@@ -203,10 +208,10 @@ fn root_size(ids: IdSize, tag: u8) -> Option<u64>
     ensures { result ≡ root_size ids tag }
 {
     match tag {
-        0x01 => Some(ids.bytes()),
-        0x02 | 0x03 | 0x08 => Some(8),
-        0x04 | 0x06 => Some(4),
-        0x05 | 0x07 | 0xff => Some(0),
+        ROOT_JNI_GLOBAL => Some(ids.bytes()),
+        ROOT_JNI_LOCAL | ROOT_JAVA_FRAME | ROOT_THREAD_OBJECT => Some(8),
+        ROOT_NATIVE_STACK | ROOT_THREAD_BLOCK => Some(4),
+        ROOT_STICKY_CLASS | ROOT_MONITOR_USED | ROOT_UNKNOWN => Some(0),
         _ => None,
     }
 }

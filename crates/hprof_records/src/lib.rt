@@ -5,6 +5,7 @@
 pub mod front;
 pub mod head;
 pub mod scan;
+pub mod tags;
 
 pub use front::Front;
 pub use head::{HEAD_SIZE, write_head};

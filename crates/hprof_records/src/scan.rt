@@ -3,9 +3,7 @@ ghost use Rattle.std.specs.Prelude.{◌≡◌, ◌∷◌, ◌++◌, [], ℕ, Lis
 ghost use Rattle.hprof_records.specs.Records.{completes, header_size};
 
 use crate::front::{Front, HEAD_ROOM};
-
-// The tag of HEAP DUMP END.
-const END_TAG: u8 = 0x2c;
+use crate::tags::HEAP_DUMP_END;
 
 // The size of the header of a dump in bytes.
 const HEADER_SIZE: u64 = 31;
@@ -92,7 +90,7 @@ fn after_front(front: Front, byte: u8) -> Scan
         });
     }
     let size = u32::from_be_bytes([bytes[5], bytes[6], bytes[7], byte]);
-    if bytes[0] != END_TAG {
+    if bytes[0] != HEAP_DUMP_END {
         return Scan::Within(size as u64);
     }
     if size == 0 { Scan::Ended } else { Scan::Broken }

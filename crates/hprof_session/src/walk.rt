@@ -7,6 +7,7 @@ ghost use Rattle.hprof_session.specs.Walks.{ItemTold, Left, IsAtEnd, IsNext, IsN
 
 use heap_class::IdSize;
 use hprof_reader::{Fault, Record, SubRecord, record_at, sub_record_at};
+use hprof_records::tags::{HEAP_DUMP, HEAP_DUMP_SEGMENT};
 
 /// What is left of a dump, from a place between two of its records or sub-records on.
 #[derive(Clone, Copy, PartialEq, Eq, Debug)]
@@ -75,7 +76,7 @@ fn segment_of(tag: u8, body: &[u8]) -> &[u8]
     ensures { result.now ≡ segment_of tag body.now }
 {
     match tag {
-        0x0c | 0x1c => body,
+        HEAP_DUMP | HEAP_DUMP_SEGMENT => body,
         _ => &[],
     }
 }

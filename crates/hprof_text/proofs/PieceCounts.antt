@@ -26,9 +26,9 @@ unfolding segments_of
 segments_at_most_sub_records limit [] = omega arith
 segments_at_most_sub_records limit (x ∷ xs) = omega (arith, segments_no_more_than_records limit (length x) xs)
 
-pub pieces_within_part_limit : (ids : IdSize) (image : Image) (time : ℕ) → PiecesFew ids image time
+pub pieces_within_piece_limit : (ids : IdSize) (image : Image) (time : ℕ) → PiecesFew ids image time
 unfolding pieces_of segment_records
-pieces_within_part_limit ids image time d =
+pieces_within_piece_limit ids image time d =
     let segments = segments_of segment_limit (sub_records ids image) in
     let records = map (λ s. record_of 0x1c (concat s)) segments in
     let n : length records ≡ length segments = length-map segments (λ s. record_of 0x1c (concat s)) in

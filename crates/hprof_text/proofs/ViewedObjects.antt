@@ -45,6 +45,16 @@ here image places i at kind words d n e k w =
     let F : List ℕ → Type 0 = λ x. length x ≤ large_array_limit in
     record { object = o; there = p.1; same_kind = sk; same_words = sw; known = subst D (sym sw) (subst C (sym sk) kn); small = subst F (sym sw) sm }
 
+-- an object is the one that a view shows, if each part of it is that one's
+pub object_of_its_parts : (x : Option DumpedObject) (d : DumpedObject) → IfSome x (λ o. d.id ≡ o.id) → IfSome x (λ o. d.kind ≡ o.kind) → IfSome x (λ o. d.words ≡ o.words) → IfSome x (λ o. d ≡ o)
+object_of_its_parts None d a b c = tt
+object_of_its_parts (Some o) d a b c = λ i. record { id = a i; kind = b i; words = c i }
+
+-- each part of the object that a view shows is that one's
+pub part_of_object : {A : Type 0} (f : DumpedObject → A) (x : Option DumpedObject) (d : DumpedObject) (y : A) → y ≡ f d → IfSome x (λ o. d ≡ o) → IfSome x (λ o. y ≡ f o)
+part_of_object f None d y e h = tt
+part_of_object f (Some o) d y e h = e ∙ ap f h
+
 pub object_bytes_are : (ids : IdSize) (image : Image) (j : ℕ) (o : DumpedObject) (s : IdSize) (cs : List Class) (x : ℕ) (kind : ObjKind) (words : List ℕ) → slice_get image.objects j ≡ Some o → s ≡ ids → cs ≡ image.classes
     → IfSome (slice_get image.objects j) (λ o. x ≡ o.id) → kind ≡ o.kind → words ≡ o.words → dump_of s cs x kind words ≡ object_dump ids image.classes o
 unfolding object_dump

@@ -24,14 +24,19 @@ mod records;
 mod section;
 mod segment;
 mod segment_bytes;
+mod shown_object;
 mod sizes;
 
 pub use crate::list_view::{ListView, ListedObject};
 pub use crate::section::{NumberedSection, SubRecord};
 pub use crate::segment_bytes::SegmentBytes;
+pub use crate::shown_object::ShownObject;
 
 /// The most bytes of a segment's body, unless it is a single sub-record.
 pub const SEGMENT_LIMIT: u64 = 4096;
+
+/// The most pieces of a dump.
+pub const PIECE_LIMIT: u64 = 16_785_538;
 
 /// The bytes of a piece.
 pub type Bytes = Items<u8>;
@@ -113,6 +118,12 @@ pub trait View {
         requires { Contains (places self.now) at }
         ensures { (i : ℕ) → slice_get (places self.now) i ≡ Some at
             → IfSome (slice_get (image self.now).objects i) (λ o. result.now ≡ o.words) };
+
+    /// Returns the object at this place, which must have one.
+    fn object(&self, at: ObjRef) -> ShownObject<'_>
+        requires { Contains (places self.now) at }
+        ensures { (i : ℕ) → slice_get (places self.now) i ≡ Some at
+            → IfSome (slice_get (image self.now).objects i) (λ o. result ≡ o) };
 }
 
 /// Returns the length of a view's dump in bytes. It doesn't depend on the time.

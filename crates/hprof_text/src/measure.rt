@@ -95,7 +95,7 @@ impl Measure {
 }
 
 /// Returns the size of the segments of a view's dump, with their heads, in bytes.
-pub fn segments_size<V: View>(view: &V) -> u64
+pub(crate) fn segments_size<V: View>(view: &V) -> u64
     ensures value { result
         ≡ records_size (map length (sub_records (V.ids view.now) (V.image view.now))) }
     ensures limit { result < 2 ^ 50 }

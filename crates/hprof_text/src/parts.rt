@@ -113,7 +113,7 @@ impl SegmentBytes {
     }
 
     /// Appends a LOAD CLASS record for each class, in order. There must be room.
-    pub fn load_classes(&mut self, ids: IdSize, classes: &FirstClasses<'_>)
+    pub(crate) fn load_classes(&mut self, ids: IdSize, classes: &FirstClasses<'_>)
         requires { HasRoom self.old
             (flat_map (load_class ids classes.now) (enumerate_from 0 classes.now)) }
         ensures written { self.new.written

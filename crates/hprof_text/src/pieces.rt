@@ -16,13 +16,8 @@ use crate::segment_bytes::SegmentBytes;
 use crate::sizes::opening_size;
 use crate::{Bytes, Cursor, Piece, View};
 use heap_class::{FirstClasses, IdSize, ObjRef, Refusal};
+use hprof_records::tags::{HEAP_DUMP_END, HEAP_DUMP_SEGMENT};
 use std::alloc::Global;
-
-// The tag of a HEAP DUMP SEGMENT record.
-const HEAP_DUMP_SEGMENT: u8 = 0x1c;
-
-// The tag of the HEAP DUMP END record.
-const HEAP_DUMP_END: u8 = 0x2c;
 
 impl Segment {
     // Offers a view's items of a section from number `from` on. Returns the cursor at the first that wasn't taken.
@@ -65,8 +60,14 @@ impl Segment {
         let mut passed = 0u64;
         let mut here = from;
         while let Some(at) = here {
-            let (id, kind, words) = (view.id(at), view.kind(at), view.words(at));
-            let taken = self.offer_object(ids, &classes, id, kind, words)?;
+            let object = view.object(at);
+            let taken = self.offer_object(
+                ids,
+                &classes,
+                object.id(),
+                object.kind(),
+                object.words(),
+            )?;
             if !taken {
                 return Ok(Some(Cursor::Object(at)));
             }
@@ -128,7 +129,11 @@ impl Segment {
 }
 
 /// Returns the first piece, and the cursor after it. Fails with NoMemory if an allocation fails.
-pub fn start_from<V: View>(alloc: Global, view: &V, time: u64) -> Result<(Piece, Cursor), Refusal>
+pub(crate) fn start_from<V: View>(
+    alloc: Global,
+    view: &V,
+    time: u64,
+) -> Result<(Piece, Cursor), Refusal>
     ensures piece { IfOk result (λ p. p.0 ≡ piece_of (V.ids view.now) (V.image view.now) time 0) }
     ensures next { IfOk result
         (λ p. IsAt (V.ids view.now) (V.image view.now) (V.places view.now) p.1 1) }
@@ -165,7 +170,7 @@ fn opening_bytes(
 
 /// Returns the piece of the segment at the cursor, or of the end if no sub-record is left, and the cursor after it. Fails with
 /// NoMemory if an allocation fails.
-pub fn segment_from<V: View>(
+pub(crate) fn segment_from<V: View>(
     alloc: Global,
     view: &V,
     cursor: Cursor,
@@ -196,7 +201,7 @@ pub fn segment_from<V: View>(
 }
 
 /// Returns the empty piece past the last.
-pub fn past_from<V: View>(alloc: Global, view: &V) -> (Piece, Cursor)
+pub(crate) fn past_from<V: View>(alloc: Global, view: &V) -> (Piece, Cursor)
     ensures piece { (time i : ℕ)
         → IsAt (V.ids view.now) (V.image view.now) (V.places view.now) Past i
         → result.0 ≡ piece_of (V.ids view.now) (V.image view.now) time i }

@@ -15,6 +15,9 @@ use crate::segment_bytes::SegmentBytes;
 use crate::sizes::instance_size;
 use byteorder::{BigEndian, ByteOrder};
 use heap_class::{ClassNo, FirstClasses, IdSize, Kind};
+use hprof_records::tags::{
+    CLASS_DUMP, INSTANCE_DUMP, LOAD_CLASS, OBJECT_ARRAY_DUMP, PRIMITIVE_ARRAY_DUMP, TRACE, UTF8,
+};
 
 /// Returns the id of a class, whose number must be below 4,096.
 pub fn class_id(class: ClassNo) -> u64
@@ -46,7 +49,7 @@ fn head_of_eight(object: u64, class: ClassNo, size: u32) -> [u8; HEAD_OF_EIGHT]
     ensures { result ≡ instance_head Eight object class size }
 {
     let mut head = [0; HEAD_OF_EIGHT];
-    head[0] = 0x21;
+    head[0] = INSTANCE_DUMP;
     BigEndian::write_u64(&mut head[1..], object);
     BigEndian::write_u32(&mut head[9..], 1);
     BigEndian::write_u64(&mut head[13..], class_id(class));
@@ -70,7 +73,7 @@ impl SegmentBytes {
     }
 
     /// Appends the head of a record whose body has `length` bytes. There must be room.
-    pub fn record_head(&mut self, tag: u8, length: u32)
+    pub(crate) fn record_head(&mut self, tag: u8, length: u32)
         requires { HasRoom self.old (record_head tag length) }
         ensures written { self.new.written ≡ self.old.written ++ record_head tag length }
         ensures limit { self.new.limit ≡ self.old.limit }
@@ -88,7 +91,7 @@ impl SegmentBytes {
         ensures written { self.new.written ≡ self.old.written ++ utf8 ids (number, name.now) }
         ensures limit { self.new.limit ≡ self.old.limit }
     {
-        self.record_head(0x01, (ids.bytes() + name.len() as u64) as u32);
+        self.record_head(UTF8, (ids.bytes() + name.len() as u64) as u32);
         self.id(ids, number);
         self.bytes(name);
     }
@@ -104,7 +107,7 @@ impl SegmentBytes {
             ≡ self.old.written ++ load_class ids classes.now (class, class_at classes.now class) }
         ensures limit { self.new.limit ≡ self.old.limit }
     {
-        self.record_head(0x02, (8 + 2 * ids.bytes()) as u32);
+        self.record_head(LOAD_CLASS, (8 + 2 * ids.bytes()) as u32);
         self.u4((class + 1) as u32);
         self.id(ids, class_id(class));
         self.u4(1);
@@ -118,7 +121,7 @@ impl SegmentBytes {
         ensures written { self.new.written ≡ self.old.written ++ trace }
         ensures limit { self.new.limit ≡ self.old.limit }
     {
-        self.record_head(0x05, 12);
+        self.record_head(TRACE, 12);
         self.u4(1);
         self.u4(0);
         self.u4(0);
@@ -131,7 +134,7 @@ impl SegmentBytes {
         ensures written { self.new.written ≡ self.old.written ++ class_ids ids class sup }
         ensures limit { self.new.limit ≡ self.old.limit }
     {
-        self.u1(0x20);
+        self.u1(CLASS_DUMP);
         self.id(ids, class_id(class));
         self.u4(1);
         self.id(ids, sup);
@@ -223,7 +226,7 @@ impl SegmentBytes {
         match ids {
             IdSize::Eight => self.bytes(&head_of_eight(object, class, size)),
             IdSize::Four => {
-                self.u1(0x21);
+                self.u1(INSTANCE_DUMP);
                 self.id(ids, object);
                 self.u4(1);
                 self.id(ids, class_id(class));
@@ -235,7 +238,7 @@ impl SegmentBytes {
     /// Appends an INSTANCE DUMP: own fields first, then the super's. There must be room.
     #[inline(always)]
     #[tactic(auto, unfolding(crate::specs::Text::dump_of))]
-    pub fn instance_dump(
+    pub(crate) fn instance_dump(
         &mut self,
         ids: IdSize,
         classes: &FirstClasses<'_>,
@@ -258,7 +261,13 @@ impl SegmentBytes {
 
     /// Appends an OBJECT ARRAY DUMP of at most 2,097,147 words. There must be room.
     #[tactic(auto, unfolding(crate::specs::Text::dump_of))]
-    pub fn object_array_dump(&mut self, ids: IdSize, object: u64, class: ClassNo, words: &[u64])
+    pub(crate) fn object_array_dump(
+        &mut self,
+        ids: IdSize,
+        object: u64,
+        class: ClassNo,
+        words: &[u64],
+    )
         requires room { HasRoom self.old (dump_of ids [] object (Array class) words.now) }
         requires small { length words.now ≤ large_array_limit }
         requires few { class < class_limit }
@@ -267,7 +276,7 @@ impl SegmentBytes {
         ensures limit { self.new.limit ≡ self.old.limit }
     {
         let count = words.len();
-        self.u1(0x22);
+        self.u1(OBJECT_ARRAY_DUMP);
         self.id(ids, object);
         self.u4(1);
         self.u4(count as u32);
@@ -277,14 +286,20 @@ impl SegmentBytes {
 
     /// Appends a PRIMITIVE ARRAY DUMP of at most 2,097,147 words. There must be room.
     #[tactic(auto, unfolding(crate::specs::Text::dump_of, crate::specs::Text::value_bytes))]
-    pub fn primitive_array_dump(&mut self, ids: IdSize, object: u64, kind: Kind, words: &[u64])
+    pub(crate) fn primitive_array_dump(
+        &mut self,
+        ids: IdSize,
+        object: u64,
+        kind: Kind,
+        words: &[u64],
+    )
         requires room { HasRoom self.old (dump_of ids [] object (Prim kind) words.now) }
         requires small { length words.now ≤ large_array_limit }
         ensures written { self.new.written
             ≡ self.old.written ++ dump_of ids [] object (Prim kind) words.now }
         ensures limit { self.new.limit ≡ self.old.limit }
     {
-        self.u1(0x23);
+        self.u1(PRIMITIVE_ARRAY_DUMP);
         self.id(ids, object);
         self.u4(1);
         self.u4(words.len() as u32);

@@ -12,12 +12,7 @@ use crate::View;
 use crate::records::class_id;
 use crate::sizes::{class_size, root_size};
 use heap_class::{ClassNo, FirstClasses, IdSize};
-
-// The tag of ROOT STICKY CLASS.
-const ROOT_STICKY_CLASS: u8 = 0x05;
-
-// The tag of ROOT UNKNOWN.
-const ROOT_UNKNOWN: u8 = 0xff;
+use hprof_records::tags::{ROOT_STICKY_CLASS, ROOT_UNKNOWN};
 
 /// A section whose items have numbers.
 #[derive(Clone, Copy)]
@@ -97,6 +92,7 @@ impl NumberedSection {
             (option_to_list result)) }
         ensures known { IfSome result (IsOfClasses (V.image view.now).classes) }
     {
+        // Its contract says that what the view shows is within the limits of a dump.
         let _classes = view.classes();
         match self {
             NumberedSection::ClassDumps => Some(SubRecord::ClassDump(number)),

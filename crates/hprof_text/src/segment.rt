@@ -79,6 +79,7 @@ impl Segment {
         requires { IsOfClasses classes.now sub_record }
         ensures { IsOffered (sub_record_bytes ids classes.now sub_record) self.old self.new result }
     {
+        // Its contract bounds the number of classes.
         let _count = classes.len();
         let taken = self.takes(sub_record.size(ids, classes));
         if taken {
@@ -102,6 +103,7 @@ impl Segment {
         ensures { IsOffered (dump_of ids classes.now object (Instance class) words.now) self.old
             self.new result }
     {
+        // Its contract bounds the number of classes.
         let _count = classes.len();
         let taken = self.takes(instance_dump_size(ids, classes, class));
         if taken {
@@ -163,7 +165,7 @@ impl Segment {
     /// Offers the sub-record of an object, and tells whether it was taken. Fails with NoMemory if an allocation fails.
     #[inline(always)]
     #[tactic(auto, unfolding(crate::specs::Text::dump_of))]
-    pub fn offer_object(
+    pub(crate) fn offer_object(
         &mut self,
         ids: IdSize,
         classes: &FirstClasses<'_>,
@@ -178,6 +180,7 @@ impl Segment {
             taken) }
         ensures refused { IfErr result (λ e. e ≡ NoMemory) }
     {
+        // Its contract bounds the number of classes.
         let _count = classes.len();
         match kind {
             ObjKind::Instance(class) => {
@@ -189,7 +192,12 @@ impl Segment {
     }
 
     /// Offers a view's item of a section by its number, and tells whether it was taken. One that has no sub-record counts as taken.
-    pub fn offer_item<V: View>(&mut self, view: &V, section: NumberedSection, number: u64) -> bool
+    pub(crate) fn offer_item<V: View>(
+        &mut self,
+        view: &V,
+        section: NumberedSection,
+        number: u64,
+    ) -> bool
         requires { number
             < length (items_of (V.ids view.now) (V.image view.now) (Numbered section)) }
         ensures { (item : List (List ℕ))
@@ -204,7 +212,7 @@ impl Segment {
     }
 
     /// Returns the record with this tag and the body. Takes no memory.
-    pub fn into_record(self, tag: u8) -> Bytes
+    pub(crate) fn into_record(self, tag: u8) -> Bytes
         ensures value { result ≡ record_of tag self }
         ensures limit { length result ≤ 9 + sub_record_limit }
     {

@@ -73,7 +73,7 @@ impl SegmentBytes {
 
     /// Writes the head of a record over the first nine bytes, which must be written. Its body is what was written behind them,
     /// of less than 2^32 bytes.
-    pub fn set_head(&mut self, tag: u8)
+    pub(crate) fn set_head(&mut self, tag: u8)
         requires room { 9 ≤ length self.old.written }
         requires fits { length self.old.written < 9 + 2 ^ 32 }
         ensures written { self.new.written ≡ record_of tag (drop 9 self.old.written) }

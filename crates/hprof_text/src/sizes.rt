@@ -16,12 +16,13 @@ pub fn instance_size(ids: IdSize, classes: &FirstClasses<'_>, class: ClassNo) ->
     ensures value { result ≡ instance_size ids classes.now class }
     ensures limit { result ≤ instance_size_limit }
 {
+    // Its contract bounds the number of slots.
     let _slots = classes.slots(class);
     classes.instance_size(ids, class) as u32
 }
 
 /// Returns the size of the UTF8 records.
-pub fn names_size(ids: IdSize, classes: &FirstClasses<'_>) -> u64
+pub(crate) fn names_size(ids: IdSize, classes: &FirstClasses<'_>) -> u64
     ensures value { result ≡ names_size ids (name_table classes.now) }
     ensures limit { result ≤ names_size_limit }
 {
@@ -34,7 +35,7 @@ pub fn names_size(ids: IdSize, classes: &FirstClasses<'_>) -> u64
 
 /// Returns the size of the records before the segments.
 #[tactic(auto, unfolding(crate::specs::Sizes::opening_size))]
-pub fn opening_size(ids: IdSize, classes: &FirstClasses<'_>) -> u64
+pub(crate) fn opening_size(ids: IdSize, classes: &FirstClasses<'_>) -> u64
     ensures value { result ≡ opening_size ids classes.now }
     ensures limit { result ≤ opening_size_limit }
 {
@@ -42,7 +43,7 @@ pub fn opening_size(ids: IdSize, classes: &FirstClasses<'_>) -> u64
 }
 
 /// Returns the size of a class's sub-record.
-pub fn class_size(ids: IdSize, classes: &FirstClasses<'_>, class: ClassNo) -> u64
+pub(crate) fn class_size(ids: IdSize, classes: &FirstClasses<'_>, class: ClassNo) -> u64
     requires { class < length classes.now }
     ensures value { result ≡ class_size ids (class_at classes.now class) }
     ensures limit { result ≤ class_size_limit }
@@ -61,7 +62,7 @@ pub fn root_size(ids: IdSize) -> u64
 
 /// Returns the size of the sub-record of an instance of a class.
 #[tactic(auto, unfolding(crate::specs::Sizes::dump_size))]
-pub fn instance_dump_size(ids: IdSize, classes: &FirstClasses<'_>, class: ClassNo) -> u64
+pub(crate) fn instance_dump_size(ids: IdSize, classes: &FirstClasses<'_>, class: ClassNo) -> u64
     requires { class < length classes.now }
     ensures value { (n : ℕ) → result ≡ dump_size ids classes.now (Instance class) n }
     ensures some { 0 < result }
@@ -72,7 +73,7 @@ pub fn instance_dump_size(ids: IdSize, classes: &FirstClasses<'_>, class: ClassN
 
 /// Returns the size of the sub-record of an object array with `words` elements.
 #[tactic(auto, unfolding(crate::specs::Sizes::dump_size))]
-pub fn array_size(ids: IdSize, words: u64) -> u64
+pub(crate) fn array_size(ids: IdSize, words: u64) -> u64
     requires { words ≤ large_array_limit }
     ensures value { (class : ℕ) → result ≡ dump_size ids [] (Array class) words }
     ensures some { 0 < result }
@@ -83,7 +84,7 @@ pub fn array_size(ids: IdSize, words: u64) -> u64
 
 /// Returns the size of the sub-record of an array of values of this kind with `words` elements.
 #[tactic(auto, using(crate::proofs::Bounds::width_small), unfolding(crate::specs::Sizes::dump_size))]
-pub fn prim_size(ids: IdSize, kind: Kind, words: u64) -> u64
+pub(crate) fn prim_size(ids: IdSize, kind: Kind, words: u64) -> u64
     requires { words ≤ large_array_limit }
     ensures value { result ≡ dump_size ids [] (Prim kind) words }
     ensures some { 0 < result }

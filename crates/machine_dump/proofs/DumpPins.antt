@@ -26,7 +26,7 @@ use Rattle.dump_pump.specs.declared.transfer.Pumped.TheVariants.{Done, OutletFai
 use Rattle.dump_pump.specs.Outlets.{Outgoing}
 use Rattle.dump_pump.specs.Pumps.{joined, ends}
 use Rattle.machine_dump.specs.HandedPieces.{handed, ungiven}
-use Rattle.machine_dump.specs.Endings.{cause_of, may_lose}
+use Rattle.machine_dump.specs.SourceEnds.{cause_of, may_lose}
 use Rattle.machine_dump.specs.PinDumps.{FitsPin, FitsText, DumpsUnless, IsPlaceDumped, PutsPin, PutsText, with_number_used}
 use Rattle.machine_dump.proofs.UngivenMachines.{state_in, zero_state, zeroed_states_are_alike, zeroed_open_pin_was_open, other_pins_of_ungiven_machine}
 use Rattle.machine_dump.proofs.Texts.{pin_pieces_are_text}

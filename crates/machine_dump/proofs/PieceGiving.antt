@@ -11,18 +11,19 @@ use Rattle.heap_class.specs.declared.Refusal.{Refusal}
 use Rattle.heap_class.specs.declared.Refusal.TheVariants as Why
 use Rattle.hprof_text.specs.declared.Piece.{Piece}
 use Rattle.hprof_text.specs.Segments.{pieces_of, piece_of, nth_piece}
-use Rattle.hprof_text.proofs.PieceCounts.{pieces_within_part_limit}
-use Rattle.dump_pump.specs.Sources.{IsNextPart, part_limit}
+use Rattle.hprof_text.proofs.PieceCounts.{pieces_within_piece_limit}
+use Rattle.dump_pump.specs.Sources.{IsNextPart}
+use Rattle.hprof_text.specs.Laws.{piece_limit}
 use Rattle.heap_trail.specs.declared.Action.TheVariants.{NextPiece}
 use Rattle.heap_trail.specs.declared.Reply.TheVariants.{Part, Refused}
 use Rattle.heap_trail.specs.Pins.{PinState, Kept, Gone, IsDumpablePin, AreDumpable, pin_at}
 use Rattle.heap_trail.specs.Machine.{Machine, MayFail, after_piece, acted, counted, is_accepted}
-use Rattle.dump_pump.specs.declared.source.Ending.{Ending}
-use Rattle.dump_pump.specs.declared.source.Ending.TheVariants as End
+use Rattle.dump_pump.specs.declared.source.SourceEnd.{SourceEnd}
+use Rattle.dump_pump.specs.declared.source.SourceEnd.TheVariants as End
 use Rattle.dump_pump.specs.declared.source.Next.{Next}
 use Rattle.dump_pump.specs.declared.source.Next.TheVariants as Gave
 use Rattle.machine_dump.specs.HandedPieces.{GivesPiece, given_of, pieces_at, ungiven}
-use Rattle.machine_dump.specs.Endings.{HandsOut, cause_of, is_whole_ending, pieces_left, may_lose}
+use Rattle.machine_dump.specs.SourceEnds.{HandsOut, cause_of, is_whole_end, pieces_left, may_lose}
 use Rattle.machine_dump.specs.PinSupplies.{IsCounted, pin_supply}
 use Rattle.machine_dump.proofs.UngivenMachines.{state_in, counted_pin_keeps_image, ungiven_counted, ungiven_ids}
 
@@ -82,10 +83,10 @@ pin_in_dumpable_pins pin (x ∷ xs) s all here = go (x.0 == pin) (λ h. pin_in_d
     go true rest here = subst IsDumpablePin (first here) (All-head (λ (e : ℕ × PinState). IsDumpablePin e.1) x xs all)
     go false rest here = rest here
 
-pub more_pieces_stay_below_limit : (pin time n : ℕ) (m m' : Machine) (p : Piece) → AreDumpable m.pins → GivesPiece pin time m m' p → n ≤ given_of (pin_at pin m.pins) → p.last ≡ false → n + 1 < part_limit
+pub more_pieces_stay_below_limit : (pin time n : ℕ) (m m' : Machine) (p : Piece) → AreDumpable m.pins → GivesPiece pin time m m' p → n ≤ given_of (pin_at pin m.pins) → p.last ≡ false → n + 1 < piece_limit
 unfolding pin_at piece_of nth_piece
 more_pieces_stay_below_limit pin time n m m' p all g le more =
-    let few : length (pieces_of m.ids g.image time) ≤ part_limit = pieces_within_part_limit m.ids g.image time (pin_in_dumpable_pins pin m.pins.open_pins (Kept g.place g.image g.given) all g.here) in
+    let few : length (pieces_of m.ids g.image time) ≤ piece_limit = pieces_within_piece_limit m.ids g.image time (pin_in_dumpable_pins pin m.pins.open_pins (Kept g.place g.image g.given) all g.here) in
     let lt : g.given + 1 < length (pieces_of m.ids g.image time) = leb-false (length (pieces_of m.ids g.image time)) (g.given + 1) (sym (ap (λ (q : Piece). q.last) g.piece) ∙ more) in
     omega (arith, few, lt, le, ap given_of g.here)
 
@@ -142,26 +143,26 @@ pieces_left_means_no_ending : (b : Bool) (k : ℕ) → 0 < (if b then 0 else k) 
 pieces_left_means_no_ending true k lt = absurd (omega (arith, lt))
 pieces_left_means_no_ending false k lt = refl
 
-part_lessens_pieces_left : (ended ended' : Option Ending) (n n' : ℕ) (b : Bool) → 0 < pieces_left ended n → n' ≡ n + 1 → ended' ≡ (if b then Some End.Whole else ended) → (b ≡ false → n' < part_limit) → pieces_left ended' n' < pieces_left ended n
+part_lessens_pieces_left : (ended ended' : Option SourceEnd) (n n' : ℕ) (b : Bool) → 0 < pieces_left ended n → n' ≡ n + 1 → ended' ≡ (if b then Some End.Whole else ended) → (b ≡ false → n' < piece_limit) → pieces_left ended' n' < pieces_left ended n
 part_lessens_pieces_left ended ended' n n' true lt more is few = subst (λ k. pieces_left k n' < pieces_left ended n) (sym is) lt
 part_lessens_pieces_left ended ended' n n' false lt more is few =
-    let open_still : is_whole_ending ended ≡ false = pieces_left_means_no_ending (is_whole_ending ended) (part_limit - n) lt in
-    let less : part_limit - n' < part_limit - n = omega (arith, more, few refl) in
-    subst (λ k. pieces_left k n' < pieces_left ended n) (sym is) (subst (λ b. (if b then 0 else part_limit - n') < (if b then 0 else part_limit - n)) (sym open_still) less)
+    let open_still : is_whole_end ended ≡ false = pieces_left_means_no_ending (is_whole_end ended) (piece_limit - n) lt in
+    let less : piece_limit - n' < piece_limit - n = omega (arith, more, few refl) in
+    subst (λ k. pieces_left k n' < pieces_left ended n) (sym is) (subst (λ b. (if b then 0 else piece_limit - n') < (if b then 0 else piece_limit - n)) (sym open_still) less)
 
-not_last_left : (ended ended' : Option Ending) (n n' : ℕ) (b : Bool) → 0 < pieces_left ended n → ended' ≡ (if b then Some End.Whole else ended) → (b ≡ false → n' < part_limit) → b ≡ false → 0 < pieces_left ended' n'
+not_last_left : (ended ended' : Option SourceEnd) (n n' : ℕ) (b : Bool) → 0 < pieces_left ended n → ended' ≡ (if b then Some End.Whole else ended) → (b ≡ false → n' < piece_limit) → b ≡ false → 0 < pieces_left ended' n'
 not_last_left ended ended' n n' b lt is few not =
     let same : ended' ≡ ended = is ∙ ap (λ k. if k then Some End.Whole else ended) not in
-    let open_still : is_whole_ending ended' ≡ false = ap is_whole_ending same ∙ pieces_left_means_no_ending (is_whole_ending ended) (part_limit - n) lt in
-    let some : 0 < part_limit - n' = omega (arith, few not) in
-    subst (λ k. 0 < (if k then 0 else part_limit - n')) (sym open_still) some
+    let open_still : is_whole_end ended' ≡ false = ap is_whole_end same ∙ pieces_left_means_no_ending (is_whole_end ended) (piece_limit - n) lt in
+    let some : 0 < piece_limit - n' = omega (arith, few not) in
+    subst (λ k. 0 < (if k then 0 else piece_limit - n')) (sym open_still) some
 
 -- what a source tells of its next part
-pub handed_part_is_next_part : (pin time : ℕ) (k m m' : Machine) (n n' : ℕ) (ended ended' : Option Ending) (r : Next) → HandsOut pin time m m' n n' ended ended' r
+pub handed_part_is_next_part : (pin time : ℕ) (k m m' : Machine) (n n' : ℕ) (ended ended' : Option SourceEnd) (r : Next) → HandsOut pin time m m' n n' ended ended' r
     → IsCounted pin k m n ended → 0 < pieces_left ended n → IsNextPart (pin_supply pin time k m n ended) (pin_supply pin time k m' n' ended') r
 handed_part_is_next_part pin time k m m' n n' ended ended' (Gave.Part p) h at lt =
     let first : ℕ = given_of (pin_at pin k.pins) in
-    let here = at (pieces_left_means_no_ending (is_whole_ending ended) (part_limit - n) lt) in (
+    let here = at (pieces_left_means_no_ending (is_whole_end ended) (piece_limit - n) lt) in (
       ap (λ j. Some (pieces_at m'.ids time first j (pin_at pin m'.pins))) h.2 ∙ ap Some (one_piece_more_is_told pin time first n m m' p h.0 here),
       h.1,
       part_lessens_pieces_left ended ended' n n' p.last lt h.2 h.3 h.4,

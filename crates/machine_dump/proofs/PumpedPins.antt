@@ -4,7 +4,7 @@ use Rattle.std.specs.Prelude.{unwrap_or}
 use mathlib.Core.List.{IsPrefix}
 use Rattle.heap_class.specs.declared.IdSize.{IdSize}
 use Rattle.hprof_text.specs.declared.Piece.{Piece}
-use Rattle.dump_pump.specs.declared.source.Ending.{Ending}
+use Rattle.dump_pump.specs.declared.source.SourceEnd.{SourceEnd}
 use Rattle.dump_pump.specs.declared.transfer.Pumped.{Pumped}
 use Rattle.dump_pump.specs.declared.transfer.Pumped.TheVariants.{Done, OutletFailed, Lost, Cancelled}
 use Rattle.dump_pump.specs.Outlets.{Outgoing}
@@ -13,7 +13,7 @@ use Rattle.dump_pump.specs.Pumps.{FitsPump, IsPumped, joined, ends}
 use Rattle.heap_trail.specs.Pins.{PinState, Kept, Gone, pin_at}
 use Rattle.heap_trail.specs.Machine.{Machine}
 use Rattle.machine_dump.specs.HandedPieces.{given_of, handed, pieces_at, ungiven}
-use Rattle.machine_dump.specs.Endings.{pieces_left, may_end, may_lose}
+use Rattle.machine_dump.specs.SourceEnds.{pieces_left, may_end, may_lose}
 use Rattle.machine_dump.specs.PinSupplies.{pin_origin, pin_supply}
 use Rattle.machine_dump.specs.PinDumps.{FitsPin, PutsPin}
 use Rattle.machine_dump.proofs.UngivenMachines.{ungiven_ids, zeroed_states_are_alike, zeroed_pin_has_same_pieces, zeroed_pin_may_lose_same}
@@ -34,7 +34,7 @@ pieces_same_whatever_given pin time first n m m' same =
 losing_cause_same_whatever_given : (pin : ℕ) (m m' : Machine) (cause : _) → ungiven pin m' ≡ ungiven pin m → may_lose (pin_at pin m'.pins) cause ≡ may_lose (pin_at pin m.pins) cause
 losing_cause_same_whatever_given pin m m' cause same = sym (zeroed_pin_may_lose_same pin (pin_at pin m'.pins) cause) ∙ ap (λ s. may_lose s cause) (zeroed_states_are_alike pin m m' same) ∙ zeroed_pin_may_lose_same pin (pin_at pin m.pins) cause
 
-pump_fit_is_pin_fit : (pin : ℕ) (m m' : Machine) (given parts : List Piece) (out : List ℕ) (ended : Option Ending) (f f' : ℕ) (r : Pumped) → ungiven pin m' ≡ ungiven pin m → may_end (pin_at pin m'.pins) ended ≡ true → parts ≡ given → FitsPump given out ended f f' r → FitsPin parts out (pin_at pin m.pins) f f' r
+pump_fit_is_pin_fit : (pin : ℕ) (m m' : Machine) (given parts : List Piece) (out : List ℕ) (ended : Option SourceEnd) (f f' : ℕ) (r : Pumped) → ungiven pin m' ≡ ungiven pin m → may_end (pin_at pin m'.pins) ended ≡ true → parts ≡ given → FitsPump given out ended f f' r → FitsPin parts out (pin_at pin m.pins) f f' r
 pump_fit_is_pin_fit pin m m' given parts out ended f f' (Done n) same may is fits = (fits.0 ∙ ap joined (sym is), ap ends is ∙ fits.1, fits.3)
 pump_fit_is_pin_fit pin m m' given parts out ended f f' (OutletFailed n) same may is fits = fits
 pump_fit_is_pin_fit pin m m' given parts out ended f f' (Lost cause n) same may is fits = (fits.0 ∙ ap joined (sym is), sym (losing_cause_same_whatever_given pin m m' cause same) ∙ ap (may_end (pin_at pin m'.pins)) (sym fits.1) ∙ may, fits.2)
@@ -44,7 +44,7 @@ pump_fit_is_pin_fit pin m m' given parts out ended f f' (Cancelled n) same may i
     never e = cc
 
 -- of a source that was made at m
-pub made_source_puts_pin : (pin time count : ℕ) (m m' : Machine) (ended : Option Ending) (w w' : Outgoing) (r : Pumped) → IsPumped (pin_supply pin time m m 0 None) (pin_supply pin time m m' count ended) w w' r
+pub made_source_puts_pin : (pin time count : ℕ) (m m' : Machine) (ended : Option SourceEnd) (w w' : Outgoing) (r : Pumped) → IsPumped (pin_supply pin time m m 0 None) (pin_supply pin time m m' count ended) w w' r
     → ungiven pin m' ≡ ungiven pin m → may_end (pin_at pin m'.pins) ended ≡ true → PutsPin pin time m w w' r
 made_source_puts_pin pin time count m m' ended w w' r p same may =
     let first : ℕ = given_of (pin_at pin m.pins) in
@@ -60,7 +60,7 @@ made_source_puts_pin pin time count m m' ended w w' r p same may =
     }
 
 -- of the source that a dump makes
-pub pumped_source_puts_pin : (name name0 name1 pin time pin0 time0 count0 pin1 time1 count1 : ℕ) (m k0 m0 k1 m1 : Machine) (ended0 ended1 : Option Ending) (w w' : Outgoing) (r : Pumped)
+pub pumped_source_puts_pin : (name name0 name1 pin time pin0 time0 count0 pin1 time1 count1 : ℕ) (m k0 m0 k1 m1 : Machine) (ended0 ended1 : Option SourceEnd) (w w' : Outgoing) (r : Pumped)
     → m0 ≡ m → k0 ≡ m → pin0 ≡ pin → time0 ≡ time → count0 ≡ 0 → ended0 ≡ None
     → IsPumped (pin_supply pin0 time0 k0 m0 count0 ended0) (pin_supply pin1 time1 k1 m1 count1 ended1) w w' r
     → pin_origin name1 pin1 time1 k1 m1 ≡ pin_origin name0 pin0 time0 k0 m0 → may_end (pin_at pin1 m1.pins) ended1 ≡ true → PutsPin pin time m w w' r

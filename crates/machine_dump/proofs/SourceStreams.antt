@@ -9,7 +9,7 @@ use Rattle.heap_trail.specs.declared.Action.TheVariants.{ClosePin}
 use Rattle.heap_trail.specs.declared.Reply.{Reply}
 use Rattle.heap_trail.specs.Pins.{AreNumbered, pin_at, open_refusal}
 use Rattle.heap_trail.specs.Machine.{Machine, acted}
-use Rattle.dump_pump.specs.declared.source.Ending.{Ending}
+use Rattle.dump_pump.specs.declared.source.SourceEnd.{SourceEnd}
 use Rattle.dump_pump.specs.declared.transfer.Pumped.{Pumped}
 use Rattle.dump_pump.specs.declared.transfer.Pumped.TheVariants.{Lost}
 use Rattle.dump_pump.specs.declared.source.Next.{Next}
@@ -18,7 +18,7 @@ use Rattle.dump_pump.specs.Sources.{Supply, IsNextPart}
 use Rattle.dump_pump.specs.Pumps.{IsPumped}
 use Rattle.dump_pipe.specs.Streams.{IsStreamed}
 use Rattle.machine_dump.specs.HandedPieces.{given_of, pieces_at, ungiven}
-use Rattle.machine_dump.specs.Endings.{HandsOut, is_whole_ending, pieces_left, may_end}
+use Rattle.machine_dump.specs.SourceEnds.{HandsOut, is_whole_end, pieces_left, may_end}
 use Rattle.machine_dump.specs.PinSupplies.{PinOrigin}
 use Rattle.machine_dump.specs.PinDumps.{PutsPin, PutsText, IsPlaceDumped, DumpsUnless, with_number_used}
 use Rattle.machine_dump.proofs.PieceGiving.{handed_part_is_next_part}
@@ -37,11 +37,11 @@ pinless_machine_gave_nothing : (pin : ℕ) (m : Machine) → given_of (pin_at pi
 unfolding machine_without_pins pin_at
 pinless_machine_gave_nothing pin m = refl
 
-abbrev supply_of_pin_pieces : ℕ → ℕ → ℕ → Machine → ℕ → Option Ending → Supply
+abbrev supply_of_pin_pieces : ℕ → ℕ → ℕ → Machine → ℕ → Option SourceEnd → Supply
 supply_of_pin_pieces first pin time m count ended = record { told = Some (pieces_at m.ids time first count (pin_at pin m.pins)); ended = ended; left = pieces_left ended count }
 
-pub handed_part_of_fresh_supply : (pin time : ℕ) (m m' : Machine) (n n' : ℕ) (ended ended' : Option Ending) (r : Next) → HandsOut pin time m m' n n' ended ended' r
-    → (is_whole_ending ended ≡ false → given_of (pin_at pin m.pins) ≡ n) → 0 < pieces_left ended n → IsNextPart (fresh_supply pin time m n ended) (fresh_supply pin time m' n' ended') r
+pub handed_part_of_fresh_supply : (pin time : ℕ) (m m' : Machine) (n n' : ℕ) (ended ended' : Option SourceEnd) (r : Next) → HandsOut pin time m m' n n' ended ended' r
+    → (is_whole_end ended ≡ false → given_of (pin_at pin m.pins) ≡ n) → 0 < pieces_left ended n → IsNextPart (fresh_supply pin time m n ended) (fresh_supply pin time m' n' ended') r
 handed_part_of_fresh_supply pin time m m' n n' ended ended' r h at lt =
     let none : given_of (pin_at pin (machine_without_pins m).pins) ≡ 0 = pinless_machine_gave_nothing pin m in
     subst (λ f. IsNextPart (supply_of_pin_pieces f pin time m n ended) (supply_of_pin_pieces f pin time m' n' ended') r) none
@@ -50,7 +50,7 @@ handed_part_of_fresh_supply pin time m m' n n' ended ended' r h at lt =
 -- ---- a stream
 
 -- of the source that a stream makes
-pub streamed_source_puts_pin : (name name0 name1 pin time pin0 time0 count0 pin1 time1 count1 : ℕ) (m m0 m1 : Machine) (ended0 ended1 : Option Ending) (w w' : Outgoing) (r : Pumped)
+pub streamed_source_puts_pin : (name name0 name1 pin time pin0 time0 count0 pin1 time1 count1 : ℕ) (m m0 m1 : Machine) (ended0 ended1 : Option SourceEnd) (w w' : Outgoing) (r : Pumped)
     → given_of (pin_at pin m.pins) ≡ 0 → m0 ≡ m → pin0 ≡ pin → time0 ≡ time → count0 ≡ 0 → ended0 ≡ None
     → IsStreamed (fresh_supply pin0 time0 m0 count0 ended0) (fresh_supply pin1 time1 m1 count1 ended1) w w' r
     → fresh_pinned name1 pin1 time1 m1 ≡ fresh_pinned name0 pin0 time0 m0 → may_end (pin_at pin1 m1.pins) ended1 ≡ true → PutsPin pin time m w w' r
@@ -98,5 +98,5 @@ pub opened_pin_gave_nothing : (m n : Machine) (pin : ℕ) → AreNumbered m.pins
 opened_pin_gave_nothing m n pin all o = ap given_of (opened_pin_keeps_image m n pin all o)
 
 -- and a source of it is fresh
-pub source_of_opened_pin_fresh : (m n n0 : Machine) (pin pin0 count : ℕ) (ended : Option Ending) → AreNumbered m.pins → Opens m n pin → n0 ≡ n → pin0 ≡ pin → count ≡ 0 → ended ≡ None → IsFresh pin0 n0 count ended
+pub source_of_opened_pin_fresh : (m n n0 : Machine) (pin pin0 count : ℕ) (ended : Option SourceEnd) → AreNumbered m.pins → Opens m n pin → n0 ≡ n → pin0 ≡ pin → count ≡ 0 → ended ≡ None → IsFresh pin0 n0 count ended
 source_of_opened_pin_fresh m n n0 pin pin0 count ended all o ms pins none going = ((λ i. given_of (pin_at (pins i) (ms i).pins)) ∙ opened_pin_gave_nothing m n pin all o, none, going)

@@ -8,7 +8,7 @@ use Rattle.hprof_text.specs.Image.{Image}
 use Rattle.heap_trail.specs.Pins.{PinState, Kept, Gone, pin_at, without_pin, if_kept, each_kept, with_piece_given}
 use Rattle.heap_trail.specs.Machine.{Machine, counted}
 use Rattle.machine_dump.specs.HandedPieces.{pieces_at, ungiven}
-use Rattle.machine_dump.specs.Endings.{may_lose}
+use Rattle.machine_dump.specs.SourceEnds.{may_lose}
 use Rattle.heap_trail.proofs.GivenText.{changed_pin_by_number}
 
 abbrev pub state_in : ℕ → List (ℕ × PinState) → Option PinState

@@ -1,5 +1,5 @@
 pub mod HandedPieces
-pub mod Endings
+pub mod SourceEnds
 pub mod PinSupplies
 pub mod PinDumps
 pub mod FreshSupplies

@@ -14,7 +14,7 @@ use Rattle.dump_pump.specs.declared.transfer.Pumped.TheVariants.{Done, OutletFai
 use Rattle.dump_pump.specs.Outlets.{Outgoing}
 use Rattle.dump_pump.specs.Pumps.{joined, ends, bytes_of}
 use Rattle.machine_dump.specs.HandedPieces.{handed}
-use Rattle.machine_dump.specs.Endings.{may_lose}
+use Rattle.machine_dump.specs.SourceEnds.{may_lose}
 
 -- an answer fits the pieces handed out, the bytes put out, the pin and the failures
 abbrev pub FitsPin : List Piece → List ℕ → Option PinState → ℕ → ℕ → Pumped → Type 0

@@ -1,18 +1,18 @@
 -- The supply of a source of a machine's pin, and what no call changes.
 use Rattle.std.specs.Prelude.{◌≡◌, ℕ, ◌+◌, true, false, Option, Some}
-use Rattle.dump_pump.specs.declared.source.Ending.{Ending}
+use Rattle.dump_pump.specs.declared.source.SourceEnd.{SourceEnd}
 use Rattle.dump_pump.specs.Sources.{Supply}
 use Rattle.heap_trail.specs.Pins.{pin_at}
 use Rattle.heap_trail.specs.Machine.{Machine}
 use Rattle.machine_dump.specs.HandedPieces.{given_of, pieces_at, ungiven}
-use Rattle.machine_dump.specs.Endings.{is_whole_ending, pieces_left, may_end}
+use Rattle.machine_dump.specs.SourceEnds.{is_whole_end, pieces_left, may_end}
 
 -- the first piece of a source that was made at this machine
 abbrev pub first_at : ℕ → Machine → ℕ
 first_at pin start = given_of (pin_at pin start.pins)
 
 -- `count` parts of m's pin were handed out, from the first of a source that was made at the machine `start`
-abbrev pub pin_supply : ℕ → ℕ → Machine → Machine → ℕ → Option Ending → Supply
+abbrev pub pin_supply : ℕ → ℕ → Machine → Machine → ℕ → Option SourceEnd → Supply
 pin_supply pin time start m count ended = record {
   told = Some (pieces_at m.ids time (first_at pin start) count (pin_at pin m.pins));
   ended = ended;
@@ -40,10 +40,10 @@ pin_origin name pin time start m =
     }
 
 -- until the last part, the pin gave as many pieces as the source handed out
-abbrev pub IsCounted : ℕ → Machine → Machine → ℕ → Option Ending → Type 0
+abbrev pub IsCounted : ℕ → Machine → Machine → ℕ → Option SourceEnd → Type 0
 IsCounted pin start m count ended =
-    is_whole_ending ended ≡ false → given_of (pin_at pin m.pins) ≡ first_at pin start + count
+    is_whole_end ended ≡ false → given_of (pin_at pin m.pins) ≡ first_at pin start + count
 
 -- a source of m's pin may have ended so
-abbrev pub IsCaused : ℕ → Machine → Option Ending → Type 0
+abbrev pub IsCaused : ℕ → Machine → Option SourceEnd → Type 0
 IsCaused pin m ended = may_end (pin_at pin m.pins) ended ≡ true

@@ -2,11 +2,11 @@
 ghost use Rattle.std.specs.Prelude.{◌≡◌, None, false};
 ghost use Rattle.heap_trail.specs.Pins.{pin_at};
 ghost use Rattle.machine_dump.specs.HandedPieces.{given_of};
-ghost use Rattle.machine_dump.specs.Endings.{is_whole_ending};
+ghost use Rattle.machine_dump.specs.SourceEnds.{is_whole_end};
 ghost use Rattle.machine_dump.specs.PinSupplies.{IsCaused};
 
 use crate::pin_source::{hand_out, parts_left};
-use dump_pump::{Ending, Next, Source};
+use dump_pump::{Next, Source, SourceEnd};
 use heap_trail::Machine;
 
 /// The pieces of a machine's pin that had given none, in order. It keeps no snapshot of the machine, as `PinSource` does, so
@@ -19,11 +19,11 @@ pub struct FreshSource<'a> {
     pub pin: u64,
     /// The time in the header, in milliseconds.
     pub time: u64,
-    /// The number of parts handed out, at most `PART_LIMIT`.
+    /// The number of parts handed out, at most `PIECE_LIMIT`.
     pub count: u64,
     /// How the source ended.
-    pub ended: Option<Ending>,
-    ghost counted: { is_whole_ending ended ≡ false
+    pub ended: Option<SourceEnd>,
+    ghost counted: { is_whole_end ended ≡ false
         → given_of (pin_at pin machine.now.pins) ≡ count },
     ghost caused: { IsCaused pin machine.now ended },
 }

@@ -1,15 +1,15 @@
 //! A source of the pieces of a machine's pin.
 ghost use Rattle.std.specs.Prelude.{◌≡◌, ◌<◌, ◌≤◌, None};
-ghost use Rattle.dump_pump.specs.Sources.{part_limit};
+ghost use Rattle.hprof_text.specs.Laws.{piece_limit};
 ghost use Rattle.heap_trail.specs.Pins.{pin_at};
 ghost use Rattle.machine_dump.specs.HandedPieces.{given_of};
-ghost use Rattle.machine_dump.specs.Endings.{HandsOut, cause_of, pieces_left};
+ghost use Rattle.machine_dump.specs.SourceEnds.{HandsOut, cause_of, pieces_left};
 ghost use Rattle.machine_dump.specs.PinSupplies.{IsCounted, IsCaused};
 
-use dump_pump::source::PART_LIMIT;
-use dump_pump::{Ending, Next, Source};
+use dump_pump::{Next, Source, SourceEnd};
 use heap_class::{LostCause, Refusal};
 use heap_trail::Machine;
+use hprof_text::PIECE_LIMIT;
 use std::snapshot::Snapshot;
 
 /// The pieces of a machine's pin, in order from the first that the pin has not given yet.
@@ -23,10 +23,10 @@ pub struct PinSource<'a> {
     pub pin: u64,
     /// The time in the header, in milliseconds.
     pub time: u64,
-    /// The number of parts handed out, at most `PART_LIMIT`.
+    /// The number of parts handed out, at most `PIECE_LIMIT`.
     pub count: u64,
     /// How the source ended.
-    pub ended: Option<Ending>,
+    pub ended: Option<SourceEnd>,
     ghost counted: { IsCounted pin start.value machine.now count ended },
     ghost caused: { IsCaused pin machine.now ended },
 }
@@ -66,13 +66,13 @@ pub fn cause_of(refusal: Refusal) -> LostCause
 }
 
 /// Returns the largest number of parts left to a source that handed out `count` parts and ended in this way, if it has ended.
-pub fn parts_left(ended: &Option<Ending>, count: u64) -> u64
+pub fn parts_left(ended: &Option<SourceEnd>, count: u64) -> u64
     ensures left { result ≡ pieces_left ended.now count }
-    ensures most { result ≤ part_limit }
+    ensures most { result ≤ piece_limit }
 {
     match ended {
-        Some(Ending::Whole) => 0,
-        _ => PART_LIMIT.saturating_sub(count),
+        Some(SourceEnd::Whole) => 0,
+        _ => PIECE_LIMIT.saturating_sub(count),
     }
 }
 
@@ -82,9 +82,9 @@ pub fn hand_out(
     pin: u64,
     time: u64,
     count: &mut u64,
-    ended: &mut Option<Ending>,
+    ended: &mut Option<SourceEnd>,
 ) -> Next
-    requires few { count.old < part_limit }
+    requires few { count.old < piece_limit }
     requires counted { count.old ≤ given_of (pin_at pin machine.old.pins) }
     ensures { HandsOut pin time machine.old machine.new count.old count.new ended.old ended.new
         result }
@@ -95,13 +95,13 @@ pub fn hand_out(
         Ok(piece) => {
             *count += 1;
             if piece.last {
-                *ended = Some(Ending::Whole);
+                *ended = Some(SourceEnd::Whole);
             }
             Next::Part(piece)
         }
         Err(refusal) => {
             let cause = cause_of(refusal);
-            *ended = Some(Ending::Lost(cause));
+            *ended = Some(SourceEnd::Lost(cause));
             Next::Lost(cause)
         }
     }

@@ -1,1 +1,3 @@
 pub mod NameWords
+pub mod PlaceNames
+pub mod WordParts

@@ -1,4 +1,9 @@
+pub mod Bookmarks
 pub mod Questions
 pub mod NameWords
+pub mod EventNames
+pub mod Parts
+pub mod Chains
 pub mod NamedLines
+pub mod NoteLines
 pub mod Orders

@@ -8,10 +8,10 @@ use Rattle.heap_questions.specs.declared.wanted.Wanted.{Wanted}
 use Rattle.heap_questions.specs.declared.wanted.Wanted.TheVariants.{OfClass, Holding}
 use Rattle.session_grammar.specs.Grammar.{at_end, next_number, words_of_line}
 use Rattle.question_words.specs.declared.at.At.{At}
-use Rattle.question_words.specs.declared.at.At.TheVariants.{Current}
 use Rattle.question_grammar.specs.declared.question.Question.{Question}
 use Rattle.question_grammar.specs.declared.question.Question.TheVariants.{Objects, Values, Wrote, Watch, Writes, When, WhenCount}
 use Rattle.question_words.specs.declared.ranges.Span.{Span}
+use Rattle.question_grammar.specs.Bookmarks.{Bookmarks, default_at}
 use Rattle.question_grammar.specs.NameWords.{class_and_slot_named, class_of_word, id_and_slot_named}
 use Rattle.question_grammar.specs.Questions.{QuestionRule, at_of_word, place_of_word, question_by, question_of, span_of, value_of_word}
 
@@ -21,101 +21,103 @@ holding_named classes k s v =
     option_and_then (λ slot. option_map (λ x. Holding slot.0 slot.1 x) (value_of_word v))
     (class_and_slot_named classes k s)
 
--- the state, and a class or a class with a value in a slot, that the words name; without a state it is the current one
-unfoldable pub objects_named : List Class → List (List ℕ) → Option (At × Wanted)
-objects_named classes [] = None
-objects_named classes (k ∷ []) =
-    option_map (λ k. (Current, OfClass k)) (class_of_word classes k)
-objects_named classes (w ∷ k ∷ []) =
+-- the state, and a class or a class with a value in a slot, that the words name; without a state it is that of the session
+unfoldable pub objects_named : Bookmarks → List Class → List (List ℕ) → Option (At × Wanted)
+objects_named b classes [] = None
+objects_named b classes (k ∷ []) =
+    option_map (λ k. (default_at b, OfClass k)) (class_of_word classes k)
+objects_named b classes (w ∷ k ∷ []) =
     option_and_then (λ at. option_map (λ k. (at, OfClass k)) (class_of_word classes k))
-    (at_of_word w)
-objects_named classes (k ∷ s ∷ v ∷ []) =
-    option_map (λ wanted. (Current, wanted)) (holding_named classes k s v)
-objects_named classes (w ∷ k ∷ s ∷ v ∷ ws) =
+    (at_of_word b w)
+objects_named b classes (k ∷ s ∷ v ∷ []) =
+    option_map (λ wanted. (default_at b, wanted)) (holding_named classes k s v)
+objects_named b classes (w ∷ k ∷ s ∷ v ∷ ws) =
     option_and_then
     (λ at. option_and_then (λ wanted. at_end (at, wanted) ws) (holding_named classes k s v))
-    (at_of_word w)
+    (at_of_word b w)
 
--- the state, and the class and the slot, that the words name; without a state it is the current one
-unfoldable pub values_named : List Class → List (List ℕ) → Option (At × (ℕ × ℕ))
-values_named classes [] = None
-values_named classes (w ∷ []) = None
-values_named classes (w ∷ v ∷ []) =
-    option_map (λ slot. (Current, slot)) (class_and_slot_named classes w v)
-values_named classes (w ∷ v ∷ u ∷ ws) =
+-- the state, and the class and the slot, that the words name; without a state it is that of the session
+unfoldable pub values_named : Bookmarks → List Class → List (List ℕ) → Option (At × (ℕ × ℕ))
+values_named b classes [] = None
+values_named b classes (w ∷ []) = None
+values_named b classes (w ∷ v ∷ []) =
+    option_map (λ slot. (default_at b, slot)) (class_and_slot_named classes w v)
+values_named b classes (w ∷ v ∷ u ∷ ws) =
     option_and_then
     (λ at. option_and_then (λ slot. at_end (at, slot) ws) (class_and_slot_named classes v u))
-    (at_of_word w)
+    (at_of_word b w)
 
--- the place, and the id and the slot, that the words name; without a place it is that of the current state
-unfoldable pub write_named : HeapState → List (List ℕ) → Option (Option ℕ × (ℕ × ℕ))
-write_named state [] = None
-write_named state (w ∷ []) = None
-write_named state (w ∷ v ∷ []) = option_map (λ slot. (None, slot)) (id_and_slot_named state w v)
-write_named state (w ∷ v ∷ u ∷ ws) =
+-- the place, and the id and the slot, that the words name; without a place it is that of the session
+unfoldable pub write_named : Bookmarks → HeapState → List (List ℕ) → Option (Option ℕ × (ℕ × ℕ))
+write_named b state [] = None
+write_named b state (w ∷ []) = None
+write_named b state (w ∷ v ∷ []) = option_map (λ slot. (b.at, slot)) (id_and_slot_named state w v)
+write_named b state (w ∷ v ∷ u ∷ ws) =
     option_and_then
     (λ to. option_and_then (λ slot. at_end (to, slot) ws) (id_and_slot_named state v u))
-    (place_of_word w)
+    (place_of_word b w)
 
 -- the same, with the place at the end
-unfoldable pub watch_named : HeapState → List (List ℕ) → Option ((ℕ × ℕ) × Option ℕ)
-watch_named state [] = None
-watch_named state (w ∷ []) = None
-watch_named state (w ∷ v ∷ []) = option_map (λ slot. (slot, None)) (id_and_slot_named state w v)
-watch_named state (w ∷ v ∷ u ∷ ws) =
-    option_and_then (λ slot. option_and_then (λ to. at_end (slot, to) ws) (place_of_word u))
+unfoldable pub watch_named : Bookmarks → HeapState → List (List ℕ) → Option ((ℕ × ℕ) × Option ℕ)
+watch_named b state [] = None
+watch_named b state (w ∷ []) = None
+watch_named b state (w ∷ v ∷ []) = option_map (λ slot. (slot, b.at)) (id_and_slot_named state w v)
+watch_named b state (w ∷ v ∷ u ∷ ws) =
+    option_and_then (λ slot. option_and_then (λ to. at_end (slot, to) ws) (place_of_word b u))
     (id_and_slot_named state w v)
 
 -- the class, the slot and the steps that the words name
-unfoldable pub writes_named : List Class → List (List ℕ) → Option ((ℕ × ℕ) × Span)
-writes_named classes [] = None
-writes_named classes (w ∷ []) = None
-writes_named classes (w ∷ v ∷ ws) =
-    option_and_then (λ slot. option_map (λ span. (slot, span)) (span_of ws))
+unfoldable pub writes_named : Bookmarks → List Class → List (List ℕ) → Option ((ℕ × ℕ) × Span)
+writes_named b classes [] = None
+writes_named b classes (w ∷ []) = None
+writes_named b classes (w ∷ v ∷ ws) =
+    option_and_then (λ slot. option_map (λ span. (slot, span)) (span_of b ws))
     (class_and_slot_named classes w v)
 
 -- the objects of class k with a value in a slot, and the places, that the words name
-abbrev pub holding_and_span_named : List Class → List ℕ → List (List ℕ) → Option (Wanted × Span)
-holding_and_span_named classes k [] = None
-holding_and_span_named classes k (s ∷ []) = None
-holding_and_span_named classes k (s ∷ v ∷ ws) =
-    option_and_then (λ wanted. option_map (λ span. (wanted, span)) (span_of ws))
+abbrev pub holding_and_span_named : Bookmarks → List Class → List ℕ → List (List ℕ)
+    → Option (Wanted × Span)
+holding_and_span_named b classes k [] = None
+holding_and_span_named b classes k (s ∷ []) = None
+holding_and_span_named b classes k (s ∷ v ∷ ws) =
+    option_and_then (λ wanted. option_map (λ span. (wanted, span)) (span_of b ws))
     (holding_named classes k s v)
 
 -- the class, how many objects it has at least, and the places, that the words name
-abbrev pub count_and_span_named : List Class → List (List ℕ) → Option ((ℕ × ℕ) × Span)
-count_and_span_named classes [] = None
-count_and_span_named classes (k ∷ ws) =
+abbrev pub count_and_span_named : Bookmarks → List Class → List (List ℕ) → Option ((ℕ × ℕ) × Span)
+count_and_span_named b classes [] = None
+count_and_span_named b classes (k ∷ ws) =
     option_and_then
-    (λ k. option_and_then (λ n. option_map (λ span. ((k, n.0), span)) (span_of n.1)) (next_number ws))
+    (λ k. option_and_then (λ n. option_map (λ span. ((k, n.0), span)) (span_of b n.1)) (next_number ws))
     (class_of_word classes k)
 
 -- after `count` a class and how many objects it has at least, else a class, a slot and a value; and the places
-unfoldable pub when_named : List Class → List (List ℕ) → Option Question
-when_named classes [] = None
-when_named classes (w ∷ ws) =
+unfoldable pub when_named : Bookmarks → List Class → List (List ℕ) → Option Question
+when_named b classes [] = None
+when_named b classes (w ∷ ws) =
     if bytes_eq w (codes "count")
-    then option_map (λ a. WhenCount a.0.0 a.0.1 a.1) (count_and_span_named classes ws)
-    else option_map (λ a. When a.0 a.1) (holding_and_span_named classes w ws)
+    then option_map (λ a. WhenCount a.0.0 a.0.1 a.1) (count_and_span_named b classes ws)
+    else option_map (λ a. When a.0 a.1) (holding_and_span_named b classes w ws)
 
 -- ---- the table of questions that take a class or a slot
 
-unfoldable pub named_rules : HeapState → List QuestionRule
-named_rules state =
-    (codes "objects", λ ws. option_map (λ a. Objects a.0 a.1) (objects_named state.classes ws))
-    ∷ (codes "values", λ ws. option_map (λ a. Values a.0 a.1.0 a.1.1) (values_named state.classes ws))
-    ∷ (codes "wrote", λ ws. option_map (λ a. Wrote a.0 a.1.0 a.1.1) (write_named state ws))
-    ∷ (codes "watch", λ ws. option_map (λ a. Watch a.0.0 a.0.1 a.1) (watch_named state ws))
-    ∷ (codes "writes", λ ws. option_map (λ a. Writes a.0.0 a.0.1 a.1) (writes_named state.classes ws))
-    ∷ (codes "when", λ ws. when_named state.classes ws)
+unfoldable pub named_rules : Bookmarks → HeapState → List QuestionRule
+named_rules b state =
+    (codes "objects", λ ws. option_map (λ a. Objects a.0 a.1) (objects_named b state.classes ws))
+    ∷ (codes "values", λ ws. option_map (λ a. Values a.0 a.1.0 a.1.1) (values_named b state.classes ws))
+    ∷ (codes "wrote", λ ws. option_map (λ a. Wrote a.0 a.1.0 a.1.1) (write_named b state ws))
+    ∷ (codes "watch", λ ws. option_map (λ a. Watch a.0.0 a.0.1 a.1) (watch_named b state ws))
+    ∷ (codes "writes", λ ws. option_map (λ a. Writes a.0.0 a.0.1 a.1) (writes_named b state.classes ws))
+    ∷ (codes "when", λ ws. when_named b state.classes ws)
     ∷ []
 
 -- the question of these words, which may name classes and fields of a state
-unfoldable pub named_question_of_words : HeapState → List (List ℕ) → Option Question
-named_question_of_words state [] = None
-named_question_of_words state (w ∷ ws) = question_by (named_rules state) w ws
+unfoldable pub named_question_of_words : Bookmarks → HeapState → List (List ℕ) → Option Question
+named_question_of_words b state [] = None
+named_question_of_words b state (w ∷ ws) = question_by (named_rules b state) w ws
 
--- the question that a line asks: if it asks none by numbers alone, the one that it asks by names of this state
-abbrev pub question_in : HeapState → List ℕ → Option Question
-question_in state line =
-    option_or (question_of line) (named_question_of_words state (words_of_line line))
+-- the question that a line asks in a session with these bookmarks: if it asks none by numbers alone, the one that it asks by names
+-- of this state
+abbrev pub question_in : Bookmarks → HeapState → List ℕ → Option Question
+question_in b state line =
+    option_or (question_of b line) (named_question_of_words b state (words_of_line line))

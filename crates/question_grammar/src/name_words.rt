@@ -48,9 +48,9 @@ pub(crate) fn class_and_slot_named(
     Some((class, slot_of(classes, class, slot)?))
 }
 
-// Returns the slot of the instances of a class that a word names, by its number or its name, or None if it names none.
+/// Returns the slot of the instances of a class that a word names, by its number or its name, or None if it names none.
 #[tactic(auto, unfolding(crate::specs::NameWords::slot_of_word))]
-fn slot_of(classes: &FirstClasses<'_>, class: ClassNo, word: &[u8]) -> Option<u64>
+pub fn slot_of(classes: &FirstClasses<'_>, class: ClassNo, word: &[u8]) -> Option<u64>
     ensures { result ≡ slot_of_word classes.now class word.now }
 {
     match number_of(word) {
@@ -127,7 +127,7 @@ fn slot_of_object(world: &World, id: u64, word: &[u8]) -> Option<u64>
 
 // Returns the first slot with this name of the object with this id, dead or not.
 #[tactic(auto, unfolding(crate::specs::NameWords::slot_of_object_named))]
-fn slot_of_object_named(world: &World, id: u64, name: &[u8]) -> Option<u64>
+pub(crate) fn slot_of_object_named(world: &World, id: u64, name: &[u8]) -> Option<u64>
     ensures { result ≡ slot_of_object_named world.now id name.now }
 {
     let class = class_of_id(world, id)?;

@@ -3,6 +3,7 @@ ghost use Rattle.std.specs.Prelude.{◌≡◌};
 ghost use Rattle.session_grammar.specs.Grammar.{words_of_line};
 ghost use Rattle.question_grammar.specs.NamedLines.{count_and_span_named, holding_and_span_named, holding_named, named_question_of_words, objects_named, question_in, values_named, watch_named, when_named, write_named, writes_named};
 
+use crate::bookmarks::Bookmarks;
 use crate::name_words::{class_and_slot_named, class_of, id_and_slot_named};
 use crate::question::{Question, at_of, place_of_word, question_of, span_of, value_of};
 use heap_class::FirstClasses;
@@ -12,69 +13,79 @@ use question_words::{At, Span};
 use session_grammar::command::{at_end, next_number};
 use session_grammar::words::{Words, is_word};
 
-/// Returns the question that a line asks: if it asks none by numbers alone, the one that it asks by names of the current state's
-/// classes and fields. Returns None if it asks none. Takes no memory.
-pub fn question_in(world: &World, line: &[u8]) -> Option<Question>
-    ensures { result ≡ question_in world.now line.now }
+/// Returns the question that a line asks in a session with these bookmarks: if it asks none by numbers alone, the one that it asks
+/// by names of the current state's classes and fields. Returns None if it asks none. Takes no memory.
+pub fn question_in(bookmarks: &Bookmarks, world: &World, line: &[u8]) -> Option<Question>
+    ensures { result ≡ question_in bookmarks.now world.now line.now }
 {
-    match question_of(line) {
+    match question_of(bookmarks, line) {
         Some(question) => Some(question),
-        None => named_question(world, line),
+        None => named_question(bookmarks, world, line),
     }
 }
 
 // Returns the question that a line asks, which may name classes and fields, or None if it takes no class and no slot.
 #[tactic(auto, unfolding(crate::specs::NamedLines::named_question_of_words, crate::specs::NamedLines::named_rules))]
-fn named_question(world: &World, line: &[u8]) -> Option<Question>
-    ensures { result ≡ named_question_of_words world.now (words_of_line line.now) }
+fn named_question(bookmarks: &Bookmarks, world: &World, line: &[u8]) -> Option<Question>
+    ensures { result ≡ named_question_of_words bookmarks.now world.now (words_of_line line.now) }
 {
     let classes = world.classes().all();
     let mut words = Words::new(line);
     let keyword = words.next_word()?;
     if is_word(keyword, b"objects") {
-        let (at, wanted) = objects_named(&classes, words)?;
+        let (at, wanted) = objects_named(bookmarks, &classes, words)?;
         return Some(Question::Objects { at, wanted });
     }
     if is_word(keyword, b"values") {
-        let (at, (class, slot)) = values_named(&classes, words)?;
+        let (at, (class, slot)) = values_named(bookmarks, &classes, words)?;
         return Some(Question::Values { at, class, slot });
     }
     if is_word(keyword, b"wrote") {
-        let (to, (id, slot)) = write_named(world, words)?;
+        let (to, (id, slot)) = write_named(bookmarks, world, words)?;
         return Some(Question::Wrote { to, id, slot });
     }
     if is_word(keyword, b"watch") {
-        let ((id, slot), to) = watch_named(world, words)?;
+        let ((id, slot), to) = watch_named(bookmarks, world, words)?;
         return Some(Question::Watch { id, slot, to });
     }
     if is_word(keyword, b"writes") {
-        let ((class, slot), span) = writes_named(&classes, words)?;
+        let ((class, slot), span) = writes_named(bookmarks, &classes, words)?;
         return Some(Question::Writes { class, slot, span });
     }
     if is_word(keyword, b"when") {
-        return when_named(&classes, words);
+        return when_named(bookmarks, &classes, words);
     }
     None
 }
 
-// Returns the state, and a class or a class with a value in a slot, that the words name. If they name no state, it is the current
-// one.
+// Returns the state, and a class or a class with a value in a slot, that the words name. If they name no state, it is that of
+// the session.
 #[tactic(auto, unfolding(crate::specs::NamedLines::objects_named))]
-fn objects_named(classes: &FirstClasses<'_>, mut words: Words) -> Option<(At, Wanted)>
-    ensures { result ≡ objects_named classes.now (words_of_line words.entry) }
+fn objects_named(
+    bookmarks: &Bookmarks,
+    classes: &FirstClasses<'_>,
+    mut words: Words,
+) -> Option<(At, Wanted)>
+    ensures { result ≡ objects_named bookmarks.now classes.now (words_of_line words.entry) }
 {
     let first = words.next_word()?;
     let Some(second) = words.next_word() else {
-        return Some((At::Current, Wanted::OfClass(class_of(classes, first)?)));
+        return Some((
+            bookmarks.default_at(),
+            Wanted::OfClass(class_of(classes, first)?),
+        ));
     };
     let Some(third) = words.next_word() else {
-        let at = at_of(first)?;
+        let at = at_of(bookmarks, first)?;
         return Some((at, Wanted::OfClass(class_of(classes, second)?)));
     };
     let Some(fourth) = words.next_word() else {
-        return Some((At::Current, holding_named(classes, first, second, third)?));
+        return Some((
+            bookmarks.default_at(),
+            holding_named(classes, first, second, third)?,
+        ));
     };
-    let at = at_of(first)?;
+    let at = at_of(bookmarks, first)?;
     at_end((at, holding_named(classes, second, third, fourth)?), words)
 }
 
@@ -93,93 +104,124 @@ fn holding_named(
     Some(Wanted::Holding { class, slot, word })
 }
 
-// Returns the state, and the class and the slot, that the words name. If they name no state, it is the current one.
+// Returns the state, and the class and the slot, that the words name. If they name no state, it is that of the session.
 #[tactic(auto, unfolding(crate::specs::NamedLines::values_named))]
-fn values_named(classes: &FirstClasses<'_>, mut words: Words) -> Option<(At, (u64, u64))>
-    ensures { result ≡ values_named classes.now (words_of_line words.entry) }
+fn values_named(
+    bookmarks: &Bookmarks,
+    classes: &FirstClasses<'_>,
+    mut words: Words,
+) -> Option<(At, (u64, u64))>
+    ensures { result ≡ values_named bookmarks.now classes.now (words_of_line words.entry) }
 {
     let first = words.next_word()?;
     let second = words.next_word()?;
     let Some(third) = words.next_word() else {
-        return Some((At::Current, class_and_slot_named(classes, first, second)?));
+        return Some((
+            bookmarks.default_at(),
+            class_and_slot_named(classes, first, second)?,
+        ));
     };
-    let at = at_of(first)?;
+    let at = at_of(bookmarks, first)?;
     at_end((at, class_and_slot_named(classes, second, third)?), words)
 }
 
-// Returns the place, and the id and the slot, that the words name. If they are only an id and a slot, there is no place.
+// Returns the place, and the id and the slot, that the words name. If they are only an id and a slot, the place is that of the
+// session.
 #[tactic(auto, unfolding(crate::specs::NamedLines::write_named))]
-fn write_named(world: &World, mut words: Words) -> Option<(Option<u64>, (u64, u64))>
-    ensures { result ≡ write_named world.now (words_of_line words.entry) }
+fn write_named(
+    bookmarks: &Bookmarks,
+    world: &World,
+    mut words: Words,
+) -> Option<(Option<u64>, (u64, u64))>
+    ensures { result ≡ write_named bookmarks.now world.now (words_of_line words.entry) }
 {
     let first = words.next_word()?;
     let second = words.next_word()?;
     let Some(third) = words.next_word() else {
-        return Some((None, id_and_slot_named(world, first, second)?));
+        return Some((bookmarks.at(), id_and_slot_named(world, first, second)?));
     };
-    let to = place_of_word(first)?;
+    let to = place_of_word(bookmarks, first)?;
     at_end((to, id_and_slot_named(world, second, third)?), words)
 }
 
-// Returns the id and the slot, and the place, that the words name. If they are only an id and a slot, there is no place.
+// Returns the id and the slot, and the place, that the words name. If they are only an id and a slot, the place is that of the
+// session.
 #[tactic(auto, unfolding(crate::specs::NamedLines::watch_named))]
-fn watch_named(world: &World, mut words: Words) -> Option<((u64, u64), Option<u64>)>
-    ensures { result ≡ watch_named world.now (words_of_line words.entry) }
+fn watch_named(
+    bookmarks: &Bookmarks,
+    world: &World,
+    mut words: Words,
+) -> Option<((u64, u64), Option<u64>)>
+    ensures { result ≡ watch_named bookmarks.now world.now (words_of_line words.entry) }
 {
     let first = words.next_word()?;
     let second = words.next_word()?;
     let Some(third) = words.next_word() else {
-        return Some((id_and_slot_named(world, first, second)?, None));
+        return Some((id_and_slot_named(world, first, second)?, bookmarks.at()));
     };
     let slot = id_and_slot_named(world, first, second)?;
-    at_end((slot, place_of_word(third)?), words)
+    at_end((slot, place_of_word(bookmarks, third)?), words)
 }
 
 // Returns the class and the slot, and the steps, that the words name.
 #[tactic(auto, unfolding(crate::specs::NamedLines::writes_named))]
-fn writes_named(classes: &FirstClasses<'_>, mut words: Words) -> Option<((u64, u64), Span)>
-    ensures { result ≡ writes_named classes.now (words_of_line words.entry) }
+fn writes_named(
+    bookmarks: &Bookmarks,
+    classes: &FirstClasses<'_>,
+    mut words: Words,
+) -> Option<((u64, u64), Span)>
+    ensures { result ≡ writes_named bookmarks.now classes.now (words_of_line words.entry) }
 {
     let first = words.next_word()?;
     let second = words.next_word()?;
     let slot = class_and_slot_named(classes, first, second)?;
-    Some((slot, span_of(words)?))
+    Some((slot, span_of(bookmarks, words)?))
 }
 
 // Reads the words behind `when`: behind `count` a class and a number of objects, else a class, a slot and a value; and the places.
 #[tactic(auto, unfolding(crate::specs::NamedLines::when_named))]
-fn when_named(classes: &FirstClasses<'_>, mut words: Words) -> Option<Question>
-    ensures { result ≡ when_named classes.now (words_of_line words.entry) }
+fn when_named(
+    bookmarks: &Bookmarks,
+    classes: &FirstClasses<'_>,
+    mut words: Words,
+) -> Option<Question>
+    ensures { result ≡ when_named bookmarks.now classes.now (words_of_line words.entry) }
 {
     let word = words.next_word()?;
     if is_word(word, b"count") {
-        let ((class, least), span) = count_and_span_named(classes, words)?;
+        let ((class, least), span) = count_and_span_named(bookmarks, classes, words)?;
         return Some(Question::WhenCount { class, least, span });
     }
-    let (wanted, span) = holding_and_span_named(classes, word, words)?;
+    let (wanted, span) = holding_and_span_named(bookmarks, classes, word, words)?;
     Some(Question::When { wanted, span })
 }
 
 // Returns the class, the number of objects, and the places, that the words name.
-fn count_and_span_named(classes: &FirstClasses<'_>, mut words: Words) -> Option<((u64, u64), Span)>
-    ensures { result ≡ count_and_span_named classes.now (words_of_line words.entry) }
+fn count_and_span_named(
+    bookmarks: &Bookmarks,
+    classes: &FirstClasses<'_>,
+    mut words: Words,
+) -> Option<((u64, u64), Span)>
+    ensures { result ≡ count_and_span_named bookmarks.now classes.now (words_of_line words.entry) }
 {
     let word = words.next_word()?;
     let class = class_of(classes, word)?;
     let least = next_number(&mut words)?;
-    Some(((class, least), span_of(words)?))
+    Some(((class, least), span_of(bookmarks, words)?))
 }
 
 // Returns the objects of a class with a value in a slot, and the places, that the words name.
 fn holding_and_span_named(
+    bookmarks: &Bookmarks,
     classes: &FirstClasses<'_>,
     class: &[u8],
     mut words: Words,
 ) -> Option<(Wanted, Span)>
-    ensures { result ≡ holding_and_span_named classes.now class.now (words_of_line words.entry) }
+    ensures { result
+        ≡ holding_and_span_named bookmarks.now classes.now class.now (words_of_line words.entry) }
 {
     let slot = words.next_word()?;
     let value = words.next_word()?;
     let wanted = holding_named(classes, class, slot, value)?;
-    Some((wanted, span_of(words)?))
+    Some((wanted, span_of(bookmarks, words)?))
 }

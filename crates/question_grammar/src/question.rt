@@ -2,8 +2,9 @@
 ghost use Rattle.std.specs.Prelude.{◌≡◌, drop};
 ghost use Rattle.session_grammar.specs.Grammar.{words_of_line};
 ghost use Rattle.question_words.specs.Ids.{id_of_word};
-ghost use Rattle.question_grammar.specs.Questions.{at_and_optional, at_and_paths, at_and_slot, at_and_wanted, at_of_word, at_or_number, class_and_slot, dominated_by, dominators_by, dominators_of, holding, holding_and_span, id_and_number, id_and_paths, numbers_and_span, one_id, optional_at, optional_at_and_id, past_rules, path_count, place_and_id, place_and_number, place_and_slot, place_of, place_of_word, question_by, question_of, question_rules, show_by, show_of, slot_and_place, slots_named, span_of, value_of_word, wanted_of, when_of};
+ghost use Rattle.question_grammar.specs.Questions.{at_and_optional, at_and_paths, at_and_slot, at_and_wanted, at_of_word, at_or_number, class_and_slot, dominated_by, dominators_by, dominators_of, holding, holding_and_span, id_and_number, id_and_paths, numbers_and_span, one_id, optional_at, optional_at_and_id, past_rules, path_count, place_and_id, place_and_number, place_and_slot, place_behind, place_of, place_of_word, question_by, question_of, question_rules, show_by, show_of, slot_and_place, slots_named, span_of, value_of_word, wanted_of, when_of};
 
+use crate::bookmarks::Bookmarks;
 use heap_questions::Wanted;
 use question_words::{At, SlotRange, Span, id_of};
 use session_grammar::command::{at_end, next_number};
@@ -80,126 +81,137 @@ pub enum Question {
     Status,
 }
 
-/// Returns the state that a word names, or None if it names none. Takes no memory.
+/// Returns the state that a word names in a session with these bookmarks, or None if it names none. Takes no memory.
 #[tactic(auto, unfolding(crate::specs::Questions::at_of_word))]
-pub fn at_of(word: &[u8]) -> Option<At>
-    ensures { result ≡ at_of_word word.now }
+pub fn at_of(bookmarks: &Bookmarks, word: &[u8]) -> Option<At>
+    ensures { result ≡ at_of_word bookmarks.now word.now }
 {
     if is_word(word, b"-") {
         return Some(At::Current);
     }
     match word {
-        [b'@', place @ ..] => Some(At::Place(number_of(place)?)),
+        [b'@', place @ ..] => Some(At::Place(place_behind(bookmarks, place)?)),
         _ => Some(At::Pin(number_of(word)?)),
     }
 }
 
-/// Returns the question that a line asks, or None if it asks none.
+// Returns the place that a word names behind `@`: by its number, or by its name.
+fn place_behind(bookmarks: &Bookmarks, word: &[u8]) -> Option<u64>
+    ensures { result ≡ place_behind bookmarks.now word.now }
+{
+    match number_of(word) {
+        Some(place) => Some(place),
+        None => bookmarks.place_named(word),
+    }
+}
+
+/// Returns the question that a line asks in a session with these bookmarks, or None if it asks none.
 #[tactic(auto, unfolding(crate::specs::Questions::question_of_words, crate::specs::Questions::question_rules))]
-pub fn question_of(line: &[u8]) -> Option<Question>
-    ensures { result ≡ question_of line.now }
+pub fn question_of(bookmarks: &Bookmarks, line: &[u8]) -> Option<Question>
+    ensures { result ≡ question_of bookmarks.now line.now }
 {
     let mut words = Words::new(line);
     let keyword = words.next_word()?;
     if is_word(keyword, b"histogram") {
-        return Some(Question::Histogram(optional_at(words)?));
+        return Some(Question::Histogram(optional_at(bookmarks, words)?));
     }
     if is_word(keyword, b"garbage") {
-        return Some(Question::Garbage(optional_at(words)?));
+        return Some(Question::Garbage(optional_at(bookmarks, words)?));
     }
     if is_word(keyword, b"registers") {
-        return Some(Question::Registers(optional_at(words)?));
+        return Some(Question::Registers(optional_at(bookmarks, words)?));
     }
     if is_word(keyword, b"growth") {
-        let (older, newer) = at_and_optional(words)?;
+        let (older, newer) = at_and_optional(bookmarks, words)?;
         return Some(Question::Growth { older, newer });
     }
     if is_word(keyword, b"classes") {
-        return Some(Question::Classes(optional_at(words)?));
+        return Some(Question::Classes(optional_at(bookmarks, words)?));
     }
-    later_question(keyword, words)
+    later_question(bookmarks, keyword, words)
 }
 
-// Returns the one state that the words name. If there are no words, it is the current one.
-fn optional_at(mut words: Words) -> Option<At>
-    ensures { result ≡ optional_at (words_of_line words.entry) }
+// Returns the one state that the words name. If there are no words, it is that of the session.
+fn optional_at(bookmarks: &Bookmarks, mut words: Words) -> Option<At>
+    ensures { result ≡ optional_at bookmarks.now (words_of_line words.entry) }
 {
     let Some(word) = words.next_word() else {
-        return Some(At::Current);
+        return Some(bookmarks.default_at());
     };
-    at_end(at_of(word)?, words)
+    at_end(at_of(bookmarks, word)?, words)
 }
 
 // Returns the two states that the words name. If they name only one, the second is the current one.
-fn at_and_optional(mut words: Words) -> Option<(At, At)>
-    ensures { result ≡ at_and_optional (words_of_line words.entry) }
+fn at_and_optional(bookmarks: &Bookmarks, mut words: Words) -> Option<(At, At)>
+    ensures { result ≡ at_and_optional bookmarks.now (words_of_line words.entry) }
 {
     let word = words.next_word()?;
     let Some(second) = words.next_word() else {
-        return Some((at_of(word)?, At::Current));
+        return Some((at_of(bookmarks, word)?, At::Current));
     };
-    at_end((at_of(word)?, at_of(second)?), words)
+    at_end((at_of(bookmarks, word)?, at_of(bookmarks, second)?), words)
 }
 
 // Reads the words behind a keyword of a question about objects, retained steps, pins or the current state.
 #[tactic(auto, unfolding(crate::specs::Questions::question_rules))]
-fn later_question(keyword: &[u8], words: Words) -> Option<Question>
+fn later_question(bookmarks: &Bookmarks, keyword: &[u8], words: Words) -> Option<Question>
     ensures { result
-        ≡ question_by (drop 5 question_rules) keyword.now (words_of_line words.entry) }
+        ≡ question_by (drop 5 (question_rules bookmarks.now)) keyword.now
+        (words_of_line words.entry) }
 {
     if is_word(keyword, b"objects") {
-        let (at, wanted) = at_and_wanted(words)?;
+        let (at, wanted) = at_and_wanted(bookmarks, words)?;
         return Some(Question::Objects { at, wanted });
     }
     if is_word(keyword, b"values") {
-        let (at, (class, slot)) = at_and_slot(words)?;
+        let (at, (class, slot)) = at_and_slot(bookmarks, words)?;
         return Some(Question::Values { at, class, slot });
     }
     if is_word(keyword, b"kept") {
-        let (older, newer) = at_and_optional(words)?;
+        let (older, newer) = at_and_optional(bookmarks, words)?;
         return Some(Question::Kept { older, newer });
     }
     if is_word(keyword, b"diff") {
-        let (older, newer) = at_and_optional(words)?;
+        let (older, newer) = at_and_optional(bookmarks, words)?;
         return Some(Question::Diff { older, newer });
     }
     if is_word(keyword, b"referrers") {
-        let (at, id) = optional_at_and_id(words)?;
+        let (at, id) = optional_at_and_id(bookmarks, words)?;
         return Some(Question::Referrers { at, id });
     }
     if is_word(keyword, b"path") {
-        let (at, id) = optional_at_and_id(words)?;
+        let (at, id) = optional_at_and_id(bookmarks, words)?;
         return Some(Question::Path { at, id });
     }
     if is_word(keyword, b"paths") {
-        let (at, (id, most)) = at_and_paths(words)?;
+        let (at, (id, most)) = at_and_paths(bookmarks, words)?;
         return Some(Question::Paths { at, id, most });
     }
     if is_word(keyword, b"retained") {
-        let (at, id) = optional_at_and_id(words)?;
+        let (at, id) = optional_at_and_id(bookmarks, words)?;
         return Some(Question::Retained { at, id });
     }
     if is_word(keyword, b"dominators") {
-        return dominators_of(words);
+        return dominators_of(bookmarks, words);
     }
     if is_word(keyword, b"dominator") {
-        let (at, id) = optional_at_and_id(words)?;
+        let (at, id) = optional_at_and_id(bookmarks, words)?;
         return Some(Question::Dominator { at, id });
     }
     if is_word(keyword, b"show") {
-        return show_of(words);
+        return show_of(bookmarks, words);
     }
-    past_question(keyword, words)
+    past_question(bookmarks, keyword, words)
 }
 
-// Returns the state and the objects that the words name. If there are no words, it is the current state.
-fn at_and_wanted(mut words: Words) -> Option<(At, Wanted)>
-    ensures { result ≡ at_and_wanted (words_of_line words.entry) }
+// Returns the state and the objects that the words name. If there are no words, it is the state of the session.
+fn at_and_wanted(bookmarks: &Bookmarks, mut words: Words) -> Option<(At, Wanted)>
+    ensures { result ≡ at_and_wanted bookmarks.now (words_of_line words.entry) }
 {
     let Some(word) = words.next_word() else {
-        return Some((At::Current, Wanted::All));
+        return Some((bookmarks.default_at(), Wanted::All));
     };
-    let at = at_of(word)?;
+    let at = at_of(bookmarks, word)?;
     Some((at, wanted_of(words)?))
 }
 
@@ -220,16 +232,19 @@ fn wanted_of(mut words: Words) -> Option<Wanted>
     at_end(Wanted::Holding { class, slot, word }, words)
 }
 
-// Returns the state, and the class and the slot, that the words name. If they name no state, it is the current one.
-fn at_and_slot(mut words: Words) -> Option<(At, (u64, u64))>
-    ensures { result ≡ at_and_slot (words_of_line words.entry) }
+// Returns the state, and the class and the slot, that the words name. If they name no state, it is that of the session.
+fn at_and_slot(bookmarks: &Bookmarks, mut words: Words) -> Option<(At, (u64, u64))>
+    ensures { result ≡ at_and_slot bookmarks.now (words_of_line words.entry) }
 {
     let first = words.next_word()?;
     let second = words.next_word()?;
     let Some(third) = words.next_word() else {
-        return Some((At::Current, class_and_slot(first, second)?));
+        return Some((bookmarks.default_at(), class_and_slot(first, second)?));
     };
-    at_end((at_of(first)?, class_and_slot(second, third)?), words)
+    at_end(
+        (at_of(bookmarks, first)?, class_and_slot(second, third)?),
+        words,
+    )
 }
 
 // Returns the class and the slot that two words name.
@@ -239,27 +254,30 @@ fn class_and_slot(class: &[u8], slot: &[u8]) -> Option<(u64, u64)>
     Some((number_of(class)?, number_of(slot)?))
 }
 
-// Returns the state and the id that the words name. If they are only an id, the state is the current one.
-fn optional_at_and_id(mut words: Words) -> Option<(At, u64)>
-    ensures { result ≡ optional_at_and_id (words_of_line words.entry) }
+// Returns the state and the id that the words name. If they are only an id, the state is that of the session.
+fn optional_at_and_id(bookmarks: &Bookmarks, mut words: Words) -> Option<(At, u64)>
+    ensures { result ≡ optional_at_and_id bookmarks.now (words_of_line words.entry) }
 {
     let word = words.next_word()?;
     let Some(second) = words.next_word() else {
-        return Some((At::Current, id_of(word)?));
+        return Some((bookmarks.default_at(), id_of(word)?));
     };
-    at_end((at_of(word)?, id_of(second)?), words)
+    at_end((at_of(bookmarks, word)?, id_of(second)?), words)
 }
 
-// Returns the state, and the id and the number of paths, that the words name. If they name no state, it is the current one.
-fn at_and_paths(mut words: Words) -> Option<(At, (u64, u64))>
-    ensures { result ≡ at_and_paths (words_of_line words.entry) }
+// Returns the state, and the id and the number of paths, that the words name. If they name no state, it is that of the session.
+fn at_and_paths(bookmarks: &Bookmarks, mut words: Words) -> Option<(At, (u64, u64))>
+    ensures { result ≡ at_and_paths bookmarks.now (words_of_line words.entry) }
 {
     let first = words.next_word()?;
     let second = words.next_word()?;
     let Some(third) = words.next_word() else {
-        return Some((At::Current, id_and_paths(first, second)?));
+        return Some((bookmarks.default_at(), id_and_paths(first, second)?));
     };
-    at_end((at_of(first)?, id_and_paths(second, third)?), words)
+    at_end(
+        (at_of(bookmarks, first)?, id_and_paths(second, third)?),
+        words,
+    )
 }
 
 // Returns the id and the number of paths that two words are.
@@ -282,21 +300,21 @@ fn path_count(word: &[u8]) -> Option<u64>
 }
 
 // Reads the words behind `dominators`: a state, an id and a number of rows, each if it is named. A single number is that of rows.
-fn dominators_of(mut words: Words) -> Option<Question>
-    ensures { result ≡ dominators_of (words_of_line words.entry) }
+fn dominators_of(bookmarks: &Bookmarks, mut words: Words) -> Option<Question>
+    ensures { result ≡ dominators_of bookmarks.now (words_of_line words.entry) }
 {
     let Some(word) = words.next_word() else {
-        let at = At::Current;
+        let at = bookmarks.default_at();
         return Some(Question::Dominators { at, most: None });
     };
     if let Some(id) = id_of(word) {
-        return dominated_by(At::Current, id, words);
+        return dominated_by(bookmarks.default_at(), id, words);
     }
     let Some(second) = words.next_word() else {
-        let (at, most) = at_or_number(word)?;
+        let (at, most) = at_or_number(bookmarks, word)?;
         return Some(Question::Dominators { at, most });
     };
-    let at = at_of(word)?;
+    let at = at_of(bookmarks, word)?;
     dominators_by(at, second, words)
 }
 
@@ -312,13 +330,13 @@ fn dominated_by(at: At, id: u64, mut words: Words) -> Option<Question>
     at_end(Question::Dominated { at, id, most }, words)
 }
 
-// Returns the number that a word is, about the current state, or the state that it names, without a number.
-fn at_or_number(word: &[u8]) -> Option<(At, Option<u64>)>
-    ensures { result ≡ at_or_number word.now }
+// Returns the number that a word is, about the state of the session, or the state that it names, without a number.
+fn at_or_number(bookmarks: &Bookmarks, word: &[u8]) -> Option<(At, Option<u64>)>
+    ensures { result ≡ at_or_number bookmarks.now word.now }
 {
     match number_of(word) {
-        Some(number) => Some((At::Current, Some(number))),
-        None => Some((at_of(word)?, None)),
+        Some(number) => Some((bookmarks.default_at(), Some(number))),
+        None => Some((at_of(bookmarks, word)?, None)),
     }
 }
 
@@ -334,14 +352,14 @@ fn dominators_by(at: At, word: &[u8], words: Words) -> Option<Question>
 }
 
 // Reads the words behind `show`: a state, if it is named, an id and the slots. Only the id begins with `0x`.
-fn show_of(mut words: Words) -> Option<Question>
-    ensures { result ≡ show_of (words_of_line words.entry) }
+fn show_of(bookmarks: &Bookmarks, mut words: Words) -> Option<Question>
+    ensures { result ≡ show_of bookmarks.now (words_of_line words.entry) }
 {
     let word = words.next_word()?;
     if let Some(id) = id_of(word) {
-        return show_by(At::Current, id, words);
+        return show_by(bookmarks.default_at(), id, words);
     }
-    let at = at_of(word)?;
+    let at = at_of(bookmarks, word)?;
     let second = words.next_word()?;
     show_by(at, id_of(second)?, words)
 }
@@ -368,15 +386,16 @@ fn slots_of(mut words: Words) -> Option<SlotRange>
 
 // Reads the words behind a keyword of a question about what retained steps did, about pins, or about the current state.
 #[tactic(auto, unfolding(crate::specs::Questions::past_rules))]
-fn past_question(keyword: &[u8], words: Words) -> Option<Question>
-    ensures { result ≡ question_by past_rules keyword.now (words_of_line words.entry) }
+fn past_question(bookmarks: &Bookmarks, keyword: &[u8], words: Words) -> Option<Question>
+    ensures { result
+        ≡ question_by (past_rules bookmarks.now) keyword.now (words_of_line words.entry) }
 {
     if is_word(keyword, b"born") {
-        let (to, id) = place_and_id(words)?;
+        let (to, id) = place_and_id(bookmarks, words)?;
         return Some(Question::Born { to, id });
     }
     if is_word(keyword, b"dropped") {
-        let (to, id) = place_and_id(words)?;
+        let (to, id) = place_and_id(bookmarks, words)?;
         return Some(Question::Dropped { to, id });
     }
     if is_word(keyword, b"life") {
@@ -398,36 +417,36 @@ fn past_question(keyword: &[u8], words: Words) -> Option<Question>
         return at_end(Question::Status, words);
     }
     if is_word(keyword, b"history") {
-        let (to, count) = place_and_number(words)?;
+        let (to, count) = place_and_number(bookmarks, words)?;
         return Some(Question::History { to, count });
     }
     if is_word(keyword, b"wrote") {
-        let (to, (id, slot)) = place_and_slot(words)?;
+        let (to, (id, slot)) = place_and_slot(bookmarks, words)?;
         return Some(Question::Wrote { to, id, slot });
     }
     if is_word(keyword, b"watch") {
-        let ((id, slot), to) = slot_and_place(words)?;
+        let ((id, slot), to) = slot_and_place(bookmarks, words)?;
         return Some(Question::Watch { id, slot, to });
     }
     if is_word(keyword, b"writes") {
-        let ((class, slot), span) = numbers_and_span(words)?;
+        let ((class, slot), span) = numbers_and_span(bookmarks, words)?;
         return Some(Question::Writes { class, slot, span });
     }
     if is_word(keyword, b"when") {
-        return when_of(words);
+        return when_of(bookmarks, words);
     }
     None
 }
 
-// Returns the place and the id that the words name. If they are only an id, there is no place.
-fn place_and_id(mut words: Words) -> Option<(Option<u64>, u64)>
-    ensures { result ≡ place_and_id (words_of_line words.entry) }
+// Returns the place and the id that the words name. If they are only an id, the place is that of the session.
+fn place_and_id(bookmarks: &Bookmarks, mut words: Words) -> Option<(Option<u64>, u64)>
+    ensures { result ≡ place_and_id bookmarks.now (words_of_line words.entry) }
 {
     let word = words.next_word()?;
     let Some(second) = words.next_word() else {
-        return Some((None, id_of(word)?));
+        return Some((bookmarks.at(), id_of(word)?));
     };
-    at_end((place_of_word(word)?, id_of(second)?), words)
+    at_end((place_of_word(bookmarks, word)?, id_of(second)?), words)
 }
 
 // Returns the id that the words are.
@@ -438,27 +457,34 @@ fn one_id(mut words: Words) -> Option<u64>
     at_end(id_of(word)?, words)
 }
 
-// Returns the place and the number that the words name. If they are only a number, there is no place.
-fn place_and_number(mut words: Words) -> Option<(Option<u64>, u64)>
-    ensures { result ≡ place_and_number (words_of_line words.entry) }
+// Returns the place and the number that the words name. If they are only a number, the place is that of the session.
+fn place_and_number(bookmarks: &Bookmarks, mut words: Words) -> Option<(Option<u64>, u64)>
+    ensures { result ≡ place_and_number bookmarks.now (words_of_line words.entry) }
 {
     let word = words.next_word()?;
     let Some(second) = words.next_word() else {
-        return Some((None, number_of(word)?));
+        return Some((bookmarks.at(), number_of(word)?));
     };
-    at_end((place_of_word(word)?, number_of(second)?), words)
+    at_end((place_of_word(bookmarks, word)?, number_of(second)?), words)
 }
 
-// Returns the place, and the id and the number, that the words name. If they are only an id and a number, there is no place.
-fn place_and_slot(mut words: Words) -> Option<(Option<u64>, (u64, u64))>
-    ensures { result ≡ place_and_slot (words_of_line words.entry) }
+// Returns the place, and the id and the number, that the words name. If they are only an id and a number, the place is that of the
+// session.
+fn place_and_slot(bookmarks: &Bookmarks, mut words: Words) -> Option<(Option<u64>, (u64, u64))>
+    ensures { result ≡ place_and_slot bookmarks.now (words_of_line words.entry) }
 {
     let word = words.next_word()?;
     let second = words.next_word()?;
     let Some(third) = words.next_word() else {
-        return Some((None, id_and_number(word, second)?));
+        return Some((bookmarks.at(), id_and_number(word, second)?));
     };
-    at_end((place_of_word(word)?, id_and_number(second, third)?), words)
+    at_end(
+        (
+            place_of_word(bookmarks, word)?,
+            id_and_number(second, third)?,
+        ),
+        words,
+    )
 }
 
 // Returns the id and the number that two words are.
@@ -468,48 +494,55 @@ fn id_and_number(word: &[u8], second: &[u8]) -> Option<(u64, u64)>
     Some((id_of(word)?, number_of(second)?))
 }
 
-// Returns the id and the number, and the place, that the words name. If they are only an id and a number, there is no place.
-fn slot_and_place(mut words: Words) -> Option<((u64, u64), Option<u64>)>
-    ensures { result ≡ slot_and_place (words_of_line words.entry) }
+// Returns the id and the number, and the place, that the words name. If they are only an id and a number, the place is that of the
+// session.
+fn slot_and_place(bookmarks: &Bookmarks, mut words: Words) -> Option<((u64, u64), Option<u64>)>
+    ensures { result ≡ slot_and_place bookmarks.now (words_of_line words.entry) }
 {
     let word = words.next_word()?;
     let second = words.next_word()?;
     let Some(third) = words.next_word() else {
-        return Some((id_and_number(word, second)?, None));
+        return Some((id_and_number(word, second)?, bookmarks.at()));
     };
-    at_end((id_and_number(word, second)?, place_of_word(third)?), words)
+    at_end(
+        (
+            id_and_number(word, second)?,
+            place_of_word(bookmarks, third)?,
+        ),
+        words,
+    )
 }
 
 // Returns the two numbers, and the steps, that the words name.
-fn numbers_and_span(mut words: Words) -> Option<((u64, u64), Span)>
-    ensures { result ≡ numbers_and_span (words_of_line words.entry) }
+fn numbers_and_span(bookmarks: &Bookmarks, mut words: Words) -> Option<((u64, u64), Span)>
+    ensures { result ≡ numbers_and_span bookmarks.now (words_of_line words.entry) }
 {
     let first = next_number(&mut words)?;
     let second = next_number(&mut words)?;
-    Some(((first, second), span_of(words)?))
+    Some(((first, second), span_of(bookmarks, words)?))
 }
 
 // Reads the words behind `when`: behind `count` a class and a number of objects, else a class, a slot and a value; and the places.
-fn when_of(mut words: Words) -> Option<Question>
-    ensures { result ≡ when_of (words_of_line words.entry) }
+fn when_of(bookmarks: &Bookmarks, mut words: Words) -> Option<Question>
+    ensures { result ≡ when_of bookmarks.now (words_of_line words.entry) }
 {
     let word = words.next_word()?;
     if is_word(word, b"count") {
-        let ((class, least), span) = numbers_and_span(words)?;
+        let ((class, least), span) = numbers_and_span(bookmarks, words)?;
         return Some(Question::WhenCount { class, least, span });
     }
-    let (wanted, span) = holding_and_span(word, words)?;
+    let (wanted, span) = holding_and_span(bookmarks, word, words)?;
     Some(Question::When { wanted, span })
 }
 
 // Returns the objects of a class with a value in a slot, and the places, that the words name.
-fn holding_and_span(class: &[u8], mut words: Words) -> Option<(Wanted, Span)>
-    ensures { result ≡ holding_and_span class.now (words_of_line words.entry) }
+fn holding_and_span(bookmarks: &Bookmarks, class: &[u8], mut words: Words) -> Option<(Wanted, Span)>
+    ensures { result ≡ holding_and_span bookmarks.now class.now (words_of_line words.entry) }
 {
     let slot = words.next_word()?;
     let value = words.next_word()?;
     let wanted = holding(class, slot, value)?;
-    Some((wanted, span_of(words)?))
+    Some((wanted, span_of(bookmarks, words)?))
 }
 
 // Returns the objects of a class with a value in a slot, which three words name.
@@ -536,10 +569,10 @@ pub(crate) fn value_of(word: &[u8]) -> Option<u64>
 }
 
 // Returns the place of the state that a word names.
-pub(crate) fn place_of_word(word: &[u8]) -> Option<Option<u64>>
-    ensures { result ≡ place_of_word word.now }
+pub(crate) fn place_of_word(bookmarks: &Bookmarks, word: &[u8]) -> Option<Option<u64>>
+    ensures { result ≡ place_of_word bookmarks.now word.now }
 {
-    place_of(at_of(word)?)
+    place_of(at_of(bookmarks, word)?)
 }
 
 // Returns the place of a state, or None of a pin: it may keep a state that the retained steps don't lead to.
@@ -554,16 +587,16 @@ fn place_of(at: At) -> Option<Option<u64>>
 }
 
 // Returns the steps that the words name: all if there are no words.
-pub(crate) fn span_of(mut words: Words) -> Option<Span>
-    ensures { result ≡ span_of (words_of_line words.entry) }
+pub(crate) fn span_of(bookmarks: &Bookmarks, mut words: Words) -> Option<Span>
+    ensures { result ≡ span_of bookmarks.now (words_of_line words.entry) }
 {
     let Some(word) = words.next_word() else {
         return Some(Span::AllSteps);
     };
-    let after = place_of_word(word)?;
+    let after = place_of_word(bookmarks, word)?;
     let Some(second) = words.next_word() else {
         return Some(Span::Between { after, to: None });
     };
-    let to = place_of_word(second)?;
+    let to = place_of_word(bookmarks, second)?;
     at_end(Span::Between { after, to }, words)
 }

@@ -9,6 +9,10 @@ pub mod PastTexts
 pub mod SlotRows
 pub mod FieldRows
 pub mod NamedObjects
+pub mod TreeRows
+pub mod SlotNames
+pub mod TreeObjects
+pub mod TreeRoom
 pub mod LivedRows
 pub mod PinRows
 pub mod UsedRegions

@@ -1,11 +1,10 @@
 -- The rows of several paths.
 use Rattle.std.proofs.Common.{◌≡◌, ◌∙◌, ◌++◌, ◌<◌, ℕ, List, [], ◌∷◌, ap, get_or, length, map, refl, subst, sym, arith}
-use Rattle.std.specs.Prelude.{All, IsSome, Some, flat_map, option_and_then, option_map, slice_get}
+use Rattle.std.specs.Prelude.{All, IsSome, Some, flat_map, option_map, slice_get}
 use Rattle.std.proofs.lemmas.List.{length-map}
 use Rattle.std.proofs.lemmas.Option.{slice_get-get_or, slice_get-map}
 use Rattle.hprof_text.specs.Image.{Image}
-use Rattle.heap_questions.specs.Graph.{followed}
-use Rattle.heap_questions.specs.PathsApart.{AreFirstPaths, Route, route_of}
+use Rattle.heap_questions.specs.PathsApart.{AreFirstPaths, route_of}
 use Rattle.heap_questions.specs.declared.paths.Path.{Path}
 use Rattle.question_rows.specs.PathLists.{LeadsOn, paths_text, way_text, ways_text}
 use Rattle.question_words.specs.Rows.{count_text}

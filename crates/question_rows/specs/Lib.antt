@@ -9,6 +9,7 @@ pub mod Growths
 pub mod Kept
 pub mod Paths
 pub mod Objects
+pub mod Trees
 pub mod ObjectLists
 pub mod ValueLists
 pub mod PathLists

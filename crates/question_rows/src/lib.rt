@@ -25,6 +25,7 @@ mod show;
 mod slot_changes;
 mod slot_writes;
 mod status;
+mod tree;
 mod value_list;
 mod write;
 
@@ -51,5 +52,6 @@ pub use show::{show_answer, shows_mark};
 pub use slot_changes::watch_answer;
 pub use slot_writes::writes_answer;
 pub use status::status_answer;
+pub use tree::{ROW_LIMIT, tree_answer};
 pub use value_list::values_answer;
 pub use write::wrote_answer;

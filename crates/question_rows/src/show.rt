@@ -7,9 +7,9 @@ ghost use Rattle.question_words.specs.Names.{IsClassThere, fields_up};
 ghost use Rattle.question_rows.specs.Objects.{IsShowText, and_value, element_row, element_rows, end_in, field_row, field_rows, first_in, is_marked, joined, mark_text, object_line, object_text, rows_in, shows_mark, slot_rows, value_text};
 
 use heap_class::{ClassNo, FirstClasses, Kind, ObjKind, Refusal};
-use heap_questions::{ShownObject, object_with};
+use heap_questions::object_with;
 use heap_trail::Machine;
-use hprof_text::View;
+use hprof_text::{ShownObject, View};
 use question_words::{
     At, SlotRange, Unanswered, field_name, place_of_object, push_class_name, push_number,
     push_reference, push_row, push_words,
@@ -194,17 +194,6 @@ fn push_end(text: &mut Vec<u8>, kind: Kind, word: u64) -> Result<(), AllocError>
     push_words(text, b"\n")
 }
 
-// Appends a word of a kind: an id or `null`, or a number. Fails if an allocation fails.
-fn push_value(text: &mut Vec<u8>, kind: Kind, word: u64) -> Result<(), AllocError>
-    ensures { Appends (and_value kind word) text.old.items text.new.items result }
-{
-    if kind.is_reference() {
-        push_reference(text, word)
-    } else {
-        push_number(text, word)
-    }
-}
-
 // Appends the rows of the elements from this one on. Fails if an allocation fails.
 fn push_elements(
     text: &mut Vec<u8>,
@@ -231,9 +220,20 @@ fn push_element(text: &mut Vec<u8>, kind: Kind, index: u64, word: u64) -> Result
     push_end(text, kind, word)
 }
 
+// Appends a word of a kind: an id or `null`, or a number. Fails if an allocation fails.
+pub(crate) fn push_value(text: &mut Vec<u8>, kind: Kind, word: u64) -> Result<(), AllocError>
+    ensures { Appends (and_value kind word) text.old.items text.new.items result }
+{
+    if kind.is_reference() {
+        push_reference(text, word)
+    } else {
+        push_number(text, word)
+    }
+}
+
 // Appends the last line: the class, the number of the slots and a mark. The class must be there. Fails if an allocation fails.
 #[tactic(auto, unfolding(crate::specs::Objects::object_line))]
-fn push_object(
+pub(crate) fn push_object(
     text: &mut Vec<u8>,
     classes: &FirstClasses<'_>,
     object: &ShownObject<'_>,

@@ -5,7 +5,7 @@ use Rattle.std.proofs.lemmas.Bool.{leb-false}
 use Rattle.heap_class.specs.declared.Refusal.{Refusal}
 use Rattle.heap_class.specs.declared.Refusal.TheVariants.{NoMemory}
 use Rattle.heap_trail.specs.declared.Action.{Action}
-use Rattle.heap_trail.specs.declared.Action.TheVariants.{Step, Rewind}
+use Rattle.heap_trail.specs.declared.Action.TheVariants.{OpenPin, Step, Rewind}
 use Rattle.heap_trail.specs.declared.Reply.{Reply}
 use Rattle.heap_trail.specs.declared.Reply.TheVariants.{Answered, Place}
 use Rattle.heap_trail.specs.Laws.{IsTrail}
@@ -27,8 +27,10 @@ use Rattle.question_grammar.specs.declared.order.Order.TheVariants.{Act, Collect
 use Rattle.heap_orders.specs.Collections.{AreNext, NoneDenies, RunsCycle, TakenStep, ends_cycle}
 use Rattle.question_words.specs.Moments.{steps_ago, refused_text}
 use Rattle.heap_orders.specs.Deeds.{ActsOnce, GoesOnBy, RewindsBy, steps_on}
-use Rattle.question_text.specs.Sessions.{Does, AnswersLine, AskingActs, AskingAnswers, is_known}
+use Rattle.question_text.specs.Sessions.{Does, AnswersLine, AskingActs, AskingAnswers, OpensOrAnswers, is_known}
+use Rattle.question_grammar.specs.NoteLines.{place_opened}
 use Rattle.question_grammar.specs.Orders.{order_in}
+use Rattle.question_text.proofs.NotedLines.{order_opens_none}
 use Rattle.heap_orders.specs.Redos.{GoesForward, GoesOn, IsBackAt, IsRedoOf, LeadsTo, Redo, StopsBefore, TakesAgain, no_redo, noted, with_step, with_steps, with_undone}
 use Rattle.question_text.proofs.QuestionsLeftOut.{known_is, unknown_is}
 use Rattle.heap_orders.proofs.RetakenSteps.{action_keeps, again_up, leads_here, rewind_leads, stopped_for_memory, undone}
@@ -91,8 +93,12 @@ unknown_keeps : (order : Option Order) (l text : List ℕ) (c d : Asking) → An
 unknown_keeps (Some order) l text c d h k = order_keeps order c.local.machine d.local.machine c.redo d.redo text h.0 k
 unknown_keeps None l text c d h k = subst Keeps (sym h.1) k
 
+opened_keeps : (opened : Option ℕ) (l text : List ℕ) (c d : Asking) → OpensOrAnswers opened l c text d → Keeps c → Keeps d
+opened_keeps (Some place) l text c d h k = act_keeps c (OpenPin (Some place)) h.0 d h.1 k
+opened_keeps None l text c d h k = unknown_keeps (order_in c.bookmarks c.local.machine.trail.current l) l text c d h k
+
 pub answer_keeps_redo : (l text : List ℕ) (c d : Asking) → AskingAnswers l c text d → Keeps c → Keeps d
-answer_keeps_redo l text c d h k = unknown_keeps (order_in c.local.machine.trail.current l) l text c d h.0 k
+answer_keeps_redo l text c d h k = opened_keeps (place_opened c.bookmarks l) l text c d h.0 k
 
 line_keeps_redo : (time : ℕ) (l : List ℕ) (c : Asking) (text : List ℕ) (d : Asking) (b : Bool) → is_known (command_of l) ≡ b → AnswersCommand AskingActs AskingAnswers time l c text d → Keeps c → Keeps d
 line_keeps_redo time l c text d true h says k =
@@ -151,10 +157,12 @@ forward_takes_back n place m x k r u s text l few acts is h =
     let j = rewind_leads m x r n l.0 few (undone m x n place acts) l.1 in
     forward_back n l.0 m x k r u s text l.1 all (subst (λ (y : Redo). LeadsTo x y l.0) (sym all) j) h
 
-pub line_takes_back : (n place : ℕ) (l text : List ℕ) (c d e : Asking) → Keeps c → c.redo.ahead + n ≤ length c.redo.events → AskingActs c (Rewind n) (Place place) d → order_in d.local.machine.trail.current l ≡ Some (Forward n) → AskingAnswers l d text e
+pub line_takes_back : (n place : ℕ) (l text : List ℕ) (c d e : Asking) → Keeps c → c.redo.ahead + n ≤ length c.redo.events → AskingActs c (Rewind n) (Place place) d → order_in d.bookmarks d.local.machine.trail.current l ≡ Some (Forward n) → AskingAnswers l d text e
     → IsBackAt c.local.machine c.redo text e.local.machine e.redo ⊎ (text ≡ refused_text NoMemory)
 line_takes_back n place l text c d e k few acts is says =
-    let answers : AnswersLine (Some (Forward n)) l d text e = subst (λ (o : Option Order). AnswersLine o l d text e) is says.0 in
+    let state = d.local.machine.trail.current in
+    let line : AnswersLine (order_in d.bookmarks state l) l d text e = subst (λ (o : Option ℕ). OpensOrAnswers o l d text e) (order_opens_none d.bookmarks state l (Forward n) is) says.0 in
+    let answers : AnswersLine (Some (Forward n)) l d text e = subst (λ (o : Option Order). AnswersLine o l d text e) is line in
     forward_takes_back n place c.local.machine d.local.machine e.local.machine c.redo d.redo e.redo text k few acts.0 acts.2 answers.0
 
 -- a step that is taken again is refused for lack of memory alone

@@ -1,5 +1,9 @@
 pub mod NewWords
+pub mod NewEvents
+pub mod NewChains
+pub mod NotedLines
 pub mod Comments
+pub mod FollowedFields
 pub mod HelpForms
 pub mod KeptPins
 pub mod NotedSteps

@@ -1,29 +1,24 @@
 -- No line that asks a question is one of the grammar of sessions.
-use Rattle.std.proofs.Common.{◌≡◌, ◌∙◌, ap, ℕ, Bool, true, false, cond, List, [], ◌∷◌, Some, None, refl, sym, subst}
-use Rattle.std.specs.Prelude.{Option, codes, drop, find, if◌then◌else◌, is_some, ◌&&◌, length, nat_le, nat_lt, option_and_then, option_map, slice_index, take}
+use Rattle.std.proofs.Common.{◌≡◌, ap, ℕ, Bool, true, false, cond, List, [], ◌∷◌, Some, None, refl, sym, subst}
+use Rattle.std.specs.Prelude.{Option, codes, drop, find, ◌&&◌, length, nat_le, nat_lt, option_and_then, option_map, slice_index, take}
 use Rattle.std.specs.List.{AllByRecursion}
 use Rattle.std.specs.Option.{option_or}
 use Rattle.std.specs.Str.{bytes_eq}
 use Rattle.std.proofs.lemmas.Slice.Eq.{bytes_eq-Decides}
 use Rattle.heap_world.specs.State.{HeapState}
-use Rattle.heap_class.specs.Classes.{Class}
-use Rattle.heap_step.specs.declared.Event.{Event}
-use Rattle.heap_step.specs.declared.Event.TheVariants.{New}
-use Rattle.heap_trail.specs.declared.Action.TheVariants.{Rewind, Step}
+use Rattle.heap_trail.specs.declared.Action.TheVariants.{Rewind}
 use Rattle.session_grammar.specs.declared.command.Command.TheVariants.{Ask, Bad}
-use Rattle.session_grammar.specs.Grammar.{access_rules, all_rules, at_end, by_rule, class_rules, command_of_text, command_of_words, is_plain, making_rules, marking_rules, next_number, number_of_word, session_rules, words_of_line}
-use Rattle.question_text.specs.declared.asking.Asking.{Asking}
+use Rattle.session_grammar.specs.Grammar.{access_rules, all_rules, at_end, by_rule, class_rules, command_of_text, command_of_words, is_plain, making_rules, marking_rules, number_of_word, session_rules, words_of_line}
 use Rattle.question_grammar.specs.declared.question.Question.{Question}
 use Rattle.question_grammar.specs.declared.order.Order.{Order}
-use Rattle.question_grammar.specs.declared.order.Order.TheVariants.{Act, Collect, RewindTo}
+use Rattle.question_grammar.specs.declared.order.Order.TheVariants.{Collect, RewindTo}
 use Rattle.question_words.specs.declared.at.At.{At}
 use Rattle.question_words.specs.declared.at.At.TheVariants.{Current, Pin, Place}
-use Rattle.question_grammar.specs.Orders.{class_by_name, new_by_name, new_of, order_in, order_of_two, order_of_words, way_back, way_on}
+use Rattle.question_grammar.specs.Bookmarks.{Bookmarks}
+use Rattle.question_grammar.specs.Orders.{order_of_two, order_of_words, way_back, way_on}
 use Rattle.question_text.specs.Help.{help_about, help_of, help_of_words}
-use Rattle.question_grammar.specs.NameWords.{class_named}
 use Rattle.question_grammar.specs.NamedLines.{named_question_of_words, named_rules, question_in}
-use Rattle.question_grammar.specs.Questions.{QuestionRule, at_of_word, past_rules, place_of, question_by, question_of, question_of_words, question_rules}
-use Rattle.question_text.specs.Sessions.{AnswersLine, AskingAnswers}
+use Rattle.question_grammar.specs.Questions.{QuestionRule, at_of_word, past_rules, place_behind, place_of, question_by, question_of, question_of_words, question_rules}
 
 -- a line whose words are no command is none
 pub bad_words : (l : List ℕ) → command_of_words (words_of_line l) ≡ Bad → command_of_text l ≡ Bad
@@ -34,12 +29,12 @@ bad_words l e = go (is_plain l)
     go false = refl
 
 -- a keyword that no rule of sessions has
-abbrev IsNew : List ℕ → Type 0
+abbrev pub IsNew : List ℕ → Type 0
 IsNew key = (ws : List (List ℕ)) → by_rule all_rules key ws ≡ None
 
-all_new : AllByRecursion (λ (r : QuestionRule). IsNew r.0) question_rules
+all_new : (bm : Bookmarks) → AllByRecursion (λ (r : QuestionRule). IsNew r.0) (question_rules bm)
 unfolding question_rules past_rules by_rule class_rules making_rules access_rules marking_rules session_rules
-all_new = (λ ws. refl, (λ ws. refl, (λ ws. refl, (λ ws. refl, (λ ws. refl, (λ ws. refl, (λ ws. refl, (λ ws. refl, (λ ws. refl, (λ ws. refl, (λ ws. refl, (λ ws. refl, (λ ws. refl, (λ ws. refl, (λ ws. refl, (λ ws. refl, (λ ws. refl, (λ ws. refl, (λ ws. refl, (λ ws. refl, (λ ws. refl, (λ ws. refl, (λ ws. refl, (λ ws. refl, (λ ws. refl, (λ ws. refl, (λ ws. refl, (λ ws. refl, (λ ws. refl, tt)))))))))))))))))))))))))))))
+all_new bm = (λ ws. refl, (λ ws. refl, (λ ws. refl, (λ ws. refl, (λ ws. refl, (λ ws. refl, (λ ws. refl, (λ ws. refl, (λ ws. refl, (λ ws. refl, (λ ws. refl, (λ ws. refl, (λ ws. refl, (λ ws. refl, (λ ws. refl, (λ ws. refl, (λ ws. refl, (λ ws. refl, (λ ws. refl, (λ ws. refl, (λ ws. refl, (λ ws. refl, (λ ws. refl, (λ ws. refl, (λ ws. refl, (λ ws. refl, (λ ws. refl, (λ ws. refl, (λ ws. refl, tt)))))))))))))))))))))))))))))
 
 found_new : (w : List ℕ) (ws : List (List ℕ)) (rules : List QuestionRule) (q : Question) → AllByRecursion (λ (r : QuestionRule). IsNew r.0) rules
     → question_by rules w ws ≡ Some q → IsNew w
@@ -51,32 +46,32 @@ found_new w ws (r ∷ rs) q all e = go (found_new w ws rs q all.1) (bytes_eq w r
     go later true h e = subst IsNew (sym ((bytes_eq-Decides w r.0).0 h)) all.0
     go later false h e = later e
 
-by_words : (ws : List (List ℕ)) (q : Question) → question_of_words ws ≡ Some q → command_of_words ws ≡ Bad
+by_words : (bm : Bookmarks) (ws : List (List ℕ)) (q : Question) → question_of_words bm ws ≡ Some q → command_of_words ws ≡ Bad
 unfolding question_of_words
-by_words [] q e = cc
-by_words (w ∷ ws) q e = let none = found_new w ws question_rules q all_new e ws in rw none refl
+by_words bm [] q e = cc
+by_words bm (w ∷ ws) q e = let none = found_new w ws (question_rules bm) q (all_new bm) e ws in rw none refl
 
 -- ---- questions with names
 
-named_new : (state : HeapState) → AllByRecursion (λ (r : QuestionRule). IsNew r.0) (named_rules state)
+named_new : (bm : Bookmarks) (state : HeapState) → AllByRecursion (λ (r : QuestionRule). IsNew r.0) (named_rules bm state)
 unfolding named_rules by_rule class_rules making_rules access_rules marking_rules session_rules
-named_new state = (λ ws. refl, (λ ws. refl, (λ ws. refl, (λ ws. refl, (λ ws. refl, (λ ws. refl, tt))))))
+named_new bm state = (λ ws. refl, (λ ws. refl, (λ ws. refl, (λ ws. refl, (λ ws. refl, (λ ws. refl, tt))))))
 
-by_named_words : (state : HeapState) (ws : List (List ℕ)) (q : Question) → named_question_of_words state ws ≡ Some q → command_of_words ws ≡ Bad
+by_named_words : (bm : Bookmarks) (state : HeapState) (ws : List (List ℕ)) (q : Question) → named_question_of_words bm state ws ≡ Some q → command_of_words ws ≡ Bad
 unfolding named_question_of_words
-by_named_words state [] q e = cc
-by_named_words state (w ∷ ws) q e = let none = found_new w ws (named_rules state) q (named_new state) e ws in rw none refl
+by_named_words bm state [] q e = cc
+by_named_words bm state (w ∷ ws) q e = let none = found_new w ws (named_rules bm state) q (named_new bm state) e ws in rw none refl
 
-by_either : (state : HeapState) (ws : List (List ℕ)) (q : Question) (numbers : Option Question) → question_of_words ws ≡ numbers → option_or numbers (named_question_of_words state ws) ≡ Some q → command_of_words ws ≡ Bad
-by_either state ws q None h e = by_named_words state ws q e
-by_either state ws q (Some p) h e = by_words ws p h
+by_either : (bm : Bookmarks) (state : HeapState) (ws : List (List ℕ)) (q : Question) (numbers : Option Question) → question_of_words bm ws ≡ numbers → option_or numbers (named_question_of_words bm state ws) ≡ Some q → command_of_words ws ≡ Bad
+by_either bm state ws q None h e = by_named_words bm state ws q e
+by_either bm state ws q (Some p) h e = by_words bm ws p h
 
-pub same_by_numbers : (state : HeapState) (l : List ℕ) (q : Question) → question_of l ≡ Some q → question_in state l ≡ Some q
-same_by_numbers state l q e =
-    ap (λ (o : Option Question). option_or o (named_question_of_words state (words_of_line l))) e
+pub same_by_numbers : (bm : Bookmarks) (state : HeapState) (l : List ℕ) (q : Question) → question_of bm l ≡ Some q → question_in bm state l ≡ Some q
+same_by_numbers bm state l q e =
+    ap (λ (o : Option Question). option_or o (named_question_of_words bm state (words_of_line l))) e
 
-pub names_no_command : (state : HeapState) (l : List ℕ) (q : Question) → question_in state l ≡ Some q → command_of_text l ≡ Bad
-names_no_command state l q e = bad_words l (by_either state (words_of_line l) q (question_of_words (words_of_line l)) refl e)
+pub names_no_command : (bm : Bookmarks) (state : HeapState) (l : List ℕ) (q : Question) → question_in bm state l ≡ Some q → command_of_text l ≡ Bad
+names_no_command bm state l q e = bad_words l (by_either bm state (words_of_line l) q (question_of_words bm (words_of_line l)) refl e)
 
 -- ---- help
 
@@ -97,8 +92,8 @@ helps_no_command l text e = bad_words l (by_help (words_of_line l) text e)
 
 -- ---- questions
 
-pub asks_no_command : (l : List ℕ) (q : Question) → question_of l ≡ Some q → command_of_text l ≡ Bad
-asks_no_command l q e = bad_words l (by_words (words_of_line l) q e)
+pub asks_no_command : (bm : Bookmarks) (l : List ℕ) (q : Question) → question_of bm l ≡ Some q → command_of_text l ≡ Bad
+asks_no_command bm l q e = bad_words l (by_words bm (words_of_line l) q e)
 
 -- ---- orders
 
@@ -131,15 +126,15 @@ pin_is_no_way_back : (number : Option ℕ) (o : Order) → back_to (option_map (
 pin_is_no_way_back None o e = refl
 pin_is_no_way_back (Some n) o e = absurd (cc e)
 
-way_back_by : (w : List ℕ) (dash at : Bool) (o : Order) → bytes_eq (take 1 w) (codes "@") ≡ at
-    → back_to (cond dash (Some Current) (cond at (option_map (λ place. Place place) (number_of_word (drop 1 w))) (option_map (λ pin. Pin pin) (number_of_word w)))) ≡ Some o → number_of_word w ≡ None
-way_back_by w true at o is e = absurd (cc e)
-way_back_by w false true o is e = begins_with_at_sign w is
-way_back_by w false false o is e = pin_is_no_way_back (number_of_word w) o e
+way_back_by : (w : List ℕ) (behind : Option ℕ) (dash at : Bool) (o : Order) → bytes_eq (take 1 w) (codes "@") ≡ at
+    → back_to (cond dash (Some Current) (cond at (option_map (λ place. Place place) behind) (option_map (λ pin. Pin pin) (number_of_word w)))) ≡ Some o → number_of_word w ≡ None
+way_back_by w behind true at o is e = absurd (cc e)
+way_back_by w behind false true o is e = begins_with_at_sign w is
+way_back_by w behind false false o is e = pin_is_no_way_back (number_of_word w) o e
 
-way_back_is_no_number : (w : List ℕ) (o : Order) → way_back w ≡ Some o → number_of_word w ≡ None
+way_back_is_no_number : (bm : Bookmarks) (w : List ℕ) (o : Order) → way_back bm w ≡ Some o → number_of_word w ≡ None
 unfolding at_of_word
-way_back_is_no_number w o e = way_back_by w (bytes_eq w (codes "-")) (bytes_eq (take 1 w) (codes "@")) o refl e
+way_back_is_no_number bm w o e = way_back_by w (place_behind bm (drop 1 w)) (bytes_eq w (codes "-")) (bytes_eq (take 1 w) (codes "@")) o refl e
 
 no_rewind_without_number : (v : List ℕ) (ws : List (List ℕ)) → number_of_word v ≡ None → by_rule all_rules (codes "rewind") (v ∷ ws) ≡ None
 unfolding by_rule class_rules making_rules access_rules marking_rules session_rules
@@ -150,163 +145,76 @@ forward_new : IsNew (codes "forward")
 unfolding by_rule class_rules making_rules access_rules marking_rules session_rules
 forward_new ws = refl
 
-two_no_command : (w v : List ℕ) (ws : List (List ℕ)) (o : Order) → order_of_two w v ≡ Some o → command_of_words (w ∷ v ∷ ws) ≡ Bad
+two_no_command : (bm : Bookmarks) (w v : List ℕ) (ws : List (List ℕ)) (o : Order) → order_of_two bm w v ≡ Some o → command_of_words (w ∷ v ∷ ws) ≡ Bad
 unfolding order_of_two
-two_no_command w v ws o e = go (bytes_eq w (codes "rewind")) (bytes_eq w (codes "forward")) refl refl e
+two_no_command bm w v ws o e = go (bytes_eq w (codes "rewind")) (bytes_eq w (codes "forward")) refl refl e
   where
     go : (back on : Bool) → bytes_eq w (codes "rewind") ≡ back → bytes_eq w (codes "forward") ≡ on
-        → cond back (way_back v) (cond on (way_on v) None) ≡ Some o → command_of_words (w ∷ v ∷ ws) ≡ Bad
+        → cond back (way_back bm v) (cond on (way_on bm v) None) ≡ Some o → command_of_words (w ∷ v ∷ ws) ≡ Bad
     go true on h k e =
-        let none = subst (λ (x : List ℕ). by_rule all_rules x (v ∷ ws) ≡ None) (sym ((bytes_eq-Decides w (codes "rewind")).0 h)) (no_rewind_without_number v ws (way_back_is_no_number v o e)) in
+        let none = subst (λ (x : List ℕ). by_rule all_rules x (v ∷ ws) ≡ None) (sym ((bytes_eq-Decides w (codes "rewind")).0 h)) (no_rewind_without_number v ws (way_back_is_no_number bm v o e)) in
         rw none refl
     go false true h k e = let none = subst IsNew (sym ((bytes_eq-Decides w (codes "forward")).0 k)) forward_new (v ∷ ws) in rw none refl
     go false false h k e = absurd (cc e)
 
-order_beside : (w v : List ℕ) (ws : List (List ℕ)) (o : Order) (two : Option Order) → order_of_two w v ≡ two → option_and_then (λ (p : Order). at_end p ws) two ≡ Some o → command_of_words (w ∷ v ∷ ws) ≡ Bad
-order_beside w v ws o None is e = absurd (cc e)
-order_beside w v ws o (Some p) is e = two_no_command w v ws p is
+order_beside : (bm : Bookmarks) (w v : List ℕ) (ws : List (List ℕ)) (o : Order) (two : Option Order) → order_of_two bm w v ≡ two → option_and_then (λ (p : Order). at_end p ws) two ≡ Some o → command_of_words (w ∷ v ∷ ws) ≡ Bad
+order_beside bm w v ws o None is e = absurd (cc e)
+order_beside bm w v ws o (Some p) is e = two_no_command bm w v ws p is
 
--- a name is no number
-name_is_no_number : (classes : List Class) (name : List ℕ) (k : ℕ) → class_by_name classes name ≡ Some k → number_of_word name ≡ None
-name_is_no_number classes name k e = go (number_of_word name) e
-  where
-    go : (number : Option ℕ) → (if is_some number then None else class_named classes name) ≡ Some k → number ≡ None
-    go None e = refl
-    go (Some n) e = absurd (cc e)
-
--- the name of a class that makes a new object is no number
-new_of_no_number : (classes : List Class) (m r name : List ℕ) (e : Event) → new_of classes m r name ≡ Some e → number_of_word name ≡ None
-new_of_no_number classes m r name e is = go (number_of_word m) (number_of_word r) (class_by_name classes name) refl is
-  where
-    go : (a b class : Option ℕ) → class_by_name classes name ≡ class → option_and_then (λ (m : ℕ). option_and_then (λ (r : ℕ). option_map (λ (k : ℕ). New m r k) class) b) a ≡ Some e → number_of_word name ≡ None
-    go None b class h is = absurd (cc is)
-    go (Some m) None class h is = absurd (cc is)
-    go (Some m) (Some r) None h is = absurd (cc is)
-    go (Some m) (Some r) (Some k) h is = name_is_no_number classes name k h
-
-no_new_without_number : (m r name : List ℕ) (ws : List (List ℕ)) → number_of_word name ≡ None → by_rule all_rules (codes "new") (m ∷ r ∷ name ∷ ws) ≡ None
-unfolding by_rule class_rules making_rules access_rules marking_rules session_rules
-no_new_without_number m r name ws e = first (number_of_word m)
-  where
-    third : (a b : ℕ) → option_map (λ (n : ℕ × ℕ × ℕ). Ask (Step (New n.0 n.1 n.2))) (option_and_then (λ (c : ℕ × List (List ℕ)). at_end (a, b, c.0) c.1) (option_map (λ (n : ℕ). (n, ws)) (number_of_word name))) ≡ None
-    third a b =
-        ap (λ (o : Option ℕ). option_map (λ (n : ℕ × ℕ × ℕ). Ask (Step (New n.0 n.1 n.2))) (option_and_then (λ (c : ℕ × List (List ℕ)). at_end (a, b, c.0) c.1) (option_map (λ (n : ℕ). (n, ws)) o))) e
-
-    second : (a : ℕ) (r' : Option ℕ)
-        → option_map (λ (n : ℕ × ℕ × ℕ). Ask (Step (New n.0 n.1 n.2)))
-        (option_and_then (λ (b : ℕ × List (List ℕ)). option_and_then (λ (c : ℕ × List (List ℕ)). at_end (a, b.0, c.0) c.1) (next_number b.1)) (option_map (λ (n : ℕ). (n, name ∷ ws)) r')) ≡ None
-    second a None = refl
-    second a (Some b) = third a b
-
-    first : (m' : Option ℕ)
-        → option_map (λ (n : ℕ × ℕ × ℕ). Ask (Step (New n.0 n.1 n.2)))
-        (option_and_then
-        (λ (a : ℕ × List (List ℕ)). option_and_then (λ (b : ℕ × List (List ℕ)). option_and_then (λ (c : ℕ × List (List ℕ)). at_end (a.0, b.0, c.0) c.1) (next_number b.1)) (next_number a.1))
-        (option_map (λ (n : ℕ). (n, r ∷ name ∷ ws)) m')) ≡ None
-    first None = refl
-    first (Some a) = second a (number_of_word r)
-
-makes_new_beside : (classes : List Class) (w m r name : List ℕ) (ws : List (List ℕ)) (o : Order) (event : Option Event) → bytes_eq w (codes "new") ≡ true → new_of classes m r name ≡ event
-    → option_and_then (λ (e : Event). at_end (Act e) ws) event ≡ Some o → command_of_words (w ∷ m ∷ r ∷ name ∷ ws) ≡ Bad
-makes_new_beside classes w m r name ws o None word is e = absurd (cc e)
-makes_new_beside classes w m r name ws o (Some event) word is e =
-    let none = subst (λ (x : List ℕ). by_rule all_rules x (m ∷ r ∷ name ∷ ws) ≡ None) (sym ((bytes_eq-Decides w (codes "new")).0 word)) (no_new_without_number m r name ws (new_of_no_number classes m r name event is)) in
-    rw none refl
-
-by_new : (classes : List Class) (w m : List ℕ) (ws : List (List ℕ)) (o : Order) → bytes_eq w (codes "new") ≡ true → new_by_name classes m ws ≡ Some o → command_of_words (w ∷ m ∷ ws) ≡ Bad
-by_new classes w m [] o word e = absurd (cc e)
-by_new classes w m (r ∷ []) o word e = absurd (cc e)
-by_new classes w m (r ∷ name ∷ ws) o word e = makes_new_beside classes w m r name ws o (new_of classes m r name) word refl e
-
-by_order : (classes : List Class) (ws : List (List ℕ)) (o : Order) → order_of_words classes ws ≡ Some o → command_of_words ws ≡ Bad
+pub by_order : (bm : Bookmarks) (ws : List (List ℕ)) (o : Order) → order_of_words bm ws ≡ Some o → command_of_words ws ≡ Bad
 unfolding order_of_words
-by_order classes [] o e = absurd (cc e)
-by_order classes (w ∷ []) o e = go (bytes_eq w (codes "collect")) refl e
+by_order bm [] o e = absurd (cc e)
+by_order bm (w ∷ []) o e = go (bytes_eq w (codes "collect")) refl e
   where
     go : (b : Bool) → bytes_eq w (codes "collect") ≡ b → cond b (Some Collect) None ≡ Some o → command_of_words (w ∷ []) ≡ Bad
     go true h e = collects_alone w h
     go false h e = absurd (cc e)
-by_order classes (w ∷ v ∷ ws) o e = go (bytes_eq w (codes "new")) refl e
-  where
-    go : (b : Bool) → bytes_eq w (codes "new") ≡ b
-        → cond b (new_by_name classes v ws) (option_and_then (λ (p : Order). at_end p ws) (order_of_two w v)) ≡ Some o → command_of_words (w ∷ v ∷ ws) ≡ Bad
-    go true h e = by_new classes w v ws o h e
-    go false h e = order_beside w v ws o (order_of_two w v) refl e
+by_order bm (w ∷ v ∷ ws) o e = order_beside bm w v ws o (order_of_two bm w v) refl e
 
-pub orders_no_command : (state : HeapState) (l : List ℕ) (o : Order) → order_in state l ≡ Some o → command_of_text l ≡ Bad
-orders_no_command state l o e = bad_words l (by_order state.classes (words_of_line l) o e)
-
--- ---- no other line changes anything
+-- ---- what is done asks nothing
 
 -- a keyword that no question and no line that asks for help has
-record AsksNothing (key : List ℕ) (ws : List (List ℕ)) : Type 0 where
-  question : question_of_words (key ∷ ws) ≡ None
-  help : help_of_words (key ∷ ws) ≡ None
+pub record AsksNothing (bm : Bookmarks) (key : List ℕ) (ws : List (List ℕ)) : Type 0 where
+  pub question : question_of_words bm (key ∷ ws) ≡ None
+  pub help : help_of_words (key ∷ ws) ≡ None
 
-collect_asks_nothing : AsksNothing (codes "collect") []
+collect_asks_nothing : (bm : Bookmarks) → AsksNothing bm (codes "collect") []
 unfolding question_of_words question_rules past_rules
-collect_asks_nothing = record { question = refl; help = refl }
+collect_asks_nothing bm = record { question = refl; help = refl }
 
-rewind_asks_nothing : (ws : List (List ℕ)) → AsksNothing (codes "rewind") ws
+rewind_asks_nothing : (bm : Bookmarks) (ws : List (List ℕ)) → AsksNothing bm (codes "rewind") ws
 unfolding question_of_words question_rules past_rules
-rewind_asks_nothing ws = record { question = refl; help = refl }
-
-new_asks_nothing : (ws : List (List ℕ)) → AsksNothing (codes "new") ws
-unfolding question_of_words question_rules past_rules
-new_asks_nothing ws = record { question = refl; help = refl }
+rewind_asks_nothing bm ws = record { question = refl; help = refl }
 
 -- the same of a word that is such a keyword
-word_asks_nothing : (w key : List ℕ) (ws : List (List ℕ)) → bytes_eq w key ≡ true → AsksNothing key ws → AsksNothing w ws
-word_asks_nothing w key ws word none = subst (λ (x : List ℕ). AsksNothing x ws) (sym ((bytes_eq-Decides w key).0 word)) none
+pub word_asks_nothing : (bm : Bookmarks) (w key : List ℕ) (ws : List (List ℕ)) → bytes_eq w key ≡ true → AsksNothing bm key ws → AsksNothing bm w ws
+word_asks_nothing bm w key ws word none = subst (λ (x : List ℕ). AsksNothing bm x ws) (sym ((bytes_eq-Decides w key).0 word)) none
 
-forward_asks_nothing : (ws : List (List ℕ)) → AsksNothing (codes "forward") ws
+forward_asks_nothing : (bm : Bookmarks) (ws : List (List ℕ)) → AsksNothing bm (codes "forward") ws
 unfolding question_of_words question_rules past_rules
-forward_asks_nothing ws = record { question = refl; help = refl }
+forward_asks_nothing bm ws = record { question = refl; help = refl }
 
-two_asks_nothing : (w v : List ℕ) (ws : List (List ℕ)) (o : Order) → order_of_two w v ≡ Some o → AsksNothing w (v ∷ ws)
+two_asks_nothing : (bm : Bookmarks) (w v : List ℕ) (ws : List (List ℕ)) (o : Order) → order_of_two bm w v ≡ Some o → AsksNothing bm w (v ∷ ws)
 unfolding order_of_two
-two_asks_nothing w v ws o e = go (bytes_eq w (codes "rewind")) (bytes_eq w (codes "forward")) refl refl e
+two_asks_nothing bm w v ws o e = go (bytes_eq w (codes "rewind")) (bytes_eq w (codes "forward")) refl refl e
   where
     go : (back on : Bool) → bytes_eq w (codes "rewind") ≡ back → bytes_eq w (codes "forward") ≡ on
-        → cond back (way_back v) (cond on (way_on v) None) ≡ Some o → AsksNothing w (v ∷ ws)
-    go true on h k e = word_asks_nothing w (codes "rewind") (v ∷ ws) h (rewind_asks_nothing (v ∷ ws))
-    go false true h k e = word_asks_nothing w (codes "forward") (v ∷ ws) k (forward_asks_nothing (v ∷ ws))
+        → cond back (way_back bm v) (cond on (way_on bm v) None) ≡ Some o → AsksNothing bm w (v ∷ ws)
+    go true on h k e = word_asks_nothing bm w (codes "rewind") (v ∷ ws) h (rewind_asks_nothing bm (v ∷ ws))
+    go false true h k e = word_asks_nothing bm w (codes "forward") (v ∷ ws) k (forward_asks_nothing bm (v ∷ ws))
     go false false h k e = absurd (cc e)
 
-order_beside_asks_nothing : (w v : List ℕ) (ws : List (List ℕ)) (o : Order) (two : Option Order) → order_of_two w v ≡ two → option_and_then (λ (p : Order). at_end p ws) two ≡ Some o → AsksNothing w (v ∷ ws)
-order_beside_asks_nothing w v ws o None is e = absurd (cc e)
-order_beside_asks_nothing w v ws o (Some p) is e = two_asks_nothing w v ws p is
+order_beside_asks_nothing : (bm : Bookmarks) (w v : List ℕ) (ws : List (List ℕ)) (o : Order) (two : Option Order) → order_of_two bm w v ≡ two → option_and_then (λ (p : Order). at_end p ws) two ≡ Some o → AsksNothing bm w (v ∷ ws)
+order_beside_asks_nothing bm w v ws o None is e = absurd (cc e)
+order_beside_asks_nothing bm w v ws o (Some p) is e = two_asks_nothing bm w v ws p is
 
-order_asks_nothing : (classes : List Class) (ws : List (List ℕ)) (o : Order) → order_of_words classes ws ≡ Some o → (question_of_words ws ≡ None) × (help_of_words ws ≡ None)
+pub order_asks_nothing : (bm : Bookmarks) (ws : List (List ℕ)) (o : Order) → order_of_words bm ws ≡ Some o → (question_of_words bm ws ≡ None) × (help_of_words ws ≡ None)
 unfolding order_of_words
-order_asks_nothing classes [] o e = absurd (cc e)
-order_asks_nothing classes (w ∷ []) o e = go (bytes_eq w (codes "collect")) refl e
+order_asks_nothing bm [] o e = absurd (cc e)
+order_asks_nothing bm (w ∷ []) o e = go (bytes_eq w (codes "collect")) refl e
   where
-    go : (b : Bool) → bytes_eq w (codes "collect") ≡ b → cond b (Some Collect) None ≡ Some o → (question_of_words (w ∷ []) ≡ None) × (help_of_words (w ∷ []) ≡ None)
-    go true h e = let a = word_asks_nothing w (codes "collect") [] h collect_asks_nothing in (a.question, a.help)
+    go : (b : Bool) → bytes_eq w (codes "collect") ≡ b → cond b (Some Collect) None ≡ Some o → (question_of_words bm (w ∷ []) ≡ None) × (help_of_words (w ∷ []) ≡ None)
+    go true h e = let a = word_asks_nothing bm w (codes "collect") [] h (collect_asks_nothing bm) in (a.question, a.help)
     go false h e = absurd (cc e)
-order_asks_nothing classes (w ∷ v ∷ ws) o e = go (bytes_eq w (codes "new")) refl e
-  where
-    go : (b : Bool) → bytes_eq w (codes "new") ≡ b
-        → cond b (new_by_name classes v ws) (option_and_then (λ (p : Order). at_end p ws) (order_of_two w v)) ≡ Some o
-        → (question_of_words (w ∷ v ∷ ws) ≡ None) × (help_of_words (w ∷ v ∷ ws) ≡ None)
-    go true h e = let a = word_asks_nothing w (codes "new") (v ∷ ws) h (new_asks_nothing (v ∷ ws)) in (a.question, a.help)
-    go false h e = let a = order_beside_asks_nothing w v ws o (order_of_two w v) refl e in (a.question, a.help)
-
-same_asking : (order : Option Order) (l text : List ℕ) (c d : Asking) → ((o : Order) → order ≡ Some o → ⊥) → AnswersLine order l c text d → d ≡ c
-same_asking (Some o) l text c d h a = absurd (h o refl)
-same_asking None l text c d h a = a.1
-
-unchanged : (l text : List ℕ) (c d : Asking) → ((o : Order) → order_in c.local.machine.trail.current l ≡ Some o → ⊥) → AskingAnswers l c text d → d ≡ c
-unchanged l text c d h a = same_asking (order_in c.local.machine.trail.current l) l text c d h a.0
-
-pub question_changes_nothing : (l text : List ℕ) (q : Question) (c d : Asking) → question_of l ≡ Some q → AskingAnswers l c text d → d ≡ c
-question_changes_nothing l text q c d e a =
-    unchanged l text c d (λ o t. let clash : None ≡ Some q = sym (order_asks_nothing c.local.machine.trail.current.classes (words_of_line l) o t).0 ∙ e in absurd (cc clash)) a
-
-pub others_change_nothing : (l text : List ℕ) (c d : Asking) → order_in c.local.machine.trail.current l ≡ None → AskingAnswers l c text d → d ≡ c
-others_change_nothing l text c d e a = unchanged l text c d (λ o t. let clash : None ≡ Some o = sym e ∙ t in absurd (cc clash)) a
-
-pub help_changes_nothing : (l text answer : List ℕ) (c d : Asking) → help_of l ≡ Some answer → AskingAnswers l c text d → d ≡ c
-help_changes_nothing l text answer c d e a =
-    unchanged l text c d (λ o t. let clash : None ≡ Some answer = sym (order_asks_nothing c.local.machine.trail.current.classes (words_of_line l) o t).1 ∙ e in absurd (cc clash)) a
+order_asks_nothing bm (w ∷ v ∷ ws) o e =
+    let a = order_beside_asks_nothing bm w v ws o (order_of_two bm w v) refl e in (a.question, a.help)

@@ -4,7 +4,7 @@ use Rattle.std.specs.Prelude.{◌||◌, Result, Ok, Err}
 use Rattle.std.proofs.lemmas.List.{append-nil}
 use Rattle.heap_class.specs.declared.Refusal.{Refusal}
 use Rattle.heap_trail.specs.declared.Action.{Action}
-use Rattle.heap_trail.specs.declared.Action.TheVariants.{Step, Rewind}
+use Rattle.heap_trail.specs.declared.Action.TheVariants.{OpenPin, Step, Rewind}
 use Rattle.heap_trail.specs.declared.Reply.TheVariants.{Answered}
 use Rattle.heap_trail.specs.Machine.{Machine}
 use Rattle.heap_trail.proofs.ActionLists.{driven_more, driven_none}
@@ -27,7 +27,8 @@ use Rattle.question_grammar.specs.declared.order.Order.{Order}
 use Rattle.question_grammar.specs.declared.order.Order.TheVariants.{Act, Collect, Forward, ForwardTo, RewindTo}
 use Rattle.question_words.specs.Moments.{steps_ago}
 use Rattle.heap_orders.specs.Deeds.{ActsOnce, GoesOnBy, RewindsBy, steps_on}
-use Rattle.question_text.specs.Sessions.{Does, AnswersEach, AnswersLine, AskingActs, AskingAnswers, IsDriven, IsSessionOf, AnswersAlone, NoneOrders, is_known, known_of, lines_of, texts_of}
+use Rattle.question_text.specs.Sessions.{Does, AnswersEach, AnswersLine, AskingActs, AskingAnswers, IsDriven, IsSessionOf, AnswersAlone, NoneOrders, OpensOrAnswers, is_known, known_of, lines_of, texts_of}
+use Rattle.question_grammar.specs.NoteLines.{place_opened}
 use Rattle.question_grammar.specs.Orders.{order_in}
 use Rattle.heap_orders.specs.Redos.{GoesForward, GoesOn, Redo, TakesAgain, retaken}
 
@@ -57,13 +58,18 @@ question_leaves : (order : Option Order) (l text : List ℕ) (c d : Asking) → 
 question_leaves (Some o) l text c d e h = absurd (cc e)
 question_leaves None l text c d e h = ap (λ (x : Asking). x.local) h.1
 
+-- so does a line that opens no pin and is no order
+line_leaves : (opened : Option ℕ) (l text : List ℕ) (c d : Asking) → opened ≡ None → order_in c.bookmarks c.local.machine.trail.current l ≡ None → OpensOrAnswers opened l c text d → d.local ≡ c.local
+line_leaves (Some place) l text c d e none h = absurd (cc e)
+line_leaves None l text c d e none h = question_leaves (order_in c.bookmarks c.local.machine.trail.current l) l text c d none h
+
 abbrev pub Says : ℕ → AnswerRelation Asking
 Says time = AnswersCommand AskingActs AskingAnswers time
 
 abbrev pub Alone : ℕ → AnswerRelation Local
 Alone time = AnswersCommand acts all_bad time
 
-one_known : (limits : SessionLimits) (time : ℕ) (a : List ℕ × List ℕ) (c between : Asking) (d : Local) (known : List (List ℕ × List ℕ)) → IsLine limits a.0 → order_in c.local.machine.trail.current (without_cr a.0) ≡ None → Says time a.0 c a.1 between
+one_known : (limits : SessionLimits) (time : ℕ) (a : List ℕ × List ℕ) (c between : Asking) (d : Local) (known : List (List ℕ × List ℕ)) → IsLine limits a.0 → (place_opened c.bookmarks (without_cr a.0) ≡ None) × (order_in c.bookmarks c.local.machine.trail.current (without_cr a.0) ≡ None) → Says time a.0 c a.1 between
     → AnswersAll limits (Alone time) (lines_of known) between.local (texts_of known) d → (b : Bool) → is_known (command_of a.0) ≡ b
     → AnswersAll limits (Alone time) (lines_of (cond b (a ∷ known) known)) c.local (texts_of (cond b (a ∷ known) known)) d
 one_known limits time a c between d known line none says rest true h = (
@@ -77,14 +83,14 @@ one_known limits time a c between d known line none says rest true h = (
 )
 one_known limits time a c between d known line none says rest false h =
     let unknown : AskingAnswers (without_cr a.0) c a.1 between = subst (λ (k : Command). AnswersTo AskingActs (AskingAnswers (without_cr a.0)) time k c a.1 between) (unknown_is (command_of a.0) h) says in
-    let same = question_leaves (order_in c.local.machine.trail.current (without_cr a.0)) (without_cr a.0) a.1 c between none unknown.0 in
+    let same = line_leaves (place_opened c.bookmarks (without_cr a.0)) (without_cr a.0) a.1 c between none.0 none.1 unknown.0 in
     subst (λ (x : Local). AnswersAll limits (Alone time) (lines_of known) x (texts_of known) d) same rest
 
 known_answers : (limits : SessionLimits) (time : ℕ) (answered : List (List ℕ × List ℕ)) (c d : Asking) → NoneOrders (lines_of answered) → AnswersEach limits (Says time) answered c d
     → AnswersAll limits (Alone time) (lines_of (known_of answered)) c.local (texts_of (known_of answered)) d.local
 known_answers limits time [] c d none t = (refl, ap (λ (x : Asking). x.local) t)
 known_answers limits time (a ∷ answered) c d none t =
-    one_known limits time a c t.0 d.local (known_of answered) t.1 (none.0 c.local.machine.trail.current) t.2 (known_answers limits time answered t.0 d none.1 t.3) (is_known (command_of a.0)) refl
+    one_known limits time a c t.0 d.local (known_of answered) t.1 (none.0 c.bookmarks c.local.machine.trail.current) t.2 (known_answers limits time answered t.0 d none.1 t.3) (is_known (command_of a.0)) refl
 
 session_alone : (limits : SessionLimits) (time : ℕ) (answered : List (List ℕ × List ℕ)) (c d : Local) → AnswersAll limits (Alone time) (lines_of answered) c (texts_of answered) d → IsSessionOf limits time c.machine answered d.machine
 unfolding session_of
@@ -149,12 +155,17 @@ unknown_driven : (m : Machine) (order : Option Order) (l text : List ℕ) (c d :
 unknown_driven m (Some order) l text c d h p = order_driven m order c.local.machine d.local.machine c.redo d.redo text h.0 p
 unknown_driven m None l text c d h p = subst (λ (x : Asking). IsDriven m x.local.machine) (sym h.1) p
 
+opened_driven : (m : Machine) (opened : Option ℕ) (l text : List ℕ) (c d : Asking) → OpensOrAnswers opened l c text d → IsDriven m c.local.machine → IsDriven m d.local.machine
+opened_driven m (Some place) l text c d h p =
+    (p.0 ++ OpenPin (Some place) ∷ [], p.1 ++ h.0 ∷ [], driven_more m p.0 p.1 c.local.machine d.local.machine (OpenPin (Some place)) h.0 p.2 h.1.0)
+opened_driven m None l text c d h p = unknown_driven m (order_in c.bookmarks c.local.machine.trail.current l) l text c d h p
+
 line_driven : (m : Machine) (time : ℕ) (l : List ℕ) (c : Asking) (text : List ℕ) (d : Asking) (b : Bool) → is_known (command_of l) ≡ b → Says time l c text d → IsDriven m c.local.machine → IsDriven m d.local.machine
 line_driven m time l c text d true h says p =
     answer_keeps AskingActs (AskingAnswers (without_cr l)) (λ (x : Asking). IsDriven m x.local.machine) (λ x a r y e q. (q.0 ++ a ∷ [], q.1 ++ r ∷ [], driven_more m q.0 q.1 x.local.machine y.local.machine a r q.2 e.0)) time (command_of l) c text d (known_is (command_of l) h) says p
 line_driven m time l c text d false h says p =
     let unknown : AskingAnswers (without_cr l) c text d = subst (λ (k : Command). AnswersTo AskingActs (AskingAnswers (without_cr l)) time k c text d) (unknown_is (command_of l) h) says in
-    unknown_driven m (order_in c.local.machine.trail.current (without_cr l)) (without_cr l) text c d unknown.0 p
+    opened_driven m (place_opened c.bookmarks (without_cr l)) (without_cr l) text c d unknown.0 p
 
 lines_driven : (limits : SessionLimits) (m : Machine) (time : ℕ) (lines : List (List ℕ)) (c : Asking) (text : List ℕ) (d : Asking) → AnswersAll limits (Says time) lines c text d → IsDriven m c.local.machine → IsDriven m d.local.machine
 lines_driven limits m time [] c text d t p = subst (λ (x : Asking). IsDriven m x.local.machine) (sym t.1) p

@@ -7,6 +7,7 @@ use Rattle.heap_trail.specs.Machine.{Machine}
 use Rattle.hprof_text.specs.Image.{Image}
 use Rattle.question_text.specs.declared.answers.PairQuestion.{PairQuestion}
 use Rattle.question_text.specs.declared.answers.StateQuestion.{StateQuestion}
+use Rattle.question_grammar.specs.declared.chain.Chain.{Chain}
 use Rattle.question_grammar.specs.declared.question.Question.{Question}
 use Rattle.question_grammar.specs.declared.question.Question.TheVariants.{Histogram, Garbage, Growth, Kept, Diff, Registers, Classes, Objects, Values, Referrers, Path, Paths, Retained, Dominators, Dominated, Dominator, Show, Born, Wrote, Watch, Writes, When, WhenCount, Dropped, Life, History, Cycles, Pins, Cells, Regions, Status}
 use Rattle.question_rows.specs.Births.{IsBornText}
@@ -20,10 +21,13 @@ use Rattle.question_rows.specs.FirstPlaces.{IsWhenCountText, IsWhenText}
 use Rattle.question_words.specs.Moments.{IsAnswerAbout, IsAnswerBetween, image_at, refused_text}
 use Rattle.question_rows.specs.Growths.{IsGrowthText}
 use Rattle.question_text.specs.Comments.{unasked_text}
+use Rattle.question_text.specs.ShownChains.{IsChainAnswer}
 use Rattle.question_rows.specs.Histories.{IsHistoryText}
 use Rattle.question_rows.specs.Kept.{IsKeptText}
 use Rattle.question_rows.specs.Lives.{IsLifeText}
 use Rattle.question_rows.specs.Losses.{IsDroppedText}
+use Rattle.question_grammar.specs.Bookmarks.{Bookmarks}
+use Rattle.question_grammar.specs.Chains.{chain_of}
 use Rattle.question_grammar.specs.NamedLines.{question_in}
 use Rattle.question_rows.specs.ObjectLists.{IsObjectsText}
 use Rattle.question_rows.specs.Objects.{IsShowText, shows_mark}
@@ -109,11 +113,19 @@ IsAnswer Cells m acts text = IsCellsText m.trail.current text
 IsAnswer Regions m acts text = IsRegionsText m.trail.current text
 IsAnswer Status m acts text = IsStatusText m acts text
 
--- the answer of a line that asks this question; or none, and it may be a comment or ask for help
-abbrev pub IsAnswerOf : Option Question → List ℕ → Machine → Option ℕ → List ℕ → Type 0
-IsAnswerOf None l m acts text = text ≡ unasked_text l
-IsAnswerOf (Some q) l m acts text = IsAnswer q m acts text
+-- the answer of a line that shows an object along these fields; or along none, and it may be a comment or ask for help
+abbrev pub IsAnswerAlong : Option Chain → List ℕ → Machine → List ℕ → Type 0
+IsAnswerAlong None l m text = text ≡ unasked_text l
+IsAnswerAlong (Some c) l m text = IsChainAnswer c m text
 
--- the answer of a line that the grammar of sessions doesn't know; names in it are those of the current state
-abbrev pub IsAnswerOfLine : List ℕ → Machine → Option ℕ → List ℕ → Type 0
-IsAnswerOfLine l m acts text = IsAnswerOf (question_in m.trail.current l) l m acts text
+-- the answer of a line that asks this question; or none, and it may show an object along fields
+abbrev pub IsAnswerOf : Option Question → Option Chain → List ℕ → Machine → Option ℕ → List ℕ
+    → Type 0
+IsAnswerOf None chain l m acts text = IsAnswerAlong chain l m text
+IsAnswerOf (Some q) chain l m acts text = IsAnswer q m acts text
+
+-- the answer of a line that the grammar of sessions doesn't know and that sets nothing; names in it are those of the current state,
+-- or of the one that it is about, and of these bookmarks
+abbrev pub IsAnswerOfLine : List ℕ → Machine → Option ℕ → Bookmarks → List ℕ → Type 0
+IsAnswerOfLine l m acts b text =
+    IsAnswerOf (question_in b m.trail.current l) (chain_of b l) l m acts text

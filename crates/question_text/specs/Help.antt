@@ -14,7 +14,7 @@ pub record LineForm : Type 0 where
 abbrev form_of : List ℕ → List ℕ → List ℕ → LineForm
 form_of key form example = record { key = key; form = form; example = example }
 
--- questions, `collect`, `forward` and `help`
+-- questions, `collect`, `forward`, `at`, `name` and `help`
 unfoldable pub question_forms : List LineForm
 question_forms =
     form_of (codes "histogram") (codes "histogram [AT]") (codes "histogram -")
@@ -33,7 +33,8 @@ question_forms =
     ∷ form_of (codes "retained") (codes "retained [AT] ID") (codes "retained 0x10000020")
     ∷ form_of (codes "dominators") (codes "dominators [AT] [ID] [N]") (codes "dominators 0x10000020 10")
     ∷ form_of (codes "dominator") (codes "dominator [AT] ID") (codes "dominator 0x10000020")
-    ∷ form_of (codes "show") (codes "show [AT] ID [FROM N]") (codes "show 0x10000020 0 100")
+    ∷ form_of (codes "show") (codes "show [AT] ID[.FIELD ..] [DEPTH | FROM N]")
+    (codes "show 0x10000020.next 2")
     ∷ form_of (codes "born") (codes "born [@PLACE] ID") (codes "born 0x10000020")
     ∷ form_of (codes "wrote") (codes "wrote [@PLACE] ID SLOT") (codes "wrote 0x10000020 next")
     ∷ form_of (codes "watch") (codes "watch ID SLOT [@PLACE]") (codes "watch 0x10000020 next")
@@ -51,6 +52,8 @@ question_forms =
     ∷ form_of (codes "status") (codes "status") (codes "status")
     ∷ form_of (codes "collect") (codes "collect") (codes "collect")
     ∷ form_of (codes "forward") (codes "forward N|@P") (codes "forward 1")
+    ∷ form_of (codes "at") (codes "at -|@P") (codes "at @120")
+    ∷ form_of (codes "name") (codes "name WORD") (codes "name start")
     ∷ form_of (codes "help") (codes "help WORD") (codes "help path")
     ∷ []
 

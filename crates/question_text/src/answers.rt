@@ -2,16 +2,18 @@
 ghost use Rattle.std.specs.Prelude.{◌≡◌};
 ghost use Rattle.heap_pins.specs.Pin.{pin_image};
 ghost use Rattle.session_text.specs.Replies.{line_answer_text};
-ghost use Rattle.question_text.specs.Answers.{IsAnswer, IsAnswerOfLine, IsPairText, IsStateText, lines_text};
+ghost use Rattle.question_grammar.specs.Chains.{chain_of};
+ghost use Rattle.question_text.specs.Answers.{IsAnswer, IsAnswerAlong, IsAnswerOfLine, IsPairText, IsStateText, lines_text};
 ghost use Rattle.question_words.specs.Moments.{IsAnswerAbout, IsAnswerBesides, IsAnswerBetween, IsToldOf, image_at, told_text};
 
 use crate::comment::unasked_answer;
 use crate::dominator_rows::{dominated_answer, dominator_answer, dominators_answer};
+use crate::shown_chain::chain_lines;
 use heap_class::Refusal;
 use heap_pins::PinView;
 use heap_questions::Wanted;
 use heap_trail::Machine;
-use question_grammar::{Question, question_in};
+use question_grammar::{Bookmarks, Question, chain_in, question_in};
 use question_rows::{
     born_answer, cells_answer, classes_answer, cycles_answer, diff_text, dropped_answer,
     garbage_text, growth_answer, histogram_text, history_answer, kept_text, life_answer,
@@ -287,12 +289,30 @@ fn pair_lines(
 
 /// Returns the answer of a line that the grammar of sessions doesn't know: that of a question about a machine, which may have
 /// a chronicle of this length, or of `help`; and `bad command`, if it is neither. A question may name classes and fields of the
-/// current state where their numbers may stand. Answers NoMemory if an allocation fails. The line `collect` is no question.
-pub fn answer_line(alloc: Global, machine: &Machine, acts: Option<u64>, line: &[u8]) -> LineAnswer
-    ensures { IsAnswerOfLine line.now machine.now acts (line_answer_text result) }
+/// current state where their numbers may stand, and places by the session's bookmarks; `show` along fields may name those of the
+/// state that it is about. Answers NoMemory if an allocation fails. The line `collect` is no question.
+pub fn answer_line(
+    alloc: Global,
+    machine: &Machine,
+    acts: Option<u64>,
+    bookmarks: &Bookmarks,
+    line: &[u8],
+) -> LineAnswer
+    ensures { IsAnswerOfLine line.now machine.now acts bookmarks.now (line_answer_text result) }
 {
-    match question_in(machine.world(), line) {
+    match question_in(bookmarks, machine.world(), line) {
         Some(question) => answer(alloc, machine, acts, question),
+        None => chain_answer(alloc, machine, bookmarks, line),
+    }
+}
+
+// Returns the answer of a line that is none of these questions: that of `show` along fields, or of a line that asks nothing.
+fn chain_answer(alloc: Global, machine: &Machine, bookmarks: &Bookmarks, line: &[u8]) -> LineAnswer
+    ensures { IsAnswerAlong (chain_of bookmarks.now line.now) line.now machine.now
+        (line_answer_text result) }
+{
+    match chain_in(bookmarks, line) {
+        Some(chain) => line_answer(chain_lines(alloc, machine, chain)),
         None => unasked_answer(line),
     }
 }

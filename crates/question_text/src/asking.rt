@@ -1,13 +1,18 @@
 //! Commands with questions.
-ghost use Rattle.std.specs.Prelude.{◌≡◌, min, IfErr, IfOk, Some};
+ghost use Rattle.std.specs.Prelude.{◌≡◌, min, IfErr, IfOk, None, Some};
 ghost use Rattle.heap_class.specs.declared.Refusal.TheVariants.{NoMemory};
-ghost use Rattle.session_text.specs.Replies.{line_answer_text};
-ghost use Rattle.question_text.specs.Sessions.{Does, AnswersLine};
+ghost use Rattle.heap_trail.specs.declared.Action.TheVariants.{OpenPin};
+ghost use Rattle.heap_trail.specs.declared.Reply.{Reply};
+ghost use Rattle.session_text.specs.Replies.{line_answer_text, reply_text};
+ghost use Rattle.question_text.specs.Notes.{NotesLine};
+ghost use Rattle.question_text.specs.Sessions.{Does, AnswersLine, AskingActs, OpensOrAnswers};
+ghost use Rattle.question_grammar.specs.Bookmarks.{no_bookmarks};
+ghost use Rattle.question_grammar.specs.NoteLines.{place_opened};
 ghost use Rattle.question_grammar.specs.Orders.{order_in};
 ghost use Rattle.heap_orders.specs.Redos.{no_redo, redo_limit};
 ghost use Rattle.heap_orders.specs.Deeds.{Collects};
 
-use crate::answers::answer_line;
+use crate::notes::note_line;
 use crate::watch::Watch;
 use heap_class::Refusal;
 use heap_orders::{
@@ -15,15 +20,15 @@ use heap_orders::{
 };
 use heap_step::{Answer, Event, IntoEvent};
 use heap_trail::{Action, Machine, Reply};
-use question_grammar::{Order, order_in};
+use question_grammar::{Bookmarks, Order, order_in, place_opened};
 use session_text::{Commands, LineAnswer, Local};
 use std::alloc::Global;
 
 // The largest number of steps that are kept to be taken again.
 const REDO_LIMIT: u64 = 65_536;
 
-/// A private machine that acts on the lines of a session, and answers questions about itself, `help`, and the lines that `Order`
-/// has.
+/// A private machine that acts on the lines of a session, and answers questions about itself, `help`, the lines that `Order` has,
+/// and those that set what the session notes.
 #[derive(Drop)]
 pub struct Asking<'a> {
     /// The machine.
@@ -32,11 +37,13 @@ pub struct Asking<'a> {
     pub watch: &'a Watch,
     /// The steps that can be taken again.
     pub redo: Redo,
+    /// What the session notes of places.
+    pub bookmarks: Bookmarks,
 }
 
 impl<'a> Asking<'a> {
-    /// Creates the commands of a machine that retains up to `keep` steps. As many can be taken again, at most 65,536. Fails with
-    /// NoMemory.
+    /// Creates the commands of a machine that retains up to `keep` steps. As many can be taken again, at most 65,536. No place has
+    /// a name. Fails with NoMemory.
     pub fn new(
         alloc: Global,
         local: Local,
@@ -45,10 +52,17 @@ impl<'a> Asking<'a> {
     ) -> Result<Asking<'a>, Refusal>
         ensures local { IfOk result (λ c. c.local ≡ local) }
         ensures none { IfOk result (λ c. c.redo ≡ no_redo (min keep redo_limit)) }
+        ensures unnamed { IfOk result (λ c. c.bookmarks ≡ no_bookmarks) }
         ensures refused { IfErr result (λ e. e ≡ NoMemory) }
     {
         let redo = Redo::with_limit(alloc, keep.min(REDO_LIMIT) as usize)?;
-        Ok(Asking { local, watch, redo })
+        let bookmarks = Bookmarks::new(alloc);
+        Ok(Asking {
+            local,
+            watch,
+            redo,
+            bookmarks,
+        })
     }
 
     // Does what a line asks to be done, and returns the answer.
@@ -57,6 +71,7 @@ impl<'a> Asking<'a> {
             self.new.local.machine self.new.redo }
         ensures first { self.new.local.first_pin ≡ self.old.local.first_pin }
         ensures watch { self.new.watch ≡ self.old.watch }
+        ensures bookmarks { self.new.bookmarks ≡ self.old.bookmarks }
     {
         match order {
             Order::Collect => collect(alloc, self),
@@ -71,14 +86,46 @@ impl<'a> Asking<'a> {
 
     // Answers a line that the grammar of sessions doesn't know.
     fn answer_line(&mut self, alloc: Global, line: &[u8]) -> LineAnswer
-        ensures answers { AnswersLine (order_in self.old.local.machine.trail.current line.now)
-            line.now self.old (line_answer_text result) self.new }
+        ensures answers { OpensOrAnswers (place_opened self.old.bookmarks line.now) line.now
+            self.old (line_answer_text result) self.new }
         ensures watch { self.new.watch ≡ self.old.watch }
     {
-        match order_in(self.local.machine.world(), line) {
-            Some(order) => self.obey(alloc, order),
-            None => answer_line(alloc, &self.local.machine, None, line),
+        match place_opened(&self.bookmarks, line) {
+            Some(place) => self.open(place),
+            None => self.answer_order(alloc, line),
         }
+    }
+
+    // Opens a pin on the state at a place.
+    fn open(&mut self, place: u64) -> LineAnswer
+        ensures opens { (r : Reply) × AskingActs self.old (OpenPin (Some place)) r self.new
+            × (line_answer_text result ≡ reply_text r) }
+        ensures watch { self.new.watch ≡ self.old.watch }
+    {
+        let reply = self.local.machine.act(&Action::OpenPin(Some(place)));
+        LineAnswer::Known(reply)
+    }
+
+    // Answers a line that opens no pin.
+    fn answer_order(&mut self, alloc: Global, line: &[u8]) -> LineAnswer
+        ensures answers { AnswersLine
+            (order_in self.old.bookmarks self.old.local.machine.trail.current line.now) line.now
+            self.old (line_answer_text result) self.new }
+        ensures watch { self.new.watch ≡ self.old.watch }
+    {
+        match order_in(&self.bookmarks, self.local.machine.world(), line) {
+            Some(order) => self.obey(alloc, order),
+            None => self.note_line(alloc, line),
+        }
+    }
+
+    // Answers a line that asks for nothing to be done, and notes what it sets.
+    fn note_line(&mut self, alloc: Global, line: &[u8]) -> LineAnswer
+        ensures notes { NotesLine line.now self.old.local.machine None self.old.bookmarks
+            (line_answer_text result) self.new.bookmarks }
+        ensures others { self.new ≡ record self.old { bookmarks = self.new.bookmarks } }
+    {
+        note_line(alloc, &self.local.machine, None, &mut self.bookmarks, line)
     }
 }
 
@@ -120,6 +167,7 @@ fn collect(alloc: Global, asking: &mut Asking<'_>) -> LineAnswer
         asking.new.local.machine asking.new.redo }
     ensures first { asking.new.local.first_pin ≡ asking.old.local.first_pin }
     ensures watch { asking.new.watch ≡ asking.old.watch }
+    ensures bookmarks { asking.new.bookmarks ≡ asking.old.bookmarks }
 {
     let cycle = run_cycle(asking, &mut ());
     collect_answer(alloc, cycle)

@@ -9,8 +9,8 @@ use session_grammar::by_word;
 use session_grammar::words::{Words, is_word};
 use session_text::LineAnswer;
 
-/// Returns what `help` answers about a keyword of a question, `collect`, `forward` or `help`, or None if it is none. Takes no
-/// memory.
+/// Returns what `help` answers about a keyword of a question, `collect`, `forward`, `at`, `name` or `help`, or None if it is none.
+/// Takes no memory.
 #[tactic(auto, unfolding(crate::specs::Help::form_text, crate::specs::Help::form_with, crate::specs::Help::question_forms))]
 pub fn question_help(word: &[u8]) -> Option<&'static [u8]>
     ensures { option_map (λ t. t.now) result ≡ form_with question_forms word.now }
@@ -31,7 +31,7 @@ pub fn question_help(word: &[u8]) -> Option<&'static [u8]>
         b"retained" => Some(b"row retained [AT] ID\nrow retained 0x10000020\nok\n"),
         b"dominators" => Some(b"row dominators [AT] [ID] [N]\nrow dominators 0x10000020 10\nok\n"),
         b"dominator" => Some(b"row dominator [AT] ID\nrow dominator 0x10000020\nok\n"),
-        b"show" => Some(b"row show [AT] ID [FROM N]\nrow show 0x10000020 0 100\nok\n"),
+        b"show" => Some(b"row show [AT] ID[.FIELD ..] [DEPTH | FROM N]\nrow show 0x10000020.next 2\nok\n"),
         b"born" => Some(b"row born [@PLACE] ID\nrow born 0x10000020\nok\n"),
         b"wrote" => Some(b"row wrote [@PLACE] ID SLOT\nrow wrote 0x10000020 next\nok\n"),
         b"watch" => Some(b"row watch ID SLOT [@PLACE]\nrow watch 0x10000020 next\nok\n"),
@@ -47,6 +47,8 @@ pub fn question_help(word: &[u8]) -> Option<&'static [u8]>
         b"status" => Some(b"row status\nrow status\nok\n"),
         b"collect" => Some(b"row collect\nrow collect\nok\n"),
         b"forward" => Some(b"row forward N|@P\nrow forward 1\nok\n"),
+        b"at" => Some(b"row at -|@P\nrow at @120\nok\n"),
+        b"name" => Some(b"row name WORD\nrow name start\nok\n"),
         b"help" => Some(b"row help WORD\nrow help path\nok\n"),
         _ => None
     )
@@ -103,8 +105,8 @@ pub fn all_help() -> &'static [u8]
         row snap\nrow mark\nrow drain\nrow finish\nrow sweep REGION\n\
         row rewind N|@P\nrow open AT\nrow piece PIN\nrow dump PIN\nrow close PIN\nrow end\n\
         row histogram [AT]\nrow garbage [AT]\nrow growth AT [AT]\nrow kept AT [AT]\nrow diff AT [AT]\nrow registers [AT]\nrow classes [AT]\n\
-        row objects [AT] [CLASS [SLOT VALUE]]\nrow values [AT] CLASS SLOT\nrow referrers [AT] ID\nrow path [AT] ID\nrow paths [AT] ID N\nrow retained [AT] ID\nrow dominators [AT] [ID] [N]\nrow dominator [AT] ID\nrow show [AT] ID [FROM N]\n\
-        row born [@PLACE] ID\nrow wrote [@PLACE] ID SLOT\nrow watch ID SLOT [@PLACE]\nrow writes CLASS SLOT [@PLACE [@PLACE]]\nrow when (CLASS SLOT VALUE | count CLASS N) [@PLACE [@PLACE]]\nrow dropped [@PLACE] ID\nrow life ID\nrow history [@PLACE] N\nrow cycles\nrow pins\nrow cells\nrow regions\nrow status\nrow collect\nrow forward N|@P\n\
+        row objects [AT] [CLASS [SLOT VALUE]]\nrow values [AT] CLASS SLOT\nrow referrers [AT] ID\nrow path [AT] ID\nrow paths [AT] ID N\nrow retained [AT] ID\nrow dominators [AT] [ID] [N]\nrow dominator [AT] ID\nrow show [AT] ID[.FIELD ..] [DEPTH | FROM N]\n\
+        row born [@PLACE] ID\nrow wrote [@PLACE] ID SLOT\nrow watch ID SLOT [@PLACE]\nrow writes CLASS SLOT [@PLACE [@PLACE]]\nrow when (CLASS SLOT VALUE | count CLASS N) [@PLACE [@PLACE]]\nrow dropped [@PLACE] ID\nrow life ID\nrow history [@PLACE] N\nrow cycles\nrow pins\nrow cells\nrow regions\nrow status\nrow collect\nrow forward N|@P\nrow at -|@P\nrow name WORD\n\
         row help WORD\nok\n"
 }
 

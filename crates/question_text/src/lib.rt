@@ -1,7 +1,7 @@
 //! Questions as lines, and their answers.
 #![tactic(auto)]
 
-ghost use Rattle.std.specs.Prelude.{◌≡◌, ◌⊎◌, ◌≤◌, ◌+◌, ℕ, List, [], Some, None, codes, length, true};
+ghost use Rattle.std.specs.Prelude.{◌≡◌, ◌⊎◌, ◌≤◌, ◌+◌, ℕ, List, [], Option, Some, None, codes, length, true};
 ghost use Rattle.heap_class.specs.declared.Refusal.{Refusal};
 ghost use Rattle.heap_class.specs.declared.Refusal.TheVariants.{NoMemory};
 ghost use Rattle.heap_trail.specs.declared.Action.{Action};
@@ -15,19 +15,23 @@ ghost use Rattle.heap_world.specs.State.{HeapState};
 ghost use Rattle.session_grammar.specs.declared.command.Command.TheVariants.{Bad};
 ghost use Rattle.std.specs.List.{AllByRecursion};
 ghost use Rattle.session_grammar.specs.Grammar.{Rule, all_rules, command_of_text};
+ghost use Rattle.question_grammar.specs.declared.chain.Chain.{Chain};
 ghost use Rattle.question_grammar.specs.declared.question.Question.{Question};
 ghost use Rattle.question_text.specs.declared.asking.Asking.{Asking};
 ghost use Rattle.heap_orders.specs.Collections.{IsWholeCycle, TakenStep};
 ghost use Rattle.question_text.specs.Comments.{is_comment};
 ghost use Rattle.question_text.specs.Help.{HasForm, help_of};
+ghost use Rattle.question_grammar.specs.Bookmarks.{Bookmarks};
+ghost use Rattle.question_grammar.specs.Chains.{chain_of};
 ghost use Rattle.question_grammar.specs.NamedLines.{question_in};
+ghost use Rattle.question_grammar.specs.NoteLines.{name_set, place_opened, place_set};
 ghost use Rattle.question_grammar.specs.declared.order.Order.{Order};
 ghost use Rattle.question_grammar.specs.declared.order.Order.TheVariants.{Forward};
 ghost use Rattle.question_words.specs.Moments.{refused_text};
 ghost use Rattle.question_grammar.specs.Orders.{order_in};
 ghost use Rattle.heap_orders.specs.Redos.{IsBackAt, IsRedoOf, Redo, StopsBefore, no_redo};
 ghost use Rattle.question_grammar.specs.Questions.{QuestionRule, question_of, question_rules};
-ghost use Rattle.question_text.specs.Sessions.{AnswersAlone, AskingActs, AskingAnswers, IsDriven, NoneOrders};
+ghost use Rattle.question_text.specs.Sessions.{AnswersAlone, AskingActs, AskingAnswers, IsAlone, IsDriven, NoneOrders};
 ghost use Rattle.session_text.specs.Answers.{AnswersCommand};
 ghost use Rattle.session_text.specs.declared.limits.SessionLimits.{SessionLimits};
 ghost use Rattle.session_text.specs.Talks.{AnswersAll};
@@ -37,30 +41,35 @@ mod asking;
 mod comment;
 mod dominator_rows;
 mod help;
+mod notes;
 mod session;
+mod shown_chain;
 mod state_dump;
 mod watch;
 
 pub use answers::{answer, answer_line};
 pub use asking::Asking;
 pub use help::{all_help, keyword_help, question_help};
+pub use notes::note_line;
 pub use session::serve_asking;
 pub use state_dump::dump_at;
 pub use watch::{BAD_COMMAND, Watch};
 
-/// States that no line that asks a question, by numbers alone or by names of classes and fields, is one of the grammar of
-/// sessions, so that each of these keeps its meaning.
+/// States that no line that asks a question, by numbers alone, by names of classes and fields, or along fields, is one of the grammar
+/// of sessions, so that each of these keeps its meaning.
 pub fn questions_are_new()
-    ensures numbers { (l : List ℕ) (q : Question)
-        → question_of l ≡ Some q → command_of_text l ≡ Bad }
-    ensures names { (w : HeapState) (l : List ℕ) (q : Question)
-        → question_in w l ≡ Some q → command_of_text l ≡ Bad }
+    ensures numbers { (b : Bookmarks) (l : List ℕ) (q : Question)
+        → question_of b l ≡ Some q → command_of_text l ≡ Bad }
+    ensures names { (b : Bookmarks) (w : HeapState) (l : List ℕ) (q : Question)
+        → question_in b w l ≡ Some q → command_of_text l ≡ Bad }
+    ensures chains { (b : Bookmarks) (l : List ℕ) (c : Chain)
+        → chain_of b l ≡ Some c → command_of_text l ≡ Bad }
 {}
 
 /// States that a line that asks a question by numbers alone asks the same one whatever names a heap has.
 pub fn numbers_keep_their_meaning()
-    ensures { (w : HeapState) (l : List ℕ) (q : Question)
-        → question_of l ≡ Some q → question_in w l ≡ Some q }
+    ensures { (b : Bookmarks) (w : HeapState) (l : List ℕ) (q : Question)
+        → question_of b l ≡ Some q → question_in b w l ≡ Some q }
 {}
 
 /// States the same of a line that asks for help.
@@ -68,10 +77,21 @@ pub fn help_is_new()
     ensures { (l text : List ℕ) → help_of l ≡ Some text → command_of_text l ≡ Bad }
 {}
 
-/// States the same of the lines that change the heap: `collect`, `rewind @P`, `forward` and `new M R NAME`.
+/// States the same of the lines that change the heap: `collect`, `rewind @P`, `forward`, and events that name a class or a field.
 pub fn orders_are_new()
-    ensures { (state : HeapState) (l : List ℕ) (o : Order)
-        → order_in state l ≡ Some o → command_of_text l ≡ Bad }
+    ensures { (b : Bookmarks) (state : HeapState) (l : List ℕ) (o : Order)
+        → order_in b state l ≡ Some o → command_of_text l ≡ Bad }
+{}
+
+/// States the same of `open @WORD`, and of the lines that a session notes: `at @P`, `at -` and `name WORD`. None of them asks a
+/// question or for help, or is one of those that change the heap.
+pub fn notes_are_new()
+    ensures opens { (b : Bookmarks) (state : HeapState) (l : List ℕ) (place : ℕ)
+        → place_opened b l ≡ Some place → IsAlone b state l }
+    ensures places { (b : Bookmarks) (state : HeapState) (l : List ℕ) (to : Option ℕ)
+        → place_set b l ≡ Some to → IsAlone b state l }
+    ensures names { (b : Bookmarks) (state : HeapState) (l w : List ℕ)
+        → name_set l ≡ Some w → IsAlone b state l }
 {}
 
 /// States the same of a comment: a line whose first word begins with `#`.
@@ -85,15 +105,17 @@ pub fn comments_are_silent()
         → (text ≡ []) × (d ≡ c) }
 {}
 
-/// States that a question and a line that asks for help change nothing, nor does any other line that the grammar of sessions
-/// doesn't know, but `collect`, `rewind @P`, `forward` and `new M R NAME`.
+/// States that a question and a line that asks for help change nothing, and that no other line which the grammar of sessions
+/// doesn't know changes anything but bookmarks, except for `collect`, `rewind @P`, `forward`, events by names and `open @WORD`.
 pub fn questions_change_nothing()
     ensures questions { (l text : List ℕ) (q : Question) (c d : Asking)
-        → question_of l ≡ Some q → AskingAnswers l c text d → d ≡ c }
+        → question_of c.bookmarks l ≡ Some q → AskingAnswers l c text d → d ≡ c }
     ensures help { (l text answer : List ℕ) (c d : Asking)
         → help_of l ≡ Some answer → AskingAnswers l c text d → d ≡ c }
     ensures others { (l text : List ℕ) (c d : Asking)
-        → order_in c.local.machine.trail.current l ≡ None → AskingAnswers l c text d → d ≡ c }
+        → place_opened c.bookmarks l ≡ None
+        → order_in c.bookmarks c.local.machine.trail.current l ≡ None
+        → AskingAnswers l c text d → d ≡ record c { bookmarks = d.bookmarks } }
 {}
 
 /// States that the state determines the steps of `collect`: from one state two whole cycles take the same steps with the same
@@ -107,7 +129,7 @@ pub fn collect_is_determined()
 {}
 
 /// States that the lines of a session with questions that the grammar of sessions knows are answered, and leave the machine, as
-/// a session of these lines alone does, if none is `collect`, `rewind @P`, `forward` or `new M R NAME`.
+/// a session of these lines alone does, if none is `collect`, `rewind @P`, `forward`, an event by a name or `open @WORD`.
 pub fn questions_can_be_left_out()
     ensures { (limits : SessionLimits) (time : ℕ) (lines : List (List ℕ)) (text : List ℕ)
         (c d : Asking) → NoneOrders lines
@@ -115,8 +137,8 @@ pub fn questions_can_be_left_out()
         → AnswersAlone limits time c.local.machine lines text d.local.machine }
 {}
 
-/// States that some list of actions leads to the machine that a session with questions leaves, `collect`, `rewind @P`, `forward` and
-/// `new M R NAME` included.
+/// States that some list of actions leads to the machine that a session with questions leaves, `collect`, `rewind @P`, `forward`,
+/// events by names and `open @WORD` included.
 pub fn asking_session_is_list()
     ensures { (limits : SessionLimits) (time : ℕ) (lines : List (List ℕ)) (text : List ℕ)
         (c d : Asking) → AnswersAll limits
@@ -145,7 +167,7 @@ pub fn forward_takes_back()
     ensures back { (n place : ℕ) (l text : List ℕ) (c d e : Asking)
         → IsRedoOf c.local.machine c.redo → c.redo.ahead + n ≤ length c.redo.events
         → AskingActs c (Rewind n) (Place place) d
-        → order_in d.local.machine.trail.current l ≡ Some (Forward n)
+        → order_in d.bookmarks d.local.machine.trail.current l ≡ Some (Forward n)
         → AskingAnswers l d text e
         → IsBackAt c.local.machine c.redo text e.local.machine e.redo
         ⊎ (text ≡ refused_text NoMemory) }
@@ -153,10 +175,14 @@ pub fn forward_takes_back()
         → StopsBefore n m r e k s → e ≡ NoMemory }
 {}
 
-/// States that `help` knows the keyword of each line of the grammar of sessions, of each question, of `collect` and `forward`.
+/// States that `help` knows the keyword of each line of the grammar of sessions, of each question, of `collect`, `forward`, `at`
+/// and `name`.
 pub fn help_is_whole()
     ensures sessions { AllByRecursion (λ (r : Rule). HasForm r.0) all_rules }
-    ensures questions { AllByRecursion (λ (r : QuestionRule). HasForm r.0) question_rules }
+    ensures questions { (b : Bookmarks)
+        → AllByRecursion (λ (r : QuestionRule). HasForm r.0) (question_rules b) }
     ensures collect { HasForm (codes "collect") }
     ensures forward { HasForm (codes "forward") }
+    ensures at { HasForm (codes "at") }
+    ensures name { HasForm (codes "name") }
 {}

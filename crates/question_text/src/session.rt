@@ -7,9 +7,9 @@ use crate::asking::Asking;
 use session_text::{Ended, Inlet, Outlet, SessionLimits, serve};
 use std::alloc::Global;
 
-/// Serves a session of a private machine as `serve` does: each line of the grammar of sessions is answered as without
-/// questions, and each other line as a question or `help`, or as `collect`, `rewind @P`, `forward` or `new M R NAME`, which alone
-/// of these change the machine.
+/// Serves a session of a private machine as `serve` does: each line of the grammar of sessions is answered as without questions,
+/// and each other line as a question or `help`, as `at` or `name`, or as `collect`, `rewind @P`, `forward`, an event by a name or
+/// `open @WORD`, which alone of these change the machine.
 pub fn serve_asking<I: Inlet, O: Outlet>(
     alloc: Global,
     reader: &mut I,

@@ -7,12 +7,9 @@ ghost use Rattle.question_text.specs.StateDumps.{IsDumpAt};
 
 use heap_class::Refusal;
 use heap_trail::Machine;
-use hprof_text::{Cursor, View, piece_from, pieces_few, text_len};
+use hprof_text::{Cursor, PIECE_LIMIT, View, piece_from, pieces_few, text_len};
 use question_words::{At, moment_at, view_of};
 use std::alloc::Global;
-
-// The most pieces of a dump.
-const PIECE_LIMIT: u64 = 16_785_538;
 
 /// Returns the dump of the state that a question may be about, as HPROF, with this time in its header, in milliseconds since 1970.
 /// Fails with NotRetained, NoPin or Lost if there is no such state, and with NoMemory if an allocation fails.

@@ -39,21 +39,13 @@ pub fn steps_ago(machine: &Machine, to: Option<u64>) -> Result<u64, Refusal>
     match to {
         None => Ok(0),
         Some(place) => {
-            if has_retained(machine, place) {
+            if machine.has_retained(place) {
                 Ok(machine.place() - place)
             } else {
                 Err(Refusal::NotRetained)
             }
         }
     }
-}
-
-// Tells whether the state at this place is retained.
-fn has_retained(machine: &Machine, place: u64) -> bool
-    ensures { result ≡ is_retained place machine.now.trail }
-{
-    let current = machine.place();
-    place <= current && current - place <= machine.retained_count()
 }
 
 /// Returns the moment that a question is about. Fails with NotRetained if the state of its place isn't retained, and with
@@ -89,7 +81,7 @@ fn moment_of_place(machine: &Machine, place: u64) -> Result<Moment, Refusal>
         × (moment_image machine.now h ≡ image_at (Place place) machine.now)) }
     ensures refused { IfErr result (IsRefusedAt (image_at (Place place) machine.now)) }
 {
-    if has_retained(machine, place) {
+    if machine.has_retained(place) {
         let pin = machine.pin_ago(machine.place() - place)?;
         Ok(Moment::Own(pin))
     } else {

@@ -100,6 +100,7 @@ impl Secret {
             ((rest : List ℕ) → IsBehindWord self.now bytes.now rest → ⊥)
             (λ n. (n ≤ length bytes.now) × IsBehindWord self.now bytes.now (drop n bytes.now)) }
     {
+        // The contract needs the invariant of the secret.
         let _size = self.size;
         let Some(end) = line_end(bytes) else {
             return None;

@@ -1,4 +1,4 @@
--- Fields, mark by mark.
+-- Fields, span by span.
 use Rattle.std.proofs.Common.{◌≡◌, ◌∙◌, ap, refl, sym, subst, ℕ, ◌+◌, ◌-◌, ◌≤◌, List, [], ◌∷◌, ◌++◌, drop, length, map, Option, Some, None, append_assoc, length-append, arith}
 use Rattle.std.specs.Prelude.{option_map, option_and_then, zero, suc}
 use Rattle.std.proofs.lemmas.List.{drop-drop, map-append}
@@ -18,33 +18,33 @@ rest_of_rest text rest less h k =
       k.1 ∙ ap (λ l. drop n l) h.1 ∙ drop-drop n m text ∙ ap (λ j. drop j text) all,
     )
 
-pub spans_longer_by_one : (old new : List FieldSpan) (mark : FieldSpan) → new ≡ old ++ mark ∷ [] → length new ≡ length old + 1
-spans_longer_by_one old new mark e = ap length e ∙ length-append old (mark ∷ [])
+pub spans_longer_by_one : (old new : List FieldSpan) (span : FieldSpan) → new ≡ old ++ span ∷ [] → length new ≡ length old + 1
+spans_longer_by_one old new span e = ap length e ∙ length-append old (span ∷ [])
 
-single_span_within_text : (text : List ℕ) (mark : FieldSpan) → mark.start + mark.size ≤ length text → AreSpansWithin text (mark ∷ [])
-single_span_within_text text mark h zero d lt = h
-single_span_within_text text mark h (suc k) d lt = absurd (omega (arith, lt))
+single_span_within_text : (text : List ℕ) (span : FieldSpan) → span.start + span.size ≤ length text → AreSpansWithin text (span ∷ [])
+single_span_within_text text span h zero d lt = h
+single_span_within_text text span h (suc k) d lt = absurd (omega (arith, lt))
 
-pub spans_within_with_one_more : (text : List ℕ) (old new : List FieldSpan) (mark : FieldSpan) → new ≡ old ++ mark ∷ [] → mark.start + mark.size ≤ length text → AreSpansWithin text old → AreSpansWithin text new
-spans_within_with_one_more text old new mark e h all = subst (AreSpansWithin text) (sym e) (All-append (λ m. m.start + m.size ≤ length text) old (mark ∷ []) all (single_span_within_text text mark h))
+pub spans_within_with_one_more : (text : List ℕ) (old new : List FieldSpan) (span : FieldSpan) → new ≡ old ++ span ∷ [] → span.start + span.size ≤ length text → AreSpansWithin text old → AreSpansWithin text new
+spans_within_with_one_more text old new span e h all = subst (AreSpansWithin text) (sym e) (All-append (λ m. m.start + m.size ≤ length text) old (span ∷ []) all (single_span_within_text text span h))
 
-fields_with_one_span_more : (text : List ℕ) (old : List FieldSpan) (mark : FieldSpan) (o : Option (List Field))
-    → option_map (λ fs. map (field_of_span text) old ++ fs) (option_map (λ fs. field_of_span text mark ∷ fs) o) ≡ option_map (λ fs. map (field_of_span text) (old ++ mark ∷ []) ++ fs) o
-fields_with_one_span_more text old mark None = refl
-fields_with_one_span_more text old mark (Some fs) =
+fields_with_one_span_more : (text : List ℕ) (old : List FieldSpan) (span : FieldSpan) (o : Option (List Field))
+    → option_map (λ fs. map (field_of_span text) old ++ fs) (option_map (λ fs. field_of_span text span ∷ fs) o) ≡ option_map (λ fs. map (field_of_span text) (old ++ span ∷ []) ++ fs) o
+fields_with_one_span_more text old span None = refl
+fields_with_one_span_more text old span (Some fs) =
     let f = field_of_span text in
-    ap Some (sym (append_assoc (map f old) (f mark ∷ []) fs) ∙ ap (λ l. l ++ fs) (sym (map-append f old (mark ∷ []))))
+    ap Some (sym (append_assoc (map f old) (f span ∷ []) fs) ∙ ap (λ l. l ++ fs) (sym (map-append f old (span ∷ []))))
 
 -- a field more was read
-pub field_spans_one_further : (text t left : List ℕ) (ws : List (List ℕ)) (old new : List FieldSpan) (mark : FieldSpan) (whole : ℕ) → Some (field_of_span text mark, whole) ≡ with_size t (plain_field (first_word t)) → left ≡ drop (whole + 1) t → new ≡ old ++ mark ∷ [] → ws ≡ first_word t ∷ words_of_line (drop (word_size t + 1) t)
+pub field_spans_one_further : (text t left : List ℕ) (ws : List (List ℕ)) (old new : List FieldSpan) (span : FieldSpan) (whole : ℕ) → Some (field_of_span text span, whole) ≡ with_size t (plain_field (first_word t)) → left ≡ drop (whole + 1) t → new ≡ old ++ span ∷ [] → ws ≡ first_word t ∷ words_of_line (drop (word_size t + 1) t)
     → option_map (λ fs. map (field_of_span text) old ++ fs) (plain_fields ws) ≡ option_map (λ fs. map (field_of_span text) new ++ fs) (plain_fields (words_of_line left))
-field_spans_one_further text t left ws old new mark whole e rest more words =
-    let p = some_with_size_is_read t (plain_field (first_word t)) (field_of_span text mark) whole e in
+field_spans_one_further text t left ws old new span whole e rest more words =
+    let p = some_with_size_is_read t (plain_field (first_word t)) (field_of_span text span) whole e in
     let behind : words_of_line (drop (word_size t + 1) t) ≡ words_of_line left = ap (λ n. words_of_line (drop (n + 1) t)) (sym p.1) ∙ ap words_of_line (sym rest) in
-    let first : plain_fields ws ≡ option_map (λ fs. field_of_span text mark ∷ fs) (plain_fields (words_of_line left)) =
+    let first : plain_fields ws ≡ option_map (λ fs. field_of_span text span ∷ fs) (plain_fields (words_of_line left)) =
     ap plain_fields words
     ∙ ap (λ o. option_and_then (λ f. option_map (λ fs. f ∷ fs) (plain_fields (words_of_line (drop (word_size t + 1) t)))) o) p.0
-    ∙ ap (λ l. option_map (λ fs. field_of_span text mark ∷ fs) (plain_fields l)) behind in
+    ∙ ap (λ l. option_map (λ fs. field_of_span text span ∷ fs) (plain_fields l)) behind in
     ap (λ o. option_map (λ fs. map (field_of_span text) old ++ fs) o) first
-    ∙ fields_with_one_span_more text old mark (plain_fields (words_of_line left))
-    ∙ ap (λ marks. option_map (λ fs. map (field_of_span text) marks ++ fs) (plain_fields (words_of_line left))) (sym more)
+    ∙ fields_with_one_span_more text old span (plain_fields (words_of_line left))
+    ∙ ap (λ spans. option_map (λ fs. map (field_of_span text) spans ++ fs) (plain_fields (words_of_line left))) (sym more)

@@ -151,7 +151,7 @@ field_of_span text m = record { name = take m.size (drop m.start text); kind = m
 
 -- each field is within the text
 abbrev pub AreSpansWithin : List ℕ → List FieldSpan → Type 0
-AreSpansWithin text marks = All (λ m. m.start + m.size ≤ length text) marks
+AreSpansWithin text spans = All (λ s. s.start + s.size ≤ length text) spans
 
 -- the name that the first word is, and the other words
 abbrev pub next_name : List (List ℕ) → Option (List ℕ × List (List ℕ))

@@ -120,7 +120,7 @@ pub fn without_cr(line: &[u8]) -> &[u8]
 /// Returns the command of a line without its CR. Fails if an allocation for a class fails.
 pub fn command_of_text(
     alloc: Global,
-    marks: &mut FieldSpans,
+    spans: &mut FieldSpans,
     text: &[u8],
 ) -> Result<Command, AllocError>
     requires { length text.now ≤ LINE_LIMIT }
@@ -131,7 +131,7 @@ pub fn command_of_text(
     let Some(word) = words.next_word() else {
         return Ok(Command::Blank);
     };
-    Ok(line_after(alloc, marks, word, words)?.unwrap_or(Command::Bad))
+    Ok(line_after(alloc, spans, word, words)?.unwrap_or(Command::Bad))
 }
 
 // Reads a line from its first word and the words after it. Returns None if it is none of the grammar's. Fails if an
@@ -139,7 +139,7 @@ pub fn command_of_text(
 #[tactic(auto, unfolding(crate::specs::Grammar::by_rule, crate::specs::Reads::plain_class_rules))]
 fn line_after(
     alloc: Global,
-    marks: &mut FieldSpans,
+    spans: &mut FieldSpans,
     word: &[u8],
     words: Words,
 ) -> Result<Option<Command>, AllocError>
@@ -148,7 +148,7 @@ fn line_after(
         (λ _. MayTakeMemory (by_rule plain_rules word.now (words_of_line words.entry))) }
 {
     by_word!(word;
-        b"class" => class_line(alloc, marks, words),
+        b"class" => class_line(alloc, spans, words),
         b"array" => array_line(alloc, words),
         _ => Ok(making_line(word, words))
     )
@@ -158,7 +158,7 @@ fn line_after(
 // allocation fails.
 fn class_line(
     alloc: Global,
-    marks: &mut FieldSpans,
+    spans: &mut FieldSpans,
     mut words: Words,
 ) -> Result<Option<Command>, AllocError>
     requires { length words ≤ LINE_LIMIT }
@@ -172,11 +172,11 @@ fn class_line(
         return Ok(None);
     };
     let text = words.rest();
-    if !read_fields(words, marks) {
+    if !read_fields(words, spans) {
         return Ok(None);
     }
     let name = Name::new(alloc, name)?;
-    let fields = copied_all(alloc, text, marks.as_slice())?;
+    let fields = copied_all(alloc, text, spans.as_slice())?;
     Ok(Some(Command::Ask(Action::Step(Event::Class { name, sup, fields }))))
 }
 

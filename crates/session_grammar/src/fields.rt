@@ -103,22 +103,22 @@ fn colon_or_end(text: &[u8]) -> Option<usize>
         .position(|b| *b == COLON || !b.is_ascii_graphic())
 }
 
-/// Reads all words that are left as fields, and marks their places in the text that isn't read yet. Returns false if one of
+/// Reads all words that are left as fields, and notes their places in the text that isn't read yet. Returns false if one of
 /// them is no field.
-pub fn read_fields(mut words: Words, marks: &mut FieldSpans) -> bool
+pub(crate) fn read_fields(mut words: Words, spans: &mut FieldSpans) -> bool
     requires { length words ≤ LINE_LIMIT }
     ensures { MatchBool result
         ((plain_fields (words_of_line words.entry)
-        ≡ Some (map (field_of_span words.entry) marks.new)) × AreSpansWithin words.entry marks.new)
+        ≡ Some (map (field_of_span words.entry) spans.new)) × AreSpansWithin words.entry spans.new)
         (plain_fields (words_of_line words.entry) ≡ None) }
 {
-    marks.clear();
+    spans.clear();
     let size = words.rest().len();
     while let Some(rest) = words.front() {
         let Some(field) = field_at(rest) else {
             return false;
         };
-        marks.push(FieldSpan {
+        spans.push(FieldSpan {
             start: (size - rest.len()) as u16,
             size: field.name as u16,
             kind: field.kind,
@@ -129,26 +129,30 @@ pub fn read_fields(mut words: Words, marks: &mut FieldSpans) -> bool
 }
 
 /// Returns copies of the fields of this text. Fails if an allocation fails.
-pub fn copied_all(alloc: Global, text: &[u8], marks: &[FieldSpan]) -> Result<Fields, AllocError>
-    requires { AreSpansWithin text.now marks.now }
-    ensures { IfOk result (λ fs. fs ≡ map (field_of_span text.now) marks.now) }
+pub(crate) fn copied_all(
+    alloc: Global,
+    text: &[u8],
+    spans: &[FieldSpan],
+) -> Result<Fields, AllocError>
+    requires { AreSpansWithin text.now spans.now }
+    ensures { IfOk result (λ fs. fs ≡ map (field_of_span text.now) spans.now) }
 {
-    let mut copies = Vec::with_capacity(alloc, marks.len())?;
-    for mark in marks {
-        copies.push(copy_field(alloc, text, mark)?)?;
+    let mut copies = Vec::with_capacity(alloc, spans.len())?;
+    for span in spans {
+        copies.push(copy_field(alloc, text, span)?)?;
     }
     Ok(Fields::from_vec(copies))
 }
 
 // Returns a copy of a field of this text. Fails if the allocation fails.
-fn copy_field(alloc: Global, text: &[u8], mark: &FieldSpan) -> Result<Field, AllocError>
-    requires { mark.now.start + mark.now.size ≤ length text.now }
-    ensures { IfOk result (λ f. f ≡ field_of_span text.now mark.now) }
+fn copy_field(alloc: Global, text: &[u8], span: &FieldSpan) -> Result<Field, AllocError>
+    requires { span.now.start + span.now.size ≤ length text.now }
+    ensures { IfOk result (λ f. f ≡ field_of_span text.now span.now) }
 {
-    let (start, size) = (mark.start as usize, mark.size as usize);
+    let (start, size) = (span.start as usize, span.size as usize);
     let name = &text[start..start + size];
     Ok(Field {
         name: Name::new(alloc, name)?,
-        kind: mark.kind,
+        kind: span.kind,
     })
 }

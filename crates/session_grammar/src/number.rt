@@ -233,7 +233,7 @@ fn digit_of(b: u8) -> Option<u64>
 }
 
 /// Returns the number that the text's first word holds, or None from a `-`, and its size. Returns None if it holds neither.
-pub fn number_or_dash_at(text: &[u8]) -> Option<(Option<u64>, usize)>
+pub(crate) fn number_or_dash_at(text: &[u8]) -> Option<(Option<u64>, usize)>
     ensures value { result ≡ with_size text.now (number_or_dash (first_word text.now)) }
     ensures within { IfSome result (λ r. r.1 ≤ length text.now) }
 {

@@ -57,10 +57,10 @@ impl FieldSpans {
     }
 
     /// Adds a field.
-    pub fn push(&mut self, mark: FieldSpan)
+    pub fn push(&mut self, span: FieldSpan)
         requires { length self.old < SPAN_ROOM }
-        ensures { self.new ≡ self.old ++ mark ∷ [] }
+        ensures { self.new ≡ self.old ++ span ∷ [] }
     {
-        self.0.push_reserved(mark);
+        self.0.push_reserved(span);
     }
 }

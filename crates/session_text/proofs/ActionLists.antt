@@ -23,7 +23,7 @@ use Rattle.session_grammar.specs.declared.command.Command.{Command}
 use Rattle.session_grammar.specs.declared.command.Command.TheVariants.{Blank, Bad, Ask, Piece, Dump, DumpNow, End}
 use Rattle.session_text.specs.Answers.{AnswersCommand, AnswersTo, BeginsTo, IsBadCommand, all_bad}
 use Rattle.session_text.specs.Dumps.{DumpsOn, Dumps, ClosesAfter, total_line}
-use Rattle.dump_pump.specs.Sources.{part_limit}
+use Rattle.hprof_text.specs.Laws.{piece_limit}
 use Rattle.session_grammar.specs.Grammar.{command_of}
 use Rattle.session_text.specs.Laws.{InTurn, IsStop, ending_line, IsBegun, IsListed, IsCutListed}
 use Rattle.session_grammar.specs.Lines.{NoLf}
@@ -50,7 +50,7 @@ unfolding machine_after
 allocations_of_one_more_action m [] a h may = (may, tt)
 allocations_of_one_more_action m (x ∷ actions) a h may = (h.0, allocations_of_one_more_action (acted_under m x).0 actions a h.1 may)
 
--- actions whose marks may stand lead from m to n
+-- actions whose allocations are possible lead from m to n
 abbrev ActionsLeadTo : Machine → Machine → List (Action × Allocation) → Type 0
 ActionsLeadTo m n actions = (n ≡ machine_after m actions) × AreAllocations m actions
 
@@ -58,17 +58,17 @@ no_actions_lead_nowhere : (m : Machine) → ActionsLeadTo m m []
 unfolding machine_after
 no_actions_lead_nowhere m = (refl, tt)
 
-record OneMore (m n : Machine) (before : List (Action × Allocation)) (a : Action) (mark : Allocation) : Type 0 where
-  turn : InTurn m before a (acted_under n (a, mark)).1 (before ++ (a, mark) ∷ [])
-  leads : ActionsLeadTo m (acted_under n (a, mark)).0 (before ++ (a, mark) ∷ [])
+record OneMore (m n : Machine) (before : List (Action × Allocation)) (a : Action) (allocation : Allocation) : Type 0 where
+  turn : InTurn m before a (acted_under n (a, allocation)).1 (before ++ (a, allocation) ∷ [])
+  leads : ActionsLeadTo m (acted_under n (a, allocation)).0 (before ++ (a, allocation) ∷ [])
 
-actions_lead_one_further : (m n : Machine) (before : List (Action × Allocation)) (a : Action) (mark : Allocation) → ActionsLeadTo m n before → MayStand n (a, mark) → OneMore m n before a mark
-actions_lead_one_further m n before a mark l may =
-    let x : Action × Allocation = (a, mark) in
+actions_lead_one_further : (m n : Machine) (before : List (Action × Allocation)) (a : Action) (allocation : Allocation) → ActionsLeadTo m n before → MayStand n (a, allocation) → OneMore m n before a allocation
+actions_lead_one_further m n before a allocation l may =
+    let x : Action × Allocation = (a, allocation) in
     let there = subst (λ (k : Machine). MayStand k x) l.0 may in
     let same : acted_under n x ≡ acted_under (machine_after m before) x = ap (λ (k : Machine). acted_under k x) l.0 in
     record {
-      turn = (mark, there, refl, replies_of_one_more_action m before x ∙ ap (λ (r : Machine × Reply). replies_of m before ++ r.1 ∷ []) (sym same));
+      turn = (allocation, there, refl, replies_of_one_more_action m before x ∙ ap (λ (r : Machine × Reply). replies_of m before ++ r.1 ∷ []) (sym same));
       leads = (ap (λ (r : Machine × Reply). r.0) same ∙ sym (machine_after_one_more_action m before x), allocations_of_one_more_action m before x l.1 there);
     }
 
@@ -130,8 +130,8 @@ dump_listed (suc k) zero pin time m before t so_far le l h = absurd (omega (arit
 dump_listed (suc k) (suc n) pin time m before t so_far le l h =
     let a = NextPiece pin time in
     let r = done_quietly a t in
-    let one = actions_lead_one_further m t.machine before a (allocation_of t.marks) l h.0 in
-    let next = before ++ (a, allocation_of t.marks) ∷ [] in
+    let one = actions_lead_one_further m t.machine before a (allocation_of t.allocations) l h.0 in
+    let next = before ++ (a, allocation_of t.allocations) ∷ [] in
     let g = actions_of_dump_rest_listed k n pin time m next r.1 (piece_in r.1) r.0 so_far one.leads h.1 (λ u j s f. dump_listed k n pin time m next u j (omega (arith, le)) s f) in
     record { after = g.after; text = g.text; dumps = (r.1, next, one.turn, g.goes); leads = g.leads; written = g.written }
 
@@ -144,10 +144,10 @@ record OpenListed (k time : ℕ) (m : Machine) (before : List (Action × Allocat
   leads : ActionsLeadTo m (after_open_reply k time r o t).machine after
   written : (after_open_reply k time r o t).written ≡ t.written ++ text
 
-actions_of_open_listed : (k time : ℕ) (m : Machine) (before : List (Action × Allocation)) (r : Reply) (o : Option ℕ) (t : Talk) → k ≤ part_limit → ActionsLeadTo m t.machine before → FitsOpen time o t → OpenListed k time m before r o t
+actions_of_open_listed : (k time : ℕ) (m : Machine) (before : List (Action × Allocation)) (r : Reply) (o : Option ℕ) (t : Talk) → k ≤ piece_limit → ActionsLeadTo m t.machine before → FitsOpen time o t → OpenListed k time m before r o t
 actions_of_open_listed k time m before r None t le l h = record { after = before; text = reply_text r; closes = (refl, refl); leads = l; written = refl }
 actions_of_open_listed k time m before r (Some pin) t le l h =
-    let g = dump_listed k part_limit pin time m before t 0 le l h in
+    let g = dump_listed k piece_limit pin time m before t 0 le l h in
     let u = pieces_dumped k pin time t 0 in
     let one = actions_lead_one_further m u.machine g.after (ClosePin pin) Granted g.leads tt in
     let after = g.after ++ (ClosePin pin, Granted) ∷ [] in
@@ -172,11 +172,11 @@ answer_listed : (time : ℕ) (k : Command) (m : Machine) (before : List (Action 
 answer_listed time Blank m before t isnt l h = record { after = before; text = []; answers = (refl, refl); leads = l; written = sym (append-nil t.written) }
 answer_listed time Bad m before t isnt l h = record { after = before; text = codes "bad command\n"; answers = (refl, refl); leads = l; written = refl }
 answer_listed time (Ask a) m before t isnt l (inl may) =
-    let r = acted_under t.machine (a, allocation_of t.marks) in
-    let one = actions_lead_one_further m t.machine before a (allocation_of t.marks) l may in
-    record { after = before ++ (a, allocation_of t.marks) ∷ []; text = reply_text r.1; answers = (r.1, inl one.turn, refl); leads = one.leads; written = refl }
+    let r = acted_under t.machine (a, allocation_of t.allocations) in
+    let one = actions_lead_one_further m t.machine before a (allocation_of t.allocations) l may in
+    record { after = before ++ (a, allocation_of t.allocations) ∷ []; text = reply_text r.1; answers = (r.1, inl one.turn, refl); leads = one.leads; written = refl }
 answer_listed time (Ask a) m before t isnt l (inr (takes, refuses)) =
-    let same : acted_under t.machine (a, allocation_of t.marks) ≡ (t.machine, Refused NoMemory) = ap (λ (k : Allocation). acted_under t.machine (a, k)) refuses ∙ denied_action_is_no_memory t.machine a in
+    let same : acted_under t.machine (a, allocation_of t.allocations) ≡ (t.machine, Refused NoMemory) = ap (λ (k : Allocation). acted_under t.machine (a, k)) refuses ∙ denied_action_is_no_memory t.machine a in
     record {
       after = before;
       text = reply_text (Refused NoMemory);
@@ -186,17 +186,17 @@ answer_listed time (Ask a) m before t isnt l (inr (takes, refuses)) =
     }
 answer_listed time (Piece pin) m before t isnt l may =
     let a = NextPiece pin time in
-    let r = acted_under t.machine (a, allocation_of t.marks) in
-    let one = actions_lead_one_further m t.machine before a (allocation_of t.marks) l may in
-    record { after = before ++ (a, allocation_of t.marks) ∷ []; text = reply_text r.1; answers = (r.1, one.turn, refl); leads = one.leads; written = refl }
+    let r = acted_under t.machine (a, allocation_of t.allocations) in
+    let one = actions_lead_one_further m t.machine before a (allocation_of t.allocations) l may in
+    record { after = before ++ (a, allocation_of t.allocations) ∷ []; text = reply_text r.1; answers = (r.1, one.turn, refl); leads = one.leads; written = refl }
 answer_listed time (Dump pin) m before t isnt l h =
-    let g = dump_listed part_limit part_limit pin time m before t 0 (omega arith) l h in
+    let g = dump_listed piece_limit piece_limit pin time m before t 0 (omega arith) l h in
     record { after = g.after; text = g.text; answers = g.dumps; leads = g.leads; written = g.written }
 answer_listed time DumpNow m before t isnt l (may, h) =
     let r = done_quietly (OpenPin None) t in
-    let one = actions_lead_one_further m t.machine before (OpenPin None) (allocation_of t.marks) l may in
-    let opened = before ++ (OpenPin None, allocation_of t.marks) ∷ [] in
-    let g = actions_of_open_listed part_limit time m opened r.1 (pin_in r.1) r.0 (omega arith) one.leads h in
+    let one = actions_lead_one_further m t.machine before (OpenPin None) (allocation_of t.allocations) l may in
+    let opened = before ++ (OpenPin None, allocation_of t.allocations) ∷ [] in
+    let g = actions_of_open_listed piece_limit time m opened r.1 (pin_in r.1) r.0 (omega arith) one.leads h in
     record { after = g.after; text = g.text; answers = (r.1, opened, one.turn, g.closes); leads = g.leads; written = g.written }
 answer_listed time End m before t isnt l h = absurd (true≢false isnt)
 
@@ -206,7 +206,7 @@ record BegunListed (pieces time : ℕ) (k : Command) (m : Machine) (before : Lis
   begun : (after ≡ before) ⊎ ((tail : List ℕ) × BeginsTo (InTurn m) IsBadCommand time k before tail after)
   leads : ActionsLeadTo m (after_up_to pieces time k t).machine after
 
-actions_of_begun_command_listed : (pieces time : ℕ) (k : Command) (m : Machine) (before : List (Action × Allocation)) (t : Talk) → pieces ≤ part_limit → ActionsLeadTo m t.machine before → FitsCommand time k t → BegunListed pieces time k m before t
+actions_of_begun_command_listed : (pieces time : ℕ) (k : Command) (m : Machine) (before : List (Action × Allocation)) (t : Talk) → pieces ≤ piece_limit → ActionsLeadTo m t.machine before → FitsCommand time k t → BegunListed pieces time k m before t
 actions_of_begun_command_listed pieces time Blank m before t le l h = record { after = before; begun = inl refl; leads = l }
 actions_of_begun_command_listed pieces time Bad m before t le l h = record { after = before; begun = inl refl; leads = l }
 actions_of_begun_command_listed pieces time (Ask a) m before t le l h =
@@ -216,12 +216,12 @@ actions_of_begun_command_listed pieces time (Piece pin) m before t le l h =
     let g = answer_listed time (Piece pin) m before t refl l h in
     record { after = g.after; begun = inr (g.text, g.answers); leads = g.leads }
 actions_of_begun_command_listed pieces time (Dump pin) m before t le l h =
-    let g = dump_listed pieces part_limit pin time m before t 0 le l h in
+    let g = dump_listed pieces piece_limit pin time m before t 0 le l h in
     record { after = g.after; begun = inr (g.text, (pieces, le, g.dumps)); leads = g.leads }
 actions_of_begun_command_listed pieces time DumpNow m before t le l (may, h) =
     let r = done_quietly (OpenPin None) t in
-    let one = actions_lead_one_further m t.machine before (OpenPin None) (allocation_of t.marks) l may in
-    let opened = before ++ (OpenPin None, allocation_of t.marks) ∷ [] in
+    let one = actions_lead_one_further m t.machine before (OpenPin None) (allocation_of t.allocations) l may in
+    let opened = before ++ (OpenPin None, allocation_of t.allocations) ∷ [] in
     let g = actions_of_open_listed pieces time m opened r.1 (pin_in r.1) r.0 le one.leads h in
     record { after = g.after; begun = inr (g.text, (pieces, le, (r.1, opened, one.turn, g.closes))); leads = g.leads }
 actions_of_begun_command_listed pieces time End m before t le l h = record { after = before; begun = inl refl; leads = l }
@@ -293,7 +293,7 @@ fitting_lines_split_at_first : (time : ℕ) (l : List ℕ) (ls : List (List ℕ)
 fitting_lines_split_at_first time l [] t some h = absurd (omega (arith, some))
 fitting_lines_split_at_first time l (m ∷ ms) t some h = h
 
--- the marks fit beside the first line, and beside the others
+-- the allocations fit the first line, and the others
 line_fits : (time : ℕ) (l ys : List ℕ) (t : Talk) → NoLf l → FitLines time (parts (l ++ 10 ∷ ys)) t → FitsCommand time (command_of l) t × FitLines time (parts ys) (after_command time (command_of l) t)
 line_fits time l ys t none h = fitting_lines_split_at_first time l (parts ys) t (omega (arith, length-slice_split (λ b. b == 10) ys)) (subst (λ ls. FitLines time ls t) (slice_split_at (λ b. b == 10) l 10 ys none refl) h)
 
@@ -388,13 +388,13 @@ lines_listed limits time e (l ∷ ls) rest each none m before t lead h =
     subst (λ x. LinesListed limits time x m before t (talked limits time e (parts x) t)) (sym is)
     (any_line_listed limits time e l ys m before t (All-head NoLf l ls each) lead (subst (λ x. FitLines time (parts x) t) is h) (λ after u s f. lines_listed limits time e ls rest (All-tail NoLf l ls each) none m after u s f) (nat_lt (longest_line limits) (length l)) refl)
 
-pub session_listed : (limits : SessionLimits) (m : Machine) (marks : List Allocation) (time : ℕ) (bytes : List ℕ) (e : ReadEnd) → IsListed limits m marks time bytes e
+pub session_listed : (limits : SessionLimits) (m : Machine) (allocations : List Allocation) (time : ℕ) (bytes : List ℕ) (e : ReadEnd) → IsListed limits m allocations time bytes e
 unfolding session_of
-session_listed limits m marks time bytes e fit =
+session_listed limits m allocations time bytes e fit =
     let u = bytes_unsplit_into_lines bytes in
-    let t = talk m marks [] in
+    let t = talk m allocations [] in
     let g : LinesListed limits time bytes m [] t (talked limits time e (parts bytes) t) = subst (λ x. LinesListed limits time x m [] t (talked limits time e (parts x) t)) (sym u.are) (lines_listed limits time e u.lines u.rest u.each u.none m [] t (no_actions_lead_nowhere m) (subst (λ x. FitLines time (parts x) t) u.are fit)) in
-    (g.text, record { actions = g.after; marks = g.leads.1; rest = g.rest; talk = record { lines = g.lines; are = g.are; talks = g.talks }; stop = g.stop; machine = g.leads.0 }, g.written)
+    (g.text, record { actions = g.after; allocations = g.leads.1; rest = g.rest; talk = record { lines = g.lines; are = g.are; talks = g.talks }; stop = g.stop; machine = g.leads.0 }, g.written)
 
 -- ---- if a write failed
 
@@ -481,26 +481,26 @@ actions_of_line_begun : (limits : SessionLimits) (time : ℕ) (l rest : List ℕ
 actions_of_line_begun limits time l rest m before after starts (inl same) = inl same
 actions_of_line_begun limits time l rest m before after starts (inr (tail, begins)) = inr (l, tail, starts, begins)
 
-actions_of_cut_session_listed : (limits : SessionLimits) (time : ℕ) (rest : List ℕ) (m start : Machine) (marks : List Allocation) (bytes : List ℕ) (e : ReadEnd) (before : List (Action × Allocation)) (t : Talk) (out : List ℕ) (m' : Machine) → ActionsLeadTo m t.machine before → FitLines time (parts rest) t
-    → CutsLine limits time rest t out m' ⊎ (CutsEnd limits start marks time bytes e t out m' ⊎ CutsPage limits rest t out m') → StopListed limits time rest m before m'
-actions_of_cut_session_listed limits time rest m start marks bytes e before t out m' lead h (inl (l, starts, pieces, le, is, cut)) =
+actions_of_cut_session_listed : (limits : SessionLimits) (time : ℕ) (rest : List ℕ) (m start : Machine) (allocations : List Allocation) (bytes : List ℕ) (e : ReadEnd) (before : List (Action × Allocation)) (t : Talk) (out : List ℕ) (m' : Machine) → ActionsLeadTo m t.machine before → FitLines time (parts rest) t
+    → CutsLine limits time rest t out m' ⊎ (CutsEnd limits start allocations time bytes e t out m' ⊎ CutsPage limits rest t out m') → StopListed limits time rest m before m'
+actions_of_cut_session_listed limits time rest m start allocations bytes e before t out m' lead h (inl (l, starts, pieces, le, is, cut)) =
     let fit = line_fits time l starts.1 t starts.0.no_lf (subst (λ x. FitLines time (parts x) t) starts.2 h) in
     let g = actions_of_begun_command_listed pieces time (command_of l) m before t le lead fit.0 in
     record { after = g.after; begun = actions_of_line_begun limits time l rest m before g.after starts g.begun; leads = subst (λ (x : Machine). ActionsLeadTo m x g.after) (sym is) g.leads }
-actions_of_cut_session_listed limits time rest m start marks bytes e before t out m' lead h (inr (inl (whole, ended, shows, is, cut))) = record { after = before; begun = inl refl; leads = subst (λ (x : Machine). ActionsLeadTo m x before) (sym is) lead }
-actions_of_cut_session_listed limits time rest m start marks bytes e before t out m' lead h (inr (inr (line, is, cut))) = record { after = before; begun = inl refl; leads = subst (λ (x : Machine). ActionsLeadTo m x before) (sym is) lead }
+actions_of_cut_session_listed limits time rest m start allocations bytes e before t out m' lead h (inr (inl (whole, ended, shows, is, cut))) = record { after = before; begun = inl refl; leads = subst (λ (x : Machine). ActionsLeadTo m x before) (sym is) lead }
+actions_of_cut_session_listed limits time rest m start allocations bytes e before t out m' lead h (inr (inr (line, is, cut))) = record { after = before; begun = inl refl; leads = subst (λ (x : Machine). ActionsLeadTo m x before) (sym is) lead }
 
-pub cut_session_listed : (limits : SessionLimits) (m : Machine) (marks : List Allocation) (time : ℕ) (bytes : List ℕ) (e : ReadEnd) → IsCutListed limits m marks time bytes e
+pub cut_session_listed : (limits : SessionLimits) (m : Machine) (allocations : List Allocation) (time : ℕ) (bytes : List ℕ) (e : ReadEnd) → IsCutListed limits m allocations time bytes e
 unfolding session_of
-cut_session_listed limits m marks time bytes e fit out m' (lines, rest, t, are, eof, stops) =
+cut_session_listed limits m allocations time bytes e fit out m' (lines, rest, t, are, eof, stops) =
     let u = bytes_unsplit_into_lines lines in
-    let start = talk m marks [] in
+    let start = talk m allocations [] in
     let h = subst (λ x. FitLines time (parts (x ++ rest)) start) u.are (subst (λ x. FitLines time (parts x) start) are fit) in
     let g = actions_of_whole_lines_listed limits time u.lines u.rest rest u.each u.none m [] start t (no_actions_lead_nowhere m) h (subst (λ x. talked limits time Over (parts x) start ≡ (t, Eof)) u.are eof) in
-    let c = actions_of_cut_session_listed limits time rest m m marks bytes e g.after t out m' g.leads g.fit stops in
+    let c = actions_of_cut_session_listed limits time rest m m allocations bytes e g.after t out m' g.leads g.fit stops in
     record {
       actions = c.after;
-      marks = c.leads.1;
+      allocations = c.leads.1;
       answered = g.after;
       rest = rest;
       text = g.text;

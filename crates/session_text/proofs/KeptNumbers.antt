@@ -12,7 +12,7 @@ use Rattle.session_grammar.specs.declared.command.Command.TheVariants.{Blank, Ba
 use Rattle.session_text.specs.declared.commands.Local.{Local}
 use Rattle.session_text.specs.Answers.{AnswerRelation, AnswersCommand, Begins, AnswersTo, BeginsTo, Reaction, all_bad}
 use Rattle.session_text.specs.Dumps.{Acts, DumpsOn, Dumps, ClosesAfter}
-use Rattle.dump_pump.specs.Sources.{part_limit}
+use Rattle.hprof_text.specs.Laws.{piece_limit}
 use Rattle.dump_pump.specs.Inlets.{Incoming}
 use Rattle.session_text.specs.Replies.{piece_in, pin_in}
 use Rattle.session_text.specs.Talks.{AnswersAll, FailsWhileWriting, IsTruncatedRun, IsSessionServed, Serves}
@@ -61,8 +61,8 @@ answer_same f does bad keep also time Bad c text d h = also c text d h
 answer_same f does bad keep also time (Ask a) c text d (r, inl did, is) = keep c a r d did
 answer_same f does bad keep also time (Ask a) c text d (r, inr (takes, refused, same), is) = same_state_keeps_number f c d same
 answer_same f does bad keep also time (Piece pin) c text d (r, did, is) = keep c _ r d did
-answer_same f does bad keep also time (Dump pin) c text d h = dumps_same f does keep part_limit pin time c 0 text d h
-answer_same f does bad keep also time DumpNow c text d (r, opened, did, closes) = open_and_dump_keeps_number f does keep part_limit time r (pin_in r) opened text d closes ∙ keep c _ r opened did
+answer_same f does bad keep also time (Dump pin) c text d h = dumps_same f does keep piece_limit pin time c 0 text d h
+answer_same f does bad keep also time DumpNow c text d (r, opened, did, closes) = open_and_dump_keeps_number f does keep piece_limit time r (pin_in r) opened text d closes ∙ keep c _ r opened did
 answer_same f does bad keep also time End c text d h = absurd h
 
 begun_command_keeps_number : {S : Type 0} (f : S → ℕ) (does : Acts S) (bad : Reaction S) (keep : ActsKeep f does) → LineKeepsNumber f bad → (time : ℕ) (k : Command) (c : S) (text : List ℕ) (d : S) → BeginsTo does bad time k c text d → NumberStaysSame f c d

@@ -3,7 +3,7 @@ use Rattle.std.proofs.Common.{ℕ, zero, suc, ◌+◌, List, length, ap, subst, 
 use Rattle.heap_trail.specs.declared.Action.{Action}
 use Rattle.heap_trail.specs.declared.Reply.{Reply}
 use Rattle.dump_pump.specs.Piece.{Piece as GivenPiece}
-use Rattle.dump_pump.specs.Sources.{part_limit}
+use Rattle.hprof_text.specs.Laws.{piece_limit}
 use Rattle.session_grammar.specs.declared.command.Command.{Command}
 use Rattle.session_grammar.specs.declared.command.Command.TheVariants.{Blank, Bad, Ask, Piece, Dump, DumpNow, End}
 use Rattle.session_text.specs.Answers.{AnswersTo, Reaction}
@@ -63,8 +63,8 @@ answer_stands f acts others unknown unknown' h time (Ask a) c text d known k = (
   k.2,
 )
 answer_stands f acts others unknown unknown' h time (Piece pin) c text d known k = (k.0, h c _ k.0 d k.1, k.2)
-answer_stands f acts others unknown unknown' h time (Dump pin) c text d known k = dumps_stand f acts others h pin time part_limit c 0 text d k
-answer_stands f acts others unknown unknown' h time DumpNow c text d known k = (k.0, f k.1, h c _ k.0 k.1 k.2, closes_stand f acts others h time k.0 (pin_in k.0) part_limit k.1 text d k.3)
+answer_stands f acts others unknown unknown' h time (Dump pin) c text d known k = dumps_stand f acts others h pin time piece_limit c 0 text d k
+answer_stands f acts others unknown unknown' h time DumpNow c text d known k = (k.0, f k.1, h c _ k.0 k.1 k.2, closes_stand f acts others h time k.0 (pin_in k.0) piece_limit k.1 text d k.3)
 answer_stands f acts others unknown unknown' h time End c text d known k = k
 
 -- ---- what commands keep
@@ -101,6 +101,6 @@ answer_keeps acts unknown P h time (Ask a) c text d known k p = elim k.1 [
   | inr e ↦ subst P (sym e.2) p
 ]
 answer_keeps acts unknown P h time (Piece pin) c text d known k p = h c _ k.0 d k.1 p
-answer_keeps acts unknown P h time (Dump pin) c text d known k p = dumps_keep acts P h pin time part_limit c 0 text d k p
-answer_keeps acts unknown P h time DumpNow c text d known k p = closes_keep acts P h time k.0 (pin_in k.0) part_limit k.1 text d k.3 (h c _ k.0 k.1 k.2 p)
+answer_keeps acts unknown P h time (Dump pin) c text d known k p = dumps_keep acts P h pin time piece_limit c 0 text d k p
+answer_keeps acts unknown P h time DumpNow c text d known k p = closes_keep acts P h time k.0 (pin_in k.0) piece_limit k.1 text d k.3 (h c _ k.0 k.1 k.2 p)
 answer_keeps acts unknown P h time End c text d known k p = absurd k

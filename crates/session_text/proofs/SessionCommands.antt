@@ -18,7 +18,7 @@ use Rattle.session_grammar.specs.declared.command.Command.TheVariants.{Blank, Ba
 use Rattle.session_text.specs.declared.commands.Local.{Local}
 use Rattle.session_text.specs.Answers.{AnswersTo, IsBadCommand}
 use Rattle.session_text.specs.Dumps.{DumpsOn, Dumps, ClosesAfter, total_line}
-use Rattle.dump_pump.specs.Sources.{part_limit}
+use Rattle.hprof_text.specs.Laws.{piece_limit}
 use Rattle.session_text.specs.Local.{LocalActs}
 use Rattle.session_text.specs.Replies.{reply_text, data_lines, piece_in, pin_in}
 use Rattle.session_text.specs.Session.{Talk, wrote, done_quietly, done, after_reply, pieces_dumped, closed, after_open_reply, after_command, is_end, go_on, FitsAction, FitsRest, FitsDump, FitsOpen, FitsCommand}
@@ -30,7 +30,7 @@ abbrev pub parts : List ℕ → List (List ℕ)
 parts bytes = slice_split (λ b. b == 10) bytes
 
 abbrev pub talk : Machine → List Allocation → List ℕ → Talk
-talk m marks w = record { machine = m; marks = marks; written = w }
+talk m allocations w = record { machine = m; allocations = allocations; written = w }
 
 -- what a private machine may do
 abbrev pub acts : Local → Action → Reply → Local → Type 0
@@ -62,17 +62,17 @@ dump_fit_of_first_piece : (n pin time : ℕ) (t : Talk) (so_far : ℕ) → FitsD
 unfolding FitsDump
 dump_fit_of_first_piece n pin time t so_far h = h.0
 
--- an action under a mark that may stand there
-pub action_done_under_its_mark : (a : Action) (m : Machine) (mark : Allocation) (ms : List Allocation) (w : List ℕ) (m' : Machine) (r : Reply) → acted_under m (a, mark) ≡ (m', r) → done_quietly a (talk m (mark ∷ ms) w) ≡ (talk m' ms w, r)
-action_done_under_its_mark a m mark ms w m' r e = ap (λ (x : Machine × Reply). (talk x.0 ms w, x.1)) e
+-- an action with an allocation that is possible for it
+pub action_done_under_its_allocation : (a : Action) (m : Machine) (allocation : Allocation) (ms : List Allocation) (w : List ℕ) (m' : Machine) (r : Reply) → acted_under m (a, allocation) ≡ (m', r) → done_quietly a (talk m (allocation ∷ ms) w) ≡ (talk m' ms w, r)
+action_done_under_its_allocation a m allocation ms w m' r e = ap (λ (x : Machine × Reply). (talk x.0 ms w, x.1)) e
 
--- the marks under which a dump has this text
+-- the allocations under which a dump has this text
 pub record DumpsSo (n pin time : ℕ) (m : Machine) (so_far : ℕ) (text : List ℕ) (m' : Machine) : Type 0 where
   pub found : List Allocation
   pub so : (ms : List Allocation) (w : List ℕ) → pieces_dumped n pin time (talk m (found ++ ms) w) so_far ≡ talk m' ms (w ++ text)
   pub fit : (ms : List Allocation) (w : List ℕ) → FitsDump n pin time (talk m (found ++ ms) w) so_far
 
--- the marks under which a dump has this text after a reply
+-- the allocations under which a dump has this text after a reply
 record RestSo (n pin time : ℕ) (m : Machine) (so_far : ℕ) (r : Reply) (o : Option GivenPiece) (text : List ℕ) (m' : Machine) : Type 0 where
   found : List Allocation
   so : (ms : List Allocation) (w : List ℕ) → after_reply (pieces_dumped n pin time) so_far r o (talk m (found ++ ms) w) ≡ talk m' ms (w ++ text)
@@ -113,53 +113,53 @@ dump_talks_so zero pin time c so_far text d h = record {
   so = λ ms w. no_pieces_dumped_no_change pin time (talk c.machine ms w) so_far ∙ ap (λ l. talk c.machine ms l) (sym (append-nil w)) ∙ equal_talk_at_moved_machine c.machine d.machine ms w [] text (ap (λ (x : Local). x.machine) h.1) h.0;
   fit = λ ms w. zero_pieces_fit_dump pin time (talk c.machine ms w) so_far;
 }
-dump_talks_so (suc n) pin time c so_far text d (r, next, ((mark, may, e), kept), goes) =
+dump_talks_so (suc n) pin time c so_far text d (r, next, ((allocation, may, e), kept), goes) =
     let g = rest_of_dump_talks_so n pin time next so_far r (piece_in r) text d (λ k words h. dump_talks_so n pin time next k words d h) goes in
     record {
-      found = mark ∷ g.found;
-      so = λ ms w. one_piece_dumped_then_others n pin time (talk c.machine (mark ∷ (g.found ++ ms)) w) so_far
-          ∙ ap (λ (x : Talk × Reply). after_reply (pieces_dumped n pin time) so_far x.1 (piece_in x.1) x.0) (action_done_under_its_mark (NextPiece pin time) c.machine mark (g.found ++ ms) w next.machine r e) ∙ g.so ms w;
-      fit = λ ms w. piece_and_rest_fit_dump n pin time (talk c.machine (mark ∷ (g.found ++ ms)) w) so_far may
-          (subst (λ (x : Talk × Reply). FitsRest (FitsDump n pin time) so_far (piece_in x.1) x.0) (sym (action_done_under_its_mark (NextPiece pin time) c.machine mark (g.found ++ ms) w next.machine r e)) (g.fit ms w));
+      found = allocation ∷ g.found;
+      so = λ ms w. one_piece_dumped_then_others n pin time (talk c.machine (allocation ∷ (g.found ++ ms)) w) so_far
+          ∙ ap (λ (x : Talk × Reply). after_reply (pieces_dumped n pin time) so_far x.1 (piece_in x.1) x.0) (action_done_under_its_allocation (NextPiece pin time) c.machine allocation (g.found ++ ms) w next.machine r e) ∙ g.so ms w;
+      fit = λ ms w. piece_and_rest_fit_dump n pin time (talk c.machine (allocation ∷ (g.found ++ ms)) w) so_far may
+          (subst (λ (x : Talk × Reply). FitsRest (FitsDump n pin time) so_far (piece_in x.1) x.0) (sym (action_done_under_its_allocation (NextPiece pin time) c.machine allocation (g.found ++ ms) w next.machine r e)) (g.fit ms w));
     }
 
 -- ---- dumps of the current state
 
--- the close of a pin may have no mark but Fine
-pub close_has_plain_mark : (m m' : Machine) (pin : ℕ) (mark : Allocation) (r : Reply) → MayStand m (ClosePin pin, mark) → acted_under m (ClosePin pin, mark) ≡ (m', r) → acted m (ClosePin pin) ≡ (m', r)
+-- only Granted is possible for the close of a pin
+pub close_has_plain_allocation : (m m' : Machine) (pin : ℕ) (allocation : Allocation) (r : Reply) → MayStand m (ClosePin pin, allocation) → acted_under m (ClosePin pin, allocation) ≡ (m', r) → acted m (ClosePin pin) ≡ (m', r)
 unfolding acted_under may_grow may_overwrite
-close_has_plain_mark m m' pin Granted r h e = e
-close_has_plain_mark m m' pin Denied r h e = absurd (true≢false (sym h.0))
-close_has_plain_mark m m' pin (LosesPins pins) r h e = absurd (true≢false (sym h.0))
+close_has_plain_allocation m m' pin Granted r h e = e
+close_has_plain_allocation m m' pin Denied r h e = absurd (true≢false (sym h.0))
+close_has_plain_allocation m m' pin (LosesPins pins) r h e = absurd (true≢false (sym h.0))
 
--- a pin is closed, whatever marks are left
-pub pin_closed_under_any_marks : (m m' : Machine) (pin : ℕ) (r : Reply) (ms : List Allocation) (w : List ℕ) → acted m (ClosePin pin) ≡ (m', r) → closed pin (talk m ms w) ≡ talk m' ms w
-pin_closed_under_any_marks m m' pin r ms w e = ap (λ (x : Machine × Reply). talk x.0 ms w) e
+-- a pin is closed, whatever allocations are left
+pub pin_closed_under_any_allocations : (m m' : Machine) (pin : ℕ) (r : Reply) (ms : List Allocation) (w : List ℕ) → acted m (ClosePin pin) ≡ (m', r) → closed pin (talk m ms w) ≡ talk m' ms w
+pin_closed_under_any_allocations m m' pin r ms w e = ap (λ (x : Machine × Reply). talk x.0 ms w) e
 
--- the marks under which a dump of the current state has this text after the reply to OpenPin
+-- the allocations under which a dump of the current state has this text after the reply to OpenPin
 record OpenSo (time : ℕ) (m : Machine) (r : Reply) (o : Option ℕ) (text : List ℕ) (m' : Machine) : Type 0 where
   found : List Allocation
-  so : (ms : List Allocation) (w : List ℕ) → after_open_reply part_limit time r o (talk m (found ++ ms) w) ≡ talk m' ms (w ++ text)
+  so : (ms : List Allocation) (w : List ℕ) → after_open_reply piece_limit time r o (talk m (found ++ ms) w) ≡ talk m' ms (w ++ text)
   fit : (ms : List Allocation) (w : List ℕ) → FitsOpen time o (talk m (found ++ ms) w)
 
-open_and_dump_talks_so : (time : ℕ) (c : Local) (r : Reply) (o : Option ℕ) (text : List ℕ) (d : Local) → ClosesAfter acts time r o part_limit c text d → OpenSo time c.machine r o text d.machine
+open_and_dump_talks_so : (time : ℕ) (c : Local) (r : Reply) (o : Option ℕ) (text : List ℕ) (d : Local) → ClosesAfter acts time r o piece_limit c text d → OpenSo time c.machine r o text d.machine
 open_and_dump_talks_so time c r None text d h = record {
   found = [];
   so = λ ms w. equal_talk_at_moved_machine c.machine d.machine ms w (reply_text r) text (ap (λ (x : Local). x.machine) h.1) h.0;
   fit = λ ms w. tt;
 }
-open_and_dump_talks_so time c r (Some pin) text d (between, closing, h, ((mark, may, e), kept)) =
-    let f = dump_talks_so part_limit pin time c 0 text between h in
-    let is = close_has_plain_mark between.machine d.machine pin mark closing may e in
+open_and_dump_talks_so time c r (Some pin) text d (between, closing, h, ((allocation, may, e), kept)) =
+    let f = dump_talks_so piece_limit pin time c 0 text between h in
+    let is = close_has_plain_allocation between.machine d.machine pin allocation closing may e in
     record {
       found = f.found;
-      so = λ ms w. ap (λ x. closed pin x) (f.so ms w) ∙ pin_closed_under_any_marks between.machine d.machine pin closing ms (w ++ text) is;
+      so = λ ms w. ap (λ x. closed pin x) (f.so ms w) ∙ pin_closed_under_any_allocations between.machine d.machine pin closing ms (w ++ text) is;
       fit = λ ms w. f.fit ms w;
     }
 
 -- ---- one command
 
--- the marks under which a command has this answer
+-- the allocations under which a command has this answer
 pub record Follows (time : ℕ) (k : Command) (c : Local) (text : List ℕ) (d : Local) : Type 0 where
   pub found : List Allocation
   pub no_end : is_end k ≡ false
@@ -175,9 +175,9 @@ pub denied_action_is_no_memory : (m : Machine) (a : Action) → acted_under m (a
 unfolding acted_under
 denied_action_is_no_memory m a = refl
 
--- an action under a mark, whose reply is written
-action_replied_under_its_mark : (a : Action) (m : Machine) (mark : Allocation) (ms : List Allocation) (w : List ℕ) (m' : Machine) (r : Reply) (text : List ℕ) → acted_under m (a, mark) ≡ (m', r) → text ≡ reply_text r → done a (talk m (mark ∷ ms) w) ≡ talk m' ms (w ++ text)
-action_replied_under_its_mark a m mark ms w m' r text e is = ap (λ (x : Talk × Reply). wrote (reply_text x.1) x.0) (action_done_under_its_mark a m mark ms w m' r e) ∙ ap (λ l. talk m' ms (w ++ l)) (sym is)
+-- an action with an allocation, whose reply is written
+action_replied_under_its_allocation : (a : Action) (m : Machine) (allocation : Allocation) (ms : List Allocation) (w : List ℕ) (m' : Machine) (r : Reply) (text : List ℕ) → acted_under m (a, allocation) ≡ (m', r) → text ≡ reply_text r → done a (talk m (allocation ∷ ms) w) ≡ talk m' ms (w ++ text)
+action_replied_under_its_allocation a m allocation ms w m' r text e is = ap (λ (x : Talk × Reply). wrote (reply_text x.1) x.0) (action_done_under_its_allocation a m allocation ms w m' r e) ∙ ap (λ l. talk m' ms (w ++ l)) (sym is)
 
 pub answered_command_follows : (time : ℕ) (k : Command) (c : Local) (text : List ℕ) (d : Local) → AnswersTo acts IsBadCommand time k c text d → Follows time k c text d
 answered_command_follows time Blank c text d h = record {
@@ -192,33 +192,33 @@ answered_command_follows time Bad c text d h = record {
   after = λ ms w. let p = sym h.1 in let q = sym h.0 in λ i. talk (p i).machine ms (w ++ q i);
   fit = λ ms w. tt;
 }
-answered_command_follows time (Ask a) c text d (r, inl ((mark, may, e), kept), is) = record {
-  found = mark ∷ [];
+answered_command_follows time (Ask a) c text d (r, inl ((allocation, may, e), kept), is) = record {
+  found = allocation ∷ [];
   no_end = refl;
-  after = λ ms w. action_replied_under_its_mark a c.machine mark ms w d.machine r text e is;
+  after = λ ms w. action_replied_under_its_allocation a c.machine allocation ms w d.machine r text e is;
   fit = λ ms w. inl may;
 }
 answered_command_follows time (Ask a) c text d (r, inr (takes, refused, same), is) = record {
   found = Denied ∷ [];
   no_end = refl;
-  after = λ ms w. action_replied_under_its_mark a c.machine Denied ms w d.machine (Refused NoMemory) text (denied_action_is_no_memory c.machine a ∙ ap (λ (x : Local). (x.machine, Refused NoMemory)) (sym same)) (is ∙ ap (λ x. reply_text x) refused);
+  after = λ ms w. action_replied_under_its_allocation a c.machine Denied ms w d.machine (Refused NoMemory) text (denied_action_is_no_memory c.machine a ∙ ap (λ (x : Local). (x.machine, Refused NoMemory)) (sym same)) (is ∙ ap (λ x. reply_text x) refused);
   fit = λ ms w. inr (takes, refl);
 }
-answered_command_follows time (Piece pin) c text d (r, ((mark, may, e), kept), is) = record {
-  found = mark ∷ [];
+answered_command_follows time (Piece pin) c text d (r, ((allocation, may, e), kept), is) = record {
+  found = allocation ∷ [];
   no_end = refl;
-  after = λ ms w. action_replied_under_its_mark (NextPiece pin time) c.machine mark ms w d.machine r text e is;
+  after = λ ms w. action_replied_under_its_allocation (NextPiece pin time) c.machine allocation ms w d.machine r text e is;
   fit = λ ms w. may;
 }
 answered_command_follows time (Dump pin) c text d h =
-    let f = dump_talks_so part_limit pin time c 0 text d h in
+    let f = dump_talks_so piece_limit pin time c 0 text d h in
     record { found = f.found; no_end = refl; after = f.so; fit = f.fit }
-answered_command_follows time DumpNow c text d (r, opened, ((mark, may, e), kept), closes) =
+answered_command_follows time DumpNow c text d (r, opened, ((allocation, may, e), kept), closes) =
     let g = open_and_dump_talks_so time opened r (pin_in r) text d closes in
     record {
-      found = mark ∷ g.found;
+      found = allocation ∷ g.found;
       no_end = refl;
-      after = λ ms w. ap (λ (x : Talk × Reply). after_open_reply part_limit time x.1 (pin_in x.1) x.0) (action_done_under_its_mark (OpenPin None) c.machine mark (g.found ++ ms) w opened.machine r e) ∙ g.so ms w;
-      fit = λ ms w. (may, subst (λ (x : Talk × Reply). FitsOpen time (pin_in x.1) x.0) (sym (action_done_under_its_mark (OpenPin None) c.machine mark (g.found ++ ms) w opened.machine r e)) (g.fit ms w));
+      after = λ ms w. ap (λ (x : Talk × Reply). after_open_reply piece_limit time x.1 (pin_in x.1) x.0) (action_done_under_its_allocation (OpenPin None) c.machine allocation (g.found ++ ms) w opened.machine r e) ∙ g.so ms w;
+      fit = λ ms w. (may, subst (λ (x : Talk × Reply). FitsOpen time (pin_in x.1) x.0) (sym (action_done_under_its_allocation (OpenPin None) c.machine allocation (g.found ++ ms) w opened.machine r e)) (g.fit ms w));
     }
 answered_command_follows time End c text d h = absurd h

@@ -48,7 +48,7 @@ fitting_first_line_and_rest time l (m ∷ ms) t h k = (h, k)
 pub line_and_later_lines_fit : (limits : SessionLimits) (time : ℕ) (l ys : List ℕ) (t : Talk) → IsLine limits l → FitsCommand time (command_of l) t → FitLines time (parts ys) (after_command time (command_of l) t) → FitLines time (parts (l ++ 10 ∷ ys)) t
 line_and_later_lines_fit limits time l ys t h fit rest = subst (λ ls. FitLines time ls t) (sym (slice_split_at is_lf l 10 ys h.no_lf refl)) (fitting_first_line_and_rest time l (parts ys) t fit rest)
 
--- the marks under which all whole lines have these answers
+-- the allocations under which all whole lines have these answers
 pub record Passes (limits : SessionLimits) (time : ℕ) (ls : List (List ℕ)) (c : Local) (text : List ℕ) (d : Local) : Type 0 where
   pub found : List Allocation
   pub so : (e : ReadEnd) (rest : List ℕ) (ms : List Allocation) (w : List ℕ) → talked limits time e (parts (stream ls ++ rest)) (talk c.machine (found ++ ms) w) ≡ talked limits time e (parts rest) (talk d.machine ms (w ++ text))
@@ -67,17 +67,17 @@ answered_lines_pass limits time (l ∷ ls) c text d t =
       found = f.found ++ g.found;
       so = λ e rest ms w.
           let apart : ((l ++ 10 ∷ []) ++ stream ls) ++ rest ≡ l ++ 10 ∷ (stream ls ++ rest) = append_assoc (l ++ 10 ∷ []) (stream ls) rest ∙ append_assoc l (10 ∷ []) (stream ls ++ rest) in
-          let marks : (f.found ++ g.found) ++ ms ≡ f.found ++ (g.found ++ ms) = append_assoc f.found g.found ms in
+          let allocations : (f.found ++ g.found) ++ ms ≡ f.found ++ (g.found ++ ms) = append_assoc f.found g.found ms in
           let words : (w ++ t.0) ++ t.2 ≡ w ++ text = append_assoc w t.0 t.2 ∙ ap (λ x. w ++ x) (sym t.6) in
-          (λ i. talked limits time e (parts (apart i)) (talk c.machine (marks i) w)) ∙ line_talked_then_rest limits time e l (stream ls ++ rest) (talk c.machine (f.found ++ (g.found ++ ms)) w) t.3
+          (λ i. talked limits time e (parts (apart i)) (talk c.machine (allocations i) w)) ∙ line_talked_then_rest limits time e l (stream ls ++ rest) (talk c.machine (f.found ++ (g.found ++ ms)) w) t.3
           ∙ command_goes_on_to_more time (command_of l) c t.0 t.1 f (g.found ++ ms) w (talked limits time e (parts (stream ls ++ rest))) ∙ g.so e rest ms (w ++ t.0) ∙ ap (λ x. talked limits time e (parts rest) (talk d.machine ms x)) words;
       fit = λ rest ms w h.
           let apart : l ++ 10 ∷ (stream ls ++ rest) ≡ ((l ++ 10 ∷ []) ++ stream ls) ++ rest = sym (append_assoc (l ++ 10 ∷ []) (stream ls) rest ∙ append_assoc l (10 ∷ []) (stream ls ++ rest)) in
-          let marks : f.found ++ (g.found ++ ms) ≡ (f.found ++ g.found) ++ ms = sym (append_assoc f.found g.found ms) in
+          let allocations : f.found ++ (g.found ++ ms) ≡ (f.found ++ g.found) ++ ms = sym (append_assoc f.found g.found ms) in
           let words : w ++ text ≡ (w ++ t.0) ++ t.2 = ap (λ x. w ++ x) t.6 ∙ sym (append_assoc w t.0 t.2) in
           let later = g.fit rest ms (w ++ t.0) (subst (λ x. FitLines time (parts rest) (talk d.machine ms x)) words h) in
           let now = line_and_later_lines_fit limits time l (stream ls ++ rest) (talk c.machine (f.found ++ (g.found ++ ms)) w) t.3 (f.fit (g.found ++ ms) w) (subst (λ u. FitLines time (parts (stream ls ++ rest)) u) (sym (f.after (g.found ++ ms) w)) later) in
-          subst (λ x. FitLines time (parts x) (talk c.machine ((f.found ++ g.found) ++ ms) w)) apart (subst (λ x. FitLines time (parts (l ++ 10 ∷ (stream ls ++ rest))) (talk c.machine x w)) marks now);
+          subst (λ x. FitLines time (parts x) (talk c.machine ((f.found ++ g.found) ++ ms) w)) apart (subst (λ x. FitLines time (parts (l ++ 10 ∷ (stream ls ++ rest))) (talk c.machine x w)) allocations now);
     }
 
 -- ---- endings

@@ -20,7 +20,7 @@ use Rattle.session_text.specs.Writes.{IsCutShort, IsTextWritten}
 use Rattle.session_text.proofs.AnsweredLines.{served_lines_then_failed_write}
 use Rattle.session_text.proofs.SessionCommands.{parts, talk, acts}
 use Rattle.session_text.proofs.SessionLines.{line_talked_then_rest, line_and_later_lines_fit, nothing_left_is_eof, answered_lines_pass, FitsEnd, clean_end_is_talked}
-use Rattle.session_text.proofs.CutAnswers.{unmarked_talk_fits_lines, text_is_its_own_prefix, stays, begun_command_begins_talk}
+use Rattle.session_text.proofs.CutAnswers.{granted_talk_fits_lines, text_is_its_own_prefix, stays, begun_command_begins_talk}
 
 session_lines : (limits : SessionLimits) (time : ℕ) (e : ReadEnd) (bytes rest : List ℕ) (c : Local) (text : List ℕ) (d : Local) (k : IsTalk limits (AnswersCommand acts all_bad time) bytes c rest text d) (ms : List Allocation)
     → session_of limits c.machine ((answered_lines_pass limits time k.lines c text d k.talks).found ++ ms) time bytes e ≡ talked limits time e (parts rest) (talk d.machine ms text)
@@ -35,9 +35,9 @@ session_fit limits time bytes rest c text d k ms h =
     let g = answered_lines_pass limits time k.lines c text d k.talks in
     subst (λ bs. FitLines time (parts bs) (talk c.machine (g.found ++ ms) [])) (sym k.are) (g.fit rest ms [] h)
 
--- all lines are answered, and no marks are left
+-- all lines are answered, and no allocations are left
 allocations_fit_all_lines : (limits : SessionLimits) (time : ℕ) (bytes rest : List ℕ) (c : Local) (text : List ℕ) (d : Local) (k : IsTalk limits (AnswersCommand acts all_bad time) bytes c rest text d) → AllocationsFit c.machine ((answered_lines_pass limits time k.lines c text d k.talks).found ++ []) time bytes
-allocations_fit_all_lines limits time bytes rest c text d k = session_fit limits time bytes rest c text d k [] (unmarked_talk_fits_lines time (parts rest) (talk d.machine [] text) refl)
+allocations_fit_all_lines limits time bytes rest c text d k = session_fit limits time bytes rest c text d k [] (granted_talk_fits_lines time (parts rest) (talk d.machine [] text) refl)
 
 abbrev read_end_for_ending : Ended → ReadEnd
 read_end_for_ending ReadFault = Failed
@@ -82,7 +82,7 @@ abbrev StopsInSession : SessionLimits → ℕ → ReadEnd → List ℕ → Talk 
 StopsInSession limits time e rest t full out left =
     CutsLine limits time rest t out left ⊎ (((ended : Ended) × (talked limits time e (parts rest) t ≡ (talk t.machine [] full, ended)) × (left ≡ t.machine)) ⊎ CutsPage limits rest t out left)
 
--- the marks and the text of what was cut short
+-- the allocations and the text of what was cut short
 record CutTail (limits : SessionLimits) (time : ℕ) (rest : List ℕ) (c : Local) (text : List ℕ) (d : Local) (w w' : Outgoing) : Type 0 where
   end : ReadEnd
   found : List Allocation
@@ -101,7 +101,7 @@ broken_tail limits time a b rest c text d w w' (inl ((l, tail, starts, h, cut), 
       found = g.found;
       tail = tail;
       so = subst (λ r. IsPrefix (text ++ tail) r.0.written) (sym (ap (λ bs. talked limits time Over (parts bs) t) starts.2 ∙ line_talked_then_rest limits time Over l starts.1 t starts.0)) g.so;
-      fit = subst (λ bs. FitLines time (parts bs) t) (sym starts.2) (line_and_later_lines_fit limits time l starts.1 t starts.0 g.fit (unmarked_talk_fits_lines time (parts starts.1) (after_command time (command_of l) t) g.spent));
+      fit = subst (λ bs. FitLines time (parts bs) t) (sym starts.2) (line_and_later_lines_fit limits time l starts.1 t starts.0 g.fit (granted_talk_fits_lines time (parts starts.1) (after_command time (command_of l) t) g.spent));
       cut = cut;
       stops = inl (l, starts, g.pieces, g.most, g.machine, cut_answer_in_full_text (text ++ tail) (after_up_to g.pieces time (command_of l) t).written w.out w'.out cut.0 g.here);
     }
@@ -112,7 +112,7 @@ broken_tail limits time a b rest c text d w w' (inr (inl (ended, tail, closes, s
       found = [];
       tail = tail;
       so = subst (λ r. IsPrefix (text ++ tail) r.0.written) (sym shows) (text_is_its_own_prefix (text ++ tail));
-      fit = unmarked_talk_fits_lines time (parts rest) (talk c.machine [] text) refl;
+      fit = granted_talk_fits_lines time (parts rest) (talk c.machine [] text) refl;
       cut = cut;
       stops = inr (inl (ended, shows, ap (λ (x : Local). x.machine) same));
     }
@@ -124,30 +124,30 @@ broken_tail limits time a b rest c text d w w' (inr (inr (line, none, same, cut)
       found = [];
       tail = [];
       so = subst (λ l. IsPrefix l (talked limits time Over (parts rest) t).0.written) (sym (append-nil text)) (stays limits time Over (parts rest) t);
-      fit = unmarked_talk_fits_lines time (parts rest) t refl;
+      fit = granted_talk_fits_lines time (parts rest) t refl;
       cut = all;
       stops = inr (inr (line, ap (λ (x : Local). x.machine) same, cut_answer_in_full_text (text ++ []) text w.out w'.out all.0 (subst (λ l. IsPrefix l text) (sym (append-nil text)) (text_is_its_own_prefix text))));
     }
 
 -- the place at which the text of a whole session was cut
-session_stops_where_cut : (limits : SessionLimits) (time : ℕ) (bytes rest : List ℕ) (start : Machine) (marks : List Allocation) (e : ReadEnd) (t : Talk) (full out : List ℕ) (left : Machine) → session_of limits start marks time bytes e ≡ talked limits time e (parts rest) t → IsCutShort full [] out
-    → StopsInSession limits time e rest t full out left → CutsLine limits time rest t out left ⊎ (CutsEnd limits start marks time bytes e t out left ⊎ CutsPage limits rest t out left)
-session_stops_where_cut limits time bytes rest start marks e t full out left lines cut (inl h) = inl h
-session_stops_where_cut limits time bytes rest start marks e t full out left lines cut (inr (inl (ended, shows, same))) = inr (inl (full, ended, lines ∙ shows ∙ ap (λ m. (talk m [] full, ended)) (sym same), same, cut))
-session_stops_where_cut limits time bytes rest start marks e t full out left lines cut (inr (inr h)) = inr (inr h)
+session_stops_where_cut : (limits : SessionLimits) (time : ℕ) (bytes rest : List ℕ) (start : Machine) (allocations : List Allocation) (e : ReadEnd) (t : Talk) (full out : List ℕ) (left : Machine) → session_of limits start allocations time bytes e ≡ talked limits time e (parts rest) t → IsCutShort full [] out
+    → StopsInSession limits time e rest t full out left → CutsLine limits time rest t out left ⊎ (CutsEnd limits start allocations time bytes e t out left ⊎ CutsPage limits rest t out left)
+session_stops_where_cut limits time bytes rest start allocations e t full out left lines cut (inl h) = inl h
+session_stops_where_cut limits time bytes rest start allocations e t full out left lines cut (inr (inl (ended, shows, same))) = inr (inl (full, ended, lines ∙ shows ∙ ap (λ m. (talk m [] full, ended)) (sym same), same, cut))
+session_stops_where_cut limits time bytes rest start allocations e t full out left lines cut (inr (inr h)) = inr (inr h)
 
 failed_session : (limits : SessionLimits) (time : ℕ) (bytes : List ℕ) (a b : Incoming) (c : Local) (w : Outgoing) (d : Local) (w' : Outgoing) → b.taken ≡ a.taken ++ bytes → Keeps (whole a) (whole b) → IsTruncatedRun limits (AnswersCommand acts all_bad time) (Begins acts all_bad time) bytes a b c w d w' → IsSession limits c.machine time a b w w' d.machine WriteFault
 failed_session limits time bytes a b c w d w' taken keeps (rest, text, between, k, breaks) =
     let g = broken_tail limits time a b rest between text d w w' breaks in
     let h = g.cut.0 in
-    let marks = (answered_lines_pass limits time k.lines c text between k.talks).found ++ g.found in
+    let allocations = (answered_lines_pass limits time k.lines c text between k.talks).found ++ g.found in
     let lines = session_lines limits time g.end bytes rest c text between k g.found in
     let alone = cut_answer_in_full_text (text ++ g.tail) (text ++ g.tail) w.out w'.out h (text_is_its_own_prefix (text ++ g.tail)) in
-    let stops = session_stops_where_cut limits time bytes rest c.machine marks g.end (talk between.machine g.found text) (text ++ g.tail) h.part d.machine lines alone g.stops in
+    let stops = session_stops_where_cut limits time bytes rest c.machine allocations g.end (talk between.machine g.found text) (text ++ g.tail) h.part d.machine lines alone g.stops in
     let cut = cut_answer_in_full_text (text ++ g.tail) (talked limits time g.end (parts rest) (talk between.machine g.found text)).0.written w.out w'.out h g.so in (
       bytes,
       h.part,
-      marks,
+      allocations,
       session_fit limits time bytes rest c text between k g.found g.fit,
       taken,
       keeps,
@@ -167,4 +167,4 @@ local_session limits time a b c w d w' TooLong (bytes, taken, keeps, (rest, text
 local_session limits time a b c w d w' ReadFault (bytes, taken, keeps, (rest, text, tail, k, closes, h)) = (bytes, text ++ tail, (answered_lines_pass limits time k.lines c text d k.talks).found ++ [], allocations_fit_all_lines limits time bytes rest c text d k, taken, keeps, h.0, lines_and_clean_end_talked limits time a b c d ReadFault bytes rest text tail k closes Failed refl)
 local_session limits time a b c w d w' TooManyReads (bytes, taken, keeps, (rest, text, tail, k, closes, h)) = (bytes, text ++ tail, (answered_lines_pass limits time k.lines c text d k.talks).found ++ [], allocations_fit_all_lines limits time bytes rest c text d k, taken, keeps, h.0, lines_and_clean_end_talked limits time a b c d TooManyReads bytes rest text tail k closes Spent refl)
 local_session limits time a b c w d w' WriteFault (bytes, taken, keeps, h) = failed_session limits time bytes a b c w d w' taken keeps (served_lines_then_failed_write limits (AnswersCommand acts all_bad time) (Begins acts all_bad time) bytes a b c w d w' h)
-local_session limits time a b c w d w' NoRoom (bytes, taken, keeps, h) = (bytes, [], [], unmarked_talk_fits_lines time (parts bytes) (talk c.machine [] []) refl, taken, keeps, ap (λ (x : Outgoing). x.out) h.3 ∙ sym (append-nil w.out), (h.0, refl, ap (λ (x : Local). x.machine) h.2))
+local_session limits time a b c w d w' NoRoom (bytes, taken, keeps, h) = (bytes, [], [], granted_talk_fits_lines time (parts bytes) (talk c.machine [] []) refl, taken, keeps, ap (λ (x : Outgoing). x.out) h.3 ∙ sym (append-nil w.out), (h.0, refl, ap (λ (x : Local). x.machine) h.2))

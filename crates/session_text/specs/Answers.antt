@@ -9,7 +9,7 @@ use Rattle.session_grammar.specs.declared.command.Command.{Command}
 use Rattle.session_grammar.specs.declared.command.Command.TheVariants.{Blank, Bad, Ask, Piece, Dump, DumpNow, End}
 use Rattle.session_grammar.specs.Grammar.{command_of, without_cr}
 use Rattle.session_text.specs.Dumps.{Acts, DumpsPin, DumpsNow}
-use Rattle.dump_pump.specs.Sources.{part_limit}
+use Rattle.hprof_text.specs.Laws.{piece_limit}
 use Rattle.session_grammar.specs.Reads.{ActionTakesMemory}
 use Rattle.session_text.specs.Replies.{reply_text}
 
@@ -41,8 +41,8 @@ AnswersTo acts unknown time (Ask a) c text c' =
     (r : Reply) × RepliesTo acts c a r c' × (text ≡ reply_text r)
 AnswersTo acts unknown time (Piece pin) c text c' =
     (r : Reply) × acts c (NextPiece pin time) r c' × (text ≡ reply_text r)
-AnswersTo acts unknown time (Dump pin) c text c' = DumpsPin acts pin time part_limit c text c'
-AnswersTo acts unknown time DumpNow c text c' = DumpsNow acts time part_limit c text c'
+AnswersTo acts unknown time (Dump pin) c text c' = DumpsPin acts pin time piece_limit c text c'
+AnswersTo acts unknown time DumpNow c text c' = DumpsNow acts time piece_limit c text c'
 AnswersTo acts unknown time End c text c' = ⊥
 
 -- the same if a write fails in the answer: a dump goes up to some piece
@@ -52,9 +52,9 @@ BeginsTo acts unknown time Bad c text c' = AnswersTo acts unknown time Bad c tex
 BeginsTo acts unknown time (Ask a) c text c' = AnswersTo acts unknown time (Ask a) c text c'
 BeginsTo acts unknown time (Piece pin) c text c' = AnswersTo acts unknown time (Piece pin) c text c'
 BeginsTo acts unknown time (Dump pin) c text c' =
-    (pieces : ℕ) × (pieces ≤ part_limit) × DumpsPin acts pin time pieces c text c'
+    (pieces : ℕ) × (pieces ≤ piece_limit) × DumpsPin acts pin time pieces c text c'
 BeginsTo acts unknown time DumpNow c text c' =
-    (pieces : ℕ) × (pieces ≤ part_limit) × DumpsNow acts time pieces c text c'
+    (pieces : ℕ) × (pieces ≤ piece_limit) × DumpsNow acts time pieces c text c'
 BeginsTo acts unknown time End c text c' = ⊥
 
 -- the answer of a line; `unknown` has those of the lines that the grammar doesn't know

@@ -1,6 +1,6 @@
 -- The text of a dump, from the replies to its actions.
 use Rattle.std.specs.Prelude.{◌≡◌, ℕ, zero, suc, ◌+◌, ◌≤◌, ◌⊎◌, Bool, true, false, List, [], ◌++◌, length, codes, Option, Some, None}
-use Rattle.dump_pump.specs.Sources.{part_limit}
+use Rattle.hprof_text.specs.Laws.{piece_limit}
 use Rattle.dump_pump.specs.Outlets.{Outgoing}
 use Rattle.heap_trail.specs.declared.Action.{Action}
 use Rattle.heap_trail.specs.declared.Action.TheVariants.{OpenPin, NextPiece, ClosePin}
@@ -63,7 +63,7 @@ DumpsNow {S} acts time n c text c' =
 abbrev pub WritesDump : {S : Type 0} → DumpText S → S → S → List ℕ → Outgoing → List ℕ → Outgoing
     → Bool → Type 0
 WritesDump dumps c c' page a page' b true =
-    (text : List ℕ) × dumps part_limit c text c' × IsTextAdded text page a page' b true
+    (text : List ℕ) × dumps piece_limit c text c' × IsTextAdded text page a page' b true
 WritesDump dumps c c' page a page' b false =
-    (pieces : ℕ) × (text : List ℕ) × (pieces ≤ part_limit) × dumps pieces c text c'
+    (pieces : ℕ) × (text : List ℕ) × (pieces ≤ piece_limit) × dumps pieces c text c'
     × IsTextAdded text page a page' b false

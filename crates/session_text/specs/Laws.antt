@@ -11,11 +11,11 @@ use Rattle.session_text.specs.Dumps.{Acts}
 use Rattle.session_text.specs.Session.{AllocationsFit, StopsAfter, session_of}
 use Rattle.session_text.specs.Talks.{IsLine, IsLong, IsQuit, IsTalk, BeginsWith}
 
--- the actions done on a machine so far, one more, under a mark that may stand beside it, and its reply
+-- the actions done on a machine so far, one more, with an allocation that is possible for it, and its reply
 abbrev pub InTurn : Machine → Acts (List (Action × Allocation))
 InTurn m before a r after =
-    (mark : Allocation) × MayStand (machine_after m before) (a, mark)
-    × (after ≡ before ++ (a, mark) ∷ [])
+    (allocation : Allocation) × MayStand (machine_after m before) (a, allocation)
+    × (after ≡ before ++ (a, allocation) ∷ [])
     × (replies_of m after ≡ replies_of m before ++ r ∷ [])
 
 -- no whole line is left, or `end` comes next, or a line that is too long
@@ -37,7 +37,7 @@ ending_line NoRoom = []
 -- m'
 pub record IsList (limits : SessionLimits) (m : Machine) (time : ℕ) (bytes text : List ℕ) (m' : Machine) : Type 0 where
   pub actions : List (Action × Allocation)
-  pub marks : AreAllocations m actions
+  pub allocations : AreAllocations m actions
   pub rest : List ℕ
   pub talk : IsTalk limits (AnswersCommand (InTurn m) all_bad time) bytes [] rest text actions
   pub stop : IsStop limits rest
@@ -45,9 +45,10 @@ pub record IsList (limits : SessionLimits) (m : Machine) (time : ℕ) (bytes tex
 
 -- a session is a list of actions: it leaves their machine, and writes their replies and the line of its ending
 abbrev pub IsListed : SessionLimits → Machine → List Allocation → ℕ → List ℕ → ReadEnd → Type 0
-IsListed limits m marks time bytes e =
-    let s = session_of limits m marks time bytes e in
-    AllocationsFit m marks time bytes → (text : List ℕ) × IsList limits m time bytes text s.0.machine
+IsListed limits m allocations time bytes e =
+    let s = session_of limits m allocations time bytes e in
+    AllocationsFit m allocations time bytes
+    → (text : List ℕ) × IsList limits m time bytes text s.0.machine
     × (s.0.written ≡ text ++ ending_line s.1)
 
 -- no line of the rest was acted on, or the first one was, a dump up to some piece
@@ -61,7 +62,7 @@ IsBegun limits m time rest before after =
 -- the lines before the rest asked for the actions that were answered, in order, and all actions lead to the machine m'
 pub record IsCutList (limits : SessionLimits) (m : Machine) (time : ℕ) (bytes : List ℕ) (m' : Machine) : Type 0 where
   pub actions : List (Action × Allocation)
-  pub marks : AreAllocations m actions
+  pub allocations : AreAllocations m actions
   pub answered : List (Action × Allocation)
   pub rest : List ℕ
   pub text : List ℕ
@@ -71,7 +72,7 @@ pub record IsCutList (limits : SessionLimits) (m : Machine) (time : ℕ) (bytes 
 
 -- a session in which a write failed leaves the machine of a list of actions
 abbrev pub IsCutListed : SessionLimits → Machine → List Allocation → ℕ → List ℕ → ReadEnd → Type 0
-IsCutListed limits m marks time bytes e =
-    AllocationsFit m marks time bytes → (out : List ℕ) (m' : Machine)
-    → StopsAfter limits m marks time bytes e out m'
+IsCutListed limits m allocations time bytes e =
+    AllocationsFit m allocations time bytes → (out : List ℕ) (m' : Machine)
+    → StopsAfter limits m allocations time bytes e out m'
     → IsCutList limits m time bytes m'

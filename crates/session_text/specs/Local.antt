@@ -5,10 +5,11 @@ use Rattle.heap_trail.specs.declared.Reply.{Reply}
 use Rattle.heap_trail.specs.Pins.{pins_below}
 use Rattle.heap_trail.specs.Machine.{Machine, Allocation, MayStand, acted_under}
 
--- an action under one of the marks that may stand beside it
+-- an action with one of the allocations that are possible for it
 abbrev pub LocalActs : Machine → Action → Reply → Machine → Type 0
 LocalActs m a r m' =
-    (mark : Allocation) × MayStand m (a, mark) × (acted_under m (a, mark) ≡ (m', r))
+    (allocation : Allocation) × MayStand m (a, allocation)
+    × (acted_under m (a, allocation) ≡ (m', r))
 
 -- the machine without the pins that have this number or a greater one
 abbrev pub own_closed : ℕ → Machine → Machine

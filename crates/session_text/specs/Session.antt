@@ -17,7 +17,7 @@ use Rattle.session_text.specs.Limits.{longest_line}
 use Rattle.session_grammar.specs.declared.command.Command.{Command}
 use Rattle.session_grammar.specs.declared.command.Command.TheVariants.{Blank, Bad, Ask, Piece, Dump, DumpNow, End}
 use Rattle.session_text.specs.Dumps.{total_line}
-use Rattle.dump_pump.specs.Sources.{part_limit}
+use Rattle.hprof_text.specs.Laws.{piece_limit}
 use Rattle.session_grammar.specs.Grammar.{command_of}
 use Rattle.dump_pump.specs.Inlets.{Incoming, whole}
 use Rattle.session_grammar.specs.Reads.{ActionTakesMemory}
@@ -25,23 +25,24 @@ use Rattle.session_text.specs.Replies.{reply_text, data_lines, piece_in, pin_in}
 use Rattle.session_text.specs.Talks.{IsLine, BeginsWith}
 use Rattle.session_text.specs.Writes.{IsCutShort}
 
--- a session between two lines: the machine, the marks of what is to come (none: each action gets its memory), and the text
+-- a session between two lines: the machine, the allocations of what is to come (none: each action gets its memory), and the text
 -- written so far
 pub record Talk : Type 0 where
   pub machine : Machine
-  pub marks : List Allocation
+  pub allocations : List Allocation
   pub written : List ℕ
 
 -- the session with a text appended to what was written
 abbrev pub wrote : List ℕ → Talk → Talk
-wrote text t = record { machine = t.machine; marks = t.marks; written = t.written ++ text }
+wrote text t =
+    record { machine = t.machine; allocations = t.allocations; written = t.written ++ text }
 
--- the mark of what comes next, and the session without it
+-- the allocation of what comes next, and the session without it
 abbrev pub allocation_of : List Allocation → Allocation
 allocation_of [] = Granted
 allocation_of (k ∷ ks) = k
 
--- the marks without the first
+-- the allocations without the first
 abbrev pub allocations_after : List Allocation → List Allocation
 allocations_after [] = []
 allocations_after (k ∷ ks) = ks
@@ -51,8 +52,14 @@ allocations_after (k ∷ ks) = ks
 -- the session after an action, and its reply, of which nothing is written yet
 abbrev pub done_quietly : Action → Talk → Talk × Reply
 done_quietly a t =
-    let r = acted_under t.machine (a, allocation_of t.marks) in
-    (record { machine = r.0; marks = allocations_after t.marks; written = t.written }, r.1)
+    let r = acted_under t.machine (a, allocation_of t.allocations) in (
+      record {
+        machine = r.0;
+        allocations = allocations_after t.allocations;
+        written = t.written;
+      },
+      r.1,
+    )
 
 -- the session after an action; if an allocation for its line failed, it is as an action that failed to get memory
 abbrev pub done : Action → Talk → Talk
@@ -73,10 +80,14 @@ pieces_dumped (suc n) pin time t so_far =
     let r = done_quietly (NextPiece pin time) t in
     after_reply (pieces_dumped n pin time) so_far r.1 (piece_in r.1) r.0
 
--- the session after a pin is closed, which allocates nothing and so has no mark
+-- the session after a pin is closed, which takes no memory and so uses up no allocation
 abbrev pub closed : ℕ → Talk → Talk
 closed pin t =
-    record { machine = (acted t.machine (ClosePin pin)).0; marks = t.marks; written = t.written }
+    record {
+      machine = (acted t.machine (ClosePin pin)).0;
+      allocations = t.allocations;
+      written = t.written;
+    }
 
 -- a dump of the current state after the reply to OpenPin
 abbrev pub after_open_reply : ℕ → ℕ → Reply → Option ℕ → Talk → Talk
@@ -98,7 +109,7 @@ after_up_to most time End t = t
 
 -- after a command other than `end`
 abbrev pub after_command : ℕ → Command → Talk → Talk
-after_command time k t = after_up_to part_limit time k t
+after_command time k t = after_up_to piece_limit time k t
 
 -- whether the command is `end`
 abbrev pub is_end : Command → Bool
@@ -134,51 +145,51 @@ talked limits time e (l ∷ m ∷ more) t =
     if nat_lt (longest_line limits) (length l) then at_long t
     else go_on (talked limits time e (m ∷ more)) time (command_of l) t
 
--- the session's end, from the machine at its start, the marks, the bytes read and how reading ended
+-- the session's end, from the machine at its start, the allocations, the bytes read and how reading ended
 unfoldable pub session_of : SessionLimits → Machine → List Allocation → ℕ → List ℕ → ReadEnd → Talk × Ended
-session_of limits m marks time bytes e =
+session_of limits m allocations time bytes e =
     talked limits time e (slice_split (λ b. b == 10) bytes)
-    (record { machine = m; marks = marks; written = [] })
+    (record { machine = m; allocations = allocations; written = [] })
 
--- ---- which marks may stand
+-- ---- which allocations are possible
 
--- the next mark may stand beside this action
+-- the next allocation is possible for this action
 abbrev pub FitsAction : Action → Talk → Type 0
-FitsAction a t = MayStand t.machine (a, allocation_of t.marks)
+FitsAction a t = MayStand t.machine (a, allocation_of t.allocations)
 
--- the marks may stand in the rest of a dump, after the reply to NextPiece
+-- the allocations are possible in the rest of a dump, after the reply to NextPiece
 abbrev pub FitsRest : (Talk → ℕ → Type 0) → ℕ → Option GivenPiece → Talk → Type 0
 FitsRest more so_far (Some p) t =
     p.last ≡ false → more (wrote (data_lines p.bytes) t) (so_far + length p.bytes)
 FitsRest more so_far None t = Unit {0}
 
--- the marks may stand in a dump
+-- the allocations are possible in a dump
 unfoldable pub FitsDump : ℕ → ℕ → ℕ → Talk → ℕ → Type 0
 FitsDump zero pin time t so_far = Unit {0}
 FitsDump (suc n) pin time t so_far =
     let r = done_quietly (NextPiece pin time) t in
     FitsAction (NextPiece pin time) t × FitsRest (FitsDump n pin time) so_far (piece_in r.1) r.0
 
--- the marks may stand in a dump of the current state, after the reply to OpenPin
+-- the allocations are possible in a dump of the current state, after the reply to OpenPin
 abbrev pub FitsOpen : ℕ → Option ℕ → Talk → Type 0
-FitsOpen time (Some pin) t = FitsDump part_limit pin time t 0
+FitsOpen time (Some pin) t = FitsDump piece_limit pin time t 0
 FitsOpen time None t = Unit {0}
 
--- the mark of an action may stand beside it, or it refuses a line whose reading allocates
+-- the allocation of an action is possible for it, or it refuses a line whose reading allocates
 abbrev pub FitsCommand : ℕ → Command → Talk → Type 0
 FitsCommand time Blank t = Unit {0}
 FitsCommand time Bad t = Unit {0}
 FitsCommand time (Ask a) t =
-    FitsAction a t ⊎ (ActionTakesMemory a × (allocation_of t.marks ≡ Denied))
+    FitsAction a t ⊎ (ActionTakesMemory a × (allocation_of t.allocations ≡ Denied))
 FitsCommand time (Piece pin) t = FitsAction (NextPiece pin time) t
-FitsCommand time (Dump pin) t = FitsDump part_limit pin time t 0
+FitsCommand time (Dump pin) t = FitsDump piece_limit pin time t 0
 FitsCommand time DumpNow t =
     let r =
     done_quietly (OpenPin None) t in
     FitsAction (OpenPin None) t × FitsOpen time (pin_in r.1) r.0
 FitsCommand time End t = Unit {0}
 
--- the marks may stand in the answers of these lines
+-- the allocations are possible in the answers of these lines
 abbrev pub FitLines : ℕ → List (List ℕ) → Talk → Type 0
 FitLines time [] t = Unit {0}
 FitLines time (rest ∷ []) t = Unit {0}
@@ -186,32 +197,34 @@ FitLines time (l ∷ m ∷ more) t =
     FitsCommand time (command_of l) t
     × FitLines time (m ∷ more) (after_command time (command_of l) t)
 
--- the marks may stand in the session of these bytes
+-- the allocations are possible in the session of these bytes
 abbrev pub AllocationsFit : Machine → List Allocation → ℕ → List ℕ → Type 0
-AllocationsFit m marks time bytes =
+AllocationsFit m allocations time bytes =
     FitLines time (slice_split (λ b. b == 10) bytes)
-    (record { machine = m; marks = marks; written = [] })
+    (record { machine = m; allocations = allocations; written = [] })
 
 -- ---- the output of a session
 
--- all marks are used up, this was written, and the machine is so
+-- all allocations are used up, this was written, and the machine is so
 abbrev pub ShowsSession : SessionLimits → Machine → List Allocation → ℕ → List ℕ → ReadEnd → List ℕ → Machine
     → Ended → Type 0
-ShowsSession limits m marks time bytes e out m' ended =
-    session_of limits m marks time bytes e ≡ (record { machine = m'; marks = []; written = out }, ended)
+ShowsSession limits m allocations time bytes e out m' ended =
+    session_of limits m allocations time bytes e
+    ≡ (record { machine = m'; allocations = []; written = out }, ended)
 
 -- the next line was acted on, a dump up to some piece, and the text with its answer was cut short
 abbrev pub CutsLine : SessionLimits → ℕ → List ℕ → Talk → List ℕ → Machine → Type 0
 CutsLine limits time rest t out m' =
-    (l : List ℕ) × BeginsWith limits l rest × (pieces : ℕ) × (pieces ≤ part_limit)
+    (l : List ℕ) × BeginsWith limits l rest × (pieces : ℕ) × (pieces ≤ piece_limit)
     × (m' ≡ (after_up_to pieces time (command_of l) t).machine)
     × IsCutShort (after_up_to pieces time (command_of l) t).written [] out
 
 -- all lines were answered, and the text with what the ending prints was cut short
 abbrev pub CutsEnd : SessionLimits → Machine → List Allocation → ℕ → List ℕ → ReadEnd → Talk → List ℕ → Machine
     → Type 0
-CutsEnd limits m marks time bytes e t out m' =
-    (whole : List ℕ) × (ended : Ended) × ShowsSession limits m marks time bytes e whole m' ended
+CutsEnd limits m allocations time bytes e t out m' =
+    (whole : List ℕ) × (ended : Ended)
+    × ShowsSession limits m allocations time bytes e whole m' ended
     × (m' ≡ t.machine) × IsCutShort whole [] out
 
 -- no whole line was left, and the text was cut short before a read
@@ -220,37 +233,38 @@ CutsPage limits rest t out m' = IsLine limits rest × (m' ≡ t.machine) × IsCu
 
 -- the lines at the front of the bytes were acted on and left t, and the text was cut in their answers or behind them
 abbrev pub StopsAfter : SessionLimits → Machine → List Allocation → ℕ → List ℕ → ReadEnd → List ℕ → Machine → Type 0
-StopsAfter limits m marks time bytes e out m' =
+StopsAfter limits m allocations time bytes e out m' =
     (lines : List ℕ) × (rest : List ℕ) × (t : Talk) × (bytes ≡ lines ++ rest)
-    × (session_of limits m marks time lines Over ≡ (t, Eof))
+    × (session_of limits m allocations time lines Over ≡ (t, Eof))
     × (CutsLine limits time rest t out m'
-    ⊎ (CutsEnd limits m marks time bytes e t out m' ⊎ CutsPage limits rest t out m'))
+    ⊎ (CutsEnd limits m allocations time bytes e t out m' ⊎ CutsPage limits rest t out m'))
 
 -- the output and the machine are those of the session, or a beginning of the output if a write failed
 abbrev pub IsSessionShown : SessionLimits → Machine → List Allocation → ℕ → List ℕ → List ℕ → Machine → Ended
     → Type 0
-IsSessionShown limits m marks time bytes out m' Quit =
-    (e : ReadEnd) → ShowsSession limits m marks time bytes e out m' Quit
-IsSessionShown limits m marks time bytes out m' Eof = ShowsSession limits m marks time bytes Over out m' Eof
-IsSessionShown limits m marks time bytes out m' CutLine =
-    ShowsSession limits m marks time bytes Over out m' CutLine
-IsSessionShown limits m marks time bytes out m' TooLong =
-    (e : ReadEnd) → ShowsSession limits m marks time bytes e out m' TooLong
-IsSessionShown limits m marks time bytes out m' ReadFault =
-    ShowsSession limits m marks time bytes Failed out m' ReadFault
-IsSessionShown limits m marks time bytes out m' TooManyReads =
-    ShowsSession limits m marks time bytes Spent out m' TooManyReads
-IsSessionShown limits m marks time bytes out m' WriteFault =
-    (e : ReadEnd) × IsCutShort (session_of limits m marks time bytes e).0.written [] out
-    × StopsAfter limits m marks time bytes e out m'
-IsSessionShown limits m marks time bytes out m' NoRoom = (bytes ≡ []) × (out ≡ []) × (m' ≡ m)
+IsSessionShown limits m allocations time bytes out m' Quit =
+    (e : ReadEnd) → ShowsSession limits m allocations time bytes e out m' Quit
+IsSessionShown limits m allocations time bytes out m' Eof =
+    ShowsSession limits m allocations time bytes Over out m' Eof
+IsSessionShown limits m allocations time bytes out m' CutLine =
+    ShowsSession limits m allocations time bytes Over out m' CutLine
+IsSessionShown limits m allocations time bytes out m' TooLong =
+    (e : ReadEnd) → ShowsSession limits m allocations time bytes e out m' TooLong
+IsSessionShown limits m allocations time bytes out m' ReadFault =
+    ShowsSession limits m allocations time bytes Failed out m' ReadFault
+IsSessionShown limits m allocations time bytes out m' TooManyReads =
+    ShowsSession limits m allocations time bytes Spent out m' TooManyReads
+IsSessionShown limits m allocations time bytes out m' WriteFault =
+    (e : ReadEnd) × IsCutShort (session_of limits m allocations time bytes e).0.written [] out
+    × StopsAfter limits m allocations time bytes e out m'
+IsSessionShown limits m allocations time bytes out m' NoRoom = (bytes ≡ []) × (out ≡ []) × (m' ≡ m)
 
--- the bytes taken (those that the reader tells, if it tells them) and the bytes put out, for some marks of failed allocations
+-- the bytes taken (those that the reader tells, if it tells them) and the bytes put out, for some allocations
 -- that may stand there
 abbrev pub IsSession : SessionLimits → Machine → ℕ → Incoming → Incoming → Outgoing → Outgoing → Machine → Ended
     → Type 0
 IsSession limits m time a b w w' m' ended =
-    (bytes : List ℕ) × (out : List ℕ) × (marks : List Allocation)
-    × AllocationsFit m marks time bytes
+    (bytes : List ℕ) × (out : List ℕ) × (allocations : List Allocation)
+    × AllocationsFit m allocations time bytes
     × (b.taken ≡ a.taken ++ bytes) × Keeps (whole a) (whole b) × (w'.out ≡ w.out ++ out)
-    × IsSessionShown limits m marks time bytes out m' ended
+    × IsSessionShown limits m allocations time bytes out m' ended

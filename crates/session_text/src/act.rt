@@ -17,7 +17,7 @@ use heap_trail::{Action, Reply};
 
 /// Does an action and adds its reply to a page. Returns false if a write failed.
 #[inline(always)]
-pub fn answer_action<O: Outlet, C: Commands>(
+pub(crate) fn answer_action<O: Outlet, C: Commands>(
     action: Action,
     page: &mut Page,
     writer: &mut O,
@@ -66,7 +66,7 @@ fn write_other<O: Outlet>(page: &mut Page, writer: &mut O, reply: Reply) -> bool
 
 /// Takes a step and adds its reply to a page. Returns false if a write failed.
 #[inline(always)]
-pub fn answer_step<E: IntoEvent, O: Outlet, C: Commands>(
+pub(crate) fn answer_step<E: IntoEvent, O: Outlet, C: Commands>(
     event: E,
     page: &mut Page,
     writer: &mut O,

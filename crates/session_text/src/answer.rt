@@ -67,7 +67,7 @@ pub(crate) fn write_line_answer<O: Outlet>(
 
 /// Answers the whole lines of a buffer, up to the first that is too long, and adds their answers to an empty page, which is
 /// flushed whenever it is full.
-pub fn answer_lines<O: Outlet, C: Commands>(
+pub(crate) fn answer_lines<O: Outlet, C: Commands>(
     context: Context,
     session: &mut Session,
     writer: &mut O,

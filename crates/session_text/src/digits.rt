@@ -3,7 +3,7 @@ ghost use Rattle.std.specs.Prelude.{◌≡◌, ◌*◌, length};
 ghost use Rattle.hex.specs.Hex.{encode_lower};
 
 /// Writes the lower-case hexadecimal digits of some bytes.
-pub fn write_digits(out: &mut [u8], given: &[u8])
+pub(crate) fn write_digits(out: &mut [u8], given: &[u8])
     requires { length out.old ≡ 2 * length given.now }
     ensures { out.new ≡ encode_lower given.now }
 {

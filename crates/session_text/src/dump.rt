@@ -10,12 +10,12 @@ use crate::page::Page;
 use crate::reply::{piece_in, pin_in, write_reply};
 use crate::write::{write_number_line, write_text};
 use dump_pump::Outlet;
-use dump_pump::source::PART_LIMIT;
 use heap_trail::Action;
+use hprof_text::PIECE_LIMIT;
 
 /// Adds a dump of a pin to a page, which is flushed whenever it is full: the data lines of the pin's pieces, and their length
 /// or the line of a refusal. Returns false if a write failed.
-pub fn write_dump<O: Outlet, C: Commands>(
+pub(crate) fn write_dump<O: Outlet, C: Commands>(
     page: &mut Page,
     outlet: &mut O,
     commands: &mut C,
@@ -26,7 +26,7 @@ pub fn write_dump<O: Outlet, C: Commands>(
         (O.seen outlet.old) page.new (O.seen outlet.new) result }
 {
     let mut total: u64 = 0;
-    for number in 0..PART_LIMIT {
+    for number in 0..PIECE_LIMIT {
         let reply = commands.act(Action::NextPiece { pin, time });
         let Some(piece) = piece_in(&reply) else {
             return write_reply(page, outlet, &reply);
@@ -56,7 +56,7 @@ fn write_total<O: Outlet>(page: &mut Page, outlet: &mut O, total: u64) -> bool
 
 /// Adds a dump of the current state to a page: opens a pin, dumps it as `write_dump` does, and closes it, also if a write
 /// fails. Returns false if one did.
-pub fn write_dump_now<O: Outlet, C: Commands>(
+pub(crate) fn write_dump_now<O: Outlet, C: Commands>(
     page: &mut Page,
     outlet: &mut O,
     commands: &mut C,

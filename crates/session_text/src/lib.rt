@@ -34,7 +34,7 @@ pub use limits::{SessionLimits, session_limits};
 pub use printing::printed;
 pub use reply::cause_word;
 pub use talk::{serve, serve_local};
-pub use write::write_all;
+pub use write::{write_all, write_number};
 
 /// The way in which a session ended.
 #[derive(Clone, Copy, PartialEq, Eq)]
@@ -80,14 +80,14 @@ impl Ended {
 /// States that a session of a private machine is a list of actions: those that its lines ask for, in order. It leaves the
 /// machine that they lead to, and writes their replies and the line of its ending.
 pub fn session_is_list()
-    ensures { (limits : SessionLimits) (m : Machine) (marks : List Allocation) (time : ℕ)
-        (bytes : List ℕ) (e : ReadEnd) → IsListed limits m marks time bytes e }
+    ensures { (limits : SessionLimits) (m : Machine) (allocations : List Allocation) (time : ℕ)
+        (bytes : List ℕ) (e : ReadEnd) → IsListed limits m allocations time bytes e }
 {}
 
 /// States that such a session, if a write failed in it, leaves the machine of a list of actions too: those of the lines
 /// before one, and some of that one's, in the order in which it asks for them. A dump of the current state has closed its
 /// pin.
 pub fn cut_session_is_list()
-    ensures { (limits : SessionLimits) (m : Machine) (marks : List Allocation) (time : ℕ)
-        (bytes : List ℕ) (e : ReadEnd) → IsCutListed limits m marks time bytes e }
+    ensures { (limits : SessionLimits) (m : Machine) (allocations : List Allocation) (time : ℕ)
+        (bytes : List ℕ) (e : ReadEnd) → IsCutListed limits m allocations time bytes e }
 {}

@@ -49,7 +49,7 @@ pub enum Quick {
 /// Answers the first line of a text at once, if it is one of a mutator, `mark` or a rewind, in the shortest form: single spaces,
 /// none at the end. Returns the line's end, too.
 #[inline(always)]
-pub fn answer_mutator<O: Outlet, C: Commands>(
+pub(crate) fn answer_mutator<O: Outlet, C: Commands>(
     text: &[u8],
     page: &mut Page,
     writer: &mut O,

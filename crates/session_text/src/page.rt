@@ -66,7 +66,7 @@ impl Page {
     }
 
     /// Adds the lower-case hexadecimal digits of some bytes, for which there must be room.
-    pub fn add_hex(&mut self, given: &[u8])
+    pub(crate) fn add_hex(&mut self, given: &[u8])
         requires { length self.old + 2 * length given.now ≤ PAGE_LIMIT }
         ensures { self.new ≡ self.old ++ encode_lower given.now }
     {
@@ -76,7 +76,7 @@ impl Page {
 
     /// Adds a text, the lower-case hexadecimal digits of some bytes and LF, for which there must be room.
     #[inline(always)]
-    pub fn add_hex_line(&mut self, text: &[u8], given: &[u8])
+    pub(crate) fn add_hex_line(&mut self, text: &[u8], given: &[u8])
         requires { length self.old + (length text.now + (2 * length given.now + 1)) ≤ PAGE_LIMIT }
         ensures { self.new ≡ self.old ++ (text.now ++ (encode_lower given.now ++ codes "\n")) }
     {

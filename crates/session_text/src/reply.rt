@@ -31,7 +31,7 @@ pub fn cause_word(cause: LostCause) -> &'static [u8]
 /// Adds the line of an event's answer to a page, which is flushed first unless it has room for one more line. Returns false
 /// if a write failed.
 #[inline(always)]
-pub fn write_answer<O: Outlet>(page: &mut Page, outlet: &mut O, answer: Answer) -> bool
+pub(crate) fn write_answer<O: Outlet>(page: &mut Page, outlet: &mut O, answer: Answer) -> bool
     ensures { IsTextAdded (reply_text (Answered answer)) page.old (O.seen outlet.old) page.new
         (O.seen outlet.new) result }
 {
@@ -98,7 +98,7 @@ fn add_swept(page: &mut Page, dead: u64, emptied: bool)
 /// Does what `write_answer` does with the answer of an event that made or loaded an object, which is the most frequent answer
 /// with a number.
 #[inline(never)]
-pub fn write_object<O: Outlet>(page: &mut Page, outlet: &mut O, id: u64) -> bool
+pub(crate) fn write_object<O: Outlet>(page: &mut Page, outlet: &mut O, id: u64) -> bool
     ensures { IsTextAdded (reply_text (Answered (Object id))) page.old (O.seen outlet.old)
         page.new (O.seen outlet.new) result }
 {
@@ -110,7 +110,7 @@ pub fn write_object<O: Outlet>(page: &mut Page, outlet: &mut O, id: u64) -> bool
 }
 
 /// Adds a reply to a page, which is flushed whenever it is full. Returns false if a write failed.
-pub fn write_reply<O: Outlet>(page: &mut Page, outlet: &mut O, reply: &Reply) -> bool
+pub(crate) fn write_reply<O: Outlet>(page: &mut Page, outlet: &mut O, reply: &Reply) -> bool
     ensures { IsTextAdded (reply_text reply.now) page.old (O.seen outlet.old) page.new
         (O.seen outlet.new) result }
 {

@@ -1,5 +1,5 @@
 //! The writing of a page.
-ghost use Rattle.std.specs.Prelude.{◌≡◌, ◌≤◌, ◌++◌, [], length};
+ghost use Rattle.std.specs.Prelude.{◌≡◌, ◌≤◌, ◌++◌, [], decimal, length};
 ghost use Rattle.session_text.specs.Replies.{and_number, line};
 ghost use Rattle.session_text.specs.Writes.{IsTextWritten, IsTextAdded};
 ghost use Rattle.session_text.specs.declared.write.TheConstants.{LINE_START, TEXT_LIMIT};
@@ -20,6 +20,16 @@ pub fn write_all<O: Outlet>(outlet: &mut O, bytes: &[u8]) -> bool
     ensures { IsTextWritten bytes.now (O.seen outlet.old) (O.seen outlet.new) result }
 {
     put_all(outlet, bytes) >= bytes.len()
+}
+
+/// Puts out a number and the end of its line. Returns false if a put failed.
+pub fn write_number<O: Outlet>(outlet: &mut O, number: u64) -> bool
+    ensures { IsTextWritten (line (decimal number)) (O.seen outlet.old) (O.seen outlet.new) result }
+{
+    if !write_all(outlet, itoa::Buffer::new().format(number).as_bytes()) {
+        return false;
+    }
+    write_all(outlet, b"\n")
 }
 
 /// Puts out a page, which is empty afterwards. Returns false if a put failed.
@@ -46,7 +56,7 @@ pub fn make_room<O: Outlet>(page: &mut Page, outlet: &mut O) -> bool
 }
 
 /// Adds a short text to a page, which is flushed first unless it has room for one more line. Returns false if a put failed.
-pub fn write_text<O: Outlet>(page: &mut Page, outlet: &mut O, text: &[u8]) -> bool
+pub(crate) fn write_text<O: Outlet>(page: &mut Page, outlet: &mut O, text: &[u8]) -> bool
     requires { length text.now ≤ TEXT_LIMIT }
     ensures { IsTextAdded text.now page.old (O.seen outlet.old) page.new (O.seen outlet.new)
         result }
@@ -59,7 +69,7 @@ pub fn write_text<O: Outlet>(page: &mut Page, outlet: &mut O, text: &[u8]) -> bo
 }
 
 /// Flushes a page and puts out a long text.
-pub fn write_long<O: Outlet>(page: &mut Page, outlet: &mut O, text: &[u8]) -> bool
+pub(crate) fn write_long<O: Outlet>(page: &mut Page, outlet: &mut O, text: &[u8]) -> bool
     ensures { IsTextAdded text.now page.old (O.seen outlet.old) page.new (O.seen outlet.new)
         result }
 {
@@ -67,7 +77,7 @@ pub fn write_long<O: Outlet>(page: &mut Page, outlet: &mut O, text: &[u8]) -> bo
 }
 
 /// Adds a space, a number and LF to a page, which is flushed first unless it has room for one more line.
-pub fn write_number_line<O: Outlet>(page: &mut Page, outlet: &mut O, n: u64) -> bool
+pub(crate) fn write_number_line<O: Outlet>(page: &mut Page, outlet: &mut O, n: u64) -> bool
     ensures { IsTextAdded (line (and_number n)) page.old (O.seen outlet.old) page.new
         (O.seen outlet.new) result }
 {

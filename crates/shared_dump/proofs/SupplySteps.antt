@@ -8,11 +8,12 @@ use Rattle.heap_lock.specs.Reply.{Reply}
 use Rattle.heap_lock.specs.Reply.TheVariants as Said
 use Rattle.heap_lock.specs.TrailLaws.{IsPieceOfLegal}
 use Rattle.heap_lock.specs.Piece.{Piece}
-use Rattle.dump_pump.specs.declared.source.Ending.{Ending}
-use Rattle.dump_pump.specs.declared.source.Ending.TheVariants as End
+use Rattle.dump_pump.specs.declared.source.SourceEnd.{SourceEnd}
+use Rattle.dump_pump.specs.declared.source.SourceEnd.TheVariants as End
 use Rattle.dump_pump.specs.declared.source.Next.{Next}
 use Rattle.dump_pump.specs.declared.source.Next.TheVariants.{Part, Lost, Cancelled}
-use Rattle.dump_pump.specs.Sources.{IsNextPart, part_limit, parts_with}
+use Rattle.dump_pump.specs.Sources.{IsNextPart, parts_with}
+use Rattle.dump_pump.specs.PieceLaws.{piece_limit}
 use Rattle.heap_lock.specs.Calls.{Call}
 use Rattle.heap_lock.specs.Dumpers.{DumperState, Makes}
 use Rattle.heap_lock.specs.Laws.{pieces_given}
@@ -62,7 +63,7 @@ last_call_was_replied_now pin time start seen between seen2 r h goes = (seen ++ 
 
 -- ---- how it ended
 
-earlier_ending_still_stands : (pin time : ℕ) (start : List Call) (given given2 : List Piece) (seen between : List Call) (c : Call) (seen2 : List Call) (ended : Option Ending) → MayEnd pin time start given seen ended → length given ≤ length given2 → SeenGoesOnByCall seen between c seen2
+earlier_ending_still_stands : (pin time : ℕ) (start : List Call) (given given2 : List Piece) (seen between : List Call) (c : Call) (seen2 : List Call) (ended : Option SourceEnd) → MayEnd pin time start given seen ended → length given ≤ length given2 → SeenGoesOnByCall seen between c seen2
     → MayEnd pin time start given2 seen2 ended
 earlier_ending_still_stands pin time start given given2 seen between c seen2 None may more goes = tt
 earlier_ending_still_stands pin time start given given2 seen between c seen2 (Some End.Whole) may more goes = tt
@@ -70,26 +71,26 @@ earlier_ending_still_stands pin time start given given2 seen between c seen2 (So
 earlier_ending_still_stands pin time start given given2 seen between c seen2 (Some (End.Lost cause)) (inr t) more goes = inr (t.0, earlier_reply_still_seen pin time start seen between c seen2 (Said.Part t.0) t.1 goes, t.2, omega (arith, t.3, more), t.4)
 earlier_ending_still_stands pin time start given given2 seen between c seen2 (Some End.Cancelled) may more goes = may
 
-last_piece_ends_whole : (pin time : ℕ) (start : List Call) (given : List Piece) (seen : List Call) (ended : Option Ending) (last : Bool) → MayEnd pin time start given seen ended → MayEnd pin time start given seen (if last then Some End.Whole else ended)
+last_piece_ends_whole : (pin time : ℕ) (start : List Call) (given : List Piece) (seen : List Call) (ended : Option SourceEnd) (last : Bool) → MayEnd pin time start given seen ended → MayEnd pin time start given seen (if last then Some End.Whole else ended)
 last_piece_ends_whole pin time start given seen ended true may = tt
 last_piece_ends_whole pin time start given seen ended false may = may
 
 -- ---- what the dumper got
 
-pieces_got_are_given : (given : List Piece) (ended : Option Ending) (got : List Piece) → IsNotLost ended → AreGot given ended got → got ≡ given
+pieces_got_are_given : (given : List Piece) (ended : Option SourceEnd) (got : List Piece) → IsNotLost ended → AreGot given ended got → got ≡ given
 pieces_got_are_given given None got not g = g
 pieces_got_are_given given (Some End.Whole) got not g = g
 pieces_got_are_given given (Some (End.Lost cause)) got not g = absurd not
 pieces_got_are_given given (Some End.Cancelled) got not g = g
 
-given_pieces_were_got : (given : List Piece) (ended : Option Ending) (got : List Piece) → got ≡ given → AreGot given ended got
+given_pieces_were_got : (given : List Piece) (ended : Option SourceEnd) (got : List Piece) → got ≡ given → AreGot given ended got
 given_pieces_were_got given None got is = is
 given_pieces_were_got given (Some End.Whole) got is = is
 given_pieces_were_got given (Some (End.Lost cause)) got is = inl is
 given_pieces_were_got given (Some End.Cancelled) got is = is
 
 -- a request more, by which these pieces are got
-one_request_more_asked : (pin time : ℕ) (own : List Call) (given given2 : List Piece) (ended ended2 : Option Ending) (own2 own3 : List Call) (r : Reply) → (h : HasAsked pin time own given ended own2) → own3 ≡ own2 ++ (NextPiece pin time, r) ∷ []
+one_request_more_asked : (pin time : ℕ) (own : List Call) (given given2 : List Piece) (ended ended2 : Option SourceEnd) (own2 own3 : List Call) (r : Reply) → (h : HasAsked pin time own given ended own2) → own3 ≡ own2 ++ (NextPiece pin time, r) ∷ []
     → AreGot given2 ended2 (pieces_given pin (h.0 ++ (NextPiece pin time, r) ∷ [])) → HasAsked pin time own given2 ended2 own3
 one_request_more_asked pin time own given given2 ended ended2 own2 own3 r h is got = (h.0 ++ (NextPiece pin time, r) ∷ [], is ∙ ap (λ l. l ++ (NextPiece pin time, r) ∷ []) h.1 ∙ append_assoc own h.0 ((NextPiece pin time, r) ∷ []), one_ask_more_all_asks pin time h.0 r h.2, got)
 
@@ -118,7 +119,7 @@ supply_still_told_after_part config t d2 count2 (Part q) not (inl u) count s =
 supply_still_told_after_part config t d2 count2 (Lost cause) not (inl u) count s =
     let w = u.1 in
     let got = one_piece_reply_more t.pin t.time s.asked.0 u.0 t.given (pieces_got_are_given t.given t.ended _ not s.asked.3) in
-    let limit : part_limit ≤ length t.given + 1 = omega (arith, u.3.1, s.counted) in
+    let limit : piece_limit ≤ length t.given + 1 = omega (arith, u.3.1, s.counted) in
     record {
       given = given_pieces_still_seen t.pin t.time t.start.seen t.given t.dumper.seen w.0.0 (NextPiece t.pin t.time, Said.Part u.0) d2.seen s.given w.0.1;
       legal = s.legal;
@@ -139,13 +140,13 @@ supply_still_told_after_part config t d2 count2 r not (inr u) count s =
     } in
     subst (λ (x : ℕ × Next). IsSupplied config (supply_told_with_part t d2 x.0 x.1)) (λ k. (sym (count ∙ ap (count_after t.count) u.4) k, sym u.4 k)) lost
 
-pub next_part_of_told_supply : (given : List Piece) (ended before after : Option Ending) (count count2 : ℕ) (r : Next) → IsNextPart (untold count before) (untold count2 after) r → IsNextPart (told_supply given count ended) (told_supply (parts_with given r) count2 (ended_with ended r)) r
+pub next_part_of_told_supply : (given : List Piece) (ended before after : Option SourceEnd) (count count2 : ℕ) (r : Next) → IsNextPart (untold count before) (untold count2 after) r → IsNextPart (told_supply given count ended) (told_supply (parts_with given r) count2 (ended_with ended r)) r
 next_part_of_told_supply given ended before after count count2 (Part p) h = (refl, h.1, h.2, h.3, λ last. ap (λ b. if b then Some End.Whole else ended) last)
 next_part_of_told_supply given ended before after count count2 (Lost cause) h = (refl, refl)
 next_part_of_told_supply given ended before after count count2 Cancelled h = (refl, refl)
 
 -- the same, at values that are known
-pub supply_at_known_values : (config : HeapSettings) (t : ToldSupply) (pin2 time2 count2 : ℕ) (d2 : DumperState) (given2 : List Piece) (ended2 : Option Ending) (r : Next) → pin2 ≡ t.pin → time2 ≡ t.time → given2 ≡ parts_with t.given r → ended2 ≡ ended_with t.ended r
+pub supply_at_known_values : (config : HeapSettings) (t : ToldSupply) (pin2 time2 count2 : ℕ) (d2 : DumperState) (given2 : List Piece) (ended2 : Option SourceEnd) (r : Next) → pin2 ≡ t.pin → time2 ≡ t.time → given2 ≡ parts_with t.given r → ended2 ≡ ended_with t.ended r
     → IsNotLost t.ended → Supplies config t.pin t.time t.count t.dumper d2 r → count2 ≡ count_after t.count r → IsSupplied config t
     → IsSupplied config (record { pin = pin2; time = time2; start = t.start; dumper = d2; given = given2; count = count2; ended = ended2 })
 supply_at_known_values config t pin2 time2 count2 d2 given2 ended2 r a b c d not is count s =

@@ -3,13 +3,13 @@ use Rattle.std.proofs.Common.{◌≡◌, ℕ, Bool, true, false, List, ◌++◌,
 use Rattle.heap_lock.specs.LostCause.{LostCause}
 use Rattle.heap_lock.specs.HeapLimits.{HeapSettings}
 use Rattle.heap_lock.specs.Piece.{Piece}
-use Rattle.dump_pump.specs.declared.source.Ending.{Ending}
-use Rattle.dump_pump.specs.declared.source.Ending.TheVariants as End
+use Rattle.dump_pump.specs.declared.source.SourceEnd.{SourceEnd}
+use Rattle.dump_pump.specs.declared.source.SourceEnd.TheVariants as End
 use Rattle.dump_pump.specs.declared.transfer.Pumped.{Pumped}
 use Rattle.dump_pump.specs.declared.transfer.Pumped.TheVariants.{Done, OutletFailed, Lost, Cancelled}
 use Rattle.dump_pump.specs.Outlets.{Outgoing}
 use Rattle.dump_pump.specs.Pumps.{FitsPump}
-use Rattle.dump_pipe.specs.Watches.{watched}
+use Rattle.dump_pipe.specs.Cancellables.{cancellable}
 use Rattle.dump_pipe.specs.Streams.{IsStreamed}
 use Rattle.dump_pipe.proofs.BatchStreams.{some_piece_lists_equal}
 use Rattle.heap_lock.specs.Calls.{Call}
@@ -18,15 +18,15 @@ use Rattle.heap_lock.specs.Laws.{pieces_given}
 use Rattle.shared_dump.specs.Supplies.{ToldSupply, nothing_of, AreGiven, AllLegal, AreGot, HasAsked, IsTooMany, MayEnd, IsSupplied, told_supply}
 use Rattle.shared_dump.specs.Streams.{GotFor, TellsStream, PutsLive}
 
-told_loss_is_source_loss : (found : Bool) (e : Option Ending) (cause : LostCause) → (if found then Some End.Cancelled else e) ≡ Some (End.Lost cause) → e ≡ Some (End.Lost cause)
+told_loss_is_source_loss : (found : Bool) (e : Option SourceEnd) (cause : LostCause) → (if found then Some End.Cancelled else e) ≡ Some (End.Lost cause) → e ≡ Some (End.Lost cause)
 told_loss_is_source_loss true e cause h = absurd cc
 told_loss_is_source_loss false e cause h = h
 
-told_cancel_was_found : (pin time : ℕ) (start : List Call) (given : List Piece) (seen : List Call) (found : Bool) (e : Option Ending) → MayEnd pin time start given seen e → (if found then Some End.Cancelled else e) ≡ Some End.Cancelled → found ≡ true
+told_cancel_was_found : (pin time : ℕ) (start : List Call) (given : List Piece) (seen : List Call) (found : Bool) (e : Option SourceEnd) → MayEnd pin time start given seen e → (if found then Some End.Cancelled else e) ≡ Some End.Cancelled → found ≡ true
 told_cancel_was_found pin time start given seen true e may h = refl
 told_cancel_was_found pin time start given seen false e may h = absurd (subst (MayEnd pin time start given seen) h may)
 
-tells : (pin time : ℕ) (start seen : List Call) (given : List Piece) (out : List ℕ) (found : Bool) (e : Option Ending) (failures failures2 : ℕ) (r : Pumped) → MayEnd pin time start given seen e → FitsPump given out (if found then Some End.Cancelled else e) failures failures2 r
+tells : (pin time : ℕ) (start seen : List Call) (given : List Piece) (out : List ℕ) (found : Bool) (e : Option SourceEnd) (failures failures2 : ℕ) (r : Pumped) → MayEnd pin time start given seen e → FitsPump given out (if found then Some End.Cancelled else e) failures failures2 r
     → TellsStream pin time start seen given out found failures failures2 r
 tells pin time start seen given out found e failures failures2 (Done n) may h = (h.0, h.1, h.3)
 tells pin time start seen given out found e failures failures2 (OutletFailed n) may h = h
@@ -35,25 +35,25 @@ tells pin time start seen given out found e failures failures2 (Cancelled n) may
 
 -- ---- what the dumper got
 
-told_whole_is_source_whole : (found : Bool) (e : Option Ending) → (if found then Some End.Cancelled else e) ≡ Some End.Whole → e ≡ Some End.Whole
+told_whole_is_source_whole : (found : Bool) (e : Option SourceEnd) → (if found then Some End.Cancelled else e) ≡ Some End.Whole → e ≡ Some End.Whole
 told_whole_is_source_whole true e h = absurd cc
 told_whole_is_source_whole false e h = h
 
-got_or_many : (given : List Piece) (e : Option Ending) (got : List Piece) → AreGot given e got → (got ≡ given) ⊎ IsTooMany given got
+got_or_many : (given : List Piece) (e : Option SourceEnd) (got : List Piece) → AreGot given e got → (got ≡ given) ⊎ IsTooMany given got
 got_or_many given None got g = inl g
 got_or_many given (Some End.Whole) got g = inl g
 got_or_many given (Some (End.Lost cause)) got g = g
 got_or_many given (Some End.Cancelled) got g = inl g
 
-pieces_got_for_result : (given got : List Piece) (out : List ℕ) (found : Bool) (e : Option Ending) (failures failures2 : ℕ) (r : Pumped) → AreGot given e got → FitsPump given out (if found then Some End.Cancelled else e) failures failures2 r → GotFor given r got
-pieces_got_for_result given got out found e failures failures2 (Done n) g h = subst (λ (x : Option Ending). AreGot given x got) (told_whole_is_source_whole found e h.2) g
+pieces_got_for_result : (given got : List Piece) (out : List ℕ) (found : Bool) (e : Option SourceEnd) (failures failures2 : ℕ) (r : Pumped) → AreGot given e got → FitsPump given out (if found then Some End.Cancelled else e) failures failures2 r → GotFor given r got
+pieces_got_for_result given got out found e failures failures2 (Done n) g h = subst (λ (x : Option SourceEnd). AreGot given x got) (told_whole_is_source_whole found e h.2) g
 pieces_got_for_result given got out found e failures failures2 (OutletFailed n) g h = got_or_many given e got g
 pieces_got_for_result given got out found e failures failures2 (Lost cause n) g h = got_or_many given e got g
 pieces_got_for_result given got out found e failures failures2 (Cancelled n) g h = got_or_many given e got g
 
 -- from a source that gave nothing
 pub fresh_source_puts_served_pin : (config : HeapSettings) (pin time : ℕ) (d : DumperState) (a t : ToldSupply) (was found : Bool) (w w2 : Outgoing) (r : Pumped) → a ≡ nothing_of pin time d → t.pin ≡ a.pin → t.time ≡ a.time → t.start ≡ a.start → IsSupplied config t
-    → IsStreamed (watched (told_supply a.given a.count a.ended) was) (watched (told_supply t.given t.count t.ended) found) w w2 r → PutsLive config pin time d t.dumper found w w2 r
+    → IsStreamed (cancellable (told_supply a.given a.count a.ended) was) (cancellable (told_supply t.given t.count t.ended) found) w w2 r → PutsLive config pin time d t.dumper found w w2 r
 fresh_source_puts_served_pin config pin time d a t was found w w2 r none p q o s done =
     let here : t.pin ≡ pin = p ∙ ap (λ (x : ToldSupply). x.pin) none in
     let when : t.time ≡ time = q ∙ ap (λ (x : ToldSupply). x.time) none in

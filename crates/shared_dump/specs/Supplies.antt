@@ -11,11 +11,12 @@ use Rattle.heap_lock.specs.Reply.{Reply}
 use Rattle.heap_lock.specs.Reply.TheVariants as Said
 use Rattle.heap_lock.specs.TrailLaws.{IsPieceOfLegal}
 use Rattle.heap_lock.specs.Piece.{Piece}
-use Rattle.dump_pump.specs.declared.source.Ending.{Ending}
-use Rattle.dump_pump.specs.declared.source.Ending.TheVariants as End
+use Rattle.dump_pump.specs.declared.source.SourceEnd.{SourceEnd}
+use Rattle.dump_pump.specs.declared.source.SourceEnd.TheVariants as End
 use Rattle.dump_pump.specs.declared.source.Next.{Next}
 use Rattle.dump_pump.specs.declared.source.Next.TheVariants.{Part, Lost, Cancelled}
-use Rattle.dump_pump.specs.Sources.{Supply, part_limit}
+use Rattle.dump_pump.specs.Sources.{Supply}
+use Rattle.dump_pump.specs.PieceLaws.{piece_limit}
 use Rattle.heap_lock.specs.Calls.{Call}
 use Rattle.heap_lock.specs.Dumpers.{AllAsk, DumperState}
 use Rattle.heap_lock.specs.Laws.{pieces_given}
@@ -30,7 +31,7 @@ pub record ToldSupply : Type 0 where
   pub dumper : DumperState
   pub given : List Piece
   pub count : ℕ
-  pub ended : Option Ending
+  pub ended : Option SourceEnd
 
 -- one that gave nothing
 abbrev pub nothing_of : ℕ → ℕ → DumperState → ToldSupply
@@ -46,23 +47,23 @@ nothing_of pin time d =
     }
 
 -- one that gave these pieces, while its dumper came to be this one
-abbrev pub supply_of : ℕ → ℕ → DumperState → DumperState → List Piece → ℕ → Option Ending
+abbrev pub supply_of : ℕ → ℕ → DumperState → DumperState → List Piece → ℕ → Option SourceEnd
     → ToldSupply
 supply_of pin time start d given count ended =
     record (nothing_of pin time start) { dumper = d; given = given; count = count; ended = ended }
 
 -- what is seen of a source that tells its pieces
-abbrev pub told_supply : List Piece → ℕ → Option Ending → Supply
+abbrev pub told_supply : List Piece → ℕ → Option SourceEnd → Supply
 told_supply given count ended =
-    record { told = Some given; ended = ended; left = part_limit - count }
+    record { told = Some given; ended = ended; left = piece_limit - count }
 
--- the dumper that a log has first
+-- the first dumper in a ghost list
 abbrev pub first_dumper : List (DumperState × Unit {0}) → DumperState
 first_dumper [] = record { seen = []; own = [] }
 first_dumper (e ∷ es) = e.0
 
 -- how a source ended, with what it gives next
-abbrev pub ended_with : Option Ending → Next → Option Ending
+abbrev pub ended_with : Option SourceEnd → Next → Option SourceEnd
 ended_with ended (Part p) = if p.last then Some End.Whole else ended
 ended_with ended (Lost cause) = Some (End.Lost cause)
 ended_with ended Cancelled = Some End.Cancelled
@@ -94,7 +95,7 @@ WasRefused pin time start seen cause =
 abbrev pub WasTooMany : ℕ → ℕ → List Call → List Piece → List Call → LostCause → Type 0
 WasTooMany pin time start given seen cause =
     (p : Piece) × WasReplied pin time start seen (Said.Part p) × (p.last ≡ false)
-    × (part_limit ≤ length given + 1) × (cause ≡ Closed)
+    × (piece_limit ≤ length given + 1) × (cause ≡ Closed)
 
 -- why a source is lost
 abbrev pub IsLost : ℕ → ℕ → List Call → List Piece → List Call → LostCause → Type 0
@@ -102,14 +103,14 @@ IsLost pin time start given seen cause =
     WasRefused pin time start seen cause ⊎ WasTooMany pin time start given seen cause
 
 -- a source may have ended so
-abbrev pub MayEnd : ℕ → ℕ → List Call → List Piece → List Call → Option Ending → Type 0
+abbrev pub MayEnd : ℕ → ℕ → List Call → List Piece → List Call → Option SourceEnd → Type 0
 MayEnd pin time start given seen None = Unit {0}
 MayEnd pin time start given seen (Some End.Whole) = Unit {0}
 MayEnd pin time start given seen (Some (End.Lost cause)) = IsLost pin time start given seen cause
 MayEnd pin time start given seen (Some End.Cancelled) = ⊥
 
 -- a source that isn't lost
-abbrev pub IsNotLost : Option Ending → Type 0
+abbrev pub IsNotLost : Option SourceEnd → Type 0
 IsNotLost None = Unit {0}
 IsNotLost (Some End.Whole) = Unit {0}
 IsNotLost (Some (End.Lost cause)) = ⊥
@@ -117,17 +118,17 @@ IsNotLost (Some End.Cancelled) = Unit {0}
 
 -- a dumper got these pieces: those that were given, and one that was too many
 abbrev pub IsTooMany : List Piece → List Piece → Type 0
-IsTooMany given got = (p : Piece) × (got ≡ given ++ p ∷ []) × (part_limit ≤ length given + 1)
+IsTooMany given got = (p : Piece) × (got ≡ given ++ p ∷ []) × (piece_limit ≤ length given + 1)
 
 -- the pieces that a dumper got are those that were given; of a source that is lost, the last one may have been too many
-abbrev pub AreGot : List Piece → Option Ending → List Piece → Type 0
+abbrev pub AreGot : List Piece → Option SourceEnd → List Piece → Type 0
 AreGot given (Some (End.Lost cause)) got = (got ≡ given) ⊎ IsTooMany given got
 AreGot given (Some End.Whole) got = got ≡ given
 AreGot given (Some End.Cancelled) got = got ≡ given
 AreGot given None got = got ≡ given
 
 -- all calls of the dumper's own since are requests for the pin's next piece, by which it got the pieces that were given
-abbrev pub HasAsked : ℕ → ℕ → List Call → List Piece → Option Ending → List Call → Type 0
+abbrev pub HasAsked : ℕ → ℕ → List Call → List Piece → Option SourceEnd → List Call → Type 0
 HasAsked pin time own given ended own' =
     (asked : List Call) × (own' ≡ own ++ asked) × AllAsk pin time asked
     × AreGot given ended (pieces_given pin asked)

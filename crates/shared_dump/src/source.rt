@@ -1,12 +1,11 @@
 //! A source over the lock that tells what it gave.
 ghost use Rattle.std.specs.Prelude.{◌≡◌, ◌<◌, Some, IfSome, IfNone};
-ghost use Rattle.dump_pump.specs.declared.source.Ending.TheVariants.{Lost as LostFor};
+ghost use Rattle.dump_pump.specs.declared.source.SourceEnd.TheVariants.{Lost as LostFor};
 ghost use Rattle.heap_lock.specs.Calls.{IsLegalLedger};
 ghost use Rattle.dump_pump.specs.Sources.{parts_in, parts_with};
 ghost use Rattle.shared_dump.specs.Supplies.{IsNotLost, IsSupplied, ended_with, nothing_of};
 
-use dump_pump::source::PART_LIMIT;
-use dump_pump::{Ending, Log, Next, Piece, Source};
+use dump_pump::{Log, Next, PIECE_LIMIT, Piece, Source, SourceEnd};
 use heap_lock::{Dumper, Heap, LockedSource, LostCause};
 use std::marker::Model;
 use std::sync::Wait;
@@ -18,7 +17,7 @@ pub struct ToldSource<'a, L: Heap, R: Wait> {
     source: LockedSource<'a, L, R>,
     start: Log<Dumper<'a, L, R>, ()>,
     given: Log<Piece, ()>,
-    ended: Option<Ending>,
+    ended: Option<SourceEnd>,
 }
 
 impl<'a, L: Heap, R: Wait> Model for ToldSource<'a, L, R> {
@@ -36,7 +35,7 @@ impl<'a, L: Heap, R: Wait> Model for ToldSource<'a, L, R> {
 }
 
 // Notes what was given next, and how the source ended.
-fn note(given: &mut Log<Piece, ()>, ended: &mut Option<Ending>, next: &Next)
+fn note(given: &mut Log<Piece, ()>, ended: &mut Option<SourceEnd>, next: &Next)
     ensures given { parts_in given.new.items ≡ parts_with (parts_in given.old.items) next.now }
     ensures ended { ended.new ≡ ended_with ended.old next.now }
 {
@@ -44,23 +43,23 @@ fn note(given: &mut Log<Piece, ()>, ended: &mut Option<Ending>, next: &Next)
         Next::Part(piece) => {
             *given = given.and(piece, &());
             if piece.last {
-                *ended = Some(Ending::Whole);
+                *ended = Some(SourceEnd::Whole);
             }
         }
-        Next::Lost(cause) => *ended = Some(Ending::Lost(*cause)),
-        Next::Cancelled => *ended = Some(Ending::Cancelled),
+        Next::Lost(cause) => *ended = Some(SourceEnd::Lost(*cause)),
+        Next::Cancelled => *ended = Some(SourceEnd::Cancelled),
     }
 }
 
 // Returns the cause of a source that is lost.
-fn loss_of(ended: Option<Ending>) -> Option<LostCause>
+fn loss_of(ended: Option<SourceEnd>) -> Option<LostCause>
     ensures lost { IfSome result (λ cause. ended ≡ Some (LostFor cause)) }
     ensures other { IfNone result (IsNotLost ended) }
 {
     match ended {
-        Some(Ending::Lost(cause)) => Some(cause),
-        Some(Ending::Whole) => None,
-        Some(Ending::Cancelled) => None,
+        Some(SourceEnd::Lost(cause)) => Some(cause),
+        Some(SourceEnd::Whole) => None,
+        Some(SourceEnd::Cancelled) => None,
         None => None,
     }
 }
@@ -80,7 +79,7 @@ impl<'a, L: Heap, R: Wait> ToldSource<'a, L, R> {
     }
 
     /// Returns the dumper, which has made the calls of the source. The contract says what is known of the pieces that it gave.
-    pub fn into_dumper(self) -> Dumper<'a, L, R>
+    pub(crate) fn into_dumper(self) -> Dumper<'a, L, R>
         ensures dumper { result ≡ self.entry.dumper }
         ensures legal { IsLegalLedger L.config self.entry.dumper.seen }
         ensures supplied { IsSupplied L.config self.entry }
@@ -96,7 +95,7 @@ impl<'a, L: Heap, R: Wait> ToldSource<'a, L, R> {
             pin: _,
             time: _,
             count: _,
-            ending: _,
+            ended: _,
         } = source;
         dumper.legal();
         dumper
@@ -126,6 +125,6 @@ impl<'a, L: Heap, R: Wait> Source for ToldSource<'a, L, R> {
     }
 
     fn parts_left(&self) -> u64 {
-        PART_LIMIT.saturating_sub(self.source.count)
+        PIECE_LIMIT.saturating_sub(self.source.count)
     }
 }

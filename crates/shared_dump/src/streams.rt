@@ -6,7 +6,7 @@ ghost use Rattle.heap_lock.specs.Calls.{IsLegalLedger};
 ghost use Rattle.shared_dump.specs.Streams.{PutsLive};
 
 use crate::source::ToldSource;
-use dump_pipe::{Counter, FeedSeat, Meter, OutSeat, Watched, stream_parts};
+use dump_pipe::{Cancellable, Counter, FeedSeat, Meter, OutSeat, stream_parts};
 use dump_pump::{Outlet, Pumped};
 use heap_lock::{Dumper, Heap};
 use std::alloc::Global;
@@ -58,14 +58,14 @@ pub fn stream<'a, 'm, L: Heap + Send + Sync, O: Outlet, R: Threads + Wait + Sync
         ≡ knows seats.entry.meter.now (seats.entry.out.known + bytes_of result.0) }
 {
     let StreamSeats { meter, out, feed } = seats;
-    let mut source = Watched {
+    let mut source = Cancellable {
         source: ToldSource::new(from.dumper, from.pin, from.time),
         cancel: meter.cancel(),
         seat: feed,
     };
     let mut counter = Counter::new(meter.progress(), out);
     let pumped = stream_parts(rt, alloc, &mut source, outlet, &mut counter);
-    let Watched {
+    let Cancellable {
         source: told,
         cancel: _,
         seat,

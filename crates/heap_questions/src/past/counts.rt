@@ -55,6 +55,7 @@ pub fn first_many(
 fn count_wanted<V: View>(view: &V, wanted: Wanted) -> u64
     ensures { result ≡ length (objects_wanted wanted (V.image view.now)) }
 {
+    // Its contract says that what the view shows is within the limits of a dump.
     let _classes = view.classes();
     let mut count = 0u64;
     let mut passed = 0usize;

@@ -62,6 +62,7 @@ fn writes_wanted(pin: &Pin, world: &World, left: &Undo, wanted: Wanted) -> bool
 fn has_wanted<V: View>(view: &V, wanted: Wanted) -> bool
     ensures { IsTrue result ↔ HasWanted wanted (V.image view.now) }
 {
+    // Its contract says that what the view shows is within the limits of a dump.
     let _classes = view.classes();
     let mut passed = 0usize;
     let mut here = view.first();

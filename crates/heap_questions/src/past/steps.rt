@@ -82,6 +82,7 @@ fn sizes_ago(alloc: Global, machine: &Machine, ago: u64) -> Result<Vec<u64>, Ref
         (λ sizes. AreCellSizes (state_ago ago machine.now.trail) sizes.items) }
     ensures refused { IfErr result (λ e. e ≡ NoMemory) }
 {
+    // Its contract says that the retained states are legal.
     let _place = machine.place();
     let world = machine.world();
     let mut sizes = sizes_now(alloc, world)?;

@@ -4,14 +4,14 @@ use super::scenes::{Scene, play_scene};
 use super::shared::pump_into;
 use super::sinks::{Flags, Sink};
 use super::sources::AskingSource;
-use dump_pipe::Watched;
+use dump_pipe::Cancellable;
 use heap_lock::{Dumper, Heap, LockedSource};
 use shared_dump::StreamSeats;
 use std::sync::Wait;
 use std::test::*;
 
-/// Pumps a pin, watched, from a source that is taken to have given `turn` parts: it asks to cancel before the second, if that
-/// is to come.
+/// Pumps a pin from a source that can be cancelled and is taken to have given `turn` parts: it asks to cancel before the second,
+/// if that is to come.
 pub fn pumped_asking<L: Heap, R: Wait>(
     at: &PinnedText<'_, L, R>,
     seats: StreamSeats<'_>,
@@ -29,7 +29,7 @@ pub fn pumped_asking<L: Heap, R: Wait>(
         mut asker,
         reader: _,
     } = watch;
-    let mut source = Watched {
+    let mut source = Cancellable {
         source: AskingSource {
             source: LockedSource::new(Dumper::new(shared, rt, shared.witness(rt)), at.pin, 0),
             cancel: asked.cancel(),

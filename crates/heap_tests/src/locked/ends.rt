@@ -2,14 +2,14 @@
 ghost use Rattle.std.specs.Prelude.{◌≡◌, []};
 ghost use Rattle.dump_pipe.specs.Claims.{view, IsSeatAt};
 ghost use Rattle.dump_pipe.specs.Ends.{sends_on, receives_on};
-ghost use Rattle.dump_pipe.specs.declared.end_view.EndView.TheVariants.{Sends, Gets};
+ghost use Rattle.dump_pipe.specs.declared.end_side.EndSide.TheVariants.{Sends, Gets};
 
 use super::dumps::{Case, Noted, PinnedText, Seen, Wanted, Way};
 use super::scenes::{Scene, play_scene};
 use super::sinks::{Flags, Sink, reaches};
 use super::sources::Counted;
 use dump_pipe::{BothEnds, Counter, End, Knowledge, Receiver, Sender, drain_pipe, feed, pipe};
-use dump_pump::{Ending, WriteOutlet};
+use dump_pump::{SourceEnd, WriteOutlet};
 use heap_lock::{Dumper, Heap, LockedSource, Shared};
 use shared_dump::StreamSeats;
 use std::sync::Wait;
@@ -90,8 +90,8 @@ fn feed_counted<L: Heap, R: Wait>(
         source: LockedSource::new(Dumper::new(shared, rt, shared.witness(rt)), pin, 0),
         asked,
     };
-    let ending = feed(rt, &mut source, sender, end);
-    (ending == Ending::Whole, source.source.count)
+    let ended = feed(rt, &mut source, sender, end);
+    (ended == SourceEnd::Whole, source.source.count)
 }
 
 // Drains a pipe into a sink once the source was asked `first` times. Returns how often it had been asked then, and how that went.

@@ -1,4 +1,4 @@
-use Rattle.question_text.proofs.NewWords.{orders_no_command}
+use Rattle.question_text.proofs.NewEvents.{orders_no_command}
 use Rattle.question_text.proofs.orders_are_new.Goals as goal
 
 pub returns : goal.returns

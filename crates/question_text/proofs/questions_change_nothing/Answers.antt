@@ -1,4 +1,4 @@
-use Rattle.question_text.proofs.NewWords.{help_changes_nothing, others_change_nothing, question_changes_nothing}
+use Rattle.question_text.proofs.NotedLines.{help_changes_nothing, others_change_nothing, question_changes_nothing}
 use Rattle.question_text.proofs.questions_change_nothing.Goals as goal
 
 pub returns : goal.returns

@@ -1,5 +1,5 @@
 use Rattle.std.proofs.Common.{◌∙◌}
-use Rattle.dump_pump.specs.declared.source.Ending.TheVariants as Ended
+use Rattle.dump_pump.specs.declared.source.SourceEnd.TheVariants as Ended
 use Rattle.dump_pipe.proofs.FeedSteps.{feed_has_room_for_part, feed_has_room_for_end, room_for_end_after_part, feeding_goes_on_by_part, feeding_ends_by_last_part}
 use Rattle.dump_pipe.proofs.feeder.feed.Goals as goal
 

@@ -1,4 +1,4 @@
-use Rattle.heap_step.proofs.Steps.{put_record_slot_within_object, store_within, store_entry, store_taken_back_is_legal, new_taken_back_is_legal, snap_before, mark_taken_back_is_legal, drain_begun, drain_taken_back_is_legal, finish_before, finish_taken_back_is_legal, sweep_before, reclaim_inhabited, reclaim_legal}
+use Rattle.heap_step.proofs.Steps.{put_record_slot_within_object, store_within, store_entry, store_undone_is_legal, new_undone_is_legal, snap_before, mark_undone_is_legal, drain_begun, drain_undone_is_legal, finish_before, finish_undone_is_legal, sweep_before, reclaim_inhabited, reclaim_legal}
 use Rattle.heap_step.proofs.step.undo.Goals as goal
 
 pub unput-requires-clause-within : goal.unput-requires-clause-within
@@ -11,25 +11,25 @@ pub unstore-requires-clause-entry : goal.unstore-requires-clause-entry
 unstore-requires-clause-entry c = store_entry c.requires.0 c.requires.1 _ _ c.requires.2 c.in-Store.at c.in-Store.slot c.in-Store.old c.in-Store.logged c.in-Store.is
 
 pub unstore-requires-clause-legal : goal.unstore-requires-clause-legal
-unstore-requires-clause-legal c = store_taken_back_is_legal c.requires.0 c.requires.1 _ _ c.requires.2 c.in-Store.at c.in-Store.slot c.in-Store.old c.in-Store.logged c.in-Store.is
+unstore-requires-clause-legal c = store_undone_is_legal c.requires.0 c.requires.1 _ _ c.requires.2 c.in-Store.at c.in-Store.slot c.in-Store.old c.in-Store.logged c.in-Store.is
 
 pub unmake-requires-clause-legal : goal.unmake-requires-clause-legal
-unmake-requires-clause-legal c = new_taken_back_is_legal c.requires.0 c.requires.1 _ _ c.requires.2 c.in-New.at c.in-New.fresh c.in-New.m c.in-New.r c.in-New.old c.in-New.is
+unmake-requires-clause-legal c = new_undone_is_legal c.requires.0 c.requires.1 _ _ c.requires.2 c.in-New.at c.in-New.fresh c.in-New.m c.in-New.r c.in-New.old c.in-New.is
 
 pub unsnap-requires : goal.unsnap-requires
 unsnap-requires c = record { snapped = snap_before c.requires.0 c.requires.1 _ _ c.requires.2 c.in-Snap.is }
 
 pub unmark-requires-clause-legal : goal.unmark-requires-clause-legal
-unmark-requires-clause-legal c = mark_taken_back_is_legal c.requires.0 c.requires.1 _ _ c.requires.2 c.in-Mark.parent c.in-Mark.pushed c.in-Mark.is
+unmark-requires-clause-legal c = mark_undone_is_legal c.requires.0 c.requires.1 _ _ c.requires.2 c.in-Mark.parent c.in-Mark.pushed c.in-Mark.is
 
 pub undrain-requires-clause-drained : goal.undrain-requires-clause-drained
 undrain-requires-clause-drained c = drain_begun c.requires.0 c.requires.1 _ _ c.requires.2 c.in-Drain.pushed c.in-Drain.is
 
 pub undrain-requires-clause-legal : goal.undrain-requires-clause-legal
-undrain-requires-clause-legal c = drain_taken_back_is_legal c.requires.0 c.requires.1 _ _ c.requires.2 c.in-Drain.pushed c.in-Drain.is
+undrain-requires-clause-legal c = drain_undone_is_legal c.requires.0 c.requires.1 _ _ c.requires.2 c.in-Drain.pushed c.in-Drain.is
 
 pub unfinish-requires-clause-legal : goal.unfinish-requires-clause-legal
-unfinish-requires-clause-legal c = finish_taken_back_is_legal c.requires.0 c.requires.1 _ _ c.requires.2 c.in-Finish.log c.in-Finish.is
+unfinish-requires-clause-legal c = finish_undone_is_legal c.requires.0 c.requires.1 _ _ c.requires.2 c.in-Finish.log c.in-Finish.is
 
 pub unfinish-requires-clause-finished : goal.unfinish-requires-clause-finished
 unfinish-requires-clause-finished c = finish_before c.requires.0 c.requires.1 _ _ c.requires.2 c.in-Finish.log c.in-Finish.is

@@ -39,7 +39,7 @@ returns-in_err-answer-clause-refused g c =
 pub remember-requires-clause-sized : goal.remember-requires-clause-sized
 remember-requires-clause-sized g c =
     let h = c.in_ok-answer.ensures in
-    let a = accepted_event_from_its_parts (g.E.ApplyEvent.event c.args.event.now) c.self.inside.world c.apply_sort.new.world c.in_ok-answer.left h.effect.answered h.effect.state h.effect.recorded h.legal (c.undo_takes_back.ensures (g.E.ApplyEvent.event c.args.event.now) c.self.inside.world) in
+    let a = accepted_event_from_its_parts (g.E.ApplyEvent.event c.args.event.now) c.self.inside.world c.apply_sort.new.world c.in_ok-answer.left h.effect.answered h.effect.state h.effect.recorded h.legal (c.undo_restores.ensures (g.E.ApplyEvent.event c.args.event.now) c.self.inside.world) in
     let back : undone c.in_ok-answer.left c.apply_sort.new.world ≡ c.self.inside.world = accepted_event_leads_back (g.E.ApplyEvent.event c.args.event.now) c.self.inside.world c.apply_sort.new.world c.in_ok-answer.left c.self.invariant.0.legal a in
     subst (λ (ss : List NumberedPin). EachSized (length c.apply_sort.new.world.regions) ss) (sym c.deref_mut.ensures.value)
     (pins_sized_after_step c.self.inside.ids c.in_ok-answer.left c.apply_sort.new.world c.self.inside.world (past_of c.self.inside.world c.self.inside.records.items) c.self.inside.place c.self.inside.next c.self.inside.pins.items back c.self.invariant.1.held)
@@ -47,7 +47,7 @@ remember-requires-clause-sized g c =
 pub invariant_of-self-2 : goal.invariant_of-self-2
 invariant_of-self-2 g c =
     let h = c.in_ok-answer.ensures in
-    let a = accepted_event_from_its_parts (g.E.ApplyEvent.event c.args.event.now) c.self.inside.world c.apply_sort.new.world c.in_ok-answer.left h.effect.answered h.effect.state h.effect.recorded h.legal (c.undo_takes_back.ensures (g.E.ApplyEvent.event c.args.event.now) c.self.inside.world) in
+    let a = accepted_event_from_its_parts (g.E.ApplyEvent.event c.args.event.now) c.self.inside.world c.apply_sort.new.world c.in_ok-answer.left h.effect.answered h.effect.state h.effect.recorded h.legal (c.undo_restores.ensures (g.E.ApplyEvent.event c.args.event.now) c.self.inside.world) in
     let back : undone c.in_ok-answer.left c.apply_sort.new.world ≡ c.self.inside.world = accepted_event_leads_back (g.E.ApplyEvent.event c.args.event.now) c.self.inside.world c.apply_sort.new.world c.in_ok-answer.left c.self.invariant.0.legal a in
     let pins = pin_list_after_slice c.in_ok-answer.left c.apply_sort.new.world c.self.inside.pins.items _ c.remember.new.pins c.self.inside.pins.len c.deref_mut.ensures.value c.remember.ensures.pins (omega (arith, c.self.inside.pins.ok.0)) in
     rw pins.1
@@ -60,7 +60,7 @@ invariant_of-self-2 g c =
 pub returns-clause-done : goal.returns-clause-done
 returns-clause-done g c =
     let h = c.in_ok-answer.ensures in
-    let a = accepted_event_from_its_parts (g.E.ApplyEvent.event c.args.event.now) c.self.inside.world c.apply_sort.new.world c.in_ok-answer.left h.effect.answered h.effect.state h.effect.recorded h.legal (c.undo_takes_back.ensures (g.E.ApplyEvent.event c.args.event.now) c.self.inside.world) in
+    let a = accepted_event_from_its_parts (g.E.ApplyEvent.event c.args.event.now) c.self.inside.world c.apply_sort.new.world c.in_ok-answer.left h.effect.answered h.effect.state h.effect.recorded h.legal (c.undo_restores.ensures (g.E.ApplyEvent.event c.args.event.now) c.self.inside.world) in
     let pins = pin_list_after_slice c.in_ok-answer.left c.apply_sort.new.world c.self.inside.pins.items _ c.remember.new.pins c.self.inside.pins.len c.deref_mut.ensures.value c.remember.ensures.pins (omega (arith, c.self.inside.pins.ok.0)) in
     subst (λ (ts : List NumberedPin). MayAnswer c.args.self.now (g.E.ApplyEvent.event c.args.event.now) (machine_of c.self.inside.ids c.apply_sort.new.world c.remember.new.records (c.self.inside.place + 1) c.self.inside.keep c.self.inside.next ts) c.in_ok-answer.answer) (sym pins.1)
     (subst (λ (r : Buffer Undo). MayAnswer c.args.self.now (g.E.ApplyEvent.event c.args.event.now) (machine_of c.self.inside.ids c.apply_sort.new.world r (c.self.inside.place + 1) c.self.inside.keep c.self.inside.next c.remember.new.pins) c.in_ok-answer.answer) (sym c.remember.ensures.records)

@@ -9,7 +9,7 @@ returns-in-Ok g c =
       c.serve_beside_page-served.new.commands,
       (
         c.new-seat.result,
-        record { made = c.args.blank; is = c.requires.made; only = search rules; legal = c.new-seat.ensures.legal },
+        record { made = c.args.blank; is = c.requires.made; only = search rules; legal = c.new-seat.ensures.legal; unnamed = c.new-seat.ensures.unnamed },
         c.in_ok-seat.ensures.run,
       ),
       rw c.session_limits-limits.ensures at c.in-Ok.ensures.served,

@@ -1,7 +1,7 @@
 use Rattle.std.proofs.Common.{refl, sym, ap, ◌∙◌, Some, if◌then◌else◌}
-use Rattle.dump_pump.specs.declared.source.Ending.TheVariants.{Whole}
+use Rattle.dump_pump.specs.declared.source.SourceEnd.TheVariants.{Whole}
 use Rattle.heap_trail.specs.Pins.{pin_at}
-use Rattle.machine_dump.specs.Endings.{may_lose}
+use Rattle.machine_dump.specs.SourceEnds.{may_lose}
 use Rattle.machine_dump.proofs.PieceGiving.{part_reply_gives_piece, more_pieces_stay_below_limit, refused_piece_may_lose}
 use Rattle.machine_dump.proofs.pin_source.hand_out.Goals as goal
 use Rattle.machine_dump.proofs.pin_source.hand_out.Goals.{then-piece, else-piece}

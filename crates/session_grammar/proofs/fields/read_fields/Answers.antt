@@ -17,7 +17,7 @@ loop-rest-preserved c =
     let start : drop (length c.rest-size.result.now - length t) text ≡ t = (λ k. drop (whole k - size k) text) ∙ sym here.1 ∙ sym same in
     let f = c.in-Some-field_at.field in (
       rest_of_rest text rest c.pass.new.self here c.pass.ensures.rest,
-      omega (arith, spans_longer_by_one c.loop-rest.marks c.push.new.self _ c.push.ensures, i.1, c.pass.ensures.shorter, long, c.front.ensures.rest.0),
-      spans_within_with_one_more text c.loop-rest.marks c.push.new.self _ c.push.ensures (omega (arith, long, within, size, here.0, whole)) i.2,
-      i.3 ∙ field_spans_one_further text t c.pass.new.self _ c.loop-rest.marks c.push.new.self _ f.whole (ap (λ l. Some (record { name = take f.name l; kind = f.kind }, f.whole)) start ∙ c.in-Some-field_at.ensures.value) (c.pass.ensures.next ∙ ap (λ l. drop (f.whole + 1) l) (sym same)) c.push.ensures c.in-Some.ensures.front.1,
+      omega (arith, spans_longer_by_one c.loop-rest.spans c.push.new.self _ c.push.ensures, i.1, c.pass.ensures.shorter, long, c.front.ensures.rest.0),
+      spans_within_with_one_more text c.loop-rest.spans c.push.new.self _ c.push.ensures (omega (arith, long, within, size, here.0, whole)) i.2,
+      i.3 ∙ field_spans_one_further text t c.pass.new.self _ c.loop-rest.spans c.push.new.self _ f.whole (ap (λ l. Some (record { name = take f.name l; kind = f.kind }, f.whole)) start ∙ c.in-Some-field_at.ensures.value) (c.pass.ensures.next ∙ ap (λ l. drop (f.whole + 1) l) (sym same)) c.push.ensures c.in-Some.ensures.front.1,
     )

@@ -7,9 +7,9 @@ use Rattle.session_grammar.proofs.fields.read_fields.Given as goal
 abbrev pub invariant-loop-rest : goal.invariant-loop-rest
 invariant-loop-rest l =
     IsRestOf l.fn.words l.words
-    × (4 * length l.marks + length l.words ≤ 32768)
-    × AreSpansWithin l.fn.words l.marks
-    × (plain_fields (words_of_line l.fn.words) ≡ option_map (λ fs. map (field_of_span l.fn.words) l.marks ++ fs) (plain_fields (words_of_line l.words)))
+    × (4 * length l.spans + length l.words ≤ 32768)
+    × AreSpansWithin l.fn.words l.spans
+    × (plain_fields (words_of_line l.fn.words) ≡ option_map (λ fs. map (field_of_span l.fn.words) l.spans ++ fs) (plain_fields (words_of_line l.words)))
 
 abbrev pub decreases-loop-rest : goal.decreases-loop-rest
 decreases-loop-rest l = length l.words

@@ -3,7 +3,7 @@ use Rattle.session_text.specs.Dumps.{total_line}
 use Rattle.session_text.specs.Replies.{reply_text, data_lines}
 use Rattle.session_text.specs.Writes.{IsTextAdded}
 use Rattle.session_text.proofs.PageTexts.{texts_added_in_turn}
-use Rattle.session_text.proofs.DumpLines.{small_reply_has_short_piece, dump_text_after_piece, dump_refused, dump_over_at_part_limit, writes_whole, writes_cut}
+use Rattle.session_text.proofs.DumpLines.{small_reply_has_short_piece, dump_text_after_piece, dump_refused, dump_over_at_piece_limit, writes_whole, writes_cut}
 use Rattle.session_text.proofs.dump.write_dump.Goals as goal
 
 pub returns-in_default : goal.returns-in_default
@@ -64,4 +64,4 @@ pub returns : goal.returns
 returns g c =
     let i = c.loop-number.invariant in
     writes_whole g.C.Commands.acts c.args.pin c.args.time c.args.commands.now c.loop-number.commands i.1 c.args.page.now (g.O.Outlet.seen c.args.outlet.now) c.loop-number.page (g.O.Outlet.seen c.loop-number.outlet) true
-    (dump_over_at_part_limit g.C.Commands.acts c.args.pin c.args.time c.args.commands.now c.loop-number.number c.loop-number.commands c.loop-number.total i.1 i.3 (omega (arith, c.loop-number-test.false, c.loop-number.auto.number-end))) i.2
+    (dump_over_at_piece_limit g.C.Commands.acts c.args.pin c.args.time c.args.commands.now c.loop-number.number c.loop-number.commands c.loop-number.total i.1 i.3 (omega (arith, c.loop-number-test.false, c.loop-number.auto.number-end))) i.2

@@ -1,6 +1,6 @@
 use Rattle.std.proofs.Common.{◌≡◌, ◌++◌, length, map, take, drop, sym, ap, ◌∙◌, rules}
 use Rattle.std.specs.List.{flat_map}
-use Rattle.heap_history.specs.Definitions.{fields_in, mark_of}
+use Rattle.heap_history.specs.Definitions.{fields_in, shape_of}
 use Rattle.heap_history.proofs.Letters.{letters_begin_with_class_name, name_in}
 use Rattle.heap_history.proofs.definition.Definition.of.Goals as goal
 
@@ -13,5 +13,5 @@ returns c =
     let told = letters_begin_with_class_name name fields room (ap (λ l. take (length l) room) (sym all) ∙ c.placed_letters.ensures ∙ all) in (
       search rules,
       ap (λ l. take (length l) room) c.as_bytes.ensures ∙ told.0,
-      ap (λ ms. fields_in ms (drop (length c.as_bytes.result.now) room)) c.placed_marks.ensures ∙ ap (λ l. fields_in (map mark_of fields) (drop (length l) room)) c.as_bytes.ensures ∙ told.1,
+      ap (λ ms. fields_in ms (drop (length c.as_bytes.result.now) room)) c.placed_shapes.ensures ∙ ap (λ l. fields_in (map shape_of fields) (drop (length l) room)) c.as_bytes.ensures ∙ told.1,
     )

@@ -1,12 +1,11 @@
-use Rattle.std.proofs.Common.{◌+◌, ◌*◌, ap, ◌∙◌}
+use Rattle.std.proofs.Common.{ap, ◌∙◌}
 use Rattle.heap_region.specs.Pool.{RegionPool}
-use Rattle.heap_region.specs.Regions.{object_base, id_of}
+use Rattle.heap_region.specs.Regions.{id_of}
 use Rattle.heap_pins.proofs.ObjectReads.{copy_id, region_id}
 use Rattle.heap_pins.proofs.pin.Pin.id.Goals as goal
 
 pub returns-in-Some : goal.returns-in-Some
-returns-in-Some c = copy_id c.args.self.now c.args.world.now.regions c.args.at c.in-Some.copy.now (object_base + 8 * (1024 * c.args.at.region + c.args.at.cell * c.cell_size.result))
-    c.in-Some.ensures (ap (λ n. object_base + 8 * (1024 * c.args.at.region + c.args.at.cell * n)) c.cell_size.ensures.value)
+returns-in-Some c = copy_id c.args.self.now c.args.world.now.regions c.args.at c.in-Some.copy.now c.id_in.result c.in-Some.ensures c.id_in.ensures
 
 pub returns-in-None : goal.returns-in-None
 returns-in-None c = region_id c.args.self.now c.args.world.now.regions c.args.at c.id.result c.requires c.in-None.ensures

@@ -1,9 +1,9 @@
-use Rattle.std.proofs.Common.{◌<◌, ◌∙◌, sym, ap, subst, true, arith}
+use Rattle.std.proofs.Common.{◌<◌, ◌∙◌, IsSome, sym, ap, subst, true, arith}
 use Rattle.heap_step.specs.Laws.{IsStep}
 use Rattle.heap_pins.specs.KeptCopies.{touched, kept}
 use Rattle.heap_pins.proofs.RoomForCopies.{object_within, sweep_used, sweep_fit, reclaim_within}
 use Rattle.heap_pins.proofs.AddedCopies.{truth_holds_at_refusal}
-use Rattle.heap_pins.proofs.KeptSteps.{ok_is_kept, put_is_kept, store_is_kept, sweep_is_kept, reclaim_is_kept, other_records_keep_the_pin}
+use Rattle.heap_pins.proofs.KeptSteps.{ok_is_kept, put_is_kept, store_is_kept, sweep_is_kept, sweep_of_none_is_kept, sweep_of_some_touches_its_region, reclaim_is_kept, other_records_keep_the_pin}
 use Rattle.heap_pins.specs.Pin.{PinContents}
 use Rattle.heap_pins.proofs.Walkable.{after_legal, cell_of_object_below_256, dead_within}
 use Rattle.heap_step.proofs.Steps.{new_record_names_an_object, put_record_names_an_object, put_record_slot_within_object, store_there, store_within}
@@ -54,8 +54,11 @@ returns-in-Put-clause-kept c = ok_is_kept c.keep_word.result c.keep_word.new.sel
 pub returns-in-Store-clause-kept : goal.returns-in-Store-clause-kept
 returns-in-Store-clause-kept c = ok_is_kept c.keep_word-in-Store.result c.keep_word-in-Store.new.self (λ h. h ∙ store_is_kept c.requires.step.0 c.requires.step.1 c.args.world.now c.args.self.now c.in-Store.at c.in-Store.slot c.in-Store.old _ (subst (IsStep c.requires.step.0 c.requires.step.1 c.args.world.now) c.in-Store.is c.requires.step.2) ∙ ap (λ l. kept l c.args.world.now c.args.self.now) (sym c.in-Store.is)) c.keep_word-in-Store.ensures.kept
 
-pub returns-in-Sweep-clause-kept : goal.returns-in-Sweep-clause-kept
-returns-in-Sweep-clause-kept c = ok_is_kept c.keep_dead.result c.keep_dead.new.self (λ h. h ∙ sweep_is_kept c.requires.step.0 c.requires.step.1 c.args.world.now c.args.self.now c.in-Sweep.region c.in-Sweep.dead (subst (IsStep c.requires.step.0 c.requires.step.1 c.args.world.now) c.in-Sweep.is c.requires.step.2) ∙ ap (λ l. kept l c.args.world.now c.args.self.now) (sym c.in-Sweep.is)) c.keep_dead.ensures.kept
+pub returns-then-len-eq0-clause-kept : goal.returns-then-len-eq0-clause-kept
+returns-then-len-eq0-clause-kept c = sweep_of_none_is_kept c.args.world.now c.args.self.now c.in-Sweep.region c.in-Sweep.dead (omega (arith, c.len.ensures, c.if-len-eq0.true)) ∙ ap (λ l. kept l c.args.world.now c.args.self.now) (sym c.in-Sweep.is)
+
+pub returns-else-len-eq0-clause-kept : goal.returns-else-len-eq0-clause-kept
+returns-else-len-eq0-clause-kept c = ok_is_kept c.keep_dead.result c.keep_dead.new.self (λ h. h ∙ sweep_is_kept c.requires.step.0 c.requires.step.1 c.args.world.now c.args.self.now c.in-Sweep.region c.in-Sweep.dead (λ z. omega (arith, c.len.ensures, c.if-len-eq0.false, z)) (subst (IsStep c.requires.step.0 c.requires.step.1 c.args.world.now) c.in-Sweep.is c.requires.step.2) ∙ ap (λ l. kept l c.args.world.now c.args.self.now) (sym c.in-Sweep.is)) c.keep_dead.ensures.kept
 
 pub returns-in-Reclaim-clause-kept : goal.returns-in-Reclaim-clause-kept
 returns-in-Reclaim-clause-kept c = ok_is_kept c.keep_region.result c.keep_region.new.self (λ h. h ∙ reclaim_is_kept c.requires.step.0 c.requires.step.1 c.args.world.now c.args.self.now c.in-Reclaim.region c.in-Reclaim.storage (subst (IsStep c.requires.step.0 c.requires.step.1 c.args.world.now) c.in-Reclaim.is c.requires.step.2) ∙ ap (λ l. kept l c.args.world.now c.args.self.now) (sym c.in-Reclaim.is)) c.keep_region.ensures.kept
@@ -71,9 +74,9 @@ pub returns-in-Store-clause-touched : goal.returns-in-Store-clause-touched
 unfolding touched
 returns-in-Store-clause-touched c = rw c.in-Store.is (truth_holds_at_refusal c.keep_word-in-Store.result (search))
 
-pub returns-in-Sweep-clause-touched : goal.returns-in-Sweep-clause-touched
-unfolding touched
-returns-in-Sweep-clause-touched c = rw c.in-Sweep.is (truth_holds_at_refusal c.keep_dead.result (search))
+pub returns-else-len-eq0-clause-touched : goal.returns-else-len-eq0-clause-touched
+returns-else-len-eq0-clause-touched c = truth_holds_at_refusal c.keep_dead.result
+    (subst IsSome (sweep_of_some_touches_its_region c.in-Sweep.region c.in-Sweep.dead (λ z. omega (arith, c.len.ensures, c.if-len-eq0.false, z)) ∙ ap touched (sym c.in-Sweep.is)) (search))
 
 pub returns-in-Reclaim-clause-touched : goal.returns-in-Reclaim-clause-touched
 unfolding touched

@@ -15,3 +15,9 @@ returns-then-is_live_now c i h =
     first_place_is_found f (256 * length regions) (256 * c.args.at.region + cell) (Some (record { region = c.args.at.region; cell = cell }))
     (live_cell_is_first f (length regions) c.args.at.region cell live.0 (omega (arith, c.if-at-lt255.true)) live.1)
     ∙ sym (next_live_place_from_number (states_seen c.args.self.now regions) i (256 * c.args.at.region + cell) c.args.at (omega arith) h).1
+
+pub returns-in-Some : goal.returns-in-Some
+returns-in-Some c = λ i h. sym c.in-Some.is ∙ c.next_from.ensures i h
+
+pub returns-in-None : goal.returns-in-None
+returns-in-None c = λ i h. sym c.in-None.is ∙ c.next_from.ensures i h

@@ -5,7 +5,7 @@ use Rattle.heap_step.proofs.Steps.{put_record_names_an_object, put_record_slot_w
 use Rattle.heap_region.proofs.Lookups.{used_region_is_listed}
 use Rattle.heap_pins.proofs.RoomForCopies.{object_within, sweep_used, sweep_fit, reclaim_within}
 use Rattle.heap_pins.proofs.Walkable.{sees_slot, sees_room, dead_within, cell_of_object_below_256, register_within}
-use Rattle.heap_pins.proofs.RecordWalks.{walk_back_over_put, walk_back_over_store, reg_back, walk_back_over_new, class_back, walk_back_over_finish, walk_back_over_sweep, reclaim_back, quiet_back, consequence_of_an_ok}
+use Rattle.heap_pins.proofs.RecordWalks.{walk_back_over_put, walk_back_over_store, reg_back, walk_back_over_new, class_back, walk_back_over_finish, walk_back_over_sweep, walk_back_over_sweep_of_none, reclaim_back, quiet_back, consequence_of_an_ok}
 use Rattle.heap_pins.specs.Shows.{AreCells, IsPinOf}
 use Rattle.heap_world.specs.State.{HeapState}
 use Rattle.heap_pins.proofs.pin.Pin.walk_back.Goals as goal
@@ -152,12 +152,17 @@ unsweep-requires-clause-within c =
     let (x, e, s, pin, shows) = c.requires in
     dead_within x c.in-Sweep.region c.in-Sweep.dead pin.legal (sweep_used e _ x c.args.left.now s c.in-Sweep.region c.in-Sweep.dead c.in-Sweep.is) (sweep_fit e _ x c.args.left.now s c.in-Sweep.region c.in-Sweep.dead c.in-Sweep.is)
 
-pub returns-in-Sweep-clause-walked : goal.returns-in-Sweep-clause-walked
-returns-in-Sweep-clause-walked c =
+pub returns-then-len-eq0-clause-walked : goal.returns-then-len-eq0-clause-walked
+returns-then-len-eq0-clause-walked c =
+    let (x, e, s, pin, shows) = c.requires in
+    walk_back_over_sweep_of_none c.args.left.now c.args.world.now c.args.self.now c.in-Sweep.region c.in-Sweep.dead c.in-Sweep.is (omega (arith, c.len.ensures, c.if-len-eq0.true)) (cells_of_pin c.args.self.now x pin)
+
+pub returns-else-len-eq0-clause-walked : goal.returns-else-len-eq0-clause-walked
+returns-else-len-eq0-clause-walked c =
     let (x, e, s, pin, shows) = c.requires in
     let sized = subst (λ n. c.in-Sweep.region < n) (sym pin.copies) (used_region_is_listed x.regions c.in-Sweep.region (sweep_used e _ x c.args.left.now s c.in-Sweep.region c.in-Sweep.dead c.in-Sweep.is)) in
     let seen = sees_room c.args.self.now x c.args.world.now c.in-Sweep.region c.in-Sweep.dead shows (sweep_used e _ x c.args.left.now s c.in-Sweep.region c.in-Sweep.dead c.in-Sweep.is) (sweep_fit e _ x c.args.left.now s c.in-Sweep.region c.in-Sweep.dead c.in-Sweep.is) in
-    consequence_of_an_ok c.unsweep.result (walk_back_over_sweep c.args.left.now c.args.world.now c.args.self.now c.unsweep.new.self c.in-Sweep.region c.in-Sweep.dead seen.0 c.in-Sweep.is sized (cells_of_pin c.args.self.now x pin) seen.1) c.unsweep.ensures.swept
+    consequence_of_an_ok c.unsweep.result (walk_back_over_sweep c.args.left.now c.args.world.now c.args.self.now c.unsweep.new.self c.in-Sweep.region c.in-Sweep.dead seen.0 c.in-Sweep.is (λ z. omega (arith, c.len.ensures, c.if-len-eq0.false, z)) sized (cells_of_pin c.args.self.now x pin) seen.1) c.unsweep.ensures.swept
 
 -- ---- a region that was moved out
 

@@ -18,7 +18,7 @@ returns-clause-done g c =
       left,
       subst (λ (x : StayingStation). AreStillOpen config x.seat x.seen x.pins seen left) c.self.view_is c.forget_closed.ensures.open,
       inl (
-        subst (λ (s : SeatModel). IsJoined config s seen (OpenPin c.args.at) r d.seat d.seen) seat c.act-reply.ensures.acts,
+        subst (λ (s : SeatModel). IsJoined config s seen (OpenPin c.args.at) r d.seat d.seen) seat c.act-reply.ensures.acts.0,
         c.note.ensures ∙ ap (λ o. with_opened o c.reserve.new.self.items) c.pin_in.ensures ∙ ap (λ l. with_opened (pin_in r) l) c.reserve.ensures.items,
       ),
     )

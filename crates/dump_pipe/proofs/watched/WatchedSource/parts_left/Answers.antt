@@ -1,4 +1,0 @@
-use Rattle.dump_pipe.proofs.watched.WatchedSource.parts_left.Goals as goal
-
-pub returns-clause-left : goal.returns-clause-left
-returns-clause-left g c = c.parts_left.ensures.left

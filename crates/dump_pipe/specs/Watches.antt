@@ -1,9 +1,0 @@
--- The supply of a watched source.
-use Rattle.std.specs.Prelude.{Bool, Some, if◌then◌else◌}
-use Rattle.dump_pump.specs.declared.source.Ending.TheVariants.{Cancelled}
-use Rattle.dump_pump.specs.Sources.{Supply}
-
--- the supply of a watched source: it ended by a cancelling if one was found, else as its own source
-abbrev pub watched : Supply → Bool → Supply
-watched s found =
-    record { told = s.told; ended = if found then Some Cancelled else s.ended; left = s.left }

@@ -1,6 +1,0 @@
-use Rattle.std.proofs.Common.{arith}
-use Rattle.heap_history.proofs.Letters.{field_name_within_all_names}
-use Rattle.heap_history.proofs.definition.placed_marks.Goals as goal
-
-pub mark_of-requires : goal.mark_of-requires
-mark_of-requires c = omega (arith, field_name_within_all_names c.args.fields.now c.loop-i.i c.index-fields-i.result c.loop-i-test.true c.index-fields-i.is)

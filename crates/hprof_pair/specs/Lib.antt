@@ -1,0 +1,11 @@
+pub mod Shapes
+pub mod Dumps
+pub mod Ways
+pub mod JoinedClasses
+pub mod JoinedSoFar
+pub mod Pairs
+pub mod Changes
+pub mod Events
+pub mod Sessions
+pub mod KnownPairs
+pub mod Conversions

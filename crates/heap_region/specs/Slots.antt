@@ -1,9 +1,9 @@
 -- For proofs: regions whose storages were turned as far as the heap was when they were last changed.
-use Rattle.std.specs.Prelude.{◌≡◌, ℕ, List, Option, Some, None, is_some, option_map, count_by}
+use Rattle.std.specs.Prelude.{◌≡◌, ℕ, Bool, false, not, List, Option, Some, None, is_some, option_map, count_by}
 use Rattle.std.specs.List.{sum_by}
 use Rattle.heap_region.specs.Regions.{Object, UsedRegion}
 use Rattle.heap_region.specs.Live.{cells_of, is_dead}
-use Rattle.heap_region.specs.Quarters.{since}
+use Rattle.heap_region.specs.Quarters.{is_zero, since}
 use Rattle.heap_region.specs.Turns.{is_unmarked, turned_by, unmarked_in}
 use Rattle.heap_region.specs.declared.counts.Counts.{Counts}
 use Rattle.heap_region.specs.declared.quarter.Quarter.{Quarter}
@@ -19,6 +19,11 @@ shown_slot turns (Used seen u) = Some (turned_by (since turns seen) u)
 abbrev pub kept_slot : Slot → Option UsedRegion
 kept_slot Empty = None
 kept_slot (Used seen u) = Some u
+
+-- whether the storage of a region was turned less far than the heap
+abbrev pub late_slot : Quarter → Slot → Bool
+late_slot turns Empty = false
+late_slot turns (Used seen u) = not (is_zero (since turns seen))
 
 -- a place of the table with f of the storage in it
 abbrev pub in_slot : (UsedRegion → UsedRegion) → Slot → Slot

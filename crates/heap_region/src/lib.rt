@@ -435,6 +435,7 @@ impl Regions {
     }
 
     /// Undoes `turn`. Takes constant time, and no memory.
+    #[inline(never)]
     pub fn turn_back(&mut self)
         ensures { self.new
             ≡ record self.old { regions = map (in_used turned_back_region) self.old.regions } }
@@ -442,6 +443,14 @@ impl Regions {
         self.slots.turn_back();
         self.waits.turn();
         self.totals = self.totals.prior();
+    }
+
+    /// Prepares a region for many reads: each takes longer after a turn, until the region is changed. Changes nothing that contracts
+    /// see. Takes constant time, and no memory.
+    pub fn settle(&mut self, region: u64)
+        ensures { self.new ≡ self.old }
+    {
+        self.slots.settle(region as usize);
     }
 
     /// Returns a copy of the object in the cell, which must have one. Fails with NoMemory if its words can't be allocated.
@@ -470,11 +479,11 @@ impl Regions {
             → IsSomeAnd (used_at before.regions at.region) (λ u. slice_get u.free 0 ≡ Some at.cell)
             → self.old ≡ taken at o before → self.new ≡ before }
     {
-        let region = at.region as usize;
-        let (full, was) = self.slots.free(region, at.cell as usize);
-        self.totals = self.totals.without(Some(was));
-        if full {
-            self.free_classes.set(region, self.slots.free_class(region));
+        // With two calls, of which each is the last thing that is done, mostly no register has to be saved.
+        if self.slots.is_late(at.region as usize) {
+            self.free_late(at);
+        } else {
+            self.free_now(at);
         }
     }
 
@@ -651,6 +660,41 @@ impl Regions {
         ensures limit { IfSome result (λ region. region < region_limit) }
     {
         self.slots.first_run(self.area_start, count)
+    }
+
+    // Takes an object out of its cell, in a region whose storage was turned less far than the heap, or any other.
+    #[inline(never)]
+    fn free_late(&mut self, at: ObjRef)
+        requires there { IsSome (object_at self.old.regions at) }
+        requires another { (other : ObjRef) × (other.region ≡ at.region) × (other ≢ at)
+            × IsSome (object_at self.old.regions other) }
+        ensures state { self.new ≡ freed at self.old }
+        ensures back { (before : RegionPool) (o : Object) → IsRegionPool before
+            → IsSomeAnd (used_at before.regions at.region) (λ u. slice_get u.free 0 ≡ Some at.cell)
+            → self.old ≡ taken at o before → self.new ≡ before }
+    {
+        self.settle(at.region as u64);
+        self.free_now(at);
+    }
+
+    // Takes an object out of its cell.
+    #[tactic(auto, using(crate::proofs::SlotChanges::object_slots))]
+    #[inline(always)]
+    fn free_now(&mut self, at: ObjRef)
+        requires there { IsSome (object_at self.old.regions at) }
+        requires another { (other : ObjRef) × (other.region ≡ at.region) × (other ≢ at)
+            × IsSome (object_at self.old.regions other) }
+        ensures state { self.new ≡ freed at self.old }
+        ensures back { (before : RegionPool) (o : Object) → IsRegionPool before
+            → IsSomeAnd (used_at before.regions at.region) (λ u. slice_get u.free 0 ≡ Some at.cell)
+            → self.old ≡ taken at o before → self.new ≡ before }
+    {
+        let region = at.region as usize;
+        let (full, was) = self.slots.free(region, at.cell as usize);
+        self.totals = self.totals.without(Some(was));
+        if full {
+            self.free_classes.set(region, self.slots.free_class(region));
+        }
     }
 
     // Writes a bit of an object, which must be there.

@@ -217,6 +217,9 @@ impl<'a> RegionView<'a> {
         ensures { IfOk result (λ o. cell_object self.now cell ≡ Some o) }
     {
         let mut object = self.storage.object(alloc, cell)?;
+        if self.turns.is(self.seen) {
+            return Ok(object);
+        }
         object.turn_by(self.turns.since(self.seen));
         Ok(object)
     }

@@ -103,7 +103,8 @@ impl ObjectCopy {
         (self.live, self.mark)
     }
 
-    // Turns the bits so many times, modulo 4.
+    // Turns the bits so many times, modulo 4. It is inlined so that an object may stay in registers.
+    #[inline(always)]
     pub(crate) fn turn_by(&mut self, turns: Quarter)
         ensures { self.new ≡ object_turned_by turns self.old }
     {

@@ -15,8 +15,8 @@ use crate::quarter::Quarter;
 use crate::region_view::RegionView;
 use crate::sizes::regions_for;
 use crate::slots::{
-    Slot, free_class_in, free_head_in, free_in, set_bit_in, set_pending_in, set_word_in, take_in,
-    take_out, unfree_in, view_in,
+    Slot, free_class_in, free_head_in, free_in, is_late_in, set_bit_in, set_pending_in,
+    set_word_in, settle_in, take_in, take_out, unfree_in, view_in,
 };
 use crate::storage::{ObjectCopy, Storage};
 use crate::waits::{SETTLED, WAITING};
@@ -246,6 +246,24 @@ impl Slots {
             seen: self.turns,
             storage,
         };
+    }
+
+    // Tells whether a region's storage was turned less far than the heap, which contracts don't see.
+    #[inline(always)]
+    pub(crate) fn is_late(&self, region: usize) -> bool
+        requires { region < length self.now }
+    {
+        is_late_in(&self.slots[region], self.turns)
+    }
+
+    // Turns a region's storage as far as the heap. Contracts see no change.
+    pub(crate) fn settle(&mut self, region: usize)
+        ensures { self.new ≡ self.old }
+    {
+        if region >= self.slots.len() {
+            return;
+        }
+        settle_in(&mut self.slots[region], self.turns);
     }
 
     // Turns all regions in use: each object is live if it was marked, and marked if it wasn't live. A region then waits to be

@@ -38,7 +38,7 @@ impl<'a> Model for RegionView<'a> {
 }
 
 // Returns the two bits of an object, `live` and `mark`, after so many turns.
-pub(crate) fn bits_turned(bits: (bool, bool), turns: Quarter) -> (bool, bool)
+fn bits_turned(bits: (bool, bool), turns: Quarter) -> (bool, bool)
     ensures { (o : Object) → o.live ≡ bits.0 → o.mark ≡ bits.1
         → (result.0 ≡ (object_turned_by turns o).live)
         × (result.1 ≡ (object_turned_by turns o).mark) }
@@ -216,11 +216,9 @@ impl<'a> RegionView<'a> {
         requires { IsSome (cell_object self.now cell) }
         ensures { IfOk result (λ o. cell_object self.now cell ≡ Some o) }
     {
+        let bits = self.bits(cell);
         let mut object = self.storage.object(alloc, cell)?;
-        if self.turns.is(self.seen) {
-            return Ok(object);
-        }
-        object.turn_by(self.turns.since(self.seen));
+        object.set_bits(bits);
         Ok(object)
     }
 

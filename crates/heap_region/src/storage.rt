@@ -5,7 +5,7 @@ ghost use Rattle.heap_region.specs.Regions.{FitsWords, block_words, cell_object}
 ghost use Rattle.heap_region.specs.Pool.{blank_object, cell_freed, fresh_region};
 ghost use Rattle.heap_region.specs.Layout.{IsBlockSize, IsWholeRegion, words_at, changed_at, word_set, bit_of, bit_set, with_bit, cell_filled, Heads, overwritten, header_of};
 ghost use Rattle.heap_region.specs.Slots.{AreCounted};
-ghost use Rattle.heap_region.specs.Turns.{object_turned_by, turned_by, turned_region, turned_back_region};
+ghost use Rattle.heap_region.specs.Turns.{turned_by, turned_region, turned_back_region};
 ghost use Rattle.heap_region.specs.Limits.{cell_limit, heap_words};
 
 use crate::block::Block;
@@ -14,7 +14,7 @@ use crate::counts::Counts;
 use crate::headers::Headers;
 use crate::lists::FreeCells;
 use crate::quarter::Quarter;
-use crate::region_view::{RegionView, bits_turned};
+use crate::region_view::RegionView;
 use crate::sizes::cell_count;
 use heap_class::ObjKind;
 use smallvec::SmallVec;
@@ -103,14 +103,13 @@ impl ObjectCopy {
         (self.live, self.mark)
     }
 
-    // Turns the bits so many times, modulo 4. It is inlined so that an object may stay in registers.
+    // Sets the two bits, `live` and `mark`.
     #[inline(always)]
-    pub(crate) fn turn_by(&mut self, turns: Quarter)
-        ensures { self.new ≡ object_turned_by turns self.old }
+    pub(crate) fn set_bits(&mut self, bits: (bool, bool))
+        ensures { self.new ≡ record self.old { live = bits.0; mark = bits.1 } }
     {
-        let (live, mark) = bits_turned(self.bits(), turns);
-        self.live = live;
-        self.mark = mark;
+        self.live = bits.0;
+        self.mark = bits.1;
     }
 
     // Returns what counts of the object: its header.

@@ -8,7 +8,7 @@ pub returns : goal.returns
 returns c =
     let i = c.self.inside in
     rw (← c.self.view_is) (
-      slot_written i.turns i.slots.items c.args.region _ (get_or (map (shown_slot i.turns) i.slots.items) c.args.region None)
-      (c.settle_in.ensures ∙ slot_shows i.turns i.slots.items c.args.region _ (omega arith) c.index_mut.ensures.value)
-      ∙ set-get_or (map (shown_slot i.turns) i.slots.items) c.args.region None
+    slot_written i.turns i.slots.items c.args.region _ (get_or (map (shown_slot i.turns) i.slots.items) c.args.region None)
+    (c.settle_in.ensures ∙ slot_shows i.turns i.slots.items c.args.region _ (omega arith) c.index_mut.ensures.value)
+    ∙ set-get_or (map (shown_slot i.turns) i.slots.items) c.args.region None
     )

@@ -3,7 +3,6 @@ pub mod NewEvents
 pub mod NewChains
 pub mod NotedLines
 pub mod Comments
-pub mod FollowedFields
 pub mod HelpForms
 pub mod KeptPins
 pub mod NotedSteps

@@ -1,12 +1,10 @@
 -- What a turn of all regions leaves of their tables.
-use Rattle.std.proofs.Common.{◌≡◌, ℕ, zero, suc, ◌+◌, ◌<◌, ◌≤◌, Bool, true, false, not, eqb, ◌&&◌, List, [], ◌∷◌, length, map, Option, Some, None, is_none, IsSome, option_map, get_or, refl, sym, ap, subst, ◌∙◌, arith, rules}
+use Rattle.std.proofs.Common.{◌≡◌, ℕ, zero, suc, ◌<◌, Bool, true, false, not, eqb, ◌&&◌, List, [], ◌∷◌, length, map, Option, Some, None, is_none, option_map, get_or, refl, sym, ap, subst, ◌∙◌, arith}
 use Rattle.std.specs.Prelude.{nat_lt, if◌then◌else◌}
 use Rattle.std.proofs.lemmas.Bool.{ne_eqb}
 use Rattle.std.proofs.lemmas.List.{get_or-map, length-map}
 use Rattle.memchr.specs.Find.{IsFirstByte, is_byte}
-use Rattle.heap_region.specs.Regions.{Object, UsedRegion, Region, Empty, InUse, in_used, used_at}
-use Rattle.heap_region.specs.Layout.{is_vacant}
-use Rattle.heap_region.specs.Legal.{IsArea}
+use Rattle.heap_region.specs.Regions.{UsedRegion, Region, Empty, InUse, in_used}
 use Rattle.heap_region.specs.Table.{AreWaiting, IsRegionTable, IsGood, free_class_of, shown_region, wait_class_of}
 use Rattle.heap_region.specs.Turns.{turned_region, turned_back_region}
 use Rattle.heap_region.specs.Waits.{wait_turned}

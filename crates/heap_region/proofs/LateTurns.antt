@@ -1,10 +1,10 @@
 -- Turns of a region, modulo 4, and of a region whose storage was turned less far than the heap.
-use Rattle.std.proofs.Common.{◌≡◌, ℕ, zero, suc, ◌+◌, ◌<◌, Bool, true, false, not, List, [], ◌∷◌, length, map, Option, Some, None, is_none, is_some, IsSome, IfSome, option_map, get_or, set, refl, sym, ap, subst, ◌∙◌}
-use Rattle.std.proofs.lemmas.List.{length-map, get_or-map, map-set}
+use Rattle.std.proofs.Common.{◌≡◌, ℕ, zero, suc, Bool, true, false, not, List, [], ◌∷◌, length, map, Option, Some, None, is_some, IsSome, IfSome, option_map, get_or, set, refl, sym, ap, ◌∙◌}
+use Rattle.std.proofs.lemmas.List.{length-map}
 use Rattle.heap_class.specs.declared.ObjKind.{ObjKind}
 use Rattle.heap_region.specs.Regions.{Object, UsedRegion, cell_object}
 use Rattle.heap_region.specs.Layout.{IsWholeRegion, changed_at, word_set, words_at, words_of}
-use Rattle.heap_region.specs.Table.{free_class_of, first_in, IsGood}
+use Rattle.heap_region.specs.Table.{free_class_of, first_in}
 use Rattle.heap_region.specs.Turns.{turned_object, turned_back_object, turned_region, turned_back_region, turned_by, object_turned_by}
 use Rattle.heap_region.specs.Quarters.{next_quarter, prior_quarter, since, is_zero}
 use Rattle.heap_region.specs.Slots.{shown_slot}
@@ -16,24 +16,24 @@ use Rattle.heap_region.proofs.TurnedSlots.{turned_region_stays_whole, turned_bac
 
 -- ---- four turns are none
 
-not_of_not : (b : Bool) → not (not b) ≡ b
-not_of_not true = refl
-not_of_not false = refl
+bit_flipped_twice : (b : Bool) → not (not b) ≡ b
+bit_flipped_twice true = refl
+bit_flipped_twice false = refl
 
-turned_cells_turned_back : (cells : List (Option Object)) → map (option_map turned_back_object) (map (option_map turned_object) cells) ≡ cells
-turned_cells_turned_back [] = refl
-turned_cells_turned_back (None ∷ cells) = ap (λ (l : List (Option Object)). None ∷ l) (turned_cells_turned_back cells)
-turned_cells_turned_back (Some o ∷ cells) = λ i. Some (record o { live = not_of_not o.live i }) ∷ turned_cells_turned_back cells i
+cells_turned_and_back : (cells : List (Option Object)) → map (option_map turned_back_object) (map (option_map turned_object) cells) ≡ cells
+cells_turned_and_back [] = refl
+cells_turned_and_back (None ∷ cells) = ap (λ (l : List (Option Object)). None ∷ l) (cells_turned_and_back cells)
+cells_turned_and_back (Some o ∷ cells) = λ i. Some (record o { live = bit_flipped_twice o.live i }) ∷ cells_turned_and_back cells i
 
 turned_back_cells_turned : (cells : List (Option Object)) → map (option_map turned_object) (map (option_map turned_back_object) cells) ≡ cells
 turned_back_cells_turned [] = refl
 turned_back_cells_turned (None ∷ cells) = ap (λ (l : List (Option Object)). None ∷ l) (turned_back_cells_turned cells)
-turned_back_cells_turned (Some o ∷ cells) = λ i. Some (record o { mark = not_of_not o.mark i }) ∷ turned_back_cells_turned cells i
+turned_back_cells_turned (Some o ∷ cells) = λ i. Some (record o { mark = bit_flipped_twice o.mark i }) ∷ turned_back_cells_turned cells i
 
 cells_turned_thrice : (cells : List (Option Object)) → map (option_map turned_object) (map (option_map turned_object) (map (option_map turned_object) cells)) ≡ map (option_map turned_back_object) cells
 cells_turned_thrice [] = refl
 cells_turned_thrice (None ∷ cells) = ap (λ (l : List (Option Object)). None ∷ l) (cells_turned_thrice cells)
-cells_turned_thrice (Some o ∷ cells) = λ i. Some (record o { live = not o.mark; mark = not_of_not o.live i }) ∷ cells_turned_thrice cells i
+cells_turned_thrice (Some o ∷ cells) = λ i. Some (record o { live = not o.mark; mark = bit_flipped_twice o.live i }) ∷ cells_turned_thrice cells i
 
 cells_turned_back_twice : (cells : List (Option Object)) → map (option_map turned_back_object) (map (option_map turned_back_object) cells) ≡ map (option_map turned_object) (map (option_map turned_object) cells)
 cells_turned_back_twice [] = refl
@@ -44,14 +44,14 @@ pub turned_once_more : (q : Quarter) (u : UsedRegion) → turned_region (turned_
 unfolding turned_by turned_region turned_back_region
 turned_once_more Zero u = refl
 turned_once_more One u = refl
-turned_once_more Two u = λ i. record u { pending = not (not_of_not u.pending i); cells = cells_turned_thrice u.cells i }
-turned_once_more Three u = λ i. record u { pending = not_of_not u.pending i; cells = turned_back_cells_turned u.cells i }
+turned_once_more Two u = λ i. record u { pending = not (bit_flipped_twice u.pending i); cells = cells_turned_thrice u.cells i }
+turned_once_more Three u = λ i. record u { pending = bit_flipped_twice u.pending i; cells = turned_back_cells_turned u.cells i }
 
 pub turned_once_less : (q : Quarter) (u : UsedRegion) → turned_back_region (turned_by q u) ≡ turned_by (prior_quarter q) u
 unfolding turned_by turned_region turned_back_region
 turned_once_less Zero u = refl
-turned_once_less One u = λ i. record u { pending = not_of_not u.pending i; cells = turned_cells_turned_back u.cells i }
-turned_once_less Two u = λ i. record u { pending = not (not_of_not u.pending i); cells = turned_cells_turned_back (map (option_map turned_object) u.cells) i }
+turned_once_less One u = λ i. record u { pending = bit_flipped_twice u.pending i; cells = cells_turned_and_back u.cells i }
+turned_once_less Two u = λ i. record u { pending = not (bit_flipped_twice u.pending i); cells = cells_turned_and_back (map (option_map turned_object) u.cells) i }
 turned_once_less Three u = λ i. record u { pending = not (not u.pending); cells = cells_turned_back_twice u.cells i }
 
 -- ---- numbers of turns
@@ -176,8 +176,8 @@ whole_turned One u whole = turned_region_stays_whole u whole
 whole_turned Two u whole = turned_region_stays_whole (turned_region u) (turned_region_stays_whole u whole)
 whole_turned Three u whole = turned_back_region_stays_whole u whole
 
-pub object_there : (q : Quarter) (u : UsedRegion) (cell : ℕ) → is_some (cell_object (turned_by q u) cell) ≡ is_some (cell_object u cell)
-object_there q u cell = ap is_some (cell_of_turned q u cell) ∙ go (cell_object u cell)
+pub object_there_whatever_turns : (q : Quarter) (u : UsedRegion) (cell : ℕ) → is_some (cell_object (turned_by q u) cell) ≡ is_some (cell_object u cell)
+object_there_whatever_turns q u cell = ap is_some (cell_of_turned q u cell) ∙ go (cell_object u cell)
   where
     go : (x : Option Object) → is_some (option_map (object_turned_by q) x) ≡ is_some x
     go None = refl
@@ -193,11 +193,11 @@ there_before_turns q u cell some = go (cell_object u cell) (rw (cell_of_turned q
     go None none = none
     go (Some o) is = refl
 
-kind_kept : (q : Quarter) (o : Object) → (object_turned_by q o).kind ≡ o.kind
-kind_kept Zero o = refl
-kind_kept One o = refl
-kind_kept Two o = refl
-kind_kept Three o = refl
+kind_kept_by_turns : (q : Quarter) (o : Object) → (object_turned_by q o).kind ≡ o.kind
+kind_kept_by_turns Zero o = refl
+kind_kept_by_turns One o = refl
+kind_kept_by_turns Two o = refl
+kind_kept_by_turns Three o = refl
 
 words_kept : (q : Quarter) (o : Object) → (object_turned_by q o).words ≡ o.words
 words_kept Zero o = refl
@@ -210,7 +210,7 @@ kind_of_turned q u cell k h = rw (cell_of_turned q u cell) (go (cell_object u ce
   where
     go : (x : Option Object) → IfSome x (λ o. k ≡ o.kind) → IfSome (option_map (object_turned_by q) x) (λ o. k ≡ o.kind)
     go None h = tt
-    go (Some o) h = h ∙ sym (kind_kept q o)
+    go (Some o) h = h ∙ sym (kind_kept_by_turns q o)
 
 pub words_of_turned : (q : Quarter) (u : UsedRegion) (cell : ℕ) → words_at (turned_by q u) cell ≡ words_at u cell
 words_of_turned q u cell = ap words_of (cell_of_turned q u cell) ∙ go (cell_object u cell)

@@ -130,8 +130,8 @@ object_totalled slots c at was totals told there = go (get_or slots at.region No
         of_cell u (cell_object u at.cell) (object_is_counted c u at.cell lt (subst (AreMoreTotals c) e (region_is_counted slots c at.region (slot_of_object slots at there).2 totals))) (told_object slots at was told there u e)
 
 -- a bit is counted
-pub bit_is_counted : (slots : List (Option UsedRegion)) (c : Counts) (at : ObjRef) (bit : Bit) (was : Bool) → AreTotals slots c → IfSome (slot_object (get_or slots at.region None) at.cell) (λ o. was ≡ bit_of bit o) → IsSome (object_at (map shown_region slots) at) → (mark_counted bit was ≤ c.unmarked) × (live_counted bit was ≤ c.dead)
-bit_is_counted slots c at bit was totals told there = go (get_or slots at.region None) refl (slot_of_object slots at there).1 told
+pub bit_is_totalled : (slots : List (Option UsedRegion)) (c : Counts) (at : ObjRef) (bit : Bit) (was : Bool) → AreTotals slots c → IfSome (slot_object (get_or slots at.region None) at.cell) (λ o. was ≡ bit_of bit o) → IsSome (object_at (map shown_region slots) at) → (mark_counted bit was ≤ c.unmarked) × (live_counted bit was ≤ c.dead)
+bit_is_totalled slots c at bit was totals told there = go (get_or slots at.region None) refl (slot_of_object slots at there).1 told
   where
     of_cell : (bit : Bit) (x : Option Object) → IsSome x → AreMoreObjects c x → IfSome x (λ o. was ≡ bit_of bit o) → (mark_counted bit was ≤ c.unmarked) × (live_counted bit was ≤ c.dead)
     of_cell bit None some more h = absurd (cc)
@@ -165,11 +165,11 @@ totals_of_bit slots c d at bit on totals there was told objects unmarked dead af
       dead = omega (arith, dead);
     }
 
-vacant_is_none : {X : Type 0} (xs : List (Option X)) (cell : ℕ) → is_vacant xs cell ≡ true → get_or xs cell None ≡ None
-vacant_is_none [] cell e = refl
-vacant_is_none (None ∷ xs) zero e = refl
-vacant_is_none (Some x ∷ xs) zero e = cc
-vacant_is_none (x ∷ xs) (suc cell) e = vacant_is_none xs cell e
+vacant_cell_is_none : {X : Type 0} (xs : List (Option X)) (cell : ℕ) → is_vacant xs cell ≡ true → get_or xs cell None ≡ None
+vacant_cell_is_none [] cell e = refl
+vacant_cell_is_none (None ∷ xs) zero e = refl
+vacant_cell_is_none (Some x ∷ xs) zero e = cc
+vacant_cell_is_none (x ∷ xs) (suc cell) e = vacant_cell_is_none xs cell e
 
 -- a cell is filled
 pub totals_of_filled : (slots : List (Option UsedRegion)) (c d : Counts) (at : ObjRef) (o : Object) (n : ℕ) → AreTotals slots c → IsSomeAnd (get_or slots at.region None) (λ u. Heads at.cell u.free × FitsWords u.cell_size n) → ((r : ℕ) → IsGood (get_or slots r None)) → (new : Header) → new ≡ header_of o
@@ -182,7 +182,7 @@ totals_of_filled slots c d at o n totals ready good new is objects unmarked dead
     differ : (u : UsedRegion) → IsGood (Some u) → Heads at.cell u.free → (at.cell < length u.cells) × DifferIn c d (cell_object u at.cell) (Some o)
     differ u good heads =
         let vacant : is_vacant u.cells at.cell ≡ true = sym (good.0.vacant at.cell) ∙ heads_listed at.cell u.free heads in
-        let none : cell_object u at.cell ≡ None = vacant_is_none u.cells at.cell vacant in (
+        let none : cell_object u at.cell ≡ None = vacant_cell_is_none u.cells at.cell vacant in (
           vacant_within u.cells at.cell vacant,
           subst (λ x. DifferIn c d x (Some o)) (sym none) (record {
             objects = omega (arith, objects);
@@ -210,8 +210,8 @@ totals_of_freed slots c d at totals there was told objects unmarked dead after i
 -- ---- a region's class and its flag
 
 -- a region is written, and told whether it waits
-pub waits_told : (slots : List (Option UsedRegion)) (waits : List ℕ) (r : ℕ) (x : Option UsedRegion) → AreWaiting slots waits → r < length slots → (after : List (Option UsedRegion)) → after ≡ set slots r x → AreWaiting after (set waits r (wait_class_of (get_or after r None)))
-waits_told slots waits r x e lt after is =
+pub waits_told_anew : (slots : List (Option UsedRegion)) (waits : List ℕ) (r : ℕ) (x : Option UsedRegion) → AreWaiting slots waits → r < length slots → (after : List (Option UsedRegion)) → after ≡ set slots r x → AreWaiting after (set waits r (wait_class_of (get_or after r None)))
+waits_told_anew slots waits r x e lt after is =
     rw (region_written slots after r x is lt) (subst (λ l. AreWaiting l (set waits r (wait_class_of x))) (sym is) (waiting_classes_after_slot_set slots waits r x e))
 
 -- a flag is written

@@ -3,12 +3,12 @@ use Rattle.std.proofs.Common.{◌≡◌, ◌≢◌, ℕ, zero, suc, [], ◌∷�
 use Rattle.std.specs.Prelude.{slice_get}
 use Rattle.std.proofs.lemmas.List.{length-map, get_or-map, set-get_or}
 use Rattle.heap_class.specs.declared.ObjRef.{ObjRef}
-use Rattle.heap_region.specs.Regions.{Object, UsedRegion, FitsWords, used_at, object_at, slot_object, with_object, with_region}
+use Rattle.heap_region.specs.Regions.{Object, UsedRegion, FitsWords, used_at, object_at, slot_object, with_object}
 use Rattle.heap_region.specs.Changes.{with_pending}
 use Rattle.heap_region.specs.Pool.{RegionPool, taken, freed, cell_freed}
 use Rattle.heap_region.specs.Layout.{IsWholeRegion, changed_at, cell_filled, pending_set}
 use Rattle.heap_region.specs.Table.{shown_region, first_in, free_class_of, IsRegionTable, IsGood}
-use Rattle.heap_region.proofs.ShownRegions.{object_shown, pending_shown, seen, shown_regions_with_changed_object, shown_regions_with_one_changed, shown_regions_with_taken_cell, slot_of_object_is_used, freed_shown, used_region_is_slot, with_regions}
+use Rattle.heap_region.proofs.ShownRegions.{object_shown, pending_shown, seen, shown_regions_with_changed_object, shown_regions_with_taken_cell, slot_of_object_is_used, freed_shown, used_region_is_slot, with_regions}
 use Rattle.heap_region.proofs.Tables.{table_changed, table_with_region_of_same_room, in_use_within, size_in, slot_with_property_is_used, take_ready, good_region_with_taken_cell, good_region_with_freed_cell, good_region_with_changed_object, mapped_some, room_kept, pending_kept, class_kept_by_room, class_without_room, headed_region_has_room, freed_region_has_room}
 
 -- a change that keeps the size of cells

@@ -1,18 +1,18 @@
 -- What is read and written of one region, where its storage was turned less far than the heap.
-use Rattle.std.proofs.Common.{◌≡◌, ℕ, zero, suc, ◌<◌, Bool, true, false, List, [], ◌∷◌, length, map, Option, Some, None, IsSome, option_map, get_or, set, refl, sym, ap, subst, ◌∙◌, arith, replicate}
+use Rattle.std.proofs.Common.{◌≡◌, ℕ, zero, suc, ◌<◌, List, [], ◌∷◌, length, map, Option, None, IsSome, option_map, get_or, set, refl, sym, ap, ◌∙◌, arith, replicate}
 use Rattle.std.proofs.lemmas.List.{get_or-map, length-map, map-set}
 use Rattle.heap_region.specs.Regions.{UsedRegion}
 use Rattle.heap_region.specs.Slots.{shown_slot}
 use Rattle.heap_region.specs.declared.quarter.Quarter.{Quarter}
 use Rattle.heap_region.specs.declared.slots.Slot.{Slot}
-use Rattle.heap_region.specs.declared.slots.Slot.TheVariants.{Empty, Used}
+use Rattle.heap_region.specs.declared.slots.Slot.TheVariants.{Empty}
 use Rattle.heap_region.proofs.Tables.{in_use_within}
 
 -- the slot that an index finds, whatever stands for one that is missing
-slot_found : (slots : List Slot) (r : ℕ) (found : Slot) → r < length slots → found ≡ get_or slots r found → (other : Slot) → get_or slots r other ≡ found
-slot_found [] r found lt is other = absurd (omega arith)
-slot_found (x ∷ slots) zero found lt is other = sym is
-slot_found (x ∷ slots) (suc r) found lt is other = slot_found slots r found (omega arith) is other
+slot_found_by_index : (slots : List Slot) (r : ℕ) (found : Slot) → r < length slots → found ≡ get_or slots r found → (other : Slot) → get_or slots r other ≡ found
+slot_found_by_index [] r found lt is other = absurd (omega arith)
+slot_found_by_index (x ∷ slots) zero found lt is other = sym is
+slot_found_by_index (x ∷ slots) (suc r) found lt is other = slot_found_by_index slots r found (omega arith) is other
 
 -- is the region that is shown
 pub slot_shows : (turns : Quarter) (slots : List Slot) (r : ℕ) (found : Slot) → r < length slots → found ≡ get_or slots r found → shown_slot turns found ≡ get_or (map (shown_slot turns) slots) r None

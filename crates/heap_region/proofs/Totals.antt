@@ -1,18 +1,16 @@
 -- How many objects all regions have, and of how many a bit isn't set.
-use Rattle.std.proofs.Common.{◌≡◌, ℕ, zero, suc, ◌+◌, ◌-◌, ◌*◌, ◌<◌, ◌≤◌, Bool, true, false, not, cond, List, [], ◌∷◌, length, map, Option, Some, None, is_some, IsSome, option_map, get_or, set, refl, sym, ap, ap₂, subst, ◌∙◌, arith, length-set, replicate}
+use Rattle.std.proofs.Common.{◌≡◌, ℕ, zero, suc, ◌+◌, ◌-◌, ◌*◌, ◌<◌, ◌≤◌, Bool, true, false, not, cond, List, [], ◌∷◌, length, map, Option, Some, None, is_some, option_map, get_or, set, refl, sym, ap, ap₂, ◌∙◌, arith, replicate}
 use Rattle.std.specs.Prelude.{count_by}
 use Rattle.std.specs.List.{sum_by}
 use Rattle.std.proofs.lemmas.List.Sums.{sum_by-cons, sum_by-set, get_or-le-sum_by, count_by-le-length}
-use Rattle.heap_region.specs.Regions.{Object, UsedRegion, Region, used_part, cell_object}
+use Rattle.heap_region.specs.Regions.{Object, UsedRegion, Region, used_part}
 use Rattle.heap_region.specs.Layout.{IsWholeRegion}
 use Rattle.heap_region.specs.Live.{cells_of, is_dead, is_live}
 use Rattle.heap_region.specs.Slots.{AreCounted, AreTotals, objects_in_slot, dead_in_slot}
 use Rattle.heap_region.specs.Table.{IsGood, shown_region}
-use Rattle.heap_region.specs.Turns.{is_unmarked, turned_object, turned_back_object, turned_region, turned_back_region, turned_by, unmarked_in, unmarked_total}
+use Rattle.heap_region.specs.Turns.{is_unmarked, turned_object, turned_back_object, turned_region, turned_back_region, unmarked_in, unmarked_total}
 use Rattle.heap_region.specs.TurnedHeaders.{one_if}
 use Rattle.heap_region.specs.declared.counts.Counts.{Counts}
-use Rattle.heap_region.specs.declared.quarter.Quarter.{Quarter}
-use Rattle.heap_region.specs.declared.quarter.Quarter.TheVariants.{Zero, One, Two, Three}
 use Rattle.heap_region.proofs.BlockSizes.{few_cells}
 
 -- ---- a turn of one region
@@ -48,16 +46,16 @@ counted_in_parts p q no_p no_q is (x ∷ cells) =
     go None = rw (no_p, no_q) refl
     go (Some o) = both (p (Some o)) (q (Some o)) (is o)
 
-abbrev is_marked : Option Object → Bool
-is_marked None = false
-is_marked (Some o) = o.mark
+abbrev cell_is_marked : Option Object → Bool
+cell_is_marked None = false
+cell_is_marked (Some o) = o.mark
 
 not_not : (b : Bool) → b ≡ not (not b)
 not_not true = refl
 not_not false = refl
 
-marked_and_unmarked : (cells : List (Option Object)) → count_by is_marked cells + count_by is_unmarked cells ≡ count_by is_some cells
-marked_and_unmarked = counted_in_parts is_marked is_unmarked refl refl (λ o. not_not o.mark)
+marked_and_unmarked : (cells : List (Option Object)) → count_by cell_is_marked cells + count_by is_unmarked cells ≡ count_by is_some cells
+marked_and_unmarked = counted_in_parts cell_is_marked is_unmarked refl refl (λ o. not_not o.mark)
 
 live_and_dead : (cells : List (Option Object)) → count_by is_live cells + count_by is_dead cells ≡ count_by is_some cells
 live_and_dead = counted_in_parts is_live is_dead refl refl (λ o. not_not o.live)
@@ -65,8 +63,8 @@ live_and_dead = counted_in_parts is_live is_dead refl refl (λ o. not_not o.live
 pub dead_at_most : (cells : List (Option Object)) (c : Counts) → AreCounted cells c → c.dead ≤ c.objects
 dead_at_most cells c is = omega (arith, is.objects, is.dead, live_and_dead cells)
 
-pub live_counted : (cells : List (Option Object)) (c : Counts) → AreCounted cells c → c.objects - c.dead ≡ count_by is_live cells
-live_counted cells c is = omega (arith, is.objects, is.dead, live_and_dead cells)
+pub live_cells_counted : (cells : List (Option Object)) (c : Counts) → AreCounted cells c → c.objects - c.dead ≡ count_by is_live cells
+live_cells_counted cells c is = omega (arith, is.objects, is.dead, live_and_dead cells)
 
 pub few_counted : (u : UsedRegion) (p : Option Object → Bool) → IsWholeRegion u → count_by p u.cells ≤ 256
 few_counted u p whole = omega (arith, count_by-le-length p u.cells, few_cells u.cell_size (length u.cells) whole.sized whole.covers)
@@ -81,11 +79,11 @@ counted_turned cells c d is objects unmarked dead = record {
   dead = omega (arith, counted_alike is_dead is_unmarked turned_object refl (λ o. refl) cells, dead, is.unmarked);
 }
 
-pub counted_turned_back : (cells : List (Option Object)) (c d : Counts) → AreCounted cells c → d.objects ≡ c.objects → d.unmarked ≡ c.dead → d.dead + c.unmarked ≡ c.objects → AreCounted (map (option_map turned_back_object) cells) d
-counted_turned_back cells c d is objects unmarked dead = record {
+pub cells_counted_turned_back : (cells : List (Option Object)) (c d : Counts) → AreCounted cells c → d.objects ≡ c.objects → d.unmarked ≡ c.dead → d.dead + c.unmarked ≡ c.objects → AreCounted (map (option_map turned_back_object) cells) d
+cells_counted_turned_back cells c d is objects unmarked dead = record {
   objects = omega (arith, counted_alike is_some is_some turned_back_object refl (λ o. refl) cells, objects, is.objects);
   unmarked = omega (arith, counted_alike is_unmarked is_dead turned_back_object refl (λ o. refl) cells, unmarked, is.dead);
-  dead = omega (arith, counted_alike is_dead is_marked turned_back_object refl (λ o. sym (not_not o.mark)) cells, marked_and_unmarked cells, dead, is.unmarked, is.objects);
+  dead = omega (arith, counted_alike is_dead cell_is_marked turned_back_object refl (λ o. sym (not_not o.mark)) cells, marked_and_unmarked cells, dead, is.unmarked, is.objects);
 }
 
 -- ---- all regions
@@ -106,7 +104,7 @@ abbrev live_in_slot : Option UsedRegion → ℕ
 live_in_slot x = count_by is_live (cells_of x)
 
 abbrev marked_in_slot : Option UsedRegion → ℕ
-marked_in_slot x = count_by is_marked (cells_of x)
+marked_in_slot x = count_by cell_is_marked (cells_of x)
 
 live_and_dead_summed : (slots : List (Option UsedRegion)) → sum_by live_in_slot slots + sum_by dead_in_slot slots ≡ sum_by objects_in_slot slots
 live_and_dead_summed = summed_in_parts live_in_slot dead_in_slot objects_in_slot (λ x. live_and_dead (cells_of x))
@@ -142,7 +140,7 @@ pub totals_turned_back : (slots : List (Option UsedRegion)) (c d : Counts) → A
 totals_turned_back slots c d is objects unmarked dead = record {
   objects = omega (arith, summed_alike objects_in_slot objects_in_slot turned_back_region (slot_counted_back is_some is_some refl (λ o. refl)) slots, objects, is.objects);
   unmarked = omega (arith, summed_alike unmarked_in dead_in_slot turned_back_region (slot_counted_back is_unmarked is_dead refl (λ o. refl)) slots, unmarked, is.dead);
-  dead = omega (arith, summed_alike dead_in_slot marked_in_slot turned_back_region (slot_counted_back is_dead is_marked refl (λ o. sym (not_not o.mark))) slots, marked_and_unmarked_summed slots, dead, is.unmarked, is.objects);
+  dead = omega (arith, summed_alike dead_in_slot marked_in_slot turned_back_region (slot_counted_back is_dead cell_is_marked refl (λ o. sym (not_not o.mark))) slots, marked_and_unmarked_summed slots, dead, is.unmarked, is.objects);
 }
 
 -- the regions show those that aren't marked

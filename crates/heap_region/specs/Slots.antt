@@ -1,5 +1,5 @@
 -- For proofs: regions whose storages were turned as far as the heap was when they were last changed.
-use Rattle.std.specs.Prelude.{◌≡◌, ℕ, Bool, false, not, List, Option, Some, None, is_some, option_map, count_by}
+use Rattle.std.specs.Prelude.{◌≡◌, ℕ, Bool, false, not, List, Option, Some, None, is_some, count_by}
 use Rattle.std.specs.List.{sum_by}
 use Rattle.heap_region.specs.Regions.{Object, UsedRegion}
 use Rattle.heap_region.specs.Live.{cells_of, is_dead}

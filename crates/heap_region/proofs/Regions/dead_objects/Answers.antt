@@ -1,7 +1,7 @@
 use Rattle.std.proofs.Common.{arith, sym, ap, ◌∙◌}
 use Rattle.std.specs.Prelude.{count_by}
-use Rattle.heap_region.specs.Live.{cells_of, is_dead, is_live}
-use Rattle.heap_region.proofs.Totals.{dead_at_most, few_counted, live_counted}
+use Rattle.heap_region.specs.Live.{cells_of, is_dead}
+use Rattle.heap_region.proofs.Totals.{few_counted}
 use Rattle.heap_region.proofs.Regions.dead_objects.Goals as goal
 
 pub returns-clause-value : goal.returns-clause-value

@@ -1,6 +1,6 @@
 use Rattle.std.proofs.Common.{refl}
 use Rattle.heap_region.specs.Layout.{bit_set, changed_at}
-use Rattle.heap_region.proofs.SlotCalls.{bit_is_counted, object_changed_in, totals_of_bit, waits_of_changed}
+use Rattle.heap_region.proofs.SlotCalls.{bit_is_totalled, object_changed_in, totals_of_bit, waits_of_changed}
 use Rattle.heap_region.proofs.SlotChanges.{slot_of_object}
 use Rattle.heap_region.proofs.Totals.{totals_are_few}
 use Rattle.heap_region.proofs.Regions.set_bit.Goals as goal
@@ -12,10 +12,10 @@ pub with_bit-self-inside-requires-clause-dead : goal.with_bit-self-inside-requir
 with_bit-self-inside-requires-clause-dead c = (totals_are_few c.self.inside.slots _ c.self.invariant.0.good c.self.invariant.0.few c.self.invariant.2).dead
 
 pub with_bit-self-inside-requires-clause-marks : goal.with_bit-self-inside-requires-clause-marks
-with_bit-self-inside-requires-clause-marks c = (bit_is_counted c.self.inside.slots _ c.args.at c.args.bit _ c.self.invariant.2 c.set_bit-was.ensures.was (rw (← c.self.view_is) at c.requires)).0
+with_bit-self-inside-requires-clause-marks c = (bit_is_totalled c.self.inside.slots _ c.args.at c.args.bit _ c.self.invariant.2 c.set_bit-was.ensures.was (rw (← c.self.view_is) at c.requires)).0
 
 pub with_bit-self-inside-requires-clause-lives : goal.with_bit-self-inside-requires-clause-lives
-with_bit-self-inside-requires-clause-lives c = (bit_is_counted c.self.inside.slots _ c.args.at c.args.bit _ c.self.invariant.2 c.set_bit-was.ensures.was (rw (← c.self.view_is) at c.requires)).1
+with_bit-self-inside-requires-clause-lives c = (bit_is_totalled c.self.inside.slots _ c.args.at c.args.bit _ c.self.invariant.2 c.set_bit-was.ensures.was (rw (← c.self.view_is) at c.requires)).1
 
 pub invariant_of-self : goal.invariant_of-self
 invariant_of-self c =

@@ -1,4 +1,4 @@
-use Rattle.std.proofs.Common.{ap, sym, ◌∙◌}
+use Rattle.std.proofs.Common.{ap, ◌∙◌}
 use Rattle.heap_region.specs.Turns.{turned_region}
 use Rattle.heap_region.proofs.AllTurned.{mapped_regions_shown, table_turned, waits_turned}
 use Rattle.heap_region.proofs.ShownRegions.{with_regions}

@@ -1,6 +1,6 @@
 use Rattle.std.proofs.Common.{arith, map, option_map}
 use Rattle.heap_region.specs.Turns.{turned_by, turned_object, turned_region, turned_back_region}
-use Rattle.heap_region.proofs.Totals.{counted_turned, counted_turned_back, dead_at_most, unmarked_at_most}
+use Rattle.heap_region.proofs.Totals.{counted_turned, cells_counted_turned_back, dead_at_most, unmarked_at_most}
 use Rattle.heap_region.proofs.region_view.counts_turned.Goals as goal
 
 pub next-requires : goal.next-requires
@@ -31,4 +31,4 @@ returns-in-Two c u is =
 
 pub returns-in-Three : goal.returns-in-Three
 unfolding turned_by turned_back_region
-returns-in-Three c u is = rw c.in-Three.is (counted_turned_back u.cells _ _ is c.prior.ensures.objects c.prior.ensures.unmarked c.prior.ensures.dead)
+returns-in-Three c u is = rw c.in-Three.is (cells_counted_turned_back u.cells _ _ is c.prior.ensures.objects c.prior.ensures.unmarked c.prior.ensures.dead)

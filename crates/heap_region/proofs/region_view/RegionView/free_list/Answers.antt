@@ -1,4 +1,4 @@
-use Rattle.std.proofs.Common.{sym, ap, subst, ◌∙◌}
+use Rattle.std.proofs.Common.{sym, ◌∙◌}
 use Rattle.heap_region.specs.Quarters.{since}
 use Rattle.heap_region.proofs.LateTurns.{free_of_turned}
 use Rattle.heap_region.proofs.region_view.RegionView.free_list.Goals as goal

@@ -1,4 +1,4 @@
-use Rattle.std.proofs.Common.{length, get_or, sym, ap, ◌∙◌}
+use Rattle.std.proofs.Common.{get_or, sym, ap, ◌∙◌}
 use Rattle.heap_region.specs.Quarters.{since}
 use Rattle.heap_region.proofs.LateTurns.{words_of_turned}
 use Rattle.heap_region.proofs.region_view.RegionView.word.Goals as goal

@@ -1,5 +1,5 @@
 use Rattle.heap_region.specs.Regions.{block_words}
-use Rattle.std.proofs.Common.{sym, ap, subst, ◌∙◌}
+use Rattle.std.proofs.Common.{sym, ap, ◌∙◌}
 use Rattle.heap_region.specs.Quarters.{since}
 use Rattle.heap_region.proofs.LateTurns.{size_of_turned}
 use Rattle.heap_region.proofs.region_view.RegionView.word_count.Goals as goal

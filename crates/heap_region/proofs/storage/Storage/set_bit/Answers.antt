@@ -1,4 +1,4 @@
-use Rattle.heap_region.proofs.Cells.{bit_shown, header_here}
+use Rattle.heap_region.proofs.Cells.{bit_of_cell_shown, header_here}
 use Rattle.heap_region.proofs.CellChanges.{bit_written, whole_shown}
 use Rattle.heap_region.proofs.storage.Storage.set_bit.Goals as goal
 
@@ -23,4 +23,4 @@ returns-clause-whole c =
 pub returns-clause-was : goal.returns-clause-was
 returns-clause-was c =
     let i = c.self.inside in
-    rw (← c.self.view_is) (bit_shown i.cell_size i.block.words i.block.headers c.args.cell c.args.bit _ c.set_bit.ensures.was)
+    rw (← c.self.view_is) (bit_of_cell_shown i.cell_size i.block.words i.block.headers c.args.cell c.args.bit _ c.set_bit.ensures.was)

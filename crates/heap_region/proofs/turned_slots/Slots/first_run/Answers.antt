@@ -1,5 +1,4 @@
-use Rattle.std.proofs.Common.{◌≡◌, None, arith, get_or, sym, ◌∙◌}
-use Rattle.std.proofs.lemmas.List.{get_or_read}
+use Rattle.std.proofs.Common.{arith}
 use Rattle.heap_region.proofs.Runs.{no_run_found, run_found, scan_begins, scan_past_empty, scan_past_object}
 use Rattle.heap_region.proofs.turned_slots.Slots.first_run.Goals.{in-Some, in_default+else-region-first}
 use Rattle.heap_region.proofs.turned_slots.Slots.first_run.Goals as goal

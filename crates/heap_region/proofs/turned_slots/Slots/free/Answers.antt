@@ -1,11 +1,10 @@
 use Rattle.std.proofs.Common.{◌≡◌, arith, IsSome, IfSome, is_none, sym, subst, ap, ◌∙◌}
-use Rattle.heap_region.specs.Layout.{IsWholeRegion, bit_set, header_of, cell_filled, changed_at, pending_set, word_set}
-use Rattle.heap_region.specs.Pool.{blank_object, cell_freed}
+use Rattle.heap_region.specs.Layout.{IsWholeRegion, header_of}
+use Rattle.heap_region.specs.Pool.{cell_freed}
 use Rattle.heap_region.specs.Regions.{slot_object}
 use Rattle.heap_region.specs.Table.{first_in}
 use Rattle.heap_region.proofs.ShownRegions.{slot_of_object_is_used}
 use Rattle.heap_region.proofs.SlotReads.{slot_changed, slot_read_again, slot_shows, used_slot_within}
-use Rattle.heap_region.proofs.Tables.{slot_with_property_is_used}
 use Rattle.heap_region.proofs.turned_slots.Slots.free.Goals as goal
 
 pub index_mut-requires : goal.index_mut-requires

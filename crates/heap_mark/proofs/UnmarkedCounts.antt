@@ -1,11 +1,10 @@
 -- How many objects aren't marked, and aren't live after a turn.
-use Rattle.std.proofs.Common.{◌≡◌, ℕ, zero, suc, ◌+◌, ◌<◌, ◌≤◌, Bool, false, not, cond, List, [], ◌∷◌, length, drop, map, get_or, Option, Some, None, refl, sym, ap, ap₂, ◌∙◌, arith}
-use Rattle.std.specs.Prelude.{is_some, count_by, option_map, flat_map}
-use Rattle.std.specs.List.{filter_map, enumerate_from, sum_by}
-use Rattle.std.proofs.lemmas.List.{at_drop_more, at_drop_all}
+use Rattle.std.proofs.Common.{◌≡◌, ℕ, ◌+◌, Bool, not, cond, List, [], ◌∷◌, map, Option, Some, None, refl, sym, ap, ap₂, ◌∙◌, arith}
+use Rattle.std.specs.Prelude.{count_by, option_map, flat_map}
+use Rattle.std.specs.List.{filter_map, enumerate_from}
 use Rattle.std.proofs.lemmas.List.Sums.{sum_by-append, sum_by-cons}
 use Rattle.heap_class.specs.declared.ObjRef.{ObjRef}
-use Rattle.heap_region.specs.Regions.{Object, UsedRegion, Region, Empty, InUse, used_part, used_at, objects_of_region, objects_in, in_used}
+use Rattle.heap_region.specs.Regions.{Object, Region, Empty, InUse, used_part, objects_of_region, objects_in, in_used}
 use Rattle.heap_region.specs.Turns.{turned_object, turned_region, is_unmarked, unmarked_in, unmarked_total}
 use Rattle.heap_mark.specs.MarkSteps.{each_region, dead_count}
 

@@ -40,7 +40,7 @@ returns-in-Some-clause-next g c =
     subst (λ (p : Route). IsNextPath image earlier c.args.id p) (sym (route_is path (way.register / slot_span) ((way.register % slot_span) ∷ reverse (slots_of way.hops.items)) c.in_ok-path-in-Some.ensures.register (ap slots_of c.in_ok-path-in-Some.ensures.hops ∙ ap (λ (l : List ℕ). (way.register % slot_span) ∷ l) (slots_reversed way.hops.items))))
     (next_by_slot image earlier c.args.id way.register (reverse (slots_of way.hops.items)) c.classes-classes.ensures.limits c.requires.used found)
 
-pub path_from_start-requires : goal.path_from_start-path-requires
+pub path_from_start-requires : goal.path_from_start-requires
 path_from_start-requires g c =
     let image = g.V.View.image c.args.view.now in
     let earlier = map route_of c.args.paths.now in

@@ -1,6 +1,6 @@
 -- The rows of several paths.
-use Rattle.std.proofs.Common.{◌≡◌, ◌∙◌, ◌++◌, ◌<◌, ℕ, List, [], ◌∷◌, ap, get_or, length, map, refl, subst, sym, arith}
-use Rattle.std.specs.Prelude.{All, IsSome, Option, Some, None, flat_map, option_map, slice_get}
+use Rattle.std.proofs.Common.{◌≡◌, ◌∙◌, ◌++◌, ◌<◌, ℕ, List, [], ◌∷◌, ap, length, map, refl, sym, arith}
+use Rattle.std.specs.Prelude.{All, IsSome, Option, Some, None, flat_map}
 use Rattle.std.specs.List.{AllByRecursion}
 use Rattle.std.specs.Option.{option_map_or}
 use Rattle.std.proofs.lemmas.List.{length-map}

@@ -1,10 +1,10 @@
 -- The lines of a path with its ids are those of its slots.
-use Rattle.std.proofs.Common.{◌≡◌, ◌∙◌, ◌++◌, ◌∷◌, ℕ, List, [], Option, Some, None, ap, inl, inr, length, refl, subst, sym}
+use Rattle.std.proofs.Common.{◌≡◌, ◌∙◌, ◌++◌, ◌∷◌, ℕ, List, [], Option, Some, None, ap, inl, inr, length, refl, sym}
 use Rattle.std.specs.Prelude.{IsSome}
 use Rattle.std.specs.Option.{option_map_or}
 use Rattle.std.proofs.lemmas.List.{length-map}
 use Rattle.hprof_text.specs.Image.{DumpedObject, Image}
-use Rattle.heap_questions.specs.Graph.{HasId, IsFirstPath, IsPathTo, IsShortest, IsUnreached, object_with}
+use Rattle.heap_questions.specs.Graph.{IsFirstPath, IsPathTo, IsShortest, IsUnreached, object_with}
 use Rattle.heap_questions.specs.Hops.{AreHops, TellsIds, slots_of}
 use Rattle.heap_questions.specs.declared.paths.Hop.{Hop}
 use Rattle.heap_questions.specs.declared.paths.Path.{Path}

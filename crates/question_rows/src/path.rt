@@ -14,6 +14,7 @@ use std::alloc::{AllocError, Global};
 
 /// Returns the answer of `path` about a view. Fails with NoObject if the id names no object, with Unreachable if no register
 /// reaches it, and with NoMemory if an allocation fails. Reads each object a few times, however long the path is.
+#[tactic(auto, using(crate::proofs::PathTexts::path_told, crate::proofs::PathTexts::no_path_told))]
 pub fn path_answer<V: View>(alloc: Global, view: &V, id: u64) -> Result<Vec<u8>, Unanswered>
     ensures { IsToldOf (IsPathText id) (V.image view.now) (told_text result) }
 {

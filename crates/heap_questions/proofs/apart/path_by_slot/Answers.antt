@@ -3,7 +3,7 @@ use Rattle.std.specs.Prelude.{reverse, slice_get}
 use Rattle.heap_questions.specs.Hops.{AreHops, slots_of}
 use Rattle.heap_questions.specs.PathsApart.{IsNextPath, Route, route_of}
 use Rattle.heap_questions.specs.Search.{HasSearchedFor, slot_span}
-use Rattle.heap_questions.specs.Starts.{first_hop, with_starts}
+use Rattle.heap_questions.specs.Starts.{with_starts}
 use Rattle.heap_questions.specs.declared.search.Entry.{Entry}
 use Rattle.heap_questions.proofs.FoundPaths.{none_found, path_back}
 use Rattle.heap_questions.proofs.PathStarts.{next_by_slot, none_by_slot, route_is}

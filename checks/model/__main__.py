@@ -9,8 +9,10 @@ The model is a program of its own: it was written from the description of the pr
 shares nothing with the code that is proved."""
 import concurrent.futures
 import os
+import pathlib
 import subprocess
 import sys
+import tempfile
 
 from asks import LEAST, WANTED, AskingDraw
 from draws import Draw
@@ -93,13 +95,18 @@ def checked(name, programs):
     lines = [*draw.lines, (end, last)]
     words = [f"--{option}={value}" for option, value in draw.settings.items()]
     found = []
+    asks = isinstance(draw, AskingDraw)
     for program in programs:
-        task = "explore" if isinstance(draw, AskingDraw) else "run"
-        ran = subprocess.run([program, task, *words], input=given(draw, end), capture_output=True, timeout=SECONDS)
+        with tempfile.TemporaryDirectory() as folder:
+            how = {"input": given(draw, end), "capture_output": True, "timeout": SECONDS, "cwd": folder}
+            ran = subprocess.run([program, "explore" if asks else "run", *words], **how)
+            made = {path.name: path.read_bytes() for path in pathlib.Path(folder).iterdir()}
         if ran.stdout != b"".join(answer for _, answer in lines):
             found.append(f"{program}, session {name}: {difference(lines, ran.stdout)}")
         elif [ran.returncode, ran.stderr] != wanted:
             found.append(f"{program}, session {name}: status {ran.returncode}, {ran.stderr!r:.100}, and must be {wanted}")
+        elif made != (draw.session.files if asks else {}):
+            found.append(f"{program}, session {name}: makes other files, among {sorted(made)}")
     return found, draw.machine.sights
 
 

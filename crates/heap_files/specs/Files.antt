@@ -87,14 +87,17 @@ IsPictureAnswer acts path f answer f' =
 
 -- ---- the end of a file
 
+-- why a file wasn't written whose text was cut short so
+abbrev pub reason_of : DumpCut → Unwritten
+reason_of Failed = NoFile
+reason_of Memory = Refused NoMemory
+
 -- a file to which a text was put out so is kept if it is whole, else removed
 abbrev pub IsFinished : {F : Type 0} → FolderActs F → List ℕ → Outgoing → F
     → Result (Unit {0}) DumpCut → F → Result (Unit {0}) Unwritten → Type 0
 IsFinished acts path w f (Ok done) f' result = acts.keeps f path w f' × (result ≡ Ok done)
-IsFinished acts path w f (Err Failed) f' result =
-    acts.removes f path w f' × (result ≡ Err NoFile)
-IsFinished acts path w f (Err Memory) f' result =
-    acts.removes f path w f' × (result ≡ Err (Refused NoMemory))
+IsFinished acts path w f (Err cut) f' result =
+    acts.removes f path w f' × (result ≡ Err (reason_of cut))
 
 -- the answer to a line that asks for a file with this text, which was made and has put out this
 abbrev pub IsAnswerOfMade : {F : Type 0} → FolderActs F → List ℕ → List ℕ → Outgoing → F → List ℕ

@@ -4,7 +4,7 @@ ghost use Rattle.hprof_text.specs.Segments.{dump_text};
 ghost use Rattle.session_text.specs.Replies.{line_answer_text};
 ghost use Rattle.question_words.specs.Moments.{image_at};
 ghost use Rattle.question_text.specs.StateDumps.{IsBegun};
-ghost use Rattle.heap_files.specs.Files.{IsAnswerOfMade, IsDumpAnswer, IsFileAnswer, IsFinished, IsPictureAnswer, written_text};
+ghost use Rattle.heap_files.specs.Files.{IsAnswerOfMade, IsDumpAnswer, IsFileAnswer, IsFinished, IsPictureAnswer, reason_of, written_text};
 
 use crate::folder::Folder;
 use heap_class::Refusal;
@@ -118,14 +118,20 @@ fn finish<F: Folder>(
             folder.keep(path, file);
             Ok(())
         }
-        Err(DumpCut::Failed) => {
+        Err(cut) => {
             folder.remove(path, file);
-            Err(Unwritten::NoFile)
+            Err(reason_of(cut))
         }
-        Err(DumpCut::Memory) => {
-            folder.remove(path, file);
-            Err(Unwritten::Refused(Refusal::NoMemory))
-        }
+    }
+}
+
+// Returns the reason why a file wasn't written whose dump was cut short so.
+fn reason_of(cut: DumpCut) -> Unwritten
+    ensures { result ≡ reason_of cut }
+{
+    match cut {
+        DumpCut::Failed => Unwritten::NoFile,
+        DumpCut::Memory => Unwritten::Refused(Refusal::NoMemory),
     }
 }
 

@@ -54,6 +54,6 @@ put_cut ids image time i bytes w m w' h is k =
     subst (λ (t : List ℕ). IsTextWritten t w w' false) (front_more ids image time i h.0 bytes (h.0 ++ bytes) h.1 is refl)
     (cut_before_more (h.0 ++ bytes) (concat (drop (i + 1) (pieces_of ids image time))) w w' (two_texts_written_in_turn h.0 bytes w m w' false h.2 k))
 
-pub put_part : (ids : IdSize) (image : Image) (time i : ℕ) (w w' : Outgoing) → IsPutTo ids image time i w w'
+pub put_beginning : (ids : IdSize) (image : Image) (time i : ℕ) (w w' : Outgoing) → IsPutTo ids image time i w w'
     → IsDumpPut (dump_text ids image time) w w' (Err Memory)
-put_part ids image time i w w' h = (h.0, concat (drop i (pieces_of ids image time)), sym h.1, h.2)
+put_beginning ids image time i w w' h = (h.0, concat (drop i (pieces_of ids image time)), sym h.1, h.2)

@@ -42,7 +42,7 @@ mod answers;
 mod asking;
 mod comment;
 mod dominator_rows;
-mod file_help;
+mod file_forms;
 mod help;
 mod notes;
 mod session;
@@ -52,7 +52,7 @@ mod watch;
 
 pub use answers::{answer, answer_line};
 pub use asking::Asking;
-pub use file_help::{file_help, file_keyword_help, file_rows};
+pub use file_forms::{file_help, file_keyword_help, file_rows};
 pub use help::{all_help, keyword_help, question_help};
 pub use notes::note_line;
 pub use session::serve_asking;

@@ -13,9 +13,24 @@ use Rattle.hprof_pair.specs.declared.conversion.PairFailure.{PairFailure}
 use Rattle.hprof_pair.specs.declared.conversion.PairFailure.TheVariants.{FirstHeader, SecondHeader, Memory as NoRoom, Write as Unput}
 use Rattle.heapdbg_options.specs.declared.settings.Origin.TheVariants.{Dumps}
 use Rattle.heapdbg.proofs.RunDumps.{front_end_is_enough}
-use Rattle.heapdbg.specs.Explorations.{IsHindrance, IsPairFault, IsPairHindrance, IsPairRunFrom, IsRunFirst, load_fault}
+use Rattle.heapdbg.specs.Explorations.{IsHindrance, IsPairFault, IsPairHindrance, IsPairRun, IsPairRunFrom, IsRunFirst, load_fault}
 use Rattle.heapdbg.specs.declared.failure.Fault.{Fault}
 use Rattle.heapdbg.specs.declared.failure.Fault.TheVariants.{Accept, Connect, Cut, From, Hprof, Listen, Long, Lost, Memory, Out, Read, Reads, Secret, Write}
+
+-- the session of two dumps was run if the outlet that ran the lines put to it was put that session
+put_pair_is_run : {S : Type 0} (limits : SessionLimits) (says begins : AnswerRelation S) (area : Bool) (first second text : List ℕ) (b : S) (w : Outgoing) (d : S)
+    → IsPairText area first second text → w.out ≡ text → IsTextLoaded limits says begins w.out b d → IsPairRun limits area says begins first second b d
+put_pair_is_run limits says begins area first second text b w d session is loaded =
+    (text, session, subst (λ run. IsTextLoaded limits says begins run b d) is loaded)
+
+-- what follows from the session of two dumps, put out whole, follows if they were converted. The type is any, so that no check
+-- takes a session apart where there is none
+converted_pair_is_put : (A : Type 0) (area : Bool) (first second : List ℕ) (w : Outgoing) (converted : Result BothConverted PairFailure)
+    → ArePairConverted area first second (record { out = []; failures = 0 }) w converted → IsOk converted → ((text : List ℕ) → IsPairText area first second text → w.out ≡ text → A) → A
+converted_pair_is_put A area first second w (Ok x) (inl c) ok follows = follows c.6.0 (c.0, c.1, c.2, c.3, c.4, c.5, c.6.1) c.6.2.out
+converted_pair_is_put A area first second w (Ok x) (inr (inl none)) ok follows = cc none.1
+converted_pair_is_put A area first second w (Ok x) (inr (inr none)) ok follows = cc none.1
+converted_pair_is_put A area first second w (Err e) put ok follows = cc ok
 
 -- what a conversion put out to an outlet that ran it is the session of two dumps
 pub converted_pair_is_run : {S : Type 0} (limits : SessionLimits) (says begins : AnswerRelation S) (area : Bool) (first second : List ℕ) (start : Option S) (w : Outgoing) (converted : Result BothConverted PairFailure) (left : Result S Ended) (result : Result S Fault)
@@ -23,14 +38,13 @@ pub converted_pair_is_run : {S : Type 0} (limits : SessionLimits) (says begins :
     → IfOk result (IsPairRunFrom limits area says begins first second start)
 converted_pair_is_run limits says begins area first second start w converted left (Err f) put loaded is = tt
 converted_pair_is_run {S} limits says begins area first second start w converted left (Ok d) put loaded is =
-    run start converted put is.0 (subst (λ r. IfOk r (IsTextLoadedFrom limits says begins w.out start)) is.1 loaded)
+    run start (subst (λ r. IfOk r (IsTextLoadedFrom limits says begins w.out start)) is.1 loaded)
   where
-    run : (begun : Option S) (done : Result BothConverted PairFailure) → ArePairConverted area first second (record { out = []; failures = 0 }) w done → IsOk done → IsTextLoadedFrom limits says begins w.out begun d → IsPairRunFrom limits area says begins first second begun d
-    run None done put ok loaded = tt
-    run (Some b) (Ok x) (inl c) ok loaded = (c.6.0, (c.0, c.1, c.2, c.3, c.4, c.5, c.6.1), subst (λ text. IsTextLoaded limits says begins text b d) c.6.2.out loaded)
-    run (Some b) (Ok x) (inr (inl none)) ok loaded = cc none.1
-    run (Some b) (Ok x) (inr (inr none)) ok loaded = cc none.1
-    run (Some b) (Err e) put ok loaded = cc ok
+    run : (begun : Option S) → IsTextLoadedFrom limits says begins w.out begun d → IsPairRunFrom limits area says begins first second begun d
+    run None loaded = tt
+    run (Some b) loaded =
+        converted_pair_is_put (IsPairRun limits area says begins first second b d) area first second w converted put is.0
+        (λ text session same. put_pair_is_run limits says begins area first second text b w d session same loaded)
 
 -- commands that the session of two dumps left began as that says
 pub pair_is_run_first : {S : Type 0} (limits : SessionLimits) (area : Bool) (says begins : AnswerRelation S) (first second : List ℕ) (b : S) (result : Result S Fault) → IfOk result (IsPairRunFrom limits area says begins first second (Some b)) → IfOk result (IsRunFirst limits area Dumps says begins b)

@@ -33,25 +33,23 @@ pub(crate) fn load_dumps<R: AllocGlobal + Clock + Eprint + Files, C: Commands + 
         (Begins C.acts C.unknown request.entry.settings.time) commands) }
     ensures hindrance { IfErr result (IsHindrance Dumps) }
 {
-    let Some(path) = request.first else {
-        return Err(Fault::Memory);
-    };
-    let Some(later) = request.second else {
-        return Err(Fault::Memory);
-    };
-    let first = read_dump(rt, is_terminal, path)?;
-    let second = read_dump(rt, is_terminal, later)?;
+    let first = read_dump(rt, is_terminal, request.first)?;
+    let second = read_dump(rt, is_terminal, request.second)?;
     run_dumps::<R, C, Brand>(rt, request, is_terminal, commands, &first, &second)
 }
 
-// Reads the file of a dump. Fails with Hprof if it can't be read; why, it says on standard error, if that is a terminal.
+// Reads the file of a dump. Fails with Hprof if it can't be read; why, it says on standard error, if that is a terminal. Fails with
+// Memory if there is no path.
 fn read_dump<R: AllocGlobal + Eprint + Files>(
     rt: &R,
     is_terminal: bool,
-    path: &str,
+    path: Option<&str>,
 ) -> Result<Vec<u8>, Fault>
-    ensures { IfErr result (λ f. f ≡ Fault.Hprof) }
+    ensures { IfErr result (IsHindrance Dumps) }
 {
+    let Some(path) = path else {
+        return Err(Fault::Memory);
+    };
     match fs::read(rt, path) {
         Ok(dump) => Ok(dump),
         Err(error) => {

@@ -2,6 +2,7 @@
 ghost use Rattle.std.specs.Prelude.{◌≡◌};
 ghost use Rattle.session_grammar.specs.Grammar.{words_of_line};
 ghost use Rattle.session_grammar.specs.Reads.{IsNextWord};
+ghost use Rattle.question_grammar.specs.NameWords.{class_named};
 ghost use Rattle.question_grammar.specs.EventNames.{array_by_name, event_by_name, event_of_words, load_by_name, new_by_name, next_class, next_slot, slot_in_register, unless_number, word_in, write_by_name};
 
 use crate::name_words::{class_named, slot_of_object_named};

@@ -4,7 +4,6 @@ pub mod NewChains
 pub mod NotedLines
 pub mod NewFiles
 pub mod Comments
-pub mod FollowedFields
 pub mod HelpForms
 pub mod HelpRows
 pub mod KeptPins

@@ -16,7 +16,7 @@ pub struct OwnFiles<'a, R> {
     is_terminal: bool,
 }
 
-impl<R> Model for OwnFiles<'_, R> {
+impl<'a, R> Model for OwnFiles<'a, R> {
     ghost Value = { Unit {0} };
 
     ghost view = { λ f. tt };

@@ -35,7 +35,7 @@ SESSIONS = {
     "spread": (Draw.spread, (1500,), 6, {"regions": 40, "mutators": 6, "keep": 100}),
     "spoken": (Draw.speak, (600,), 2, {"regions": 2, "keep": 50}),
     "limits": (Draw.reach_limits, (), 1, {"regions": 256, "mutators": 16, "keep": 65536}),
-    "asked": (AskingDraw.play, (1500,), 18, {"regions": 5, "keep": 40}),
+    "asked": (AskingDraw.play, (1500,), 20, {"regions": 5, "keep": 40}),
     "asked-short": (AskingDraw.play, (1000,), 4, {"regions": 4, "keep": 300, "ids": 4}),
     "wide": (Draw.play, (1500,), 2, {"regions": 4, "keep": 12, "wide": 1}),
     "wide-limits": (Draw.reach_limits, (), 1, {"regions": 300, "mutators": 16, "keep": 70000, "wide": 1}),

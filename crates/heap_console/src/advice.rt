@@ -66,7 +66,7 @@ pub(crate) fn advise(alloc: Global, line: &[u8], has_files: bool) -> Advice {
 
 // A form, and how far its keyword is from a word.
 #[derive(Clone, Copy)]
-struct Nearest {
+struct NearForm {
     distance: usize,
     form: Option<&'static str>,
 }
@@ -74,7 +74,7 @@ struct Nearest {
 // Returns the form of the line whose keyword is nearest to a word, if one is near enough: of several the first that `help`
 // lists. Fails if an allocation fails.
 fn nearest(alloc: Global, word: &str, has_files: bool) -> Result<Option<&'static str>, AllocError> {
-    let mut found = Nearest {
+    let mut found = NearForm {
         distance: NEAR + 1,
         form: None,
     };
@@ -91,8 +91,8 @@ fn nearest_in(
     alloc: Global,
     word: &str,
     rows: &'static [u8],
-    found: Nearest,
-) -> Result<Nearest, AllocError> {
+    found: NearForm,
+) -> Result<NearForm, AllocError> {
     let mut found = found;
     for row in str::from_utf8(rows).unwrap_or("").lines() {
         if let Some(form) = form_in(row)
@@ -100,7 +100,7 @@ fn nearest_in(
         {
             let distance = levenshtein(alloc, word, keyword)?;
             if distance <= reach(keyword) && distance < found.distance {
-                found = Nearest {
+                found = NearForm {
                     distance,
                     form: Some(form),
                 };

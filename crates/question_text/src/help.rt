@@ -111,7 +111,7 @@ pub fn all_help() -> &'static [u8]
 }
 
 // Returns the rows of what `help` answers, without its last line. Takes no memory.
-#[tactic(auto, unfolding(crate::specs::Help::help_text), using(crate::proofs::HelpRows::rows_before_ok))]
+#[tactic(auto, unfolding(crate::specs::Help::help_text), using(crate::proofs::HelpRows::rows_before_ok, crate::proofs::HelpRows::ok_is_there))]
 pub(crate) fn help_rows() -> &'static [u8]
     ensures { result.now ≡ help_rows all_forms }
 {

@@ -44,7 +44,7 @@ def explored(program, given, words=(), there=(), task="explore", by=run, **how):
 def last_dump(program, given, words):
     """Returns the dump that the last line of a session of `run` prints."""
     lines = run(program, ["run", *words], given)[1].splitlines(keepends=True)
-    others = [at for at, line in enumerate(lines) if not line.startswith(b"data ")]
+    others = [-1, *(at for at, line in enumerate(lines) if not line.startswith(b"data "))]
     return bytes_of(b"".join(lines[others[-2] + 1 :]))
 
 

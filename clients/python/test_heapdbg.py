@@ -409,14 +409,14 @@ class Columns(unittest.TestCase):
 
     def test_files(self):
         heap = canned("ok 301", "ok 301", "ok 9000", "no 31 NoFile", "bad command")
-        self.assertEqual((heap.write("a.hprof"), heap.write(pathlib.Path("/b"), Place(3)), heap.draw("c.svg")), (301, 301, 9000))
+        self.assertEqual((heap.write_dump("a.hprof"), heap.write_dump(pathlib.Path("/b"), Place(3)), heap.write_picture("c.svg")), (301, 301, 9000))
         with self.assertRaises(Refused) as refused:
-            heap.draw("c.svg")
+            heap.write_picture("c.svg")
         self.assertEqual((refused.exception.number, refused.exception.name), (31, "NoFile"))
         with self.assertRaises(BadCommand) as bad:
-            heap.write("a", Now())
+            heap.write_dump("a", Now())
         self.assertIn("explore writes files", str(bad.exception))
-        self.assertRaises(BadCommand, lambda: heap.write("two words"))
+        self.assertRaises(BadCommand, lambda: heap.write_dump("two words"))
         lines = b"write a.hprof", b"write @3 /b", b"draw c.svg", b"draw c.svg", b"write - a"
         self.assertEqual(heap.writer.getvalue(), b"".join(line + b"\n" for line in lines))
 
@@ -468,10 +468,10 @@ class Explored(unittest.TestCase):
             heap.define_array("Kept")
             heap.new_array(0, 0, 0, 3)
             first = heap.dump(heap.open(Place(1)))
-            self.assertEqual((heap.write(dump, Place(1)), dump.read_bytes()), (len(first), first))
-            self.assertEqual((heap.draw(picture), picture.read_bytes()[:4]), (picture.stat().st_size, b"<svg"))
+            self.assertEqual((heap.write_dump(dump, Place(1)), dump.read_bytes()), (len(first), first))
+            self.assertEqual((heap.write_picture(picture), picture.read_bytes()[:4]), (picture.stat().st_size, b"<svg"))
             with self.assertRaises(Refused) as caught:
-                heap.write(dump)
+                heap.write_dump(dump)
             self.assertEqual((caught.exception.number, dump.read_bytes()), (31, first))
 
     def test_a_wide_heap(self):

@@ -221,12 +221,12 @@ class Calls:
         name is 1 to 64 ASCII letters, digits, `_`, `-` and `.`, the first a letter."""
         return self.send(f"name {word_of(word)}", number)
 
-    def write(self, path: Union[str, "os.PathLike[str]"], moment: Moment = None) -> int:
+    def write_dump(self, path: Union[str, "os.PathLike[str]"], moment: Moment = None) -> int:
         """Has heapdbg write the dump of a state to a new file, and returns the file's size. A path that isn't whole begins in the
         folder of heapdbg, and none has a space. Only `explore` over a heap of its own writes files."""
         return self.send(f"write{about(moment)} {word_of(os.fspath(path))}", number)
 
-    def draw(self, path: Union[str, "os.PathLike[str]"]) -> int:
+    def write_picture(self, path: Union[str, "os.PathLike[str]"]) -> int:
         """The same for a picture of the regions of the current state."""
         return self.send(f"draw {word_of(os.fspath(path))}", number)
 

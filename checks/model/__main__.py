@@ -35,7 +35,7 @@ SESSIONS = {
     "spread": (Draw.spread, (1500,), 6, {"regions": 40, "mutators": 6, "keep": 100}),
     "spoken": (Draw.speak, (600,), 2, {"regions": 2, "keep": 50}),
     "limits": (Draw.reach_limits, (), 1, {"regions": 256, "mutators": 16, "keep": 65536}),
-    "asked": (AskingDraw.play, (1500,), 20, {"regions": 5, "keep": 40}),
+    "asked": (AskingDraw.play, (1500,), 18, {"regions": 5, "keep": 40}),
     "asked-short": (AskingDraw.play, (1000,), 4, {"regions": 4, "keep": 300, "ids": 4}),
     "wide": (Draw.play, (1500,), 2, {"regions": 4, "keep": 12, "wide": 1}),
     "wide-limits": (Draw.reach_limits, (), 1, {"regions": 300, "mutators": 16, "keep": 70000, "wide": 1}),
@@ -43,11 +43,12 @@ SESSIONS = {
     "large": (Draw.play, (1200, 200), 4, {"regions": 9, "keep": 60, "wide": 1, "area": 6}),
     "large-short": (Draw.play, (1000,), 2, {"regions": 7, "keep": 12, "wide": 1, "area": 4, "ids": 4}),
     "largest": (Draw.reach_largest, (), 1, {"regions": 2054, "keep": 100, "wide": 1, "area": 2051}),
-    "asked-large": (AskingDraw.play, (800,), 2, {"regions": 8, "keep": 200, "wide": 1, "area": 5}),
+    "asked-large": (AskingDraw.play, (800,), 3, {"regions": 8, "keep": 200, "wide": 1, "area": 5}),
+    "asked-more": (AskingDraw.play, (1500,), 5, {"regions": 5, "keep": 40}),
 }
 NAMES = [f"{name}-{number}" for name, (_, _, count, _) in SESSIONS.items() for number in range(1, count + 1)]
 # The sessions with questions, which go to `explore`.
-ASKED = ("asked", "asked-short", "asked-wide", "asked-large")
+ASKED = ("asked", "asked-short", "asked-wide", "asked-large", "asked-more")
 # How sessions end: what comes after the last line, how it is answered, and the status and standard error of the program. The last
 # one has as many letters as make a line too long.
 ENDS = (

@@ -187,7 +187,8 @@ class Session(Calls):
     ) -> "Session":
         """Starts `heapdbg explore` on a heap of its own, with these options; `load` is the path of a file of lines that run first
         (`--from`), `hprof` that of a heap dump whose heap is made first (`--hprof`), `then` that of a later one (`--then`), and the
-        address of a `page` is in `text` after the first reply. As nobody else acts on this heap, the session is batched unless `batched` is False."""
+        address of a `page` is in `text` after the first reply. As nobody else acts on this heap, the session is batched unless
+        `batched` is False."""
         options = dict(regions=regions, area=area, mutators=mutators, keep=keep, time=time, ids=ids, page=page)
         words = [word for name, value in options.items() if value is not None for word in (f"--{name}", str(value))]
         words += ["--wide", "1"] if wide else []

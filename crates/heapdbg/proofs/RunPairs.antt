@@ -1,5 +1,5 @@
 -- Sessions of two dumps that were run.
-use Rattle.std.proofs.Common.{◌≡◌, ◌++◌, Bool, List, [], ℕ, Option, Some, None, Result, Ok, Err, IfOk, arith, inl, inr, refl, subst, sym}
+use Rattle.std.proofs.Common.{◌≡◌, Bool, List, [], ℕ, Option, Some, None, Result, Ok, Err, IfOk, arith, inl, inr, refl, subst, sym}
 use Rattle.std.specs.Prelude.{IfErr, IsOk}
 use Rattle.dump_pump.specs.Outlets.{Outgoing}
 use Rattle.session_text.specs.Answers.{AnswerRelation}

@@ -19,11 +19,11 @@ use std::fs::Files;
 use std::io::Error;
 use std::time::Clock;
 
-/// Runs by these commands the lines of the file of the path, or of the session of the dump in it, or of the session of two dumps, if
-/// `origin` says so, and returns them as the lines left them. Answers are not shown, and each line that is refused is reported on standard error, and if that is
-/// a terminal, about once a second how many lines were read, unless the settings are quiet. Fails with Memory, with From if a file
-/// of lines can't be opened or is a folder, and with Hprof as `load_dump` does; why, it says on standard error, if that is a
-/// terminal.
+/// Runs by these commands the lines of the file of the path, or of the session of the dump in it, or of the session of two dumps,
+/// if `origin` says so, and returns them as the lines left them. Answers are not shown, and each line that is refused is reported
+/// on standard error, and if that is a terminal, about once a second how many lines were read, unless the settings are quiet. Fails
+/// with Memory, with From if a file of lines can't be opened or is a folder, and with Hprof as `load_dump` does; why, it says on
+/// standard error, if that is a terminal.
 pub(crate) fn run_first<R: AllocGlobal + Clock + Eprint + Files, C: Commands + Drop>(
     rt: &R,
     request: Request<'_>,

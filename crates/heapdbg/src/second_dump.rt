@@ -95,8 +95,8 @@ fn run_dumps<R: AllocGlobal + Clock + Eprint, C: Commands + Drop, B: LoadStart<C
     commands_left(converted, left)
 }
 
-// Tells on standard error what of each dump is left out of the session for a heap with an area, or without one, or that it is none. A
-// write that fails changes nothing.
+// Tells on standard error what of each dump is left out of the session for a heap with an area, or without one, or that it is none.
+// A write that fails changes nothing.
 fn tell_outcomes<R: Eprint>(
     rt: &R,
     first: &str,

@@ -44,7 +44,7 @@ SESSIONS = {
     "large-short": (Draw.play, (1000,), 2, {"regions": 7, "keep": 12, "wide": 1, "area": 4, "ids": 4}),
     "largest": (Draw.reach_largest, (), 1, {"regions": 2054, "keep": 100, "wide": 1, "area": 2051}),
     "asked-large": (AskingDraw.play, (800,), 3, {"regions": 8, "keep": 200, "wide": 1, "area": 5}),
-    "asked-more": (AskingDraw.play, (1500,), 5, {"regions": 5, "keep": 40}),
+    "asked-more": (AskingDraw.play, (1500,), 8, {"regions": 5, "keep": 40}),
 }
 NAMES = [f"{name}-{number}" for name, (_, _, count, _) in SESSIONS.items() for number in range(1, count + 1)]
 # The sessions with questions, which go to `explore`.

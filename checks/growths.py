@@ -52,7 +52,8 @@ QUESTIONS = """class Node - next:object v:long, array Nodes, new 0 0 0, new 0 1 
     objects 1 0 1 7, values 0 1, values 1 1 0, show 0x10000000, show @9 0x10000020, watch 0x10000020 1, writes 0 1, when 0 1 7, dropped 0x10000040,
     history 9, history @9 3, life 0x10000000, cycles, pins, cells, regions, status, show 0x10000060 1 1, when count 0 2,
     show 0x10000000.next, show @9 0x10000000.next.next 3, show 0x10000060.1 8, put 0 0 v 6, newarray 0 4 Nodes 2, rewind 2,
-    rewind 3, forward 2, forward 9, name here, name there, name here, open @here, at @here, histogram, history 2"""
+    rewind 3, forward 2, forward 9, name here, name there, name here, open @here, at @here, histogram, history 2,
+    write now.hprof, write @9 past.hprof, write 1 pin.hprof, draw now.svg, help"""
 
 # A session of a wide heap: as many classes and regions as make each table grow, names longer and pins more than other heaps allow, and a
 # cycle beside these pins.
@@ -88,10 +89,11 @@ def refusing(folder):
 
 
 def run(command, library, number, given=b""):
-    """Runs a command with the allocation of this number refused. Returns status, standard output and standard error, without the
-    address of a page."""
+    """Runs a command, in an empty folder, with the allocation of this number refused. Returns status, standard output and standard
+    error, without the address of a page."""
     variables = {"LD_PRELOAD": library, "REFUSED": str(number)}
-    ran = subprocess.run(command, env=variables, capture_output=True, input=given, timeout=60)
+    with tempfile.TemporaryDirectory() as folder:
+        ran = subprocess.run(command, env=variables, capture_output=True, input=given, timeout=60, cwd=folder)
     return ran.returncode, ran.stdout, ADDRESS.sub(b"", ran.stderr)
 
 

@@ -7,6 +7,7 @@ import sys
 
 from area_cases import areas
 from explore_cases import questions
+from file_cases import written_files
 from line_cases import bad_lines
 from picture_cases import pictures
 from reason_cases import reasons
@@ -34,7 +35,7 @@ def differences(program):
     saves = (saved_files, saved_to_long_names, saved_faults, saved_to_listeners, saved_on_terminals)
     serves = (served_sessions, served_on_terminals, pins_of_ended_sessions, worked, tended, served_questions, asking, served_faults)
     serves += (refused_files, guarded)
-    explores = (questions, at_a_terminal, pictures, wide_heaps, areas)
+    explores = (questions, written_files, at_a_terminal, pictures, wide_heaps, areas)
     for cases in (sessions, *explores, settings_shown, sizes_by_names, kept_by_default, options_without_values, lines_at_the_limits, faults, would_block, bad_lines, reasons, *saves, *serves):
         for name, happened, wanted in cases(program):
             if not len(happened) == len(wanted) <= len(parts):

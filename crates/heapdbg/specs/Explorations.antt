@@ -2,6 +2,9 @@
 use Rattle.std.specs.Prelude.{◌≡◌, ◌⊎◌, ⊤, ℕ, Bool, List, Option, Some, None, Result, Ok, Err, min, nat_lt}
 use Rattle.dump_pump.specs.Outlets.{Outgoing}
 use Rattle.heap_console.specs.Loads.{IsLoaded, IsTextEndedFrom, IsTextLoaded}
+use Rattle.heap_files.specs.Files.{FolderActs}
+use Rattle.heap_files.specs.Filings.{ServesFiling}
+use Rattle.heap_files.specs.declared.filing.Filing.{Filing}
 use Rattle.session_text.specs.Answers.{AnswerRelation, AnswersCommand, Begins}
 use Rattle.session_text.specs.Machine.{opening_machine}
 use Rattle.question_text.specs.declared.asking.Asking.{Asking}
@@ -152,11 +155,34 @@ IsHindrance Dumps f = (f ≡ Memory) ⊎ ((f ≡ Hprof) ⊎ ((f ≡ Cut) ⊎ (f 
 
 -- a session with questions over a heap with these settings, and how it ended; or it didn't begin, and then nothing is read or
 -- written
+abbrev pub IsAsked : Origin → Settings → Incoming → Incoming → Outgoing → Outgoing
+    → Result (Unit {0}) Fault
+    → Type 0
+IsAsked origin s a b w w' result =
+    ((ended : Ended) × (c : Asking) × (left : Asking) × IsSessionBegun origin s c
+    × ServesAsking (session_limits s.wide) s.time a b c w left w' ended
+    × EndsSession (session_limits s.wide) a b w w' ended × (result ≡ outcome_of ended))
+    ⊎ ((f : Fault) × IsHindrance origin f × (result ≡ Err f) × (b ≡ a) × (w' ≡ w))
+
+-- the files of this computer tell nothing of their bytes
+abbrev pub own_files : FolderActs (Unit {0})
+own_files =
+    record {
+      makes = λ f path w f'. ⊤;
+      keeps = λ f path w f'. ⊤;
+      removes = λ f path w f'. ⊤;
+    }
+
+-- commands with questions, whose lines write such files
+abbrev pub with_files : Asking → ℕ → Filing (Unit {0})
+with_files c time = record { asking = c; folder = tt; time = time }
+
+-- the same session, whose lines also write files
 abbrev pub IsExplored : Origin → Settings → Incoming → Incoming → Outgoing → Outgoing
     → Result (Unit {0}) Fault
     → Type 0
 IsExplored origin s a b w w' result =
-    ((ended : Ended) × (c : Asking) × (left : Asking) × IsSessionBegun origin s c
-    × ServesAsking (session_limits s.wide) s.time a b c w left w' ended
+    ((ended : Ended) × (c : Asking) × (left : Filing (Unit {0})) × IsSessionBegun origin s c
+    × ServesFiling own_files (session_limits s.wide) a b (with_files c s.time) w left w' ended
     × EndsSession (session_limits s.wide) a b w w' ended × (result ≡ outcome_of ended))
     ⊎ ((f : Fault) × IsHindrance origin f × (result ≡ Err f) × (b ≡ a) × (w' ≡ w))

@@ -28,7 +28,7 @@ use Rattle.heapdbg_options.specs.declared.settings.Task.TheVariants.{Run, Explor
 use Rattle.heapdbg_options.specs.declared.settings.Target.TheVariants.{Out, To}
 use Rattle.heapdbg_options.specs.CommandLine.{limits_of, settings_of}
 use Rattle.heapdbg.specs.Endings.{failure_of, outcome_of, work_of}
-use Rattle.heapdbg.specs.Explorations.{IsExplored, IsHindrance, IsRunFirst, IsSessionBegun, has_area}
+use Rattle.heapdbg.specs.Explorations.{IsAsked, IsExplored, IsHindrance, IsRunFirst, IsSessionBegun, has_area}
 use Rattle.heapdbg.specs.FetchOutcomes.{IsDumpFetched}
 use Rattle.heapdbg_options.specs.Refusals.{IsRefusalOf}
 use Rattle.heapdbg.specs.SaveOutcomes.{IsSavedTo}
@@ -58,7 +58,7 @@ IsRun origin s a b w w' result =
 -- a session with questions or without
 abbrev pub IsRunWith : Bool → Origin → Settings → Incoming → Incoming → Outgoing → Outgoing
     → Result (Unit {0}) Fault → Type 0
-IsRunWith true origin s a b w w' result = IsExplored origin s a b w w' result
+IsRunWith true origin s a b w w' result = IsAsked origin s a b w w' result
 IsRunWith false origin s a b w w' result = IsRun origin s a b w w' result
 
 -- the outcome of a session that was drawn: its own if that is a fault, or that of the picture

@@ -1,4 +1,4 @@
-//! A session with questions.
+//! A session with questions whose lines also write files.
 ghost use Rattle.std.specs.Prelude.{◌≡◌, min, IfErr, IfOk};
 ghost use Rattle.heapdbg_options.specs.CommandLine.{IsHeapWithin};
 ghost use Rattle.heapdbg.specs.Explorations.{IsExplored, IsOpening};
@@ -8,19 +8,22 @@ ghost use Rattle.question_grammar.specs.Bookmarks.{no_bookmarks};
 use crate::failure::{Fault, outcome};
 use crate::first_lines::run_first;
 use crate::opening::open_local;
+use crate::own_files::OwnFiles;
 use crate::request::Request;
 use crate::terminals::Screen;
 use dump_pump::Outlet;
+use heap_files::{Filing, serve_filing};
 use heapdbg_options::settings::{Origin, Settings};
-use question_text::{Asking, Watch, serve_asking};
+use question_text::{Asking, Watch};
 use session_text::{Inlet, Local, session_limits};
 use std::alloc::Global;
 use std::fs::Files;
 use std::time::Clock;
 
-/// Runs one session, in which questions are answered, over a heap of its own. If `origin` says so, the lines of the file of the
-/// path, or of the session of the dump in it, are run first; their answers are not shown, and each line that is refused is reported
-/// on standard error. Fails as a session does, with Memory if the heap can't be allocated, and as `run_first` does.
+/// Runs one session, in which questions are answered and lines write files, over a heap of its own. If `origin` says so, the lines
+/// of the file of the path, or of the session of the dump in it, are run first, and write no files; their answers are not shown, and
+/// each line that is refused is reported on standard error. Why a line writes no file is said on standard error, if that is a
+/// terminal. Fails as a session does, with Memory if the heap can't be allocated, and as `run_first` does.
 #[tactic(auto, using(crate::proofs::PageHindrances::no_memory_hinders))]
 pub fn explore<R: AllocGlobal + Clock + Eprint + Files, I: Inlet, O: Outlet>(
     rt: &R,
@@ -55,10 +58,11 @@ fn explore_on<R: AllocGlobal + Clock + Eprint + Files, I: Inlet, O: Outlet>(
     ensures { IsExplored origin request.entry.settings (I.seen reader.old) (I.seen reader.new)
         (O.seen writer.old) (O.seen writer.new) result }
 {
-    let mut asking = run_first(rt, request, origin, is_terminal, asking)?;
+    let asking = run_first(rt, request, origin, is_terminal, asking)?;
     let Settings { time, wide, .. } = request.settings;
+    let mut filing = Filing::new(asking, OwnFiles::new(rt, is_terminal), time);
     let limits = session_limits(wide);
-    let ended = serve_asking(rt.alloc(), reader, writer, &mut asking, time, limits);
+    let ended = serve_filing(rt.alloc(), reader, writer, &mut filing, limits);
     outcome(ended)
 }
 

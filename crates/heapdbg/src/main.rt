@@ -4,6 +4,7 @@
 #![tactic(auto)]
 
 mod ask;
+mod asked_run;
 mod draw;
 mod explore;
 mod failure;
@@ -12,6 +13,7 @@ mod first_dump;
 mod first_lines;
 mod folder;
 mod opening;
+mod own_files;
 mod page_exploration;
 mod ports;
 mod progress;

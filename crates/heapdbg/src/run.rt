@@ -4,7 +4,7 @@ ghost use Rattle.session_text.specs.Machine.{opening_machine};
 ghost use Rattle.heapdbg_options.specs.CommandLine.{IsHeapWithin, limits_of};
 ghost use Rattle.heapdbg.specs.Runs.{IsRun, IsRunWith};
 
-use crate::explore::explore;
+use crate::asked_run::run_asked;
 use crate::failure::{Fault, outcome};
 use crate::first_lines::run_first;
 use crate::opening::open_local;
@@ -16,8 +16,8 @@ use session_text::{Inlet, Local, serve_local, session_limits};
 use std::fs::Files;
 use std::time::Clock;
 
-/// Runs one session over a private heap, in which questions are answered if the settings say so. If `origin` says so, the lines of
-/// the session of a dump are run first, as by `explore`. Fails as that does.
+/// Runs one session over a private heap, in which questions are answered if the settings say so; none of its lines writes a file.
+/// If `origin` says so, the lines of the session of a dump are run first, as by `explore`. Fails as that does.
 pub fn run<R: AllocGlobal + Clock + Eprint + Files, I: Inlet, O: Outlet>(
     rt: &R,
     request: Request<'_>,
@@ -31,7 +31,7 @@ pub fn run<R: AllocGlobal + Clock + Eprint + Files, I: Inlet, O: Outlet>(
         (I.seen reader.old) (I.seen reader.new) (O.seen writer.old) (O.seen writer.new) result }
 {
     if request.settings.questions {
-        explore(rt, request, origin, screen, reader, writer)
+        run_asked(rt, request, origin, screen, reader, writer)
     } else {
         run_plain(rt, request, origin, screen.is_terminal, reader, writer)
     }

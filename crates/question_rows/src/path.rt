@@ -24,16 +24,6 @@ pub fn path_answer<V: View>(alloc: Global, view: &V, id: u64) -> Result<Vec<u8>,
     }
 }
 
-// Returns why no path leads to the object with this id: there is none, or no register reaches it.
-pub(crate) fn why_none<V: View>(view: &V, id: u64) -> Unanswered
-    ensures { result ≡ why_none (object_with (V.image view.now) id) }
-{
-    match object_with(view, id) {
-        Some(_) => Unanswered::Unreachable,
-        None => Unanswered::NoObject,
-    }
-}
-
 // Returns the lines of a path. Fails with NoMemory.
 fn path_text(alloc: Global, path: &Path) -> Result<Vec<u8>, Refusal>
     ensures { ReturnsText (λ text. text ≡ path_text path.now) result }
@@ -42,6 +32,16 @@ fn path_text(alloc: Global, path: &Path) -> Result<Vec<u8>, Refusal>
     push_path(&mut text, path)?;
     push_count(&mut text, path.hops.len() as u64)?;
     Ok(text)
+}
+
+// Returns why no path leads to the object with this id: there is none, or no register reaches it.
+pub(crate) fn why_none<V: View>(view: &V, id: u64) -> Unanswered
+    ensures { result ≡ why_none (object_with (V.image view.now) id) }
+{
+    match object_with(view, id) {
+        Some(_) => Unanswered::Unreachable,
+        None => Unanswered::NoObject,
+    }
 }
 
 // Appends the rows of a path. Fails if an allocation fails.

@@ -87,6 +87,8 @@ ROWS = {
 # What standard error may tell of dumps.
 TOLD = re.compile(rb"(heapdbg: dump (PinLimit|Rewound)( \(\d+ times\))?\n)*(heapdbg: nothing is told of further dumps\n)?")
 PATTERNS = {word: re.compile(f"({answer})|{REFUSED}") for word, answer in ANSWERS.items()}
+# A line that names a field. It is a bad command, too, if the register names no object with such a field.
+BY_NAME = re.compile("(load [0-9]+ [0-9]+ [0-9]+|put [0-9]+ [0-9]+) [a-z]+( [0-9]+)?")
 DATA = re.compile("data ([0-9a-f]{2}){1,64}")
 BEFORE = {"dump": DATA, "piece": DATA} | {word: re.compile(f"row {row}") for word, row in ROWS.items()}
 # What adds nothing to the chronicle, by its first word; and how many entries `collect` adds, about.
@@ -145,7 +147,8 @@ class Client(Session):
         """Returns a reply, once it has looked at it."""
         data, got = super().reply(line, came)
         word = line.split()[0]
-        if not PATTERNS[word].fullmatch(got) or data and not (word in BEFORE and all(map(BEFORE[word].fullmatch, data))):
+        is_answer = PATTERNS[word].fullmatch(got) or got == "bad command" and BY_NAME.fullmatch(line)
+        if not is_answer or data and not (word in BEFORE and all(map(BEFORE[word].fullmatch, data))):
             self.wrong.append(f"{line!r} was answered {got!r} after {len(data)} lines, first {data[:1]!r}")
         text = b"" if word in ROWS else bytes.fromhex("".join(each[5:] for each in data))
         if got.startswith("ok dump "):

@@ -1,0 +1,299 @@
+-- How the references of objects are stored.
+use Rattle.std.proofs.Common.{◌≡◌, ◌≢◌, ◌⊎◌, ℕ, zero, suc, ◌+◌, ◌-◌, ◌/◌, ◌%◌, ◌^◌, ◌<◌, ◌≤◌, Bool, true, false, List, [], ◌∷◌, ◌++◌, length, refl, sym, ap, subst, ◌∙◌, Option, Some, None, inl, inr, arith}
+use Rattle.std.specs.Prelude.{slice_get, slice_index, slice_set, IsSome, is_some, flat_map, if◌then◌else◌, ◌||◌}
+use Rattle.std.specs.List.{list_any}
+use Rattle.std.specs.Option.{option_map_or}
+use Rattle.std.proofs.lemmas.Bool.{cases_eq}
+use Rattle.heap_class.specs.declared.ObjKind.{ObjKind}
+use Rattle.heap_step.specs.declared.Event.{Event}
+use Rattle.heap_step.specs.declared.Event.TheVariants.{Load, Store}
+use Rattle.hprof_heap.specs.TrialPlaces.{array_slot, fetch_events, slot_of, top_of}
+use Rattle.hprof_heap.specs.Trial.{ObjectTold, SlotValue, names_object, stored}
+use Rattle.hprof_heap.proofs.Graphs.{Graph, Thing, word, word_in, IsLoading, IsRun, IsWriting, run_in_parts}
+use Rattle.hprof_heap.proofs.PlaceNumbers.{few_tops}
+use Rattle.hprof_heap.proofs.Placed.{IsKeeper, IsKept, IsPlaceArray, IsTop, Moves, Object, Role, Stays, keeper, keeper_moves, kept, kept_moves, object_number, top_moves, below_or_last}
+use Rattle.hprof_heap.proofs.Filled.{IsFilling, filling_moves, filling_stays, nothing_filled, two_fillings, writing_fills, with_values}
+use Rattle.hprof_heap.proofs.Making.{made_thing}
+
+-- the objects below `last` that are made are kept, and these are their ids
+pub record AreFound (class : ℕ) (made : ℕ → Bool) (last : ℕ) (id : ℕ → ℕ) (role : ℕ → Role) (g : Graph) : Type 0 where
+  pub few : last ≤ 2 ^ 22
+  pub tops : (m : ℕ) → m < last → IsTop class role g m
+  pub keepers : (m : ℕ) → m < last → IsKeeper class role g m
+  pub objects : (m : ℕ) → m < last → made m ≡ true → IsKept role g m
+  pub ids : (m : ℕ) → m < last → kept g m ≡ id m
+
+-- an object that is made is for its number
+pub for_its_number : (class : ℕ) (made : ℕ → Bool) (last : ℕ) (id : ℕ → ℕ) (role : ℕ → Role) (g : Graph) (m : ℕ) → AreFound class made last id role g → m < last → made m ≡ true → role (id m) ≡ Object m
+for_its_number class made last id role g m a l b = ap role (sym (a.ids m l)) ∙ (a.objects m l b).purpose
+
+-- objects with different numbers have different ids
+pub ids_differ : (class : ℕ) (made : ℕ → Bool) (last : ℕ) (id : ℕ → ℕ) (role : ℕ → Role) (g : Graph) (m n : ℕ) → AreFound class made last id role g → m < last → made m ≡ true → n < last → made n ≡ true → id m ≡ id n → m ≡ n
+ids_differ class made last id role g m n a l b k c e = object_number m n (sym (for_its_number class made last id role g m a l b) ∙ ap role e ∙ for_its_number class made last id role g n a k c)
+
+-- ---- an object is fetched
+
+-- a register names x, and only this and register 4 change
+pub record IsFetched (r x : ℕ) (g h : Graph) : Type 0 where
+  pub held : h.registers r ≡ x
+  pub things : (y : ℕ) → h.things y ≡ g.things y
+  pub registers : (q : ℕ) → q ≢ 4 → q ≢ r → h.registers q ≡ g.registers q
+
+fetched : (class : ℕ) (role : ℕ → Role) (r m : ℕ) (g f h : Graph) → IsTop class role g m → IsKeeper class role g m → IsLoading 4 (top_of m) (array_slot m) g f → IsLoading r 4 (slot_of m) f h → IsFetched r (kept g m) g h
+fetched class role r m g f h t k p q = record {
+  held = q.loaded class k.there.0 (ap f.things array ∙ p.things (keeper g m) ∙ k.there.1) k.there.2 ∙ sym (ap (λ o. word_in o (slot_of m)) k.there.1);
+  things = λ y. q.things y ∙ p.things y;
+  registers = λ i a b. q.registers i b ∙ p.registers i a;
+}
+  where
+    array : f.registers 4 ≡ keeper g m
+    array = p.loaded class t.there.0 t.there.1 t.there.2 ∙ sym (ap (λ o. word_in o (array_slot m)) t.there.1)
+
+pub object_is_fetched : (slots : ℕ → ℕ) (class : ℕ) (role : ℕ → Role) (r m : ℕ) (g h : Graph) → IsTop class role g m → IsKeeper class role g m → IsRun slots (fetch_events m r) g h → IsFetched r (kept g m) g h
+object_is_fetched slots class role r m g h t k s = subst (IsFetched r (kept g m) g) s.2.2 (fetched class role r m g s.0 s.2.0 t k s.1 s.2.1)
+
+pub fetching_fills : (z r x : ℕ) (kind : ObjKind) (old : List ℕ) (g h : Graph) → 4 ≤ r → g.things z ≡ Some (record { kind = kind; words = old }) → IsFetched r x g h → IsFilling z kind old old g h
+fetching_fills z r x kind old g h high before p = nothing_filled z kind old g h before p.things (λ q l. p.registers q (λ e. omega (arith, l, e)) (λ e. omega (arith, l, e, high)))
+
+-- ---- what is found after an object is filled
+
+pub found_after_filling : (class : ℕ) (made : ℕ → Bool) (last n z : ℕ) (id : ℕ → ℕ) (role : ℕ → Role) (kind : ObjKind) (old new : List ℕ) (g h : Graph) → role z ≡ Object n → AreFound class made last id role g → IsFilling z kind old new g h
+    → AreFound class made last id role h
+found_after_filling class made last n z id role kind old new g h for a f = record {
+  few = a.few;
+  tops = λ m l. top_moves class n m role role g h moves (stays m l).top_stays (a.tops m l);
+  keepers = λ m l. keeper_moves class n m role role g h moves (stays m l).array_stays (a.keepers m l);
+  objects = λ m l b. kept_moves class n m role role g h moves (stays m l) (a.objects m l b);
+  ids = λ m l. (stays m l).object_stays ∙ a.ids m l;
+}
+  where
+    moves : Moves class n role role g h
+    moves = filling_moves class n z role kind old new g h for f
+
+    stays : (m : ℕ) → m < last → Stays g h m
+    stays m l = filling_stays class n m z role kind old new g h for (few_tops m (omega (arith, l, a.few))) (a.tops m l) (a.keepers m l) f
+
+-- ---- references
+
+-- the words after a reference is stored
+abbrev pub with_reference : (ℕ → Option ℕ) → (ℕ → ℕ) → List ℕ → SlotValue → List ℕ
+with_reference name id words v = if names_object v then option_map_or (λ k. slice_set words v.slot (id k)) (name v.value) words else words
+
+-- the words after references are stored
+abbrev pub with_references : (ℕ → Option ℕ) → (ℕ → ℕ) → List ℕ → List SlotValue → List ℕ
+with_references name id words [] = words
+with_references name id words (v ∷ values) = with_references name id (with_reference name id words v) values
+
+-- the events of a reference
+abbrev pub reference_of : (ℕ → Option ℕ) → SlotValue → List Event
+reference_of name v = if names_object v then stored v.slot (name v.value) else []
+
+-- each object that is named is made
+abbrev pub AreNamed : (ℕ → Option ℕ) → (ℕ → Bool) → ℕ → Type 0
+AreNamed name made last = (x k : ℕ) → name x ≡ Some k → (k < last) × (made k ≡ true)
+
+-- register 5 names z, whose words change
+pub record IsLinked (z : ℕ) (kind : ObjKind) (old new : List ℕ) (g h : Graph) : Type 0 where
+  pub filled : IsFilling z kind old new g h
+  pub held : h.registers 5 ≡ z
+
+store_reference : (slots : ℕ → ℕ) (class : ℕ) (made : ℕ → Bool) (last z : ℕ) (id : ℕ → ℕ) (role : ℕ → Role) (kind : ObjKind) (old : List ℕ) (slot k : ℕ) (g h : Graph)
+    → AreFound class made last id role g → k < last → g.registers 5 ≡ z → g.things z ≡ Some (record { kind = kind; words = old })
+    → IsRun slots (stored slot (Some k)) g h → IsLinked z kind old (slice_set old slot (id k)) g h
+store_reference slots class made last z id role kind old slot k g h a l held before r = record {
+  filled = two_fillings z kind old old (slice_set old slot (id k)) g s.0 h first
+      (subst (λ x. IsFilling z kind old (slice_set old slot x) s.0 h) (p.held ∙ a.ids k l) (writing_fills z 5 slot (s.0.registers 6) kind old s.0 h still first.here w));
+  held = w.registers 5 ∙ still;
+}
+  where
+    s : (f : Graph) × IsRun slots (fetch_events k 6) g f × IsRun slots (Store 0 5 slot 6 ∷ []) f h
+    s = run_in_parts slots (fetch_events k 6) (Store 0 5 slot 6 ∷ []) g h r
+
+    p : IsFetched 6 (kept g k) g s.0
+    p = object_is_fetched slots class role 6 k g s.0 (a.tops k l) (a.keepers k l) s.1
+
+    first : IsFilling z kind old old g s.0
+    first = fetching_fills z 6 (kept g k) kind old g s.0 (omega arith) before p
+
+    still : s.0.registers 5 ≡ z
+    still = p.registers 5 (omega arith) (omega arith) ∙ held
+
+    w : IsWriting 5 slot (s.0.registers 6) s.0 h
+    w = subst (IsWriting 5 slot (s.0.registers 6) s.0) s.2.2 s.2.1
+
+nothing_linked : (z : ℕ) (kind : ObjKind) (old : List ℕ) (g h : Graph) → g.registers 5 ≡ z → g.things z ≡ Some (record { kind = kind; words = old }) → g ≡ h → IsLinked z kind old old g h
+nothing_linked z kind old g h held before r = subst (IsLinked z kind old old g) r (record { filled = nothing_filled z kind old g g before (λ y. refl) (λ q l. refl); held = held })
+
+link_reference : (slots : ℕ → ℕ) (class : ℕ) (made : ℕ → Bool) (last z : ℕ) (name : ℕ → Option ℕ) (id : ℕ → ℕ) (role : ℕ → Role) (kind : ObjKind) (old : List ℕ) (v : SlotValue) (g h : Graph)
+    → AreNamed name made last → AreFound class made last id role g → g.registers 5 ≡ z → g.things z ≡ Some (record { kind = kind; words = old })
+    → IsRun slots (reference_of name v) g h → IsLinked z kind old (with_reference name id old v) g h
+link_reference slots class made last z name id role kind old v g h named a held before = go (names_object v)
+  where
+    by_name : (o : Option ℕ) → name v.value ≡ o → IsRun slots (stored v.slot o) g h → IsLinked z kind old (option_map_or (λ k. slice_set old v.slot (id k)) o old) g h
+    by_name None e r = nothing_linked z kind old g h held before r
+    by_name (Some k) e r = store_reference slots class made last z id role kind old v.slot k g h a (named v.value k e).0 held before r
+
+    go : (b : Bool) → IsRun slots (if b then stored v.slot (name v.value) else []) g h → IsLinked z kind old (if b then option_map_or (λ k. slice_set old v.slot (id k)) (name v.value) old else old) g h
+    go true r = by_name (name v.value) refl r
+    go false r = nothing_linked z kind old g h held before r
+
+link_references : (slots : ℕ → ℕ) (class : ℕ) (made : ℕ → Bool) (last n z : ℕ) (name : ℕ → Option ℕ) (id : ℕ → ℕ) (role : ℕ → Role) (kind : ObjKind) (values : List SlotValue) (old : List ℕ) (g h : Graph)
+    → AreNamed name made last → role z ≡ Object n → AreFound class made last id role g → g.registers 5 ≡ z → g.things z ≡ Some (record { kind = kind; words = old })
+    → IsRun slots (flat_map (reference_of name) values) g h → IsLinked z kind old (with_references name id old values) g h
+link_references slots class made last n z name id role kind [] old g h named for a held before r = nothing_linked z kind old g h held before r
+link_references slots class made last n z name id role kind (v ∷ values) old g h named for a held before r = record {
+  filled = two_fillings z kind old (with_reference name id old v) (with_references name id (with_reference name id old v) values) g s.0 h first.filled rest.filled;
+  held = rest.held;
+}
+  where
+    s : (f : Graph) × IsRun slots (reference_of name v) g f × IsRun slots (flat_map (reference_of name) values) f h
+    s = run_in_parts slots (reference_of name v) (flat_map (reference_of name) values) g h r
+
+    first : IsLinked z kind old (with_reference name id old v) g s.0
+    first = link_reference slots class made last z name id role kind old v g s.0 named a held before s.1
+
+    rest : IsLinked z kind (with_reference name id old v) (with_references name id (with_reference name id old v) values) s.0 h
+    rest = link_references slots class made last n z name id role kind values (with_reference name id old v) s.0 h named for
+        (found_after_filling class made last n z id role kind old (with_reference name id old v) g s.0 for a first.filled) first.held first.filled.here s.2
+
+-- ---- an object
+
+-- the events that store the references of object n
+abbrev pub link_values : (ℕ → Option ℕ) → ℕ → List SlotValue → List Event
+link_values name n values = if list_any names_object values then fetch_events n 5 ++ flat_map (reference_of name) values else []
+
+abbrev pub link_block : (ℕ → Option ℕ) → ℕ → Option ObjectTold → List Event
+link_block name n None = []
+link_block name n (Some t) = link_values name n t.values
+
+or_parts : (a b : Bool) → (a || b) ≡ false → (a ≡ false) × (b ≡ false)
+or_parts true b e = let z : true ≡ false = e in cc
+or_parts false b e = (refl, e)
+
+no_references : (name : ℕ → Option ℕ) (id : ℕ → ℕ) (values : List SlotValue) (words : List ℕ) → list_any names_object values ≡ false → with_references name id words values ≡ words
+no_references name id [] words e = refl
+no_references name id (v ∷ values) words e =
+    let p = or_parts (names_object v) (list_any names_object values) e in
+    ap (λ b. with_references name id (if b then option_map_or (λ k. slice_set words v.slot (id k)) (name v.value) words else words) values) p.0 ∙ no_references name id values words p.1
+
+-- an object as it is at last
+pub linked_thing : (ℕ → Option ℕ) → (ℕ → ℕ) → ObjectTold → Thing
+linked_thing name id t = record { kind = t.kind; words = with_references name id (made_thing t).words t.values }
+
+pub values_are_linked : (slots : ℕ → ℕ) (class : ℕ) (made : ℕ → Bool) (last n : ℕ) (name : ℕ → Option ℕ) (id : ℕ → ℕ) (role : ℕ → Role) (kind : ObjKind) (values : List SlotValue) (old : List ℕ) (g h : Graph)
+    → AreNamed name made last → n < last → made n ≡ true → AreFound class made last id role g → g.things (id n) ≡ Some (record { kind = kind; words = old })
+    → IsRun slots (link_values name n values) g h → IsFilling (id n) kind old (with_references name id old values) g h
+values_are_linked slots class made last n name id role kind values old g h named l b a before = go (list_any names_object values) refl
+  where
+    for : role (id n) ≡ Object n
+    for = for_its_number class made last id role g n a l b
+
+    go : (c : Bool) → list_any names_object values ≡ c → IsRun slots (if c then fetch_events n 5 ++ flat_map (reference_of name) values else []) g h → IsFilling (id n) kind old (with_references name id old values) g h
+    go false e r = subst (λ words. IsFilling (id n) kind old words g h) (sym (no_references name id values old e)) (subst (IsFilling (id n) kind old old g) r (nothing_filled (id n) kind old g g before (λ y. refl) (λ q k. refl)))
+    go true e r = two_fillings (id n) kind old old (with_references name id old values) g s.0 h first
+        (link_references slots class made last n (id n) name id role kind values old s.0 h named for (found_after_filling class made last n (id n) id role kind old old g s.0 for a first) (p.held ∙ a.ids n l) first.here s.2).filled
+      where
+        s : (f : Graph) × IsRun slots (fetch_events n 5) g f × IsRun slots (flat_map (reference_of name) values) f h
+        s = run_in_parts slots (fetch_events n 5) (flat_map (reference_of name) values) g h r
+
+        p : IsFetched 5 (kept g n) g s.0
+        p = object_is_fetched slots class role 5 n g s.0 (a.tops n l) (a.keepers n l) s.1
+
+        first : IsFilling (id n) kind old old g s.0
+        first = fetching_fills (id n) 5 (kept g n) kind old g s.0 (omega arith) before p
+
+-- ---- all objects
+
+abbrev pub linkings : (ℕ → Option ℕ) → ℕ → List (Option ObjectTold) → List Event
+linkings name n [] = []
+linkings name n (x ∷ xs) = link_block name n x ++ linkings name (n + 1) xs
+
+-- the objects of this list are linked, from number n on, and those before them aren't changed
+pub record AreLinked (class : ℕ) (made : ℕ → Bool) (last n : ℕ) (name : ℕ → Option ℕ) (id : ℕ → ℕ) (list : List (Option ObjectTold)) (role : ℕ → Role) (g h : Graph) : Type 0 where
+  pub found : AreFound class made last id role h
+  pub spared : (m : ℕ) → m < last → made m ≡ true → m < n → h.things (id m) ≡ g.things (id m)
+  pub contents : (i : ℕ) (t : ObjectTold) → slice_get list i ≡ Some (Some t) → h.things (id (n + i)) ≡ Some (linked_thing name id t)
+
+-- those of the list are made, below `last`
+abbrev pub AreThere : (ℕ → Bool) → ℕ → ℕ → List (Option ObjectTold) → Type 0
+AreThere made last n list = (i : ℕ) (t : ObjectTold) → slice_get list i ≡ Some (Some t) → (n + i < last) × (made (n + i) ≡ true)
+
+abbrev pub AreAsMade : (ℕ → ℕ) → ℕ → List (Option ObjectTold) → Graph → Type 0
+AreAsMade id n list g = (i : ℕ) (t : ObjectTold) → slice_get list i ≡ Some (Some t) → g.things (id (n + i)) ≡ Some (made_thing t)
+
+-- one object: others aren't changed
+pub record IsBlockLinked (class : ℕ) (made : ℕ → Bool) (last n : ℕ) (name : ℕ → Option ℕ) (id : ℕ → ℕ) (x : Option ObjectTold) (role : ℕ → Role) (g h : Graph) : Type 0 where
+  pub found : AreFound class made last id role h
+  pub spared : (m : ℕ) → m < last → made m ≡ true → m ≢ n → h.things (id m) ≡ g.things (id m)
+  pub content : (t : ObjectTold) → x ≡ Some t → h.things (id n) ≡ Some (linked_thing name id t)
+
+block_is_linked : (slots : ℕ → ℕ) (class : ℕ) (made : ℕ → Bool) (last n : ℕ) (name : ℕ → Option ℕ) (id : ℕ → ℕ) (x : Option ObjectTold) (role : ℕ → Role) (g h : Graph)
+    → AreNamed name made last → AreFound class made last id role g → ((t : ObjectTold) → x ≡ Some t → (n < last) × (made n ≡ true) × (g.things (id n) ≡ Some (made_thing t)))
+    → IsRun slots (link_block name n x) g h → IsBlockLinked class made last n name id x role g h
+unfolding linked_thing
+block_is_linked slots class made last n name id None role g h named a there r = subst (IsBlockLinked class made last n name id None role g) r (record {
+  found = a;
+  spared = λ m l b d. refl;
+  content = λ t e. (let z : None ≡ Some t = e in cc);
+})
+block_is_linked slots class made last n name id (Some t) role g h named a there r = record {
+  found = found_after_filling class made last n (id n) id role t.kind (made_thing t).words (linked_thing name id t).words g h (for_its_number class made last id role g n a at_n.0 at_n.1) a f;
+  spared = λ m l b d. f.others (id m) (λ e. d (ids_differ class made last id role g m n a l b at_n.0 at_n.1 e));
+  content = λ u e. (let same : t ≡ u = some_is_one t u e in f.here ∙ ap (λ v. Some (linked_thing name id v)) same);
+}
+  where
+    some_is_one : (t u : ObjectTold) → Some t ≡ Some u → t ≡ u
+    some_is_one t u e = cc
+
+    at_n : (n < last) × (made n ≡ true) × (g.things (id n) ≡ Some (made_thing t))
+    at_n = there t refl
+
+    f : IsFilling (id n) t.kind (made_thing t).words (with_references name id (made_thing t).words t.values) g h
+    f = values_are_linked slots class made last n name id role t.kind t.values (made_thing t).words g h named at_n.0 at_n.1 a at_n.2 r
+
+pub objects_are_linked : (slots : ℕ → ℕ) (class : ℕ) (made : ℕ → Bool) (last n : ℕ) (name : ℕ → Option ℕ) (id : ℕ → ℕ) (list : List (Option ObjectTold)) (role : ℕ → Role) (g h : Graph)
+    → AreNamed name made last → AreFound class made last id role g → AreThere made last n list → AreAsMade id n list g
+    → IsRun slots (linkings name n list) g h → AreLinked class made last n name id list role g h
+objects_are_linked slots class made last n name id [] role g h named a there contents r = subst (AreLinked class made last n name id [] role g) r (record {
+  found = a;
+  spared = λ m l b k. refl;
+  contents = λ i t e. (let z : None ≡ Some (Some t) = e in cc);
+})
+objects_are_linked slots class made last n name id (x ∷ xs) role g h named a there contents r = record {
+  found = rest.found;
+  spared = λ m l b k. rest.spared m l b (omega (arith, k)) ∙ first.spared m l b (λ e. omega (arith, k, e));
+  contents = linked;
+}
+  where
+    s : (f : Graph) × IsRun slots (link_block name n x) g f × IsRun slots (linkings name (n + 1) xs) f h
+    s = run_in_parts slots (link_block name n x) (linkings name (n + 1) xs) g h r
+
+    plus_zero : n + 0 ≡ n
+    plus_zero = omega arith
+
+    plus_one : (i : ℕ) → n + suc i ≡ n + 1 + i
+    plus_one i = omega arith
+
+    here : (t : ObjectTold) → x ≡ Some t → (n < last) × (made n ≡ true) × (g.things (id n) ≡ Some (made_thing t))
+    here t e =
+        let p = there 0 t (ap Some e) in
+        (subst (λ m. m < last) plus_zero p.0, subst (λ m. made m ≡ true) plus_zero p.1, ap (λ m. g.things (id m)) (sym plus_zero) ∙ contents 0 t (ap Some e))
+
+    first : IsBlockLinked class made last n name id x role g s.0
+    first = block_is_linked slots class made last n name id x role g s.0 named a here s.1
+
+    there_later : AreThere made last (n + 1) xs
+    there_later i t e = let p = there (suc i) t e in (subst (λ m. m < last) (plus_one i) p.0, subst (λ m. made m ≡ true) (plus_one i) p.1)
+
+    rest : AreLinked class made last (n + 1) name id xs role s.0 h
+    rest = objects_are_linked slots class made last (n + 1) name id xs role s.0 h named first.found there_later
+        (λ i t e. first.spared (n + 1 + i) (there_later i t e).0 (there_later i t e).1 (λ d. omega (arith, d)) ∙ ap (λ m. g.things (id m)) (sym (plus_one i)) ∙ contents (suc i) t e) s.2
+
+    linked : (i : ℕ) (t : ObjectTold) → slice_get (x ∷ xs) i ≡ Some (Some t) → h.things (id (n + i)) ≡ Some (linked_thing name id t)
+    linked zero t e =
+        let same : x ≡ Some t = some_of_some e in
+        ap (λ m. h.things (id m)) plus_zero ∙ rest.spared n (here t same).0 (here t same).1 (omega arith) ∙ first.content t same
+      where
+        some_of_some : Some x ≡ Some (Some t) → x ≡ Some t
+        some_of_some f = cc
+    linked (suc i) t e = ap (λ m. h.things (id m)) (plus_one i) ∙ rest.contents i t e

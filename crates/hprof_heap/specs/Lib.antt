@@ -1,0 +1,2 @@
+pub mod TrialPlaces
+pub mod Trial

@@ -1,0 +1,2 @@
+//! What the heap is that the session of a dump makes.
+#![tactic(auto)]

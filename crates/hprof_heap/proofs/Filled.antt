@@ -8,8 +8,9 @@ use Rattle.heap_class.specs.declared.ObjKind.TheVariants.{Array}
 use Rattle.heap_class.specs.Kinds.{is_reference}
 use Rattle.heap_step.specs.declared.Event.{Event}
 use Rattle.heap_step.specs.declared.Event.TheVariants.{Put}
-use Rattle.hprof_heap.specs.TrialPlaces.{array_slot, slot_of, top_of}
-use Rattle.hprof_heap.specs.Trial.{SlotValue, shown, value_events}
+use Rattle.hprof_session.specs.Places.{array_slot, slot_of, top_of}
+use Rattle.hprof_lines.specs.declared.values.SlotValue.{SlotValue}
+use Rattle.hprof_lines.specs.Objects.{shown, value_events}
 use Rattle.hprof_heap.proofs.Graphs.{Graph, Thing, word, word_in, IsRun, IsWriting, run_in_parts, thing_is_there}
 use Rattle.hprof_heap.proofs.Placed.{IsKeeper, IsPlaceArray, IsTop, Moves, Object, Role, Stays, keeper, kept, keeper_is_no_object, top_is_no_object, object_number, same_thing}
 

@@ -5,3 +5,5 @@ pub mod Filled
 pub mod Making
 pub mod MakingPass
 pub mod Linking
+pub mod Words
+pub mod Simulation

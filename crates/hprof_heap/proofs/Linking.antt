@@ -7,8 +7,10 @@ use Rattle.std.proofs.lemmas.Bool.{cases_eq}
 use Rattle.heap_class.specs.declared.ObjKind.{ObjKind}
 use Rattle.heap_step.specs.declared.Event.{Event}
 use Rattle.heap_step.specs.declared.Event.TheVariants.{Load, Store}
-use Rattle.hprof_heap.specs.TrialPlaces.{array_slot, fetch_events, slot_of, top_of}
-use Rattle.hprof_heap.specs.Trial.{ObjectTold, SlotValue, names_object, stored}
+use Rattle.hprof_session.specs.Places.{array_slot, fetch_events, slot_of, top_of}
+use Rattle.hprof_lines.specs.declared.values.SlotValue.{SlotValue}
+use Rattle.hprof_lines.specs.Objects.{names_object, stored}
+use Rattle.hprof_heap.specs.ToldObjects.{ObjectTold}
 use Rattle.hprof_heap.proofs.Graphs.{Graph, Thing, word, word_in, IsLoading, IsRun, IsWriting, run_in_parts}
 use Rattle.hprof_heap.proofs.PlaceNumbers.{few_tops}
 use Rattle.hprof_heap.proofs.Placed.{IsKeeper, IsKept, IsPlaceArray, IsTop, Moves, Object, Role, Stays, keeper, keeper_moves, kept, kept_moves, object_number, top_moves, below_or_last}
@@ -177,7 +179,7 @@ no_references name id (v ∷ values) words e =
     ap (λ b. with_references name id (if b then option_map_or (λ k. slice_set words v.slot (id k)) (name v.value) words else words) values) p.0 ∙ no_references name id values words p.1
 
 -- an object as it is at last
-pub linked_thing : (ℕ → Option ℕ) → (ℕ → ℕ) → ObjectTold → Thing
+abbrev pub linked_thing : (ℕ → Option ℕ) → (ℕ → ℕ) → ObjectTold → Thing
 linked_thing name id t = record { kind = t.kind; words = with_references name id (made_thing t).words t.values }
 
 pub values_are_linked : (slots : ℕ → ℕ) (class : ℕ) (made : ℕ → Bool) (last n : ℕ) (name : ℕ → Option ℕ) (id : ℕ → ℕ) (role : ℕ → Role) (kind : ObjKind) (values : List SlotValue) (old : List ℕ) (g h : Graph)
@@ -230,7 +232,6 @@ pub record IsBlockLinked (class : ℕ) (made : ℕ → Bool) (last n : ℕ) (nam
 block_is_linked : (slots : ℕ → ℕ) (class : ℕ) (made : ℕ → Bool) (last n : ℕ) (name : ℕ → Option ℕ) (id : ℕ → ℕ) (x : Option ObjectTold) (role : ℕ → Role) (g h : Graph)
     → AreNamed name made last → AreFound class made last id role g → ((t : ObjectTold) → x ≡ Some t → (n < last) × (made n ≡ true) × (g.things (id n) ≡ Some (made_thing t)))
     → IsRun slots (link_block name n x) g h → IsBlockLinked class made last n name id x role g h
-unfolding linked_thing
 block_is_linked slots class made last n name id None role g h named a there r = subst (IsBlockLinked class made last n name id None role g) r (record {
   found = a;
   spared = λ m l b d. refl;

@@ -7,8 +7,10 @@ use Rattle.heap_class.specs.declared.ObjKind.{ObjKind}
 use Rattle.heap_class.specs.declared.ObjKind.TheVariants.{Instance, Array, Prim}
 use Rattle.heap_step.specs.declared.Event.{Event}
 use Rattle.heap_step.specs.declared.Event.TheVariants.{New, NewArray, NewPrim, Store}
-use Rattle.hprof_heap.specs.TrialPlaces.{array_events, array_slot, keep_event, place_events, slot_of, top_events, top_of}
-use Rattle.hprof_heap.specs.Trial.{ObjectTold, SlotValue, value_events}
+use Rattle.hprof_session.specs.Places.{array_events, array_slot, keep_event, place_events, slot_of, top_events, top_of}
+use Rattle.hprof_lines.specs.declared.values.SlotValue.{SlotValue}
+use Rattle.hprof_lines.specs.Objects.{value_events}
+use Rattle.hprof_heap.specs.ToldObjects.{ObjectTold}
 use Rattle.hprof_heap.proofs.Graphs.{Graph, Thing, word, word_in, IsCreation, IsGraphStep, IsRun, IsWriting, marked, marked_here, run_in_parts, thing_is_there, word_after_write, word_written}
 use Rattle.hprof_heap.proofs.PlaceNumbers.{array_differs, chunk_differs, chunk_of_previous, few_tops, slot_differs, top_differs, top_of_previous, previous_is_less, whole_top_is_whole_chunk}
 use Rattle.hprof_heap.proofs.Placed.{ArePlaced, IsKeeper, IsKept, IsPlaceArray, IsTop, Keeper, Moves, Object, Role, Stays, Top, creation_moves, creation_stays, keeper, keeper_is_no_object, keeper_moves, keeper_number, kept, kept_moves, no_move, object_number, place_array_is_there, placed_more, placed_moves, same_chunk_same_keeper, stays_twice, top_is_no_keeper, top_is_no_object, top_moves, top_number, two_moves, unmoved_stays, writing_moves, writing_stays}
@@ -79,7 +81,7 @@ top_stays_ready class made n role g part a = record {
 }
   where
     before : IsTop class role g (n - 1)
-    before = a.tops (n - 1) (previous_is_less n 1048575 part)
+    before = a.tops (n - 1) (previous_is_less n (λ e. part (ap (λ i. i % 2 ^ 20) e)))
 
 pub top_is_ready : (slots : ℕ → ℕ) (class : ℕ) (made : ℕ → Bool) (n : ℕ) (role : ℕ → Role) (g h : Graph) → n < 2 ^ 22 → ArePlaced class made n role g → IsRun slots (top_events class n) g h → IsTopReady class made n role g h
 top_is_ready slots class made n role g h few a = go (n % 2 ^ 20 == 0) refl
@@ -108,7 +110,7 @@ keeper_stays_ready class made n role g part a t = record {
 }
   where
     less : n - 1 < n
-    less = previous_is_less n 1023 part
+    less = previous_is_less n (λ e. part (ap (λ i. i % 1024) e))
 
     chunk : (n - 1) / 1024 ≡ n / 1024
     chunk = chunk_of_previous n part

@@ -1,13 +1,12 @@
 -- The places of numbers: which differ, and which are the same.
-use Rattle.std.proofs.Common.{◌≡◌, ◌≢◌, ℕ, zero, suc, ◌+◌, ◌-◌, ◌*◌, ◌/◌, ◌%◌, ◌^◌, ◌<◌, refl, sym, ap, ◌∙◌, arith}
-use Rattle.hprof_heap.specs.TrialPlaces.{array_slot, slot_of, top_of}
+use Rattle.std.proofs.Common.{◌≡◌, ◌≢◌, ℕ, ◌+◌, ◌-◌, ◌*◌, ◌/◌, ◌%◌, ◌^◌, ◌<◌, refl, sym, ap, ◌∙◌, arith}
+use Rattle.hprof_session.specs.Places.{array_slot, slot_of, top_of}
 
 pub top_differs : (n m : ℕ) → n % 2 ^ 20 ≡ 0 → m < n → top_of m ≢ top_of n
 top_differs n m h lt e = omega (arith, h, lt, e)
 
-pub previous_is_less : (n k : ℕ) → n % (k + 1) ≢ 0 → n - 1 < n
-previous_is_less zero k h = ?
-previous_is_less (suc n) k h = omega arith
+pub previous_is_less : (n : ℕ) → n ≢ 0 → n - 1 < n
+previous_is_less n d = omega (arith, d)
 
 pub top_of_previous : (n : ℕ) → n % 2 ^ 20 ≢ 0 → top_of (n - 1) ≡ top_of n
 top_of_previous n h = omega (arith, h)

@@ -5,7 +5,7 @@ use Rattle.std.proofs.lemmas.Bool.{cases_eq}
 use Rattle.std.proofs.lemmas.List.{length-set}
 use Rattle.heap_class.specs.declared.ObjKind.{ObjKind}
 use Rattle.heap_class.specs.declared.ObjKind.TheVariants.{Array}
-use Rattle.hprof_heap.specs.TrialPlaces.{array_slot, slot_of, top_of}
+use Rattle.hprof_session.specs.Places.{array_slot, slot_of, top_of}
 use Rattle.hprof_heap.proofs.PlaceNumbers.{same_chunk_same_array, same_chunk_same_top, same_or_next_chunk}
 use Rattle.hprof_heap.proofs.Graphs.{Graph, Thing, word, word_in, IsCreation, IsWriting, IsLoading, IsClearing, marked, marked_elsewhere, thing_after_creation, older_is_not_new, thing_is_there, word_after_write}
 

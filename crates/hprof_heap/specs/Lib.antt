@@ -1,2 +1,2 @@
-pub mod TrialPlaces
-pub mod Trial
+pub mod ToldObjects
+pub mod DumpHeaps

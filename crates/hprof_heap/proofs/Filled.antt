@@ -106,19 +106,14 @@ put_value slots z kind old v g h e before = go (is_reference v.kind || v.value =
     go false r = subst (ArePut z kind old (slice_set old v.slot (shown v.kind v.value)) g) r.2
         (record { filled = writing_fills z 5 v.slot (shown v.kind v.value) kind old g r.0 e before r.1; registers = r.1.registers })
 
+put_twice : (z : ℕ) (kind : ObjKind) (a b c : List ℕ) (f g h : Graph) → ArePut z kind a b f g → ArePut z kind b c g h → ArePut z kind a c f h
+put_twice z kind a b c f g h p q = record { filled = two_fillings z kind a b c f g h p.filled q.filled; registers = λ r. q.registers r ∙ p.registers r }
+
 pub put_values : (slots : ℕ → ℕ) (z : ℕ) (kind : ObjKind) (values : List SlotValue) (old : List ℕ) (g h : Graph) → g.registers 5 ≡ z → g.things z ≡ Some (record { kind = kind; words = old })
     → IsRun slots (flat_map value_events values) g h → ArePut z kind old (with_values old values) g h
 put_values slots z kind [] old g h e before r = subst (ArePut z kind old old g) r (record { filled = nothing_filled z kind old g g before (λ y. refl) (λ q l. refl); registers = λ q. refl })
-put_values slots z kind (v ∷ values) old g h e before r = record {
-  filled = two_fillings z kind old (with_value old v) (with_values (with_value old v) values) g s.0 h first.filled rest.filled;
-  registers = λ q. rest.registers q ∙ first.registers q;
-}
-  where
-    s : (f : Graph) × IsRun slots (value_events v) g f × IsRun slots (flat_map value_events values) f h
-    s = run_in_parts slots (value_events v) (flat_map value_events values) g h r
-
-    first : ArePut z kind old (with_value old v) g s.0
-    first = put_value slots z kind old v g s.0 e before s.1
-
-    rest : ArePut z kind (with_value old v) (with_values (with_value old v) values) s.0 h
-    rest = put_values slots z kind values (with_value old v) s.0 h (first.registers 5 ∙ e) first.filled.here s.2
+put_values slots z kind (v ∷ values) old g h e before r =
+    let s = run_in_parts slots (value_events v) (flat_map value_events values) g h r in
+    let first = put_value slots z kind old v g s.0 e before s.1 in
+    put_twice z kind old (with_value old v) (with_values (with_value old v) values) g s.0 h first
+    (put_values slots z kind values (with_value old v) s.0 h (first.registers 5 ∙ e) first.filled.here s.2)

@@ -139,24 +139,19 @@ link_reference slots class made last z name id role kind old v g h named a held 
     go true r = by_name (name v.value) refl r
     go false r = nothing_linked z kind old g h held before r
 
+linked_twice : (z : ℕ) (kind : ObjKind) (a b c : List ℕ) (f g h : Graph) → IsLinked z kind a b f g → IsLinked z kind b c g h → IsLinked z kind a c f h
+linked_twice z kind a b c f g h p q = record { filled = two_fillings z kind a b c f g h p.filled q.filled; held = q.held }
+
 link_references : (slots : ℕ → ℕ) (class : ℕ) (made : ℕ → Bool) (last n z : ℕ) (name : ℕ → Option ℕ) (id : ℕ → ℕ) (role : ℕ → Role) (kind : ObjKind) (values : List SlotValue) (old : List ℕ) (g h : Graph)
     → AreNamed name made last → role z ≡ Object n → AreFound class made last id role g → g.registers 5 ≡ z → g.things z ≡ Some (record { kind = kind; words = old })
     → IsRun slots (flat_map (reference_of name) values) g h → IsLinked z kind old (with_references name id old values) g h
 link_references slots class made last n z name id role kind [] old g h named for a held before r = nothing_linked z kind old g h held before r
-link_references slots class made last n z name id role kind (v ∷ values) old g h named for a held before r = record {
-  filled = two_fillings z kind old (with_reference name id old v) (with_references name id (with_reference name id old v) values) g s.0 h first.filled rest.filled;
-  held = rest.held;
-}
-  where
-    s : (f : Graph) × IsRun slots (reference_of name v) g f × IsRun slots (flat_map (reference_of name) values) f h
-    s = run_in_parts slots (reference_of name v) (flat_map (reference_of name) values) g h r
-
-    first : IsLinked z kind old (with_reference name id old v) g s.0
-    first = link_reference slots class made last z name id role kind old v g s.0 named a held before s.1
-
-    rest : IsLinked z kind (with_reference name id old v) (with_references name id (with_reference name id old v) values) s.0 h
-    rest = link_references slots class made last n z name id role kind values (with_reference name id old v) s.0 h named for
-        (found_after_filling class made last n z id role kind old (with_reference name id old v) g s.0 for a first.filled) first.held first.filled.here s.2
+link_references slots class made last n z name id role kind (v ∷ values) old g h named for a held before r =
+    let s = run_in_parts slots (reference_of name v) (flat_map (reference_of name) values) g h r in
+    let first = link_reference slots class made last z name id role kind old v g s.0 named a held before s.1 in
+    linked_twice z kind old (with_reference name id old v) (with_references name id (with_reference name id old v) values) g s.0 h first
+    (link_references slots class made last n z name id role kind values (with_reference name id old v) s.0 h named for
+    (found_after_filling class made last n z id role kind old (with_reference name id old v) g s.0 for a first.filled) first.held first.filled.here s.2)
 
 -- ---- an object
 
@@ -252,6 +247,38 @@ block_is_linked slots class made last n name id (Some t) role g h named a there 
     f : IsFilling (id n) t.kind (made_thing t).words (with_references name id (made_thing t).words t.values) g h
     f = values_are_linked slots class made last n name id role t.kind t.values (made_thing t).words g h named at_n.0 at_n.1 a at_n.2 r
 
+plus_zero : (n : ℕ) → n + 0 ≡ n
+plus_zero n = omega arith
+
+plus_one : (n i : ℕ) → n + suc i ≡ n + 1 + i
+plus_one n i = omega arith
+
+first_is_there : (made : ℕ → Bool) (last n : ℕ) (id : ℕ → ℕ) (x : Option ObjectTold) (xs : List (Option ObjectTold)) (g : Graph) → AreThere made last n (x ∷ xs) → AreAsMade id n (x ∷ xs) g
+    → (t : ObjectTold) → x ≡ Some t → (n < last) × (made n ≡ true) × (g.things (id n) ≡ Some (made_thing t))
+first_is_there made last n id x xs g there contents t e =
+    let p = there 0 t (ap Some e) in
+    (subst (λ m. m < last) (plus_zero n) p.0, subst (λ m. made m ≡ true) (plus_zero n) p.1, ap (λ m. g.things (id m)) (sym (plus_zero n)) ∙ contents 0 t (ap Some e))
+
+others_are_there : (made : ℕ → Bool) (last n : ℕ) (x : Option ObjectTold) (xs : List (Option ObjectTold)) → AreThere made last n (x ∷ xs) → AreThere made last (n + 1) xs
+others_are_there made last n x xs there i t e = let p = there (suc i) t e in (subst (λ m. m < last) (plus_one n i) p.0, subst (λ m. made m ≡ true) (plus_one n i) p.1)
+
+block_and_more_linked : (class : ℕ) (made : ℕ → Bool) (last n : ℕ) (name : ℕ → Option ℕ) (id : ℕ → ℕ) (x : Option ObjectTold) (xs : List (Option ObjectTold)) (role : ℕ → Role) (g f h : Graph)
+    → ((t : ObjectTold) → x ≡ Some t → (n < last) × (made n ≡ true)) → IsBlockLinked class made last n name id x role g f → AreLinked class made last (n + 1) name id xs role f h → AreLinked class made last n name id (x ∷ xs) role g h
+block_and_more_linked class made last n name id x xs role g f h here first rest = record {
+  found = rest.found;
+  spared = λ m l b k. rest.spared m l b (omega (arith, k)) ∙ first.spared m l b (λ e. omega (arith, k, e));
+  contents = linked;
+}
+  where
+    some_of_some : (t : ObjectTold) → Some x ≡ Some (Some t) → x ≡ Some t
+    some_of_some t e = cc
+
+    linked : (i : ℕ) (t : ObjectTold) → slice_get (x ∷ xs) i ≡ Some (Some t) → h.things (id (n + i)) ≡ Some (linked_thing name id t)
+    linked zero t e =
+        let same : x ≡ Some t = some_of_some t e in
+        ap (λ m. h.things (id m)) (plus_zero n) ∙ rest.spared n (here t same).0 (here t same).1 (omega arith) ∙ first.content t same
+    linked (suc i) t e = ap (λ m. h.things (id m)) (plus_one n i) ∙ rest.contents i t e
+
 pub objects_are_linked : (slots : ℕ → ℕ) (class : ℕ) (made : ℕ → Bool) (last n : ℕ) (name : ℕ → Option ℕ) (id : ℕ → ℕ) (list : List (Option ObjectTold)) (role : ℕ → Role) (g h : Graph)
     → AreNamed name made last → AreFound class made last id role g → AreThere made last n list → AreAsMade id n list g
     → IsRun slots (linkings name n list) g h → AreLinked class made last n name id list role g h
@@ -260,41 +287,11 @@ objects_are_linked slots class made last n name id [] role g h named a there con
   spared = λ m l b k. refl;
   contents = λ i t e. (let z : None ≡ Some (Some t) = e in cc);
 })
-objects_are_linked slots class made last n name id (x ∷ xs) role g h named a there contents r = record {
-  found = rest.found;
-  spared = λ m l b k. rest.spared m l b (omega (arith, k)) ∙ first.spared m l b (λ e. omega (arith, k, e));
-  contents = linked;
-}
-  where
-    s : (f : Graph) × IsRun slots (link_block name n x) g f × IsRun slots (linkings name (n + 1) xs) f h
-    s = run_in_parts slots (link_block name n x) (linkings name (n + 1) xs) g h r
-
-    plus_zero : n + 0 ≡ n
-    plus_zero = omega arith
-
-    plus_one : (i : ℕ) → n + suc i ≡ n + 1 + i
-    plus_one i = omega arith
-
-    here : (t : ObjectTold) → x ≡ Some t → (n < last) × (made n ≡ true) × (g.things (id n) ≡ Some (made_thing t))
-    here t e =
-        let p = there 0 t (ap Some e) in
-        (subst (λ m. m < last) plus_zero p.0, subst (λ m. made m ≡ true) plus_zero p.1, ap (λ m. g.things (id m)) (sym plus_zero) ∙ contents 0 t (ap Some e))
-
-    first : IsBlockLinked class made last n name id x role g s.0
-    first = block_is_linked slots class made last n name id x role g s.0 named a here s.1
-
-    there_later : AreThere made last (n + 1) xs
-    there_later i t e = let p = there (suc i) t e in (subst (λ m. m < last) (plus_one i) p.0, subst (λ m. made m ≡ true) (plus_one i) p.1)
-
-    rest : AreLinked class made last (n + 1) name id xs role s.0 h
-    rest = objects_are_linked slots class made last (n + 1) name id xs role s.0 h named first.found there_later
-        (λ i t e. first.spared (n + 1 + i) (there_later i t e).0 (there_later i t e).1 (λ d. omega (arith, d)) ∙ ap (λ m. g.things (id m)) (sym (plus_one i)) ∙ contents (suc i) t e) s.2
-
-    linked : (i : ℕ) (t : ObjectTold) → slice_get (x ∷ xs) i ≡ Some (Some t) → h.things (id (n + i)) ≡ Some (linked_thing name id t)
-    linked zero t e =
-        let same : x ≡ Some t = some_of_some e in
-        ap (λ m. h.things (id m)) plus_zero ∙ rest.spared n (here t same).0 (here t same).1 (omega arith) ∙ first.content t same
-      where
-        some_of_some : Some x ≡ Some (Some t) → x ≡ Some t
-        some_of_some f = cc
-    linked (suc i) t e = ap (λ m. h.things (id m)) (plus_one i) ∙ rest.contents i t e
+objects_are_linked slots class made last n name id (x ∷ xs) role g h named a there contents r =
+    let s = run_in_parts slots (link_block name n x) (linkings name (n + 1) xs) g h r in
+    let here = first_is_there made last n id x xs g there contents in
+    let later = others_are_there made last n x xs there in
+    let first = block_is_linked slots class made last n name id x role g s.0 named a here s.1 in
+    block_and_more_linked class made last n name id x xs role g s.0 h (λ t e. ((here t e).0, (here t e).1)) first
+    (objects_are_linked slots class made last (n + 1) name id xs role s.0 h named first.found later
+    (λ i t e. first.spared (n + 1 + i) (later i t e).0 (later i t e).1 (λ d. omega (arith, d)) ∙ ap (λ m. g.things (id m)) (sym (plus_one n i)) ∙ contents (suc i) t e) s.2)

@@ -23,10 +23,10 @@ pub record Leads (class : ℕ) (made : ℕ → Bool) (n : ℕ) (role : ℕ → R
   pub stays : (m : ℕ) → m < n → Stays g h m
   pub placed : ArePlaced class made n after h
 
-pub leads_nowhere : (class : ℕ) (made : ℕ → Bool) (n : ℕ) (role : ℕ → Role) (g : Graph) → ArePlaced class made n role g → Leads class made n role g g
+abbrev pub leads_nowhere : (class : ℕ) (made : ℕ → Bool) (n : ℕ) (role : ℕ → Role) (g : Graph) → ArePlaced class made n role g → Leads class made n role g g
 leads_nowhere class made n role g a = record { after = role; moves = no_move class n role g; stays = λ m l. unmoved_stays g m; placed = a }
 
-pub leads_on : (class : ℕ) (made : ℕ → Bool) (n : ℕ) (role : ℕ → Role) (f g h : Graph) → (p : Leads class made n role f g) → Leads class made n p.after g h → Leads class made n role f h
+abbrev pub leads_on : (class : ℕ) (made : ℕ → Bool) (n : ℕ) (role : ℕ → Role) (f g h : Graph) → (p : Leads class made n role f g) → Leads class made n p.after g h → Leads class made n role f h
 leads_on class made n role f g h p q = record {
   after = q.after;
   moves = two_moves class n role p.after q.after f g h p.moves q.moves;
@@ -348,11 +348,11 @@ pub record IsBlockMade (class : ℕ) (made : ℕ → Bool) (n : ℕ) (x : Option
   pub content : (t : ObjectTold) → x ≡ Some t → h.things (kept h n) ≡ Some (made_thing t)
 
 nothing_made : (class : ℕ) (made : ℕ → Bool) (n : ℕ) (role : ℕ → Role) (g h : Graph) → made n ≡ false → IsKeeperReady class made n role g h → IsBlockMade class made n None role g h
-nothing_made class made n role g h no p = record {
+nothing_made class made n role g h not_made p = record {
   after = p.led.after;
   moves = p.led.moves;
   stays = p.led.stays;
-  placed = placed_more class n made p.led.after h p.led.placed p.top p.array p.current (λ b. let z : true ≡ false = sym b ∙ no in cc);
+  placed = placed_more class n made p.led.after h p.led.placed p.top p.array p.current (λ b. let z : true ≡ false = sym b ∙ not_made in cc);
   content = λ t e. (let z : None ≡ Some t = e in cc);
 }
 

@@ -1,7 +1,7 @@
 -- All objects are made, one after another.
 use Rattle.std.proofs.Common.{◌≡◌, ◌≢◌, ◌⊎◌, ℕ, zero, suc, ◌+◌, ◌-◌, ◌^◌, ◌<◌, ◌≤◌, Bool, true, false, List, [], ◌∷◌, ◌++◌, length, refl, sym, ap, subst, ◌∙◌, Option, Some, None, inl, inr, arith}
 use Rattle.std.specs.Prelude.{slice_get, IsSome, is_some, nat_lt, if◌then◌else◌}
-use Rattle.std.proofs.lemmas.Bool.{cases_eq, cases_lt, ltb-true, ltb-false}
+use Rattle.std.proofs.lemmas.Bool.{cases_eq, cases_lt, false_from_ne_true, le-ltb, lt-ltb}
 use Rattle.heap_step.specs.declared.Event.{Event}
 use Rattle.hprof_heap.specs.ToldObjects.{ObjectTold}
 use Rattle.hprof_heap.proofs.Graphs.{Graph, IsRun, run_in_parts}
@@ -50,41 +50,45 @@ no_more_made class made n role g few a = record {
 }
 
 -- past the last number none is made
-none_past_last : (slots : ℕ → ℕ) (class : ℕ) (made : ℕ → Bool) (n : ℕ) (list : List (Option ObjectTold)) (g h : Graph) → 2 ^ 22 ≤ n → AreRight slots made n list → IsRun slots (makings class n list) g h
-    → (g ≡ h) × ((m : ℕ) → n ≤ m → m < n + length list → made m ≡ false) × ((i : ℕ) (t : ObjectTold) → slice_get list i ≢ Some (Some t))
-none_past_last slots class made n [] g h past right r = (r, (λ m l k. absurd (omega (arith, l, k))), λ i t e. let z : None ≡ Some (Some t) = e in cc)
-none_past_last slots class made n (x ∷ xs) g h past right r = (rest.0, made_none, none)
+past_block_is_empty : (class n : ℕ) (x : Option ObjectTold) → 2 ^ 22 ≤ n → making_block class n x ≡ []
+past_block_is_empty class n x past = ap (λ b. if b then made_block class n x else []) (le-ltb n (2 ^ 22) past)
+
+past_is_not_made : (slots : ℕ → ℕ) (made : ℕ → Bool) (n : ℕ) (x : Option ObjectTold) → 2 ^ 22 ≤ n → IsRight slots made n x → is_some x ≡ false
+past_is_not_made slots made n x past right = false_from_ne_true (is_some x) (λ e. let l : n < 2 ^ 22 = right.few e in omega (arith, l, past))
+
+not_some : (y : Option ObjectTold) (t : ObjectTold) → is_some y ≡ false → y ≢ Some t
+not_some None t e f = let z : None ≡ Some t = f in cc
+not_some (Some u) t e f = let z : true ≡ false = e in cc
+
+first_or_later : (n m : ℕ) → n ≤ m → (m ≡ n) ⊎ (n + 1 ≤ m)
+first_or_later n m l = elim (cases_eq m n) [ inl e ↦ inl e | inr d ↦ inr (omega (arith, l, d)) ]
+
+-- none of this list is made
+abbrev NoneMade : (ℕ → Bool) → ℕ → List (Option ObjectTold) → Type 0
+NoneMade made n list = ((m : ℕ) → n ≤ m → m < n + length list → made m ≡ false) × ((i : ℕ) (t : ObjectTold) → slice_get list i ≢ Some (Some t))
+
+none_of_more : (slots : ℕ → ℕ) (made : ℕ → Bool) (n : ℕ) (x : Option ObjectTold) (xs : List (Option ObjectTold)) → 2 ^ 22 ≤ n → IsRight slots made n x → NoneMade made (n + 1) xs → NoneMade made n (x ∷ xs)
+none_of_more slots made n x xs past right rest = (made_none, none)
   where
-    not_few : (b : Bool) → nat_lt n (2 ^ 22) ≡ b → b ≡ false
-    not_few true e = absurd (let l : n < 2 ^ 22 = ltb-true n (2 ^ 22) e in omega (arith, l, past))
-    not_few false e = refl
-
-    nothing : making_block class n x ≡ []
-    nothing = ap (λ b. if b then made_block class n x else []) (not_few (nat_lt n (2 ^ 22)) refl)
-
-    rest : (g ≡ h) × ((m : ℕ) → n + 1 ≤ m → m < n + 1 + length xs → made m ≡ false) × ((i : ℕ) (t : ObjectTold) → slice_get xs i ≢ Some (Some t))
-    rest = none_past_last slots class made (n + 1) xs g h (omega (arith, past)) right.1 (subst (λ es. IsRun slots (es ++ makings class (n + 1) xs) g h) nothing r)
-
-    none_here : (b : Bool) → is_some x ≡ b → b ≡ false
-    none_here true e = absurd (let l : n < 2 ^ 22 = right.0.few e in omega (arith, l, past))
-    none_here false e = refl
-
-    not_some : (y : Option ObjectTold) (t : ObjectTold) → is_some y ≡ false → y ≢ Some t
-    not_some None t e f = let z : None ≡ Some t = f in cc
-    not_some (Some u) t e f = let z : true ≡ false = e in cc
-
     made_none : (m : ℕ) → n ≤ m → m < n + length (x ∷ xs) → made m ≡ false
     made_none m l k = elim (first_or_later n m l) [
-      | inl e ↦ ap made e ∙ right.0.told ∙ none_here (is_some x) refl
-      | inr s ↦ rest.1 m s (omega (arith, k))
+      | inl e ↦ ap made e ∙ right.told ∙ past_is_not_made slots made n x past right
+      | inr s ↦ rest.0 m s (omega (arith, k))
     ]
-      where
-        first_or_later : (n m : ℕ) → n ≤ m → (m ≡ n) ⊎ (n + 1 ≤ m)
-        first_or_later n m l = elim (cases_eq m n) [ inl e ↦ inl e | inr d ↦ inr (omega (arith, l, d)) ]
+
+    some_of_some : (t : ObjectTold) → Some x ≡ Some (Some t) → x ≡ Some t
+    some_of_some t e = cc
 
     none : (i : ℕ) (t : ObjectTold) → slice_get (x ∷ xs) i ≢ Some (Some t)
-    none zero t e = not_some x t (none_here (is_some x) refl) (let f : Some x ≡ Some (Some t) = e in cc)
-    none (suc i) t e = rest.2 i t e
+    none zero t e = not_some x t (past_is_not_made slots made n x past right) (some_of_some t e)
+    none (suc i) t e = rest.1 i t e
+
+none_past_last : (slots : ℕ → ℕ) (class : ℕ) (made : ℕ → Bool) (n : ℕ) (list : List (Option ObjectTold)) (g h : Graph) → 2 ^ 22 ≤ n → AreRight slots made n list → IsRun slots (makings class n list) g h
+    → (g ≡ h) × NoneMade made n list
+none_past_last slots class made n [] g h past right r = (r, ((λ m l k. absurd (omega (arith, l, k))), λ i t e. let z : None ≡ Some (Some t) = e in cc))
+none_past_last slots class made n (x ∷ xs) g h past right r =
+    let rest = none_past_last slots class made (n + 1) xs g h (omega (arith, past)) right.1 (subst (λ es. IsRun slots (es ++ makings class (n + 1) xs) g h) (past_block_is_empty class n x past) r) in
+    (rest.0, none_of_more slots made n x xs past right.0 rest.1)
 
 stop_at_last : (slots : ℕ → ℕ) (class : ℕ) (made : ℕ → Bool) (n : ℕ) (list : List (Option ObjectTold)) (role : ℕ → Role) (g h : Graph) → n ≤ 2 ^ 22 → 2 ^ 22 ≤ n → AreRight slots made n list → ArePlaced class made n role g
     → IsRun slots (makings class n list) g h → AreMade class made n list role g h
@@ -92,14 +96,14 @@ stop_at_last slots class made n list role g h few past right a r = subst (AreMad
   after = role;
   last = n;
   few = few;
-  reached = λ m b l. elim (cases_lt m n) [ inl s ↦ s | inr s ↦ (let z : true ≡ false = sym b ∙ none.1 m s l in cc) ];
+  reached = λ m b l. elim (cases_lt m n) [ inl s ↦ s | inr s ↦ (let z : true ≡ false = sym b ∙ none.1.0 m s l in cc) ];
   placed = a;
   stays = λ m l. unmoved_stays g m;
   spared = λ x m p e l. refl;
-  contents = λ i t e. absurd (none.2 i t e);
+  contents = λ i t e. absurd (none.1.1 i t e);
 })
   where
-    none : (g ≡ h) × ((m : ℕ) → n ≤ m → m < n + length list → made m ≡ false) × ((i : ℕ) (t : ObjectTold) → slice_get list i ≢ Some (Some t))
+    none : (g ≡ h) × NoneMade made n list
     none = none_past_last slots class made n list g h past right r
 
 one_and_more_made : (class : ℕ) (made : ℕ → Bool) (n : ℕ) (x : Option ObjectTold) (xs : List (Option ObjectTold)) (role : ℕ → Role) (g f h : Graph) → made n ≡ is_some x → (p : IsBlockMade class made n x role g f) → AreMade class made (n + 1) xs p.after f h
@@ -127,20 +131,15 @@ one_and_more_made class made n x xs role g f h told p q = record {
         k = p.placed.objects n (omega arith) (told ∙ ap is_some same)
     contents (suc i) t e = ap (λ m. h.things (kept h m)) (omega arith) ∙ q.contents i t e
 
+block_below_last : (class n : ℕ) (x : Option ObjectTold) → n < 2 ^ 22 → making_block class n x ≡ made_block class n x
+block_below_last class n x less = ap (λ b. if b then made_block class n x else []) (lt-ltb n (2 ^ 22) less)
+
 pub objects_are_made : (slots : ℕ → ℕ) (class : ℕ) (made : ℕ → Bool) (n : ℕ) (list : List (Option ObjectTold)) (role : ℕ → Role) (g h : Graph) → n ≤ 2 ^ 22 → AreRight slots made n list → ArePlaced class made n role g
     → IsRun slots (makings class n list) g h → AreMade class made n list role g h
 objects_are_made slots class made n [] role g h few right a r = subst (AreMade class made n [] role g) r (no_more_made class made n role g few a)
-objects_are_made slots class made n (x ∷ xs) role g h few right a r = go (nat_lt n (2 ^ 22)) refl
-  where
-    go : (b : Bool) → nat_lt n (2 ^ 22) ≡ b → AreMade class made n (x ∷ xs) role g h
-    go false e = stop_at_last slots class made n (x ∷ xs) role g h few (ltb-false n (2 ^ 22) e) right a r
-    go true e = one_and_more_made class made n x xs role g s.0 h right.0.told block (objects_are_made slots class made (n + 1) xs block.after s.0 h (omega (arith, less)) right.1 block.placed s.2)
-      where
-        less : n < 2 ^ 22
-        less = ltb-true n (2 ^ 22) e
-
-        s : (f : Graph) × IsRun slots (made_block class n x) g f × IsRun slots (makings class (n + 1) xs) f h
-        s = run_in_parts slots (made_block class n x) (makings class (n + 1) xs) g h (subst (λ es. IsRun slots (es ++ makings class (n + 1) xs) g h) (ap (λ b. if b then made_block class n x else []) e) r)
-
-        block : IsBlockMade class made n x role g s.0
-        block = block_is_made slots class made n x role g s.0 less right.0.told right.0.sized a s.1
+objects_are_made slots class made n (x ∷ xs) role g h few right a r = elim (cases_lt n (2 ^ 22)) [
+  | inr past ↦ stop_at_last slots class made n (x ∷ xs) role g h few past right a r
+  | inl less ↦ (let s = run_in_parts slots (made_block class n x) (makings class (n + 1) xs) g h (subst (λ es. IsRun slots (es ++ makings class (n + 1) xs) g h) (block_below_last class n x less) r) in
+      let block = block_is_made slots class made n x role g s.0 less right.0.told right.0.sized a s.1 in
+      one_and_more_made class made n x xs role g s.0 h right.0.told block (objects_are_made slots class made (n + 1) xs block.after s.0 h (omega (arith, less)) right.1 block.placed s.2))
+]

@@ -33,7 +33,8 @@ use Rattle.heap_step.specs.Apply.{refusal_of, state_after}
 use Rattle.heap_step.proofs.CreationUndo.{free_list_head_is_empty, pool_empty}
 use Rattle.heap_step.proofs.EventLaws.{keeps_legal}
 use Rattle.heap_step.proofs.Places.{slot_stands}
-use Rattle.hprof_heap.proofs.Graphs.{Graph, Thing, IsClearing, IsCreation, IsGraphStep, IsLoading, IsWriting}
+use Rattle.hprof_heap.specs.DumpHeaps.{AreTaken, state_after_all}
+use Rattle.hprof_heap.proofs.Graphs.{Graph, Thing, IsClearing, IsCreation, IsGraphStep, IsLoading, IsRun, IsWriting}
 
 abbrev pub thing_of : Object → Thing
 thing_of o = record { kind = o.kind; words = o.words }
@@ -244,3 +245,114 @@ load_loads w to from slot there slot_there = go (is_reference_slot w (register w
       };
       classes = refl;
     }
+
+-- ---- each event
+
+-- the event is one of a session: of mutator 0, and one of these seven
+abbrev pub IsOfSession : Event → Type 0
+IsOfSession (New zero r class) = Unit {0}
+IsOfSession (NewArray zero r class n) = Unit {0}
+IsOfSession (NewPrim zero r kind n) = Unit {0}
+IsOfSession (Put zero r slot value) = Unit {0}
+IsOfSession (Store zero r slot source) = Unit {0}
+IsOfSession (Load zero to from slot) = Unit {0}
+IsOfSession (Clear zero r) = Unit {0}
+IsOfSession _ = ⊥
+
+-- the event does to the graph what it is to do, and the classes stay
+pub record IsStepOf (e : Event) (w v : HeapState) : Type 0 where
+  pub step : IsGraphStep (slots_in w) e (graph_of w) (graph_of v)
+  pub classes : v.classes ≡ w.classes
+
+new_step : (r class : ℕ) (w : HeapState) → IsLegal w → refusal_of (New 0 r class) w ≡ None → IsStepOf (New 0 r class) w (state_after (New 0 r class) w)
+unfolding refusal_of state_after new_refusal
+new_step r class w legal accepted =
+    let h = no_refusal_test_holds _ accepted in
+    let m : Makes w r (Instance class) (slots_in w class) (after_new 0 r (Instance class) (slots_in w class) w) = new_makes w r (Instance class) (slots_in w class) legal (not-false (is_register w 0 r) h.0) h.1.1.1.0 in
+    record { step = m.step; classes = m.classes }
+
+new_array_step : (r class n : ℕ) (w : HeapState) → IsLegal w → refusal_of (NewArray 0 r class n) w ≡ None → IsStepOf (NewArray 0 r class n) w (state_after (NewArray 0 r class n) w)
+unfolding refusal_of state_after new_array_refusal
+new_array_step r class n w legal accepted =
+    let h = no_refusal_test_holds _ accepted in
+    let m : Makes w r (Array class) n (after_new 0 r (Array class) n w) = new_makes w r (Array class) n legal (not-false (is_register w 0 r) h.0) h.1.1.1.1.0 in
+    record { step = m.step; classes = m.classes }
+
+new_prim_step : (r n : ℕ) (kind : Kind) (w : HeapState) → IsLegal w → refusal_of (NewPrim 0 r kind n) w ≡ None → IsStepOf (NewPrim 0 r kind n) w (state_after (NewPrim 0 r kind n) w)
+unfolding refusal_of state_after new_prim_refusal
+new_prim_step r n kind w legal accepted =
+    let h = no_refusal_test_holds _ accepted in
+    let m : Makes w r (Prim kind) n (after_new 0 r (Prim kind) n w) = new_makes w r (Prim kind) n legal (not-false (is_register w 0 r) h.0) h.1.1.1.0 in
+    record { step = m.step; classes = m.classes }
+
+put_step : (r slot value : ℕ) (w : HeapState) → IsLegal w → refusal_of (Put 0 r slot value) w ≡ None → IsStepOf (Put 0 r slot value) w (state_after (Put 0 r slot value) w)
+unfolding refusal_of state_after
+put_step r slot value w legal accepted =
+    let m : Writes w r slot value (after_put 0 r slot value w) = form_writes w (after_put 0 r slot value w) r slot value legal (put_slot r slot value w accepted) (form_after_put w 0 r slot value (legal_heap_has_clauses w legal) accepted) in
+    record { step = m.step; classes = m.classes }
+  where
+    put_slot : (r slot value : ℕ) (w : HeapState) → put_refusal 0 r slot value w ≡ None → lacks_slot w (register w 0 r) slot ≡ false
+    unfolding put_refusal
+    put_slot r slot value w e = (no_refusal_test_holds _ e).1.1.0
+
+store_step : (r slot source : ℕ) (w : HeapState) → IsLegal w → refusal_of (Store 0 r slot source) w ≡ None → IsStepOf (Store 0 r slot source) w (state_after (Store 0 r slot source) w)
+unfolding refusal_of state_after
+store_step r slot source w legal accepted =
+    let m : Writes w r slot (register w 0 source) (after_store 0 r slot source w) = form_writes w (after_store 0 r slot source w) r slot (register w 0 source) legal (store_slot r slot source w accepted) (store_form w 0 r slot source (legal_heap_has_clauses w legal) accepted) in
+    record { step = subst (λ x. IsWriting r slot x (graph_of w) (graph_of (after_store 0 r slot source w))) (register_held w source) m.step; classes = m.classes }
+  where
+    store_slot : (r slot source : ℕ) (w : HeapState) → store_refusal 0 r slot source w ≡ None → lacks_slot w (register w 0 r) slot ≡ false
+    unfolding store_refusal
+    store_slot r slot source w e = (no_refusal_test_holds _ e).1.1.0
+
+load_step : (to from slot : ℕ) (w : HeapState) → refusal_of (Load 0 to from slot) w ≡ None → IsStepOf (Load 0 to from slot) w (state_after (Load 0 to from slot) w)
+unfolding refusal_of state_after load_refusal
+load_step to from slot w accepted =
+    let h = no_refusal_test_holds _ accepted in
+    let m : Loads w to from slot (after_load 0 to from slot w) = load_loads w to from slot (both_registers (is_register w 0 to) (is_register w 0 from) h.0).0 h.1.1.0 in
+    record { step = m.step; classes = m.classes }
+
+clear_step : (r : ℕ) (w : HeapState) → refusal_of (Clear 0 r) w ≡ None → IsStepOf (Clear 0 r) w (state_after (Clear 0 r) w)
+unfolding refusal_of state_after clear_refusal
+clear_step r w accepted =
+    let h = no_refusal_test_holds _ accepted in
+    record {
+      step = record { cleared = register_set w r 0 (not-false (is_register w 0 r) h.0); things = λ y. refl; registers = λ q d. other_register w r 0 q d };
+      classes = refl;
+    }
+
+pub event_steps : (e : Event) (w : HeapState) → IsOfSession e → IsLegal w → refusal_of e w ≡ None → IsStepOf e w (state_after e w)
+event_steps (New zero r class) w s legal accepted = new_step r class w legal accepted
+event_steps (NewArray zero r class n) w s legal accepted = new_array_step r class n w legal accepted
+event_steps (NewPrim zero r kind n) w s legal accepted = new_prim_step r n kind w legal accepted
+event_steps (Put zero r slot value) w s legal accepted = put_step r slot value w legal accepted
+event_steps (Store zero r slot source) w s legal accepted = store_step r slot source w legal accepted
+event_steps (Load zero to from slot) w s legal accepted = load_step to from slot w accepted
+event_steps (Clear zero r) w s legal accepted = clear_step r w accepted
+event_steps _ w s legal accepted = absurd s
+
+-- ---- one after another
+
+abbrev pub AreOfSession : List Event → Type 0
+AreOfSession [] = Unit {0}
+AreOfSession (e ∷ es) = IsOfSession e × AreOfSession es
+
+-- events that are accepted one after another do so to the graph, and leave a legal heap
+pub record IsRunOf (es : List Event) (w v : HeapState) : Type 0 where
+  pub run : IsRun (slots_in w) es (graph_of w) (graph_of v)
+  pub legal : IsLegal v
+  pub classes : v.classes ≡ w.classes
+
+pub events_run : (es : List Event) (w : HeapState) → AreOfSession es → IsLegal w → AreTaken es w → IsRunOf es w (state_after_all es w)
+events_run [] w s legal taken = record { run = refl; legal = legal; classes = refl }
+events_run (e ∷ es) w s legal taken = record {
+  run = (graph_of (state_after e w), first.step, subst (λ c. IsRun (λ k. length (slots_of c k)) es (graph_of (state_after e w)) (graph_of (state_after_all es (state_after e w)))) first.classes rest.run);
+  legal = rest.legal;
+  classes = rest.classes ∙ first.classes;
+}
+  where
+    first : IsStepOf e w (state_after e w)
+    first = event_steps e w s.0 legal taken.0
+
+    rest : IsRunOf es (state_after e w) (state_after_all es (state_after e w))
+    rest = events_run es (state_after e w) s.1 (keeps_legal e w legal taken.0) taken.1

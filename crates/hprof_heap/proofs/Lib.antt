@@ -7,3 +7,6 @@ pub mod MakingPass
 pub mod Linking
 pub mod Words
 pub mod Simulation
+pub mod RootSteps
+pub mod RootArrays
+pub mod RootKinds

@@ -15,6 +15,8 @@ pub data Role : Type 0 where
   Top : (n : ℕ) → Role
   Keeper : (n : ℕ) → Role
   Object : (n : ℕ) → Role
+  Roots : Role
+  RootArray : (slot : ℕ) → Role
 
 pub top_number : (a b : ℕ) → Top a ≡ Top b → a ≡ b
 top_number a b e = cc
@@ -34,9 +36,16 @@ top_is_no_object a b e = cc
 pub keeper_is_no_object : (a b : ℕ) → Keeper a ≡ Object b → ⊥
 keeper_is_no_object a b e = cc
 
+-- x names an array of n references
+abbrev pub IsArrayOf : ℕ → ℕ → Graph → ℕ → Type 0
+IsArrayOf class n g x = (t : Thing) × (g.things x ≡ Some t) × (t.kind ≡ Array class) × (length t.words ≡ n)
+
 -- x names an array of 1,024 references
 abbrev pub IsPlaceArray : ℕ → Graph → ℕ → Type 0
-IsPlaceArray class g x = (t : Thing) × (g.things x ≡ Some t) × (t.kind ≡ Array class) × (length t.words ≡ 1024)
+IsPlaceArray class g x = IsArrayOf class 1024 g x
+
+pub array_is_there : (class n : ℕ) (g : Graph) (x : ℕ) → IsArrayOf class n g x → IsSome (g.things x)
+array_is_there class n g x p = thing_is_there (g.things x) p.0 p.1
 
 pub place_array_is_there : (class : ℕ) (g : Graph) (x : ℕ) → IsPlaceArray class g x → IsSome (g.things x)
 place_array_is_there class g x p = thing_is_there (g.things x) p.0 p.1

@@ -48,6 +48,10 @@ writing_fills z r slot v kind old g h e before w = record {
     same : w.thing ≡ record { kind = kind; words = old }
     same = same_thing (g.things (g.registers r)) w.thing (record { kind = kind; words = old }) w.there (ap g.things e ∙ before)
 
+pub writing_within : (z r slot v : ℕ) (kind : ObjKind) (old : List ℕ) (g h : Graph) → g.registers r ≡ z → g.things z ≡ Some (record { kind = kind; words = old }) → IsWriting r slot v g h → slot < length old
+writing_within z r slot v kind old g h e before w =
+    subst (λ (t : Thing). slot < length t.words) (same_thing (g.things (g.registers r)) w.thing (record { kind = kind; words = old }) w.there (ap g.things e ∙ before)) w.within
+
 pub filling_moves : (class n z : ℕ) (role : ℕ → Role) (kind : ObjKind) (old new : List ℕ) (g h : Graph) → role z ≡ Object n → IsFilling z kind old new g h → Moves class n role role g h
 filling_moves class n z role kind old new g h for f = record {
   arrays = λ x p. arrays x p (cases_eq x z);
@@ -91,29 +95,53 @@ abbrev pub with_values : List ℕ → List SlotValue → List ℕ
 with_values words [] = words
 with_values words (v ∷ values) = with_values (with_value words v) values
 
--- the thing of register 5 has values put, and no register changes
+length_with_value : (words : List ℕ) (v : SlotValue) → length (with_value words v) ≡ length words
+length_with_value words v = go (is_reference v.kind || v.value == 0)
+  where
+    go : (b : Bool) → length (if b then words else slice_set words v.slot (shown v.kind v.value)) ≡ length words
+    go true = refl
+    go false = length-set words v.slot (shown v.kind v.value)
+
+pub length_with_values : (values : List SlotValue) (words : List ℕ) → length (with_values words values) ≡ length words
+length_with_values [] words = refl
+length_with_values (v ∷ values) words = length_with_values values (with_value words v) ∙ length_with_value words v
+
+-- each value that is put has a slot below n
+abbrev pub PutsFit : ℕ → List SlotValue → Type 0
+PutsFit n [] = Unit {0}
+PutsFit n (v ∷ values) = ((is_reference v.kind || v.value == 0) ≡ false → v.slot < n) × PutsFit n values
+
+-- the thing of register 5 has words put, and no register changes
 pub record ArePut (z : ℕ) (kind : ObjKind) (old new : List ℕ) (g h : Graph) : Type 0 where
   pub filled : IsFilling z kind old new g h
   pub registers : (q : ℕ) → h.registers q ≡ g.registers q
 
-put_value : (slots : ℕ → ℕ) (z : ℕ) (kind : ObjKind) (old : List ℕ) (v : SlotValue) (g h : Graph) → g.registers 5 ≡ z → g.things z ≡ Some (record { kind = kind; words = old })
-    → IsRun slots (value_events v) g h → ArePut z kind old (with_value old v) g h
-unfolding value_events
-put_value slots z kind old v g h e before = go (is_reference v.kind || v.value == 0)
-  where
-    go : (b : Bool) → IsRun slots (if b then [] else Put 0 5 v.slot (shown v.kind v.value) ∷ []) g h → ArePut z kind old (if b then old else slice_set old v.slot (shown v.kind v.value)) g h
-    go true r = subst (ArePut z kind old old g) r (record { filled = nothing_filled z kind old g g before (λ y. refl) (λ q l. refl); registers = λ q. refl })
-    go false r = subst (ArePut z kind old (slice_set old v.slot (shown v.kind v.value)) g) r.2
-        (record { filled = writing_fills z 5 v.slot (shown v.kind v.value) kind old g r.0 e before r.1; registers = r.1.registers })
-
 put_twice : (z : ℕ) (kind : ObjKind) (a b c : List ℕ) (f g h : Graph) → ArePut z kind a b f g → ArePut z kind b c g h → ArePut z kind a c f h
 put_twice z kind a b c f g h p q = record { filled = two_fillings z kind a b c f g h p.filled q.filled; registers = λ r. q.registers r ∙ p.registers r }
 
+nothing_put : (z : ℕ) (kind : ObjKind) (old : List ℕ) (g h : Graph) → g.things z ≡ Some (record { kind = kind; words = old }) → g ≡ h → ArePut z kind old old g h
+nothing_put z kind old g h before r = subst (ArePut z kind old old g) r (record { filled = nothing_filled z kind old g g before (λ y. refl) (λ q l. refl); registers = λ q. refl })
+
+put_value : (slots : ℕ → ℕ) (z : ℕ) (kind : ObjKind) (old : List ℕ) (v : SlotValue) (g h : Graph) → g.registers 5 ≡ z → g.things z ≡ Some (record { kind = kind; words = old })
+    → IsRun slots (value_events v) g h → ArePut z kind old (with_value old v) g h × ((is_reference v.kind || v.value == 0) ≡ false → v.slot < length old)
+unfolding value_events
+put_value slots z kind old v g h e before = go (is_reference v.kind || v.value == 0)
+  where
+    go : (b : Bool) → IsRun slots (if b then [] else Put 0 5 v.slot (shown v.kind v.value) ∷ []) g h
+        → ArePut z kind old (if b then old else slice_set old v.slot (shown v.kind v.value)) g h × (b ≡ false → v.slot < length old)
+    go true r = (nothing_put z kind old g h before r, λ f. let c : true ≡ false = f in cc)
+    go false r = (
+      subst (ArePut z kind old (slice_set old v.slot (shown v.kind v.value)) g) r.2
+          (record { filled = writing_fills z 5 v.slot (shown v.kind v.value) kind old g r.0 e before r.1; registers = r.1.registers }),
+      λ f. writing_within z 5 v.slot (shown v.kind v.value) kind old g r.0 e before r.1,
+    )
+
 pub put_values : (slots : ℕ → ℕ) (z : ℕ) (kind : ObjKind) (values : List SlotValue) (old : List ℕ) (g h : Graph) → g.registers 5 ≡ z → g.things z ≡ Some (record { kind = kind; words = old })
-    → IsRun slots (flat_map value_events values) g h → ArePut z kind old (with_values old values) g h
-put_values slots z kind [] old g h e before r = subst (ArePut z kind old old g) r (record { filled = nothing_filled z kind old g g before (λ y. refl) (λ q l. refl); registers = λ q. refl })
+    → IsRun slots (flat_map value_events values) g h → ArePut z kind old (with_values old values) g h × PutsFit (length old) values
+put_values slots z kind [] old g h e before r = (nothing_put z kind old g h before r, tt)
 put_values slots z kind (v ∷ values) old g h e before r =
     let s = run_in_parts slots (value_events v) (flat_map value_events values) g h r in
     let first = put_value slots z kind old v g s.0 e before s.1 in
-    put_twice z kind old (with_value old v) (with_values (with_value old v) values) g s.0 h first
-    (put_values slots z kind values (with_value old v) s.0 h (first.registers 5 ∙ e) first.filled.here s.2)
+    let rest = put_values slots z kind values (with_value old v) s.0 h (first.0.registers 5 ∙ e) first.0.filled.here s.2 in
+    (put_twice z kind old (with_value old v) (with_values (with_value old v) values) g s.0 h first.0 rest.0,
+    (first.1, subst (λ n. PutsFit n values) first.0.filled.len rest.1))

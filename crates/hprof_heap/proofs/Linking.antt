@@ -1,9 +1,9 @@
 -- How the references of objects are stored.
-use Rattle.std.proofs.Common.{◌≡◌, ◌≢◌, ◌⊎◌, ℕ, zero, suc, ◌+◌, ◌-◌, ◌/◌, ◌%◌, ◌^◌, ◌<◌, ◌≤◌, Bool, true, false, List, [], ◌∷◌, ◌++◌, length, refl, sym, ap, subst, ◌∙◌, Option, Some, None, inl, inr, arith}
+use Rattle.std.proofs.Common.{◌≡◌, ◌≢◌, ◌⊎◌, ℕ, zero, suc, ◌+◌, ◌-◌, ◌/◌, ◌%◌, ◌^◌, ◌<◌, ◌≤◌, Bool, true, false, List, [], ◌∷◌, ◌++◌, length, replicate, refl, sym, ap, subst, ◌∙◌, Option, Some, None, inl, inr, arith}
 use Rattle.std.specs.Prelude.{slice_get, slice_index, slice_set, IsSome, is_some, flat_map, if◌then◌else◌, ◌||◌}
 use Rattle.std.specs.List.{list_any}
 use Rattle.std.specs.Option.{option_map_or}
-use Rattle.std.proofs.lemmas.Bool.{cases_eq}
+use Rattle.std.proofs.lemmas.List.{length-replicate}
 use Rattle.heap_class.specs.declared.ObjKind.{ObjKind}
 use Rattle.heap_step.specs.declared.Event.{Event}
 use Rattle.heap_step.specs.declared.Event.TheVariants.{Load, Store}
@@ -14,7 +14,7 @@ use Rattle.hprof_heap.specs.ToldObjects.{ObjectTold}
 use Rattle.hprof_heap.proofs.Graphs.{Graph, Thing, word, word_in, IsLoading, IsRun, IsWriting, run_in_parts}
 use Rattle.hprof_heap.proofs.PlaceNumbers.{few_tops}
 use Rattle.hprof_heap.proofs.Placed.{IsKeeper, IsKept, IsPlaceArray, IsTop, Moves, Object, Role, Stays, keeper, keeper_moves, kept, kept_moves, object_number, top_moves, below_or_last}
-use Rattle.hprof_heap.proofs.Filled.{IsFilling, filling_moves, filling_stays, nothing_filled, two_fillings, writing_fills, with_values}
+use Rattle.hprof_heap.proofs.Filled.{IsFilling, filling_moves, filling_stays, length_with_values, nothing_filled, two_fillings, writing_fills, writing_within, with_values}
 use Rattle.hprof_heap.proofs.Making.{made_thing}
 
 -- the objects below `last` that are made are kept, and these are their ids
@@ -94,6 +94,11 @@ reference_of name v = if names_object v then stored v.slot (name v.value) else [
 abbrev pub AreNamed : (ℕ → Option ℕ) → (ℕ → Bool) → ℕ → Type 0
 AreNamed name made last = (x k : ℕ) → name x ≡ Some k → (k < last) × (made k ≡ true)
 
+-- each reference that is stored has a slot below n
+abbrev pub StoresFit : (ℕ → Option ℕ) → ℕ → List SlotValue → Type 0
+StoresFit name n [] = Unit {0}
+StoresFit name n (v ∷ values) = ((k : ℕ) → names_object v ≡ true → name v.value ≡ Some k → v.slot < n) × StoresFit name n values
+
 -- register 5 names z, whose words change
 pub record IsLinked (z : ℕ) (kind : ObjKind) (old new : List ℕ) (g h : Graph) : Type 0 where
   pub filled : IsFilling z kind old new g h
@@ -101,12 +106,15 @@ pub record IsLinked (z : ℕ) (kind : ObjKind) (old new : List ℕ) (g h : Graph
 
 store_reference : (slots : ℕ → ℕ) (class : ℕ) (made : ℕ → Bool) (last z : ℕ) (id : ℕ → ℕ) (role : ℕ → Role) (kind : ObjKind) (old : List ℕ) (slot k : ℕ) (g h : Graph)
     → AreFound class made last id role g → k < last → g.registers 5 ≡ z → g.things z ≡ Some (record { kind = kind; words = old })
-    → IsRun slots (stored slot (Some k)) g h → IsLinked z kind old (slice_set old slot (id k)) g h
-store_reference slots class made last z id role kind old slot k g h a l held before r = record {
-  filled = two_fillings z kind old old (slice_set old slot (id k)) g s.0 h first
-      (subst (λ x. IsFilling z kind old (slice_set old slot x) s.0 h) (p.held ∙ a.ids k l) (writing_fills z 5 slot (s.0.registers 6) kind old s.0 h still first.here w));
-  held = w.registers 5 ∙ still;
-}
+    → IsRun slots (stored slot (Some k)) g h → IsLinked z kind old (slice_set old slot (id k)) g h × (slot < length old)
+store_reference slots class made last z id role kind old slot k g h a l held before r = (
+  record {
+    filled = two_fillings z kind old old (slice_set old slot (id k)) g s.0 h first
+        (subst (λ x. IsFilling z kind old (slice_set old slot x) s.0 h) (p.held ∙ a.ids k l) (writing_fills z 5 slot (s.0.registers 6) kind old s.0 h still first.here w));
+    held = w.registers 5 ∙ still;
+  },
+  writing_within z 5 slot (s.0.registers 6) kind old s.0 h still first.here w,
+)
   where
     s : (f : Graph) × IsRun slots (fetch_events k 6) g f × IsRun slots (Store 0 5 slot 6 ∷ []) f h
     s = run_in_parts slots (fetch_events k 6) (Store 0 5 slot 6 ∷ []) g h r
@@ -128,30 +136,32 @@ nothing_linked z kind old g h held before r = subst (IsLinked z kind old old g) 
 
 link_reference : (slots : ℕ → ℕ) (class : ℕ) (made : ℕ → Bool) (last z : ℕ) (name : ℕ → Option ℕ) (id : ℕ → ℕ) (role : ℕ → Role) (kind : ObjKind) (old : List ℕ) (v : SlotValue) (g h : Graph)
     → AreNamed name made last → AreFound class made last id role g → g.registers 5 ≡ z → g.things z ≡ Some (record { kind = kind; words = old })
-    → IsRun slots (reference_of name v) g h → IsLinked z kind old (with_reference name id old v) g h
+    → IsRun slots (reference_of name v) g h → IsLinked z kind old (with_reference name id old v) g h × ((k : ℕ) → names_object v ≡ true → name v.value ≡ Some k → v.slot < length old)
 link_reference slots class made last z name id role kind old v g h named a held before = go (names_object v)
   where
-    by_name : (o : Option ℕ) → name v.value ≡ o → IsRun slots (stored v.slot o) g h → IsLinked z kind old (option_map_or (λ k. slice_set old v.slot (id k)) o old) g h
-    by_name None e r = nothing_linked z kind old g h held before r
-    by_name (Some k) e r = store_reference slots class made last z id role kind old v.slot k g h a (named v.value k e).0 held before r
+    by_name : (o : Option ℕ) → name v.value ≡ o → IsRun slots (stored v.slot o) g h → IsLinked z kind old (option_map_or (λ k. slice_set old v.slot (id k)) o old) g h × ((k : ℕ) → o ≡ Some k → v.slot < length old)
+    by_name None e r = (nothing_linked z kind old g h held before r, λ k f. let c : None ≡ Some k = f in cc)
+    by_name (Some k) e r = let s = store_reference slots class made last z id role kind old v.slot k g h a (named v.value k e).0 held before r in (s.0, λ i f. s.1)
 
-    go : (b : Bool) → IsRun slots (if b then stored v.slot (name v.value) else []) g h → IsLinked z kind old (if b then option_map_or (λ k. slice_set old v.slot (id k)) (name v.value) old else old) g h
-    go true r = by_name (name v.value) refl r
-    go false r = nothing_linked z kind old g h held before r
+    go : (b : Bool) → IsRun slots (if b then stored v.slot (name v.value) else []) g h
+        → IsLinked z kind old (if b then option_map_or (λ k. slice_set old v.slot (id k)) (name v.value) old else old) g h × ((k : ℕ) → b ≡ true → name v.value ≡ Some k → v.slot < length old)
+    go true r = let s = by_name (name v.value) refl r in (s.0, λ k f e. s.1 k e)
+    go false r = (nothing_linked z kind old g h held before r, λ k f e. let c : false ≡ true = f in cc)
 
 linked_twice : (z : ℕ) (kind : ObjKind) (a b c : List ℕ) (f g h : Graph) → IsLinked z kind a b f g → IsLinked z kind b c g h → IsLinked z kind a c f h
 linked_twice z kind a b c f g h p q = record { filled = two_fillings z kind a b c f g h p.filled q.filled; held = q.held }
 
 link_references : (slots : ℕ → ℕ) (class : ℕ) (made : ℕ → Bool) (last n z : ℕ) (name : ℕ → Option ℕ) (id : ℕ → ℕ) (role : ℕ → Role) (kind : ObjKind) (values : List SlotValue) (old : List ℕ) (g h : Graph)
     → AreNamed name made last → role z ≡ Object n → AreFound class made last id role g → g.registers 5 ≡ z → g.things z ≡ Some (record { kind = kind; words = old })
-    → IsRun slots (flat_map (reference_of name) values) g h → IsLinked z kind old (with_references name id old values) g h
-link_references slots class made last n z name id role kind [] old g h named for a held before r = nothing_linked z kind old g h held before r
+    → IsRun slots (flat_map (reference_of name) values) g h → IsLinked z kind old (with_references name id old values) g h × StoresFit name (length old) values
+link_references slots class made last n z name id role kind [] old g h named for a held before r = (nothing_linked z kind old g h held before r, tt)
 link_references slots class made last n z name id role kind (v ∷ values) old g h named for a held before r =
     let s = run_in_parts slots (reference_of name v) (flat_map (reference_of name) values) g h r in
     let first = link_reference slots class made last z name id role kind old v g s.0 named a held before s.1 in
-    linked_twice z kind old (with_reference name id old v) (with_references name id (with_reference name id old v) values) g s.0 h first
-    (link_references slots class made last n z name id role kind values (with_reference name id old v) s.0 h named for
-    (found_after_filling class made last n z id role kind old (with_reference name id old v) g s.0 for a first.filled) first.held first.filled.here s.2)
+    let rest = link_references slots class made last n z name id role kind values (with_reference name id old v) s.0 h named for
+        (found_after_filling class made last n z id role kind old (with_reference name id old v) g s.0 for a first.0.filled) first.0.held first.0.filled.here s.2 in
+    (linked_twice z kind old (with_reference name id old v) (with_references name id (with_reference name id old v) values) g s.0 h first.0 rest.0,
+    (first.1, subst (λ m. StoresFit name m values) first.0.filled.len rest.1))
 
 -- ---- an object
 
@@ -173,22 +183,34 @@ no_references name id (v ∷ values) words e =
     let p = or_parts (names_object v) (list_any names_object values) e in
     ap (λ b. with_references name id (if b then option_map_or (λ k. slice_set words v.slot (id k)) (name v.value) words else words) values) p.0 ∙ no_references name id values words p.1
 
+none_stored : (name : ℕ → Option ℕ) (n : ℕ) (values : List SlotValue) → list_any names_object values ≡ false → StoresFit name n values
+none_stored name n [] e = tt
+none_stored name n (v ∷ values) e =
+    let p = or_parts (names_object v) (list_any names_object values) e in
+    ((λ k f s. let c : true ≡ false = sym f ∙ p.0 in cc), none_stored name n values p.1)
+
+length_made : (t : ObjectTold) → length (made_thing t).words ≡ t.slots
+length_made t = length_with_values t.values (replicate t.slots 0) ∙ length-replicate t.slots 0
+
 -- an object as it is at last
 abbrev pub linked_thing : (ℕ → Option ℕ) → (ℕ → ℕ) → ObjectTold → Thing
 linked_thing name id t = record { kind = t.kind; words = with_references name id (made_thing t).words t.values }
 
 pub values_are_linked : (slots : ℕ → ℕ) (class : ℕ) (made : ℕ → Bool) (last n : ℕ) (name : ℕ → Option ℕ) (id : ℕ → ℕ) (role : ℕ → Role) (kind : ObjKind) (values : List SlotValue) (old : List ℕ) (g h : Graph)
     → AreNamed name made last → n < last → made n ≡ true → AreFound class made last id role g → g.things (id n) ≡ Some (record { kind = kind; words = old })
-    → IsRun slots (link_values name n values) g h → IsFilling (id n) kind old (with_references name id old values) g h
+    → IsRun slots (link_values name n values) g h → IsFilling (id n) kind old (with_references name id old values) g h × StoresFit name (length old) values
 values_are_linked slots class made last n name id role kind values old g h named l b a before = go (list_any names_object values) refl
   where
     for : role (id n) ≡ Object n
     for = for_its_number class made last id role g n a l b
 
-    go : (c : Bool) → list_any names_object values ≡ c → IsRun slots (if c then fetch_events n 5 ++ flat_map (reference_of name) values else []) g h → IsFilling (id n) kind old (with_references name id old values) g h
-    go false e r = subst (λ words. IsFilling (id n) kind old words g h) (sym (no_references name id values old e)) (subst (IsFilling (id n) kind old old g) r (nothing_filled (id n) kind old g g before (λ y. refl) (λ q k. refl)))
-    go true e r = two_fillings (id n) kind old old (with_references name id old values) g s.0 h first
-        (link_references slots class made last n (id n) name id role kind values old s.0 h named for (found_after_filling class made last n (id n) id role kind old old g s.0 for a first) (p.held ∙ a.ids n l) first.here s.2).filled
+    go : (c : Bool) → list_any names_object values ≡ c → IsRun slots (if c then fetch_events n 5 ++ flat_map (reference_of name) values else []) g h
+        → IsFilling (id n) kind old (with_references name id old values) g h × StoresFit name (length old) values
+    go false e r = (
+      subst (λ words. IsFilling (id n) kind old words g h) (sym (no_references name id values old e)) (subst (IsFilling (id n) kind old old g) r (nothing_filled (id n) kind old g g before (λ y. refl) (λ q k. refl))),
+      none_stored name (length old) values e,
+    )
+    go true e r = (two_fillings (id n) kind old old (with_references name id old values) g s.0 h first linked.0.filled, linked.1)
       where
         s : (f : Graph) × IsRun slots (fetch_events n 5) g f × IsRun slots (flat_map (reference_of name) values) f h
         s = run_in_parts slots (fetch_events n 5) (flat_map (reference_of name) values) g h r
@@ -198,6 +220,9 @@ values_are_linked slots class made last n name id role kind values old g h named
 
         first : IsFilling (id n) kind old old g s.0
         first = fetching_fills (id n) 5 (kept g n) kind old g s.0 (omega arith) before p
+
+        linked : IsLinked (id n) kind old (with_references name id old values) s.0 h × StoresFit name (length old) values
+        linked = link_references slots class made last n (id n) name id role kind values old s.0 h named for (found_after_filling class made last n (id n) id role kind old old g s.0 for a first) (p.held ∙ a.ids n l) first.here s.2
 
 -- ---- all objects
 
@@ -210,6 +235,7 @@ pub record AreLinked (class : ℕ) (made : ℕ → Bool) (last n : ℕ) (name : 
   pub found : AreFound class made last id role h
   pub spared : (m : ℕ) → m < last → made m ≡ true → m < n → h.things (id m) ≡ g.things (id m)
   pub contents : (i : ℕ) (t : ObjectTold) → slice_get list i ≡ Some (Some t) → h.things (id (n + i)) ≡ Some (linked_thing name id t)
+  pub fits : (i : ℕ) (t : ObjectTold) → slice_get list i ≡ Some (Some t) → StoresFit name t.slots t.values
 
 -- those of the list are made, below `last`
 abbrev pub AreThere : (ℕ → Bool) → ℕ → ℕ → List (Option ObjectTold) → Type 0
@@ -223,6 +249,7 @@ pub record IsBlockLinked (class : ℕ) (made : ℕ → Bool) (last n : ℕ) (nam
   pub found : AreFound class made last id role h
   pub spared : (m : ℕ) → m < last → made m ≡ true → m ≢ n → h.things (id m) ≡ g.things (id m)
   pub content : (t : ObjectTold) → x ≡ Some t → h.things (id n) ≡ Some (linked_thing name id t)
+  pub fits : (t : ObjectTold) → x ≡ Some t → StoresFit name t.slots t.values
 
 block_is_linked : (slots : ℕ → ℕ) (class : ℕ) (made : ℕ → Bool) (last n : ℕ) (name : ℕ → Option ℕ) (id : ℕ → ℕ) (x : Option ObjectTold) (role : ℕ → Role) (g h : Graph)
     → AreNamed name made last → AreFound class made last id role g → ((t : ObjectTold) → x ≡ Some t → (n < last) × (made n ≡ true) × (g.things (id n) ≡ Some (made_thing t)))
@@ -231,11 +258,13 @@ block_is_linked slots class made last n name id None role g h named a there r = 
   found = a;
   spared = λ m l b d. refl;
   content = λ t e. (let z : None ≡ Some t = e in cc);
+  fits = λ t e. (let z : None ≡ Some t = e in cc);
 })
 block_is_linked slots class made last n name id (Some t) role g h named a there r = record {
-  found = found_after_filling class made last n (id n) id role t.kind (made_thing t).words (linked_thing name id t).words g h (for_its_number class made last id role g n a at_n.0 at_n.1) a f;
-  spared = λ m l b d. f.others (id m) (λ e. d (ids_differ class made last id role g m n a l b at_n.0 at_n.1 e));
-  content = λ u e. (let same : t ≡ u = some_is_one t u e in f.here ∙ ap (λ v. Some (linked_thing name id v)) same);
+  found = found_after_filling class made last n (id n) id role t.kind (made_thing t).words (linked_thing name id t).words g h (for_its_number class made last id role g n a at_n.0 at_n.1) a f.0;
+  spared = λ m l b d. f.0.others (id m) (λ e. d (ids_differ class made last id role g m n a l b at_n.0 at_n.1 e));
+  content = λ u e. (let same : t ≡ u = some_is_one t u e in f.0.here ∙ ap (λ v. Some (linked_thing name id v)) same);
+  fits = λ u e. subst (λ (v : ObjectTold). StoresFit name v.slots v.values) (some_is_one t u e) (subst (λ k. StoresFit name k t.values) (length_made t) f.1);
 }
   where
     some_is_one : (t u : ObjectTold) → Some t ≡ Some u → t ≡ u
@@ -244,7 +273,7 @@ block_is_linked slots class made last n name id (Some t) role g h named a there 
     at_n : (n < last) × (made n ≡ true) × (g.things (id n) ≡ Some (made_thing t))
     at_n = there t refl
 
-    f : IsFilling (id n) t.kind (made_thing t).words (with_references name id (made_thing t).words t.values) g h
+    f : IsFilling (id n) t.kind (made_thing t).words (with_references name id (made_thing t).words t.values) g h × StoresFit name (length (made_thing t).words) t.values
     f = values_are_linked slots class made last n name id role t.kind t.values (made_thing t).words g h named at_n.0 at_n.1 a at_n.2 r
 
 plus_zero : (n : ℕ) → n + 0 ≡ n
@@ -268,10 +297,15 @@ block_and_more_linked class made last n name id x xs role g f h here first rest 
   found = rest.found;
   spared = λ m l b k. rest.spared m l b (omega (arith, k)) ∙ first.spared m l b (λ e. omega (arith, k, e));
   contents = linked;
+  fits = fits;
 }
   where
     some_of_some : (t : ObjectTold) → Some x ≡ Some (Some t) → x ≡ Some t
     some_of_some t e = cc
+
+    fits : (i : ℕ) (t : ObjectTold) → slice_get (x ∷ xs) i ≡ Some (Some t) → StoresFit name t.slots t.values
+    fits zero t e = first.fits t (some_of_some t e)
+    fits (suc i) t e = rest.fits i t e
 
     linked : (i : ℕ) (t : ObjectTold) → slice_get (x ∷ xs) i ≡ Some (Some t) → h.things (id (n + i)) ≡ Some (linked_thing name id t)
     linked zero t e =
@@ -286,6 +320,7 @@ objects_are_linked slots class made last n name id [] role g h named a there con
   found = a;
   spared = λ m l b k. refl;
   contents = λ i t e. (let z : None ≡ Some (Some t) = e in cc);
+  fits = λ i t e. (let z : None ≡ Some (Some t) = e in cc);
 })
 objects_are_linked slots class made last n name id (x ∷ xs) role g h named a there contents r =
     let s = run_in_parts slots (link_block name n x) (linkings name (n + 1) xs) g h r in

@@ -14,7 +14,7 @@ use Rattle.hprof_heap.specs.ToldObjects.{ObjectTold}
 use Rattle.hprof_heap.proofs.Graphs.{Graph, Thing, word, word_in, IsCreation, IsGraphStep, IsRun, IsWriting, marked, marked_here, run_in_parts, thing_is_there, word_after_write, word_written}
 use Rattle.hprof_heap.proofs.PlaceNumbers.{array_differs, chunk_differs, chunk_of_previous, few_tops, slot_differs, top_differs, top_of_previous, previous_is_less, whole_top_is_whole_chunk}
 use Rattle.hprof_heap.proofs.Placed.{ArePlaced, IsKeeper, IsKept, IsPlaceArray, IsTop, Keeper, Moves, Object, Role, Stays, Top, creation_moves, creation_stays, keeper, keeper_is_no_object, keeper_moves, keeper_number, kept, kept_moves, no_move, object_number, place_array_is_there, placed_more, placed_moves, same_chunk_same_keeper, stays_twice, top_is_no_keeper, top_is_no_object, top_moves, top_number, two_moves, unmoved_stays, writing_moves, writing_stays}
-use Rattle.hprof_heap.proofs.Filled.{ArePut, filling_moves, filling_stays, put_values, with_values}
+use Rattle.hprof_heap.proofs.Filled.{ArePut, PutsFit, filling_moves, filling_stays, put_values, with_values}
 
 -- from g to h what is found of the numbers below n stays, and none of their things changes
 pub record Leads (class : ℕ) (made : ℕ → Bool) (n : ℕ) (role : ℕ → Role) (g h : Graph) : Type 0 where
@@ -334,10 +334,14 @@ object_created class made n t role g f k h few a tn kn current c p w = record {
     content : h.things (kept h n) ≡ Some (made_thing t)
     content = ap h.things is_kept ∙ w.others (f.registers 5) (λ e. keeper_is_no_object (n / 1024) n (sym for_array ∙ ap after (sym e) ∙ for)) ∙ p.filled.here
 
--- the events of object n, if it is one that is made
+-- the events of object n after its place is ready, if it is one that is made
+abbrev pub made_tail : ℕ → Option ObjectTold → List Event
+made_tail n None = []
+made_tail n (Some t) = creation_of t.kind t.slots ∷ flat_map value_events t.values ++ keep_event n ∷ []
+
+-- the events of object n
 abbrev pub made_block : ℕ → ℕ → Option ObjectTold → List Event
-made_block class n None = place_events class n
-made_block class n (Some t) = place_events class n ++ (creation_of t.kind t.slots ∷ flat_map value_events t.values ++ keep_event n ∷ [])
+made_block class n x = place_events class n ++ made_tail n x
 
 -- object n is made and kept, if it is one that is made
 pub record IsBlockMade (class : ℕ) (made : ℕ → Bool) (n : ℕ) (x : Option ObjectTold) (role : ℕ → Role) (g h : Graph) : Type 0 where
@@ -346,6 +350,7 @@ pub record IsBlockMade (class : ℕ) (made : ℕ → Bool) (n : ℕ) (x : Option
   pub stays : (m : ℕ) → m < n → Stays g h m
   pub placed : ArePlaced class made (n + 1) after h
   pub content : (t : ObjectTold) → x ≡ Some t → h.things (kept h n) ≡ Some (made_thing t)
+  pub fits : (t : ObjectTold) → x ≡ Some t → PutsFit t.slots t.values
 
 nothing_made : (class : ℕ) (made : ℕ → Bool) (n : ℕ) (role : ℕ → Role) (g h : Graph) → made n ≡ false → IsKeeperReady class made n role g h → IsBlockMade class made n None role g h
 nothing_made class made n role g h not_made p = record {
@@ -354,6 +359,7 @@ nothing_made class made n role g h not_made p = record {
   stays = p.led.stays;
   placed = placed_more class n made p.led.after h p.led.placed p.top p.array p.current (λ b. let z : true ≡ false = sym b ∙ not_made in cc);
   content = λ t e. (let z : None ≡ Some t = e in cc);
+  fits = λ t e. (let z : None ≡ Some t = e in cc);
 }
 
 one_made : (slots : ℕ → ℕ) (class : ℕ) (made : ℕ → Bool) (n : ℕ) (t : ObjectTold) (role : ℕ → Role) (g f h : Graph) → n < 2 ^ 22 → IsSized slots t.kind t.slots → IsKeeperReady class made n role g f
@@ -364,6 +370,7 @@ one_made slots class made n t role g f h few sized p r = record {
   stays = λ i l. stays_twice g f h i (p.led.stays i l) (m.stays i l);
   placed = m.placed;
   content = λ u e. (let same : t ≡ u = some_is_one t u e in m.content ∙ ap (λ v. Some (made_thing v)) same);
+  fits = λ u e. subst (λ (v : ObjectTold). PutsFit v.slots v.values) (some_is_one t u e) (subst (λ k. PutsFit k t.values) (length-replicate t.slots 0) put.1);
 }
   where
     some_is_one : (t u : ObjectTold) → Some t ≡ Some u → t ≡ u
@@ -375,15 +382,17 @@ one_made slots class made n t role g f h few sized p r = record {
     s : (k : Graph) × IsRun slots (flat_map value_events t.values) r.0 k × IsRun slots (keep_event n ∷ []) k h
     s = run_in_parts slots (flat_map value_events t.values) (keep_event n ∷ []) r.0 h r.2
 
-    put : ArePut (r.0.registers 5) t.kind (replicate t.slots 0) (made_thing t).words r.0 s.0
+    put : ArePut (r.0.registers 5) t.kind (replicate t.slots 0) (made_thing t).words r.0 s.0 × PutsFit (length {A = ℕ} (replicate t.slots 0)) t.values
     put = put_values slots (r.0.registers 5) t.kind t.values (replicate t.slots 0) r.0 s.0 refl created.here s.1
 
     m : IsMade class made n t p.led.after f h
-    m = object_created class made n t p.led.after f r.0 s.0 h few p.led.placed p.top p.array p.current created put (one_step slots (Store 0 4 (slot_of n) 5) s.0 h s.2)
+    m = object_created class made n t p.led.after f r.0 s.0 h few p.led.placed p.top p.array p.current created put.0 (one_step slots (Store 0 4 (slot_of n) 5) s.0 h s.2)
 
 pub block_is_made : (slots : ℕ → ℕ) (class : ℕ) (made : ℕ → Bool) (n : ℕ) (x : Option ObjectTold) (role : ℕ → Role) (g h : Graph) → n < 2 ^ 22 → made n ≡ is_some x → ((t : ObjectTold) → x ≡ Some t → IsSized slots t.kind t.slots)
     → ArePlaced class made n role g → IsRun slots (made_block class n x) g h → IsBlockMade class made n x role g h
-block_is_made slots class made n None role g h few is sized a r = nothing_made class made n role g h is (place_is_ready slots class made n role g h few a r)
+block_is_made slots class made n None role g h few is sized a r =
+    let s = run_in_parts slots (place_events class n) (made_tail n None) g h r in
+    subst (IsBlockMade class made n None role g) s.2 (nothing_made class made n role g s.0 is (place_is_ready slots class made n role g s.0 few a s.1))
 block_is_made slots class made n (Some t) role g h few is sized a r =
-    let s = run_in_parts slots (place_events class n) (creation_of t.kind t.slots ∷ flat_map value_events t.values ++ keep_event n ∷ []) g h r in
+    let s = run_in_parts slots (place_events class n) (made_tail n (Some t)) g h r in
     one_made slots class made n t role g s.0 h few (sized t refl) (place_is_ready slots class made n role g s.0 few a s.1) s.2

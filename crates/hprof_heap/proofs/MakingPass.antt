@@ -6,6 +6,7 @@ use Rattle.heap_step.specs.declared.Event.{Event}
 use Rattle.hprof_heap.specs.ToldObjects.{ObjectTold}
 use Rattle.hprof_heap.proofs.Graphs.{Graph, IsRun, run_in_parts}
 use Rattle.hprof_heap.proofs.Placed.{ArePlaced, IsKept, Moves, Object, Role, Stays, kept, stays_twice, unmoved_stays}
+use Rattle.hprof_heap.proofs.Filled.{PutsFit}
 use Rattle.hprof_heap.proofs.Making.{IsBlockMade, IsSized, block_is_made, made_block, made_thing}
 
 -- the events that make objects, from number n on
@@ -36,6 +37,7 @@ pub record AreMade (class : ℕ) (made : ℕ → Bool) (n : ℕ) (list : List (O
   pub stays : (m : ℕ) → m < n → Stays g h m
   pub spared : (x m : ℕ) → IsSome (g.things x) → role x ≡ Object m → m < n → h.things x ≡ g.things x
   pub contents : (i : ℕ) (t : ObjectTold) → slice_get list i ≡ Some (Some t) → h.things (kept h (n + i)) ≡ Some (made_thing t)
+  pub fits : (i : ℕ) (t : ObjectTold) → slice_get list i ≡ Some (Some t) → PutsFit t.slots t.values
 
 no_more_made : (class : ℕ) (made : ℕ → Bool) (n : ℕ) (role : ℕ → Role) (g : Graph) → n ≤ 2 ^ 22 → ArePlaced class made n role g → AreMade class made n [] role g g
 no_more_made class made n role g few a = record {
@@ -47,6 +49,7 @@ no_more_made class made n role g few a = record {
   stays = λ m l. unmoved_stays g m;
   spared = λ x m p e l. refl;
   contents = λ i t e. (let z : None ≡ Some (Some t) = e in cc);
+  fits = λ i t e. (let z : None ≡ Some (Some t) = e in cc);
 }
 
 -- past the last number none is made
@@ -101,6 +104,7 @@ stop_at_last slots class made n list role g h few past right a r = subst (AreMad
   stays = λ m l. unmoved_stays g m;
   spared = λ x m p e l. refl;
   contents = λ i t e. absurd (none.1.1 i t e);
+  fits = λ i t e. absurd (none.1.1 i t e);
 })
   where
     none : (g ≡ h) × NoneMade made n list
@@ -117,15 +121,23 @@ one_and_more_made class made n x xs role g f h told p q = record {
   stays = λ m l. stays_twice g f h m (p.stays m l) (q.stays m (omega (arith, l)));
   spared = λ y m s e l. q.spared y m (p.moves.there y s) (p.moves.roles y s ∙ e) (omega (arith, l)) ∙ p.moves.objects y m s e (λ d. omega (arith, l, d));
   contents = contents;
+  fits = fits;
 }
   where
+    some_of_some : (t : ObjectTold) → Some x ≡ Some (Some t) → x ≡ Some t
+    some_of_some t e = cc
+
+    fits : (i : ℕ) (t : ObjectTold) → slice_get (x ∷ xs) i ≡ Some (Some t) → PutsFit t.slots t.values
+    fits zero t e = p.fits t (some_of_some t e)
+    fits (suc i) t e = q.fits i t e
+
     contents : (i : ℕ) (t : ObjectTold) → slice_get (x ∷ xs) i ≡ Some (Some t) → h.things (kept h (n + i)) ≡ Some (made_thing t)
     contents zero t e =
         ap (λ m. h.things (kept h m)) (omega arith) ∙ ap h.things (q.stays n (omega arith)).object_stays
         ∙ q.spared (kept f n) n k.there k.purpose (omega arith) ∙ p.content t same
       where
         same : x ≡ Some t
-        same = let f : Some x ≡ Some (Some t) = e in cc
+        same = some_of_some t e
 
         k : IsKept p.after f n
         k = p.placed.objects n (omega arith) (told ∙ ap is_some same)

@@ -9,9 +9,9 @@ use Rattle.heap_class.specs.Kinds.{is_reference}
 use Rattle.hprof_lines.specs.declared.values.SlotValue.{SlotValue}
 use Rattle.hprof_lines.specs.Objects.{names_object, shown}
 use Rattle.hprof_heap.specs.ToldObjects.{ObjectTold}
-use Rattle.hprof_heap.proofs.Filled.{with_value, with_values}
+use Rattle.hprof_heap.proofs.Filled.{PutsFit, length_with_value, length_with_values, with_value, with_values}
 use Rattle.hprof_heap.proofs.Making.{made_thing}
-use Rattle.hprof_heap.proofs.Linking.{linked_thing, with_reference, with_references}
+use Rattle.hprof_heap.proofs.Linking.{StoresFit, linked_thing, with_reference, with_references}
 
 -- whether a value is of this slot
 abbrev pub is_of : ℕ → SlotValue → Bool
@@ -21,11 +21,6 @@ is_of slot v = v.slot == slot
 abbrev pub AreApart : List SlotValue → Type 0
 AreApart [] = Unit {0}
 AreApart (v ∷ values) = (list_any (is_of v.slot) values ≡ false) × AreApart values
-
--- the values are of slots below n
-abbrev pub AreBelow : ℕ → List SlotValue → Type 0
-AreBelow n [] = Unit {0}
-AreBelow n (v ∷ values) = (v.slot < n) × AreBelow n values
 
 -- the word that a value is
 abbrev pub word_of_value : (ℕ → Option ℕ) → (ℕ → ℕ) → SlotValue → ℕ
@@ -68,17 +63,6 @@ references_elsewhere name id (v ∷ values) words slot e =
 
 -- ---- lengths
 
-length_with_value : (words : List ℕ) (v : SlotValue) → length (with_value words v) ≡ length words
-length_with_value words v = go (is_reference v.kind || v.value == 0)
-  where
-    go : (b : Bool) → length (if b then words else slice_set words v.slot (shown v.kind v.value)) ≡ length words
-    go true = refl
-    go false = length-set words v.slot (shown v.kind v.value)
-
-pub length_with_values : (values : List SlotValue) (words : List ℕ) → length (with_values words values) ≡ length words
-length_with_values [] words = refl
-length_with_values (v ∷ values) words = length_with_values values (with_value words v) ∙ length_with_value words v
-
 length_with_reference : (name : ℕ → Option ℕ) (id : ℕ → ℕ) (words : List ℕ) (v : SlotValue) → length (with_reference name id words v) ≡ length words
 length_with_reference name id words v = go (names_object v) (name v.value)
   where
@@ -97,24 +81,24 @@ length_with_references name id (v ∷ values) words = length_with_references nam
 abbrev put_word : ℕ → SlotValue → ℕ
 put_word old v = if is_reference v.kind || v.value == 0 then old else shown v.kind v.value
 
-value_here : (words : List ℕ) (v : SlotValue) → v.slot < length words → slice_index (with_value words v) v.slot ≡ put_word (slice_index words v.slot) v
-value_here words v l = go (is_reference v.kind || v.value == 0)
+value_here : (words : List ℕ) (v : SlotValue) → ((is_reference v.kind || v.value == 0) ≡ false → v.slot < length words) → slice_index (with_value words v) v.slot ≡ put_word (slice_index words v.slot) v
+value_here words v = go (is_reference v.kind || v.value == 0)
   where
-    go : (b : Bool) → slice_index (if b then words else slice_set words v.slot (shown v.kind v.value)) v.slot ≡ (if b then slice_index words v.slot else shown v.kind v.value)
-    go true = refl
-    go false = get_or-set_same words v.slot (shown v.kind v.value) 0 l
+    go : (b : Bool) → (b ≡ false → v.slot < length words) → slice_index (if b then words else slice_set words v.slot (shown v.kind v.value)) v.slot ≡ (if b then slice_index words v.slot else shown v.kind v.value)
+    go true l = refl
+    go false l = get_or-set_same words v.slot (shown v.kind v.value) 0 (l refl)
 
 -- what is stored: nothing for a value or for what isn't made
 abbrev stored_word : (ℕ → Option ℕ) → (ℕ → ℕ) → ℕ → SlotValue → ℕ
 stored_word name id old v = if names_object v then option_map_or id (name v.value) old else old
 
-reference_here : (name : ℕ → Option ℕ) (id : ℕ → ℕ) (words : List ℕ) (v : SlotValue) → v.slot < length words → slice_index (with_reference name id words v) v.slot ≡ stored_word name id (slice_index words v.slot) v
-reference_here name id words v l = go (names_object v) (name v.value)
+reference_here : (name : ℕ → Option ℕ) (id : ℕ → ℕ) (words : List ℕ) (v : SlotValue) → ((k : ℕ) → names_object v ≡ true → name v.value ≡ Some k → v.slot < length words) → slice_index (with_reference name id words v) v.slot ≡ stored_word name id (slice_index words v.slot) v
+reference_here name id words v = go (names_object v) (name v.value)
   where
-    go : (b : Bool) (o : Option ℕ) → slice_index (if b then option_map_or (λ k. slice_set words v.slot (id k)) o words else words) v.slot ≡ (if b then option_map_or id o (slice_index words v.slot) else slice_index words v.slot)
-    go false o = refl
-    go true None = refl
-    go true (Some k) = get_or-set_same words v.slot (id k) 0 l
+    go : (b : Bool) (o : Option ℕ) → ((k : ℕ) → b ≡ true → o ≡ Some k → v.slot < length words) → slice_index (if b then option_map_or (λ k. slice_set words v.slot (id k)) o words else words) v.slot ≡ (if b then option_map_or id o (slice_index words v.slot) else slice_index words v.slot)
+    go false o l = refl
+    go true None l = refl
+    go true (Some k) l = get_or-set_same words v.slot (id k) 0 (l k refl refl)
 
 find_this : (values : List SlotValue) (v : SlotValue) (slot : ℕ) → v.slot ≡ slot → find (is_of slot) (v ∷ values) ≡ Some v
 find_this values v slot e = ap (λ b. cond b (Some v) (find (is_of slot) values)) (eq-eqb v.slot slot e)
@@ -136,17 +120,13 @@ none_found (v ∷ values) slot e =
     let p = or_parts (is_of slot v) (list_any (is_of slot) values) e in
     ap (λ b. cond b (Some v) (find (is_of slot) values)) p.0 ∙ none_found values slot p.1
 
--- the first value is of the slot, or another is, or none
-found_below : (values : List SlotValue) (n : ℕ) (words : List ℕ) → length words ≡ n → AreBelow n values → AreBelow (length words) values
-found_below values n words e b = subst (λ k. AreBelow k values) (sym e) b
-
-put_of_slot : (values : List SlotValue) (words : List ℕ) (slot : ℕ) → AreApart values → AreBelow (length words) values
+put_of_slot : (values : List SlotValue) (words : List ℕ) (slot : ℕ) → AreApart values → PutsFit (length words) values
     → slice_index (with_values words values) slot ≡ option_map_or (put_word (slice_index words slot)) (find (is_of slot) values) (slice_index words slot)
 put_of_slot [] words slot apart below = refl
 put_of_slot (v ∷ values) words slot apart below = go (cases_eq v.slot slot)
   where
-    rest_below : AreBelow (length (with_value words v)) values
-    rest_below = subst (λ k. AreBelow k values) (sym (length_with_value words v)) below.1
+    rest_below : PutsFit (length (with_value words v)) values
+    rest_below = subst (λ k. PutsFit k values) (sym (length_with_value words v)) below.1
 
     go : (v.slot ≡ slot) ⊎ (v.slot ≢ slot) → slice_index (with_values (with_value words v) values) slot ≡ option_map_or (put_word (slice_index words slot)) (find (is_of slot) (v ∷ values)) (slice_index words slot)
     go (inl e) =
@@ -159,13 +139,13 @@ put_of_slot (v ∷ values) words slot apart below = go (cases_eq v.slot slot)
         ∙ ap (λ w. option_map_or (put_word w) (find (is_of slot) values) w) (value_elsewhere words v slot d)
         ∙ ap (λ o. option_map_or (put_word (slice_index words slot)) o (slice_index words slot)) (sym (find_later values v slot d))
 
-stored_of_slot : (name : ℕ → Option ℕ) (id : ℕ → ℕ) (values : List SlotValue) (words : List ℕ) (slot : ℕ) → AreApart values → AreBelow (length words) values
+stored_of_slot : (name : ℕ → Option ℕ) (id : ℕ → ℕ) (values : List SlotValue) (words : List ℕ) (slot : ℕ) → AreApart values → StoresFit name (length words) values
     → slice_index (with_references name id words values) slot ≡ option_map_or (stored_word name id (slice_index words slot)) (find (is_of slot) values) (slice_index words slot)
 stored_of_slot name id [] words slot apart below = refl
 stored_of_slot name id (v ∷ values) words slot apart below = go (cases_eq v.slot slot)
   where
-    rest_below : AreBelow (length (with_reference name id words v)) values
-    rest_below = subst (λ k. AreBelow k values) (sym (length_with_reference name id words v)) below.1
+    rest_below : StoresFit name (length (with_reference name id words v)) values
+    rest_below = subst (λ k. StoresFit name k values) (sym (length_with_reference name id words v)) below.1
 
     go : (v.slot ≡ slot) ⊎ (v.slot ≢ slot) → slice_index (with_references name id (with_reference name id words v) values) slot ≡ option_map_or (stored_word name id (slice_index words slot)) (find (is_of slot) (v ∷ values)) (slice_index words slot)
     go (inl e) =
@@ -191,11 +171,11 @@ word_of_one name id v = go (is_reference v.kind) (v.value == 0)
     go false false = refl
 
 -- the word of each slot of an object
-pub word_at_last : (name : ℕ → Option ℕ) (id : ℕ → ℕ) (t : ObjectTold) (slot : ℕ) → AreApart t.values → AreBelow t.slots t.values → slice_index (linked_thing name id t).words slot ≡ word_of_slot name id t.values slot
-word_at_last name id t slot apart below =
-    stored_of_slot name id t.values (with_values (replicate t.slots 0) t.values) slot apart (found_below t.values t.slots (with_values (replicate t.slots 0) t.values) made below)
+pub word_at_last : (name : ℕ → Option ℕ) (id : ℕ → ℕ) (t : ObjectTold) (slot : ℕ) → AreApart t.values → PutsFit t.slots t.values → StoresFit name t.slots t.values → slice_index (linked_thing name id t).words slot ≡ word_of_slot name id t.values slot
+word_at_last name id t slot apart puts stores =
+    stored_of_slot name id t.values (with_values (replicate t.slots 0) t.values) slot apart (subst (λ k. StoresFit name k t.values) (sym made) stores)
     ∙ ap (λ w. option_map_or (stored_word name id w) (find (is_of slot) t.values) w)
-        (put_of_slot t.values (replicate t.slots 0) slot apart (found_below t.values t.slots (replicate t.slots 0) (length-replicate t.slots 0) below)
+        (put_of_slot t.values (replicate t.slots 0) slot apart (subst (λ k. PutsFit k t.values) (sym (length-replicate t.slots 0)) puts)
         ∙ ap (λ w. option_map_or (put_word w) (find (is_of slot) t.values) w) (zero_first t.slots slot))
     ∙ by_value (find (is_of slot) t.values)
   where

@@ -10,3 +10,4 @@ pub mod Simulation
 pub mod RootSteps
 pub mod RootArrays
 pub mod RootKinds
+pub mod SessionEvents

@@ -123,40 +123,32 @@ none_found (v ∷ values) slot e =
 put_of_slot : (values : List SlotValue) (words : List ℕ) (slot : ℕ) → AreApart values → PutsFit (length words) values
     → slice_index (with_values words values) slot ≡ option_map_or (put_word (slice_index words slot)) (find (is_of slot) values) (slice_index words slot)
 put_of_slot [] words slot apart below = refl
-put_of_slot (v ∷ values) words slot apart below = go (cases_eq v.slot slot)
-  where
-    rest_below : PutsFit (length (with_value words v)) values
-    rest_below = subst (λ k. PutsFit k values) (sym (length_with_value words v)) below.1
-
-    go : (v.slot ≡ slot) ⊎ (v.slot ≢ slot) → slice_index (with_values (with_value words v) values) slot ≡ option_map_or (put_word (slice_index words slot)) (find (is_of slot) (v ∷ values)) (slice_index words slot)
-    go (inl e) =
+put_of_slot (v ∷ values) words slot apart below = elim (cases_eq v.slot slot) [
+  | inl e ↦ (
         ap (slice_index (with_values (with_value words v) values)) (sym e)
         ∙ values_elsewhere values (with_value words v) v.slot apart.0 ∙ value_here words v below.0
         ∙ ap (λ s. put_word (slice_index words s) v) e
-        ∙ ap (λ o. option_map_or (put_word (slice_index words slot)) o (slice_index words slot)) (sym (find_this values v slot e))
-    go (inr d) =
-        put_of_slot values (with_value words v) slot apart.1 rest_below
+        ∙ ap (λ o. option_map_or (put_word (slice_index words slot)) o (slice_index words slot)) (sym (find_this values v slot e)))
+  | inr d ↦ (
+        put_of_slot values (with_value words v) slot apart.1 (subst (λ k. PutsFit k values) (sym (length_with_value words v)) below.1)
         ∙ ap (λ w. option_map_or (put_word w) (find (is_of slot) values) w) (value_elsewhere words v slot d)
-        ∙ ap (λ o. option_map_or (put_word (slice_index words slot)) o (slice_index words slot)) (sym (find_later values v slot d))
+        ∙ ap (λ o. option_map_or (put_word (slice_index words slot)) o (slice_index words slot)) (sym (find_later values v slot d)))
+]
 
 stored_of_slot : (name : ℕ → Option ℕ) (id : ℕ → ℕ) (values : List SlotValue) (words : List ℕ) (slot : ℕ) → AreApart values → StoresFit name (length words) values
     → slice_index (with_references name id words values) slot ≡ option_map_or (stored_word name id (slice_index words slot)) (find (is_of slot) values) (slice_index words slot)
 stored_of_slot name id [] words slot apart below = refl
-stored_of_slot name id (v ∷ values) words slot apart below = go (cases_eq v.slot slot)
-  where
-    rest_below : StoresFit name (length (with_reference name id words v)) values
-    rest_below = subst (λ k. StoresFit name k values) (sym (length_with_reference name id words v)) below.1
-
-    go : (v.slot ≡ slot) ⊎ (v.slot ≢ slot) → slice_index (with_references name id (with_reference name id words v) values) slot ≡ option_map_or (stored_word name id (slice_index words slot)) (find (is_of slot) (v ∷ values)) (slice_index words slot)
-    go (inl e) =
+stored_of_slot name id (v ∷ values) words slot apart below = elim (cases_eq v.slot slot) [
+  | inl e ↦ (
         ap (slice_index (with_references name id (with_reference name id words v) values)) (sym e)
         ∙ references_elsewhere name id values (with_reference name id words v) v.slot apart.0 ∙ reference_here name id words v below.0
         ∙ ap (λ s. stored_word name id (slice_index words s) v) e
-        ∙ ap (λ o. option_map_or (stored_word name id (slice_index words slot)) o (slice_index words slot)) (sym (find_this values v slot e))
-    go (inr d) =
-        stored_of_slot name id values (with_reference name id words v) slot apart.1 rest_below
+        ∙ ap (λ o. option_map_or (stored_word name id (slice_index words slot)) o (slice_index words slot)) (sym (find_this values v slot e)))
+  | inr d ↦ (
+        stored_of_slot name id values (with_reference name id words v) slot apart.1 (subst (λ k. StoresFit name k values) (sym (length_with_reference name id words v)) below.1)
         ∙ ap (λ w. option_map_or (stored_word name id w) (find (is_of slot) values) w) (reference_elsewhere name id words v slot d)
-        ∙ ap (λ o. option_map_or (stored_word name id (slice_index words slot)) o (slice_index words slot)) (sym (find_later values v slot d))
+        ∙ ap (λ o. option_map_or (stored_word name id (slice_index words slot)) o (slice_index words slot)) (sym (find_later values v slot d)))
+]
 
 -- a value is put or stored
 word_of_one : (name : ℕ → Option ℕ) (id : ℕ → ℕ) (v : SlotValue) → stored_word name id (put_word 0 v) v ≡ word_of_value name id v

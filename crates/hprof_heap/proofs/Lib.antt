@@ -11,3 +11,5 @@ pub mod RootSteps
 pub mod RootArrays
 pub mod RootKinds
 pub mod SessionEvents
+pub mod OfSession
+pub mod ApartSlots

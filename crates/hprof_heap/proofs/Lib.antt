@@ -13,3 +13,4 @@ pub mod RootKinds
 pub mod SessionEvents
 pub mod OfSession
 pub mod ApartSlots
+pub mod ClassSlots

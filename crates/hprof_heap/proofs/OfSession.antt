@@ -1,6 +1,6 @@
 -- Each event of a session is one of mutator 0, and one of seven.
-use Rattle.std.proofs.Common.{◌≡◌, ℕ, zero, suc, ◌+◌, ◌/◌, ◌%◌, ◌^◌, Bool, true, false, List, [], ◌∷◌, ◌++◌, length, Option, Some, None}
-use Rattle.std.specs.Prelude.{flat_map, nat_lt, ◌==◌, ◌||◌, if◌then◌else◌}
+use Rattle.std.proofs.Common.{◌≡◌, ℕ, zero, suc, ◌+◌, ◌-◌, ◌/◌, ◌%◌, ◌^◌, Bool, true, false, List, [], ◌∷◌, ◌++◌, length, Option, Some, None}
+use Rattle.std.specs.Prelude.{flat_map, min, nat_lt, ◌==◌, ◌||◌, if◌then◌else◌}
 use Rattle.std.specs.List.{list_any}
 use Rattle.heap_class.specs.declared.ObjKind.{ObjKind}
 use Rattle.heap_class.specs.declared.ObjKind.TheVariants.{Instance, Array, Prim}
@@ -8,7 +8,7 @@ use Rattle.heap_class.specs.Kinds.{is_reference}
 use Rattle.heap_step.specs.declared.Event.{Event}
 use Rattle.hprof_session.specs.Places.{array_events, fetch_events, keep_event, place_events, top_events}
 use Rattle.hprof_lines.specs.declared.values.SlotValue.{SlotValue}
-use Rattle.hprof_lines.specs.Objects.{names_object, stored, value_events}
+use Rattle.hprof_lines.specs.Objects.{names_object, shown, stored, value_events}
 use Rattle.hprof_lines.specs.Roots.{arrays_for, clear_events, kind_events, root_array, root_events, roots_from, with_room}
 use Rattle.hprof_heap.specs.ToldObjects.{ObjectTold}
 use Rattle.hprof_heap.proofs.Simulation.{AreOfSession, IsOfSession}
@@ -41,7 +41,7 @@ creation_of_session (Prim kind) n = tt
 
 value_of_session : (v : SlotValue) → AreOfSession (value_events v)
 unfolding value_events
-value_of_session v = if_of_session (is_reference v.kind || v.value == 0) [] _ tt (tt, tt)
+value_of_session v = if_of_session (is_reference v.kind || v.value == 0) [] (Event.Put 0 5 v.slot (shown v.kind v.value) ∷ []) tt (tt, tt)
 
 tail_of_session : (n : ℕ) (x : Option ObjectTold) → AreOfSession (made_tail n x)
 tail_of_session n None = tt
@@ -69,8 +69,12 @@ pub linkings_of_session : (name : ℕ → Option ℕ) (n : ℕ) (list : List (Op
 linkings_of_session name n [] = tt
 linkings_of_session name n (x ∷ xs) = both_of_session (link_block name n x) (linkings name (n + 1) xs) (link_of_session name n x) (linkings_of_session name (n + 1) xs)
 
+array_of_session : (class first count i : ℕ) → AreOfSession (root_array class first count i)
+array_of_session class first count i = if_of_session (i % 1024 == 0) (Event.NewArray 0 5 class (min (count - i) 1024) ∷ Event.Store 0 7 (first + i / 1024) 5 ∷ []) [] (tt, (tt, tt)) tt
+
 root_of_session : (class first count i n : ℕ) → AreOfSession (root_events class first count i n)
-root_of_session class first count i n = both_of_session (root_array class first count i) _ (if_of_session (i % 1024 == 0) _ [] (tt, (tt, tt)) tt) (tt, (tt, (tt, tt)))
+root_of_session class first count i n = both_of_session (root_array class first count i ++ fetch_events n 6) (Event.Store 0 5 (i % 1024) 6 ∷ [])
+    (both_of_session (root_array class first count i) (fetch_events n 6) (array_of_session class first count i) (tt, (tt, tt))) (tt, tt)
 
 roots_of_session : (class first count i : ℕ) (numbers : List ℕ) → AreOfSession (roots_from class first count i numbers)
 unfolding roots_from

@@ -241,17 +241,17 @@ root_named class made last id roots kind first count numbers i x n role g f k h 
 root_is_kept : (slots : ℕ → ℕ) (class : ℕ) (made : ℕ → Bool) (last : ℕ) (id : ℕ → ℕ) (roots kind first count : ℕ) (numbers : List ℕ) (i x n : ℕ) (role : ℕ → Role) (g h : Graph) → slice_index numbers i ≡ n → n < last
     → AreBefore class made last id roots kind first count numbers i x role g → IsRun slots (root_events kind first count i n) g h → IsRootKept class made last id roots kind first count numbers i x role g h
 root_is_kept slots class made last id roots kind first count numbers i x n role g h is l b r = root_named class made last id roots kind first count numbers i x n role g s.0 t.0 h is p
-    (subst (λ y. IsFetched 6 y s.0 t.0) (p.found.ids n l) (object_is_fetched slots class p.after 6 n s.0 t.0 (p.found.tops n l) (p.found.keepers n l) t.1))
+    (subst (λ y. IsFetched 6 y s.0 t.0) (p.found.ids n l) (object_is_fetched slots class p.after 6 n s.0 t.0 (p.found.tops n l) (p.found.keepers n l) s.2))
     (subst (IsWriting 5 (i % 1024) (t.0.registers 6) t.0) t.2.2 t.2.1)
   where
-    s : (f : Graph) × IsRun slots (root_array kind first count i) g f × IsRun slots (fetch_events n 6 ++ Store 0 5 (i % 1024) 6 ∷ []) f h
-    s = run_in_parts slots (root_array kind first count i) (fetch_events n 6 ++ Store 0 5 (i % 1024) 6 ∷ []) g h r
+    t : (f : Graph) × IsRun slots (root_array kind first count i ++ fetch_events n 6) g f × IsRun slots (Store 0 5 (i % 1024) 6 ∷ []) f h
+    t = run_in_parts slots (root_array kind first count i ++ fetch_events n 6) (Store 0 5 (i % 1024) 6 ∷ []) g h r
+
+    s : (f : Graph) × IsRun slots (root_array kind first count i) g f × IsRun slots (fetch_events n 6) f t.0
+    s = run_in_parts slots (root_array kind first count i) (fetch_events n 6) g t.0 t.1
 
     p : IsArrayReady class made last id roots kind first count numbers i x role g s.0
     p = array_is_ready slots class made last id roots kind first count numbers i x role g s.0 b s.1
-
-    t : (f : Graph) × IsRun slots (fetch_events n 6) s.0 f × IsRun slots (Store 0 5 (i % 1024) 6 ∷ []) f h
-    t = run_in_parts slots (fetch_events n 6) (Store 0 5 (i % 1024) 6 ∷ []) s.0 h s.2
 
 -- ---- the roots of a kind
 

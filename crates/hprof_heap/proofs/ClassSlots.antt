@@ -1,0 +1,113 @@
+-- Each class of a table has its own fields as slots, and then the slots of its super.
+use Rattle.std.proofs.Common.{◌≡◌, ◌≢◌, ◌⊎◌, ℕ, zero, suc, ◌+◌, ◌<◌, Bool, true, false, List, [], ◌∷◌, ◌++◌, length, map, refl, sym, ap, subst, ◌∙◌, Option, Some, None, inl, inr, arith, length-append, append_assoc}
+use Rattle.std.specs.Prelude.{not, slice_get, unwrap_or}
+use Rattle.std.specs.Option.{option_map_or}
+use Rattle.std.proofs.lemmas.Bool.{cases_order, not-false}
+use Rattle.std.proofs.lemmas.List.{append-nil, length-map}
+use Rattle.heap_class.specs.declared.Field.{Field}
+use Rattle.heap_class.specs.declared.Kind.{Kind}
+use Rattle.heap_class.specs.Classes.{Class, IsClassTable, class_refusal, fields_of, is_instance_class, slot_table_after, slots_of, slots_under, sup_of}
+use Rattle.heap_class.specs.Limits.{widest_classes}
+use Rattle.heap_class.proofs.Refusals.{no_refusal_test_holds}
+use Rattle.heap_class.proofs.Slots.{get_append, instance_class_is_in_table, slots_stay_with_one_class_more, table_length, table_more}
+use Rattle.hprof_heap.proofs.ApartSlots.{HaveSlots}
+
+item_at_end : {A : Type 0} (xs : List A) (x : A) (k : ℕ) → k ≡ length xs → slice_get (xs ++ x ∷ []) k ≡ Some x
+item_at_end [] x zero e = refl
+item_at_end [] x (suc k) e = absurd (omega (arith, e))
+item_at_end (y ∷ xs) x zero e = absurd (omega (arith, e))
+item_at_end (y ∷ xs) x (suc k) e = item_at_end xs x k (omega (arith, e))
+
+none_past_end : {A : Type 0} (xs : List A) (x : A) (k : ℕ) → length xs < k → slice_get (xs ++ x ∷ []) k ≡ None
+none_past_end [] x zero l = absurd (omega (arith, l))
+none_past_end [] x (suc k) l = refl
+none_past_end (y ∷ xs) x zero l = absurd (omega (arith, l))
+none_past_end (y ∷ xs) x (suc k) l = none_past_end xs x k (omega (arith, l))
+
+-- the slots are as many as said, and supers are among the classes
+record HasSupers (classes : List Class) : Type 0 where
+  slots : HaveSlots classes
+  supers : (k s : ℕ) → sup_of classes k ≡ Some s → s < length classes
+
+-- the number of slots of a super
+abbrev super_slots : List Class → Option ℕ → ℕ
+super_slots classes sup = option_map_or (λ s. length (slots_of classes s)) sup 0
+
+super_slots_stay : (before : List Class) (c : Class) (sup : Option ℕ) → ((s : ℕ) → sup ≡ Some s → s < length before) → super_slots (before ++ c ∷ []) sup ≡ super_slots before sup
+super_slots_stay before c None h = refl
+super_slots_stay before c (Some s) h = ap length (slots_stay_with_one_class_more before c s (h s refl))
+
+slots_of_last : (before : List Class) (c : Class) → slots_of (before ++ c ∷ []) (length before) ≡ slots_under (slot_table_after [] before) c
+unfolding slots_of
+slots_of_last before c =
+    ap (λ t. unwrap_or (slice_get t (length before)) []) (table_more [] before c)
+    ∙ ap (λ o. unwrap_or o []) (item_at_end (slot_table_after [] before) (slots_under (slot_table_after [] before) c) (length before) (omega (arith, table_length [] before)))
+
+under_length : (before : List Class) (c : Class) → length (slots_under (slot_table_after [] before) c) ≡ length c.fields + super_slots before c.sup
+unfolding slots_under slots_of
+under_length before c =
+    length-append (map (λ (f : Field). f.kind) c.fields) (option_map_or (λ s. unwrap_or (slice_get (slot_table_after [] before) s) []) c.sup [])
+    ∙ ap (λ n. n + length (option_map_or (λ s. unwrap_or (slice_get (slot_table_after [] before) s) []) c.sup [])) (length-map (λ (f : Field). f.kind) c.fields)
+    ∙ ap (λ n. length c.fields + n) (by_super c.sup)
+  where
+    by_super : (sup : Option ℕ) → length (option_map_or (λ s. unwrap_or (slice_get (slot_table_after [] before) s) []) sup []) ≡ option_map_or (λ s. length (unwrap_or (slice_get (slot_table_after [] before) s) [])) sup 0
+    by_super None = refl
+    by_super (Some s) = refl
+
+one_class_more : (before : List Class) (c : Class) → HasSupers before → ((s : ℕ) → c.sup ≡ Some s → s < length before) → HasSupers (before ++ c ∷ [])
+unfolding fields_of sup_of
+one_class_more before c h below = record {
+  slots = λ k. slots k (cases_order k (length before));
+  supers = λ k s e. (let l : s < length before = super k s e (cases_order k (length before)) in omega (arith, l, length-append before (c ∷ [])));
+}
+  where
+    last : slice_get (before ++ c ∷ []) (length before) ≡ Some c
+    last = item_at_end before c (length before) refl
+
+    super : (k s : ℕ) → option_map_or (λ (c : Class). c.sup) (slice_get (before ++ c ∷ []) k) None ≡ Some s → (k ≡ length before) ⊎ ((k < length before) ⊎ (length before < k)) → s < length before
+    super k s e (inl at) = below s (sym (ap (λ o. option_map_or (λ (c : Class). c.sup) o None) (ap (slice_get (before ++ c ∷ [])) at ∙ last)) ∙ e)
+    super k s e (inr (inl l)) = h.supers k s (sym (ap (λ o. option_map_or (λ (c : Class). c.sup) o None) (get_append before (c ∷ []) k l)) ∙ e)
+    super k s e (inr (inr l)) = let z : None ≡ Some s = sym (ap (λ o. option_map_or (λ (c : Class). c.sup) o None) (none_past_end before c k l)) ∙ e in cc
+
+    slots_past : (k : ℕ) → length before < k → slots_of (before ++ c ∷ []) k ≡ []
+    unfolding slots_of
+    slots_past k l =
+        ap (λ t. unwrap_or (slice_get t k) []) (table_more [] before c)
+        ∙ ap (λ o. unwrap_or o []) (none_past_end (slot_table_after [] before) (slots_under (slot_table_after [] before) c) k (omega (arith, l, table_length [] before)))
+
+    slots : (k : ℕ) → (k ≡ length before) ⊎ ((k < length before) ⊎ (length before < k))
+        → length (slots_of (before ++ c ∷ []) k) ≡ length (option_map_or (λ (c : Class). c.fields) (slice_get (before ++ c ∷ []) k) []) + super_slots (before ++ c ∷ []) (option_map_or (λ (c : Class). c.sup) (slice_get (before ++ c ∷ []) k) None)
+    slots k (inl at) =
+        ap (λ i. length (slots_of (before ++ c ∷ []) i)) at ∙ ap length (slots_of_last before c) ∙ under_length before c
+        ∙ ap (λ n. length c.fields + n) (sym (super_slots_stay before c c.sup below))
+        ∙ ap (λ o. length (option_map_or (λ (c : Class). c.fields) o []) + super_slots (before ++ c ∷ []) (option_map_or (λ (c : Class). c.sup) o None)) (sym (ap (slice_get (before ++ c ∷ [])) at ∙ last))
+    slots k (inr (inl l)) =
+        ap length (slots_stay_with_one_class_more before c k l) ∙ h.slots k
+        ∙ ap (λ n. length (option_map_or (λ (c : Class). c.fields) (slice_get before k) []) + n) (sym (super_slots_stay before c (option_map_or (λ (c : Class). c.sup) (slice_get before k) None) (h.supers k)))
+        ∙ ap (λ o. length (option_map_or (λ (c : Class). c.fields) o []) + super_slots (before ++ c ∷ []) (option_map_or (λ (c : Class). c.sup) o None)) (sym (get_append before (c ∷ []) k l))
+    slots k (inr (inr l)) =
+        ap length (slots_past k l)
+        ∙ ap (λ o. length (option_map_or (λ (c : Class). c.fields) o []) + super_slots (before ++ c ∷ []) (option_map_or (λ (c : Class). c.sup) o None)) (sym (none_past_end before c k l))
+
+-- a super is among the classes before
+super_is_before : (before : List Class) (sup : Option ℕ) → option_map_or (is_instance_class before) sup true ≡ true → (s : ℕ) → sup ≡ Some s → s < length before
+super_is_before before None e s f = let z : None ≡ Some s = f in cc
+super_is_before before (Some r) e s f = let same : r ≡ s = some_number r s f in instance_class_is_in_table before s (ap (is_instance_class before) (sym same) ∙ e)
+  where
+    some_number : (r s : ℕ) → Some r ≡ Some s → r ≡ s
+    some_number r s e = cc
+
+accepted_super : (before : List Class) (c : Class) → class_refusal widest_classes before c ≡ None → (s : ℕ) → c.sup ≡ Some s → s < length before
+unfolding class_refusal
+accepted_super before c accepted = super_is_before before c.sup (not-false (option_map_or (is_instance_class before) c.sup true) (no_refusal_test_holds _ accepted).0)
+
+supers_of_table : (before cs : List Class) → HasSupers before → IsClassTable before cs → HasSupers (before ++ cs)
+supers_of_table before [] h t = subst HasSupers (sym (append-nil before)) h
+supers_of_table before (c ∷ cs) h t = subst HasSupers (append_assoc before (c ∷ []) cs) (supers_of_table (before ++ c ∷ []) cs (one_class_more before c h (accepted_super before c t.0)) t.2)
+
+no_classes : HasSupers []
+unfolding slots_of slot_table_after fields_of sup_of
+no_classes = record { slots = λ k. refl; supers = λ k s e. (let z : None ≡ Some s = e in cc) }
+
+pub table_has_slots : (classes : List Class) → IsClassTable [] classes → HaveSlots classes
+table_has_slots classes t = (supers_of_table [] classes no_classes t).slots

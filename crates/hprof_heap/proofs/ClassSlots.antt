@@ -54,6 +54,12 @@ under_length before c =
     by_super None = refl
     by_super (Some s) = refl
 
+slots_past : (before : List Class) (c : Class) (k : ℕ) → length before < k → slots_of (before ++ c ∷ []) k ≡ []
+unfolding slots_of
+slots_past before c k l =
+    ap (λ t. unwrap_or (slice_get t k) []) (table_more [] before c)
+    ∙ ap (λ o. unwrap_or o []) (none_past_end (slot_table_after [] before) (slots_under (slot_table_after [] before) c) k (omega (arith, l, table_length [] before)))
+
 one_class_more : (before : List Class) (c : Class) → HasSupers before → ((s : ℕ) → c.sup ≡ Some s → s < length before) → HasSupers (before ++ c ∷ [])
 unfolding fields_of sup_of
 one_class_more before c h below = record {
@@ -69,12 +75,6 @@ one_class_more before c h below = record {
     super k s e (inr (inl l)) = h.supers k s (sym (ap (λ o. option_map_or (λ (c : Class). c.sup) o None) (get_append before (c ∷ []) k l)) ∙ e)
     super k s e (inr (inr l)) = let z : None ≡ Some s = sym (ap (λ o. option_map_or (λ (c : Class). c.sup) o None) (none_past_end before c k l)) ∙ e in cc
 
-    slots_past : (k : ℕ) → length before < k → slots_of (before ++ c ∷ []) k ≡ []
-    unfolding slots_of
-    slots_past k l =
-        ap (λ t. unwrap_or (slice_get t k) []) (table_more [] before c)
-        ∙ ap (λ o. unwrap_or o []) (none_past_end (slot_table_after [] before) (slots_under (slot_table_after [] before) c) k (omega (arith, l, table_length [] before)))
-
     slots : (k : ℕ) → (k ≡ length before) ⊎ ((k < length before) ⊎ (length before < k))
         → length (slots_of (before ++ c ∷ []) k) ≡ length (option_map_or (λ (c : Class). c.fields) (slice_get (before ++ c ∷ []) k) []) + super_slots (before ++ c ∷ []) (option_map_or (λ (c : Class). c.sup) (slice_get (before ++ c ∷ []) k) None)
     slots k (inl at) =
@@ -86,7 +86,7 @@ one_class_more before c h below = record {
         ∙ ap (λ n. length (option_map_or (λ (c : Class). c.fields) (slice_get before k) []) + n) (sym (super_slots_stay before c (option_map_or (λ (c : Class). c.sup) (slice_get before k) None) (h.supers k)))
         ∙ ap (λ o. length (option_map_or (λ (c : Class). c.fields) o []) + super_slots (before ++ c ∷ []) (option_map_or (λ (c : Class). c.sup) o None)) (sym (get_append before (c ∷ []) k l))
     slots k (inr (inr l)) =
-        ap length (slots_past k l)
+        ap length (slots_past before c k l)
         ∙ ap (λ o. length (option_map_or (λ (c : Class). c.fields) o []) + super_slots (before ++ c ∷ []) (option_map_or (λ (c : Class). c.sup) o None)) (sym (none_past_end before c k l))
 
 -- a super is among the classes before

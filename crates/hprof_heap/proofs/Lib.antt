@@ -14,3 +14,4 @@ pub mod SessionEvents
 pub mod OfSession
 pub mod ApartSlots
 pub mod ClassSlots
+pub mod ToldNumbers

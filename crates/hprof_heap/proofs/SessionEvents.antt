@@ -27,6 +27,7 @@ use Rattle.hprof_lines.specs.Slots.{object_values}
 use Rattle.hprof_lines.specs.StaticObjects.{static_events, statics_events}
 use Rattle.hprof_lines.specs.Values.{statics_from}
 use Rattle.hprof_heap.specs.ToldObjects.{ObjectTold, array_told, instance_told, numbered_told, object_told, objects_of_dump, static_told, statics_told, told_from, told_in}
+use Rattle.hprof_heap.specs.DumpHeaps.{AreNumberedFirst}
 use Rattle.hprof_heap.proofs.Making.{creation_of, made_block, made_tail}
 use Rattle.hprof_heap.proofs.MakingPass.{making_block, makings}
 use Rattle.hprof_heap.proofs.Linking.{link_block, link_values, linkings}
@@ -246,11 +247,6 @@ unfolding roots_events
 all_roots_keep o found tags = ap (λ es. NewArray 0 7 o.plan.roots 1024 ∷ es ++ clear_events) (roots_keep o found (o.plan.roots + 1) 0 tags)
 
 -- ---- all events
-
--- the objects of static fields are numbered first, and are few
-pub record AreNumberedFirst (o : ObjectsTold) : Type 0 where
-  pub as_many : length o.statics ≡ length o.plan.statics.items
-  pub few : length o.plan.statics.items ≤ 2 ^ 22
 
 pub both_make : (o : ObjectsTold) (items : List ItemTold) → AreNumberedFirst o → both_events Making o items ≡ makings o.plan.roots 0 (objects_of_dump o items)
 both_make o items a =

@@ -285,25 +285,25 @@ new_prim_step r n kind w legal accepted =
     let m : Makes w r (Prim kind) n (after_new 0 r (Prim kind) n w) = new_makes w r (Prim kind) n legal (not-false (is_register w 0 r) h.0) h.1.1.1.0 in
     record { step = m.step; classes = m.classes }
 
+put_slot : (r slot value : ℕ) (w : HeapState) → put_refusal 0 r slot value w ≡ None → lacks_slot w (register w 0 r) slot ≡ false
+unfolding put_refusal
+put_slot r slot value w e = (no_refusal_test_holds _ e).1.1.0
+
+store_slot : (r slot source : ℕ) (w : HeapState) → store_refusal 0 r slot source w ≡ None → lacks_slot w (register w 0 r) slot ≡ false
+unfolding store_refusal
+store_slot r slot source w e = (no_refusal_test_holds _ e).1.1.0
+
 put_step : (r slot value : ℕ) (w : HeapState) → IsLegal w → refusal_of (Put 0 r slot value) w ≡ None → IsStepOf (Put 0 r slot value) w (state_after (Put 0 r slot value) w)
 unfolding refusal_of state_after
 put_step r slot value w legal accepted =
     let m : Writes w r slot value (after_put 0 r slot value w) = form_writes w (after_put 0 r slot value w) r slot value legal (put_slot r slot value w accepted) (form_after_put w 0 r slot value (legal_heap_has_clauses w legal) accepted) in
     record { step = m.step; classes = m.classes }
-  where
-    put_slot : (r slot value : ℕ) (w : HeapState) → put_refusal 0 r slot value w ≡ None → lacks_slot w (register w 0 r) slot ≡ false
-    unfolding put_refusal
-    put_slot r slot value w e = (no_refusal_test_holds _ e).1.1.0
 
 store_step : (r slot source : ℕ) (w : HeapState) → IsLegal w → refusal_of (Store 0 r slot source) w ≡ None → IsStepOf (Store 0 r slot source) w (state_after (Store 0 r slot source) w)
 unfolding refusal_of state_after
 store_step r slot source w legal accepted =
     let m : Writes w r slot (register w 0 source) (after_store 0 r slot source w) = form_writes w (after_store 0 r slot source w) r slot (register w 0 source) legal (store_slot r slot source w accepted) (store_form w 0 r slot source (legal_heap_has_clauses w legal) accepted) in
     record { step = subst (λ x. IsWriting r slot x (graph_of w) (graph_of (after_store 0 r slot source w))) (register_held w source) m.step; classes = m.classes }
-  where
-    store_slot : (r slot source : ℕ) (w : HeapState) → store_refusal 0 r slot source w ≡ None → lacks_slot w (register w 0 r) slot ≡ false
-    unfolding store_refusal
-    store_slot r slot source w e = (no_refusal_test_holds _ e).1.1.0
 
 load_step : (to from slot : ℕ) (w : HeapState) → refusal_of (Load 0 to from slot) w ≡ None → IsStepOf (Load 0 to from slot) w (state_after (Load 0 to from slot) w)
 unfolding refusal_of state_after load_refusal

@@ -1,6 +1,7 @@
 -- The heap of a dump.
-use Rattle.std.specs.Prelude.{◌≡◌, ◌≢◌, ℕ, ◌+◌, ◌-◌, ◌*◌, ◌/◌, ◌%◌, ◌<◌, ◌≤◌, ◌==◌, min, find, List, [], ◌∷◌, length, slice_get, slice_index, Option, Some, None, if◌then◌else◌}
+use Rattle.std.specs.Prelude.{◌≡◌, ◌≢◌, ℕ, ◌+◌, ◌-◌, ◌*◌, ◌/◌, ◌%◌, ◌^◌, ◌<◌, ◌≤◌, ◌==◌, min, find, List, [], ◌∷◌, length, slice_get, slice_index, Option, Some, None, if◌then◌else◌}
 use Rattle.std.specs.Option.{option_map_or}
+use Rattle.heap_class.specs.declared.IdSize.{IdSize}
 use Rattle.heap_class.specs.declared.ObjKind.{ObjKind}
 use Rattle.heap_class.specs.declared.ObjKind.TheVariants.{Array}
 use Rattle.heap_class.specs.Kinds.{is_reference}
@@ -10,11 +11,12 @@ use Rattle.heap_world.specs.Legal.{IsLegal}
 use Rattle.heap_step.specs.declared.Event.{Event}
 use Rattle.heap_step.specs.Apply.{refusal_of, state_after}
 use Rattle.hprof_session.specs.Walks.{ItemTold}
+use Rattle.hprof_plan.specs.declared.planning.Plan.{Plan}
 use Rattle.hprof_plan.specs.declared.items.RootFound.{RootFound}
 use Rattle.hprof_lines.specs.declared.values.SlotValue.{SlotValue}
 use Rattle.hprof_lines.specs.Objects.{ObjectsTold, number_of, shown}
 use Rattle.hprof_lines.specs.Roots.{arrays_for, roots_named, with_room}
-use Rattle.hprof_lines.specs.Sessions.{root_tags}
+use Rattle.hprof_lines.specs.Sessions.{all_events, root_tags, told_objects}
 use Rattle.hprof_heap.specs.ToldObjects.{ObjectTold, objects_of_dump}
 
 -- ---- events one after another
@@ -33,6 +35,11 @@ state_after_all (e ∷ es) w = state_after_all es (state_after e w)
 pub record IsBare (w : HeapState) : Type 0 where
   pub legal : IsLegal w
   pub empty : (x : ℕ) → object_of w.regions x ≡ None
+
+-- each class with an object for its static fields has one, and these are few: then no two objects have one number
+pub record AreNumberedFirst (o : ObjectsTold) : Type 0 where
+  pub as_many : length o.statics ≡ length o.plan.statics.items
+  pub few : length o.plan.statics.items ≤ 2 ^ 22
 
 -- ---- objects
 
@@ -86,3 +93,12 @@ pub record IsHeapOfDump (o : ObjectsTold) (items : List ItemTold) (found : List 
   pub roots_array : NamesKind w (register w 0 7) (Array o.plan.roots) 1024
   pub roots : AreKindsOfRoots o id w found (register w 0 7) (o.plan.roots + 1) 0 root_tags
   pub registers : (r : ℕ) → r < 7 → register w 0 r ≡ 0
+
+-- if the events of the session of a dump are all accepted, one after another, from an empty heap with the classes of its plan on,
+-- they make the heap of the dump
+abbrev pub MakesHeap : Plan → IdSize → List ℕ → List ItemTold → List RootFound → HeapState → Type 0
+MakesHeap p ids objects items found w =
+    let o = told_objects p ids objects items in
+    let events = all_events o items found in
+    AreNumberedFirst o → IsBare w → w.classes ≡ p.classes → AreTaken events w
+    → IsHeapOfDump o items found (state_after_all events w)

@@ -15,3 +15,4 @@ pub mod OfSession
 pub mod ApartSlots
 pub mod ClassSlots
 pub mod ToldNumbers
+pub mod Whole

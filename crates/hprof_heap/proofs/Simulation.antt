@@ -192,7 +192,7 @@ item_of_copies k l zero i e = let z : None ≡ Some l = e in cc
 item_of_copies k l (suc n) zero e = let z : Some k ≡ Some l = e in cc
 item_of_copies k l (suc n) (suc i) e = item_of_copies k l n i e
 
-some_object : (w : HeapState) (x : ℕ) (t : Thing) → option_map thing_of (object_of w.regions x) ≡ Some t → (o : Object) × (object_of w.regions x ≡ Some o) × (thing_of o ≡ t)
+pub some_object : (w : HeapState) (x : ℕ) (t : Thing) → option_map thing_of (object_of w.regions x) ≡ Some t → (o : Object) × (object_of w.regions x ≡ Some o) × (thing_of o ≡ t)
 some_object w x t = go (object_of w.regions x) refl
   where
     go : (p : Option Object) → object_of w.regions x ≡ p → option_map thing_of p ≡ Some t → (o : Object) × (object_of w.regions x ≡ Some o) × (thing_of o ≡ t)

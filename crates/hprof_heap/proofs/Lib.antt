@@ -15,4 +15,5 @@ pub mod OfSession
 pub mod ApartSlots
 pub mod ClassSlots
 pub mod ToldNumbers
+pub mod StaticNumbers
 pub mod Whole

@@ -2,14 +2,16 @@
 use Rattle.std.proofs.Common.{◌≡◌, ◌≢◌, ℕ, zero, suc, ◌+◌, ◌-◌, ◌*◌, ◌/◌, ◌%◌, ◌^◌, ◌<◌, ◌≤◌, Bool, true, false, List, [], ◌∷◌, ◌++◌, length, refl, sym, ap, subst, ◌∙◌, Option, Some, None, arith}
 use Rattle.std.specs.Prelude.{IsSome, find, min, option_map, slice_get, slice_index}
 use Rattle.std.specs.Option.{option_map_or}
+use Rattle.heap_class.specs.declared.ClassLimits.{ClassLimits}
 use Rattle.heap_class.specs.declared.IdSize.{IdSize}
 use Rattle.heap_class.specs.declared.ObjKind.TheVariants.{Array}
-use Rattle.heap_class.specs.Classes.{Class, slots_of}
+use Rattle.heap_class.specs.Classes.{Class, IsClassTable, slots_of}
 use Rattle.heap_region.specs.Regions.{Object as HeapObject, object_of}
 use Rattle.heap_world.specs.State.{HeapState, register, word_of}
 use Rattle.heap_world.proofs.Registers.{word_of_object_slot}
 use Rattle.heap_step.specs.declared.Event.{Event}
 use Rattle.hprof_session.specs.Walks.{ItemTold}
+use Rattle.hprof_plan.specs.declared.dump.Found.{Found}
 use Rattle.hprof_plan.specs.declared.items.RootFound.{RootFound}
 use Rattle.hprof_plan.specs.declared.planning.Plan.{Plan}
 use Rattle.hprof_lines.specs.declared.passes.Pass.TheVariants.{Making, Linking}
@@ -17,7 +19,7 @@ use Rattle.hprof_lines.specs.Objects.{ObjectsTold, number_of}
 use Rattle.hprof_lines.specs.Passes.{made_from}
 use Rattle.hprof_lines.specs.Roots.{arrays_for, roots_events, roots_named, with_room}
 use Rattle.hprof_lines.specs.Sessions.{all_events, both_events, root_tags, told_objects}
-use Rattle.hprof_heap.specs.DumpHeaps.{AreKindsOfRoots, AreNumberedFirst, AreRoots, AreTaken, IsBare, IsHeapOfDump, IsObjectTold, MakesHeap, NamesKind, slot_told, state_after_all}
+use Rattle.hprof_heap.specs.DumpHeaps.{AreKindsOfRoots, AreNumberedFirst, AreRoots, AreTaken, IsBare, IsHeapOfDump, IsObjectTold, MakesHeap, MakesHeapOfFound, NamesKind, slot_told, state_after_all}
 use Rattle.hprof_heap.specs.ToldObjects.{ObjectTold, objects_of_dump}
 use Rattle.hprof_heap.proofs.Graphs.{Graph, Thing, IsRun, run_in_parts, word, word_in}
 use Rattle.hprof_heap.proofs.Placed.{ArePlaced, IsArrayOf, Object, Other, Role, kept}
@@ -32,6 +34,7 @@ use Rattle.hprof_heap.proofs.SessionEvents.{all_roots_keep, both_link, both_make
 use Rattle.hprof_heap.proofs.OfSession.{both_of_session, linkings_of_session, makings_of_session, root_keepings_of_session}
 use Rattle.hprof_heap.proofs.ApartSlots.{HaveSlots}
 use Rattle.hprof_heap.proofs.ClassSlots.{table_has_slots}
+use Rattle.hprof_heap.proofs.StaticNumbers.{statics_are_numbered}
 use Rattle.hprof_heap.proofs.ToldNumbers.{AreFine, is_there, named_is_there, numbers_of_roots, objects_are_fine, right_of_fine, there_within, values_apart_at}
 
 -- ---- what the graph of a heap says of the heap
@@ -186,3 +189,8 @@ session_makes_heap p ids objects items found w numbered bare classes taken =
     (parts_make_heap o items found w (state_after_all parts w) numbered refl
     (objects_are_fine (slots_in w) o items (λ c. ap (λ cs. length (slots_of cs c)) classes) (subst (λ cs. HaveSlots cs) classes (table_has_slots w.classes bare.legal.classes)) numbered)
     (run_has_parts (slots_in w) o items found (graph_of w) (graph_of (state_after_all parts w)) run.run))
+
+pub found_makes_heap : (limits : ClassLimits) (most : ℕ) (f : Found) (p : Plan) (size : IdSize) (items : List ItemTold) (w : HeapState) → MakesHeapOfFound limits most f p size items w
+found_makes_heap limits most f p size items w tables plan bare classes taken =
+    session_makes_heap p size f.objects.keys items f.roots.items w
+    (statics_are_numbered limits most f p size items tables plan (subst (λ cs. IsClassTable [] cs) classes bare.legal.classes)) bare classes taken

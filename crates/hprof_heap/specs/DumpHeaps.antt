@@ -1,6 +1,7 @@
 -- The heap of a dump.
 use Rattle.std.specs.Prelude.{◌≡◌, ◌≢◌, ℕ, ◌+◌, ◌-◌, ◌*◌, ◌/◌, ◌%◌, ◌^◌, ◌<◌, ◌≤◌, ◌==◌, min, find, List, [], ◌∷◌, length, slice_get, slice_index, Option, Some, None, if◌then◌else◌}
 use Rattle.std.specs.Option.{option_map_or}
+use Rattle.heap_class.specs.declared.ClassLimits.{ClassLimits}
 use Rattle.heap_class.specs.declared.IdSize.{IdSize}
 use Rattle.heap_class.specs.declared.ObjKind.{ObjKind}
 use Rattle.heap_class.specs.declared.ObjKind.TheVariants.{Array}
@@ -11,6 +12,9 @@ use Rattle.heap_world.specs.Legal.{IsLegal}
 use Rattle.heap_step.specs.declared.Event.{Event}
 use Rattle.heap_step.specs.Apply.{refusal_of, state_after}
 use Rattle.hprof_session.specs.Walks.{ItemTold}
+use Rattle.hprof_plan.specs.Finds.{HasTables}
+use Rattle.hprof_plan.specs.Plans.{IsPlan}
+use Rattle.hprof_plan.specs.declared.dump.Found.{Found}
 use Rattle.hprof_plan.specs.declared.planning.Plan.{Plan}
 use Rattle.hprof_plan.specs.declared.items.RootFound.{RootFound}
 use Rattle.hprof_lines.specs.declared.values.SlotValue.{SlotValue}
@@ -102,3 +106,11 @@ MakesHeap p ids objects items found w =
     let events = all_events o items found in
     AreNumberedFirst o → IsBare w → w.classes ≡ p.classes → AreTaken events w
     → IsHeapOfDump o items found (state_after_all events w)
+
+-- the same of a dump in which a walk finds this, and of a plan of its classes
+abbrev pub MakesHeapOfFound : ClassLimits → ℕ → Found → Plan → IdSize → List ItemTold → HeapState → Type 0
+MakesHeapOfFound limits most f p size items w =
+    let o = told_objects p size f.objects.keys items in
+    let events = all_events o items f.roots.items in
+    HasTables size items f → IsPlan limits most f p → IsBare w → w.classes ≡ p.classes → AreTaken events w
+    → IsHeapOfDump o items f.roots.items (state_after_all events w)

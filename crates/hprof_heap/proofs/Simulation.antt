@@ -1,5 +1,5 @@
 -- Each event of a session that a heap accepts does to the graph of the heap what such an event does to graphs.
-use Rattle.std.proofs.Common.{◌≡◌, ◌≢◌, ◌⊎◌, ℕ, zero, suc, ◌+◌, ◌*◌, ◌<◌, Bool, true, false, List, [], ◌∷◌, length, drop, replicate, set, refl, sym, ap, subst, ◌∙◌, Option, Some, None, inl, inr, arith}
+use Rattle.std.proofs.Common.{◌≡◌, ◌≢◌, ◌⊎◌, ℕ, zero, suc, ◌+◌, ◌*◌, ◌<◌, ◌≤◌, Bool, true, false, List, [], ◌∷◌, length, drop, replicate, set, refl, sym, ap, subst, ◌∙◌, Option, Some, None, inl, inr, arith}
 use Rattle.std.specs.Prelude.{slice_get, slice_index, slice_set, IsSome, is_none, option_map, option_and_then, nat_lt, nat_le, not, ◌&&◌, ◌==◌, if◌then◌else◌}
 use Rattle.std.specs.Option.{option_map_or}
 use Rattle.std.proofs.lemmas.Bool.{and_parts, ltb-true, not-false}
@@ -57,6 +57,16 @@ register_held w r = ap (slice_index w.registers) (register_place r)
 
 register_is_there : (w : HeapState) (r : ℕ) → is_register w 0 r ≡ true → r < length w.registers
 register_is_there w r e = subst (λ i. i < length w.registers) (register_place r) (ltb-true (register_index 0 r) (length w.registers) (and_parts (nat_lt r 8) (nat_lt (register_index 0 r) (length w.registers)) e).1)
+
+few_registers : (w : HeapState) (r : ℕ) → is_register w 0 r ≡ true → r < 8
+few_registers w r e = ltb-true r 8 (and_parts (nat_lt r 8) (nat_lt (register_index 0 r) (length w.registers)) e).0
+
+-- the registers of other mutators hold what they did
+abbrev OthersHold : HeapState → HeapState → Type 0
+OthersHold w v = (i : ℕ) → 8 ≤ i → slice_index v.registers i ≡ slice_index w.registers i
+
+set_leaves_others : (w : HeapState) (r x : ℕ) → is_register w 0 r ≡ true → OthersHold w (with_register 0 r x w)
+set_leaves_others w r x e i high = ap (λ k. slice_index (set w.registers k x) i) (register_place r) ∙ get_or-set_other w.registers r i x 0 (λ s. let few : r < 8 = few_registers w r e in omega (arith, high, few, s))
 
 register_set : (w : HeapState) (r x : ℕ) → is_register w 0 r ≡ true → slice_index (with_register 0 r x w).registers r ≡ x
 register_set w r x e = ap (λ i. slice_index (set w.registers i x) r) (register_place r) ∙ get_or-set_same w.registers r x 0 (register_is_there w r e)
@@ -129,6 +139,7 @@ creation_in w r kind n x s there p = record {
 record Makes (w : HeapState) (r : ℕ) (kind : ObjKind) (n : ℕ) (v : HeapState) : Type 0 where
   step : IsCreation r kind n (graph_of w) (graph_of v)
   classes : v.classes ≡ w.classes
+  others : OthersHold w v
 
 new_makes : (w : HeapState) (r : ℕ) (kind : ObjKind) (n : ℕ) → IsLegal w → is_register w 0 r ≡ true → is_full n w ≡ false → Makes w r kind n (after_new 0 r kind n w)
 unfolding is_full after_new
@@ -140,6 +151,7 @@ new_makes w r kind n legal there room = go (new_place n (pool_of w)) refl room
     go (Some (at, fresh)) e f = record {
       step = creation_in w r kind n (id_of (allocated at fresh (new_object kind n w) (pool_of w)).regions at) (allocated at fresh (new_object kind n w) (pool_of w)) there (new_in_regions w kind n at fresh legal e);
       classes = refl;
+      others = set_leaves_others w r (id_of (allocated at fresh (new_object kind n w) (pool_of w)).regions at) there;
     }
 
 -- ---- a write
@@ -148,6 +160,7 @@ new_makes w r kind n legal there room = go (new_place n (pool_of w)) refl room
 record Writes (w : HeapState) (r slot word : ℕ) (v : HeapState) : Type 0 where
   step : IsWriting r slot word (graph_of w) (graph_of v)
   classes : v.classes ≡ w.classes
+  others : OthersHold w v
 
 same_object : (p : Option Object) (a b : Object) → p ≡ Some a → p ≡ Some b → a ≡ b
 same_object p a b e f = let z : Some a ≡ Some b = sym e ∙ f in cc
@@ -176,6 +189,7 @@ form_writes w v r slot word legal there f = subst (Writes w r slot word) (sym f.
   step = subst (λ (p : ObjRef). IsWriting r slot word (graph_of w) (graph_of (record w { regions = with_word p slot word w.regions; log = f.1 }))) (sym (place_of_id_by_ref w (register w 0 r) at.0 at.1))
       (write_in w r slot word f.1 f.0 at.0 (slot_within w (register w 0 r) slot f.0 legal there f.2) (ap (object_of w.regions) (sym (register_held w r)) ∙ f.2) (ap (ref_of w.regions) (sym (register_held w r)) ∙ at.1));
   classes = refl;
+  others = λ i high. refl;
 })
   where
     at : (at : ObjRef) × (ref_of w.regions (register w 0 r) ≡ Some at) × (object_at w.regions at ≡ Some f.0)
@@ -186,6 +200,7 @@ form_writes w v r slot word legal there f = subst (Writes w r slot word) (sym f.
 record Loads (w : HeapState) (to from slot : ℕ) (v : HeapState) : Type 0 where
   step : IsLoading to from slot (graph_of w) (graph_of v)
   classes : v.classes ≡ w.classes
+  others : OthersHold w v
 
 item_of_copies : (k l : Kind) (n i : ℕ) → slice_get (replicate n k) i ≡ Some l → l ≡ k
 item_of_copies k l zero i e = let z : None ≡ Some l = e in cc
@@ -235,6 +250,7 @@ load_loads w to from slot there slot_there = go (is_reference_slot w (register w
         registers = λ q d. other_register w to (word_of w x slot) q d;
       };
       classes = refl;
+      others = set_leaves_others w to (word_of w x slot) there;
     }
     go false e = record {
       step = record {
@@ -244,6 +260,7 @@ load_loads w to from slot there slot_there = go (is_reference_slot w (register w
         registers = λ q d. refl;
       };
       classes = refl;
+      others = λ i high. refl;
     }
 
 -- ---- each event
@@ -263,27 +280,28 @@ IsOfSession _ = ⊥
 pub record IsStepOf (e : Event) (w v : HeapState) : Type 0 where
   pub step : IsGraphStep (slots_in w) e (graph_of w) (graph_of v)
   pub classes : v.classes ≡ w.classes
+  pub others : OthersHold w v
 
 new_step : (r class : ℕ) (w : HeapState) → IsLegal w → refusal_of (New 0 r class) w ≡ None → IsStepOf (New 0 r class) w (state_after (New 0 r class) w)
 unfolding refusal_of state_after new_refusal
 new_step r class w legal accepted =
     let h = no_refusal_test_holds _ accepted in
     let m : Makes w r (Instance class) (slots_in w class) (after_new 0 r (Instance class) (slots_in w class) w) = new_makes w r (Instance class) (slots_in w class) legal (not-false (is_register w 0 r) h.0) h.1.1.1.0 in
-    record { step = m.step; classes = m.classes }
+    record { step = m.step; classes = m.classes; others = m.others }
 
 new_array_step : (r class n : ℕ) (w : HeapState) → IsLegal w → refusal_of (NewArray 0 r class n) w ≡ None → IsStepOf (NewArray 0 r class n) w (state_after (NewArray 0 r class n) w)
 unfolding refusal_of state_after new_array_refusal
 new_array_step r class n w legal accepted =
     let h = no_refusal_test_holds _ accepted in
     let m : Makes w r (Array class) n (after_new 0 r (Array class) n w) = new_makes w r (Array class) n legal (not-false (is_register w 0 r) h.0) h.1.1.1.1.0 in
-    record { step = m.step; classes = m.classes }
+    record { step = m.step; classes = m.classes; others = m.others }
 
 new_prim_step : (r n : ℕ) (kind : Kind) (w : HeapState) → IsLegal w → refusal_of (NewPrim 0 r kind n) w ≡ None → IsStepOf (NewPrim 0 r kind n) w (state_after (NewPrim 0 r kind n) w)
 unfolding refusal_of state_after new_prim_refusal
 new_prim_step r n kind w legal accepted =
     let h = no_refusal_test_holds _ accepted in
     let m : Makes w r (Prim kind) n (after_new 0 r (Prim kind) n w) = new_makes w r (Prim kind) n legal (not-false (is_register w 0 r) h.0) h.1.1.1.0 in
-    record { step = m.step; classes = m.classes }
+    record { step = m.step; classes = m.classes; others = m.others }
 
 put_slot : (r slot value : ℕ) (w : HeapState) → put_refusal 0 r slot value w ≡ None → lacks_slot w (register w 0 r) slot ≡ false
 unfolding put_refusal
@@ -297,20 +315,20 @@ put_step : (r slot value : ℕ) (w : HeapState) → IsLegal w → refusal_of (Pu
 unfolding refusal_of state_after
 put_step r slot value w legal accepted =
     let m : Writes w r slot value (after_put 0 r slot value w) = form_writes w (after_put 0 r slot value w) r slot value legal (put_slot r slot value w accepted) (form_after_put w 0 r slot value (legal_heap_has_clauses w legal) accepted) in
-    record { step = m.step; classes = m.classes }
+    record { step = m.step; classes = m.classes; others = m.others }
 
 store_step : (r slot source : ℕ) (w : HeapState) → IsLegal w → refusal_of (Store 0 r slot source) w ≡ None → IsStepOf (Store 0 r slot source) w (state_after (Store 0 r slot source) w)
 unfolding refusal_of state_after
 store_step r slot source w legal accepted =
     let m : Writes w r slot (register w 0 source) (after_store 0 r slot source w) = form_writes w (after_store 0 r slot source w) r slot (register w 0 source) legal (store_slot r slot source w accepted) (store_form w 0 r slot source (legal_heap_has_clauses w legal) accepted) in
-    record { step = subst (λ x. IsWriting r slot x (graph_of w) (graph_of (after_store 0 r slot source w))) (register_held w source) m.step; classes = m.classes }
+    record { step = subst (λ x. IsWriting r slot x (graph_of w) (graph_of (after_store 0 r slot source w))) (register_held w source) m.step; classes = m.classes; others = m.others }
 
 load_step : (to from slot : ℕ) (w : HeapState) → refusal_of (Load 0 to from slot) w ≡ None → IsStepOf (Load 0 to from slot) w (state_after (Load 0 to from slot) w)
 unfolding refusal_of state_after load_refusal
 load_step to from slot w accepted =
     let h = no_refusal_test_holds _ accepted in
     let m : Loads w to from slot (after_load 0 to from slot w) = load_loads w to from slot (both_registers (is_register w 0 to) (is_register w 0 from) h.0).0 h.1.1.0 in
-    record { step = m.step; classes = m.classes }
+    record { step = m.step; classes = m.classes; others = m.others }
 
 clear_step : (r : ℕ) (w : HeapState) → refusal_of (Clear 0 r) w ≡ None → IsStepOf (Clear 0 r) w (state_after (Clear 0 r) w)
 unfolding refusal_of state_after clear_refusal
@@ -319,6 +337,7 @@ clear_step r w accepted =
     record {
       step = record { cleared = register_set w r 0 (not-false (is_register w 0 r) h.0); things = λ y. refl; registers = λ q d. other_register w r 0 q d };
       classes = refl;
+      others = set_leaves_others w r 0 (not-false (is_register w 0 r) h.0);
     }
 
 pub event_steps : (e : Event) (w : HeapState) → IsOfSession e → IsLegal w → refusal_of e w ≡ None → IsStepOf e w (state_after e w)
@@ -342,13 +361,15 @@ pub record IsRunOf (es : List Event) (w v : HeapState) : Type 0 where
   pub run : IsRun (slots_in w) es (graph_of w) (graph_of v)
   pub legal : IsLegal v
   pub classes : v.classes ≡ w.classes
+  pub others : (i : ℕ) → 8 ≤ i → slice_index v.registers i ≡ slice_index w.registers i
 
 pub events_run : (es : List Event) (w : HeapState) → AreOfSession es → IsLegal w → AreTaken es w → IsRunOf es w (state_after_all es w)
-events_run [] w s legal taken = record { run = refl; legal = legal; classes = refl }
+events_run [] w s legal taken = record { run = refl; legal = legal; classes = refl; others = λ i high. refl }
 events_run (e ∷ es) w s legal taken = record {
   run = (graph_of (state_after e w), first.step, subst (λ c. IsRun (λ k. length (slots_of c k)) es (graph_of (state_after e w)) (graph_of (state_after_all es (state_after e w)))) first.classes rest.run);
   legal = rest.legal;
   classes = rest.classes ∙ first.classes;
+  others = λ i high. rest.others i high ∙ first.others i high;
 }
   where
     first : IsStepOf e w (state_after e w)

@@ -1,7 +1,8 @@
 -- The session of a dump makes the heap of the dump.
-use Rattle.std.proofs.Common.{◌≡◌, ◌≢◌, ℕ, zero, suc, ◌+◌, ◌-◌, ◌*◌, ◌/◌, ◌%◌, ◌^◌, ◌<◌, ◌≤◌, Bool, true, false, List, [], ◌∷◌, ◌++◌, length, refl, sym, ap, subst, ◌∙◌, Option, Some, None, arith}
-use Rattle.std.specs.Prelude.{IsSome, find, min, option_map, slice_get, slice_index}
+use Rattle.std.proofs.Common.{◌≡◌, ◌≢◌, ℕ, zero, suc, ◌+◌, ◌-◌, ◌*◌, ◌/◌, ◌%◌, ◌^◌, ◌<◌, ◌≤◌, Bool, true, false, List, [], ◌∷◌, ◌++◌, length, refl, sym, ap, subst, ◌∙◌, Option, Some, None, inl, inr, arith}
+use Rattle.std.specs.Prelude.{IsSome, find, min, option_map, slice_get, slice_index, slice_index_or}
 use Rattle.std.specs.Option.{option_map_or}
+use Rattle.std.proofs.lemmas.Bool.{cases_eq, cases_lt}
 use Rattle.heap_class.specs.declared.ClassLimits.{ClassLimits}
 use Rattle.heap_class.specs.declared.IdSize.{IdSize}
 use Rattle.heap_class.specs.declared.ObjKind.TheVariants.{Array}
@@ -29,7 +30,7 @@ use Rattle.hprof_heap.proofs.Linking.{AreFound, AreLinked, AreNamed, for_its_num
 use Rattle.hprof_heap.proofs.Words.{length_at_last, word_at_last}
 use Rattle.hprof_heap.proofs.RootArrays.{AreNamedRoots}
 use Rattle.hprof_heap.proofs.RootKinds.{AreKindsKept, AreRootsDone, root_keepings, roots_are_done}
-use Rattle.hprof_heap.proofs.Simulation.{AreOfSession, IsRunOf, events_run, graph_of, register_held, slots_in, some_object, thing_of}
+use Rattle.hprof_heap.proofs.Simulation.{AreOfSession, IsRunOf, events_run, graph_of, slots_in, some_object, thing_of}
 use Rattle.hprof_heap.proofs.SessionEvents.{all_roots_keep, both_link, both_make}
 use Rattle.hprof_heap.proofs.OfSession.{both_of_session, linkings_of_session, makings_of_session, root_keepings_of_session}
 use Rattle.hprof_heap.proofs.ApartSlots.{HaveSlots}
@@ -126,10 +127,34 @@ run_has_parts slots o items found g h r =
 zero_plus : (i : ℕ) → 0 + i ≡ i
 zero_plus i = omega arith
 
+item_by_default : (xs : List ℕ) (i d : ℕ) → i < length xs → slice_index_or xs i d ≡ slice_index xs i
+item_by_default [] i d l = absurd (omega (arith, l))
+item_by_default (x ∷ xs) zero d l = refl
+item_by_default (x ∷ xs) (suc i) d l = item_by_default xs i d (omega (arith, l))
+
+zero_past_end : (xs : List ℕ) (i : ℕ) → length xs ≤ i → slice_index xs i ≡ 0
+zero_past_end [] i l = refl
+zero_past_end (x ∷ xs) zero l = absurd (omega (arith, l))
+zero_past_end (x ∷ xs) (suc i) l = zero_past_end xs i (omega (arith, l))
+
+-- in an empty heap all registers are null
+bare_registers : (w : HeapState) → IsBare w → (i : ℕ) → slice_index w.registers i ≡ 0
+bare_registers w bare i = elim (cases_eq (slice_index w.registers i) 0) [
+  | inl e ↦ e
+  | inr d ↦ elim (cases_lt i (length w.registers)) [
+    | inr past ↦ zero_past_end w.registers i past
+    | inl l ↦ (let live = bare.legal.registers_live (slice_index w.registers i) (i, l, item_by_default w.registers i (slice_index w.registers i) l) d in
+        absurd (no_object (object_of w.regions (slice_index w.registers i)) live.0 (bare.empty (slice_index w.registers i)) live.1))
+  ]
+]
+  where
+    no_object : (p : Option HeapObject) (a : HeapObject) → p ≡ None → p ≡ Some a → ⊥
+    no_object p a e f = let z : None ≡ Some a = sym e ∙ f in cc
+
 -- the parts lead to the heap of the dump
 parts_make_heap : (o : ObjectsTold) (items : List ItemTold) (found : List RootFound) (w v : HeapState) → AreNumberedFirst o → o.made ≡ made_from o.plan o.objects (length o.statics) 0 items → AreFine (slots_in w) 0 (objects_of_dump o items)
-    → AreParts (slots_in w) o items found (graph_of w) (graph_of v) → IsHeapOfDump o items found v
-parts_make_heap o items found w v numbered made_told fine p = record {
+    → ((i : ℕ) → 8 ≤ i → slice_index v.registers i ≡ 0) → AreParts (slots_in w) o items found (graph_of w) (graph_of v) → IsHeapOfDump o items found v
+parts_make_heap o items found w v numbered made_told fine others p = record {
   id = id;
   objects = λ n t e. object_is v o id (id n) t
       (rooted.objects (id n) n (object_there n t e) (for_its_number o.plan.roots made m.last id m.after p.later n linked.found (below n t e) (is_made n t e)) ∙ linked_at n t e)
@@ -137,7 +162,7 @@ parts_make_heap o items found w v numbered made_told fine p = record {
   apart = λ i k t u e f same. ids_differ o.plan.roots made m.last id m.after p.later i k linked.found (below i t e) (is_made i t e) (below k u f) (is_made k u f) same;
   roots_array = array_is v o.plan.roots 1024 (slice_index v.registers 7) rooted.array;
   roots = kinds_are v o found id (o.plan.roots + 1) 0 root_tags (slice_index v.registers 7) rooted.after rooted.kept;
-  registers = λ r l. register_held v r ∙ rooted.cleared r l;
+  registers = λ i d. elim (cases_lt i 8) [ inl l ↦ rooted.cleared i (omega (arith, l, d)) | inr high ↦ others i high ];
 }
   where
     list : List (Option ObjectTold)
@@ -188,6 +213,7 @@ session_makes_heap p ids objects items found w numbered bare classes taken =
     subst (λ es. IsHeapOfDump o items found (state_after_all es w)) (sym same)
     (parts_make_heap o items found w (state_after_all parts w) numbered refl
     (objects_are_fine (slots_in w) o items (λ c. ap (λ cs. length (slots_of cs c)) classes) (subst (λ cs. HaveSlots cs) classes (table_has_slots w.classes bare.legal.classes)) numbered)
+    (λ i high. run.others i high ∙ bare_registers w bare i)
     (run_has_parts (slots_in w) o items found (graph_of w) (graph_of (state_after_all parts w)) run.run))
 
 pub found_makes_heap : (limits : ClassLimits) (most : ℕ) (f : Found) (p : Plan) (size : IdSize) (items : List ItemTold) (w : HeapState) → MakesHeapOfFound limits most f p size items w

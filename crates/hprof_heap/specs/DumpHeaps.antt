@@ -87,7 +87,7 @@ AreKindsOfRoots o id w found roots class first (tag ∷ tags) =
 -- ---- the whole
 
 -- the heap has the objects that the records of a dump tell, each once, and register 7 of mutator 0 names the array of its roots;
--- its other registers are null
+-- all other registers are null
 pub record IsHeapOfDump (o : ObjectsTold) (items : List ItemTold) (found : List RootFound) (w : HeapState) : Type 0 where
   pub id : ℕ → ℕ
   pub objects : (n : ℕ) (t : ObjectTold) → slice_get (objects_of_dump o items) n ≡ Some (Some t)
@@ -96,7 +96,7 @@ pub record IsHeapOfDump (o : ObjectsTold) (items : List ItemTold) (found : List 
       → slice_get (objects_of_dump o items) n ≡ Some (Some u) → id m ≡ id n → m ≡ n
   pub roots_array : NamesKind w (register w 0 7) (Array o.plan.roots) 1024
   pub roots : AreKindsOfRoots o id w found (register w 0 7) (o.plan.roots + 1) 0 root_tags
-  pub registers : (r : ℕ) → r < 7 → register w 0 r ≡ 0
+  pub registers : (i : ℕ) → i ≢ 7 → slice_index w.registers i ≡ 0
 
 -- if the events of the session of a dump are all accepted, one after another, from an empty heap with the classes of its plan on,
 -- they make the heap of the dump

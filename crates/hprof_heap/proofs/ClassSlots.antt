@@ -47,7 +47,7 @@ under_length : (before : List Class) (c : Class) → length (slots_under (slot_t
 unfolding slots_under slots_of
 under_length before c =
     length-append (map (λ (f : Field). f.kind) c.fields) (option_map_or (λ s. unwrap_or (slice_get (slot_table_after [] before) s) []) c.sup [])
-    ∙ ap (λ n. n + length (option_map_or (λ s. unwrap_or (slice_get (slot_table_after [] before) s) []) c.sup [])) (length-map (λ (f : Field). f.kind) c.fields)
+    ∙ ap (λ n. n + length (option_map_or (λ s. unwrap_or (slice_get (slot_table_after [] before) s) []) c.sup [])) (length-map c.fields (λ (f : Field). f.kind))
     ∙ ap (λ n. length c.fields + n) (by_super c.sup)
   where
     by_super : (sup : Option ℕ) → length (option_map_or (λ s. unwrap_or (slice_get (slot_table_after [] before) s) []) sup []) ≡ option_map_or (λ s. length (unwrap_or (slice_get (slot_table_after [] before) s) [])) sup 0

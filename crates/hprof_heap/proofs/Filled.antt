@@ -95,7 +95,7 @@ abbrev pub with_values : List ℕ → List SlotValue → List ℕ
 with_values words [] = words
 with_values words (v ∷ values) = with_values (with_value words v) values
 
-length_with_value : (words : List ℕ) (v : SlotValue) → length (with_value words v) ≡ length words
+pub length_with_value : (words : List ℕ) (v : SlotValue) → length (with_value words v) ≡ length words
 length_with_value words v = go (is_reference v.kind || v.value == 0)
   where
     go : (b : Bool) → length (if b then words else slice_set words v.slot (shown v.kind v.value)) ≡ length words

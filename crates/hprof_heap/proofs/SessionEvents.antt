@@ -159,7 +159,7 @@ links_of_made : (o : ObjectsTold) (n : ℕ) (values : List SlotValue) (x : Optio
 links_of_made o n values None e = refl
 links_of_made o n values (Some t) e = links_are o n values ∙ ap (link_values (number_of o) n) (sym (e t refl))
 
-numbered_values : (o : ObjectsTold) (i : ℕ) (s : Sub) (t : ObjectTold) → numbered_told o i s ≡ Some t → t.values ≡ object_values o.plan o.ids s
+pub numbered_values : (o : ObjectsTold) (i : ℕ) (s : Sub) (t : ObjectTold) → numbered_told o i s ≡ Some t → t.values ≡ object_values o.plan o.ids s
 numbered_values o i s t = go (nat_lt (length o.statics + i) (2 ^ 22))
   where
     go : (b : Bool) → (if b then object_told o.plan o.ids s else None) ≡ Some t → t.values ≡ object_values o.plan o.ids s
@@ -237,10 +237,10 @@ made_is_told o i (sub_told s ∷ items) = go (is_turn o.objects i s) (made_is_to
 
 -- ---- roots
 
-pub roots_keep : (o : ObjectsTold) (found : List RootFound) (class first : ℕ) (tags : List ℕ) → kinds_events o found class first tags ≡ keepings (λ tag. roots_named o tag found) class first tags
+pub roots_keep : (o : ObjectsTold) (found : List RootFound) (kind first : ℕ) (tags : List ℕ) → kinds_events o found kind first tags ≡ keepings (λ tag. roots_named o tag found) kind first tags
 unfolding kinds_events
-roots_keep o found class first [] = refl
-roots_keep o found class first (tag ∷ tags) = ap (λ es. kind_events class first (with_room first (roots_named o tag found)) ++ es) (roots_keep o found (class + 1) (first + arrays_for (length (with_room first (roots_named o tag found)))) tags)
+roots_keep o found kind first [] = refl
+roots_keep o found kind first (tag ∷ tags) = ap (λ es. kind_events kind first (with_room first (roots_named o tag found)) ++ es) (roots_keep o found (kind + 1) (first + arrays_for (length (with_room first (roots_named o tag found)))) tags)
 
 pub all_roots_keep : (o : ObjectsTold) (found : List RootFound) (tags : List ℕ) → roots_events o found tags ≡ root_keepings (λ tag. roots_named o tag found) o.plan.roots tags
 unfolding roots_events

@@ -363,17 +363,16 @@ pub record IsRunOf (es : List Event) (w v : HeapState) : Type 0 where
   pub classes : v.classes ≡ w.classes
   pub others : (i : ℕ) → 8 ≤ i → slice_index v.registers i ≡ slice_index w.registers i
 
-pub events_run : (es : List Event) (w : HeapState) → AreOfSession es → IsLegal w → AreTaken es w → IsRunOf es w (state_after_all es w)
-events_run [] w s legal taken = record { run = refl; legal = legal; classes = refl; others = λ i high. refl }
-events_run (e ∷ es) w s legal taken = record {
-  run = (graph_of (state_after e w), first.step, subst (λ c. IsRun (λ k. length (slots_of c k)) es (graph_of (state_after e w)) (graph_of (state_after_all es (state_after e w)))) first.classes rest.run);
+run_and_more : (e : Event) (es : List Event) (w u v : HeapState) → IsStepOf e w u → IsRunOf es u v → IsRunOf (e ∷ es) w v
+run_and_more e es w u v first rest = record {
+  run = (graph_of u, first.step, subst (λ c. IsRun (λ k. length (slots_of c k)) es (graph_of u) (graph_of v)) first.classes rest.run);
   legal = rest.legal;
   classes = rest.classes ∙ first.classes;
   others = λ i high. rest.others i high ∙ first.others i high;
 }
-  where
-    first : IsStepOf e w (state_after e w)
-    first = event_steps e w s.0 legal taken.0
 
-    rest : IsRunOf es (state_after e w) (state_after_all es (state_after e w))
-    rest = events_run es (state_after e w) s.1 (keeps_legal e w legal taken.0) taken.1
+pub events_run : (es : List Event) (w : HeapState) → AreOfSession es → IsLegal w → AreTaken es w → IsRunOf es w (state_after_all es w)
+events_run [] w s legal accepted = record { run = refl; legal = legal; classes = refl; others = λ i high. refl }
+events_run (e ∷ es) w s legal accepted =
+    run_and_more e es w (state_after e w) (state_after_all es (state_after e w)) (event_steps e w s.0 legal accepted.0)
+    (events_run es (state_after e w) s.1 (keeps_legal e w legal accepted.0) accepted.1)

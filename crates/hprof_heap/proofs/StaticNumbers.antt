@@ -146,7 +146,7 @@ few_classes before (c ∷ cs) l t =
 pub statics_are_numbered : (limits : ClassLimits) (most : ℕ) (f : Found) (p : Plan) (size : IdSize) (items : List ItemTold) → HasTables size items f → IsPlan limits most f p → IsClassTable [] p.classes
     → AreNumberedFirst (told_objects p size f.objects.keys items)
 statics_are_numbered limits most f p size items tables plan table = record {
-  as_many = keys_are_as_many [] (map (λ (s : Statics). s.id) p.statics.items) once (no_others (map (λ (s : Statics). s.id) p.statics.items)) ∙ omega (arith, length-map (λ (s : Statics). s.id) p.statics.items);
+  as_many = keys_are_as_many [] (map (λ (s : Statics). s.id) p.statics.items) once (no_others (map (λ (s : Statics). s.id) p.statics.items)) ∙ omega (arith, length-map p.statics.items (λ (s : Statics). s.id));
   few = (let few : 0 + length p.classes ≤ class_limit = few_classes [] p.classes (omega arith) table in omega (arith, few, plan.placed, plan.counted));
 }
   where

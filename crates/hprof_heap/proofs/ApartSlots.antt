@@ -1,13 +1,12 @@
 -- The values of an object are of different slots.
-use Rattle.std.proofs.Common.{◌≡◌, ◌≢◌, ◌⊎◌, ℕ, zero, suc, ◌+◌, ◌-◌, ◌<◌, ◌≤◌, Bool, true, false, List, [], ◌∷◌, ◌++◌, length, map, drop, take, refl, sym, ap, subst, ◌∙◌, Option, Some, None, inl, inr, arith, length-append}
-use Rattle.std.specs.Prelude.{◌==◌, ◌||◌, min, nat_lt, nat_eq, slice_get, unwrap_or, IfSome}
+use Rattle.std.proofs.Common.{◌≡◌, ℕ, zero, suc, ◌+◌, ◌<◌, ◌≤◌, false, List, [], ◌∷◌, ◌++◌, length, drop, refl, sym, subst, Option, Some, None, inl, inr, arith}
+use Rattle.std.specs.Prelude.{min, nat_eq}
 use Rattle.std.specs.List.{list_any}
 use Rattle.std.specs.Option.{option_map_or}
 use Rattle.std.proofs.lemmas.Bool.{cases_lt, lt-ltb, le-ltb, ne_eqb, or_from}
-use Rattle.std.proofs.lemmas.List.{length-map}
 use Rattle.heap_class.specs.declared.IdSize.{IdSize}
 use Rattle.heap_class.specs.declared.Kind.{Kind}
-use Rattle.heap_class.specs.Classes.{Class, IsClassTable, fields_of, slots_of, sup_of}
+use Rattle.heap_class.specs.Classes.{Class, fields_of, slots_of, sup_of}
 use Rattle.heap_class.specs.Kinds.{width_of}
 use Rattle.indexmap.specs.IndexMap.{index_of}
 use Rattle.hprof_reader.specs.declared.fields.StaticField.{StaticField}
@@ -23,13 +22,13 @@ abbrev pub AreRising : ℕ → ℕ → List SlotValue → Type 0
 AreRising low high [] = low ≤ high
 AreRising low high (v ∷ values) = (low ≤ v.slot) × AreRising (v.slot + 1) high values
 
-none_below : (low high slot : ℕ) (values : List SlotValue) → slot < low → AreRising low high values → list_any (is_of slot) values ≡ false
-none_below low high slot [] l r = refl
-none_below low high slot (v ∷ values) l r = or_from (is_of slot v) (list_any (is_of slot) values) (ne_eqb v.slot slot (λ e. omega (arith, l, r.0, e))) (none_below (v.slot + 1) high slot values (omega (arith, l, r.0)) r.1)
+no_slot_below_rising : (low high slot : ℕ) (values : List SlotValue) → slot < low → AreRising low high values → list_any (is_of slot) values ≡ false
+no_slot_below_rising low high slot [] l r = refl
+no_slot_below_rising low high slot (v ∷ values) l r = or_from (is_of slot v) (list_any (is_of slot) values) (ne_eqb v.slot slot (λ e. omega (arith, l, r.0, e))) (no_slot_below_rising (v.slot + 1) high slot values (omega (arith, l, r.0)) r.1)
 
 pub rising_are_apart : (low high : ℕ) (values : List SlotValue) → AreRising low high values → AreApart values
 rising_are_apart low high [] r = tt
-rising_are_apart low high (v ∷ values) r = (none_below (v.slot + 1) high v.slot values (omega arith) r.1, rising_are_apart (v.slot + 1) high values r.1)
+rising_are_apart low high (v ∷ values) r = (no_slot_below_rising (v.slot + 1) high v.slot values (omega arith) r.1, rising_are_apart (v.slot + 1) high values r.1)
 
 lower_rising : (low lower high : ℕ) (values : List SlotValue) → lower ≤ low → AreRising low high values → AreRising lower high values
 lower_rising low lower high [] l r = omega (arith, l, r)
@@ -72,34 +71,34 @@ abbrev pub HaveSlots : List Class → Type 0
 HaveSlots classes = (k : ℕ) → length (slots_of classes k) ≡ length (fields_of classes k) + option_map_or (λ s. length (slots_of classes s)) (sup_of classes k) 0
 
 -- the first slot of the fields of the class at which values go on
-abbrev start_of : Plan → ℕ → Option ℕ → ℕ
-start_of p c None = length (slots_of p.classes c)
-start_of p c (Some k) = base_of p c k
+abbrev first_slot_at : Plan → ℕ → Option ℕ → ℕ
+first_slot_at p c None = length (slots_of p.classes c)
+first_slot_at p c (Some k) = base_of p c k
 
 -- an instance of class c has the slots of the class at which values go on
 abbrev Covers : Plan → ℕ → Option ℕ → Type 0
 Covers p c None = Unit {0}
 Covers p c (Some k) = length (slots_of p.classes k) ≤ length (slots_of p.classes c)
 
-start_is_within : (p : Plan) (c : ℕ) (at : Option ℕ) → start_of p c at ≤ length (slots_of p.classes c)
+start_is_within : (p : Plan) (c : ℕ) (at : Option ℕ) → first_slot_at p c at ≤ length (slots_of p.classes c)
 start_is_within p c None = omega arith
 start_is_within p c (Some k) = omega arith
 
 -- the super's fields come after those of the class
 super_is_covered : (p : Plan) (c k : ℕ) (at : Option ℕ) → length (slots_of p.classes k) ≡ length (fields_of p.classes k) + option_map_or (λ s. length (slots_of p.classes s)) at 0 → Covers p c (Some k)
-    → Covers p c at × (base_of p c k + length (fields_of p.classes k) ≤ start_of p c at)
+    → Covers p c at × (base_of p c k + length (fields_of p.classes k) ≤ first_slot_at p c at)
 super_is_covered p c k None e l = (tt, omega (arith, e, l))
 super_is_covered p c k (Some s) e l = (omega (arith, e, l), omega (arith, e, l))
 
-values_rise : (p : Plan) (ids : IdSize) (c n : ℕ) (at : Option ℕ) (bytes : List ℕ) → HaveSlots p.classes → Covers p c at → AreRising (start_of p c at) (length (slots_of p.classes c)) (values_up p ids c n at bytes)
+values_rise : (p : Plan) (ids : IdSize) (c n : ℕ) (at : Option ℕ) (bytes : List ℕ) → HaveSlots p.classes → Covers p c at → AreRising (first_slot_at p c at) (length (slots_of p.classes c)) (values_up p ids c n at bytes)
 unfolding values_up
 values_rise p ids c zero at bytes h l = start_is_within p c at
 values_rise p ids c (suc n) None bytes h l = omega arith
 values_rise p ids c (suc n) (Some k) bytes h l =
     let s = super_is_covered p c k (sup_of p.classes k) (h k) l in
-    both_rising (base_of p c k) (start_of p c (sup_of p.classes k)) (length (slots_of p.classes c)) (fields_from ids (length (fields_of p.classes k)) (base_of p c k) 0 (kinds_of p k) bytes)
+    both_rising (base_of p c k) (first_slot_at p c (sup_of p.classes k)) (length (slots_of p.classes c)) (fields_from ids (length (fields_of p.classes k)) (base_of p c k) 0 (kinds_of p k) bytes)
     (values_up p ids c n (sup_of p.classes k) (after_fields ids (kinds_of p k) bytes))
-    (higher_rising (base_of p c k) (base_of p c k + length (fields_of p.classes k)) (start_of p c (sup_of p.classes k)) (fields_from ids (length (fields_of p.classes k)) (base_of p c k) 0 (kinds_of p k) bytes) s.1
+    (higher_rising (base_of p c k) (base_of p c k + length (fields_of p.classes k)) (first_slot_at p c (sup_of p.classes k)) (fields_from ids (length (fields_of p.classes k)) (base_of p c k) 0 (kinds_of p k) bytes) s.1
     (fields_rise ids (length (fields_of p.classes k)) (base_of p c k) 0 (base_of p c k) (kinds_of p k) bytes (omega arith) (omega arith)))
     (values_rise p ids c n (sup_of p.classes k) (after_fields ids (kinds_of p k) bytes) h s.0)
 

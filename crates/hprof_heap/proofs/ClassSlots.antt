@@ -1,11 +1,10 @@
 -- Each class of a table has its own fields as slots, and then the slots of its super.
-use Rattle.std.proofs.Common.{◌≡◌, ◌≢◌, ◌⊎◌, ℕ, zero, suc, ◌+◌, ◌<◌, Bool, true, false, List, [], ◌∷◌, ◌++◌, length, map, refl, sym, ap, subst, ◌∙◌, Option, Some, None, inl, inr, arith, length-append, append_assoc}
-use Rattle.std.specs.Prelude.{not, slice_get, unwrap_or}
+use Rattle.std.proofs.Common.{◌≡◌, ◌⊎◌, ℕ, zero, suc, ◌+◌, ◌<◌, true, List, [], ◌∷◌, ◌++◌, length, map, refl, sym, ap, subst, ◌∙◌, Option, Some, None, inl, inr, arith, length-append, append_assoc}
+use Rattle.std.specs.Prelude.{slice_get, unwrap_or}
 use Rattle.std.specs.Option.{option_map_or}
 use Rattle.std.proofs.lemmas.Bool.{cases_order, not-false}
 use Rattle.std.proofs.lemmas.List.{append-nil, length-map}
 use Rattle.heap_class.specs.declared.Field.{Field}
-use Rattle.heap_class.specs.declared.Kind.{Kind}
 use Rattle.heap_class.specs.Classes.{Class, IsClassTable, class_refusal, fields_of, is_instance_class, slot_table_after, slots_of, slots_under, sup_of}
 use Rattle.heap_class.specs.Limits.{widest_classes}
 use Rattle.heap_class.proofs.Refusals.{no_refusal_test_holds}

@@ -1,18 +1,16 @@
 -- A thing whose words are written, one after another.
-use Rattle.std.proofs.Common.{◌≡◌, ◌≢◌, ◌⊎◌, ℕ, zero, suc, ◌+◌, ◌-◌, ◌/◌, ◌%◌, ◌<◌, Bool, true, false, List, [], ◌∷◌, ◌++◌, length, refl, sym, ap, subst, ◌∙◌, Option, Some, None, inl, inr, arith}
-use Rattle.std.specs.Prelude.{slice_index, slice_set, IsSome, ◌==◌, ◌||◌, if◌then◌else◌, flat_map}
+use Rattle.std.proofs.Common.{◌≡◌, ◌≢◌, ◌⊎◌, ℕ, ◌/◌, ◌<◌, Bool, true, false, List, [], ◌∷◌, length, refl, sym, ap, subst, ◌∙◌, Some, inl, inr}
+use Rattle.std.specs.Prelude.{slice_set, IsSome, ◌==◌, ◌||◌, if◌then◌else◌, flat_map}
 use Rattle.std.proofs.lemmas.Bool.{cases_eq}
 use Rattle.std.proofs.lemmas.List.{length-set}
 use Rattle.heap_class.specs.declared.ObjKind.{ObjKind}
-use Rattle.heap_class.specs.declared.ObjKind.TheVariants.{Array}
 use Rattle.heap_class.specs.Kinds.{is_reference}
-use Rattle.heap_step.specs.declared.Event.{Event}
 use Rattle.heap_step.specs.declared.Event.TheVariants.{Put}
 use Rattle.hprof_session.specs.Places.{array_slot, slot_of, top_of}
 use Rattle.hprof_lines.specs.declared.values.SlotValue.{SlotValue}
 use Rattle.hprof_lines.specs.Objects.{shown, value_events}
 use Rattle.hprof_heap.proofs.Graphs.{Graph, Thing, word, word_in, IsRun, IsWriting, run_in_parts, thing_is_there}
-use Rattle.hprof_heap.proofs.Placed.{IsKeeper, IsPlaceArray, IsTop, Moves, Object, Role, Stays, keeper, kept, keeper_is_no_object, top_is_no_object, object_number, same_thing}
+use Rattle.hprof_heap.proofs.Placed.{IsKeeper, IsPlaceArray, IsTop, Moves, Object, Role, Stays, keeper, keeper_is_no_object, top_is_no_object, object_number, same_thing}
 
 -- only the words of the thing z change, and no register below 4
 pub record IsFilling (z : ℕ) (kind : ObjKind) (old new : List ℕ) (g h : Graph) : Type 0 where
@@ -142,6 +140,7 @@ put_values slots z kind [] old g h e before r = (nothing_put z kind old g h befo
 put_values slots z kind (v ∷ values) old g h e before r =
     let s = run_in_parts slots (value_events v) (flat_map value_events values) g h r in
     let first = put_value slots z kind old v g s.0 e before s.1 in
-    let rest = put_values slots z kind values (with_value old v) s.0 h (first.0.registers 5 ∙ e) first.0.filled.here s.2 in
-    (put_twice z kind old (with_value old v) (with_values (with_value old v) values) g s.0 h first.0 rest.0,
-    (first.1, subst (λ n. PutsFit n values) first.0.filled.len rest.1))
+    let rest = put_values slots z kind values (with_value old v) s.0 h (first.0.registers 5 ∙ e) first.0.filled.here s.2 in (
+      put_twice z kind old (with_value old v) (with_values (with_value old v) values) g s.0 h first.0 rest.0,
+      (first.1, subst (λ n. PutsFit n values) first.0.filled.len rest.1),
+    )

@@ -1,8 +1,8 @@
 -- A heap as a graph: things by their ids, and registers; and what an event of a session does to it.
-use Rattle.std.proofs.Common.{◌≡◌, ◌≢◌, ◌⊎◌, ℕ, zero, suc, ◌<◌, Bool, true, false, List, [], ◌∷◌, ◌++◌, length, replicate, refl, sym, ap, subst, ◌∙◌, Option, Some, None, inl, inr, arith}
+use Rattle.std.proofs.Common.{◌≡◌, ◌≢◌, ◌⊎◌, ℕ, zero, ◌<◌, true, false, List, [], ◌∷◌, ◌++◌, length, replicate, refl, sym, ap, subst, ◌∙◌, Option, Some, None, inl, inr}
 use Rattle.std.specs.Prelude.{slice_index, slice_set, IsSome, ◌==◌, if◌then◌else◌}
 use Rattle.std.proofs.lemmas.Bool.{cases_eq, eq-eqb, ne_eqb}
-use Rattle.std.proofs.lemmas.List.{length-set, get_or-set_same, get_or-set_other}
+use Rattle.std.proofs.lemmas.List.{get_or-set_same, get_or-set_other}
 use Rattle.heap_class.specs.declared.ObjKind.{ObjKind}
 use Rattle.heap_class.specs.declared.ObjKind.TheVariants.{Instance, Array, Prim}
 use Rattle.heap_step.specs.declared.Event.{Event}
@@ -109,11 +109,11 @@ pub word_written : (r slot v : ℕ) (g h : Graph) → IsWriting r slot v g h →
 word_written r slot v g h w = ap (λ t. word_in t slot) w.here ∙ get_or-set_same w.thing.words slot v 0 w.within
 
 -- a thing is a function of its id alone
-abbrev pub marked : {A : Type 0} → (ℕ → A) → ℕ → A → ℕ → A
-marked f x a y = if y == x then a else f y
+abbrev pub changed_at_id : {A : Type 0} → (ℕ → A) → ℕ → A → ℕ → A
+changed_at_id f x a y = if y == x then a else f y
 
-pub marked_here : {A : Type 0} (f : ℕ → A) (x : ℕ) (a : A) → marked f x a x ≡ a
-marked_here f x a = ap (λ b. if b then a else f x) (eq-eqb x x refl)
+pub changed_here : {A : Type 0} (f : ℕ → A) (x : ℕ) (a : A) → changed_at_id f x a x ≡ a
+changed_here f x a = ap (λ b. if b then a else f x) (eq-eqb x x refl)
 
-pub marked_elsewhere : {A : Type 0} (f : ℕ → A) (x : ℕ) (a : A) (y : ℕ) → y ≢ x → marked f x a y ≡ f y
-marked_elsewhere f x a y n = ap (λ b. if b then a else f y) (ne_eqb y x n)
+pub changed_elsewhere : {A : Type 0} (f : ℕ → A) (x : ℕ) (a : A) (y : ℕ) → y ≢ x → changed_at_id f x a y ≡ f y
+changed_elsewhere f x a y n = ap (λ b. if b then a else f y) (ne_eqb y x n)

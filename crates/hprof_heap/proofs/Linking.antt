@@ -1,20 +1,20 @@
 -- How the references of objects are stored.
-use Rattle.std.proofs.Common.{◌≡◌, ◌≢◌, ◌⊎◌, ℕ, zero, suc, ◌+◌, ◌-◌, ◌/◌, ◌%◌, ◌^◌, ◌<◌, ◌≤◌, Bool, true, false, List, [], ◌∷◌, ◌++◌, length, replicate, refl, sym, ap, subst, ◌∙◌, Option, Some, None, inl, inr, arith}
-use Rattle.std.specs.Prelude.{slice_get, slice_index, slice_set, IsSome, is_some, flat_map, if◌then◌else◌, ◌||◌}
+use Rattle.std.proofs.Common.{◌≡◌, ◌≢◌, ℕ, zero, suc, ◌+◌, ◌^◌, ◌<◌, ◌≤◌, Bool, true, false, List, [], ◌∷◌, ◌++◌, length, replicate, refl, sym, ap, subst, ◌∙◌, Option, Some, None, arith}
+use Rattle.std.specs.Prelude.{slice_get, slice_set, flat_map, if◌then◌else◌, ◌||◌}
 use Rattle.std.specs.List.{list_any}
 use Rattle.std.specs.Option.{option_map_or}
 use Rattle.std.proofs.lemmas.List.{length-replicate}
 use Rattle.heap_class.specs.declared.ObjKind.{ObjKind}
 use Rattle.heap_step.specs.declared.Event.{Event}
-use Rattle.heap_step.specs.declared.Event.TheVariants.{Load, Store}
+use Rattle.heap_step.specs.declared.Event.TheVariants.{Store}
 use Rattle.hprof_session.specs.Places.{array_slot, fetch_events, slot_of, top_of}
 use Rattle.hprof_lines.specs.declared.values.SlotValue.{SlotValue}
 use Rattle.hprof_lines.specs.Objects.{names_object, stored}
 use Rattle.hprof_heap.specs.ToldObjects.{ObjectTold}
-use Rattle.hprof_heap.proofs.Graphs.{Graph, Thing, word, word_in, IsLoading, IsRun, IsWriting, run_in_parts}
+use Rattle.hprof_heap.proofs.Graphs.{Graph, Thing, word_in, IsLoading, IsRun, IsWriting, run_in_parts}
 use Rattle.hprof_heap.proofs.PlaceNumbers.{few_tops}
-use Rattle.hprof_heap.proofs.Placed.{IsKeeper, IsKept, IsPlaceArray, IsTop, Moves, Object, Role, Stays, keeper, keeper_moves, kept, kept_moves, object_number, top_moves, below_or_last}
-use Rattle.hprof_heap.proofs.Filled.{IsFilling, filling_moves, filling_stays, length_with_values, nothing_filled, two_fillings, writing_fills, writing_within, with_values}
+use Rattle.hprof_heap.proofs.Placed.{IsKeeper, IsKept, IsTop, Moves, Object, Role, Stays, keeper, keeper_moves, kept, kept_moves, object_number, top_moves}
+use Rattle.hprof_heap.proofs.Filled.{IsFilling, filling_moves, filling_stays, length_with_values, nothing_filled, two_fillings, writing_fills, writing_within}
 use Rattle.hprof_heap.proofs.Making.{made_thing}
 
 -- the objects below `last` that are made are kept, and these are their ids
@@ -159,9 +159,10 @@ link_references slots class made last n z name id role kind (v ∷ values) old g
     let s = run_in_parts slots (reference_of name v) (flat_map (reference_of name) values) g h r in
     let first = link_reference slots class made last z name id role kind old v g s.0 named a held before s.1 in
     let rest = link_references slots class made last n z name id role kind values (with_reference name id old v) s.0 h named for
-        (found_after_filling class made last n z id role kind old (with_reference name id old v) g s.0 for a first.0.filled) first.0.held first.0.filled.here s.2 in
-    (linked_twice z kind old (with_reference name id old v) (with_references name id (with_reference name id old v) values) g s.0 h first.0 rest.0,
-    (first.1, subst (λ m. StoresFit name m values) first.0.filled.len rest.1))
+    (found_after_filling class made last n z id role kind old (with_reference name id old v) g s.0 for a first.0.filled) first.0.held first.0.filled.here s.2 in (
+      linked_twice z kind old (with_reference name id old v) (with_references name id (with_reference name id old v) values) g s.0 h first.0 rest.0,
+      (first.1, subst (λ m. StoresFit name m values) first.0.filled.len rest.1),
+    )
 
 -- ---- an object
 

@@ -1,6 +1,6 @@
 -- How an object is made and kept.
-use Rattle.std.proofs.Common.{◌≡◌, ◌≢◌, ◌⊎◌, ℕ, zero, suc, ◌+◌, ◌-◌, ◌/◌, ◌%◌, ◌^◌, ◌<◌, Bool, true, false, List, [], ◌∷◌, ◌++◌, length, replicate, refl, sym, ap, subst, ◌∙◌, Option, Some, None, inl, inr, arith}
-use Rattle.std.specs.Prelude.{slice_index, slice_set, IsSome, is_some, ◌==◌, if◌then◌else◌, flat_map}
+use Rattle.std.proofs.Common.{◌≡◌, ◌≢◌, ◌⊎◌, ℕ, ◌+◌, ◌-◌, ◌/◌, ◌%◌, ◌^◌, ◌<◌, Bool, true, false, List, [], ◌∷◌, ◌++◌, length, replicate, refl, sym, ap, subst, ◌∙◌, Option, Some, None, inl, inr, arith}
+use Rattle.std.specs.Prelude.{is_some, ◌==◌, if◌then◌else◌, flat_map}
 use Rattle.std.proofs.lemmas.Bool.{cases_eq, eqb-true, eqb-false}
 use Rattle.std.proofs.lemmas.List.{length-replicate}
 use Rattle.heap_class.specs.declared.ObjKind.{ObjKind}
@@ -8,12 +8,11 @@ use Rattle.heap_class.specs.declared.ObjKind.TheVariants.{Instance, Array, Prim}
 use Rattle.heap_step.specs.declared.Event.{Event}
 use Rattle.heap_step.specs.declared.Event.TheVariants.{New, NewArray, NewPrim, Store}
 use Rattle.hprof_session.specs.Places.{array_events, array_slot, keep_event, place_events, slot_of, top_events, top_of}
-use Rattle.hprof_lines.specs.declared.values.SlotValue.{SlotValue}
 use Rattle.hprof_lines.specs.Objects.{value_events}
 use Rattle.hprof_heap.specs.ToldObjects.{ObjectTold}
-use Rattle.hprof_heap.proofs.Graphs.{Graph, Thing, word, word_in, IsCreation, IsGraphStep, IsRun, IsWriting, marked, marked_here, run_in_parts, thing_is_there, word_after_write, word_written}
+use Rattle.hprof_heap.proofs.Graphs.{Graph, Thing, word, IsCreation, IsGraphStep, IsRun, IsWriting, changed_at_id, changed_here, run_in_parts, thing_is_there, word_after_write, word_written}
 use Rattle.hprof_heap.proofs.PlaceNumbers.{array_differs, chunk_differs, chunk_of_previous, few_tops, slot_differs, top_differs, top_of_previous, previous_is_less, whole_top_is_whole_chunk}
-use Rattle.hprof_heap.proofs.Placed.{ArePlaced, IsKeeper, IsKept, IsPlaceArray, IsTop, Keeper, Moves, Object, Role, Stays, Top, creation_moves, creation_stays, keeper, keeper_is_no_object, keeper_moves, keeper_number, kept, kept_moves, no_move, object_number, place_array_is_there, placed_more, placed_moves, same_chunk_same_keeper, stays_twice, top_is_no_keeper, top_is_no_object, top_moves, top_number, two_moves, unmoved_stays, writing_moves, writing_stays}
+use Rattle.hprof_heap.proofs.Placed.{ArePlaced, IsKeeper, IsPlaceArray, IsTop, Keeper, Moves, Object, Role, Stays, Top, creation_moves, creation_stays, keeper, keeper_is_no_object, keeper_moves, keeper_number, kept, no_move, place_array_is_there, placed_more, placed_moves, same_chunk_same_keeper, stays_twice, top_is_no_keeper, top_is_no_object, top_moves, top_number, two_moves, unmoved_stays, writing_moves, writing_stays}
 use Rattle.hprof_heap.proofs.Filled.{ArePut, PutsFit, filling_moves, filling_stays, put_values, with_values}
 
 -- from g to h what is found of the numbers below n stays, and none of their things changes
@@ -57,14 +56,14 @@ top_created class made n role g h few whole a c = record {
   };
   top = record {
     there = new_array_is_place class (top_of n) 1024 g h refl c;
-    purpose = marked_here role (h.registers (top_of n)) (Top (top_of n));
+    purpose = changed_here role (h.registers (top_of n)) (Top (top_of n));
   };
 }
   where
     after : ℕ → Role
-    after = marked role (h.registers (top_of n)) (Top (top_of n))
+    after = changed_at_id role (h.registers (top_of n)) (Top (top_of n))
 
-    moves : Moves class n role (marked role (h.registers (top_of n)) (Top (top_of n))) g h
+    moves : Moves class n role (changed_at_id role (h.registers (top_of n)) (Top (top_of n))) g h
     moves = creation_moves class n (top_of n) (Array class) 1024 role (Top (top_of n)) g h c
 
     stays : (m : ℕ) → m < n → Stays g h m
@@ -133,27 +132,27 @@ keeper_created class made n role g f h few whole a t c w = record {
   top = top_moves class n n after after f h second (w.registers (top_of n)) t1;
   array = record {
     there = subst (IsPlaceArray class h) (sym is_kept) (second.arrays (f.registers 4) (new_array_is_place class 4 1024 g f refl c));
-    purpose = ap after is_kept ∙ marked_here role (f.registers 4) (Keeper (n / 1024));
+    purpose = ap after is_kept ∙ changed_here role (f.registers 4) (Keeper (n / 1024));
   };
   current = w.registers 4 ∙ sym is_kept;
 }
   where
     after : ℕ → Role
-    after = marked role (f.registers 4) (Keeper (n / 1024))
+    after = changed_at_id role (f.registers 4) (Keeper (n / 1024))
 
     small : (m : ℕ) → m < 2 ^ 22 → top_of m ≢ 4
     small m l e = let s : top_of m < 4 = few_tops m l in omega (arith, s, e)
 
-    first : Moves class n role (marked role (f.registers 4) (Keeper (n / 1024))) g f
+    first : Moves class n role (changed_at_id role (f.registers 4) (Keeper (n / 1024))) g f
     first = creation_moves class n 4 (Array class) 1024 role (Keeper (n / 1024)) g f c
 
-    t1 : IsTop class (marked role (f.registers 4) (Keeper (n / 1024))) f n
+    t1 : IsTop class (changed_at_id role (f.registers 4) (Keeper (n / 1024))) f n
     t1 = top_moves class n n role after g f first (c.registers (top_of n) (small n few)) t
 
-    second : Moves class n (marked role (f.registers 4) (Keeper (n / 1024))) (marked role (f.registers 4) (Keeper (n / 1024))) f h
+    second : Moves class n (changed_at_id role (f.registers 4) (Keeper (n / 1024))) (changed_at_id role (f.registers 4) (Keeper (n / 1024))) f h
     second = writing_moves class n (top_of n) (array_slot n) (f.registers 4) after f h w (λ m e. absurd (top_is_no_object (top_of n) m (sym t1.purpose ∙ e)))
 
-    both : Moves class n role (marked role (f.registers 4) (Keeper (n / 1024))) g h
+    both : Moves class n role (changed_at_id role (f.registers 4) (Keeper (n / 1024))) g h
     both = two_moves class n role after after g f h first second
 
     first_stays : (m : ℕ) → m < n → Stays g f m
@@ -164,10 +163,10 @@ keeper_created class made n role g f h few whole a t c w = record {
     second_stays m l = writing_stays (top_of n) (array_slot n) (f.registers 4) m f h w (go (cases_eq (top_of m) (top_of n)))
         (inl (λ e. top_is_no_keeper (top_of n) (m / 1024) (sym t1.purpose ∙ ap after (sym e) ∙ km.purpose)))
       where
-        tm : IsTop class (marked role (f.registers 4) (Keeper (n / 1024))) f m
+        tm : IsTop class (changed_at_id role (f.registers 4) (Keeper (n / 1024))) f m
         tm = top_moves class n m role after g f first (first_stays m l).top_stays (a.tops m l)
 
-        km : IsKeeper class (marked role (f.registers 4) (Keeper (n / 1024))) f m
+        km : IsKeeper class (changed_at_id role (f.registers 4) (Keeper (n / 1024))) f m
         km = keeper_moves class n m role after g f first (first_stays m l).array_stays (a.keepers m l)
 
         go : (top_of m ≡ top_of n) ⊎ (top_of m ≢ top_of n) → (f.registers (top_of m) ≢ f.registers (top_of n)) ⊎ (array_slot m ≢ array_slot n)
@@ -251,10 +250,10 @@ object_created class made n t role g f k h few a tn kn current c p w = record {
     z = f.registers 5
 
     after : ℕ → Role
-    after = marked role (f.registers 5) (Object n)
+    after = changed_at_id role (f.registers 5) (Object n)
 
-    for : marked role (f.registers 5) (Object n) (f.registers 5) ≡ Object n
-    for = marked_here role (f.registers 5) (Object n)
+    for : changed_at_id role (f.registers 5) (Object n) (f.registers 5) ≡ Object n
+    for = changed_here role (f.registers 5) (Object n)
 
     apart : (m : ℕ) → m < 2 ^ 22 → top_of m ≢ 5
     apart m l e = let s : top_of m < 4 = few_tops m l in omega (arith, s, e)
@@ -263,40 +262,40 @@ object_created class made n t role g f k h few a tn kn current c p w = record {
     less m l = omega (arith, l, few)
 
     -- it is made
-    first : Moves class n role (marked role (f.registers 5) (Object n)) g f
+    first : Moves class n role (changed_at_id role (f.registers 5) (Object n)) g f
     first = creation_moves class n 5 t.kind t.slots role (Object n) g f c
 
     first_stays : (m : ℕ) → m < 2 ^ 22 → IsTop class role g m → IsKeeper class role g m → Stays g f m
     first_stays m l tm km = creation_stays 5 t.kind t.slots m g f c (apart m l) (place_array_is_there class g (g.registers (top_of m)) tm.there) (place_array_is_there class g (keeper g m) km.there)
 
     -- its values are put
-    second : Moves class n (marked role (f.registers 5) (Object n)) (marked role (f.registers 5) (Object n)) f k
+    second : Moves class n (changed_at_id role (f.registers 5) (Object n)) (changed_at_id role (f.registers 5) (Object n)) f k
     second = filling_moves class n (f.registers 5) after t.kind (replicate t.slots 0) (made_thing t).words f k for p.filled
 
     second_stays : (m : ℕ) → m < 2 ^ 22 → IsTop class role g m → IsKeeper class role g m → Stays f k m
     second_stays m l tm km = filling_stays class n m (f.registers 5) after t.kind (replicate t.slots 0) (made_thing t).words f k for (few_tops m l)
         (top_moves class n m role after g f first (first_stays m l tm km).top_stays tm) (keeper_moves class n m role after g f first (first_stays m l tm km).array_stays km) p.filled
 
-    both : Moves class n role (marked role (f.registers 5) (Object n)) g k
+    both : Moves class n role (changed_at_id role (f.registers 5) (Object n)) g k
     both = two_moves class n role after after g f k first second
 
     both_stay : (m : ℕ) → m < 2 ^ 22 → IsTop class role g m → IsKeeper class role g m → Stays g k m
     both_stay m l tm km = stays_twice g f k m (first_stays m l tm km) (second_stays m l tm km)
 
-    t2 : (m : ℕ) → m < 2 ^ 22 → IsTop class role g m → IsKeeper class role g m → IsTop class (marked role (f.registers 5) (Object n)) k m
+    t2 : (m : ℕ) → m < 2 ^ 22 → IsTop class role g m → IsKeeper class role g m → IsTop class (changed_at_id role (f.registers 5) (Object n)) k m
     t2 m l tm km = top_moves class n m role after g k both (both_stay m l tm km).top_stays tm
 
-    k2 : (m : ℕ) → m < 2 ^ 22 → IsTop class role g m → IsKeeper class role g m → IsKeeper class (marked role (f.registers 5) (Object n)) k m
+    k2 : (m : ℕ) → m < 2 ^ 22 → IsTop class role g m → IsKeeper class role g m → IsKeeper class (changed_at_id role (f.registers 5) (Object n)) k m
     k2 m l tm km = keeper_moves class n m role after g k both (both_stay m l tm km).array_stays km
 
     -- it is kept
     array : k.registers 4 ≡ keeper k n
     array = p.registers 4 ∙ c.registers 4 (omega arith) ∙ current ∙ sym (both_stay n few tn kn).array_stays
 
-    for_array : marked role (f.registers 5) (Object n) (k.registers 4) ≡ Keeper (n / 1024)
+    for_array : changed_at_id role (f.registers 5) (Object n) (k.registers 4) ≡ Keeper (n / 1024)
     for_array = ap after array ∙ (k2 n few tn kn).purpose
 
-    third : Moves class n (marked role (f.registers 5) (Object n)) (marked role (f.registers 5) (Object n)) k h
+    third : Moves class n (changed_at_id role (f.registers 5) (Object n)) (changed_at_id role (f.registers 5) (Object n)) k h
     third = writing_moves class n 4 (slot_of n) (k.registers 5) after k h w (λ m e. absurd (keeper_is_no_object (n / 1024) m (sym for_array ∙ e)))
 
     third_stays : (m : ℕ) → m < n → Stays k h m
@@ -309,7 +308,7 @@ object_created class made n t role g f k h few a tn kn current c p w = record {
         go (inr d) = inl (λ e. d (keeper_number (m / 1024) (n / 1024) (sym (k2 m (less m l) (a.tops m l) (a.keepers m l)).purpose ∙ ap after e ∙ for_array)))
 
     -- all together
-    all_moves : Moves class n role (marked role (f.registers 5) (Object n)) g h
+    all_moves : Moves class n role (changed_at_id role (f.registers 5) (Object n)) g h
     all_moves = two_moves class n role after after g k h both third
 
     all_stay : (m : ℕ) → m < n → Stays g h m
@@ -362,9 +361,9 @@ nothing_made class made n role g h not_made p = record {
   fits = λ t e. (let z : None ≡ Some t = e in cc);
 }
 
-one_made : (slots : ℕ → ℕ) (class : ℕ) (made : ℕ → Bool) (n : ℕ) (t : ObjectTold) (role : ℕ → Role) (g f h : Graph) → n < 2 ^ 22 → IsSized slots t.kind t.slots → IsKeeperReady class made n role g f
+one_object_made : (slots : ℕ → ℕ) (class : ℕ) (made : ℕ → Bool) (n : ℕ) (t : ObjectTold) (role : ℕ → Role) (g f h : Graph) → n < 2 ^ 22 → IsSized slots t.kind t.slots → IsKeeperReady class made n role g f
     → IsRun slots (creation_of t.kind t.slots ∷ flat_map value_events t.values ++ keep_event n ∷ []) f h → IsBlockMade class made n (Some t) role g h
-one_made slots class made n t role g f h few sized p r = record {
+one_object_made slots class made n t role g f h few sized p r = record {
   after = m.after;
   moves = two_moves class n role p.led.after m.after g f h p.led.moves m.moves;
   stays = λ i l. stays_twice g f h i (p.led.stays i l) (m.stays i l);
@@ -395,4 +394,4 @@ block_is_made slots class made n None role g h few is sized a r =
     subst (IsBlockMade class made n None role g) s.2 (nothing_made class made n role g s.0 is (place_is_ready slots class made n role g s.0 few a s.1))
 block_is_made slots class made n (Some t) role g h few is sized a r =
     let s = run_in_parts slots (place_events class n) (made_tail n (Some t)) g h r in
-    one_made slots class made n t role g s.0 h few (sized t refl) (place_is_ready slots class made n role g s.0 few a s.1) s.2
+    one_object_made slots class made n t role g s.0 h few (sized t refl) (place_is_ready slots class made n role g s.0 few a s.1) s.2

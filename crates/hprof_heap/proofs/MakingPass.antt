@@ -1,11 +1,11 @@
 -- All objects are made, one after another.
-use Rattle.std.proofs.Common.{◌≡◌, ◌≢◌, ◌⊎◌, ℕ, zero, suc, ◌+◌, ◌-◌, ◌^◌, ◌<◌, ◌≤◌, Bool, true, false, List, [], ◌∷◌, ◌++◌, length, refl, sym, ap, subst, ◌∙◌, Option, Some, None, inl, inr, arith}
+use Rattle.std.proofs.Common.{◌≡◌, ◌≢◌, ◌⊎◌, ℕ, zero, suc, ◌+◌, ◌^◌, ◌<◌, ◌≤◌, Bool, true, false, List, [], ◌∷◌, ◌++◌, length, refl, sym, ap, subst, ◌∙◌, Option, Some, None, inl, inr, arith}
 use Rattle.std.specs.Prelude.{slice_get, IsSome, is_some, nat_lt, if◌then◌else◌}
 use Rattle.std.proofs.lemmas.Bool.{cases_eq, cases_lt, false_from_ne_true, le-ltb, lt-ltb}
 use Rattle.heap_step.specs.declared.Event.{Event}
 use Rattle.hprof_heap.specs.ToldObjects.{ObjectTold}
 use Rattle.hprof_heap.proofs.Graphs.{Graph, IsRun, run_in_parts}
-use Rattle.hprof_heap.proofs.Placed.{ArePlaced, IsKept, Moves, Object, Role, Stays, kept, stays_twice, unmoved_stays}
+use Rattle.hprof_heap.proofs.Placed.{ArePlaced, IsKept, Object, Role, Stays, kept, stays_twice, unmoved_stays}
 use Rattle.hprof_heap.proofs.Filled.{PutsFit}
 use Rattle.hprof_heap.proofs.Making.{IsBlockMade, IsSized, block_is_made, made_block, made_thing}
 

@@ -1,5 +1,5 @@
 -- Each event of a session is one of mutator 0, and one of seven.
-use Rattle.std.proofs.Common.{◌≡◌, ℕ, zero, suc, ◌+◌, ◌-◌, ◌/◌, ◌%◌, ◌^◌, Bool, true, false, List, [], ◌∷◌, ◌++◌, length, Option, Some, None}
+use Rattle.std.proofs.Common.{ℕ, ◌+◌, ◌-◌, ◌/◌, ◌%◌, ◌^◌, Bool, true, false, List, [], ◌∷◌, ◌++◌, length, Option, Some, None}
 use Rattle.std.specs.Prelude.{flat_map, min, nat_lt, ◌==◌, ◌||◌, if◌then◌else◌}
 use Rattle.std.specs.List.{list_any}
 use Rattle.heap_class.specs.declared.ObjKind.{ObjKind}
@@ -14,7 +14,7 @@ use Rattle.hprof_heap.specs.ToldObjects.{ObjectTold}
 use Rattle.hprof_heap.proofs.Simulation.{AreOfSession, IsOfSession}
 use Rattle.hprof_heap.proofs.Making.{creation_of, made_block, made_tail}
 use Rattle.hprof_heap.proofs.MakingPass.{making_block, makings}
-use Rattle.hprof_heap.proofs.Linking.{link_block, link_values, linkings, reference_of}
+use Rattle.hprof_heap.proofs.Linking.{link_block, linkings, reference_of}
 use Rattle.hprof_heap.proofs.RootKinds.{keepings, root_keepings}
 
 pub both_of_session : (xs ys : List Event) → AreOfSession xs → AreOfSession ys → AreOfSession (xs ++ ys)

@@ -1,5 +1,5 @@
 -- The places of numbers: which differ, and which are the same.
-use Rattle.std.proofs.Common.{◌≡◌, ◌≢◌, ℕ, ◌+◌, ◌-◌, ◌*◌, ◌/◌, ◌%◌, ◌^◌, ◌<◌, refl, sym, ap, ◌∙◌, arith}
+use Rattle.std.proofs.Common.{◌≡◌, ◌≢◌, ℕ, ◌+◌, ◌-◌, ◌/◌, ◌%◌, ◌^◌, ◌<◌, ap, arith}
 use Rattle.hprof_session.specs.Places.{array_slot, slot_of, top_of}
 
 pub top_differs : (n m : ℕ) → n % 2 ^ 20 ≡ 0 → m < n → top_of m ≢ top_of n

@@ -1,13 +1,13 @@
 -- Where the objects are kept while the heap is made, and what steps leave of that.
-use Rattle.std.proofs.Common.{◌≡◌, ◌≢◌, ◌⊎◌, ℕ, zero, suc, ◌+◌, ◌-◌, ◌/◌, ◌%◌, ◌<◌, Bool, true, false, List, [], ◌∷◌, ◌++◌, length, refl, sym, ap, subst, ◌∙◌, Option, Some, None, inl, inr, arith}
-use Rattle.std.specs.Prelude.{slice_index, slice_set, IsSome, ◌==◌, if◌then◌else◌}
+use Rattle.std.proofs.Common.{◌≡◌, ◌≢◌, ◌⊎◌, ℕ, ◌+◌, ◌/◌, ◌<◌, Bool, true, length, refl, sym, ap, subst, ◌∙◌, Option, Some, inl, inr, arith}
+use Rattle.std.specs.Prelude.{slice_set, IsSome}
 use Rattle.std.proofs.lemmas.Bool.{cases_eq}
 use Rattle.std.proofs.lemmas.List.{length-set}
 use Rattle.heap_class.specs.declared.ObjKind.{ObjKind}
 use Rattle.heap_class.specs.declared.ObjKind.TheVariants.{Array}
 use Rattle.hprof_session.specs.Places.{array_slot, slot_of, top_of}
 use Rattle.hprof_heap.proofs.PlaceNumbers.{same_chunk_same_array, same_chunk_same_top, same_or_next_chunk}
-use Rattle.hprof_heap.proofs.Graphs.{Graph, Thing, word, word_in, IsCreation, IsWriting, IsLoading, IsClearing, marked, marked_elsewhere, thing_after_creation, older_is_not_new, thing_is_there, word_after_write}
+use Rattle.hprof_heap.proofs.Graphs.{Graph, Thing, word, word_in, IsCreation, IsWriting, changed_at_id, changed_elsewhere, thing_after_creation, older_is_not_new, thing_is_there, word_after_write}
 
 -- what a thing is for
 pub data Role : Type 0 where
@@ -130,11 +130,11 @@ alike_stays g h m e t = record { top_stays = t; array_stays = array; object_stay
 
 -- ---- a new thing
 
-pub creation_moves : (class n r : ℕ) (kind : ObjKind) (len : ℕ) (role : ℕ → Role) (a : Role) (g h : Graph) → IsCreation r kind len g h → Moves class n role (marked role (h.registers r) a) g h
+pub creation_moves : (class n r : ℕ) (kind : ObjKind) (len : ℕ) (role : ℕ → Role) (a : Role) (g h : Graph) → IsCreation r kind len g h → Moves class n role (changed_at_id role (h.registers r) a) g h
 creation_moves class n r kind len role a g h c = record {
   arrays = λ x p. (p.0, thing_after_creation r kind len g h x c (place_array_is_there class g x p) ∙ p.1, p.2, p.3);
   there = λ x p. subst IsSome (sym (thing_after_creation r kind len g h x c p)) p;
-  roles = λ x p. marked_elsewhere role (h.registers r) a x (older_is_not_new r kind len g h x c p);
+  roles = λ x p. changed_elsewhere role (h.registers r) a x (older_is_not_new r kind len g h x c p);
   objects = λ x m p e d. thing_after_creation r kind len g h x c p;
 }
 

@@ -1,17 +1,16 @@
 -- How the roots are kept.
-use Rattle.std.proofs.Common.{◌≡◌, ◌≢◌, ◌⊎◌, ℕ, zero, suc, ◌+◌, ◌-◌, ◌*◌, ◌/◌, ◌%◌, ◌^◌, ◌<◌, ◌≤◌, Bool, true, false, List, [], ◌∷◌, ◌++◌, length, replicate, refl, sym, ap, subst, ◌∙◌, Option, Some, None, inl, inr, arith}
+use Rattle.std.proofs.Common.{◌≡◌, ◌≢◌, ℕ, suc, ◌+◌, ◌-◌, ◌*◌, ◌/◌, ◌%◌, ◌<◌, ◌≤◌, Bool, true, false, List, [], ◌∷◌, ◌++◌, length, replicate, refl, sym, ap, subst, ◌∙◌, inl, inr, arith}
 use Rattle.std.specs.Prelude.{slice_index, IsSome, min, ◌==◌, if◌then◌else◌}
 use Rattle.std.proofs.lemmas.Bool.{cases_eq, eqb-true, eqb-false}
 use Rattle.std.proofs.lemmas.List.{length-replicate}
 use Rattle.heap_class.specs.declared.ObjKind.TheVariants.{Array}
-use Rattle.heap_step.specs.declared.Event.{Event}
 use Rattle.heap_step.specs.declared.Event.TheVariants.{NewArray, Store}
 use Rattle.hprof_session.specs.Places.{fetch_events}
 use Rattle.hprof_lines.specs.Roots.{arrays_for, root_array, root_events, roots_from}
-use Rattle.hprof_heap.proofs.Graphs.{Graph, Thing, word, word_in, IsCreation, IsRun, IsWriting, marked, marked_here, older_is_not_new, run_in_parts, word_after_write, word_written}
-use Rattle.hprof_heap.proofs.Placed.{IsArrayOf, Object, Role, RootArray, Roots, array_is_there, kept}
+use Rattle.hprof_heap.proofs.Graphs.{Graph, word, word_in, IsCreation, IsRun, IsWriting, changed_at_id, changed_here, older_is_not_new, run_in_parts, word_after_write, word_written}
+use Rattle.hprof_heap.proofs.Placed.{IsArrayOf, Role, RootArray, Roots, array_is_there}
 use Rattle.hprof_heap.proofs.Linking.{AreFound, IsFetched, object_is_fetched}
-use Rattle.hprof_heap.proofs.RootSteps.{Spares, array_after_write, array_number, array_slot_spares, creation_spares, found_after_creation, found_after_write, found_alike, root_arrays_are_plain, root_slot_spares, roots_are_plain, spares_fewer, spares_nothing, spares_twice}
+use Rattle.hprof_heap.proofs.RootSteps.{Spares, array_after_write, array_slot_spares, creation_spares, found_after_creation, found_after_write, found_alike, root_arrays_are_plain, root_slot_spares, roots_are_plain, spares_fewer, spares_nothing, spares_twice}
 
 -- register 7 names x, the array of roots
 pub record IsRootArray (roots x : ℕ) (role : ℕ → Role) (g : Graph) : Type 0 where
@@ -113,14 +112,14 @@ array_created class made last id roots kind first count numbers i x role g f h w
   array = record {
     array = subst (λ n. IsArrayOf kind n h (word h x (first + i / 1024))) (ap (λ m. min (count - m) 1024) even)
         (subst (IsArrayOf kind (min (count - i) 1024) h) (sym named) (array_after_write kind (min (count - i) 1024) 7 (first + i / 1024) (f.registers 5) (f.registers 5) f h w (new_array kind 5 (min (count - i) 1024) g f c)));
-    purpose = ap after named ∙ marked_here role (f.registers 5) (RootArray (first + i / 1024));
+    purpose = ap after named ∙ changed_here role (f.registers 5) (RootArray (first + i / 1024));
   };
   current = w.registers 5 ∙ sym named;
   empty = λ s l. word_after_write 7 (first + i / 1024) (f.registers 5) f h x s w (inr (λ e. omega (arith, l, e))) ∙ ap (λ o. word_in o s) (c.others x (older_is_not_new 5 (Array kind) (min (count - i) 1024) g f x c there)) ∙ b.empty s (omega (arith, l, whole));
 }
   where
     after : ℕ → Role
-    after = marked role (f.registers 5) (RootArray (first + i / 1024))
+    after = changed_at_id role (f.registers 5) (RootArray (first + i / 1024))
 
     there : IsSome (g.things x)
     there = array_is_there roots 1024 g x b.top.array
@@ -128,19 +127,19 @@ array_created class made last id roots kind first count numbers i x role g f h w
     held : f.registers 7 ≡ x
     held = c.registers 7 (omega arith) ∙ b.top.held
 
-    first_step : Spares (first + i / 1024) x role (marked role (f.registers 5) (RootArray (first + i / 1024))) g f
+    first_step : Spares (first + i / 1024) x role (changed_at_id role (f.registers 5) (RootArray (first + i / 1024))) g f
     first_step = creation_spares (first + i / 1024) x role (RootArray (first + i / 1024)) 5 (Array kind) (min (count - i) 1024) g f there c
 
-    for : marked role (f.registers 5) (RootArray (first + i / 1024)) x ≡ Roots
+    for : changed_at_id role (f.registers 5) (RootArray (first + i / 1024)) x ≡ Roots
     for = first_step.roles x there ∙ b.top.purpose
 
-    for7 : marked role (f.registers 5) (RootArray (first + i / 1024)) (f.registers 7) ≡ Roots
+    for7 : changed_at_id role (f.registers 5) (RootArray (first + i / 1024)) (f.registers 7) ≡ Roots
     for7 = ap after held ∙ for
 
-    second_step : Spares (first + i / 1024) x (marked role (f.registers 5) (RootArray (first + i / 1024))) (marked role (f.registers 5) (RootArray (first + i / 1024))) f h
+    second_step : Spares (first + i / 1024) x (changed_at_id role (f.registers 5) (RootArray (first + i / 1024))) (changed_at_id role (f.registers 5) (RootArray (first + i / 1024))) f h
     second_step = root_slot_spares (first + i / 1024) x 7 (first + i / 1024) (f.registers 5) after f h for7 (omega arith) w
 
-    both : Spares (first + i / 1024) x role (marked role (f.registers 5) (RootArray (first + i / 1024))) g h
+    both : Spares (first + i / 1024) x role (changed_at_id role (f.registers 5) (RootArray (first + i / 1024))) g h
     both = spares_twice (first + i / 1024) x role after after g f h first_step second_step
 
     named : word h x (first + i / 1024) ≡ f.registers 5

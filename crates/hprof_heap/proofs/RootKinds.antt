@@ -1,13 +1,13 @@
 -- How the roots of all kinds are kept, and all registers but one cleared.
-use Rattle.std.proofs.Common.{◌≡◌, ◌≢◌, ◌⊎◌, ℕ, zero, suc, ◌+◌, ◌-◌, ◌*◌, ◌/◌, ◌%◌, ◌^◌, ◌<◌, ◌≤◌, Bool, List, [], ◌∷◌, ◌++◌, length, replicate, take, refl, sym, ap, subst, ◌∙◌, Option, Some, None, inl, inr, arith}
-use Rattle.std.specs.Prelude.{slice_index, IsSome, min}
+use Rattle.std.proofs.Common.{◌≡◌, ℕ, zero, suc, ◌+◌, ◌-◌, ◌*◌, ◌<◌, ◌≤◌, Bool, List, [], ◌∷◌, ◌++◌, length, replicate, take, refl, sym, ap, subst, ◌∙◌, inl, inr, arith}
+use Rattle.std.specs.Prelude.{slice_index, IsSome}
 use Rattle.std.proofs.lemmas.Bool.{cases_eq}
 use Rattle.std.proofs.lemmas.List.{length-replicate}
 use Rattle.heap_class.specs.declared.ObjKind.TheVariants.{Array}
 use Rattle.heap_step.specs.declared.Event.{Event}
 use Rattle.heap_step.specs.declared.Event.TheVariants.{NewArray}
 use Rattle.hprof_lines.specs.Roots.{arrays_for, clear_events, kind_events, with_room}
-use Rattle.hprof_heap.proofs.Graphs.{Graph, Thing, word, word_in, IsClearing, IsCreation, IsRun, marked, marked_here, run_in_parts}
+use Rattle.hprof_heap.proofs.Graphs.{Graph, word, word_in, IsClearing, IsCreation, IsRun, changed_at_id, changed_here, run_in_parts}
 use Rattle.hprof_heap.proofs.Placed.{IsArrayOf, Object, Role, Roots}
 use Rattle.hprof_heap.proofs.Linking.{AreFound}
 use Rattle.hprof_heap.proofs.RootSteps.{Spares, creation_spares, found_after_creation, spares_fewer, spares_nothing, spares_twice}
@@ -144,21 +144,21 @@ zeros (suc n) (suc s) = zeros n s
 
 -- the array of roots, when it is new
 roots_begin : (class : ℕ) (made : ℕ → Bool) (last : ℕ) (id : ℕ → ℕ) (roots n : ℕ) (role : ℕ → Role) (g f : Graph) → n ≡ 1024 → AreFound class made last id role g → IsCreation 7 (Array roots) n g f
-    → AreKindsBefore class made last id roots 0 (f.registers 7) (marked role (f.registers 7) Roots) f
+    → AreKindsBefore class made last id roots 0 (f.registers 7) (changed_at_id role (f.registers 7) Roots) f
 roots_begin class made last id roots n role g f e a c = record {
   found = found_after_creation class made last id role Roots 7 (Array roots) n g f (omega arith) c a;
   top = record {
     held = refl;
     array = (record { kind = Array roots; words = replicate n 0 }, c.here, refl, length-replicate n 0 ∙ e);
-    purpose = marked_here role (f.registers 7) Roots;
+    purpose = changed_here role (f.registers 7) Roots;
   };
   empty = λ s l. ap (λ o. word_in o s) c.here ∙ zeros n s;
 }
 
 creation_leaves_objects : (roots n : ℕ) (role : ℕ → Role) (g f : Graph) → IsCreation 7 (Array roots) n g f → (y m : ℕ) → IsSome (g.things y) → role y ≡ Object m
-    → (f.things y ≡ g.things y) × IsSome (f.things y) × (marked role (f.registers 7) Roots y ≡ Object m)
+    → (f.things y ≡ g.things y) × IsSome (f.things y) × (changed_at_id role (f.registers 7) Roots y ≡ Object m)
 creation_leaves_objects roots n role g f c y m there e =
-    let p : Spares 0 y role (marked role (f.registers 7) Roots) g f = creation_spares 0 y role Roots 7 (Array roots) n g f there c in
+    let p : Spares 0 y role (changed_at_id role (f.registers 7) Roots) g f = creation_spares 0 y role Roots 7 (Array roots) n g f there c in
     (p.objects y m there e, p.there y there, p.roles y there ∙ e)
 
 -- the same graph with registers cleared
@@ -166,9 +166,10 @@ kinds_alike : (id : ℕ → ℕ) (named : ℕ → List ℕ) (class first : ℕ) 
 kinds_alike id named class first [] x role g h e a = λ s l. ap (λ o. word_in o s) (e x) ∙ a s l
 kinds_alike id named class first (tag ∷ tags) x role g h e a =
     let numbers = with_room first (named tag) in
-    let next = first + arrays_for (length numbers) in
-    (named_roots_stay id class first (length numbers) numbers (length numbers) x next role role g h (spares_nothing next x role g h e) (λ k l. omega (arith, l)) a.0,
-    kinds_alike id named (class + 1) next tags x role g h e a.1)
+    let next = first + arrays_for (length numbers) in (
+      named_roots_stay id class first (length numbers) numbers (length numbers) x next role role g h (spares_nothing next x role g h e) (λ k l. omega (arith, l)) a.0,
+      kinds_alike id named (class + 1) next tags x role g h e a.1,
+    )
 
 pub roots_are_done : (slots : ℕ → ℕ) (class : ℕ) (made : ℕ → Bool) (last : ℕ) (id : ℕ → ℕ) (named : ℕ → List ℕ) (roots : ℕ) (tags : List ℕ) (role : ℕ → Role) (g h : Graph) → ((tag : ℕ) → AreNumbers last (named tag))
     → AreFound class made last id role g → IsRun slots (root_keepings named roots tags) g h → AreRootsDone id named roots tags role g h
@@ -184,8 +185,8 @@ roots_are_done slots class made last id named roots tags role g h numbers a r = 
     s : (f : Graph) × IsRun slots (keepings named (roots + 1) 0 tags) r.0 f × IsRun slots clear_events f h
     s = run_in_parts slots (keepings named (roots + 1) 0 tags) clear_events r.0 h r.2
 
-    all : AreAllKept class made last id roots named (roots + 1) 0 tags (r.0.registers 7) (marked role (r.0.registers 7) Roots) r.0 s.0
-    all = kinds_are_kept slots class made last id roots named (roots + 1) 0 tags (r.0.registers 7) (marked role (r.0.registers 7) Roots) r.0 s.0 numbers (roots_begin class made last id roots 1024 role g r.0 refl a r.1) s.1
+    all : AreAllKept class made last id roots named (roots + 1) 0 tags (r.0.registers 7) (changed_at_id role (r.0.registers 7) Roots) r.0 s.0
+    all = kinds_are_kept slots class made last id roots named (roots + 1) 0 tags (r.0.registers 7) (changed_at_id role (r.0.registers 7) Roots) r.0 s.0 numbers (roots_begin class made last id roots 1024 role g r.0 refl a r.1) s.1
 
     cleared : AreCleared s.0 h
     cleared = registers_are_cleared slots s.0 h s.2

@@ -1,14 +1,13 @@
 -- Steps that keep roots, and what they leave of the objects.
-use Rattle.std.proofs.Common.{◌≡◌, ◌≢◌, ◌⊎◌, ℕ, zero, suc, ◌+◌, ◌-◌, ◌*◌, ◌/◌, ◌%◌, ◌^◌, ◌<◌, ◌≤◌, Bool, true, false, List, [], ◌∷◌, ◌++◌, length, replicate, refl, sym, ap, subst, ◌∙◌, Option, Some, None, inl, inr, arith}
-use Rattle.std.specs.Prelude.{slice_index, slice_set, IsSome, min}
+use Rattle.std.proofs.Common.{◌≡◌, ◌≢◌, ◌⊎◌, ℕ, ◌/◌, ◌<◌, ◌≤◌, Bool, length, refl, sym, ap, subst, ◌∙◌, inl, inr, arith}
+use Rattle.std.specs.Prelude.{slice_set, IsSome}
 use Rattle.std.proofs.lemmas.Bool.{cases_eq}
-use Rattle.std.proofs.lemmas.List.{length-set, length-replicate}
+use Rattle.std.proofs.lemmas.List.{length-set}
 use Rattle.heap_class.specs.declared.ObjKind.{ObjKind}
-use Rattle.heap_class.specs.declared.ObjKind.TheVariants.{Array}
-use Rattle.hprof_session.specs.Places.{array_slot, slot_of, top_of}
-use Rattle.hprof_heap.proofs.Graphs.{Graph, Thing, word, word_in, IsCreation, IsWriting, marked, marked_elsewhere, marked_here, older_is_not_new, thing_after_creation, thing_is_there, word_after_write}
+use Rattle.hprof_session.specs.Places.{top_of}
+use Rattle.hprof_heap.proofs.Graphs.{Graph, Thing, word, word_in, IsCreation, IsWriting, changed_at_id, changed_elsewhere, older_is_not_new, thing_after_creation, thing_is_there, word_after_write}
 use Rattle.hprof_heap.proofs.PlaceNumbers.{few_tops}
-use Rattle.hprof_heap.proofs.Placed.{IsArrayOf, Keeper, Moves, Object, Role, RootArray, Roots, Stays, Top, alike_moves, alike_stays, array_is_there, creation_moves, creation_stays, keeper, keeper_moves, kept_moves, place_array_is_there, same_thing, top_moves, writing_moves, writing_stays}
+use Rattle.hprof_heap.proofs.Placed.{IsArrayOf, Keeper, Moves, Object, Role, RootArray, Roots, Stays, Top, alike_moves, alike_stays, creation_moves, creation_stays, keeper, keeper_moves, kept_moves, place_array_is_there, same_thing, top_moves, writing_moves, writing_stays}
 use Rattle.hprof_heap.proofs.Linking.{AreFound}
 
 -- ---- the objects stay found
@@ -26,9 +25,9 @@ few_of : (class : ℕ) (made : ℕ → Bool) (last : ℕ) (id : ℕ → ℕ) (ro
 few_of class made last id role g m a l = few_tops m (omega (arith, l, a.few))
 
 pub found_after_creation : (class : ℕ) (made : ℕ → Bool) (last : ℕ) (id : ℕ → ℕ) (role : ℕ → Role) (a : Role) (r : ℕ) (kind : ObjKind) (len : ℕ) (g h : Graph) → 4 ≤ r → IsCreation r kind len g h → AreFound class made last id role g
-    → AreFound class made last id (marked role (h.registers r) a) h
+    → AreFound class made last id (changed_at_id role (h.registers r) a) h
 found_after_creation class made last id role a r kind len g h high c p =
-    found_moves class made last 0 id role (marked role (h.registers r) a) g h (creation_moves class 0 r kind len role a g h c)
+    found_moves class made last 0 id role (changed_at_id role (h.registers r) a) g h (creation_moves class 0 r kind len role a g h c)
     (λ m l. creation_stays r kind len m g h c (λ e. (let few : top_of m < 4 = few_of class made last id role g m p l in omega (arith, few, high, e)))
     (place_array_is_there class g (g.registers (top_of m)) (p.tops m l).there) (place_array_is_there class g (keeper g m) (p.keepers m l).there)) p
 
@@ -99,10 +98,10 @@ spares_twice first x a b c f g h p q = record {
   slots = λ s l. q.slots s l ∙ p.slots s l;
 }
 
-pub creation_spares : (first x : ℕ) (role : ℕ → Role) (a : Role) (r : ℕ) (kind : ObjKind) (len : ℕ) (g h : Graph) → IsSome (g.things x) → IsCreation r kind len g h → Spares first x role (marked role (h.registers r) a) g h
+pub creation_spares : (first x : ℕ) (role : ℕ → Role) (a : Role) (r : ℕ) (kind : ObjKind) (len : ℕ) (g h : Graph) → IsSome (g.things x) → IsCreation r kind len g h → Spares first x role (changed_at_id role (h.registers r) a) g h
 creation_spares first x role a r kind len g h there c = record {
   there = λ y p. subst IsSome (sym (thing_after_creation r kind len g h y c p)) p;
-  roles = λ y p. marked_elsewhere role (h.registers r) a y (older_is_not_new r kind len g h y c p);
+  roles = λ y p. changed_elsewhere role (h.registers r) a y (older_is_not_new r kind len g h y c p);
   objects = λ y m p e. thing_after_creation r kind len g h y c p;
   arrays = λ y s p e l. thing_after_creation r kind len g h y c p;
   slots = λ s l. ap (λ o. word_in o s) (thing_after_creation r kind len g h x c there);

@@ -1,32 +1,30 @@
 -- The events of a session, by the objects that they are for.
-use Rattle.std.proofs.Common.{◌≡◌, ◌≢◌, ◌⊎◌, ℕ, zero, suc, ◌+◌, ◌^◌, ◌<◌, ◌≤◌, Bool, true, false, List, [], ◌∷◌, ◌++◌, length, map, refl, sym, ap, subst, ◌∙◌, append_assoc, Option, Some, None, inl, inr, arith}
+use Rattle.std.proofs.Common.{◌≡◌, ℕ, suc, ◌+◌, ◌^◌, ◌<◌, ◌≤◌, Bool, true, false, List, [], ◌∷◌, ◌++◌, length, map, refl, sym, ap, ◌∙◌, append_assoc, Option, Some, None, arith}
 use Rattle.std.specs.Prelude.{◌&&◌, flat_map, is_some, min, nat_lt, nat_eq, option_and_then, slice_index_or, if◌then◌else◌}
-use Rattle.std.specs.List.{list_any}
 use Rattle.std.proofs.lemmas.Bool.{lt-ltb}
-use Rattle.std.proofs.lemmas.List.{append-nil}
 use Rattle.heap_class.specs.declared.IdSize.{IdSize}
 use Rattle.heap_class.specs.declared.ObjKind.TheVariants.{Instance, Array, Prim}
 use Rattle.heap_class.specs.Classes.{is_array_class, is_instance_class, slots_of}
 use Rattle.heap_class.specs.Kinds.{is_reference}
 use Rattle.heap_step.specs.declared.Event.{Event}
-use Rattle.heap_step.specs.declared.Event.TheVariants.{New, NewArray}
+use Rattle.heap_step.specs.declared.Event.TheVariants.{NewArray}
 use Rattle.indexmap.specs.IndexMap.{index_of}
 use Rattle.hprof_reader.specs.SubRecords.{Sub, root, class, instance, array, prim}
-use Rattle.hprof_session.specs.Places.{fetch_events, keep_event, place_events}
+use Rattle.hprof_session.specs.Places.{keep_event, place_events}
 use Rattle.hprof_session.specs.Walks.{ItemTold, record_told, sub_told}
 use Rattle.hprof_plan.specs.declared.items.RootFound.{RootFound}
 use Rattle.hprof_plan.specs.declared.planning.Plan.{Plan}
 use Rattle.hprof_plan.specs.declared.planning.Statics.{Statics}
 use Rattle.hprof_lines.specs.declared.passes.Pass.TheVariants.{Making, Linking}
 use Rattle.hprof_lines.specs.declared.values.SlotValue.{SlotValue}
-use Rattle.hprof_lines.specs.Objects.{ObjectsTold, array_made, instance_made, links_of, made_events, making_event, names_object, number_of, object_events, reference_events, value_events}
-use Rattle.hprof_lines.specs.Passes.{events_at, is_made, is_turn, item_events, made_from, made_in, next_place, pass_events}
+use Rattle.hprof_lines.specs.Objects.{ObjectsTold, array_made, instance_made, links_of, made_events, making_event, number_of, object_events, reference_events, value_events}
+use Rattle.hprof_lines.specs.Passes.{events_at, is_made, is_turn, made_from, pass_events}
 use Rattle.hprof_lines.specs.Roots.{arrays_for, clear_events, kind_events, kinds_events, roots_events, roots_named, with_room}
-use Rattle.hprof_lines.specs.Sessions.{all_events, both_events, root_tags}
+use Rattle.hprof_lines.specs.Sessions.{both_events}
 use Rattle.hprof_lines.specs.Slots.{object_values}
 use Rattle.hprof_lines.specs.StaticObjects.{static_events, statics_events}
 use Rattle.hprof_lines.specs.Values.{statics_from}
-use Rattle.hprof_heap.specs.ToldObjects.{ObjectTold, array_told, instance_told, numbered_told, object_told, objects_of_dump, static_told, statics_told, told_from, told_in}
+use Rattle.hprof_heap.specs.ToldObjects.{ObjectTold, array_told, instance_told, numbered_told, object_told, objects_of_dump, static_told, statics_told, told_from}
 use Rattle.hprof_heap.specs.DumpHeaps.{AreNumberedFirst}
 use Rattle.hprof_heap.proofs.Making.{creation_of, made_block, made_tail}
 use Rattle.hprof_heap.proofs.MakingPass.{making_block, makings}
@@ -146,7 +144,7 @@ statics_make o n (s ∷ statics) rest few =
     append_assoc (static_events Making o n s) (statics_events Making o (n + 1) statics) (makings o.plan.roots (n + suc (length statics)) rest)
     ∙ ap (λ es. es ++ (statics_events Making o (n + 1) statics ++ makings o.plan.roots (n + suc (length statics)) rest)) (static_block o n s (omega (arith, few)))
     ∙ ap (λ es. making_block o.plan.roots n (Some (static_told o.plan n s)) ++ es)
-        (ap (λ m. statics_events Making o (n + 1) statics ++ makings o.plan.roots m rest) (omega arith) ∙ statics_make o (n + 1) statics rest (omega (arith, few)))
+    (ap (λ m. statics_events Making o (n + 1) statics ++ makings o.plan.roots m rest) (omega arith) ∙ statics_make o (n + 1) statics rest (omega (arith, few)))
 
 -- ---- linking
 
@@ -193,7 +191,7 @@ pass_links o i (sub_told s ∷ items) told = go (is_turn o.objects i s) told (pa
     go true t e f =
         ap (λ es. es ++ pass_events Linking o (i + 1) items) (link_of_place o i s (told_from o (i + 1) items) t)
         ∙ ap (λ es. link_block (number_of o) (length o.statics + i) (numbered_told o i s) ++ es)
-            (f (told_later o i (numbered_told o i s) (told_from o (i + 1) items) t) ∙ ap (λ n. linkings (number_of o) n (told_from o (i + 1) items)) (omega arith))
+        (f (told_later o i (numbered_told o i s) (told_from o (i + 1) items) t) ∙ ap (λ n. linkings (number_of o) n (told_from o (i + 1) items)) (omega arith))
     go false t e f = e t
 
 pub statics_link : (o : ObjectsTold) (n : ℕ) (statics : List Statics) (rest : List (Option ObjectTold))
@@ -204,7 +202,7 @@ statics_link o n (s ∷ statics) rest =
     append_assoc (links_of o n (statics_from 0 s.fields.items)) (statics_events Linking o (n + 1) statics) (linkings (number_of o) (n + suc (length statics)) rest)
     ∙ ap (λ es. es ++ (statics_events Linking o (n + 1) statics ++ linkings (number_of o) (n + suc (length statics)) rest)) (links_are o n (statics_from 0 s.fields.items))
     ∙ ap (λ es. link_values (number_of o) n (statics_from 0 s.fields.items) ++ es)
-        (ap (λ m. statics_events Linking o (n + 1) statics ++ linkings (number_of o) m rest) (omega arith) ∙ statics_link o (n + 1) statics rest)
+    (ap (λ m. statics_events Linking o (n + 1) statics ++ linkings (number_of o) m rest) (omega arith) ∙ statics_link o (n + 1) statics rest)
 
 -- ---- which are made
 

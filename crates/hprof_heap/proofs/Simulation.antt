@@ -1,6 +1,6 @@
 -- Each event of a session that a heap accepts does to the graph of the heap what such an event does to graphs.
-use Rattle.std.proofs.Common.{◌≡◌, ◌≢◌, ◌⊎◌, ℕ, zero, suc, ◌+◌, ◌*◌, ◌<◌, ◌≤◌, Bool, true, false, List, [], ◌∷◌, length, drop, replicate, set, refl, sym, ap, subst, ◌∙◌, Option, Some, None, inl, inr, arith}
-use Rattle.std.specs.Prelude.{slice_get, slice_index, slice_set, IsSome, is_none, option_map, option_and_then, nat_lt, nat_le, not, ◌&&◌, ◌==◌, if◌then◌else◌}
+use Rattle.std.proofs.Common.{◌≡◌, ◌≢◌, ℕ, zero, suc, ◌<◌, ◌≤◌, Bool, true, false, List, [], ◌∷◌, length, drop, replicate, set, refl, sym, ap, subst, ◌∙◌, Option, Some, None, inl, inr, arith}
+use Rattle.std.specs.Prelude.{slice_get, slice_index, slice_set, is_none, option_map, option_and_then, nat_lt, if◌then◌else◌}
 use Rattle.std.specs.Option.{option_map_or}
 use Rattle.std.proofs.lemmas.Bool.{and_parts, ltb-true, not-false}
 use Rattle.std.proofs.lemmas.List.{length-replicate, get_or-set_same, get_or-set_other}
@@ -12,7 +12,7 @@ use Rattle.heap_class.specs.declared.ObjRef.{ObjRef}
 use Rattle.heap_class.specs.Classes.{slots_of, slot_kinds_of}
 use Rattle.heap_class.specs.Kinds.{is_reference}
 use Rattle.heap_class.proofs.Refusals.{no_refusal_test_holds}
-use Rattle.heap_region.specs.Regions.{Object, Region, UsedRegion, cell_count, id_of, object_at, object_of, ref_of, slot_kinds, used_at, with_object, with_region, with_word}
+use Rattle.heap_region.specs.Regions.{Object, Region, UsedRegion, cell_count, id_of, object_at, object_of, ref_of, slot_kinds, with_word}
 use Rattle.heap_region.specs.Pool.{RegionPool, allocated, new_place, taken}
 use Rattle.heap_region.proofs.AllocatedRegions.{IsNewCell, new_cell}
 use Rattle.heap_region.proofs.ChangedLookups.{object_at_ref, place_of_object_of_id}
@@ -34,7 +34,7 @@ use Rattle.heap_step.proofs.CreationUndo.{free_list_head_is_empty, pool_empty}
 use Rattle.heap_step.proofs.EventLaws.{keeps_legal}
 use Rattle.heap_step.proofs.Places.{slot_stands}
 use Rattle.hprof_heap.specs.DumpHeaps.{AreTaken, state_after_all}
-use Rattle.hprof_heap.proofs.Graphs.{Graph, Thing, IsClearing, IsCreation, IsGraphStep, IsLoading, IsRun, IsWriting}
+use Rattle.hprof_heap.proofs.Graphs.{Graph, Thing, IsCreation, IsGraphStep, IsLoading, IsRun, IsWriting}
 
 abbrev pub thing_of : Object → Thing
 thing_of o = record { kind = o.kind; words = o.words }
@@ -162,15 +162,15 @@ record Writes (w : HeapState) (r slot word : ℕ) (v : HeapState) : Type 0 where
   classes : v.classes ≡ w.classes
   others : OthersHold w v
 
-same_object : (p : Option Object) (a b : Object) → p ≡ Some a → p ≡ Some b → a ≡ b
-same_object p a b e f = let z : Some a ≡ Some b = sym e ∙ f in cc
+found_object_is_one : (p : Option Object) (a b : Object) → p ≡ Some a → p ≡ Some b → a ≡ b
+found_object_is_one p a b e f = let z : Some a ≡ Some b = sym e ∙ f in cc
 
-slot_within : (w : HeapState) (x slot : ℕ) (o : Object) → IsLegal w → lacks_slot w x slot ≡ false → object_of w.regions x ≡ Some o → slot < length o.words
-slot_within w x slot o legal there named =
+slot_is_in_object : (w : HeapState) (x slot : ℕ) (o : Object) → IsLegal w → lacks_slot w x slot ≡ false → object_of w.regions x ≡ Some o → slot < length o.words
+slot_is_in_object w x slot o legal there named =
     let p = place_of_object_of_id w.regions x o named in
     let s = slot_stands w x slot legal there in
     let here : object_at w.regions (place_of w x) ≡ Some o = ap (object_at w.regions) (place_of_id_by_ref w x p.0 p.1) ∙ p.2 in
-    subst (λ (a : Object). slot < length a.words) (same_object (object_at w.regions (place_of w x)) s.0 o s.1 here) s.2
+    subst (λ (a : Object). slot < length a.words) (found_object_is_one (object_at w.regions (place_of w x)) s.0 o s.1 here) s.2
 
 write_in : (w : HeapState) (r slot word : ℕ) (log : List ℕ) (o : Object) (at : ObjRef) → slot < length o.words → object_of w.regions (slice_index w.registers r) ≡ Some o → ref_of w.regions (slice_index w.registers r) ≡ Some at
     → IsWriting r slot word (graph_of w) (graph_of (record w { regions = with_word at slot word w.regions; log = log }))
@@ -187,7 +187,7 @@ write_in w r slot word log o at within named ref = record {
 form_writes : (w v : HeapState) (r slot word : ℕ) → IsLegal w → lacks_slot w (register w 0 r) slot ≡ false → WriteForm w (register w 0 r) slot word v → Writes w r slot word v
 form_writes w v r slot word legal there f = subst (Writes w r slot word) (sym f.4) (record {
   step = subst (λ (p : ObjRef). IsWriting r slot word (graph_of w) (graph_of (record w { regions = with_word p slot word w.regions; log = f.1 }))) (sym (place_of_id_by_ref w (register w 0 r) at.0 at.1))
-      (write_in w r slot word f.1 f.0 at.0 (slot_within w (register w 0 r) slot f.0 legal there f.2) (ap (object_of w.regions) (sym (register_held w r)) ∙ f.2) (ap (ref_of w.regions) (sym (register_held w r)) ∙ at.1));
+      (write_in w r slot word f.1 f.0 at.0 (slot_is_in_object w (register w 0 r) slot f.0 legal there f.2) (ap (object_of w.regions) (sym (register_held w r)) ∙ f.2) (ap (ref_of w.regions) (sym (register_held w r)) ∙ at.1));
   classes = refl;
   others = λ i high. refl;
 })
@@ -207,8 +207,8 @@ item_of_copies k l zero i e = let z : None ≡ Some l = e in cc
 item_of_copies k l (suc n) zero e = let z : Some k ≡ Some l = e in cc
 item_of_copies k l (suc n) (suc i) e = item_of_copies k l n i e
 
-pub some_object : (w : HeapState) (x : ℕ) (t : Thing) → option_map thing_of (object_of w.regions x) ≡ Some t → (o : Object) × (object_of w.regions x ≡ Some o) × (thing_of o ≡ t)
-some_object w x t = go (object_of w.regions x) refl
+pub thing_has_its_object : (w : HeapState) (x : ℕ) (t : Thing) → option_map thing_of (object_of w.regions x) ≡ Some t → (o : Object) × (object_of w.regions x ≡ Some o) × (thing_of o ≡ t)
+thing_has_its_object w x t = go (object_of w.regions x) refl
   where
     go : (p : Option Object) → object_of w.regions x ≡ p → option_map thing_of p ≡ Some t → (o : Object) × (object_of w.regions x ≡ Some o) × (thing_of o ≡ t)
     go None e f = let z : None ≡ Some t = f in cc
@@ -226,7 +226,7 @@ slots_of_array_are_references w x slot class o there named array =
     p = object_and_kind_of_slot w x slot k.0 k.1
 
     is_array : p.0.kind ≡ Array class
-    is_array = ap (λ (a : Object). a.kind) (same_object (object_of w.regions x) p.0 o p.1 named) ∙ array
+    is_array = ap (λ (a : Object). a.kind) (found_object_is_one (object_of w.regions x) p.0 o p.1 named) ∙ array
 
     object_kind : k.0 ≡ Kind.Object
     object_kind = item_of_copies Kind.Object k.0 (length p.0.words) slot (ap (λ kind. slice_get (slot_kinds_of w.classes kind (length p.0.words)) slot) (sym is_array) ∙ p.2)
@@ -239,7 +239,7 @@ load_loads w to from slot there slot_there = go (is_reference_slot w (register w
     x = register w 0 from
 
     by_register : (t : Thing) → option_map thing_of (object_of w.regions (slice_index w.registers from)) ≡ Some t → (o : Object) × (object_of w.regions (register w 0 from) ≡ Some o) × (thing_of o ≡ t)
-    by_register t e = some_object w (register w 0 from) t (ap (λ y. option_map thing_of (object_of w.regions y)) (register_held w from) ∙ e)
+    by_register t e = thing_has_its_object w (register w 0 from) t (ap (λ y. option_map thing_of (object_of w.regions y)) (register_held w from) ∙ e)
 
     go : (b : Bool) → is_reference_slot w (register w 0 from) slot ≡ b → Loads w to from slot (if b then with_register 0 to (word_of w (register w 0 from) slot) w else w)
     go true e = record {
@@ -303,24 +303,24 @@ new_prim_step r n kind w legal accepted =
     let m : Makes w r (Prim kind) n (after_new 0 r (Prim kind) n w) = new_makes w r (Prim kind) n legal (not-false (is_register w 0 r) h.0) h.1.1.1.0 in
     record { step = m.step; classes = m.classes; others = m.others }
 
-put_slot : (r slot value : ℕ) (w : HeapState) → put_refusal 0 r slot value w ≡ None → lacks_slot w (register w 0 r) slot ≡ false
+accepted_put_has_its_slot : (r slot value : ℕ) (w : HeapState) → put_refusal 0 r slot value w ≡ None → lacks_slot w (register w 0 r) slot ≡ false
 unfolding put_refusal
-put_slot r slot value w e = (no_refusal_test_holds _ e).1.1.0
+accepted_put_has_its_slot r slot value w e = (no_refusal_test_holds _ e).1.1.0
 
-store_slot : (r slot source : ℕ) (w : HeapState) → store_refusal 0 r slot source w ≡ None → lacks_slot w (register w 0 r) slot ≡ false
+accepted_store_has_its_slot : (r slot source : ℕ) (w : HeapState) → store_refusal 0 r slot source w ≡ None → lacks_slot w (register w 0 r) slot ≡ false
 unfolding store_refusal
-store_slot r slot source w e = (no_refusal_test_holds _ e).1.1.0
+accepted_store_has_its_slot r slot source w e = (no_refusal_test_holds _ e).1.1.0
 
 put_step : (r slot value : ℕ) (w : HeapState) → IsLegal w → refusal_of (Put 0 r slot value) w ≡ None → IsStepOf (Put 0 r slot value) w (state_after (Put 0 r slot value) w)
 unfolding refusal_of state_after
 put_step r slot value w legal accepted =
-    let m : Writes w r slot value (after_put 0 r slot value w) = form_writes w (after_put 0 r slot value w) r slot value legal (put_slot r slot value w accepted) (form_after_put w 0 r slot value (legal_heap_has_clauses w legal) accepted) in
+    let m : Writes w r slot value (after_put 0 r slot value w) = form_writes w (after_put 0 r slot value w) r slot value legal (accepted_put_has_its_slot r slot value w accepted) (form_after_put w 0 r slot value (legal_heap_has_clauses w legal) accepted) in
     record { step = m.step; classes = m.classes; others = m.others }
 
 store_step : (r slot source : ℕ) (w : HeapState) → IsLegal w → refusal_of (Store 0 r slot source) w ≡ None → IsStepOf (Store 0 r slot source) w (state_after (Store 0 r slot source) w)
 unfolding refusal_of state_after
 store_step r slot source w legal accepted =
-    let m : Writes w r slot (register w 0 source) (after_store 0 r slot source w) = form_writes w (after_store 0 r slot source w) r slot (register w 0 source) legal (store_slot r slot source w accepted) (store_form w 0 r slot source (legal_heap_has_clauses w legal) accepted) in
+    let m : Writes w r slot (register w 0 source) (after_store 0 r slot source w) = form_writes w (after_store 0 r slot source w) r slot (register w 0 source) legal (accepted_store_has_its_slot r slot source w accepted) (store_form w 0 r slot source (legal_heap_has_clauses w legal) accepted) in
     record { step = subst (λ x. IsWriting r slot x (graph_of w) (graph_of (after_store 0 r slot source w))) (register_held w source) m.step; classes = m.classes; others = m.others }
 
 load_step : (to from slot : ℕ) (w : HeapState) → refusal_of (Load 0 to from slot) w ≡ None → IsStepOf (Load 0 to from slot) w (state_after (Load 0 to from slot) w)

@@ -1,6 +1,6 @@
 -- The classes with an object for their static fields have different ids, and are few.
-use Rattle.std.proofs.Common.{◌≡◌, ◌≢◌, ◌⊎◌, ℕ, zero, suc, ◌+◌, ◌-◌, ◌^◌, ◌<◌, ◌≤◌, Bool, true, false, List, [], ◌∷◌, ◌++◌, length, map, take, cond, refl, sym, ap, subst, ◌∙◌, Option, Some, None, inl, inr, arith, length-append}
-use Rattle.std.specs.Prelude.{◌||◌, filter, fold, nat_eq, nat_le, if◌then◌else◌}
+use Rattle.std.proofs.Common.{◌≡◌, ℕ, zero, suc, ◌+◌, ◌-◌, ◌<◌, ◌≤◌, Bool, true, false, List, [], ◌∷◌, ◌++◌, length, map, take, cond, refl, sym, ap, subst, ◌∙◌, arith, length-append}
+use Rattle.std.specs.Prelude.{filter, nat_eq, if◌then◌else◌}
 use Rattle.std.specs.List.{filter_map, list_any}
 use Rattle.std.specs.Map.{keys_of}
 use Rattle.std.proofs.lemmas.Bool.{eqb-false, leb-false, ne_eqb, or_from, or_parts}
@@ -8,10 +8,10 @@ use Rattle.std.proofs.lemmas.List.{length-map}
 use Rattle.heap_class.specs.declared.ClassLimits.{ClassLimits}
 use Rattle.heap_class.specs.declared.IdSize.{IdSize}
 use Rattle.heap_class.specs.Classes.{Class, IsClassTable, class_refusal}
-use Rattle.heap_class.specs.Limits.{class_limit, widest_classes}
+use Rattle.heap_class.specs.Limits.{class_limit}
 use Rattle.heap_class.proofs.Refusals.{no_refusal_test_holds}
 use Rattle.indexmap.specs.IndexMap.{insert_entry, insert_all as insert_entries}
-use Rattle.indexmap.specs.IndexSet.{insert_key, insert_all as insert_keys}
+use Rattle.indexmap.specs.IndexSet.{insert_all as insert_keys}
 use Rattle.hprof_reader.specs.Fields.{StaticTold}
 use Rattle.hprof_reader.specs.SubRecords.{ClassTold}
 use Rattle.hprof_session.specs.Walks.{ItemTold}
@@ -23,7 +23,7 @@ use Rattle.hprof_plan.specs.Tables.{classes_told}
 use Rattle.hprof_plan.specs.declared.dump.Found.{Found}
 use Rattle.hprof_plan.specs.declared.planning.Plan.{Plan}
 use Rattle.hprof_plan.specs.declared.planning.Statics.{Statics}
-use Rattle.hprof_lines.specs.Sessions.{static_ids, told_objects}
+use Rattle.hprof_lines.specs.Sessions.{told_objects}
 use Rattle.hprof_heap.specs.DumpHeaps.{AreNumberedFirst}
 
 -- whether x is in the list
@@ -35,8 +35,8 @@ abbrev AreOnce : List ℕ → Type 0
 AreOnce [] = Unit {0}
 AreOnce (x ∷ xs) = (is_in x xs ≡ false) × AreOnce xs
 
-turned : (x y : ℕ) → nat_eq x y ≡ false → nat_eq y x ≡ false
-turned x y e = ne_eqb y x (λ s. eqb-false x y e (sym s))
+numbers_differ_both_ways : (x y : ℕ) → nat_eq x y ≡ false → nat_eq y x ≡ false
+numbers_differ_both_ways x y e = ne_eqb y x (λ s. eqb-false x y e (sym s))
 
 -- ---- keys of a set
 
@@ -50,7 +50,7 @@ not_in_more y (k ∷ ks) x a e = let p = or_parts (nat_eq y k) (is_in y ks) a in
 
 others_of_more : (ks : List ℕ) (x : ℕ) (ys : List ℕ) → AreOthers ks ys → is_in x ys ≡ false → AreOthers (ks ++ x ∷ []) ys
 others_of_more ks x [] a e = tt
-others_of_more ks x (y ∷ ys) a e = let p = or_parts (nat_eq x y) (is_in x ys) e in (not_in_more y ks x a.0 (turned x y p.0), others_of_more ks x ys a.1 p.1)
+others_of_more ks x (y ∷ ys) a e = let p = or_parts (nat_eq x y) (is_in x ys) e in (not_in_more y ks x a.0 (numbers_differ_both_ways x y p.0), others_of_more ks x ys a.1 p.1)
 
 keys_are_as_many : (ks xs : List ℕ) → AreOnce xs → AreOthers ks xs → length (insert_keys nat_eq ks xs) ≡ length ks + length xs
 keys_are_as_many ks [] once others = omega arith
@@ -82,7 +82,7 @@ once_inserted {V} (f ∷ es) k v a = go (nat_eq k f.0) refl (once_inserted es k 
   where
     go : (b : Bool) → nat_eq k f.0 ≡ b → AreOnce (keys_of (insert_entry nat_eq es k v)) → AreOnce (keys_of (if b then (f.0, v) ∷ es else f ∷ insert_entry nat_eq es k v))
     go true e rest = a
-    go false e rest = (in_inserted f.0 es k v a.0 (turned k f.0 e), rest)
+    go false e rest = (in_inserted f.0 es k v a.0 (numbers_differ_both_ways k f.0 e), rest)
 
 once_inserted_all : {V : Type 0} (es more : List (ℕ × V)) → AreOnce (keys_of es) → AreOnce (keys_of (insert_entries nat_eq es more))
 once_inserted_all es [] a = a

@@ -1,8 +1,8 @@
 -- What is known of each object of a dump, and of the numbers that references and roots name.
-use Rattle.std.proofs.Common.{◌≡◌, ◌≢◌, ◌⊎◌, ℕ, zero, suc, ◌+◌, ◌^◌, ◌<◌, ◌≤◌, Bool, true, false, List, [], ◌∷◌, ◌++◌, length, map, refl, sym, ap, subst, ◌∙◌, Option, Some, None, inl, inr, arith, length-append, get_or}
-use Rattle.std.specs.Prelude.{flat_map, is_some, min, nat_lt, nat_eq, option_and_then, position, slice_get, slice_index_or, if◌then◌else◌, ◌==◌}
+use Rattle.std.proofs.Common.{◌≡◌, ◌⊎◌, ℕ, zero, suc, ◌+◌, ◌^◌, ◌<◌, ◌≤◌, Bool, true, false, List, [], ◌∷◌, ◌++◌, length, map, refl, sym, ap, subst, ◌∙◌, Option, Some, None, inl, inr, arith}
+use Rattle.std.specs.Prelude.{is_some, min, nat_lt, nat_eq, option_and_then, position, slice_get, slice_index_or, if◌then◌else◌, ◌==◌}
 use Rattle.std.specs.Option.{option_to_list}
-use Rattle.std.proofs.lemmas.Bool.{cases_lt, lt-ltb, le-ltb}
+use Rattle.std.proofs.lemmas.Bool.{cases_lt, le-ltb}
 use Rattle.std.proofs.lemmas.List.Quantifiers.{position-Some}
 use Rattle.heap_class.specs.declared.IdSize.{IdSize}
 use Rattle.heap_class.specs.declared.ObjKind.TheVariants.{Instance, Array, Prim}
@@ -14,7 +14,6 @@ use Rattle.hprof_session.specs.Walks.{ItemTold, record_told, sub_told}
 use Rattle.hprof_plan.specs.declared.items.RootFound.{RootFound}
 use Rattle.hprof_plan.specs.declared.planning.Plan.{Plan}
 use Rattle.hprof_plan.specs.declared.planning.Statics.{Statics}
-use Rattle.hprof_lines.specs.declared.values.SlotValue.{SlotValue}
 use Rattle.hprof_lines.specs.Objects.{ObjectsTold, number_of, numbered}
 use Rattle.hprof_lines.specs.Passes.{is_turn, made_from}
 use Rattle.hprof_lines.specs.Roots.{root_named, roots_named}
@@ -23,7 +22,7 @@ use Rattle.hprof_lines.specs.Values.{statics_from}
 use Rattle.hprof_heap.specs.DumpHeaps.{AreNumberedFirst}
 use Rattle.hprof_heap.specs.ToldObjects.{ObjectTold, array_told, instance_told, numbered_told, object_told, objects_of_dump, static_told, statics_told, told_from}
 use Rattle.hprof_heap.proofs.Making.{IsSized}
-use Rattle.hprof_heap.proofs.MakingPass.{AreRight, IsRight}
+use Rattle.hprof_heap.proofs.MakingPass.{AreRight}
 use Rattle.hprof_heap.proofs.Linking.{AreNamed}
 use Rattle.hprof_heap.proofs.Words.{AreApart}
 use Rattle.hprof_heap.proofs.ApartSlots.{HaveSlots, rising_are_apart, statics_rise, values_are_apart}
@@ -173,10 +172,10 @@ there_within (x ∷ xs) (suc i) e = let l : i < length xs = there_within xs i e 
 
 -- ---- numbers that are named
 
-get_behind : {A : Type 0} (xs ys : List A) (k i : ℕ) → k ≡ length xs + i → slice_get (xs ++ ys) k ≡ slice_get ys i
-get_behind [] ys k i e = ap (slice_get ys) (e ∙ omega arith)
-get_behind (x ∷ xs) ys zero i e = absurd (omega (arith, e))
-get_behind (x ∷ xs) ys (suc k) i e = get_behind xs ys k i (omega (arith, e))
+item_behind_first_list : {A : Type 0} (xs ys : List A) (k i : ℕ) → k ≡ length xs + i → slice_get (xs ++ ys) k ≡ slice_get ys i
+item_behind_first_list [] ys k i e = ap (slice_get ys) (e ∙ omega arith)
+item_behind_first_list (x ∷ xs) ys zero i e = absurd (omega (arith, e))
+item_behind_first_list (x ∷ xs) ys (suc k) i e = item_behind_first_list xs ys k i (omega (arith, e))
 
 there_by_test : (list : List (Option ObjectTold)) (i : ℕ) → slice_index_or (map is_some list) i false ≡ is_there (slice_get list i)
 there_by_test [] i = refl
@@ -198,7 +197,7 @@ named_is_there o items x k a made = go (position (nat_eq x) o.objects)
 
     by_test : (i : ℕ) (b : Bool) → slice_index_or o.made i false ≡ b → (if b then Some (length o.statics + i) else None) ≡ Some k → is_there (slice_get (objects_of_dump o items) k) ≡ true
     by_test i true e f =
-        ap is_there (get_behind (statics_told o.plan 0 o.plan.statics.items) (told_from o 0 items) k i (omega (arith, is_number f, a.as_many, length_of_statics o.plan 0 o.plan.statics.items)))
+        ap is_there (item_behind_first_list (statics_told o.plan 0 o.plan.statics.items) (told_from o 0 items) k i (omega (arith, is_number f, a.as_many, length_of_statics o.plan 0 o.plan.statics.items)))
         ∙ sym (there_by_test (told_from o 0 items) i) ∙ sym (ap (λ bs. slice_index_or bs i false) (made ∙ made_is_told o 0 items)) ∙ e
       where
         is_number : Some (length o.statics + i) ≡ Some k → length o.statics + i ≡ k

@@ -1,21 +1,21 @@
 -- The session of a dump makes the heap of the dump.
-use Rattle.std.proofs.Common.{◌≡◌, ◌≢◌, ℕ, zero, suc, ◌+◌, ◌-◌, ◌*◌, ◌/◌, ◌%◌, ◌^◌, ◌<◌, ◌≤◌, Bool, true, false, List, [], ◌∷◌, ◌++◌, length, refl, sym, ap, subst, ◌∙◌, Option, Some, None, inl, inr, arith}
-use Rattle.std.specs.Prelude.{IsSome, find, min, option_map, slice_get, slice_index, slice_index_or}
+use Rattle.std.proofs.Common.{◌≡◌, ℕ, zero, suc, ◌+◌, ◌-◌, ◌*◌, ◌/◌, ◌%◌, ◌<◌, ◌≤◌, Bool, true, List, [], ◌∷◌, ◌++◌, length, refl, sym, ap, subst, ◌∙◌, Option, Some, None, inl, inr, arith}
+use Rattle.std.specs.Prelude.{IsSome, min, option_map, slice_get, slice_index, slice_index_or}
 use Rattle.std.specs.Option.{option_map_or}
 use Rattle.std.proofs.lemmas.Bool.{cases_eq, cases_lt}
 use Rattle.heap_class.specs.declared.ClassLimits.{ClassLimits}
 use Rattle.heap_class.specs.declared.IdSize.{IdSize}
 use Rattle.heap_class.specs.declared.ObjKind.TheVariants.{Array}
-use Rattle.heap_class.specs.Classes.{Class, IsClassTable, slots_of}
+use Rattle.heap_class.specs.Classes.{IsClassTable, slots_of}
 use Rattle.heap_region.specs.Regions.{Object as HeapObject, object_of}
-use Rattle.heap_world.specs.State.{HeapState, register, word_of}
+use Rattle.heap_world.specs.State.{HeapState, word_of}
 use Rattle.heap_world.proofs.Registers.{word_of_object_slot}
 use Rattle.heap_step.specs.declared.Event.{Event}
 use Rattle.hprof_session.specs.Walks.{ItemTold}
 use Rattle.hprof_plan.specs.declared.dump.Found.{Found}
 use Rattle.hprof_plan.specs.declared.items.RootFound.{RootFound}
 use Rattle.hprof_plan.specs.declared.planning.Plan.{Plan}
-use Rattle.hprof_lines.specs.declared.passes.Pass.TheVariants.{Making, Linking}
+use Rattle.hprof_lines.specs.declared.passes.Pass.TheVariants.{Linking}
 use Rattle.hprof_lines.specs.Objects.{ObjectsTold, number_of}
 use Rattle.hprof_lines.specs.Passes.{made_from}
 use Rattle.hprof_lines.specs.Roots.{arrays_for, roots_events, roots_named, with_room}
@@ -23,14 +23,13 @@ use Rattle.hprof_lines.specs.Sessions.{all_events, both_events, root_tags, told_
 use Rattle.hprof_heap.specs.DumpHeaps.{AreKindsOfRoots, AreNumberedFirst, AreRoots, AreTaken, IsBare, IsHeapOfDump, IsObjectTold, MakesHeap, MakesHeapOfFound, NamesKind, slot_told, state_after_all}
 use Rattle.hprof_heap.specs.ToldObjects.{ObjectTold, objects_of_dump}
 use Rattle.hprof_heap.proofs.Graphs.{Graph, Thing, IsRun, run_in_parts, word, word_in}
-use Rattle.hprof_heap.proofs.Placed.{ArePlaced, IsArrayOf, Object, Other, Role, kept}
-use Rattle.hprof_heap.proofs.Making.{made_thing}
+use Rattle.hprof_heap.proofs.Placed.{ArePlaced, IsArrayOf, Other, Role, kept}
 use Rattle.hprof_heap.proofs.MakingPass.{AreMade, makings, objects_are_made}
 use Rattle.hprof_heap.proofs.Linking.{AreFound, AreLinked, AreNamed, for_its_number, ids_differ, linked_thing, linkings, objects_are_linked}
 use Rattle.hprof_heap.proofs.Words.{length_at_last, word_at_last}
 use Rattle.hprof_heap.proofs.RootArrays.{AreNamedRoots}
 use Rattle.hprof_heap.proofs.RootKinds.{AreKindsKept, AreRootsDone, root_keepings, roots_are_done}
-use Rattle.hprof_heap.proofs.Simulation.{AreOfSession, IsRunOf, events_run, graph_of, slots_in, some_object, thing_of}
+use Rattle.hprof_heap.proofs.Simulation.{AreOfSession, IsRunOf, events_run, graph_of, slots_in, thing_has_its_object, thing_of}
 use Rattle.hprof_heap.proofs.SessionEvents.{all_roots_keep, both_link, both_make}
 use Rattle.hprof_heap.proofs.OfSession.{both_of_session, linkings_of_session, makings_of_session, root_keepings_of_session}
 use Rattle.hprof_heap.proofs.ApartSlots.{HaveSlots}
@@ -40,42 +39,42 @@ use Rattle.hprof_heap.proofs.ToldNumbers.{AreFine, is_there, named_is_there, num
 
 -- ---- what the graph of a heap says of the heap
 
-word_is : (w : HeapState) (x slot : ℕ) → word (graph_of w) x slot ≡ word_of w x slot
+word_of_graph_is : (w : HeapState) (x slot : ℕ) → word (graph_of w) x slot ≡ word_of w x slot
 unfolding word_of
-word_is w x slot = go (object_of w.regions x)
+word_of_graph_is w x slot = go (object_of w.regions x)
   where
     go : (p : Option HeapObject) → word_in (option_map thing_of p) slot ≡ option_map_or (λ (o : HeapObject). slice_index o.words slot) p 0
     go None = refl
     go (Some o) = refl
 
-array_is : (w : HeapState) (class n x : ℕ) → IsArrayOf class n (graph_of w) x → NamesKind w x (Array class) n
-array_is w class n x p =
-    let o = some_object w x p.0 p.1 in
+array_of_graph_is_named : (w : HeapState) (class n x : ℕ) → IsArrayOf class n (graph_of w) x → NamesKind w x (Array class) n
+array_of_graph_is_named w class n x p =
+    let o = thing_has_its_object w x p.0 p.1 in
     (o.0, o.1, ap (λ (t : Thing). t.kind) o.2 ∙ p.2, ap (λ (t : Thing). length t.words) o.2 ∙ p.3)
 
 roots_are : (w : HeapState) (id : ℕ → ℕ) (class first : ℕ) (numbers : List ℕ) (x : ℕ) (role : ℕ → Role) → AreNamedRoots id class first (length numbers) numbers (length numbers) x role (graph_of w) → AreRoots id w x class first numbers
 roots_are w id class first numbers x role a = record {
-  arrays = λ k l. subst (λ y. NamesKind w y (Array class) (min (length numbers - k * 1024) 1024)) (word_is w x (first + k))
-      (array_is w class (min (length numbers - k * 1024) 1024) (word (graph_of w) x (first + k)) (a.arrays k (omega (arith, l))).array);
-  named = λ i l. ap (λ y. word_of w y (i % 1024)) (sym (word_is w x (first + i / 1024))) ∙ sym (word_is w (word (graph_of w) x (first + i / 1024)) (i % 1024)) ∙ a.named i l;
+  arrays = λ k l. subst (λ y. NamesKind w y (Array class) (min (length numbers - k * 1024) 1024)) (word_of_graph_is w x (first + k))
+      (array_of_graph_is_named w class (min (length numbers - k * 1024) 1024) (word (graph_of w) x (first + k)) (a.arrays k (omega (arith, l))).array);
+  named = λ i l. ap (λ y. word_of w y (i % 1024)) (sym (word_of_graph_is w x (first + i / 1024))) ∙ sym (word_of_graph_is w (word (graph_of w) x (first + i / 1024)) (i % 1024)) ∙ a.named i l;
 }
 
 kinds_are : (w : HeapState) (o : ObjectsTold) (found : List RootFound) (id : ℕ → ℕ) (class first : ℕ) (tags : List ℕ) (x : ℕ) (role : ℕ → Role) → AreKindsKept id (λ tag. roots_named o tag found) class first tags x role (graph_of w)
     → AreKindsOfRoots o id w found x class first tags
-kinds_are w o found id class first [] x role a = λ s l. sym (word_is w x s) ∙ a s l
+kinds_are w o found id class first [] x role a = λ s l. sym (word_of_graph_is w x s) ∙ a s l
 kinds_are w o found id class first (tag ∷ tags) x role a =
     let numbers = with_room first (roots_named o tag found) in
     (roots_are w id class first numbers x role a.0, kinds_are w o found id (class + 1) (first + arrays_for (length numbers)) tags x role a.1)
 
-object_is : (w : HeapState) (o : ObjectsTold) (id : ℕ → ℕ) (x : ℕ) (t : ObjectTold) → (graph_of w).things x ≡ Some (linked_thing (number_of o) id t)
+object_of_graph_is_told : (w : HeapState) (o : ObjectsTold) (id : ℕ → ℕ) (x : ℕ) (t : ObjectTold) → (graph_of w).things x ≡ Some (linked_thing (number_of o) id t)
     → ((slot : ℕ) → slice_index (linked_thing (number_of o) id t).words slot ≡ slot_told o id t.values slot) → IsObjectTold o id w x t
-object_is w o id x t there words = record {
+object_of_graph_is_told w o id x t there words = record {
   named = (a.0, a.1, ap (λ (y : Thing). y.kind) a.2, ap (λ (y : Thing). length y.words) a.2 ∙ length_at_last (number_of o) id t);
   words = λ slot. word_of_object_slot w x slot a.0 a.1 ∙ ap (λ (y : Thing). slice_index y.words slot) a.2 ∙ words slot;
 }
   where
     a : (a : HeapObject) × (object_of w.regions x ≡ Some a) × (thing_of a ≡ linked_thing (number_of o) id t)
-    a = some_object w x (linked_thing (number_of o) id t) there
+    a = thing_has_its_object w x (linked_thing (number_of o) id t) there
 
 -- ---- from an empty heap
 
@@ -156,11 +155,11 @@ parts_make_heap : (o : ObjectsTold) (items : List ItemTold) (found : List RootFo
     → ((i : ℕ) → 8 ≤ i → slice_index v.registers i ≡ 0) → AreParts (slots_in w) o items found (graph_of w) (graph_of v) → IsHeapOfDump o items found v
 parts_make_heap o items found w v numbered made_told fine others p = record {
   id = id;
-  objects = λ n t e. object_is v o id (id n) t
+  objects = λ n t e. object_of_graph_is_told v o id (id n) t
       (rooted.objects (id n) n (object_there n t e) (for_its_number o.plan.roots made m.last id m.after p.later n linked.found (below n t e) (is_made n t e)) ∙ linked_at n t e)
       (λ slot. word_at_last (number_of o) id t slot (values_apart_at (slots_in w) list n t fine e) (m.fits n t e) (linked.fits n t e));
   apart = λ i k t u e f same. ids_differ o.plan.roots made m.last id m.after p.later i k linked.found (below i t e) (is_made i t e) (below k u f) (is_made k u f) same;
-  roots_array = array_is v o.plan.roots 1024 (slice_index v.registers 7) rooted.array;
+  roots_array = array_of_graph_is_named v o.plan.roots 1024 (slice_index v.registers 7) rooted.array;
   roots = kinds_are v o found id (o.plan.roots + 1) 0 root_tags (slice_index v.registers 7) rooted.after rooted.kept;
   registers = λ i d. elim (cases_lt i 8) [ inl l ↦ rooted.cleared i (omega (arith, l, d)) | inr high ↦ others i high ];
 }

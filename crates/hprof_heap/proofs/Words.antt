@@ -1,16 +1,15 @@
 -- The words of an object after its values were put and its references stored.
-use Rattle.std.proofs.Common.{◌≡◌, ◌≢◌, ◌⊎◌, ℕ, zero, suc, ◌<◌, Bool, true, false, List, [], ◌∷◌, length, replicate, refl, sym, ap, subst, ◌∙◌, Option, Some, None, cond, inl, inr, arith}
+use Rattle.std.proofs.Common.{◌≡◌, ◌≢◌, ℕ, zero, suc, ◌<◌, Bool, true, false, List, [], ◌∷◌, length, replicate, refl, sym, ap, subst, ◌∙◌, Option, Some, None, cond, inl, inr}
 use Rattle.std.specs.Prelude.{slice_index, slice_set, find, not, ◌==◌, ◌||◌, ◌&&◌, if◌then◌else◌}
 use Rattle.std.specs.List.{list_any}
 use Rattle.std.specs.Option.{option_map_or}
-use Rattle.std.proofs.lemmas.Bool.{cases_eq, eqb-true, eq-eqb, ne_eqb, or_parts}
+use Rattle.std.proofs.lemmas.Bool.{cases_eq, eq-eqb, ne_eqb, or_parts}
 use Rattle.std.proofs.lemmas.List.{length-set, length-replicate, get_or-set_same, get_or-set_other}
 use Rattle.heap_class.specs.Kinds.{is_reference}
 use Rattle.hprof_lines.specs.declared.values.SlotValue.{SlotValue}
 use Rattle.hprof_lines.specs.Objects.{names_object, shown}
 use Rattle.hprof_heap.specs.ToldObjects.{ObjectTold}
 use Rattle.hprof_heap.proofs.Filled.{PutsFit, length_with_value, length_with_values, with_value, with_values}
-use Rattle.hprof_heap.proofs.Making.{made_thing}
 use Rattle.hprof_heap.proofs.Linking.{StoresFit, linked_thing, with_reference, with_references}
 
 -- whether a value is of this slot
@@ -114,25 +113,25 @@ zero_first zero slot = refl
 zero_first (suc n) zero = refl
 zero_first (suc n) (suc slot) = zero_first n slot
 
-none_found : (values : List SlotValue) (slot : ℕ) → list_any (is_of slot) values ≡ false → find (is_of slot) values ≡ None
-none_found [] slot e = refl
-none_found (v ∷ values) slot e =
+slot_without_value : (values : List SlotValue) (slot : ℕ) → list_any (is_of slot) values ≡ false → find (is_of slot) values ≡ None
+slot_without_value [] slot e = refl
+slot_without_value (v ∷ values) slot e =
     let p = or_parts (is_of slot v) (list_any (is_of slot) values) e in
-    ap (λ b. cond b (Some v) (find (is_of slot) values)) p.0 ∙ none_found values slot p.1
+    ap (λ b. cond b (Some v) (find (is_of slot) values)) p.0 ∙ slot_without_value values slot p.1
 
 put_of_slot : (values : List SlotValue) (words : List ℕ) (slot : ℕ) → AreApart values → PutsFit (length words) values
     → slice_index (with_values words values) slot ≡ option_map_or (put_word (slice_index words slot)) (find (is_of slot) values) (slice_index words slot)
 put_of_slot [] words slot apart below = refl
 put_of_slot (v ∷ values) words slot apart below = elim (cases_eq v.slot slot) [
   | inl e ↦ (
-        ap (slice_index (with_values (with_value words v) values)) (sym e)
-        ∙ values_elsewhere values (with_value words v) v.slot apart.0 ∙ value_here words v below.0
-        ∙ ap (λ s. put_word (slice_index words s) v) e
-        ∙ ap (λ o. option_map_or (put_word (slice_index words slot)) o (slice_index words slot)) (sym (find_this values v slot e)))
+      ap (slice_index (with_values (with_value words v) values)) (sym e)
+      ∙ values_elsewhere values (with_value words v) v.slot apart.0 ∙ value_here words v below.0
+      ∙ ap (λ s. put_word (slice_index words s) v) e
+      ∙ ap (λ o. option_map_or (put_word (slice_index words slot)) o (slice_index words slot)) (sym (find_this values v slot e)))
   | inr d ↦ (
-        put_of_slot values (with_value words v) slot apart.1 (subst (λ k. PutsFit k values) (sym (length_with_value words v)) below.1)
-        ∙ ap (λ w. option_map_or (put_word w) (find (is_of slot) values) w) (value_elsewhere words v slot d)
-        ∙ ap (λ o. option_map_or (put_word (slice_index words slot)) o (slice_index words slot)) (sym (find_later values v slot d)))
+      put_of_slot values (with_value words v) slot apart.1 (subst (λ k. PutsFit k values) (sym (length_with_value words v)) below.1)
+      ∙ ap (λ w. option_map_or (put_word w) (find (is_of slot) values) w) (value_elsewhere words v slot d)
+      ∙ ap (λ o. option_map_or (put_word (slice_index words slot)) o (slice_index words slot)) (sym (find_later values v slot d)))
 ]
 
 stored_of_slot : (name : ℕ → Option ℕ) (id : ℕ → ℕ) (values : List SlotValue) (words : List ℕ) (slot : ℕ) → AreApart values → StoresFit name (length words) values
@@ -140,14 +139,14 @@ stored_of_slot : (name : ℕ → Option ℕ) (id : ℕ → ℕ) (values : List S
 stored_of_slot name id [] words slot apart below = refl
 stored_of_slot name id (v ∷ values) words slot apart below = elim (cases_eq v.slot slot) [
   | inl e ↦ (
-        ap (slice_index (with_references name id (with_reference name id words v) values)) (sym e)
-        ∙ references_elsewhere name id values (with_reference name id words v) v.slot apart.0 ∙ reference_here name id words v below.0
-        ∙ ap (λ s. stored_word name id (slice_index words s) v) e
-        ∙ ap (λ o. option_map_or (stored_word name id (slice_index words slot)) o (slice_index words slot)) (sym (find_this values v slot e)))
+      ap (slice_index (with_references name id (with_reference name id words v) values)) (sym e)
+      ∙ references_elsewhere name id values (with_reference name id words v) v.slot apart.0 ∙ reference_here name id words v below.0
+      ∙ ap (λ s. stored_word name id (slice_index words s) v) e
+      ∙ ap (λ o. option_map_or (stored_word name id (slice_index words slot)) o (slice_index words slot)) (sym (find_this values v slot e)))
   | inr d ↦ (
-        stored_of_slot name id values (with_reference name id words v) slot apart.1 (subst (λ k. StoresFit name k values) (sym (length_with_reference name id words v)) below.1)
-        ∙ ap (λ w. option_map_or (stored_word name id w) (find (is_of slot) values) w) (reference_elsewhere name id words v slot d)
-        ∙ ap (λ o. option_map_or (stored_word name id (slice_index words slot)) o (slice_index words slot)) (sym (find_later values v slot d)))
+      stored_of_slot name id values (with_reference name id words v) slot apart.1 (subst (λ k. StoresFit name k values) (sym (length_with_reference name id words v)) below.1)
+      ∙ ap (λ w. option_map_or (stored_word name id w) (find (is_of slot) values) w) (reference_elsewhere name id words v slot d)
+      ∙ ap (λ o. option_map_or (stored_word name id (slice_index words slot)) o (slice_index words slot)) (sym (find_later values v slot d)))
 ]
 
 -- a value is put or stored
@@ -167,8 +166,8 @@ pub word_at_last : (name : ℕ → Option ℕ) (id : ℕ → ℕ) (t : ObjectTol
 word_at_last name id t slot apart puts stores =
     stored_of_slot name id t.values (with_values (replicate t.slots 0) t.values) slot apart (subst (λ k. StoresFit name k t.values) (sym made) stores)
     ∙ ap (λ w. option_map_or (stored_word name id w) (find (is_of slot) t.values) w)
-        (put_of_slot t.values (replicate t.slots 0) slot apart (subst (λ k. PutsFit k t.values) (sym (length-replicate t.slots 0)) puts)
-        ∙ ap (λ w. option_map_or (put_word w) (find (is_of slot) t.values) w) (zero_first t.slots slot))
+    (put_of_slot t.values (replicate t.slots 0) slot apart (subst (λ k. PutsFit k t.values) (sym (length-replicate t.slots 0)) puts)
+    ∙ ap (λ w. option_map_or (put_word w) (find (is_of slot) t.values) w) (zero_first t.slots slot))
     ∙ by_value (find (is_of slot) t.values)
   where
     made : length (with_values (replicate t.slots 0) t.values) ≡ t.slots

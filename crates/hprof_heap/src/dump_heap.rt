@@ -14,5 +14,4 @@ ghost use Rattle.hprof_heap.specs.DumpHeaps.{MakesHeapOfFound};
 pub fn session_makes_heap()
     ensures { (limits : ClassLimits) (most : ℕ) (f : Found) (p : Plan) (size : IdSize) (items : List ItemTold) (w : HeapState)
         → MakesHeapOfFound limits most f p size items w }
-{
-}
+{}

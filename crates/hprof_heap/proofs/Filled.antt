@@ -120,7 +120,7 @@ put_twice z kind a b c f g h p q = record { filled = two_fillings z kind a b c f
 nothing_put : (z : ℕ) (kind : ObjKind) (old : List ℕ) (g h : Graph) → g.things z ≡ Some (record { kind = kind; words = old }) → g ≡ h → ArePut z kind old old g h
 nothing_put z kind old g h before r = subst (ArePut z kind old old g) r (record { filled = nothing_filled z kind old g g before (λ y. refl) (λ q l. refl); registers = λ q. refl })
 
-put_value : (slots : ℕ → ℕ) (z : ℕ) (kind : ObjKind) (old : List ℕ) (v : SlotValue) (g h : Graph) → g.registers 5 ≡ z → g.things z ≡ Some (record { kind = kind; words = old })
+pub put_value : (slots : ℕ → ℕ) (z : ℕ) (kind : ObjKind) (old : List ℕ) (v : SlotValue) (g h : Graph) → g.registers 5 ≡ z → g.things z ≡ Some (record { kind = kind; words = old })
     → IsRun slots (value_events v) g h → ArePut z kind old (with_value old v) g h × ((is_reference v.kind || v.value == 0) ≡ false → v.slot < length old)
 unfolding value_events
 put_value slots z kind old v g h e before = go (is_reference v.kind || v.value == 0)

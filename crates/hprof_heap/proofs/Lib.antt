@@ -7,6 +7,8 @@ pub mod MakingPass
 pub mod Linking
 pub mod Words
 pub mod Simulation
+pub mod Acceptable
+pub mod MakingRuns
 pub mod RootSteps
 pub mod RootArrays
 pub mod RootKinds

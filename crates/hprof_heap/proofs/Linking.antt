@@ -134,7 +134,7 @@ store_reference slots class made last z id role kind old slot k g h a l held bef
 nothing_linked : (z : ℕ) (kind : ObjKind) (old : List ℕ) (g h : Graph) → g.registers 5 ≡ z → g.things z ≡ Some (record { kind = kind; words = old }) → g ≡ h → IsLinked z kind old old g h
 nothing_linked z kind old g h held before r = subst (IsLinked z kind old old g) r (record { filled = nothing_filled z kind old g g before (λ y. refl) (λ q l. refl); held = held })
 
-link_reference : (slots : ℕ → ℕ) (class : ℕ) (made : ℕ → Bool) (last z : ℕ) (name : ℕ → Option ℕ) (id : ℕ → ℕ) (role : ℕ → Role) (kind : ObjKind) (old : List ℕ) (v : SlotValue) (g h : Graph)
+pub link_reference : (slots : ℕ → ℕ) (class : ℕ) (made : ℕ → Bool) (last z : ℕ) (name : ℕ → Option ℕ) (id : ℕ → ℕ) (role : ℕ → Role) (kind : ObjKind) (old : List ℕ) (v : SlotValue) (g h : Graph)
     → AreNamed name made last → AreFound class made last id role g → g.registers 5 ≡ z → g.things z ≡ Some (record { kind = kind; words = old })
     → IsRun slots (reference_of name v) g h → IsLinked z kind old (with_reference name id old v) g h × ((k : ℕ) → names_object v ≡ true → name v.value ≡ Some k → v.slot < length old)
 link_reference slots class made last z name id role kind old v g h named a held before = go (names_object v)

@@ -213,7 +213,7 @@ IsSized slots (Instance class) n = slots class ≡ n
 IsSized slots (Array class) n = Unit {0}
 IsSized slots (Prim kind) n = Unit {0}
 
-creation_step : (slots : ℕ → ℕ) (kind : ObjKind) (n : ℕ) (g h : Graph) → IsSized slots kind n → IsGraphStep slots (creation_of kind n) g h → IsCreation 5 kind n g h
+pub creation_step : (slots : ℕ → ℕ) (kind : ObjKind) (n : ℕ) (g h : Graph) → IsSized slots kind n → IsGraphStep slots (creation_of kind n) g h → IsCreation 5 kind n g h
 creation_step slots (Instance class) n g h e c = subst (λ k. IsCreation 5 (Instance class) k g h) e c
 creation_step slots (Array class) n g h e c = c
 creation_step slots (Prim kind) n g h e c = c

@@ -53,7 +53,7 @@ no_more_made class made n role g few a = record {
 }
 
 -- past the last number none is made
-past_block_is_empty : (class n : ℕ) (x : Option ObjectTold) → 2 ^ 22 ≤ n → making_block class n x ≡ []
+pub past_block_is_empty : (class n : ℕ) (x : Option ObjectTold) → 2 ^ 22 ≤ n → making_block class n x ≡ []
 past_block_is_empty class n x past = ap (λ b. if b then made_block class n x else []) (le-ltb n (2 ^ 22) past)
 
 past_is_not_made : (slots : ℕ → ℕ) (made : ℕ → Bool) (n : ℕ) (x : Option ObjectTold) → 2 ^ 22 ≤ n → IsRight slots made n x → is_some x ≡ false
@@ -143,7 +143,7 @@ one_and_more_made class made n x xs role g f h told p q = record {
         k = p.placed.objects n (omega arith) (told ∙ ap is_some same)
     contents (suc i) t e = ap (λ m. h.things (kept h m)) (omega arith) ∙ q.contents i t e
 
-block_below_last : (class n : ℕ) (x : Option ObjectTold) → n < 2 ^ 22 → making_block class n x ≡ made_block class n x
+pub block_below_last : (class n : ℕ) (x : Option ObjectTold) → n < 2 ^ 22 → making_block class n x ≡ made_block class n x
 block_below_last class n x less = ap (λ b. if b then made_block class n x else []) (lt-ltb n (2 ^ 22) less)
 
 pub objects_are_made : (slots : ℕ → ℕ) (class : ℕ) (made : ℕ → Bool) (n : ℕ) (list : List (Option ObjectTold)) (role : ℕ → Role) (g h : Graph) → n ≤ 2 ^ 22 → AreRight slots made n list → ArePlaced class made n role g

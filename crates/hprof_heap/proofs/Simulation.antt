@@ -139,6 +139,7 @@ creation_in w r kind n x s there p = record {
 record Makes (w : HeapState) (r : ℕ) (kind : ObjKind) (n : ℕ) (v : HeapState) : Type 0 where
   step : IsCreation r kind n (graph_of w) (graph_of v)
   classes : v.classes ≡ w.classes
+  limits : v.limits ≡ w.limits
   others : OthersHold w v
 
 new_makes : (w : HeapState) (r : ℕ) (kind : ObjKind) (n : ℕ) → IsLegal w → is_register w 0 r ≡ true → is_full n w ≡ false → Makes w r kind n (after_new 0 r kind n w)
@@ -151,6 +152,7 @@ new_makes w r kind n legal there room = go (new_place n (pool_of w)) refl room
     go (Some (at, fresh)) e f = record {
       step = creation_in w r kind n (id_of (allocated at fresh (new_object kind n w) (pool_of w)).regions at) (allocated at fresh (new_object kind n w) (pool_of w)) there (new_in_regions w kind n at fresh legal e);
       classes = refl;
+      limits = refl;
       others = set_leaves_others w r (id_of (allocated at fresh (new_object kind n w) (pool_of w)).regions at) there;
     }
 
@@ -160,6 +162,7 @@ new_makes w r kind n legal there room = go (new_place n (pool_of w)) refl room
 record Writes (w : HeapState) (r slot word : ℕ) (v : HeapState) : Type 0 where
   step : IsWriting r slot word (graph_of w) (graph_of v)
   classes : v.classes ≡ w.classes
+  limits : v.limits ≡ w.limits
   others : OthersHold w v
 
 found_object_is_one : (p : Option Object) (a b : Object) → p ≡ Some a → p ≡ Some b → a ≡ b
@@ -189,6 +192,7 @@ form_writes w v r slot word legal there f = subst (Writes w r slot word) (sym f.
   step = subst (λ (p : ObjRef). IsWriting r slot word (graph_of w) (graph_of (record w { regions = with_word p slot word w.regions; log = f.1 }))) (sym (place_of_id_by_ref w (register w 0 r) at.0 at.1))
       (write_in w r slot word f.1 f.0 at.0 (slot_is_in_object w (register w 0 r) slot f.0 legal there f.2) (ap (object_of w.regions) (sym (register_held w r)) ∙ f.2) (ap (ref_of w.regions) (sym (register_held w r)) ∙ at.1));
   classes = refl;
+  limits = refl;
   others = λ i high. refl;
 })
   where
@@ -200,6 +204,7 @@ form_writes w v r slot word legal there f = subst (Writes w r slot word) (sym f.
 record Loads (w : HeapState) (to from slot : ℕ) (v : HeapState) : Type 0 where
   step : IsLoading to from slot (graph_of w) (graph_of v)
   classes : v.classes ≡ w.classes
+  limits : v.limits ≡ w.limits
   others : OthersHold w v
 
 item_of_copies : (k l : Kind) (n i : ℕ) → slice_get (replicate n k) i ≡ Some l → l ≡ k
@@ -250,6 +255,7 @@ load_loads w to from slot there slot_there = go (is_reference_slot w (register w
         registers = λ q d. other_register w to (word_of w x slot) q d;
       };
       classes = refl;
+      limits = refl;
       others = set_leaves_others w to (word_of w x slot) there;
     }
     go false e = record {
@@ -260,6 +266,7 @@ load_loads w to from slot there slot_there = go (is_reference_slot w (register w
         registers = λ q d. refl;
       };
       classes = refl;
+      limits = refl;
       others = λ i high. refl;
     }
 
@@ -280,6 +287,7 @@ IsOfSession _ = ⊥
 pub record IsStepOf (e : Event) (w v : HeapState) : Type 0 where
   pub step : IsGraphStep (slots_in w) e (graph_of w) (graph_of v)
   pub classes : v.classes ≡ w.classes
+  pub limits : v.limits ≡ w.limits
   pub others : OthersHold w v
 
 new_step : (r class : ℕ) (w : HeapState) → IsLegal w → refusal_of (New 0 r class) w ≡ None → IsStepOf (New 0 r class) w (state_after (New 0 r class) w)
@@ -287,21 +295,21 @@ unfolding refusal_of state_after new_refusal
 new_step r class w legal accepted =
     let h = no_refusal_test_holds _ accepted in
     let m : Makes w r (Instance class) (slots_in w class) (after_new 0 r (Instance class) (slots_in w class) w) = new_makes w r (Instance class) (slots_in w class) legal (not-false (is_register w 0 r) h.0) h.1.1.1.0 in
-    record { step = m.step; classes = m.classes; others = m.others }
+    record { step = m.step; classes = m.classes; limits = m.limits; others = m.others }
 
 new_array_step : (r class n : ℕ) (w : HeapState) → IsLegal w → refusal_of (NewArray 0 r class n) w ≡ None → IsStepOf (NewArray 0 r class n) w (state_after (NewArray 0 r class n) w)
 unfolding refusal_of state_after new_array_refusal
 new_array_step r class n w legal accepted =
     let h = no_refusal_test_holds _ accepted in
     let m : Makes w r (Array class) n (after_new 0 r (Array class) n w) = new_makes w r (Array class) n legal (not-false (is_register w 0 r) h.0) h.1.1.1.1.0 in
-    record { step = m.step; classes = m.classes; others = m.others }
+    record { step = m.step; classes = m.classes; limits = m.limits; others = m.others }
 
 new_prim_step : (r n : ℕ) (kind : Kind) (w : HeapState) → IsLegal w → refusal_of (NewPrim 0 r kind n) w ≡ None → IsStepOf (NewPrim 0 r kind n) w (state_after (NewPrim 0 r kind n) w)
 unfolding refusal_of state_after new_prim_refusal
 new_prim_step r n kind w legal accepted =
     let h = no_refusal_test_holds _ accepted in
     let m : Makes w r (Prim kind) n (after_new 0 r (Prim kind) n w) = new_makes w r (Prim kind) n legal (not-false (is_register w 0 r) h.0) h.1.1.1.0 in
-    record { step = m.step; classes = m.classes; others = m.others }
+    record { step = m.step; classes = m.classes; limits = m.limits; others = m.others }
 
 accepted_put_has_its_slot : (r slot value : ℕ) (w : HeapState) → put_refusal 0 r slot value w ≡ None → lacks_slot w (register w 0 r) slot ≡ false
 unfolding put_refusal
@@ -315,20 +323,20 @@ put_step : (r slot value : ℕ) (w : HeapState) → IsLegal w → refusal_of (Pu
 unfolding refusal_of state_after
 put_step r slot value w legal accepted =
     let m : Writes w r slot value (after_put 0 r slot value w) = form_writes w (after_put 0 r slot value w) r slot value legal (accepted_put_has_its_slot r slot value w accepted) (form_after_put w 0 r slot value (legal_heap_has_clauses w legal) accepted) in
-    record { step = m.step; classes = m.classes; others = m.others }
+    record { step = m.step; classes = m.classes; limits = m.limits; others = m.others }
 
 store_step : (r slot source : ℕ) (w : HeapState) → IsLegal w → refusal_of (Store 0 r slot source) w ≡ None → IsStepOf (Store 0 r slot source) w (state_after (Store 0 r slot source) w)
 unfolding refusal_of state_after
 store_step r slot source w legal accepted =
     let m : Writes w r slot (register w 0 source) (after_store 0 r slot source w) = form_writes w (after_store 0 r slot source w) r slot (register w 0 source) legal (accepted_store_has_its_slot r slot source w accepted) (store_form w 0 r slot source (legal_heap_has_clauses w legal) accepted) in
-    record { step = subst (λ x. IsWriting r slot x (graph_of w) (graph_of (after_store 0 r slot source w))) (register_held w source) m.step; classes = m.classes; others = m.others }
+    record { step = subst (λ x. IsWriting r slot x (graph_of w) (graph_of (after_store 0 r slot source w))) (register_held w source) m.step; classes = m.classes; limits = m.limits; others = m.others }
 
 load_step : (to from slot : ℕ) (w : HeapState) → refusal_of (Load 0 to from slot) w ≡ None → IsStepOf (Load 0 to from slot) w (state_after (Load 0 to from slot) w)
 unfolding refusal_of state_after load_refusal
 load_step to from slot w accepted =
     let h = no_refusal_test_holds _ accepted in
     let m : Loads w to from slot (after_load 0 to from slot w) = load_loads w to from slot (both_registers (is_register w 0 to) (is_register w 0 from) h.0).0 h.1.1.0 in
-    record { step = m.step; classes = m.classes; others = m.others }
+    record { step = m.step; classes = m.classes; limits = m.limits; others = m.others }
 
 clear_step : (r : ℕ) (w : HeapState) → refusal_of (Clear 0 r) w ≡ None → IsStepOf (Clear 0 r) w (state_after (Clear 0 r) w)
 unfolding refusal_of state_after clear_refusal
@@ -337,6 +345,7 @@ clear_step r w accepted =
     record {
       step = record { cleared = register_set w r 0 (not-false (is_register w 0 r) h.0); things = λ y. refl; registers = λ q d. other_register w r 0 q d };
       classes = refl;
+      limits = refl;
       others = set_leaves_others w r 0 (not-false (is_register w 0 r) h.0);
     }
 
@@ -361,6 +370,7 @@ pub record IsRunOf (es : List Event) (w v : HeapState) : Type 0 where
   pub run : IsRun (slots_in w) es (graph_of w) (graph_of v)
   pub legal : IsLegal v
   pub classes : v.classes ≡ w.classes
+  pub limits : v.limits ≡ w.limits
   pub others : (i : ℕ) → 8 ≤ i → slice_index v.registers i ≡ slice_index w.registers i
 
 run_and_more : (e : Event) (es : List Event) (w u v : HeapState) → IsStepOf e w u → IsRunOf es u v → IsRunOf (e ∷ es) w v
@@ -368,11 +378,12 @@ run_and_more e es w u v first rest = record {
   run = (graph_of u, first.step, subst (λ c. IsRun (λ k. length (slots_of c k)) es (graph_of u) (graph_of v)) first.classes rest.run);
   legal = rest.legal;
   classes = rest.classes ∙ first.classes;
+  limits = rest.limits ∙ first.limits;
   others = λ i high. rest.others i high ∙ first.others i high;
 }
 
 pub events_run : (es : List Event) (w : HeapState) → AreOfSession es → IsLegal w → AreTaken es w → IsRunOf es w (state_after_all es w)
-events_run [] w s legal accepted = record { run = refl; legal = legal; classes = refl; others = λ i high. refl }
+events_run [] w s legal accepted = record { run = refl; legal = legal; classes = refl; limits = refl; others = λ i high. refl }
 events_run (e ∷ es) w s legal accepted =
     run_and_more e es w (state_after e w) (state_after_all es (state_after e w)) (event_steps e w s.0 legal accepted.0)
     (events_run es (state_after e w) s.1 (keeps_legal e w legal accepted.0) accepted.1)

@@ -1,10 +1,11 @@
 -- The heap of a dump.
-use Rattle.std.specs.Prelude.{◌≡◌, ◌≢◌, ℕ, ◌+◌, ◌-◌, ◌*◌, ◌/◌, ◌%◌, ◌^◌, ◌<◌, ◌≤◌, ◌==◌, min, find, List, [], ◌∷◌, length, slice_get, slice_index, Some, None, if◌then◌else◌}
+use Rattle.std.specs.Prelude.{◌≡◌, ◌≢◌, ◌⊎◌, ℕ, ◌+◌, ◌-◌, ◌*◌, ◌/◌, ◌%◌, ◌^◌, ◌<◌, ◌≤◌, ◌==◌, min, find, List, [], ◌∷◌, length, slice_get, slice_index, Some, None, if◌then◌else◌}
 use Rattle.std.specs.Option.{option_map_or}
 use Rattle.heap_class.specs.declared.ClassLimits.{ClassLimits}
 use Rattle.heap_class.specs.declared.IdSize.{IdSize}
 use Rattle.heap_class.specs.declared.ObjKind.{ObjKind}
 use Rattle.heap_class.specs.declared.ObjKind.TheVariants.{Array}
+use Rattle.heap_class.specs.declared.Refusal.TheVariants.{HeapFull}
 use Rattle.heap_class.specs.Kinds.{is_reference}
 use Rattle.heap_region.specs.Regions.{Object, object_of}
 use Rattle.heap_world.specs.State.{HeapState, register, word_of}
@@ -29,6 +30,12 @@ use Rattle.hprof_heap.specs.ToldObjects.{ObjectTold, objects_of_dump}
 abbrev pub AreTaken : List Event → HeapState → Type 0
 AreTaken [] w = Unit {0}
 AreTaken (e ∷ es) w = (refusal_of e w ≡ None) × AreTaken es (state_after e w)
+
+-- each of these events is accepted, one after another, or the first that isn't is refused since the heap is full
+abbrev pub AreTakenUnlessFull : List Event → HeapState → Type 0
+AreTakenUnlessFull [] w = Unit {0}
+AreTakenUnlessFull (e ∷ es) w =
+    (refusal_of e w ≡ Some HeapFull) ⊎ ((refusal_of e w ≡ None) × AreTakenUnlessFull es (state_after e w))
 
 -- the state after events that are accepted
 abbrev pub state_after_all : List Event → HeapState → HeapState

@@ -9,6 +9,7 @@ pub mod Words
 pub mod Simulation
 pub mod Acceptable
 pub mod MakingRuns
+pub mod LinkingRuns
 pub mod RootSteps
 pub mod RootArrays
 pub mod RootKinds

@@ -190,7 +190,7 @@ none_stored name n (v ∷ values) e =
     let p = or_parts (names_object v) (list_any names_object values) e in
     ((λ k f s. let c : true ≡ false = sym f ∙ p.0 in cc), none_stored name n values p.1)
 
-length_made : (t : ObjectTold) → length (made_thing t).words ≡ t.slots
+pub length_made : (t : ObjectTold) → length (made_thing t).words ≡ t.slots
 length_made t = length_with_values t.values (replicate t.slots 0) ∙ length-replicate t.slots 0
 
 -- an object as it is at last
@@ -252,7 +252,7 @@ pub record IsBlockLinked (class : ℕ) (made : ℕ → Bool) (last n : ℕ) (nam
   pub content : (t : ObjectTold) → x ≡ Some t → h.things (id n) ≡ Some (linked_thing name id t)
   pub fits : (t : ObjectTold) → x ≡ Some t → StoresFit name t.slots t.values
 
-block_is_linked : (slots : ℕ → ℕ) (class : ℕ) (made : ℕ → Bool) (last n : ℕ) (name : ℕ → Option ℕ) (id : ℕ → ℕ) (x : Option ObjectTold) (role : ℕ → Role) (g h : Graph)
+pub block_is_linked : (slots : ℕ → ℕ) (class : ℕ) (made : ℕ → Bool) (last n : ℕ) (name : ℕ → Option ℕ) (id : ℕ → ℕ) (x : Option ObjectTold) (role : ℕ → Role) (g h : Graph)
     → AreNamed name made last → AreFound class made last id role g → ((t : ObjectTold) → x ≡ Some t → (n < last) × (made n ≡ true) × (g.things (id n) ≡ Some (made_thing t)))
     → IsRun slots (link_block name n x) g h → IsBlockLinked class made last n name id x role g h
 block_is_linked slots class made last n name id None role g h named a there r = subst (IsBlockLinked class made last n name id None role g) r (record {
@@ -280,16 +280,16 @@ block_is_linked slots class made last n name id (Some t) role g h named a there 
 plus_zero : (n : ℕ) → n + 0 ≡ n
 plus_zero n = omega arith
 
-plus_one : (n i : ℕ) → n + suc i ≡ n + 1 + i
+pub plus_one : (n i : ℕ) → n + suc i ≡ n + 1 + i
 plus_one n i = omega arith
 
-first_is_there : (made : ℕ → Bool) (last n : ℕ) (id : ℕ → ℕ) (x : Option ObjectTold) (xs : List (Option ObjectTold)) (g : Graph) → AreThere made last n (x ∷ xs) → AreAsMade id n (x ∷ xs) g
+pub first_is_there : (made : ℕ → Bool) (last n : ℕ) (id : ℕ → ℕ) (x : Option ObjectTold) (xs : List (Option ObjectTold)) (g : Graph) → AreThere made last n (x ∷ xs) → AreAsMade id n (x ∷ xs) g
     → (t : ObjectTold) → x ≡ Some t → (n < last) × (made n ≡ true) × (g.things (id n) ≡ Some (made_thing t))
 first_is_there made last n id x xs g there contents t e =
     let p = there 0 t (ap Some e) in
     (subst (λ m. m < last) (plus_zero n) p.0, subst (λ m. made m ≡ true) (plus_zero n) p.1, ap (λ m. g.things (id m)) (sym (plus_zero n)) ∙ contents 0 t (ap Some e))
 
-others_are_there : (made : ℕ → Bool) (last n : ℕ) (x : Option ObjectTold) (xs : List (Option ObjectTold)) → AreThere made last n (x ∷ xs) → AreThere made last (n + 1) xs
+pub others_are_there : (made : ℕ → Bool) (last n : ℕ) (x : Option ObjectTold) (xs : List (Option ObjectTold)) → AreThere made last n (x ∷ xs) → AreThere made last (n + 1) xs
 others_are_there made last n x xs there i t e = let p = there (suc i) t e in (subst (λ m. m < last) (plus_one n i) p.0, subst (λ m. made m ≡ true) (plus_one n i) p.1)
 
 block_and_more_linked : (class : ℕ) (made : ℕ → Bool) (last n : ℕ) (name : ℕ → Option ℕ) (id : ℕ → ℕ) (x : Option ObjectTold) (xs : List (Option ObjectTold)) (role : ℕ → Role) (g f h : Graph)

@@ -148,7 +148,7 @@ array_created class made last id roots kind first count numbers i x role g f h w
     even : i ≡ i / 1024 * 1024
     even = omega (arith, whole)
 
-array_is_ready : (slots : ℕ → ℕ) (class : ℕ) (made : ℕ → Bool) (last : ℕ) (id : ℕ → ℕ) (roots kind first count : ℕ) (numbers : List ℕ) (i x : ℕ) (role : ℕ → Role) (g h : Graph)
+pub array_is_ready : (slots : ℕ → ℕ) (class : ℕ) (made : ℕ → Bool) (last : ℕ) (id : ℕ → ℕ) (roots kind first count : ℕ) (numbers : List ℕ) (i x : ℕ) (role : ℕ → Role) (g h : Graph)
     → AreBefore class made last id roots kind first count numbers i x role g → IsRun slots (root_array kind first count i) g h → IsArrayReady class made last id roots kind first count numbers i x role g h
 array_is_ready slots class made last id roots kind first count numbers i x role g h b = go (i % 1024 == 0) refl
   where
@@ -237,7 +237,7 @@ root_named class made last id roots kind first count numbers i x n role g f k h 
       ]
     ]
 
-root_is_kept : (slots : ℕ → ℕ) (class : ℕ) (made : ℕ → Bool) (last : ℕ) (id : ℕ → ℕ) (roots kind first count : ℕ) (numbers : List ℕ) (i x n : ℕ) (role : ℕ → Role) (g h : Graph) → slice_index numbers i ≡ n → n < last
+pub root_is_kept : (slots : ℕ → ℕ) (class : ℕ) (made : ℕ → Bool) (last : ℕ) (id : ℕ → ℕ) (roots kind first count : ℕ) (numbers : List ℕ) (i x n : ℕ) (role : ℕ → Role) (g h : Graph) → slice_index numbers i ≡ n → n < last
     → AreBefore class made last id roots kind first count numbers i x role g → IsRun slots (root_events kind first count i n) g h → IsRootKept class made last id roots kind first count numbers i x role g h
 root_is_kept slots class made last id roots kind first count numbers i x n role g h is l b r = root_named class made last id roots kind first count numbers i x n role g s.0 t.0 h is p
     (subst (λ y. IsFetched 6 y s.0 t.0) (p.found.ids n l) (object_is_fetched slots class p.after 6 n s.0 t.0 (p.found.tops n l) (p.found.keepers n l) s.2))

@@ -26,7 +26,7 @@ AreKindsKept id named class first (tag ∷ tags) x role g =
     AreNamedRoots id class first (length (with_room first (named tag))) (with_room first (named tag)) (length (with_room first (named tag))) x role g
     × AreKindsKept id named (class + 1) (first + arrays_for (length (with_room first (named tag)))) tags x role g
 
-numbers_taken : (last n : ℕ) (numbers : List ℕ) → AreNumbers last numbers → AreNumbers last (take n numbers)
+pub numbers_taken : (last n : ℕ) (numbers : List ℕ) → AreNumbers last numbers → AreNumbers last (take n numbers)
 numbers_taken last zero numbers a = tt
 numbers_taken last (suc n) [] a = tt
 numbers_taken last (suc n) (x ∷ numbers) a = (a.0, numbers_taken last n numbers a.1)
@@ -49,7 +49,7 @@ no_kinds_kept : (class : ℕ) (made : ℕ → Bool) (last : ℕ) (id : ℕ → �
 no_kinds_kept class made last id roots named kind first x role g b = record { after = role; spared = spares_nothing first x role g g (λ y. refl); found = b.found; top = b.top; kept = b.empty }
 
 -- before the first root of a kind
-none_of_kind : (class : ℕ) (made : ℕ → Bool) (last : ℕ) (id : ℕ → ℕ) (roots kind first count : ℕ) (numbers : List ℕ) (x : ℕ) (role : ℕ → Role) (g : Graph) → AreKindsBefore class made last id roots first x role g
+pub none_of_kind : (class : ℕ) (made : ℕ → Bool) (last : ℕ) (id : ℕ → ℕ) (roots kind first count : ℕ) (numbers : List ℕ) (x : ℕ) (role : ℕ → Role) (g : Graph) → AreKindsBefore class made last id roots first x role g
     → AreBefore class made last id roots kind first count numbers 0 x role g
 none_of_kind class made last id roots kind first count numbers x role g b = record {
   found = b.found;
@@ -59,13 +59,13 @@ none_of_kind class made last id roots kind first count numbers x role g b = reco
   empty = λ s l. b.empty s (omega (arith, l));
 }
 
-kind_is_kept : (slots : ℕ → ℕ) (class : ℕ) (made : ℕ → Bool) (last : ℕ) (id : ℕ → ℕ) (roots kind first : ℕ) (numbers : List ℕ) (x : ℕ) (role : ℕ → Role) (g h : Graph) → AreNumbers last numbers
+pub kind_is_kept : (slots : ℕ → ℕ) (class : ℕ) (made : ℕ → Bool) (last : ℕ) (id : ℕ → ℕ) (roots kind first : ℕ) (numbers : List ℕ) (x : ℕ) (role : ℕ → Role) (g h : Graph) → AreNumbers last numbers
     → AreKindsBefore class made last id roots first x role g → IsRun slots (kind_events kind first numbers) g h → AreRootsKept class made last id roots kind first (length numbers) numbers (length numbers) x role g h
 kind_is_kept slots class made last id roots kind first numbers x role g h l b r =
     subst (λ m. AreRootsKept class made last id roots kind first (length numbers) numbers m x role g h) (omega arith)
     (roots_are_kept slots class made last id roots kind first (length numbers) numbers numbers 0 x role g h (λ j. ap (slice_index numbers) (omega arith)) l (none_of_kind class made last id roots kind first (length numbers) numbers x role g b) r)
 
-kinds_later : (class : ℕ) (made : ℕ → Bool) (last : ℕ) (id : ℕ → ℕ) (roots kind first : ℕ) (numbers : List ℕ) (x : ℕ) (role : ℕ → Role) (g h : Graph) → (p : AreRootsKept class made last id roots kind first (length numbers) numbers (length numbers) x role g h)
+pub kinds_later : (class : ℕ) (made : ℕ → Bool) (last : ℕ) (id : ℕ → ℕ) (roots kind first : ℕ) (numbers : List ℕ) (x : ℕ) (role : ℕ → Role) (g h : Graph) → (p : AreRootsKept class made last id roots kind first (length numbers) numbers (length numbers) x role g h)
     → AreKindsBefore class made last id roots (first + arrays_for (length numbers)) x p.after h
 kinds_later class made last id roots kind first numbers x role g h p = record { found = p.later.found; top = p.later.top; empty = p.later.empty }
 
@@ -143,7 +143,7 @@ zeros (suc n) zero = refl
 zeros (suc n) (suc s) = zeros n s
 
 -- the array of roots, when it is new
-roots_begin : (class : ℕ) (made : ℕ → Bool) (last : ℕ) (id : ℕ → ℕ) (roots n : ℕ) (role : ℕ → Role) (g f : Graph) → n ≡ 1024 → AreFound class made last id role g → IsCreation 7 (Array roots) n g f
+pub roots_begin : (class : ℕ) (made : ℕ → Bool) (last : ℕ) (id : ℕ → ℕ) (roots n : ℕ) (role : ℕ → Role) (g f : Graph) → n ≡ 1024 → AreFound class made last id role g → IsCreation 7 (Array roots) n g f
     → AreKindsBefore class made last id roots 0 (f.registers 7) (changed_at_id role (f.registers 7) Roots) f
 roots_begin class made last id roots n role g f e a c = record {
   found = found_after_creation class made last id role Roots 7 (Array roots) n g f (omega arith) c a;

@@ -20,3 +20,5 @@ pub mod ClassSlots
 pub mod ToldNumbers
 pub mod StaticNumbers
 pub mod Whole
+pub mod RootRuns
+pub mod WholeRuns

@@ -78,7 +78,7 @@ object_of_graph_is_told w o id x t there words = record {
 
 -- ---- from an empty heap
 
-nothing_placed : (class : ℕ) (made : ℕ → Bool) (role : ℕ → Role) (g : Graph) → ArePlaced class made 0 role g
+pub nothing_placed : (class : ℕ) (made : ℕ → Bool) (role : ℕ → Role) (g : Graph) → ArePlaced class made 0 role g
 nothing_placed class made role g = record {
   tops = λ m l. absurd (omega (arith, l));
   keepers = λ m l. absurd (omega (arith, l));
@@ -87,7 +87,7 @@ nothing_placed class made role g = record {
 }
 
 -- what was made is found
-made_is_found : (class : ℕ) (made : ℕ → Bool) (list : List (Option ObjectTold)) (role : ℕ → Role) (g h : Graph) → (m : AreMade class made 0 list role g h) → AreFound class made m.last (kept h) m.after h
+pub made_is_found : (class : ℕ) (made : ℕ → Bool) (list : List (Option ObjectTold)) (role : ℕ → Role) (g h : Graph) → (m : AreMade class made 0 list role g h) → AreFound class made m.last (kept h) m.after h
 made_is_found class made list role g h m = record { few = m.few; tops = m.placed.tops; keepers = m.placed.keepers; objects = m.placed.objects; ids = λ k l. refl }
 
 -- the three parts of a session
@@ -98,17 +98,17 @@ record AreParts (slots : ℕ → ℕ) (o : ObjectsTold) (items : List ItemTold) 
   linking : IsRun slots (linkings (number_of o) 0 (objects_of_dump o items)) middle later
   rooting : IsRun slots (root_keepings (λ tag. roots_named o tag found) o.plan.roots root_tags) later h
 
-abbrev session_parts : ObjectsTold → List ItemTold → List RootFound → List Event
+abbrev pub session_parts : ObjectsTold → List ItemTold → List RootFound → List Event
 session_parts o items found =
     makings o.plan.roots 0 (objects_of_dump o items) ++ (linkings (number_of o) 0 (objects_of_dump o items) ++ root_keepings (λ tag. roots_named o tag found) o.plan.roots root_tags)
 
-events_are_parts : (o : ObjectsTold) (items : List ItemTold) (found : List RootFound) → AreNumberedFirst o → o.made ≡ made_from o.plan o.objects (length o.statics) 0 items → all_events o items found ≡ session_parts o items found
+pub events_are_parts : (o : ObjectsTold) (items : List ItemTold) (found : List RootFound) → AreNumberedFirst o → o.made ≡ made_from o.plan o.objects (length o.statics) 0 items → all_events o items found ≡ session_parts o items found
 events_are_parts o items found a made =
     ap (λ es. es ++ (both_events Linking o items ++ roots_events o found root_tags)) (both_make o items a)
     ∙ ap (λ es. makings o.plan.roots 0 (objects_of_dump o items) ++ (es ++ roots_events o found root_tags)) (both_link o items a made)
     ∙ ap (λ es. makings o.plan.roots 0 (objects_of_dump o items) ++ (linkings (number_of o) 0 (objects_of_dump o items) ++ es)) (all_roots_keep o found root_tags)
 
-parts_of_session : (o : ObjectsTold) (items : List ItemTold) (found : List RootFound) → AreOfSession (session_parts o items found)
+pub parts_of_session : (o : ObjectsTold) (items : List ItemTold) (found : List RootFound) → AreOfSession (session_parts o items found)
 parts_of_session o items found =
     let list = objects_of_dump o items in
     let named : ℕ → List ℕ = λ tag. roots_named o tag found in
@@ -123,7 +123,7 @@ run_has_parts slots o items found g h r =
     let t = run_in_parts slots (linkings (number_of o) 0 list) (root_keepings named o.plan.roots root_tags) s.0 h s.2 in
     record { middle = s.0; later = t.0; making = s.1; linking = t.1; rooting = t.2 }
 
-zero_plus : (i : ℕ) → 0 + i ≡ i
+pub zero_plus : (i : ℕ) → 0 + i ≡ i
 zero_plus i = omega arith
 
 item_by_default : (xs : List ℕ) (i d : ℕ) → i < length xs → slice_index_or xs i d ≡ slice_index xs i

@@ -22,3 +22,6 @@ pub mod StaticNumbers
 pub mod Whole
 pub mod RootRuns
 pub mod WholeRuns
+pub mod ValueRanges
+pub mod PlannedClasses
+pub mod InstanceRanges

@@ -172,7 +172,7 @@ there_within (x ∷ xs) (suc i) e = let l : i < length xs = there_within xs i e 
 
 -- ---- numbers that are named
 
-item_behind_first_list : {A : Type 0} (xs ys : List A) (k i : ℕ) → k ≡ length xs + i → slice_get (xs ++ ys) k ≡ slice_get ys i
+pub item_behind_first_list : {A : Type 0} (xs ys : List A) (k i : ℕ) → k ≡ length xs + i → slice_get (xs ++ ys) k ≡ slice_get ys i
 item_behind_first_list [] ys k i e = ap (slice_get ys) (e ∙ omega arith)
 item_behind_first_list (x ∷ xs) ys zero i e = absurd (omega (arith, e))
 item_behind_first_list (x ∷ xs) ys (suc k) i e = item_behind_first_list xs ys k i (omega (arith, e))

@@ -52,6 +52,10 @@ pub record AreNumberedFirst (o : ObjectsTold) : Type 0 where
   pub as_many : length o.statics ≡ length o.plan.statics.items
   pub few : length o.plan.statics.items ≤ 2 ^ 22
 
+-- each of these numbers is a byte
+abbrev pub AreBytes : List ℕ → Type 0
+AreBytes bytes = (i : ℕ) → slice_index bytes i < 256
+
 -- ---- objects
 
 -- the word that a value is in a heap, if objects have these ids by their numbers: 0 also for a reference to what isn't made

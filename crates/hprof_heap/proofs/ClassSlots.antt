@@ -28,10 +28,10 @@ none_past_end (y ∷ xs) x (suc k) l = none_past_end xs x k (omega (arith, l))
 abbrev pub HaveSlotLists : List Class → Type 0
 HaveSlotLists classes = (k : ℕ) → slots_of classes k ≡ map (λ (f : Field). f.kind) (fields_of classes k) ++ option_map_or (slots_of classes) (sup_of classes k) []
 
--- the slots are those that are said, and supers are among the classes
+-- the slots are those that are said, and a super comes before its class
 record HasSupers (classes : List Class) : Type 0 where
   slots : HaveSlotLists classes
-  supers : (k s : ℕ) → sup_of classes k ≡ Some s → s < length classes
+  supers : (k s : ℕ) → sup_of classes k ≡ Some s → s < k
 
 -- the slots of a super
 abbrev super_slots : List Class → Option ℕ → List Kind
@@ -64,14 +64,14 @@ one_class_more : (before : List Class) (c : Class) → HasSupers before → ((s 
 unfolding fields_of sup_of
 one_class_more before c h below = record {
   slots = λ k. slots k (cases_order k (length before));
-  supers = λ k s e. (let l : s < length before = super k s e (cases_order k (length before)) in omega (arith, l, length-append before (c ∷ [])));
+  supers = λ k s e. super k s e (cases_order k (length before));
 }
   where
     last : slice_get (before ++ c ∷ []) (length before) ≡ Some c
     last = item_at_end before c (length before) refl
 
-    super : (k s : ℕ) → option_map_or (λ (c : Class). c.sup) (slice_get (before ++ c ∷ []) k) None ≡ Some s → (k ≡ length before) ⊎ ((k < length before) ⊎ (length before < k)) → s < length before
-    super k s e (inl at) = below s (sym (ap (λ o. option_map_or (λ (c : Class). c.sup) o None) (ap (slice_get (before ++ c ∷ [])) at ∙ last)) ∙ e)
+    super : (k s : ℕ) → option_map_or (λ (c : Class). c.sup) (slice_get (before ++ c ∷ []) k) None ≡ Some s → (k ≡ length before) ⊎ ((k < length before) ⊎ (length before < k)) → s < k
+    super k s e (inl at) = subst (λ m. s < m) (sym at) (below s (sym (ap (λ o. option_map_or (λ (c : Class). c.sup) o None) (ap (slice_get (before ++ c ∷ [])) at ∙ last)) ∙ e))
     super k s e (inr (inl l)) = h.supers k s (sym (ap (λ o. option_map_or (λ (c : Class). c.sup) o None) (get_append before (c ∷ []) k l)) ∙ e)
     super k s e (inr (inr l)) = let z : None ≡ Some s = sym (ap (λ o. option_map_or (λ (c : Class). c.sup) o None) (none_past_end before c k l)) ∙ e in cc
 
@@ -87,7 +87,7 @@ one_class_more before c h below = record {
         ∙ ap said (sym (ap (slice_get (before ++ c ∷ [])) at ∙ last))
     slots k (inr (inl l)) =
         slots_stay_with_one_class_more before c k l ∙ h.slots k
-        ∙ ap (λ ks. map (λ (f : Field). f.kind) (option_map_or (λ (c : Class). c.fields) (slice_get before k) []) ++ ks) (sym (super_slots_stay before c (option_map_or (λ (c : Class). c.sup) (slice_get before k) None) (h.supers k)))
+        ∙ ap (λ ks. map (λ (f : Field). f.kind) (option_map_or (λ (c : Class). c.fields) (slice_get before k) []) ++ ks) (sym (super_slots_stay before c (option_map_or (λ (c : Class). c.sup) (slice_get before k) None) (λ s e. omega (arith, l, h.supers k s e))))
         ∙ ap said (sym (get_append before (c ∷ []) k l))
     slots k (inr (inr l)) = slots_past before c k l ∙ ap said (sym (none_past_end before c k l))
 
@@ -113,6 +113,9 @@ no_classes = record { slots = λ k. refl; supers = λ k s e. (let z : None ≡ S
 
 pub table_has_slot_lists : (classes : List Class) → IsClassTable [] classes → HaveSlotLists classes
 table_has_slot_lists classes t = (supers_of_table [] classes no_classes t).slots
+
+pub super_comes_before : (classes : List Class) → IsClassTable [] classes → (k s : ℕ) → sup_of classes k ≡ Some s → s < k
+super_comes_before classes t = (supers_of_table [] classes no_classes t).supers
 
 -- and as many as these are
 pub table_has_slots : (classes : List Class) → IsClassTable [] classes → HaveSlots classes

@@ -56,9 +56,21 @@ abbrev EndsWith : Plan → ℕ → Option ℕ → Type 0
 EndsWith p c None = Unit {0}
 EndsWith p c (Some k) = (front : List Kind) × (slots_of p.classes c ≡ front ++ slots_of p.classes k) × (length front ≡ base_of p c k)
 
--- it has first kinds, and so have its supers
-abbrev AllHaveFirstKinds : Plan → Type 0
-AllHaveFirstKinds p = (k : ℕ) → HasFirstKinds p k
+-- classes of the dump have first kinds
+abbrev pub AllHaveFirstKinds : Plan → Type 0
+AllHaveFirstKinds p = (k : ℕ) → k < length p.kinds.entries → HasFirstKinds p k
+
+-- a super comes before its class
+abbrev pub SupersComeBefore : Plan → Type 0
+SupersComeBefore p = (k s : ℕ) → sup_of p.classes k ≡ Some s → s < k
+
+abbrev IsOfDump : Plan → Option ℕ → Type 0
+IsOfDump p None = Unit {0}
+IsOfDump p (Some k) = k < length p.kinds.entries
+
+super_is_of_dump : (p : Plan) (k : ℕ) (sup : Option ℕ) → SupersComeBefore p → sup_of p.classes k ≡ sup → k < length p.kinds.entries → IsOfDump p sup
+super_is_of_dump p k None before e l = tt
+super_is_of_dump p k (Some s) before e l = let less : s < k = before k s e in omega (arith, less, l)
 
 ends_with_super : (p : Plan) (c k : ℕ) (at : Option ℕ) → slots_of p.classes k ≡ map (λ (f : Field). f.kind) (fields_of p.classes k) ++ option_map_or (slots_of p.classes) at [] → EndsWith p c (Some k) → EndsWith p c at
 ends_with_super p c k None e h = tt
@@ -89,14 +101,14 @@ slots_of_fields p c k rest e first h j kind l found =
     within : j < length (map (λ (f : Field). f.kind) (fields_of p.classes k))
     within = omega (arith, l, length-map (fields_of p.classes k) (λ (f : Field). f.kind))
 
-values_fit : (p : Plan) (ids : IdSize) (c m n : ℕ) (at : Option ℕ) (bytes : List ℕ) → HaveSlotLists p.classes → AllHaveFirstKinds p → EndsWith p c at → AreBytes bytes → FitSlots p.classes (Instance c) m (values_up p ids c n at bytes)
+values_fit : (p : Plan) (ids : IdSize) (c m n : ℕ) (at : Option ℕ) (bytes : List ℕ) → HaveSlotLists p.classes → AllHaveFirstKinds p → SupersComeBefore p → EndsWith p c at → IsOfDump p at → AreBytes bytes → FitSlots p.classes (Instance c) m (values_up p ids c n at bytes)
 unfolding values_up
-values_fit p ids c m zero at bytes h first ends b = tt
-values_fit p ids c m (suc n) None bytes h first ends b = tt
-values_fit p ids c m (suc n) (Some k) bytes h first ends b =
+values_fit p ids c m zero at bytes h first before ends of b = tt
+values_fit p ids c m (suc n) None bytes h first before ends of b = tt
+values_fit p ids c m (suc n) (Some k) bytes h first before ends of b =
     fit_twice p.classes c m (fields_from ids (length (fields_of p.classes k)) (base_of p c k) 0 (kinds_of p k) bytes) (values_up p ids c n (sup_of p.classes k) (after_fields ids (kinds_of p k) bytes))
-    (fields_fit p.classes c m ids (length (fields_of p.classes k)) (base_of p c k) 0 (kinds_of p k) bytes (slots_of_fields p c k (option_map_or (slots_of p.classes) (sup_of p.classes k) []) (h k) (first k) ends) b)
-    (values_fit p ids c m n (sup_of p.classes k) (after_fields ids (kinds_of p k) bytes) h first (ends_with_super p c k (sup_of p.classes k) (h k) ends) (bytes_after ids (kinds_of p k) bytes b))
+    (fields_fit p.classes c m ids (length (fields_of p.classes k)) (base_of p c k) 0 (kinds_of p k) bytes (slots_of_fields p c k (option_map_or (slots_of p.classes) (sup_of p.classes k) []) (h k) (first k of) ends) b)
+    (values_fit p ids c m n (sup_of p.classes k) (after_fields ids (kinds_of p k) bytes) h first before (ends_with_super p c k (sup_of p.classes k) (h k) ends) (super_is_of_dump p k (sup_of p.classes k) before refl of) (bytes_after ids (kinds_of p k) bytes b))
 
-pub instance_fits : (p : Plan) (ids : IdSize) (c m : ℕ) (bytes : List ℕ) → HaveSlotLists p.classes → AllHaveFirstKinds p → AreBytes bytes → FitSlots p.classes (Instance c) m (instance_values p ids c bytes)
-instance_fits p ids c m bytes h first b = values_fit p ids c m (length p.classes) (Some c) bytes h first ([], refl, omega arith) b
+pub instance_fits : (p : Plan) (ids : IdSize) (c m : ℕ) (bytes : List ℕ) → HaveSlotLists p.classes → AllHaveFirstKinds p → SupersComeBefore p → c < length p.kinds.entries → AreBytes bytes → FitSlots p.classes (Instance c) m (instance_values p ids c bytes)
+instance_fits p ids c m bytes h first before l b = values_fit p ids c m (length p.classes) (Some c) bytes h first before ([], refl, omega arith) l b

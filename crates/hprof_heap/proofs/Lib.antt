@@ -25,3 +25,5 @@ pub mod WholeRuns
 pub mod ValueRanges
 pub mod PlannedClasses
 pub mod InstanceRanges
+pub mod Suitable
+pub mod PlannedRuns

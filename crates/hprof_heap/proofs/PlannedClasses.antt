@@ -54,7 +54,7 @@ item_within [] j l = absurd (omega (arith, l))
 item_within (x ∷ xs) zero l = (x, refl)
 item_within (x ∷ xs) (suc j) l = item_within xs j (omega (arith, l))
 
-item_of_map : {A B : Type 0} (f : A → B) (xs : List A) (j : ℕ) (x : A) → slice_get xs j ≡ Some x → slice_get (map f xs) j ≡ Some (f x)
+pub item_of_map : {A B : Type 0} (f : A → B) (xs : List A) (j : ℕ) (x : A) → slice_get xs j ≡ Some x → slice_get (map f xs) j ≡ Some (f x)
 item_of_map f [] j x e = let z : None ≡ Some x = e in cc
 item_of_map f (y ∷ xs) zero x e = ap (λ z. Some (f z)) (some_is_one e)
   where

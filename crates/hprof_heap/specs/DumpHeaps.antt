@@ -7,12 +7,14 @@ use Rattle.heap_class.specs.declared.ObjKind.{ObjKind}
 use Rattle.heap_class.specs.declared.ObjKind.TheVariants.{Array}
 use Rattle.heap_class.specs.declared.Refusal.TheVariants.{HeapFull}
 use Rattle.heap_class.specs.Kinds.{is_reference}
+use Rattle.heap_class.specs.Limits.{array_limit}
 use Rattle.heap_region.specs.Regions.{Object, object_of}
 use Rattle.heap_world.specs.State.{HeapState, register, word_of}
 use Rattle.heap_world.specs.Legal.{IsLegal}
 use Rattle.heap_step.specs.declared.Event.{Event}
 use Rattle.heap_step.specs.Apply.{refusal_of, state_after}
-use Rattle.hprof_session.specs.Walks.{ItemTold}
+use Rattle.hprof_reader.specs.SubRecords.{Sub, class, instance, prim}
+use Rattle.hprof_session.specs.Walks.{ItemTold, record_told, sub_told}
 use Rattle.hprof_plan.specs.Finds.{HasTables}
 use Rattle.hprof_plan.specs.Plans.{IsPlan}
 use Rattle.hprof_plan.specs.declared.dump.Found.{Found}
@@ -56,6 +58,22 @@ pub record AreNumberedFirst (o : ObjectsTold) : Type 0 where
 abbrev pub AreBytes : List ℕ → Type 0
 AreBytes bytes = (i : ℕ) → slice_index bytes i < 256
 
+-- what a sub-record tells of values are bytes
+abbrev pub AreSubBytes : Sub → Type 0
+AreSubBytes (class c) = AreBytes c.statics.bytes
+AreSubBytes (instance x trace k values) = AreBytes values
+AreSubBytes (prim x trace count kind elements) = AreBytes elements
+AreSubBytes _ = Unit {0}
+
+abbrev pub AreItemBytes : ItemTold → Type 0
+AreItemBytes (record_told r) = Unit {0}
+AreItemBytes (sub_told s) = AreSubBytes s
+
+-- the same of each item
+abbrev pub AreItemsOfBytes : List ItemTold → Type 0
+AreItemsOfBytes [] = Unit {0}
+AreItemsOfBytes (it ∷ items) = AreItemBytes it × AreItemsOfBytes items
+
 -- ---- objects
 
 -- the word that a value is in a heap, if objects have these ids by their numbers: 0 also for a reference to what isn't made
@@ -89,11 +107,11 @@ pub record AreRoots (id : ℕ → ℕ) (w : HeapState) (roots class first : ℕ)
 
 -- the same of each of these kinds of roots, with the classes from this on; the slots behind are null
 abbrev pub AreKindsOfRoots : ObjectsTold → (ℕ → ℕ) → HeapState → List RootFound → ℕ → ℕ → ℕ → List ℕ → Type 0
-AreKindsOfRoots o id w found roots class first [] = (slot : ℕ) → first ≤ slot → word_of w roots slot ≡ 0
-AreKindsOfRoots o id w found roots class first (tag ∷ tags) =
+AreKindsOfRoots o id w found roots kind first [] = (slot : ℕ) → first ≤ slot → word_of w roots slot ≡ 0
+AreKindsOfRoots o id w found roots kind first (tag ∷ tags) =
     let numbers = with_room first (roots_named o tag found) in
-    AreRoots id w roots class first numbers
-    × AreKindsOfRoots o id w found roots (class + 1) (first + arrays_for (length numbers)) tags
+    AreRoots id w roots kind first numbers
+    × AreKindsOfRoots o id w found roots (kind + 1) (first + arrays_for (length numbers)) tags
 
 -- ---- the whole
 
@@ -125,3 +143,11 @@ MakesHeapOfFound limits most f p size items w =
     let events = all_events o items f.roots.items in
     HasTables size items f → IsPlan limits most f p → IsBare w → w.classes ≡ p.classes → AreTaken events w
     → IsHeapOfDump o items f.roots.items (state_after_all events w)
+
+-- if the bytes of the records are bytes, and the heap takes arrays as long as those of the plan, and of 1,024 elements: the events
+-- of the session are all accepted, one after another, from an empty heap with the classes of the plan on, unless the heap is full
+abbrev pub IsTakenUnlessFull : ClassLimits → ℕ → Found → Plan → IdSize → List ItemTold → HeapState → Type 0
+IsTakenUnlessFull limits most f p size items w =
+    HasTables size items f → AreItemsOfBytes items → IsPlan limits most f p → IsBare w → w.classes ≡ p.classes
+    → most ≤ w.limits.elements → array_limit ≤ w.limits.elements
+    → AreTakenUnlessFull (all_events (told_objects p size f.objects.keys items) items f.roots.items) w

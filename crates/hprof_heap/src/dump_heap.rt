@@ -6,7 +6,7 @@ ghost use Rattle.heap_world.specs.State.{HeapState};
 ghost use Rattle.hprof_session.specs.Walks.{ItemTold};
 ghost use Rattle.hprof_plan.specs.declared.dump.Found.{Found};
 ghost use Rattle.hprof_plan.specs.declared.planning.Plan.{Plan};
-ghost use Rattle.hprof_heap.specs.DumpHeaps.{MakesHeapOfFound};
+ghost use Rattle.hprof_heap.specs.DumpHeaps.{IsTakenUnlessFull, MakesHeapOfFound};
 
 /// States that the events of the session of a dump make the heap of the dump, if a heap without an object but with the classes of
 /// the session accepts all of them: each object that the records tell is there once, with the class, the values and the references
@@ -14,4 +14,13 @@ ghost use Rattle.hprof_heap.specs.DumpHeaps.{MakesHeapOfFound};
 pub fn session_makes_heap()
     ensures { (limits : ClassLimits) (most : ℕ) (f : Found) (p : Plan) (size : IdSize) (items : List ItemTold) (w : HeapState)
         → MakesHeapOfFound limits most f p size items w }
-{}
+{
+}
+
+/// States that a heap without an object but with the classes of the session accepts all of these events, or all up to one that it
+/// refuses since it is full, if it takes arrays as long as those of the plan.
+pub fn session_is_taken_unless_full()
+    ensures { (limits : ClassLimits) (most : ℕ) (f : Found) (p : Plan) (size : IdSize) (items : List ItemTold) (w : HeapState)
+        → IsTakenUnlessFull limits most f p size items w }
+{
+}

@@ -3,4 +3,4 @@
 
 mod dump_heap;
 
-pub use dump_heap::session_makes_heap;
+pub use dump_heap::{session_is_taken_unless_full, session_makes_heap};

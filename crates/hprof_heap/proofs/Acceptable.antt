@@ -1,9 +1,9 @@
 -- Events that a heap refuses only if it is full.
-use Rattle.std.proofs.Common.{◌≡◌, ◌≢◌, ◌⊎◌, ℕ, zero, suc, ◌+◌, ◌*◌, ◌<◌, ◌≤◌, Bool, true, false, List, [], ◌∷◌, ◌++◌, length, replicate, refl, sym, ap, subst, ◌∙◌, Option, Some, None, inl, inr, arith}
-use Rattle.std.specs.Prelude.{slice_get, slice_index, option_map, option_and_then, nat_lt, nat_le, not, ◌&&◌}
+use Rattle.std.proofs.Common.{◌≡◌, ◌≢◌, ◌⊎◌, ℕ, zero, ◌<◌, ◌≤◌, Bool, true, false, List, [], ◌∷◌, ◌++◌, length, refl, sym, ap, subst, ◌∙◌, Option, Some, None, inl, inr, arith}
+use Rattle.std.specs.Prelude.{slice_get, slice_index, option_map, option_and_then, nat_lt}
 use Rattle.std.proofs.lemmas.Bool.{and_from, lt-ltb, lt-leb, le-ltb, not_from_true}
 use Rattle.heap_class.specs.declared.Kind.{Kind}
-use Rattle.heap_class.specs.declared.ObjKind.TheVariants.{Instance, Array, Prim}
+use Rattle.heap_class.specs.declared.ObjKind.TheVariants.{Prim}
 use Rattle.heap_class.specs.declared.Refusal.{Refusal}
 use Rattle.heap_class.specs.declared.Refusal.TheVariants.{HeapFull}
 use Rattle.heap_class.specs.Classes.{Class, is_array_class, is_instance_class, slot_kinds_of, slots_of}
@@ -12,7 +12,7 @@ use Rattle.heap_class.specs.Refusals.{first_refusal}
 use Rattle.heap_class.proofs.Slots.{class_found_is_in_table, instance_class_is_in_table}
 use Rattle.heap_region.specs.Regions.{Object, object_of, slot_kinds}
 use Rattle.heap_world.specs.State.{HeapState, is_register, register, register_index, slot_kind}
-use Rattle.heap_world.specs.Events.{clear_refusal, is_full, load_refusal, new_array_refusal, new_prim_refusal, new_refusal, put_refusal, store_refusal}
+use Rattle.heap_world.specs.Events.{clear_refusal, is_full, new_array_refusal, new_prim_refusal, new_refusal}
 use Rattle.heap_world.specs.Legal.{IsLegal}
 use Rattle.heap_world.proofs.FirstRefusals.{no_refusal_without_tests, refusal_of_later_tests, refusal_of_test_that_holds}
 use Rattle.heap_world.proofs.Registers.{object_not_null}
@@ -24,7 +24,7 @@ use Rattle.heap_step.specs.Apply.{refusal_of, state_after}
 use Rattle.heap_step.proofs.EventLaws.{keeps_legal}
 use Rattle.hprof_heap.specs.DumpHeaps.{AreTakenUnlessFull}
 use Rattle.hprof_heap.proofs.Graphs.{Graph, IsGraphStep, IsRun, Thing}
-use Rattle.hprof_heap.proofs.Simulation.{AreOfSession, IsOfSession, IsStepOf, event_steps, graph_of, register_held, slots_in, thing_has_its_object, thing_of}
+use Rattle.hprof_heap.proofs.Simulation.{AreOfSession, event_steps, graph_of, register_held, slots_in, thing_has_its_object, thing_of}
 
 -- nothing refuses it, or only that the heap is full
 abbrev pub IsAcceptable : Option Refusal → Type 0
@@ -65,9 +65,9 @@ register_exists w r legal l = and_from (nat_lt r 8) (nat_lt (register_index 0 r)
 
 -- ---- slots
 
-slot_of_object : (w : HeapState) (x slot : ℕ) (k : Kind) (o : Object) → object_of w.regions x ≡ Some o → slice_get (slot_kinds_of w.classes o.kind (length o.words)) slot ≡ Some k → slot_kind w x slot ≡ Some k
+slot_of_named_object_is : (w : HeapState) (x slot : ℕ) (k : Kind) (o : Object) → object_of w.regions x ≡ Some o → slice_get (slot_kinds_of w.classes o.kind (length o.words)) slot ≡ Some k → slot_kind w x slot ≡ Some k
 unfolding slot_kind slot_kinds
-slot_of_object w x slot k o e s = ap (option_and_then (λ (a : Object). slice_get (slot_kinds_of w.classes a.kind (length a.words)) slot)) e ∙ s
+slot_of_named_object_is w x slot k o e s = ap (option_and_then (λ (a : Object). slice_get (slot_kinds_of w.classes a.kind (length a.words)) slot)) e ∙ s
 
 -- the object that a register names has this slot
 record HasSlotIn (w : HeapState) (r slot : ℕ) (k : Kind) : Type 0 where
@@ -77,7 +77,7 @@ record HasSlotIn (w : HeapState) (r slot : ℕ) (k : Kind) : Type 0 where
 slot_in_heap : (w : HeapState) (r slot : ℕ) (k : Kind) → HasSlotOf w.classes (graph_of w) (slice_index w.registers r) slot k → HasSlotIn w r slot k
 slot_in_heap w r slot k h = record {
   named = object_not_null w (register w 0 r) o.0 o.1;
-  kind = slot_of_object w (register w 0 r) slot k o.0 o.1 (ap (λ (t : Thing). slice_get (slot_kinds_of w.classes t.kind (length t.words)) slot) o.2 ∙ h.2);
+  kind = slot_of_named_object_is w (register w 0 r) slot k o.0 o.1 (ap (λ (t : Thing). slice_get (slot_kinds_of w.classes t.kind (length t.words)) slot) o.2 ∙ h.2);
 }
   where
     o : (o : Object) × (object_of w.regions (register w 0 r) ≡ Some o) × (thing_of o ≡ h.0)
@@ -154,7 +154,10 @@ acceptable_events (e ∷ es) w s legal c = elim (event_is_acceptable e w legal c
   | inl accepted ↦ (let v = state_after e w in
       let p = event_steps e w s.0 legal accepted in
       let rest : CanRun w.classes w.limits.elements (slots_in w) es (graph_of v) = c.1 (graph_of v) p.step in
-      inr (accepted, acceptable_events es v s.1 (keeps_legal e w legal accepted)
-      (subst (λ m. CanRun v.classes m (slots_in v) es (graph_of v)) (sym (ap (λ l. l.elements) p.limits))
-      (subst (λ cs. CanRun cs w.limits.elements (λ k. length (slots_of cs k)) es (graph_of v)) (sym p.classes) rest))))
+      inr (
+        accepted,
+        acceptable_events es v s.1 (keeps_legal e w legal accepted)
+            (subst (λ m. CanRun v.classes m (slots_in v) es (graph_of v)) (sym (ap (λ l. l.elements) p.limits))
+            (subst (λ cs. CanRun cs w.limits.elements (λ k. length (slots_of cs k)) es (graph_of v)) (sym p.classes) rest)),
+      ))
 ]

@@ -1,26 +1,26 @@
 -- The values of instances fit the slots of their classes.
-use Rattle.std.proofs.Common.{◌≡◌, ◌≢◌, ◌⊎◌, ℕ, zero, suc, ◌+◌, ◌-◌, ◌<◌, ◌≤◌, Bool, true, false, List, [], ◌∷◌, ◌++◌, length, map, take, drop, refl, sym, ap, subst, ◌∙◌, append_assoc, Option, Some, None, inl, inr, arith, length-append}
-use Rattle.std.specs.Prelude.{nat_lt, slice_get}
+use Rattle.std.proofs.Common.{◌≡◌, ℕ, zero, suc, ◌+◌, ◌<◌, List, [], ◌∷◌, ◌++◌, length, map, drop, refl, sym, ap, subst, ◌∙◌, append_assoc, Option, Some, None, inl, inr, arith, length-append}
+use Rattle.std.specs.Prelude.{slice_get}
 use Rattle.std.specs.Option.{option_map_or}
 use Rattle.std.proofs.lemmas.Bool.{cases_lt, lt-ltb, le-ltb}
-use Rattle.std.proofs.lemmas.List.{append-nil, length-map}
+use Rattle.std.proofs.lemmas.List.{length-map}
 use Rattle.heap_class.specs.declared.Field.{Field}
 use Rattle.heap_class.specs.declared.IdSize.{IdSize}
 use Rattle.heap_class.specs.declared.Kind.{Kind}
 use Rattle.heap_class.specs.declared.ObjKind.TheVariants.{Instance}
 use Rattle.heap_class.specs.Classes.{Class, fields_of, slot_kinds_of, slots_of, sup_of}
-use Rattle.heap_class.specs.Kinds.{is_reference, width_of}
+use Rattle.heap_class.specs.Kinds.{width_of}
 use Rattle.heap_class.proofs.Slots.{get_append}
 use Rattle.hprof_plan.specs.declared.planning.Plan.{Plan}
 use Rattle.hprof_lines.specs.declared.values.SlotValue.{SlotValue}
 use Rattle.hprof_lines.specs.Slots.{base_of, instance_values, kinds_of, values_up}
 use Rattle.hprof_lines.specs.Values.{after_fields, fields_from, value_at, value_if}
 use Rattle.hprof_heap.specs.DumpHeaps.{AreBytes}
-use Rattle.hprof_heap.proofs.MakingRuns.{FitSlots, FitsSlot}
+use Rattle.hprof_heap.proofs.MakingRuns.{FitSlots}
 use Rattle.hprof_heap.proofs.ClassSlots.{HaveSlotLists}
 use Rattle.hprof_heap.proofs.PlannedClasses.{HasFirstKinds}
 use Rattle.hprof_heap.proofs.ToldNumbers.{item_behind_first_list}
-use Rattle.hprof_heap.proofs.ValueRanges.{bytes_dropped, taken_value_fits}
+use Rattle.hprof_heap.proofs.ValueRanges.{left_bytes_are_bytes, taken_value_fits}
 
 fit_twice : (classes : List Class) (c n : ℕ) (xs ys : List SlotValue) → FitSlots classes (Instance c) n xs → FitSlots classes (Instance c) n ys → FitSlots classes (Instance c) n (xs ++ ys)
 fit_twice classes c n [] ys a b = b
@@ -29,7 +29,7 @@ fit_twice classes c n (x ∷ xs) ys a b = (a.0, fit_twice classes c n xs ys a.1 
 bytes_after : (ids : IdSize) (kinds : List Kind) (bytes : List ℕ) → AreBytes bytes → AreBytes (after_fields ids kinds bytes)
 unfolding after_fields
 bytes_after ids [] bytes h = h
-bytes_after ids (kind ∷ kinds) bytes h = bytes_after ids kinds (drop (width_of ids kind) bytes) (bytes_dropped (width_of ids kind) bytes h)
+bytes_after ids (kind ∷ kinds) bytes h = bytes_after ids kinds (drop (width_of ids kind) bytes) (left_bytes_are_bytes (width_of ids kind) bytes h)
 
 -- the slots of a class from `base` on are these
 abbrev HasSlotsFrom : List Class → ℕ → ℕ → List Kind → Type 0
@@ -42,7 +42,7 @@ unfolding fields_from slot_kinds_of
 fields_fit classes c n ids kept base i [] bytes slots h = tt
 fields_fit classes c n ids kept base i (kind ∷ kinds) bytes slots h =
     let rest = fields_fit classes c n ids kept base (i + 1) kinds (drop (width_of ids kind) bytes)
-        (λ j k l e. subst (λ m. slice_get (slots_of classes c) (base + m) ≡ Some k) (omega arith) (slots (suc j) k (omega (arith, l)) e)) (bytes_dropped (width_of ids kind) bytes h) in
+    (λ j k l e. subst (λ m. slice_get (slots_of classes c) (base + m) ≡ Some k) (omega arith) (slots (suc j) k (omega (arith, l)) e)) (left_bytes_are_bytes (width_of ids kind) bytes h) in
     elim (cases_lt i kept) [
       | inl less ↦ subst (λ b. FitSlots classes (Instance c) n (value_if b (value_at ids kind (base + i) bytes) ++ fields_from ids kept base (i + 1) kinds (drop (width_of ids kind) bytes))) (sym (lt-ltb i kept less))
           (record { slot = subst (λ m. slice_get (slots_of classes c) (base + m) ≡ Some kind) (omega arith) (slots 0 kind (omega (arith, less)) refl); range = λ r d. taken_value_fits ids kind bytes (λ q. h) r }, rest)

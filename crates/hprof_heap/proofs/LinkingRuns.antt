@@ -1,26 +1,22 @@
 -- The events that store references and keep roots can run.
-use Rattle.std.proofs.Common.{◌≡◌, ◌≢◌, ◌⊎◌, ℕ, zero, suc, ◌+◌, ◌-◌, ◌*◌, ◌/◌, ◌%◌, ◌^◌, ◌<◌, ◌≤◌, Bool, true, false, List, [], ◌∷◌, ◌++◌, length, take, refl, sym, ap, subst, ◌∙◌, Option, Some, None, inl, inr, arith}
-use Rattle.std.specs.Prelude.{◌&&◌, not, slice_get, slice_index, flat_map, min, ◌==◌, if◌then◌else◌}
+use Rattle.std.proofs.Common.{◌≡◌, ℕ, suc, ◌+◌, ◌<◌, Bool, true, false, List, [], ◌∷◌, ◌++◌, length, refl, sym, ap, subst, ◌∙◌, Option, Some, None, arith}
+use Rattle.std.specs.Prelude.{not, flat_map, ◌==◌, if◌then◌else◌}
 use Rattle.std.specs.List.{list_any}
-use Rattle.std.proofs.lemmas.Bool.{and_parts, eqb-true}
-use Rattle.std.proofs.lemmas.List.{length-take}
+use Rattle.std.proofs.lemmas.Bool.{and_parts}
 use Rattle.heap_class.specs.declared.Kind.{Kind}
 use Rattle.heap_class.specs.declared.ObjKind.{ObjKind}
-use Rattle.heap_class.specs.declared.ObjKind.TheVariants.{Array}
-use Rattle.heap_class.specs.Classes.{Class, is_array_class}
+use Rattle.heap_class.specs.Classes.{Class}
 use Rattle.heap_class.specs.Kinds.{is_reference}
-use Rattle.heap_step.specs.declared.Event.{Event}
-use Rattle.heap_step.specs.declared.Event.TheVariants.{NewArray, Store}
+use Rattle.heap_step.specs.declared.Event.TheVariants.{Store}
 use Rattle.hprof_session.specs.Places.{array_slot, fetch_events, slot_of, top_of}
 use Rattle.hprof_lines.specs.declared.values.SlotValue.{SlotValue}
 use Rattle.hprof_lines.specs.Objects.{names_object, stored}
-use Rattle.hprof_lines.specs.Roots.{arrays_for, clear_events, kind_events, root_array, root_events, roots_from, with_room}
 use Rattle.hprof_heap.specs.ToldObjects.{ObjectTold}
-use Rattle.hprof_heap.proofs.Graphs.{Graph, Thing, word, word_in, IsCreation, IsLoading, IsRun, run_in_parts, thing_after_creation}
+use Rattle.hprof_heap.proofs.Graphs.{Graph, word_in, IsLoading}
 use Rattle.hprof_heap.proofs.PlaceNumbers.{few_arrays, few_slots, few_tops}
-use Rattle.hprof_heap.proofs.Placed.{IsArrayOf, IsKeeper, IsPlaceArray, IsTop, Object, Role, array_is_there, keeper, kept}
+use Rattle.hprof_heap.proofs.Placed.{IsKeeper, IsPlaceArray, IsTop, Object, Role, keeper, kept}
 use Rattle.hprof_heap.proofs.Making.{made_thing}
-use Rattle.hprof_heap.proofs.Linking.{AreAsMade, AreFound, AreNamed, AreThere, IsFetched, block_is_linked, fetching_fills, first_is_there, for_its_number, found_after_filling, length_made, link_block, link_reference, link_values, linkings, object_is_fetched, others_are_there, plus_one, reference_of, with_reference}
+use Rattle.hprof_heap.proofs.Linking.{AreAsMade, AreFound, AreNamed, AreThere, block_is_linked, fetching_fills, first_is_there, for_its_number, found_after_filling, length_made, link_block, link_reference, link_values, linkings, object_is_fetched, others_are_there, plus_one, reference_of, with_reference}
 use Rattle.hprof_heap.proofs.Acceptable.{CanRun, HasSlotOf, can_run_both}
 use Rattle.hprof_heap.proofs.MakingRuns.{FitSlots, FitsSlot, MayAllBeTold, MayBeTold, array_has_slot, can_run_if}
 
@@ -49,8 +45,8 @@ stored_can_run : (classes : List Class) (most : ℕ) (slots : ℕ → ℕ) (clas
 stored_can_run classes most slots class made last z id role kind old v k g a l held before f reference =
     can_run_both classes most slots (fetch_events k 6) (Store 0 5 v.slot 6 ∷ []) g (fetch_can_run classes most slots class role 6 k g (omega arith) (few_of_found class made last id role g k a l) (a.tops k l) (a.keepers k l))
     (λ h r. (let p = object_is_fetched slots class role 6 k g h (a.tops k l) (a.keepers k l) r in
-        let five : h.registers 5 ≡ z = p.registers 5 (omega arith) (omega arith) ∙ held in
-        ((omega arith, omega arith, (v.kind, (record { kind = kind; words = old }, ap h.things five ∙ p.things z ∙ before, f.slot), reference)), λ i s. tt)))
+    let five : h.registers 5 ≡ z = p.registers 5 (omega arith) (omega arith) ∙ held in
+    ((omega arith, omega arith, (v.kind, (record { kind = kind; words = old }, ap h.things five ∙ p.things z ∙ before, f.slot), reference)), λ i s. tt)))
 
 reference_can_run : (classes : List Class) (most : ℕ) (slots : ℕ → ℕ) (class : ℕ) (made : ℕ → Bool) (last z : ℕ) (name : ℕ → Option ℕ) (id : ℕ → ℕ) (role : ℕ → Role) (kind : ObjKind) (old : List ℕ) (v : SlotValue) (g : Graph)
     → AreNamed name made last → AreFound class made last id role g → g.registers 5 ≡ z → g.things z ≡ Some (record { kind = kind; words = old }) → FitsSlot classes kind (length old) v → CanRun classes most slots (reference_of name v) g
@@ -71,8 +67,8 @@ references_can_run classes most slots class made last n z name id role kind [] o
 references_can_run classes most slots class made last n z name id role kind (v ∷ values) old g named for a held before f =
     can_run_both classes most slots (reference_of name v) (flat_map (reference_of name) values) g (reference_can_run classes most slots class made last z name id role kind old v g named a held before f.0)
     (λ h r. (let p = link_reference slots class made last z name id role kind old v g h named a held before r in
-        references_can_run classes most slots class made last n z name id role kind values (with_reference name id old v) h named for
-        (found_after_filling class made last n z id role kind old (with_reference name id old v) g h for a p.0.filled) p.0.held p.0.filled.here (subst (λ m. FitSlots classes kind m values) (sym p.0.filled.len) f.1)))
+    references_can_run classes most slots class made last n z name id role kind values (with_reference name id old v) h named for
+    (found_after_filling class made last n z id role kind old (with_reference name id old v) g h for a p.0.filled) p.0.held p.0.filled.here (subst (λ m. FitSlots classes kind m values) (sym p.0.filled.len) f.1)))
 
 link_can_run : (classes : List Class) (most : ℕ) (slots : ℕ → ℕ) (class : ℕ) (made : ℕ → Bool) (last n : ℕ) (name : ℕ → Option ℕ) (id : ℕ → ℕ) (role : ℕ → Role) (kind : ObjKind) (values : List SlotValue) (old : List ℕ) (g : Graph)
     → AreNamed name made last → n < last → made n ≡ true → AreFound class made last id role g → g.things (id n) ≡ Some (record { kind = kind; words = old }) → FitSlots classes kind (length old) values
@@ -81,9 +77,9 @@ link_can_run classes most slots class made last n name id role kind values old g
     can_run_if classes most slots (list_any names_object values) (fetch_events n 5 ++ flat_map (reference_of name) values) g
     (can_run_both classes most slots (fetch_events n 5) (flat_map (reference_of name) values) g (fetch_can_run classes most slots class role 5 n g (omega arith) (few_of_found class made last id role g n a l) (a.tops n l) (a.keepers n l))
     (λ h r. (let p = object_is_fetched slots class role 5 n g h (a.tops n l) (a.keepers n l) r in
-        let first = fetching_fills (id n) 5 (kept g n) kind old g h (omega arith) before p in
-        let for = for_its_number class made last id role g n a l b in
-        references_can_run classes most slots class made last n (id n) name id role kind values old h named for (found_after_filling class made last n (id n) id role kind old old g h for a first) (p.held ∙ a.ids n l) first.here f)))
+    let first = fetching_fills (id n) 5 (kept g n) kind old g h (omega arith) before p in
+    let for = for_its_number class made last id role g n a l b in
+    references_can_run classes most slots class made last n (id n) name id role kind values old h named for (found_after_filling class made last n (id n) id role kind old old g h for a first) (p.held ∙ a.ids n l) first.here f)))
 
 block_can_be_linked : (classes : List Class) (most : ℕ) (slots : ℕ → ℕ) (class : ℕ) (made : ℕ → Bool) (last n : ℕ) (name : ℕ → Option ℕ) (id : ℕ → ℕ) (x : Option ObjectTold) (role : ℕ → Role) (g : Graph)
     → AreNamed name made last → AreFound class made last id role g → ((t : ObjectTold) → x ≡ Some t → (n < last) × (made n ≡ true) × (g.things (id n) ≡ Some (made_thing t))) → ((t : ObjectTold) → x ≡ Some t → MayBeTold classes most slots t)
@@ -101,5 +97,5 @@ linkings_can_run classes most slots class made last n name id (x ∷ xs) role g 
     let later = others_are_there made last n x xs there in
     can_run_both classes most slots (link_block name n x) (linkings name (n + 1) xs) g (block_can_be_linked classes most slots class made last n name id x role g named a here may.0)
     (λ h r. (let first = block_is_linked slots class made last n name id x role g h named a here r in
-        linkings_can_run classes most slots class made last (n + 1) name id xs role h named first.found later
-        (λ i t e. first.spared (n + 1 + i) (later i t e).0 (later i t e).1 (λ d. omega (arith, d)) ∙ ap (λ m. g.things (id m)) (sym (plus_one n i)) ∙ contents (suc i) t e) may.1))
+    linkings_can_run classes most slots class made last (n + 1) name id xs role h named first.found later
+    (λ i t e. first.spared (n + 1 + i) (later i t e).0 (later i t e).1 (λ d. omega (arith, d)) ∙ ap (λ m. g.things (id m)) (sym (plus_one n i)) ∙ contents (suc i) t e) may.1))

@@ -1,6 +1,6 @@
 -- The events that make objects can run.
-use Rattle.std.proofs.Common.{◌≡◌, ◌≢◌, ◌⊎◌, ℕ, zero, suc, ◌+◌, ◌-◌, ◌/◌, ◌%◌, ◌^◌, ◌<◌, ◌≤◌, Bool, true, false, List, [], ◌∷◌, ◌++◌, length, replicate, refl, sym, ap, subst, ◌∙◌, Option, Some, None, inl, inr, arith}
-use Rattle.std.specs.Prelude.{IsSome, is_some, slice_get, flat_map, nat_lt, ◌==◌, ◌||◌, if◌then◌else◌}
+use Rattle.std.proofs.Common.{◌≡◌, ◌≢◌, ℕ, zero, suc, ◌+◌, ◌%◌, ◌^◌, ◌<◌, ◌≤◌, Bool, true, false, List, [], ◌∷◌, ◌++◌, length, replicate, refl, sym, ap, subst, ◌∙◌, Option, Some, None, inl, inr, arith}
+use Rattle.std.specs.Prelude.{slice_get, flat_map, ◌==◌, ◌||◌, if◌then◌else◌}
 use Rattle.std.proofs.lemmas.Bool.{cases_lt, or_parts, eqb-false}
 use Rattle.std.proofs.lemmas.List.{length-replicate}
 use Rattle.heap_class.specs.declared.Kind.{Kind}
@@ -14,12 +14,12 @@ use Rattle.hprof_session.specs.Places.{array_events, array_slot, keep_event, pla
 use Rattle.hprof_lines.specs.declared.values.SlotValue.{SlotValue}
 use Rattle.hprof_lines.specs.Objects.{shown, value_events}
 use Rattle.hprof_heap.specs.ToldObjects.{ObjectTold}
-use Rattle.hprof_heap.proofs.Graphs.{Graph, Thing, IsCreation, IsRun, run_in_parts, thing_after_creation, older_is_not_new}
+use Rattle.hprof_heap.proofs.Graphs.{Graph, IsCreation, thing_after_creation, older_is_not_new}
 use Rattle.hprof_heap.proofs.PlaceNumbers.{few_arrays, few_slots, few_tops}
 use Rattle.hprof_heap.proofs.Placed.{ArePlaced, IsArrayOf, IsPlaceArray, IsTop, Role, keeper, place_array_is_there}
 use Rattle.hprof_heap.proofs.Filled.{put_value, put_values, with_value, length_with_value}
 use Rattle.hprof_heap.proofs.Making.{IsKeeperReady, IsSized, block_is_made, creation_of, creation_step, made_block, made_tail, place_is_ready, top_is_ready}
-use Rattle.hprof_heap.proofs.MakingPass.{AreRight, makings, making_block, past_block_is_empty, block_below_last}
+use Rattle.hprof_heap.proofs.MakingPass.{AreRight, makings, past_block_is_empty, block_below_last}
 use Rattle.hprof_heap.proofs.Acceptable.{CanRun, CanStep, HasSlotOf, can_run_both}
 
 pub copies_are_there : {A : Type 0} (x : A) (n i : ℕ) → i < n → slice_get (replicate n x) i ≡ Some x
@@ -99,7 +99,7 @@ values_can_run classes most slots z kind [] old g e before f = tt
 values_can_run classes most slots z kind (v ∷ values) old g e before f =
     can_run_both classes most slots (value_events v) (flat_map value_events values) g (value_can_run classes most slots z kind old v g e before f.0)
     (λ h r. (let p = put_value slots z kind old v g h e before r in
-        values_can_run classes most slots z kind values (with_value old v) h (p.0.registers 5 ∙ e) p.0.filled.here (subst (λ n. FitSlots classes kind n values) (sym (length_with_value old v)) f.1)))
+    values_can_run classes most slots z kind values (with_value old v) h (p.0.registers 5 ∙ e) p.0.filled.here (subst (λ n. FitSlots classes kind n values) (sym (length_with_value old v)) f.1)))
 
 -- what is asked of an object
 pub record MayBeTold (classes : List Class) (most : ℕ) (slots : ℕ → ℕ) (t : ObjectTold) : Type 0 where
@@ -115,10 +115,10 @@ tail_can_run classes most slots class made n t role g f m p = (creation_can_step
         can_run_both classes most slots (flat_map value_events t.values) (keep_event n ∷ []) h
         (values_can_run classes most slots (h.registers 5) t.kind t.values (replicate t.slots 0) h refl c.here (subst (λ k. FitSlots classes t.kind k t.values) (sym (length-replicate t.slots 0)) m.fit))
         (λ k r. (let q = put_values slots (h.registers 5) t.kind t.values (replicate t.slots 0) h k refl c.here r in
-            let four : k.registers 4 ≡ keeper f n = q.0.registers 4 ∙ c.registers 4 (omega arith) ∙ p.current in
-            let there = place_array_is_there class f (keeper f n) p.array.there in
-            let still : k.things (keeper f n) ≡ f.things (keeper f n) = q.0.filled.others (keeper f n) (older_is_not_new 5 t.kind t.slots f h (keeper f n) c there) ∙ thing_after_creation 5 t.kind t.slots f h (keeper f n) c there in
-            ((omega arith, omega arith, (Kind.Object, array_has_slot classes class 1024 k (k.registers 4) (slot_of n) (few_slots n) (subst (IsPlaceArray class k) (sym four) (p.array.there.0, still ∙ p.array.there.1, p.array.there.2, p.array.there.3)), refl)), λ i s. tt)))
+        let four : k.registers 4 ≡ keeper f n = q.0.registers 4 ∙ c.registers 4 (omega arith) ∙ p.current in
+        let there = place_array_is_there class f (keeper f n) p.array.there in
+        let still : k.things (keeper f n) ≡ f.things (keeper f n) = q.0.filled.others (keeper f n) (older_is_not_new 5 t.kind t.slots f h (keeper f n) c there) ∙ thing_after_creation 5 t.kind t.slots f h (keeper f n) c there in
+        ((omega arith, omega arith, (Kind.Object, array_has_slot classes class 1024 k (k.registers 4) (slot_of n) (few_slots n) (subst (IsPlaceArray class k) (sym four) (p.array.there.0, still ∙ p.array.there.1, p.array.there.2, p.array.there.3)), refl)), λ i s. tt)))
 
 block_can_run : (classes : List Class) (most : ℕ) (slots : ℕ → ℕ) (class : ℕ) (made : ℕ → Bool) (n : ℕ) (x : Option ObjectTold) (role : ℕ → Role) (g : Graph) → is_array_class classes class ≡ true → 1024 ≤ most → n < 2 ^ 22
     → ((t : ObjectTold) → x ≡ Some t → MayBeTold classes most slots t) → ArePlaced class made n role g → CanRun classes most slots (made_block class n x) g
@@ -148,5 +148,5 @@ makings_can_run classes most slots class made n (x ∷ xs) role g arrays room ri
   | inl less ↦ subst (λ es. CanRun classes most slots (es ++ makings class (n + 1) xs) g) (sym (block_below_last class n x less))
       (can_run_both classes most slots (made_block class n x) (makings class (n + 1) xs) g (block_can_run classes most slots class made n x role g arrays room less may.0 a)
       (λ h r. (let b = block_is_made slots class made n x role g h less right.0.told right.0.sized a r in
-          makings_can_run classes most slots class made (n + 1) xs b.after h arrays room right.1 may.1 b.placed)))
+      makings_can_run classes most slots class made (n + 1) xs b.after h arrays room right.1 may.1 b.placed)))
 ]

@@ -1,8 +1,8 @@
 -- The classes of a plan by their numbers: those of the dump, those of static fields, and those of roots.
-use Rattle.std.proofs.Common.{◌≡◌, ◌≢◌, ◌⊎◌, ℕ, zero, suc, ◌+◌, ◌-◌, ◌<◌, ◌≤◌, Bool, true, false, List, [], ◌∷◌, ◌++◌, length, map, take, refl, sym, ap, subst, ◌∙◌, append_assoc, Option, Some, None, arith, length-append}
+use Rattle.std.proofs.Common.{◌≡◌, ℕ, zero, suc, ◌+◌, ◌<◌, ◌≤◌, Bool, true, false, List, [], ◌∷◌, ◌++◌, length, map, take, refl, sym, ap, subst, ◌∙◌, append_assoc, Option, Some, None, arith, length-append}
 use Rattle.std.specs.Prelude.{fold, not, slice_get, if◌then◌else◌}
 use Rattle.std.specs.Global.{Vec}
-use Rattle.std.specs.Map.{keys_of, values_of}
+use Rattle.std.specs.Map.{values_of}
 use Rattle.std.specs.Option.{option_map_or}
 use Rattle.std.proofs.lemmas.Option.{slice_get_within}
 use Rattle.std.proofs.lemmas.List.{append-nil, length-map}
@@ -16,7 +16,7 @@ use Rattle.hprof_reader.specs.Fields.{StaticTold, static_told}
 use Rattle.hprof_plan.specs.Accepted.{next_name}
 use Rattle.hprof_plan.specs.ClassFields.{add_field, name_at, own_named, static_named}
 use Rattle.hprof_plan.specs.Names.{given_name}
-use Rattle.hprof_plan.specs.Plans.{IsPlan, kinds_told, planned_classes, planned_ids, planned_statics, statics_told}
+use Rattle.hprof_plan.specs.Plans.{IsPlan, kinds_told, planned_classes, planned_ids, planned_statics}
 use Rattle.hprof_plan.specs.SessionClasses.{and_arrays, and_statics, class_after, dump_classes, field_room, fields_in, instance_after, is_array_in, kinds_in, name_in, root_names, static_class, super_after}
 use Rattle.hprof_plan.specs.Tables.{names_told}
 use Rattle.hprof_plan.specs.declared.dump.Found.{Found}
@@ -29,19 +29,19 @@ use Rattle.hprof_heap.proofs.ToldNumbers.{item_behind_first_list}
 -- ---- lists that grow
 
 -- what is added for each of these, by what is there so far
-abbrev added : {A B : Type 0} → (List B → A → B) → List B → List A → List B
-added f done [] = []
-added f done (x ∷ xs) = f done x ∷ added f (done ++ f done x ∷ []) xs
+abbrev added_in_turn : {A B : Type 0} → (List B → A → B) → List B → List A → List B
+added_in_turn f done [] = []
+added_in_turn f done (x ∷ xs) = f done x ∷ added_in_turn f (done ++ f done x ∷ []) xs
 
-fold_adds : {A B : Type 0} (f : List B → A → B) (done : List B) (xs : List A) → fold (λ done x. done ++ f done x ∷ []) done xs ≡ done ++ added f done xs
+fold_adds : {A B : Type 0} (f : List B → A → B) (done : List B) (xs : List A) → fold (λ done x. done ++ f done x ∷ []) done xs ≡ done ++ added_in_turn f done xs
 fold_adds f done [] = sym (append-nil done)
-fold_adds f done (x ∷ xs) = fold_adds f (done ++ f done x ∷ []) xs ∙ append_assoc done (f done x ∷ []) (added f (done ++ f done x ∷ []) xs)
+fold_adds f done (x ∷ xs) = fold_adds f (done ++ f done x ∷ []) xs ∙ append_assoc done (f done x ∷ []) (added_in_turn f (done ++ f done x ∷ []) xs)
 
-as_many_added : {A B : Type 0} (f : List B → A → B) (done : List B) (xs : List A) → length (added f done xs) ≡ length xs
+as_many_added : {A B : Type 0} (f : List B → A → B) (done : List B) (xs : List A) → length (added_in_turn f done xs) ≡ length xs
 as_many_added f done [] = refl
 as_many_added f done (x ∷ xs) = ap suc (as_many_added f (done ++ f done x ∷ []) xs)
 
-added_at : {A B : Type 0} (f : List B → A → B) (done : List B) (xs : List A) (j : ℕ) (x : A) → slice_get xs j ≡ Some x → (before : List B) × (slice_get (added f done xs) j ≡ Some (f before x))
+added_at : {A B : Type 0} (f : List B → A → B) (done : List B) (xs : List A) (j : ℕ) (x : A) → slice_get xs j ≡ Some x → (before : List B) × (slice_get (added_in_turn f done xs) j ≡ Some (f before x))
 added_at f done [] j x e = let z : None ≡ Some x = e in cc
 added_at f done (y ∷ xs) zero x e = (done, ap (λ z. Some (f done z)) (some_is_one e))
   where
@@ -73,11 +73,11 @@ dump_part limits f = values_of (dump_classes limits f (planned_ids limits f))
 
 -- and those of static fields
 abbrev pub static_part : ClassLimits → Found → List Class
-static_part limits f = added (static_class limits f) (dump_part limits f) (planned_statics limits f)
+static_part limits f = added_in_turn (static_class limits f) (dump_part limits f) (planned_statics limits f)
 
 -- and those of roots
 abbrev pub root_part : ClassLimits → Found → List Class
-root_part limits f = added (λ (done : List Class) (n : List ℕ). array_class (next_name limits done n)) (dump_part limits f ++ static_part limits f) root_names
+root_part limits f = added_in_turn (λ (done : List Class) (n : List ℕ). array_class (next_name limits done n)) (dump_part limits f ++ static_part limits f) root_names
 
 classes_in_parts : (limits : ClassLimits) (f : Found) → planned_classes limits f ≡ (dump_part limits f ++ static_part limits f) ++ root_part limits f
 unfolding and_arrays and_statics
@@ -89,7 +89,7 @@ classes_in_parts limits f =
 abbrev dump_entry : ClassLimits → Found → List (ℕ × Class) → ℕ → ℕ × Class
 dump_entry limits f done id = (id, class_after limits f done id)
 
-dump_is_added : (limits : ClassLimits) (f : Found) (ids : List ℕ) → dump_classes limits f ids ≡ added (dump_entry limits f) [] ids
+dump_is_added : (limits : ClassLimits) (f : Found) (ids : List ℕ) → dump_classes limits f ids ≡ added_in_turn (dump_entry limits f) [] ids
 unfolding dump_classes
 dump_is_added limits f ids = fold_adds (dump_entry limits f) [] ids
 
@@ -235,7 +235,7 @@ dump_class_at limits most f p k plan c l = record {
     id : (id : ℕ) × (slice_get (planned_ids limits f) k ≡ Some id)
     id = item_within (planned_ids limits f) k (omega (arith, l, c.of_dump, dump_part_length limits f))
 
-    at : (before : List (ℕ × Class)) × (slice_get (added (dump_entry limits f) [] (planned_ids limits f)) k ≡ Some (dump_entry limits f before id.0))
+    at : (before : List (ℕ × Class)) × (slice_get (added_in_turn (dump_entry limits f) [] (planned_ids limits f)) k ≡ Some (dump_entry limits f before id.0))
     at = added_at (dump_entry limits f) [] (planned_ids limits f) k id.0 id.1
 
     first : (rest : List Kind) × (kinds_in f id.0 ≡ map (λ (g : Field). g.kind) (class_after limits f at.0 id.0).fields ++ rest)

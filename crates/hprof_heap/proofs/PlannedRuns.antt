@@ -1,34 +1,33 @@
 -- The objects of a dump fit the classes of its plan: from what a walk finds, and its plan.
-use Rattle.std.proofs.Common.{◌≡◌, ◌≢◌, ◌⊎◌, ℕ, zero, suc, ◌+◌, ◌-◌, ◌<◌, ◌≤◌, Bool, true, false, List, [], ◌∷◌, ◌++◌, length, map, take, refl, sym, ap, subst, ◌∙◌, Option, Some, None, cond, arith}
-use Rattle.std.specs.Prelude.{filter, min, nat_eq, option_map, slice_get, if◌then◌else◌}
-use Rattle.std.specs.List.{cons_option, filter_map, list_any}
+use Rattle.std.proofs.Common.{◌≡◌, ℕ, zero, suc, ◌+◌, ◌-◌, Bool, true, false, List, [], ◌∷◌, length, map, take, refl, sym, ap, subst, ◌∙◌, Option, Some, None, cond, arith}
+use Rattle.std.specs.Prelude.{filter, min, nat_eq, slice_get, if◌then◌else◌}
+use Rattle.std.specs.List.{filter_map, list_any}
 use Rattle.std.specs.Map.{keys_of, lookup}
 use Rattle.std.specs.Option.{option_map_or}
 use Rattle.heap_class.specs.declared.ClassLimits.{ClassLimits}
 use Rattle.heap_class.specs.declared.IdSize.{IdSize}
-use Rattle.heap_class.specs.Classes.{Class, IsClassTable, slots_of}
+use Rattle.heap_class.specs.Classes.{IsClassTable, slots_of}
 use Rattle.heap_world.specs.State.{HeapState}
 use Rattle.indexmap.specs.IndexMap.{insert_entry, insert_all as insert_entries}
 use Rattle.hprof_reader.specs.Fields.{StaticTold, static_told}
-use Rattle.hprof_reader.specs.SubRecords.{ClassTold, Sub, root, class, instance, array, prim}
+use Rattle.hprof_reader.specs.SubRecords.{ClassTold, root, class, instance, array, prim}
 use Rattle.hprof_session.specs.Walks.{ItemTold, record_told, sub_told}
 use Rattle.hprof_plan.specs.Fields.{static_fields}
 use Rattle.hprof_plan.specs.Finds.{HasTables}
-use Rattle.hprof_plan.specs.Items.{class_entry, class_of}
+use Rattle.hprof_plan.specs.Items.{class_entry}
 use Rattle.hprof_plan.specs.Plans.{IsPlan, planned_ids, planned_statics}
 use Rattle.hprof_plan.specs.SessionClasses.{class_at, names_object, statics_in, with_objects}
 use Rattle.hprof_plan.specs.Tables.{classes_told}
 use Rattle.hprof_plan.specs.declared.dump.Found.{Found}
 use Rattle.hprof_plan.specs.declared.planning.Plan.{Plan}
 use Rattle.hprof_plan.specs.declared.planning.Statics.{Statics}
-use Rattle.hprof_lines.specs.Sessions.{all_events, told_objects}
-use Rattle.hprof_heap.specs.DumpHeaps.{AreBytes, AreItemBytes, AreItemsOfBytes, IsBare, IsTakenUnlessFull}
+use Rattle.hprof_lines.specs.Sessions.{told_objects}
+use Rattle.hprof_heap.specs.DumpHeaps.{AreBytes, AreItemsOfBytes, IsTakenUnlessFull}
 use Rattle.hprof_heap.specs.ToldObjects.{objects_of_dump}
 use Rattle.hprof_heap.proofs.Simulation.{slots_in}
 use Rattle.hprof_heap.proofs.MakingRuns.{MayAllBeTold}
-use Rattle.hprof_heap.proofs.ApartSlots.{HaveSlots}
 use Rattle.hprof_heap.proofs.ClassSlots.{super_comes_before, table_has_slot_lists, table_has_slots}
-use Rattle.hprof_heap.proofs.PlannedClasses.{IsCounted, IsStaticClass, dump_class_at, item_of_map, plan_is_counted, root_classes_are_arrays, static_class_at}
+use Rattle.hprof_heap.proofs.PlannedClasses.{IsCounted, dump_class_at, item_of_map, plan_is_counted, root_classes_are_arrays, static_class_at}
 use Rattle.hprof_heap.proofs.Suitable.{AreStaticClasses, AreValuesOfBytes, IsSound, fields_are_read, objects_may_be_told}
 use Rattle.hprof_heap.proofs.StaticNumbers.{statics_are_numbered}
 use Rattle.hprof_heap.proofs.ToldNumbers.{AreSlotsOf, objects_are_fine}
@@ -164,7 +163,7 @@ found_is_taken_unless_full limits most f p size items w tables bytes plan bare c
     let slots_are : AreSlotsOf (slots_in w) p = λ c. ap (λ cs. length (slots_of cs c)) classes in
     let roots = root_classes_are_arrays limits f p (plan_is_counted limits most f p plan) in
     let may : MayAllBeTold p.classes w.limits.elements (slots_in w) (objects_of_dump o items) = objects_may_be_told w.limits.elements (slots_in w) o items (plan_is_sound limits most f p plan table) slots_are
-        (omega (arith, plan.elements, room)) (plan_has_static_classes limits most size f p items tables bytes plan) bytes in
+    (omega (arith, plan.elements, room)) (plan_has_static_classes limits most size f p items tables bytes plan) bytes in
     suitable_session_is_taken o items f.roots.items w numbered refl
     (objects_are_fine (slots_in w) o items slots_are (table_has_slots p.classes table) numbered) bare
     (subst (λ cs. AreSuitable cs w.limits.elements (slots_in w) o items) (sym classes) (record { objects = may; top = roots.0; kinds = roots.1; room = arrays }))

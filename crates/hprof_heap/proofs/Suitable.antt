@@ -1,18 +1,16 @@
 -- The objects of a dump fit the classes of its plan.
-use Rattle.std.proofs.Common.{◌≡◌, ◌≢◌, ◌⊎◌, ℕ, zero, suc, ◌+◌, ◌-◌, ◌^◌, ◌<◌, ◌≤◌, Bool, true, false, List, [], ◌∷◌, ◌++◌, length, map, take, drop, refl, sym, ap, subst, ◌∙◌, Option, Some, None, Result, Ok, Err, inl, inr, arith, length-append}
-use Rattle.std.specs.Prelude.{filter, is_some, min, nat_eq, nat_lt, option_and_then, slice_get, cond, if◌then◌else◌}
-use Rattle.std.specs.List.{filter_map, list_any}
-use Rattle.std.specs.Map.{keys_of, lookup}
+use Rattle.std.proofs.Common.{◌≡◌, ℕ, zero, suc, ◌+◌, ◌^◌, ◌<◌, ◌≤◌, Bool, true, false, List, [], ◌∷◌, ◌++◌, length, map, refl, sym, ap, subst, ◌∙◌, Option, Some, None, Result, Ok, Err, arith}
+use Rattle.std.specs.Prelude.{min, nat_eq, nat_lt, option_and_then, slice_get, if◌then◌else◌}
+use Rattle.std.specs.Map.{keys_of}
 use Rattle.std.specs.Option.{option_map_or}
 use Rattle.std.specs.Result.{result_ok}
-use Rattle.std.proofs.lemmas.Bool.{cases_lt, ltb-true}
 use Rattle.std.proofs.lemmas.List.{append-nil, length-map}
 use Rattle.std.proofs.lemmas.List.Quantifiers.{position-Some}
 use Rattle.heap_class.specs.declared.Field.{Field}
 use Rattle.heap_class.specs.declared.IdSize.{IdSize}
 use Rattle.heap_class.specs.declared.Kind.{Kind}
 use Rattle.heap_class.specs.declared.ObjKind.TheVariants.{Instance, Array, Prim}
-use Rattle.heap_class.specs.Classes.{Class, fields_of, is_array_class, is_instance_class, slot_kinds_of, slots_of, sup_of}
+use Rattle.heap_class.specs.Classes.{Class, fields_of, is_array_class, is_instance_class, slot_kinds_of, slots_of}
 use Rattle.heap_class.specs.Kinds.{is_reference, width_of}
 use Rattle.indexmap.specs.IndexMap.{index_of}
 use Rattle.hprof_reader.specs.declared.fault.Fault.{Fault}
@@ -24,18 +22,16 @@ use Rattle.hprof_session.specs.Walks.{ItemTold, record_told, sub_told}
 use Rattle.hprof_plan.specs.Fields.{each_read, first_and, static_fields, static_parts}
 use Rattle.hprof_plan.specs.declared.planning.Plan.{Plan}
 use Rattle.hprof_plan.specs.declared.planning.Statics.{Statics}
-use Rattle.hprof_lines.specs.declared.values.SlotValue.{SlotValue}
 use Rattle.hprof_lines.specs.Objects.{ObjectsTold}
 use Rattle.hprof_lines.specs.Passes.{is_turn}
 use Rattle.hprof_lines.specs.Slots.{instance_values, object_values}
-use Rattle.hprof_lines.specs.Values.{number_in, statics_from}
+use Rattle.hprof_lines.specs.Values.{statics_from}
 use Rattle.hprof_heap.specs.DumpHeaps.{AreBytes, AreItemsOfBytes, AreSubBytes}
 use Rattle.hprof_heap.specs.ToldObjects.{ObjectTold, array_told, instance_told, numbered_told, object_told, objects_of_dump, statics_told, told_from}
 use Rattle.hprof_heap.specs.ToldObjects.{static_told as object_of_statics}
-use Rattle.hprof_heap.proofs.Making.{IsSized}
-use Rattle.hprof_heap.proofs.MakingRuns.{FitSlots, FitsSlot, MayAllBeTold, MayBeMade, MayBeTold}
+use Rattle.hprof_heap.proofs.MakingRuns.{FitSlots, MayAllBeTold, MayBeTold}
 use Rattle.hprof_heap.proofs.ClassSlots.{HaveSlotLists}
-use Rattle.hprof_heap.proofs.PlannedClasses.{HasFirstKinds, IsStaticClass}
+use Rattle.hprof_heap.proofs.PlannedClasses.{IsStaticClass}
 use Rattle.hprof_heap.proofs.InstanceRanges.{AllHaveFirstKinds, SupersComeBefore, instance_fits}
 use Rattle.hprof_heap.proofs.ToldNumbers.{AreSlotsOf}
 use Rattle.hprof_heap.proofs.ValueRanges.{bytes_behind, bytes_before, prims_fit, references_fit, value_fits}

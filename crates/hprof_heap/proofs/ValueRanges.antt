@@ -1,6 +1,6 @@
 -- The values of bytes are in the range of their kinds.
-use Rattle.std.proofs.Common.{◌≡◌, ◌≢◌, ◌⊎◌, ℕ, zero, suc, ◌+◌, ◌*◌, ◌%◌, ◌^◌, ◌<◌, ◌≤◌, Bool, true, false, List, [], ◌∷◌, ◌++◌, length, replicate, take, drop, get_or, refl, sym, ap, subst, ◌∙◌, Option, Some, None, arith}
-use Rattle.std.specs.Prelude.{fold, min, slice_get}
+use Rattle.std.proofs.Common.{◌≡◌, ℕ, zero, suc, ◌+◌, ◌*◌, ◌<◌, ◌≤◌, true, false, List, [], ◌∷◌, ◌++◌, length, take, drop, Some, arith}
+use Rattle.std.specs.Prelude.{fold, slice_get}
 use Rattle.std.proofs.lemmas.List.{length-take}
 use Rattle.heap_class.specs.declared.IdSize.{IdSize}
 use Rattle.heap_class.specs.declared.Kind.{Kind}
@@ -9,11 +9,10 @@ use Rattle.heap_class.specs.declared.ObjKind.{ObjKind}
 use Rattle.heap_class.specs.declared.ObjKind.TheVariants.{Array, Prim}
 use Rattle.heap_class.specs.Classes.{Class, slot_kinds_of}
 use Rattle.heap_class.specs.Kinds.{is_reference, value_limit, width_of}
-use Rattle.hprof_lines.specs.declared.values.SlotValue.{SlotValue}
 use Rattle.hprof_lines.specs.Objects.{shown}
-use Rattle.hprof_lines.specs.Values.{elements_from, number_in, value_at, with_byte}
+use Rattle.hprof_lines.specs.Values.{elements_from, number_in, with_byte}
 use Rattle.hprof_heap.specs.DumpHeaps.{AreBytes}
-use Rattle.hprof_heap.proofs.MakingRuns.{FitSlots, FitsSlot, copies_are_there}
+use Rattle.hprof_heap.proofs.MakingRuns.{FitSlots, copies_are_there}
 
 -- ---- bytes
 
@@ -29,37 +28,37 @@ bytes_before [] ys h i = omega arith
 bytes_before (x ∷ xs) ys h zero = h 0
 bytes_before (x ∷ xs) ys h (suc i) = bytes_before xs ys (later_bytes x (xs ++ ys) h) i
 
-pub bytes_dropped : (n : ℕ) (bytes : List ℕ) → AreBytes bytes → AreBytes (drop n bytes)
-bytes_dropped zero bytes h = h
-bytes_dropped (suc n) [] h = h
-bytes_dropped (suc n) (b ∷ bytes) h = bytes_dropped n bytes (later_bytes b bytes h)
+pub left_bytes_are_bytes : (n : ℕ) (bytes : List ℕ) → AreBytes bytes → AreBytes (drop n bytes)
+left_bytes_are_bytes zero bytes h = h
+left_bytes_are_bytes (suc n) [] h = h
+left_bytes_are_bytes (suc n) (b ∷ bytes) h = left_bytes_are_bytes n bytes (later_bytes b bytes h)
 
-pub bytes_taken : (n : ℕ) (bytes : List ℕ) → AreBytes bytes → AreBytes (take n bytes)
-bytes_taken zero bytes h i = omega arith
-bytes_taken (suc n) [] h i = h i
-bytes_taken (suc n) (b ∷ bytes) h zero = h 0
-bytes_taken (suc n) (b ∷ bytes) h (suc i) = bytes_taken n bytes (later_bytes b bytes h) i
+pub first_bytes_are_bytes : (n : ℕ) (bytes : List ℕ) → AreBytes bytes → AreBytes (take n bytes)
+first_bytes_are_bytes zero bytes h i = omega arith
+first_bytes_are_bytes (suc n) [] h i = h i
+first_bytes_are_bytes (suc n) (b ∷ bytes) h zero = h 0
+first_bytes_are_bytes (suc n) (b ∷ bytes) h (suc i) = first_bytes_are_bytes n bytes (later_bytes b bytes h) i
 
 -- ---- numbers
 
 -- what numbers of k bytes more are below
-abbrev grown : ℕ → ℕ → ℕ
-grown limit zero = limit
-grown limit (suc k) = grown (limit * 256) k
+abbrev limit_of_more_bytes : ℕ → ℕ → ℕ
+limit_of_more_bytes limit zero = limit
+limit_of_more_bytes limit (suc k) = limit_of_more_bytes (limit * 256) k
 
-grown_is_more : (limit k : ℕ) → limit ≤ grown limit k
-grown_is_more limit zero = omega arith
-grown_is_more limit (suc k) = let more : limit * 256 ≤ grown (limit * 256) k = grown_is_more (limit * 256) k in omega (arith, more)
+more_bytes_have_higher_limit : (limit k : ℕ) → limit ≤ limit_of_more_bytes limit k
+more_bytes_have_higher_limit limit zero = omega arith
+more_bytes_have_higher_limit limit (suc k) = let more : limit * 256 ≤ limit_of_more_bytes (limit * 256) k = more_bytes_have_higher_limit (limit * 256) k in omega (arith, more)
 
 one_byte_below : (limit n b : ℕ) → n < limit → b < 256 → with_byte n b < limit * 256
 one_byte_below limit n b l s = omega (arith, l, s)
 
-bytes_below : (bytes : List ℕ) (limit n k : ℕ) → n < limit → AreBytes bytes → length bytes ≤ k → fold with_byte n bytes < grown limit k
-bytes_below [] limit n k l h few = let more : limit ≤ grown limit k = grown_is_more limit k in omega (arith, l, more)
+bytes_below : (bytes : List ℕ) (limit n k : ℕ) → n < limit → AreBytes bytes → length bytes ≤ k → fold with_byte n bytes < limit_of_more_bytes limit k
+bytes_below [] limit n k l h few = let more : limit ≤ limit_of_more_bytes limit k = more_bytes_have_higher_limit limit k in omega (arith, l, more)
 bytes_below (b ∷ bytes) limit n zero l h few = absurd (omega (arith, few))
 bytes_below (b ∷ bytes) limit n (suc k) l h few = bytes_below bytes (limit * 256) (with_byte n b) k (one_byte_below limit n b l (h 0)) (later_bytes b bytes h) (omega (arith, few))
 
-number_below : (bytes : List ℕ) (k : ℕ) → AreBytes bytes → length bytes ≤ k → number_in bytes < grown 1 k
+number_below : (bytes : List ℕ) (k : ℕ) → AreBytes bytes → length bytes ≤ k → number_in bytes < limit_of_more_bytes 1 k
 unfolding number_in
 number_below bytes k h few = bytes_below bytes 1 0 k (omega arith) h few
 
@@ -75,7 +74,7 @@ value_fits ids Int bytes h few r = number_below bytes 4 h few
 value_fits ids Long bytes h few r = number_below bytes 8 h few
 
 pub taken_value_fits : (ids : IdSize) (kind : Kind) (bytes : List ℕ) → (is_reference kind ≡ false → AreBytes bytes) → is_reference kind ≡ false → shown kind (number_in (take (width_of ids kind) bytes)) < value_limit kind
-taken_value_fits ids kind bytes h r = value_fits ids kind (take (width_of ids kind) bytes) (bytes_taken (width_of ids kind) bytes (h r)) (omega (arith, length-take (width_of ids kind) bytes)) r
+taken_value_fits ids kind bytes h r = value_fits ids kind (take (width_of ids kind) bytes) (first_bytes_are_bytes (width_of ids kind) bytes (h r)) (omega (arith, length-take (width_of ids kind) bytes)) r
 
 -- ---- elements of arrays
 
@@ -85,7 +84,7 @@ unfolding elements_from
 elements_fit classes object total ids kind zero at bytes kinds within h = tt
 elements_fit classes object total ids kind (suc n) at bytes kinds within h = (
   record { slot = kinds at (omega (arith, within)); range = λ r d. taken_value_fits ids kind bytes h r },
-  elements_fit classes object total ids kind n (at + 1) (drop (width_of ids kind) bytes) kinds (omega (arith, within)) (λ r. bytes_dropped (width_of ids kind) bytes (h r)),
+  elements_fit classes object total ids kind n (at + 1) (drop (width_of ids kind) bytes) kinds (omega (arith, within)) (λ r. left_bytes_are_bytes (width_of ids kind) bytes (h r)),
 )
 
 pub references_fit : (classes : List Class) (class n : ℕ) (ids : IdSize) (bytes : List ℕ) → FitSlots classes (Array class) n (elements_from ids Kind.Object n 0 bytes)

@@ -1,5 +1,5 @@
 -- A session whose objects fit their classes is refused only if the heap is full.
-use Rattle.std.proofs.Common.{◌≡◌, ℕ, ◌+◌, ◌<◌, ◌≤◌, Bool, true, List, ◌++◌, length, refl, sym, ap, subst, ◌∙◌, Option, Some, arith}
+use Rattle.std.proofs.Common.{◌≡◌, ℕ, ◌+◌, ◌<◌, ◌≤◌, Bool, true, List, ◌++◌, length, sym, ap, subst, ◌∙◌, Some, arith}
 use Rattle.std.specs.Prelude.{slice_get}
 use Rattle.heap_class.specs.Classes.{Class, is_array_class}
 use Rattle.heap_world.specs.State.{HeapState}
@@ -11,10 +11,10 @@ use Rattle.hprof_lines.specs.Roots.{roots_named}
 use Rattle.hprof_lines.specs.Sessions.{all_events, root_tags}
 use Rattle.hprof_heap.specs.DumpHeaps.{AreNumberedFirst, AreTakenUnlessFull, IsBare}
 use Rattle.hprof_heap.specs.ToldObjects.{ObjectTold, objects_of_dump}
-use Rattle.hprof_heap.proofs.Graphs.{Graph, IsRun}
-use Rattle.hprof_heap.proofs.Placed.{Other, Role, kept}
+use Rattle.hprof_heap.proofs.Graphs.{Graph}
+use Rattle.hprof_heap.proofs.Placed.{Other, kept}
 use Rattle.hprof_heap.proofs.MakingPass.{AreMade, makings, objects_are_made}
-use Rattle.hprof_heap.proofs.Linking.{AreFound, AreLinked, AreNamed, linkings, objects_are_linked}
+use Rattle.hprof_heap.proofs.Linking.{AreFound, AreNamed, linkings, objects_are_linked}
 use Rattle.hprof_heap.proofs.RootKinds.{root_keepings}
 use Rattle.hprof_heap.proofs.Simulation.{graph_of, slots_in}
 use Rattle.hprof_heap.proofs.Acceptable.{CanRun, acceptable_events, can_run_both}
@@ -56,8 +56,8 @@ later_can_run classes most slots o items found g h numbered made_told s m =
     can_run_both classes most slots (linkings (number_of o) 0 (objects_of_dump o items)) (root_keepings (λ tag. roots_named o tag found) o.plan.roots root_tags) h
     (linkings_can_run classes most slots o.plan.roots (made_of o items) m.last 0 (number_of o) (kept h) (objects_of_dump o items) m.after h mid.named at_first there m.contents s.objects)
     (λ k r. (let linked = objects_are_linked slots o.plan.roots (made_of o items) m.last 0 (number_of o) (kept h) (objects_of_dump o items) m.after h k mid.named at_first there m.contents r in
-        root_keepings_can_run classes most slots o.plan.roots (made_of o items) m.last (kept h) (λ tag. roots_named o tag found) o.plan.roots root_tags m.after k s.top s.kinds s.room
-        (λ tag. numbers_of_roots o (made_of o items) m.last tag found mid.named) linked.found))
+    root_keepings_can_run classes most slots o.plan.roots (made_of o items) m.last (kept h) (λ tag. roots_named o tag found) o.plan.roots root_tags m.after k s.top s.kinds s.room
+    (λ tag. numbers_of_roots o (made_of o items) m.last tag found mid.named) linked.found))
   where
     mid : IsMiddle o items m.last
     mid = middle_is o items m.last numbered made_told m.reached

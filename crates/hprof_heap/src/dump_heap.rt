@@ -14,13 +14,11 @@ ghost use Rattle.hprof_heap.specs.DumpHeaps.{IsTakenUnlessFull, MakesHeapOfFound
 pub fn session_makes_heap()
     ensures { (limits : ClassLimits) (most : ℕ) (f : Found) (p : Plan) (size : IdSize) (items : List ItemTold) (w : HeapState)
         → MakesHeapOfFound limits most f p size items w }
-{
-}
+{}
 
 /// States that a heap without an object but with the classes of the session accepts all of these events, or all up to one that it
 /// refuses since it is full, if it takes arrays as long as those of the plan.
 pub fn session_is_taken_unless_full()
     ensures { (limits : ClassLimits) (most : ℕ) (f : Found) (p : Plan) (size : IdSize) (items : List ItemTold) (w : HeapState)
         → IsTakenUnlessFull limits most f p size items w }
-{
-}
+{}

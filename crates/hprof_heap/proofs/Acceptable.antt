@@ -22,7 +22,7 @@ use Rattle.heap_step.specs.declared.Event.{Event}
 use Rattle.heap_step.specs.declared.Event.TheVariants.{New, NewArray, NewPrim, Put, Load, Store, Clear}
 use Rattle.heap_step.specs.Apply.{refusal_of, state_after}
 use Rattle.heap_step.proofs.EventLaws.{keeps_legal}
-use Rattle.hprof_heap.specs.DumpHeaps.{AreTakenUnlessFull}
+use Rattle.hprof_heap.specs.TakenEvents.{AreTakenUnlessFull}
 use Rattle.hprof_heap.proofs.Graphs.{Graph, IsGraphStep, IsRun, Thing}
 use Rattle.hprof_heap.proofs.Simulation.{AreOfSession, event_steps, graph_of, register_held, slots_in, thing_has_its_object, thing_of}
 

@@ -15,7 +15,7 @@ use Rattle.hprof_plan.specs.declared.planning.Plan.{Plan}
 use Rattle.hprof_lines.specs.declared.values.SlotValue.{SlotValue}
 use Rattle.hprof_lines.specs.Slots.{base_of, instance_values, kinds_of, values_up}
 use Rattle.hprof_lines.specs.Values.{after_fields, fields_from, value_at, value_if}
-use Rattle.hprof_heap.specs.DumpHeaps.{AreBytes}
+use Rattle.hprof_heap.proofs.Premises.{AreBytes}
 use Rattle.hprof_heap.proofs.MakingRuns.{FitSlots}
 use Rattle.hprof_heap.proofs.ClassSlots.{HaveSlotLists}
 use Rattle.hprof_heap.proofs.PlannedClasses.{HasFirstKinds}

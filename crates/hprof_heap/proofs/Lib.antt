@@ -1,3 +1,4 @@
+pub mod Premises
 pub mod Graphs
 pub mod PlaceNumbers
 pub mod Placed
@@ -27,3 +28,6 @@ pub mod PlannedClasses
 pub mod InstanceRanges
 pub mod Suitable
 pub mod PlannedRuns
+pub mod WalkedItems
+pub mod NewHeaps
+pub mod Laws

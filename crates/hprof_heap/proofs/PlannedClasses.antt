@@ -29,7 +29,7 @@ use Rattle.hprof_heap.proofs.ToldNumbers.{item_behind_first_list}
 -- ---- lists that grow
 
 -- what is added for each of these, by what is there so far
-abbrev added_in_turn : {A B : Type 0} → (List B → A → B) → List B → List A → List B
+abbrev pub added_in_turn : {A B : Type 0} → (List B → A → B) → List B → List A → List B
 added_in_turn f done [] = []
 added_in_turn f done (x ∷ xs) = f done x ∷ added_in_turn f (done ++ f done x ∷ []) xs
 
@@ -86,10 +86,10 @@ classes_in_parts limits f =
     ∙ fold_adds (λ (done : List Class) (n : List ℕ). array_class (next_name limits done n)) (dump_part limits f ++ static_part limits f) root_names
 
 -- a class of the dump, with its id
-abbrev dump_entry : ClassLimits → Found → List (ℕ × Class) → ℕ → ℕ × Class
+abbrev pub dump_entry : ClassLimits → Found → List (ℕ × Class) → ℕ → ℕ × Class
 dump_entry limits f done id = (id, class_after limits f done id)
 
-dump_is_added : (limits : ClassLimits) (f : Found) (ids : List ℕ) → dump_classes limits f ids ≡ added_in_turn (dump_entry limits f) [] ids
+pub dump_is_added : (limits : ClassLimits) (f : Found) (ids : List ℕ) → dump_classes limits f ids ≡ added_in_turn (dump_entry limits f) [] ids
 unfolding dump_classes
 dump_is_added limits f ids = fold_adds (dump_entry limits f) [] ids
 

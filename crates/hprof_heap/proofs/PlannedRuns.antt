@@ -1,5 +1,5 @@
 -- The objects of a dump fit the classes of its plan: from what a walk finds, and its plan.
-use Rattle.std.proofs.Common.{◌≡◌, ℕ, zero, suc, ◌+◌, ◌-◌, Bool, true, false, List, [], ◌∷◌, length, map, take, refl, sym, ap, subst, ◌∙◌, Option, Some, None, cond, arith}
+use Rattle.std.proofs.Common.{◌≡◌, ◌≤◌, ℕ, zero, suc, ◌+◌, ◌-◌, Bool, true, false, List, [], ◌∷◌, length, map, take, refl, sym, ap, subst, ◌∙◌, Option, Some, None, cond, arith}
 use Rattle.std.specs.Prelude.{filter, min, nat_eq, slice_get, if◌then◌else◌}
 use Rattle.std.specs.List.{filter_map, list_any}
 use Rattle.std.specs.Map.{keys_of, lookup}
@@ -21,8 +21,9 @@ use Rattle.hprof_plan.specs.Tables.{classes_told}
 use Rattle.hprof_plan.specs.declared.dump.Found.{Found}
 use Rattle.hprof_plan.specs.declared.planning.Plan.{Plan}
 use Rattle.hprof_plan.specs.declared.planning.Statics.{Statics}
-use Rattle.hprof_lines.specs.Sessions.{told_objects}
-use Rattle.hprof_heap.specs.DumpHeaps.{AreBytes, AreItemsOfBytes, IsTakenUnlessFull}
+use Rattle.hprof_lines.specs.Sessions.{all_events, told_objects}
+use Rattle.hprof_heap.specs.TakenEvents.{AreTakenUnlessFull}
+use Rattle.hprof_heap.proofs.Premises.{AreBytes, AreItemsOfBytes, IsBare}
 use Rattle.hprof_heap.specs.ToldObjects.{objects_of_dump}
 use Rattle.hprof_heap.proofs.Simulation.{slots_in}
 use Rattle.hprof_heap.proofs.MakingRuns.{MayAllBeTold}
@@ -155,7 +156,8 @@ plan_is_sound limits most f p plan table = record {
   supers = super_comes_before p.classes table;
 }
 
-pub found_is_taken_unless_full : (limits : ClassLimits) (most : ℕ) (f : Found) (p : Plan) (size : IdSize) (items : List ItemTold) (w : HeapState) → IsTakenUnlessFull limits most f p size items w
+pub found_is_taken_unless_full : (limits : ClassLimits) (most : ℕ) (f : Found) (p : Plan) (size : IdSize) (items : List ItemTold) (w : HeapState) → HasTables size items f → AreItemsOfBytes items → IsPlan limits most f p → IsBare w → w.classes ≡ p.classes
+    → most ≤ w.limits.elements → 1024 ≤ w.limits.elements → AreTakenUnlessFull (all_events (told_objects p size f.objects.keys items) items f.roots.items) w
 found_is_taken_unless_full limits most f p size items w tables bytes plan bare classes room arrays =
     let o = told_objects p size f.objects.keys items in
     let table = subst (λ cs. IsClassTable [] cs) classes bare.legal.classes in

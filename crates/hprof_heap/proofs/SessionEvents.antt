@@ -25,7 +25,7 @@ use Rattle.hprof_lines.specs.Slots.{object_values}
 use Rattle.hprof_lines.specs.StaticObjects.{static_events, statics_events}
 use Rattle.hprof_lines.specs.Values.{statics_from}
 use Rattle.hprof_heap.specs.ToldObjects.{ObjectTold, array_told, instance_told, numbered_told, object_told, objects_of_dump, static_told, statics_told, told_from}
-use Rattle.hprof_heap.specs.DumpHeaps.{AreNumberedFirst}
+use Rattle.hprof_heap.proofs.Premises.{AreNumberedFirst}
 use Rattle.hprof_heap.proofs.Making.{creation_of, made_block, made_tail}
 use Rattle.hprof_heap.proofs.MakingPass.{making_block, makings}
 use Rattle.hprof_heap.proofs.Linking.{link_block, link_values, linkings}

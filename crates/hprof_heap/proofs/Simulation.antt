@@ -33,7 +33,7 @@ use Rattle.heap_step.specs.Apply.{refusal_of, state_after}
 use Rattle.heap_step.proofs.CreationUndo.{free_list_head_is_empty, pool_empty}
 use Rattle.heap_step.proofs.EventLaws.{keeps_legal}
 use Rattle.heap_step.proofs.Places.{slot_stands}
-use Rattle.hprof_heap.specs.DumpHeaps.{AreTaken, state_after_all}
+use Rattle.hprof_heap.specs.TakenEvents.{AreTaken, state_after_all}
 use Rattle.hprof_heap.proofs.Graphs.{Graph, Thing, IsCreation, IsGraphStep, IsLoading, IsRun, IsWriting}
 
 abbrev pub thing_of : Object → Thing

@@ -24,7 +24,7 @@ use Rattle.hprof_plan.specs.declared.dump.Found.{Found}
 use Rattle.hprof_plan.specs.declared.planning.Plan.{Plan}
 use Rattle.hprof_plan.specs.declared.planning.Statics.{Statics}
 use Rattle.hprof_lines.specs.Sessions.{told_objects}
-use Rattle.hprof_heap.specs.DumpHeaps.{AreNumberedFirst}
+use Rattle.hprof_heap.proofs.Premises.{AreNumberedFirst}
 
 -- whether x is in the list
 abbrev is_in : ℕ → List ℕ → Bool

@@ -26,7 +26,7 @@ use Rattle.hprof_lines.specs.Objects.{ObjectsTold}
 use Rattle.hprof_lines.specs.Passes.{is_turn}
 use Rattle.hprof_lines.specs.Slots.{instance_values, object_values}
 use Rattle.hprof_lines.specs.Values.{statics_from}
-use Rattle.hprof_heap.specs.DumpHeaps.{AreBytes, AreItemsOfBytes, AreSubBytes}
+use Rattle.hprof_heap.proofs.Premises.{AreBytes, AreItemsOfBytes, AreSubBytes}
 use Rattle.hprof_heap.specs.ToldObjects.{ObjectTold, array_told, instance_told, numbered_told, object_told, objects_of_dump, statics_told, told_from}
 use Rattle.hprof_heap.specs.ToldObjects.{static_told as object_of_statics}
 use Rattle.hprof_heap.proofs.MakingRuns.{FitSlots, MayAllBeTold, MayBeTold}

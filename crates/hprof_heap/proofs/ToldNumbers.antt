@@ -19,7 +19,7 @@ use Rattle.hprof_lines.specs.Passes.{is_turn, made_from}
 use Rattle.hprof_lines.specs.Roots.{root_named, roots_named}
 use Rattle.hprof_lines.specs.Slots.{object_values}
 use Rattle.hprof_lines.specs.Values.{statics_from}
-use Rattle.hprof_heap.specs.DumpHeaps.{AreNumberedFirst}
+use Rattle.hprof_heap.proofs.Premises.{AreNumberedFirst}
 use Rattle.hprof_heap.specs.ToldObjects.{ObjectTold, array_told, instance_told, numbered_told, object_told, objects_of_dump, static_told, statics_told, told_from}
 use Rattle.hprof_heap.proofs.Making.{IsSized}
 use Rattle.hprof_heap.proofs.MakingPass.{AreRight}

@@ -11,7 +11,7 @@ use Rattle.heap_class.specs.Classes.{Class, slot_kinds_of}
 use Rattle.heap_class.specs.Kinds.{is_reference, value_limit, width_of}
 use Rattle.hprof_lines.specs.Objects.{shown}
 use Rattle.hprof_lines.specs.Values.{elements_from, number_in, with_byte}
-use Rattle.hprof_heap.specs.DumpHeaps.{AreBytes}
+use Rattle.hprof_heap.proofs.Premises.{AreBytes}
 use Rattle.hprof_heap.proofs.MakingRuns.{FitSlots, copies_are_there}
 
 -- ---- bytes

@@ -12,6 +12,8 @@ use Rattle.heap_world.specs.State.{HeapState, word_of}
 use Rattle.heap_world.proofs.Registers.{word_of_object_slot}
 use Rattle.heap_step.specs.declared.Event.{Event}
 use Rattle.hprof_session.specs.Walks.{ItemTold}
+use Rattle.hprof_plan.specs.Finds.{HasTables}
+use Rattle.hprof_plan.specs.Plans.{IsPlan}
 use Rattle.hprof_plan.specs.declared.dump.Found.{Found}
 use Rattle.hprof_plan.specs.declared.items.RootFound.{RootFound}
 use Rattle.hprof_plan.specs.declared.planning.Plan.{Plan}
@@ -20,7 +22,9 @@ use Rattle.hprof_lines.specs.Objects.{ObjectsTold, number_of}
 use Rattle.hprof_lines.specs.Passes.{made_from}
 use Rattle.hprof_lines.specs.Roots.{arrays_for, roots_events, roots_named, with_room}
 use Rattle.hprof_lines.specs.Sessions.{all_events, both_events, root_tags, told_objects}
-use Rattle.hprof_heap.specs.DumpHeaps.{AreKindsOfRoots, AreNumberedFirst, AreRoots, AreTaken, IsBare, IsHeapOfDump, IsObjectTold, MakesHeap, MakesHeapOfFound, NamesKind, slot_told, state_after_all}
+use Rattle.hprof_heap.specs.TakenEvents.{AreTaken, state_after_all}
+use Rattle.hprof_heap.specs.DumpHeaps.{AreKindsOfRoots, AreRoots, IsHeapOfDump, IsObjectTold, NamesKind, slot_told}
+use Rattle.hprof_heap.proofs.Premises.{AreNumberedFirst, IsBare}
 use Rattle.hprof_heap.specs.ToldObjects.{ObjectTold, objects_of_dump}
 use Rattle.hprof_heap.proofs.Graphs.{Graph, Thing, IsRun, run_in_parts, word, word_in}
 use Rattle.hprof_heap.proofs.Placed.{ArePlaced, IsArrayOf, Other, Role, kept}
@@ -203,7 +207,9 @@ parts_make_heap o items found w v numbered made_told fine others p = record {
     object_there : (n : ℕ) (t : ObjectTold) → slice_get (objects_of_dump o items) n ≡ Some (Some t) → IsSome (p.later.things (kept p.middle n))
     object_there n t e = subst IsSome (sym (linked_at n t e)) refl
 
-pub session_makes_heap : (p : Plan) (ids : IdSize) (objects : List ℕ) (items : List ItemTold) (found : List RootFound) (w : HeapState) → MakesHeap p ids objects items found w
+-- from an empty heap with the classes of the plan on
+pub session_makes_heap : (p : Plan) (ids : IdSize) (objects : List ℕ) (items : List ItemTold) (found : List RootFound) (w : HeapState) → AreNumberedFirst (told_objects p ids objects items) → IsBare w → w.classes ≡ p.classes
+    → AreTaken (all_events (told_objects p ids objects items) items found) w → IsHeapOfDump (told_objects p ids objects items) items found (state_after_all (all_events (told_objects p ids objects items) items found) w)
 session_makes_heap p ids objects items found w numbered bare classes taken =
     let o = told_objects p ids objects items in
     let parts = session_parts o items found in
@@ -215,7 +221,10 @@ session_makes_heap p ids objects items found w numbered bare classes taken =
     (λ i high. run.others i high ∙ bare_registers w bare i)
     (run_has_parts (slots_in w) o items found (graph_of w) (graph_of (state_after_all parts w)) run.run))
 
-pub found_makes_heap : (limits : ClassLimits) (most : ℕ) (f : Found) (p : Plan) (size : IdSize) (items : List ItemTold) (w : HeapState) → MakesHeapOfFound limits most f p size items w
+-- by what a walk finds, and the plan of its classes
+pub found_makes_heap : (limits : ClassLimits) (most : ℕ) (f : Found) (p : Plan) (size : IdSize) (items : List ItemTold) (w : HeapState) → HasTables size items f → IsPlan limits most f p → IsBare w → w.classes ≡ p.classes
+    → AreTaken (all_events (told_objects p size f.objects.keys items) items f.roots.items) w
+    → IsHeapOfDump (told_objects p size f.objects.keys items) items f.roots.items (state_after_all (all_events (told_objects p size f.objects.keys items) items f.roots.items) w)
 found_makes_heap limits most f p size items w tables plan bare classes taken =
     session_makes_heap p size f.objects.keys items f.roots.items w
     (statics_are_numbered limits most f p size items tables plan (subst (λ cs. IsClassTable [] cs) classes bare.legal.classes)) bare classes taken

@@ -9,7 +9,8 @@ use Rattle.hprof_lines.specs.Objects.{ObjectsTold, number_of}
 use Rattle.hprof_lines.specs.Passes.{made_from}
 use Rattle.hprof_lines.specs.Roots.{roots_named}
 use Rattle.hprof_lines.specs.Sessions.{all_events, root_tags}
-use Rattle.hprof_heap.specs.DumpHeaps.{AreNumberedFirst, AreTakenUnlessFull, IsBare}
+use Rattle.hprof_heap.specs.TakenEvents.{AreTakenUnlessFull}
+use Rattle.hprof_heap.proofs.Premises.{AreNumberedFirst, IsBare}
 use Rattle.hprof_heap.specs.ToldObjects.{ObjectTold, objects_of_dump}
 use Rattle.hprof_heap.proofs.Graphs.{Graph}
 use Rattle.hprof_heap.proofs.Placed.{Other, kept}

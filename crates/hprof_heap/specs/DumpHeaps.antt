@@ -26,54 +26,6 @@ use Rattle.hprof_lines.specs.Roots.{arrays_for, roots_named, with_room}
 use Rattle.hprof_lines.specs.Sessions.{all_events, root_tags, told_objects}
 use Rattle.hprof_heap.specs.ToldObjects.{ObjectTold, objects_of_dump}
 
--- ---- events one after another
-
--- each of these events is accepted, one after another
-abbrev pub AreTaken : List Event → HeapState → Type 0
-AreTaken [] w = Unit {0}
-AreTaken (e ∷ es) w = (refusal_of e w ≡ None) × AreTaken es (state_after e w)
-
--- each of these events is accepted, one after another, or the first that isn't is refused since the heap is full
-abbrev pub AreTakenUnlessFull : List Event → HeapState → Type 0
-AreTakenUnlessFull [] w = Unit {0}
-AreTakenUnlessFull (e ∷ es) w =
-    (refusal_of e w ≡ Some HeapFull) ⊎ ((refusal_of e w ≡ None) × AreTakenUnlessFull es (state_after e w))
-
--- the state after events that are accepted
-abbrev pub state_after_all : List Event → HeapState → HeapState
-state_after_all [] w = w
-state_after_all (e ∷ es) w = state_after_all es (state_after e w)
-
--- a heap without an object
-pub record IsBare (w : HeapState) : Type 0 where
-  pub legal : IsLegal w
-  pub empty : (x : ℕ) → object_of w.regions x ≡ None
-
--- each class with an object for its static fields has one, and these are few: then no two objects have one number
-pub record AreNumberedFirst (o : ObjectsTold) : Type 0 where
-  pub as_many : length o.statics ≡ length o.plan.statics.items
-  pub few : length o.plan.statics.items ≤ 2 ^ 22
-
--- each of these numbers is a byte
-abbrev pub AreBytes : List ℕ → Type 0
-AreBytes bytes = (i : ℕ) → slice_index bytes i < 256
-
--- what a sub-record tells of values are bytes
-abbrev pub AreSubBytes : Sub → Type 0
-AreSubBytes (class c) = AreBytes c.statics.bytes
-AreSubBytes (instance x trace k values) = AreBytes values
-AreSubBytes (prim x trace count kind elements) = AreBytes elements
-AreSubBytes _ = Unit {0}
-
-abbrev pub AreItemBytes : ItemTold → Type 0
-AreItemBytes (record_told r) = Unit {0}
-AreItemBytes (sub_told s) = AreSubBytes s
-
--- the same of each item
-abbrev pub AreItemsOfBytes : List ItemTold → Type 0
-AreItemsOfBytes [] = Unit {0}
-AreItemsOfBytes (it ∷ items) = AreItemBytes it × AreItemsOfBytes items
-
 -- ---- objects
 
 -- the word that a value is in a heap, if objects have these ids by their numbers: 0 also for a reference to what isn't made
@@ -126,28 +78,3 @@ pub record IsHeapOfDump (o : ObjectsTold) (items : List ItemTold) (found : List 
   pub roots_array : NamesKind w (register w 0 7) (Array o.plan.roots) 1024
   pub roots : AreKindsOfRoots o id w found (register w 0 7) (o.plan.roots + 1) 0 root_tags
   pub registers : (i : ℕ) → i ≢ 7 → slice_index w.registers i ≡ 0
-
--- if the events of the session of a dump are all accepted, one after another, from an empty heap with the classes of its plan on,
--- they make the heap of the dump
-abbrev pub MakesHeap : Plan → IdSize → List ℕ → List ItemTold → List RootFound → HeapState → Type 0
-MakesHeap p ids objects items found w =
-    let o = told_objects p ids objects items in
-    let events = all_events o items found in
-    AreNumberedFirst o → IsBare w → w.classes ≡ p.classes → AreTaken events w
-    → IsHeapOfDump o items found (state_after_all events w)
-
--- the same of a dump in which a walk finds this, and of a plan of its classes
-abbrev pub MakesHeapOfFound : ClassLimits → ℕ → Found → Plan → IdSize → List ItemTold → HeapState → Type 0
-MakesHeapOfFound limits most f p size items w =
-    let o = told_objects p size f.objects.keys items in
-    let events = all_events o items f.roots.items in
-    HasTables size items f → IsPlan limits most f p → IsBare w → w.classes ≡ p.classes → AreTaken events w
-    → IsHeapOfDump o items f.roots.items (state_after_all events w)
-
--- if the bytes of the records are bytes, and the heap takes arrays as long as those of the plan, and of 1,024 elements: the events
--- of the session are all accepted, one after another, from an empty heap with the classes of the plan on, unless the heap is full
-abbrev pub IsTakenUnlessFull : ClassLimits → ℕ → Found → Plan → IdSize → List ItemTold → HeapState → Type 0
-IsTakenUnlessFull limits most f p size items w =
-    HasTables size items f → AreItemsOfBytes items → IsPlan limits most f p → IsBare w → w.classes ≡ p.classes
-    → most ≤ w.limits.elements → array_limit ≤ w.limits.elements
-    → AreTakenUnlessFull (all_events (told_objects p size f.objects.keys items) items f.roots.items) w

@@ -1,17 +1,14 @@
 -- A new heap after the events that define the classes of a session.
-use Rattle.std.proofs.Common.{◌≡◌, ◌≢◌, ◌⊎◌, ℕ, zero, suc, ◌+◌, ◌-◌, ◌<◌, ◌≤◌, Bool, true, false, cond, List, [], ◌∷◌, ◌++◌, length, map, replicate, refl, sym, ap, subst, ◌∙◌, append_assoc, Option, Some, None, inl, inr, arith}
-use Rattle.std.specs.Prelude.{fold, option_and_then, slice_get, if◌then◌else◌}
+use Rattle.std.proofs.Common.{◌≡◌, ℕ, zero, suc, Bool, true, false, cond, List, [], ◌∷◌, ◌++◌, map, replicate, refl, sym, ap, subst, ◌∙◌, append_assoc, Option, Some, None, inr}
+use Rattle.std.specs.Prelude.{option_and_then, slice_get, if◌then◌else◌}
 use Rattle.std.specs.Map.{values_of}
 use Rattle.std.proofs.lemmas.List.{append-nil}
 use Rattle.heap_class.specs.declared.ClassLimits.{ClassLimits}
-use Rattle.heap_class.specs.declared.Field.{Field}
 use Rattle.heap_class.specs.declared.ObjRef.{ObjRef}
 use Rattle.heap_class.specs.Classes.{Class, array_class, class_refusal, instance_class}
-use Rattle.heap_region.specs.Limits.{region_limit}
-use Rattle.heap_region.specs.Regions.{Object, Region, Empty, object_of, ref_of, object_at, used_at, used_part}
+use Rattle.heap_region.specs.Regions.{Empty, object_of, ref_of, object_at, used_at, used_part}
 use Rattle.heap_region.proofs.ShownRegions.{unused_region_has_no_object}
 use Rattle.heap_world.specs.declared.Limits.{Limits}
-use Rattle.heap_world.specs.Limits.{AreLimits, mutator_limit}
 use Rattle.heap_world.specs.Legal.{IsLegal}
 use Rattle.heap_world.specs.State.{HeapState, opening_state}
 use Rattle.heap_world.specs.Events.{after_class}
@@ -22,11 +19,11 @@ use Rattle.heap_step.specs.Apply.{refusal_of, state_after}
 use Rattle.heap_step.proofs.EventLaws.{keeps_legal}
 use Rattle.hprof_plan.specs.Accepted.{AreAccepted, class_event, next_name}
 use Rattle.hprof_plan.specs.Plans.{IsPlan, planned_ids, planned_statics}
-use Rattle.hprof_plan.specs.SessionClasses.{class_after, dump_classes, instance_after, is_array_in, name_in, root_names, static_class, super_after}
+use Rattle.hprof_plan.specs.SessionClasses.{class_after, instance_after, is_array_in, name_in, root_names, static_class, super_after}
 use Rattle.hprof_plan.specs.declared.dump.Found.{Found}
 use Rattle.hprof_plan.specs.declared.planning.Plan.{Plan}
 use Rattle.hprof_heap.specs.TakenEvents.{AreTaken, AreTakenUnlessFull, state_after_all}
-use Rattle.hprof_heap.specs.Laws.{IsNewHeap}
+use Rattle.hprof_heap.specs.Laws.{NewHeap, opened}
 use Rattle.hprof_heap.proofs.Premises.{IsBare}
 use Rattle.hprof_heap.proofs.PlannedClasses.{added_in_turn, dump_entry, dump_is_added, dump_part, plan_is_counted, root_part, static_part}
 
@@ -160,21 +157,21 @@ pub record IsReady (limits : Limits) (p : Plan) (v : HeapState) : Type 0 where
   pub classes : v.classes ≡ p.classes
   pub same : v.limits ≡ limits
 
-pub new_heap_is_ready : (limits : ClassLimits) (most : ℕ) (f : Found) (p : Plan) (l : Limits) (n m : ℕ) → IsPlan limits most f p → IsNewHeap l n m → AreTaken (map class_event p.classes) (opening_state l n m)
-    → IsReady l p (state_after_all (map class_event p.classes) (opening_state l n m))
+pub new_heap_is_ready : (limits : ClassLimits) (most : ℕ) (f : Found) (p : Plan) (h : NewHeap) → IsPlan limits most f p → AreTaken (map class_event p.classes) (opened h)
+    → IsReady h.limits p (state_after_all (map class_event p.classes) (opened h))
 unfolding opening_state
-new_heap_is_ready limits most f p l n m plan new taken = record {
+new_heap_is_ready limits most f p h plan taken = record {
   bare = record {
-    legal = legal_after_all (map class_event p.classes) (opening_state l n m) (begins_legal l n m new.limits_are new.regions_within.0 new.regions_within.1 new.mutators_within.0 new.mutators_within.1) taken;
-    empty = λ x. ap (λ rs. object_of rs x) same.regions ∙ empty_regions_have_no_object n x;
+    legal = legal_after_all (map class_event p.classes) (opened h) (begins_legal h.limits h.regions h.mutators h.limits_are h.regions_within.0 h.regions_within.1 h.mutators_within.0 h.mutators_within.1) taken;
+    empty = λ x. ap (λ rs. object_of rs x) same.regions ∙ empty_regions_have_no_object h.regions x;
   };
-  classes = classes_after_all p.classes (opening_state l n m) (planned_are_defined limits most f p plan);
+  classes = classes_after_all p.classes (opened h) (planned_are_defined limits most f p plan);
   same = same.limits;
 }
   where
-    same : IsOtherwiseSame (opening_state l n m) (state_after_all (map class_event p.classes) (opening_state l n m))
-    same = same_after_classes p.classes (opening_state l n m)
+    same : IsOtherwiseSame (opened h) (state_after_all (map class_event p.classes) (opened h))
+    same = same_after_classes p.classes (opened h)
 
-pub new_heap_takes_classes : (limits : ClassLimits) (most : ℕ) (f : Found) (p : Plan) (l : Limits) (n m : ℕ) → IsPlan limits most f p → l.classes ≡ limits → AreTaken (map class_event p.classes) (opening_state l n m)
+pub new_heap_takes_classes : (limits : ClassLimits) (most : ℕ) (f : Found) (p : Plan) (h : NewHeap) → IsPlan limits most f p → h.limits.classes ≡ limits → AreTaken (map class_event p.classes) (opened h)
 unfolding opening_state
-new_heap_takes_classes limits most f p l n m plan same = classes_are_taken limits [] p.classes (opening_state l n m) (planned_are_defined limits most f p plan) same refl plan.accepted
+new_heap_takes_classes limits most f p h plan same = classes_are_taken limits [] p.classes (opened h) (planned_are_defined limits most f p plan) same refl plan.accepted

@@ -1,5 +1,5 @@
 -- The items that a walk comes to: there is one list of them, and what they tell are bytes.
-use Rattle.std.proofs.Common.{◌≡◌, ◌≢◌, ℕ, ◌+◌, ◌<◌, Bool, true, false, cond, List, [], ◌∷◌, ◌++◌, length, refl, sym, ap, subst, ◌∙◌, Option, Some, None, Result, Ok, Err, arith, length-append}
+use Rattle.std.proofs.Common.{◌≡◌, ◌≢◌, ℕ, ◌<◌, Bool, true, false, List, [], ◌∷◌, ◌++◌, length, refl, sym, ap, subst, ◌∙◌, Option, Some, None, Result, Ok, arith, length-append}
 use Rattle.std.specs.Prelude.{◌==◌, ◌||◌, if◌then◌else◌}
 use Rattle.heap_class.specs.declared.IdSize.{IdSize}
 use Rattle.heap_class.specs.Kinds.{type_code}
@@ -11,13 +11,12 @@ use Rattle.hprof_reader.specs.SubParts.{sub_parts}
 use Rattle.hprof_reader.specs.SubRecords.{Sub, class_text, entries_text, head_text, sub_text, root, class, instance, array, prim}
 use Rattle.hprof_reader.proofs.ReadSubs.{sub_reader}
 use Rattle.hprof_reader.proofs.WholeRecords.{record_reader}
-use Rattle.hprof_session.specs.Surveys.{EndsAt, bytes_left}
-use Rattle.hprof_session.specs.Walks.{AreNext, IsAtEnd, IsNext, IsNextRecord, IsNextSub, ItemTold, Left, record_told, segment_of, sub_told}
+use Rattle.hprof_session.specs.Surveys.{EndsAt}
+use Rattle.hprof_session.specs.Walks.{AreNext, IsNext, IsNextRecord, IsNextSub, ItemTold, Left, record_told, segment_of, sub_told}
 use Rattle.hprof_session.proofs.Walked.{next_item_leaves_fewer_bytes, walk_end_leaves_no_bytes}
 use Rattle.hprof_plan.specs.Finds.{Finds, HasTables}
 use Rattle.hprof_plan.specs.declared.dump.Found.{Found}
 use Rattle.hprof_lines.specs.Passes.{IsWhole}
-use Rattle.hprof_heap.specs.Laws.{IsLeftBytes}
 use Rattle.hprof_heap.proofs.Premises.{AreBytes, AreItemBytes, AreItemsOfBytes, AreSubBytes}
 use Rattle.hprof_heap.proofs.ValueRanges.{bytes_before, bytes_behind}
 
@@ -101,6 +100,11 @@ sub_text_has_bytes ids (instance x trace k values) b = bytes_behind (u1 0x21 ++ 
 sub_text_has_bytes ids (array x trace count k elements) b = tt
 sub_text_has_bytes ids (prim x trace count kind elements) b = bytes_behind (u1 0x23 ++ id ids x ++ u4 trace ++ u4 count ++ u1 (type_code kind)) elements b
 
+-- what is left of a dump are bytes
+pub record IsLeftBytes (w : Left) : Type 0 where
+  pub segment : AreBytes w.segment
+  pub rest : AreBytes w.rest
+
 no_bytes : AreBytes []
 no_bytes i = omega arith
 
@@ -108,10 +112,13 @@ next_has_bytes : (w : Left) (i : ItemTold) (v : Left) → IsNext w i v → IsLef
 next_has_bytes w (sub_told s) v next b =
     let segment : AreBytes (sub_text w.ids s ++ v.segment) = subst AreBytes next.segment b.segment in
     (sub_text_has_bytes w.ids s (bytes_before (sub_text w.ids s) v.segment segment), record { segment = bytes_behind (sub_text w.ids s) v.segment segment; rest = subst AreBytes (sym next.rest) b.rest })
-next_has_bytes w (record_told r) v next b = (tt, record {
-  segment = subst AreBytes (sym next.segment) (go (r.tag == 0x0c || r.tag == 0x1c));
-  rest = bytes_behind (record_text r) v.rest rest;
-})
+next_has_bytes w (record_told r) v next b = (
+  tt,
+  record {
+    segment = subst AreBytes (sym next.segment) (go (r.tag == 0x0c || r.tag == 0x1c));
+    rest = bytes_behind (record_text r) v.rest rest;
+  },
+)
   where
     rest : AreBytes (record_text r ++ v.rest)
     rest = subst AreBytes next.rest b.rest

@@ -1,29 +1,17 @@
 -- The heap of a dump.
-use Rattle.std.specs.Prelude.{◌≡◌, ◌≢◌, ◌⊎◌, ℕ, ◌+◌, ◌-◌, ◌*◌, ◌/◌, ◌%◌, ◌^◌, ◌<◌, ◌≤◌, ◌==◌, min, find, List, [], ◌∷◌, length, slice_get, slice_index, Some, None, if◌then◌else◌}
+use Rattle.std.specs.Prelude.{◌≡◌, ◌≢◌, ℕ, ◌+◌, ◌-◌, ◌*◌, ◌/◌, ◌%◌, ◌<◌, ◌≤◌, ◌==◌, min, find, List, [], ◌∷◌, length, slice_get, slice_index, Some, if◌then◌else◌}
 use Rattle.std.specs.Option.{option_map_or}
-use Rattle.heap_class.specs.declared.ClassLimits.{ClassLimits}
-use Rattle.heap_class.specs.declared.IdSize.{IdSize}
 use Rattle.heap_class.specs.declared.ObjKind.{ObjKind}
 use Rattle.heap_class.specs.declared.ObjKind.TheVariants.{Array}
-use Rattle.heap_class.specs.declared.Refusal.TheVariants.{HeapFull}
 use Rattle.heap_class.specs.Kinds.{is_reference}
-use Rattle.heap_class.specs.Limits.{array_limit}
 use Rattle.heap_region.specs.Regions.{Object, object_of}
 use Rattle.heap_world.specs.State.{HeapState, register, word_of}
-use Rattle.heap_world.specs.Legal.{IsLegal}
-use Rattle.heap_step.specs.declared.Event.{Event}
-use Rattle.heap_step.specs.Apply.{refusal_of, state_after}
-use Rattle.hprof_reader.specs.SubRecords.{Sub, class, instance, prim}
-use Rattle.hprof_session.specs.Walks.{ItemTold, record_told, sub_told}
-use Rattle.hprof_plan.specs.Finds.{HasTables}
-use Rattle.hprof_plan.specs.Plans.{IsPlan}
-use Rattle.hprof_plan.specs.declared.dump.Found.{Found}
-use Rattle.hprof_plan.specs.declared.planning.Plan.{Plan}
+use Rattle.hprof_session.specs.Walks.{ItemTold}
 use Rattle.hprof_plan.specs.declared.items.RootFound.{RootFound}
 use Rattle.hprof_lines.specs.declared.values.SlotValue.{SlotValue}
 use Rattle.hprof_lines.specs.Objects.{ObjectsTold, number_of, shown}
 use Rattle.hprof_lines.specs.Roots.{arrays_for, roots_named, with_room}
-use Rattle.hprof_lines.specs.Sessions.{all_events, root_tags, told_objects}
+use Rattle.hprof_lines.specs.Sessions.{root_tags}
 use Rattle.hprof_heap.specs.ToldObjects.{ObjectTold, objects_of_dump}
 
 -- ---- objects

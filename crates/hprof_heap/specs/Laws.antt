@@ -1,5 +1,5 @@
 -- What the session of a dump makes of a new heap.
-use Rattle.std.specs.Prelude.{◌≡◌, ℕ, ◌≤◌, ◌<◌, List, ◌++◌, map, slice_index}
+use Rattle.std.specs.Prelude.{◌≡◌, ℕ, ◌<◌, ◌≤◌, List, ◌++◌, map, slice_index}
 use Rattle.heap_class.specs.declared.ClassLimits.{ClassLimits}
 use Rattle.heap_class.specs.Limits.{array_limit}
 use Rattle.heap_region.specs.Limits.{region_limit}
@@ -19,44 +19,55 @@ use Rattle.hprof_lines.specs.Sessions.{all_events, told_objects}
 use Rattle.hprof_heap.specs.TakenEvents.{AreTaken, AreTakenUnlessFull, state_after_all}
 use Rattle.hprof_heap.specs.DumpHeaps.{IsHeapOfDump}
 
--- the walk over a dump comes to these items; this is found in them, and this is the plan of its classes, for a heap with these
--- limits whose arrays have at most `most` elements
-pub record IsSessionOf (limits : ClassLimits) (most : ℕ) (w : Left) (items : List ItemTold) (f : Found) (p : Plan) : Type 0 where
-  pub whole : IsWhole w items
-  pub finds : Finds w f
-  pub planned : IsPlan limits most f p
+-- a dump: all items that the walk over it comes to, what is found in them, and a plan of its classes, for a heap with these limits
+-- whose arrays have at most `most` elements
+pub record PlannedDump : Type 0 where
+  pub walk : Left
+  pub items : List ItemTold
+  pub whole : IsWhole walk items
+  pub found : Found
+  pub finds : Finds walk found
+  pub limits : ClassLimits
+  pub most : ℕ
+  pub plan : Plan
+  pub planned : IsPlan limits most found plan
 
--- the objects of the dump
-abbrev pub objects_of : Left → List ItemTold → Found → Plan → ObjectsTold
-objects_of w items f p = told_objects p w.ids f.objects.keys items
+-- its objects
+abbrev pub objects_in : PlannedDump → ObjectsTold
+objects_in d = told_objects d.plan d.walk.ids d.found.objects.keys d.items
 
 -- the events of its session: those that define the classes, and then those that make the objects and keep the roots
-abbrev pub session_events : Left → List ItemTold → Found → Plan → List Event
-session_events w items f p = map class_event p.classes ++ all_events (objects_of w items f p) items f.roots.items
+abbrev pub session_events : PlannedDump → List Event
+session_events d =
+    map class_event d.plan.classes ++ all_events (objects_in d) d.items d.found.roots.items
 
--- what is left of a dump are bytes
-pub record IsLeftBytes (w : Left) : Type 0 where
-  pub segment : (i : ℕ) → slice_index w.segment i < 256
-  pub rest : (i : ℕ) → slice_index w.rest i < 256
+-- the dump has bytes
+pub record HasBytes (d : PlannedDump) : Type 0 where
+  pub segment : (i : ℕ) → slice_index d.walk.segment i < 256
+  pub rest : (i : ℕ) → slice_index d.walk.rest i < 256
 
--- there are heaps with these limits, and these numbers of regions and mutators
-pub record IsNewHeap (limits : Limits) (regions mutators : ℕ) : Type 0 where
+-- a new heap: its limits, and how many regions and mutators it has
+pub record NewHeap : Type 0 where
+  pub limits : Limits
   pub limits_are : AreLimits limits
+  pub regions : ℕ
   pub regions_within : (1 ≤ regions) × (regions ≤ region_limit)
+  pub mutators : ℕ
   pub mutators_within : (1 ≤ mutators) × (mutators ≤ mutator_limit)
 
--- if the events of a session are all accepted, one after another, by a new heap, they make the heap of the dump
-abbrev pub MakesHeap : ClassLimits → ℕ → Left → List ItemTold → Found → Plan → Limits → ℕ → ℕ → Type 0
-MakesHeap limits most w items f p allowed regions mutators =
-    let events = session_events w items f p in
-    let new = opening_state allowed regions mutators in
-    IsSessionOf limits most w items f p → IsNewHeap allowed regions mutators → AreTaken events new
-    → IsHeapOfDump (objects_of w items f p) items f.roots.items (state_after_all events new)
+abbrev pub opened : NewHeap → HeapState
+opened h = opening_state h.limits h.regions h.mutators
 
--- a new heap that allows the classes and the arrays of the plan accepts the events of a session, one after another, unless it is
--- full
-abbrev pub IsTakenUnlessFull : ClassLimits → ℕ → Left → List ItemTold → Found → Plan → Limits → ℕ → ℕ → Type 0
-IsTakenUnlessFull limits most w items f p allowed regions mutators =
-    IsSessionOf limits most w items f p → IsLeftBytes w → IsNewHeap allowed regions mutators
-    → allowed.classes ≡ limits → most ≤ allowed.elements → array_limit ≤ allowed.elements
-    → AreTakenUnlessFull (session_events w items f p) (opening_state allowed regions mutators)
+-- if the new heap accepts the events of the session, one after another, they make the heap of the dump
+abbrev pub MakesHeap : PlannedDump → NewHeap → Type 0
+MakesHeap d h =
+    AreTaken (session_events d) (opened h)
+    → IsHeapOfDump (objects_in d) d.items d.found.roots.items
+    (state_after_all (session_events d) (opened h))
+
+-- if the new heap allows the classes and the arrays of the plan, it accepts the events of the session, one after another, or all up
+-- to one that it refuses since it is full
+abbrev pub IsTakenUnlessFull : PlannedDump → NewHeap → Type 0
+IsTakenUnlessFull d h =
+    HasBytes d → h.limits.classes ≡ d.limits → d.most ≤ h.limits.elements
+    → array_limit ≤ h.limits.elements → AreTakenUnlessFull (session_events d) (opened h)

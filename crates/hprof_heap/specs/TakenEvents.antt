@@ -14,7 +14,8 @@ AreTaken (e ∷ es) w = (refusal_of e w ≡ None) × AreTaken es (state_after e 
 abbrev pub AreTakenUnlessFull : List Event → HeapState → Type 0
 AreTakenUnlessFull [] w = Unit {0}
 AreTakenUnlessFull (e ∷ es) w =
-    (refusal_of e w ≡ Some HeapFull) ⊎ ((refusal_of e w ≡ None) × AreTakenUnlessFull es (state_after e w))
+    (refusal_of e w ≡ Some HeapFull)
+    ⊎ ((refusal_of e w ≡ None) × AreTakenUnlessFull es (state_after e w))
 
 -- the state after events that are accepted
 abbrev pub state_after_all : List Event → HeapState → HeapState

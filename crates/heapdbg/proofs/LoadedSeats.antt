@@ -16,10 +16,10 @@ use Rattle.heapdbg_options.specs.HeapLimits.{HeapSettings}
 use Rattle.heapdbg_options.specs.declared.settings.Origin.{Origin}
 use Rattle.heapdbg_options.specs.declared.settings.Service.{Service}
 use Rattle.heapdbg_options.specs.declared.settings.Settings.{Settings}
-use Rattle.heapdbg.specs.Explorations.{IsRunFirst, has_area}
+use Rattle.private_tasks.specs.Explorations.{IsRunFirst, has_area}
 use Rattle.heapdbg.specs.ServeOutcomes.{IsServed, IsServiceEnd, config_of, rolls_of, terms_of}
 use Rattle.heapdbg.specs.ServedHeaps.{AreSeatsFor, AreSeatsUsed, AreSessionsFrom, AreWorkersLeft, IsHeapServed, IsSeatLoaded}
-use Rattle.heapdbg.specs.declared.failure.Fault.{Fault}
+use Rattle.private_tasks.specs.declared.failure.Fault.{Fault}
 use Rattle.heapdbg.specs.declared.served_heap.HeapServed.{HeapServed}
 
 -- lines that were run from a seat left it loaded

@@ -17,7 +17,7 @@ use Rattle.heapdbg_options.specs.HeapLimits.{HeapSettings}
 use Rattle.heapdbg_options.specs.declared.settings.Origin.{Origin}
 use Rattle.heapdbg_options.specs.declared.settings.Service.{Service}
 use Rattle.heapdbg_options.specs.declared.settings.Settings.{Settings}
-use Rattle.heapdbg.specs.Explorations.{IsRunFirst, has_area}
+use Rattle.private_tasks.specs.Explorations.{IsRunFirst, has_area}
 use Rattle.heapdbg.specs.declared.served_heap.HeapServed.{HeapServed}
 use Rattle.heapdbg.specs.declared.served_heap.Sessions.{Sessions}
 use Rattle.heapdbg.specs.declared.served_heap.Sessions.TheVariants.{Once, Stayed}

@@ -7,7 +7,7 @@ use Rattle.session_text.specs.declared.limits.SessionLimits.{SessionLimits}
 use Rattle.heap_server.specs.Blanks.{Maker, IsNamed}
 use Rattle.heap_server.specs.Calls.{IsLegalLedger}
 use Rattle.heap_server.specs.LockStates.{SeatModel}
-use Rattle.heap_server.specs.Stations.{Station, seat_acts, seat_answers}
+use Rattle.heap_server.specs.SeatStations.{Station, seat_acts, seat_answers}
 use Rattle.heap_server.specs.Seated.{TableId}
 use Rattle.heap_server.specs.Tending.{AreStaff, IsSeatAfterRuns}
 use Rattle.heap_server.specs.declared.sessions.Terms.{Terms}

@@ -9,7 +9,8 @@ use Rattle.heap_server.specs.Blanks.{Maker}
 use Rattle.heap_server.specs.Calls.{IsLegalLedger}
 use Rattle.heap_server.specs.PageSessions.{IsServedBeside}
 use Rattle.heap_server.specs.SessionSeats.{AreUsers}
-use Rattle.heap_server.specs.Stations.{Station, seat_acts, seat_answers, seat_begins, seat_says}
+use Rattle.heap_server.specs.Stations.{seat_begins, seat_says}
+use Rattle.heap_server.specs.SeatStations.{Station, seat_acts, seat_answers}
 use Rattle.heap_server.specs.declared.sessions.Terms.{Terms}
 use Rattle.heapdbg_options.specs.HeapLimits.{HeapSettings}
 use Rattle.heapdbg_options.specs.declared.settings.Origin.{Origin}

@@ -1,34 +1,21 @@
 -- A run of the program between its reader and its writer.
-use Rattle.std.specs.Prelude.{◌≡◌, ℕ, ◌⊎◌, Bool, true, false, List, Option, Result, None, Some, Ok, Err, is_some}
+use Rattle.std.specs.Prelude.{◌≡◌, ℕ, ◌⊎◌, Bool, true, List, Option, Result, None, Some, Err, is_some}
 use Rattle.dump_pump.specs.Outlets.{Outgoing}
-use Rattle.heap_trail.specs.declared.Action.{Action}
-use Rattle.heap_trail.specs.declared.Reply.{Reply}
-use Rattle.session_text.specs.Answers.{AnswersCommand, Begins, all_bad}
-use Rattle.session_text.specs.Local.{LocalActs}
-use Rattle.session_text.specs.Machine.{Machine, opening_machine}
-use Rattle.session_text.specs.declared.commands.Local.{Local}
-use Rattle.session_text.specs.declared.Ended.{Ended}
-use Rattle.session_text.specs.Endings.{EndsSession}
 use Rattle.dump_pump.specs.Inlets.{Incoming}
-use Rattle.session_text.specs.Limits.{session_limits}
-use Rattle.session_text.specs.Session.{IsSession}
-use Rattle.question_text.specs.declared.asking.Asking.{Asking}
-use Rattle.question_text.specs.Sessions.{ServesAsking}
 use Rattle.private_tasks.specs.declared.failure.Fault.{Fault}
 use Rattle.private_tasks.specs.declared.failure.Fault.TheVariants.{Memory}
 use Rattle.private_tasks.specs.declared.failure.Failure.{Failure}
 use Rattle.heapdbg.specs.declared.served_heap.HeapServed.{HeapServed}
 use Rattle.heapdbg_options.specs.declared.settings.LineFault.{LineFault}
-use Rattle.heapdbg_options.specs.declared.settings.Origin.{Origin}
 use Rattle.heapdbg_options.specs.declared.settings.Service.{Service}
 use Rattle.heapdbg_options.specs.declared.settings.Settings.{Settings}
 use Rattle.heapdbg_options.specs.declared.settings.Task.{Task}
 use Rattle.private_tasks.specs.declared.failure.Fault.TheVariants as fault
 use Rattle.heapdbg_options.specs.declared.settings.Task.TheVariants.{Run, Explore, Draw, Save, Serve, Ask, Fetch}
 use Rattle.heapdbg_options.specs.declared.settings.Target.TheVariants.{Out, To}
-use Rattle.heapdbg_options.specs.CommandLine.{limits_of, settings_of}
-use Rattle.private_tasks.specs.Endings.{failure_of, outcome_of, work_of}
-use Rattle.private_tasks.specs.Explorations.{IsAsked, IsExplored, IsHindrance, IsRunFirst, IsSessionBegun, has_area}
+use Rattle.heapdbg_options.specs.CommandLine.{settings_of}
+use Rattle.private_tasks.specs.Endings.{failure_of, work_of}
+use Rattle.private_tasks.specs.Explorations.{IsExplored}
 use Rattle.heapdbg.specs.FetchOutcomes.{IsDumpFetched}
 use Rattle.heapdbg_options.specs.Refusals.{IsRefusalOf}
 use Rattle.private_tasks.specs.SaveOutcomes.{IsSavedTo}

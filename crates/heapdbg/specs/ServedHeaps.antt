@@ -9,7 +9,7 @@ use Rattle.heap_server.specs.Role.TheVariants.{User}
 use Rattle.heap_server.specs.Seated.{TableId}
 use Rattle.heap_server.specs.LockStates.{SeatModel}
 use Rattle.heap_server.specs.SessionSeats.{IsFor}
-use Rattle.heap_server.specs.Stations.{Station, seat_acts, seat_answers}
+use Rattle.heap_server.specs.SeatStations.{Station, seat_acts, seat_answers}
 use Rattle.heap_server.specs.Staying.{AreStays}
 use Rattle.heap_server.specs.Tending.{AreStaff, IsSeatAfterRuns, MarkRuns, SweepRuns}
 use Rattle.heap_server.specs.declared.sessions.Terms.{Terms}

@@ -1,5 +1,5 @@
 -- A run over a heap of its own, and a drawing of what it left.
-use Rattle.std.specs.Prelude.{◌≡◌, ℕ, ◌⊎◌, Bool, true, false, List, Option, Result, None, Some, Ok, Err, is_some}
+use Rattle.std.specs.Prelude.{◌≡◌, ◌⊎◌, Bool, true, false, Result, Ok, Err}
 use Rattle.dump_pump.specs.Outlets.{Outgoing}
 use Rattle.heap_trail.specs.declared.Action.{Action}
 use Rattle.heap_trail.specs.declared.Reply.{Reply}
@@ -16,24 +16,12 @@ use Rattle.question_text.specs.declared.asking.Asking.{Asking}
 use Rattle.question_text.specs.Sessions.{ServesAsking}
 use Rattle.private_tasks.specs.declared.failure.Fault.{Fault}
 use Rattle.private_tasks.specs.declared.failure.Fault.TheVariants.{Memory}
-use Rattle.private_tasks.specs.declared.failure.Failure.{Failure}
-use Rattle.heapdbg.specs.declared.served_heap.HeapServed.{HeapServed}
-use Rattle.heapdbg_options.specs.declared.settings.LineFault.{LineFault}
 use Rattle.heapdbg_options.specs.declared.settings.Origin.{Origin}
-use Rattle.heapdbg_options.specs.declared.settings.Service.{Service}
 use Rattle.heapdbg_options.specs.declared.settings.Settings.{Settings}
-use Rattle.heapdbg_options.specs.declared.settings.Task.{Task}
 use Rattle.private_tasks.specs.declared.failure.Fault.TheVariants as fault
-use Rattle.heapdbg_options.specs.declared.settings.Task.TheVariants.{Run, Explore, Draw, Save, Serve, Ask, Fetch}
-use Rattle.heapdbg_options.specs.declared.settings.Target.TheVariants.{Out, To}
-use Rattle.heapdbg_options.specs.CommandLine.{limits_of, settings_of}
-use Rattle.private_tasks.specs.Endings.{failure_of, outcome_of, work_of}
-use Rattle.private_tasks.specs.Explorations.{IsAsked, IsExplored, IsHindrance, IsRunFirst, IsSessionBegun, has_area}
-use Rattle.heapdbg.specs.FetchOutcomes.{IsDumpFetched}
-use Rattle.heapdbg_options.specs.Refusals.{IsRefusalOf}
-use Rattle.private_tasks.specs.SaveOutcomes.{IsSavedTo}
-use Rattle.heapdbg.specs.ServeOutcomes.{IsServerAsked, IsServed}
-use Rattle.heapdbg.specs.PageExplorations.{IsPageExplored}
+use Rattle.heapdbg_options.specs.CommandLine.{limits_of}
+use Rattle.private_tasks.specs.Endings.{outcome_of}
+use Rattle.private_tasks.specs.Explorations.{IsAsked, IsHindrance, IsRunFirst, IsSessionBegun, has_area}
 
 -- an action of a private machine, which keeps the number of the first pin
 abbrev pub OwnActs : Local → Action → Reply → Local → Type 0

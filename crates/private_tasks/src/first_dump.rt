@@ -36,16 +36,8 @@ pub(crate) fn load_dump<R: AllocGlobal + Clock + Eprint + Files, C: Commands + D
         (Begins C.acts C.unknown request.entry.settings.time) commands) }
     ensures hindrance { IfErr result (IsHindrance Dump) }
 {
-    let Some(path) = request.first else {
-        return Err(Fault::Memory);
-    };
-    match fs::read(rt, path) {
-        Ok(dump) => run_dump::<R, C, Brand>(rt, request, is_terminal, commands, &dump),
-        Err(error) => {
-            tell_path(rt, is_terminal, path, &error);
-            Err(Fault::Hprof)
-        }
-    }
+    let dump = read_dump(rt, is_terminal, request.first)?;
+    run_dump::<R, C, Brand>(rt, request, is_terminal, commands, &dump)
 }
 
 // Runs the lines of the session of a dump by these commands, which are those that `B` says.
@@ -114,6 +106,27 @@ fn commands_left<C: Drop>(
             Ok(_) => Err(Fault::Write),
             Err(ended) => Err(fault_of_load(ended)),
         },
+    }
+}
+
+/// Reads the file of a dump. Fails with Hprof if it can't be read; why, it says on standard error, if that is a terminal. Fails
+/// with Memory if there is no path.
+pub(crate) fn read_dump<R: AllocGlobal + Eprint + Files>(
+    rt: &R,
+    is_terminal: bool,
+    path: Option<&str>,
+) -> Result<Vec<u8>, Fault>
+    ensures { IfErr result (IsHindrance Dump) }
+{
+    let Some(path) = path else {
+        return Err(Fault::Memory);
+    };
+    match fs::read(rt, path) {
+        Ok(dump) => Ok(dump),
+        Err(error) => {
+            tell_path(rt, is_terminal, path, &error);
+            Err(Fault::Hprof)
+        }
     }
 }
 

@@ -6,14 +6,12 @@ ghost use Rattle.heapdbg_options.specs.declared.settings.Origin.TheVariants.{Dum
 ghost use Rattle.private_tasks.specs.Explorations.{IsHindrance, IsPairFault, IsPairHindrance, IsPairRunFrom, IsRunFirst, has_area};
 
 use crate::failure::Fault;
-use crate::first_dump::{REPORTED_LINES, fault_of_load};
-use crate::reasons::tell_path;
+use crate::first_dump::{REPORTED_LINES, fault_of_load, read_dump};
 use crate::request::Request;
 use heap_console::{LineReports, LoadOutlet, LoadStart, NewestLine};
 use hprof_convert::tell_left_out;
 use hprof_pair::{BothConverted, PairFailure, convert_pair};
 use session_text::{Commands, Ended, session_limits};
-use std::fs;
 use std::fs::Files;
 use std::marker::Brand;
 use std::time::Clock;
@@ -36,27 +34,6 @@ pub(crate) fn load_dumps<R: AllocGlobal + Clock + Eprint + Files, C: Commands + 
     let first = read_dump(rt, is_terminal, request.first)?;
     let second = read_dump(rt, is_terminal, request.second)?;
     run_dumps::<R, C, Brand>(rt, request, is_terminal, commands, &first, &second)
-}
-
-// Reads the file of a dump. Fails with Hprof if it can't be read; why, it says on standard error, if that is a terminal. Fails with
-// Memory if there is no path.
-fn read_dump<R: AllocGlobal + Eprint + Files>(
-    rt: &R,
-    is_terminal: bool,
-    path: Option<&str>,
-) -> Result<Vec<u8>, Fault>
-    ensures { IfErr result (IsHindrance Dumps) }
-{
-    let Some(path) = path else {
-        return Err(Fault::Memory);
-    };
-    match fs::read(rt, path) {
-        Ok(dump) => Ok(dump),
-        Err(error) => {
-            tell_path(rt, is_terminal, path, &error);
-            Err(Fault::Hprof)
-        }
-    }
 }
 
 // Runs the lines of the session of two dumps by these commands, which are those that `B` says.

@@ -18,7 +18,10 @@ use heapdbg_options::command_line::{path_option, settings};
 use heapdbg_options::line_words::borrow_words;
 use heapdbg_options::refusal::bad;
 use heapdbg_options::settings::{LineFault, Origin, Service, Settings, Target, Task};
-use private_tasks::{Failure, Fault, Request, Screen, TerminalGauge, Terminals, draw, explore, missing_folder, out_file, peer, run, save, secret_for, tell_path};
+use private_tasks::{
+    Failure, Fault, Request, Screen, TerminalGauge, Terminals, draw, explore, missing_folder,
+    out_file, peer, run, save, secret_for, tell_path,
+};
 use secret_word::Secret;
 use session_text::{Inlet, ReadInlet};
 use std::alloc::Global;

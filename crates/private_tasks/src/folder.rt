@@ -7,8 +7,8 @@ use std::path::Path;
 // The number of the error that a file stands where a folder is wanted.
 const NO_FOLDER: i32 = 20;
 
-// Returns why the folder of a path isn't there, or None if it is. Makes nothing. A path that names no file has no folder to
-// look for.
+/// Returns why the folder of a path isn't there, or None if it is. Makes nothing. A path that names no file has no folder to
+/// look for.
 pub fn missing_folder<R: Files>(rt: &R, path: &str) -> Option<Error> {
     match Path::new(path).parent() {
         Some(folder) if folder.as_str().is_empty() => None,

@@ -3,12 +3,7 @@ use std::alloc::{AllocError, Global};
 use std::io::Error;
 
 /// Says on standard error, if that is a terminal, why a file can't be opened or made. A write that fails changes nothing.
-pub fn tell_path<R: AllocGlobal + Eprint>(
-    rt: &R,
-    is_terminal: bool,
-    path: &str,
-    error: &Error,
-) {
+pub fn tell_path<R: AllocGlobal + Eprint>(rt: &R, is_terminal: bool, path: &str, error: &Error) {
     if is_terminal && let Ok(reason) = reason_of(rt.alloc(), error) {
         let _ = eprintln!(rt; "heapdbg: {path}: {reason}");
     }
@@ -35,12 +30,7 @@ pub(crate) fn tell_reason<R: AllocGlobal + Eprint>(
 
 /// Says on standard error, if that is a terminal, why a port of this computer can't be used. A write that fails changes
 /// nothing.
-pub fn tell_port<R: AllocGlobal + Eprint>(
-    rt: &R,
-    is_terminal: bool,
-    port: u16,
-    error: &Error,
-) {
+pub fn tell_port<R: AllocGlobal + Eprint>(rt: &R, is_terminal: bool, port: u16, error: &Error) {
     if is_terminal && let Ok(reason) = reason_of(rt.alloc(), error) {
         let _ = eprintln!(rt; "heapdbg: 127.0.0.1:{port}: {reason}");
     }

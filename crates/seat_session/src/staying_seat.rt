@@ -113,11 +113,7 @@ fn close_each<'a, L: Heap, R: Wait>(joined: &mut Joined<'a, L, R>, pins: &[u64])
 
 impl<'a, L: Heap, R: Wait> StayingSeat<'a, L, R> {
     /// Creates the commands of this seat, which has noted no pin. Questions are answered or not.
-    pub fn new(
-        alloc: Global,
-        joined: Joined<'a, L, R>,
-        questions: bool,
-    ) -> StayingSeat<'a, L, R>
+    pub fn new(alloc: Global, joined: Joined<'a, L, R>, questions: bool) -> StayingSeat<'a, L, R>
         ensures { result ≡ record {
           seat = joined.entry.seat;
           seen = joined.entry.seen;

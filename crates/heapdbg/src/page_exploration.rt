@@ -31,7 +31,7 @@ use std::time::Clock;
 /// that `origin` says are run, and its clients are answered from then until the session has ended. Fails as `explore` does, with
 /// Listen, before anything is run, if the port can't be listened on, and with Memory if no thread or no random bytes for the
 /// key can be had. May wait.
-#[tactic(auto, using(crate::proofs::PageHindrances::no_memory_hinders))]
+#[tactic(auto, using(private_tasks::proofs::Hindrances::no_memory_hinders))]
 pub(crate) fn explore_with_page<R, I: Inlet, O: Outlet>(
     rt: &R,
     request: Request<'_>,
@@ -68,7 +68,7 @@ fn blank_for(alloc: Global, settings: &Settings) -> Result<Blank, Fault>
 }
 
 // Runs the session over a heap that a type names.
-#[tactic(auto, using(crate::proofs::PageHindrances::no_memory_hinders))]
+#[tactic(auto, using(private_tasks::proofs::Hindrances::no_memory_hinders))]
 fn explore_opened<L: Heap + Send + Sync, R, I: Inlet, O: Outlet>(
     rt: &R,
     request: Request<'_>,

@@ -74,7 +74,7 @@ where
 }
 
 // Opens a heap that a type names, and serves it as `serve_blank` does.
-#[tactic(auto, using(crate::proofs::PageHindrances::no_memory_hinders))]
+#[tactic(auto, using(private_tasks::proofs::Hindrances::no_memory_hinders))]
 fn serve_named<L: Heap + Send + Sync, R>(
     rt: &R,
     request: Request<'_>,

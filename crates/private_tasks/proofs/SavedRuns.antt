@@ -19,9 +19,9 @@ use Rattle.private_tasks.specs.Explorations.{IsOpening}
 use Rattle.private_tasks.specs.SaveOutcomes.{IsSavedWith, any_outlet}
 
 -- the first pin of a heap as it begins
-pub first_is : (s : Settings) → (opening_machine (limits_of s) s.ids s.regions s.mutators s.keep).pins.next ≡ 1
+pub first_pin_is_one : (s : Settings) → (opening_machine (limits_of s) s.ids s.regions s.mutators s.keep).pins.next ≡ 1
 unfolding opening_machine
-first_is s = refl
+first_pin_is_one s = refl
 
 -- what is done after a session of a heap as it begins, wherever an outlet may be made
 ends_here : (makes : Option Outgoing → Type 0) (own mine time : ℕ) (left m' : Machine) (between w' : Outgoing) (outlet : Option Outgoing) (talked ended : Ended) (pumped : Option Pumped)

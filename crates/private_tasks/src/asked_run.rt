@@ -16,7 +16,7 @@ use std::time::Clock;
 
 /// Runs one session, in which questions are answered and no line writes a file, over a private heap. If `origin` says so, the lines
 /// of the session of a dump are run first, as by `explore`. Fails as that does.
-#[tactic(auto, using(crate::proofs::PageHindrances::no_memory_hinders))]
+#[tactic(auto, using(crate::proofs::Hindrances::no_memory_hinders))]
 pub(crate) fn run_asked<R: AllocGlobal + Clock + Eprint + Files, I: Inlet, O: Outlet>(
     rt: &R,
     request: Request<'_>,

@@ -22,7 +22,7 @@ use std::time::Clock;
 /// Runs one session, in which questions are answered, over a private heap, after the session of a dump if `origin` says so, and
 /// draws the regions of the state that it leaves to the file of the path. Fails as `explore` does, and with Out if the file can't
 /// be made, in which case it says why on standard error, if that is a terminal, or if a write to it fails.
-#[tactic(auto, using(crate::proofs::PageHindrances::no_memory_hinders))]
+#[tactic(auto, using(crate::proofs::Hindrances::no_memory_hinders))]
 pub fn draw<R: AllocGlobal + Clock + Eprint + Files, I: Inlet, O: Outlet>(
     rt: &R,
     request: Request<'_>,

@@ -24,7 +24,7 @@ use std::time::Clock;
 /// of the file of the path, or of the session of the dump in it, are run first, and write no files; their answers are not shown, and
 /// each line that is refused is reported on standard error. Why a line writes no file is said on standard error, if that is a
 /// terminal. Fails as a session does, with Memory if the heap can't be allocated, and as `run_first` does.
-#[tactic(auto, using(crate::proofs::PageHindrances::no_memory_hinders))]
+#[tactic(auto, using(crate::proofs::Hindrances::no_memory_hinders))]
 pub fn explore<R: AllocGlobal + Clock + Eprint + Files, I: Inlet, O: Outlet>(
     rt: &R,
     request: Request<'_>,

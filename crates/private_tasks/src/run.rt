@@ -38,7 +38,7 @@ pub fn run<R: AllocGlobal + Clock + Eprint + Files, I: Inlet, O: Outlet>(
 }
 
 // Runs one session without questions over a private heap.
-#[tactic(auto, using(crate::proofs::PageHindrances::no_memory_hinders))]
+#[tactic(auto, using(crate::proofs::Hindrances::no_memory_hinders))]
 fn run_plain<R: AllocGlobal + Clock + Eprint + Files, I: Inlet, O: Outlet>(
     rt: &R,
     request: Request<'_>,

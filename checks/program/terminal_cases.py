@@ -226,12 +226,12 @@ done
 echo "rlwrap$told"
 exec "$@"
 """
-# What is typed to a line editor, what the program reads then, and a part of what it answers: Ctrl-C drops a line; Tab completes a
-# keyword, a class and an id that were shown, and a keyword of the file; the arrow key brings the line before back.
+# What is typed to a line editor, and a part of what is shown then: Ctrl-C drops a line; Tab completes a keyword, and a class and an
+# id that were shown; an arrow key brings the line before back.
 EDITED = (
     (b"class server/Entry - next:object\r", b"ok class 0"),
     (b"frobnic\x03new 0 0 0\r", b"ok object 0x10000000"),
-    (b"hist\t\r", b"server/Entry"),
+    (b"histog\t\r", b"server/Entry"),
     (b"values serv\tnext\r", b"null"),
     (b"show 0x1\t\r", b"ok object server/Entry 1"),
     (b"\x1b[A\r", b"ok object server/Entry 1"),
@@ -279,10 +279,10 @@ def by_editor(script, folder):
         shown_until(stream, b"> ")
         for line, part in EDITED:
             stream.write(line)
-            found.append(part in shown_until(stream, part + b".*> " if part else b"$^"))
+            found.append(part in shown_until(stream, part + b".*> " if part else b"(?!)"))
+    status = status_of(child, SECONDS)
     with open(os.path.join(folder, ".heapdbg_history"), "rb") as file:
-        kept = b"histogram" in file.read()
-    return found, status_of(child, SECONDS), kept
+        return found, status, b"histogram" in file.read()
 
 
 def shown_until(stream, wanted):

@@ -2,9 +2,9 @@
 use Rattle.std.proofs.Common.{◌≡◌, ◌⊎◌, inl, inr}
 use Rattle.heapdbg_options.specs.declared.settings.Origin.{Origin}
 use Rattle.heapdbg_options.specs.declared.settings.Origin.TheVariants.{Fresh, Lines, Dump, Dumps}
-use Rattle.heapdbg.specs.declared.failure.Fault.{Fault}
-use Rattle.heapdbg.specs.declared.failure.Fault.TheVariants.{Listen, Memory}
-use Rattle.heapdbg.specs.Explorations.{IsHindrance}
+use Rattle.private_tasks.specs.declared.failure.Fault.{Fault}
+use Rattle.private_tasks.specs.declared.failure.Fault.TheVariants.{Listen, Memory}
+use Rattle.private_tasks.specs.Explorations.{IsHindrance}
 use Rattle.heapdbg.specs.PageExplorations.{IsPageHindrance}
 
 -- there is no memory, whatever is run first

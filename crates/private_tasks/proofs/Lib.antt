@@ -1,0 +1,3 @@
+pub mod SavedRuns
+pub mod RunDumps
+pub mod RunPairs

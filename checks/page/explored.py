@@ -9,7 +9,8 @@ import tempfile
 from asking import Page, dumped
 from machine import Machine
 from questions import Asking
-from served import LIMIT, TOP, free_port
+from ports import free_port
+from servers import LIMIT, TOP
 
 # What the session says, line by line.
 LINES = (b"class Point - x:int y:int", b"new 0 0 0", b"put 0 0 0 7", b"new 0 1 0", b"snap", b"rewind 1", b"open -", b"collect")

@@ -9,7 +9,7 @@ import subprocess
 import tempfile
 import time
 
-from clients import free_port
+from ports import free_port
 from runs import SECONDS, TOP, read_or_nothing, run
 
 

@@ -116,12 +116,12 @@ def lines_first(program):
 
 def same_answers(program):
     """Yields each stored session with a page, and what it is answered without one."""
-    for path in sorted(TOP.glob("examples/questions/*.session")):
+    for path in sorted(TOP.glob("checks/sessions/questions/*.session")):
         served = path.with_suffix(".served")
         answers = (served if served.exists() else path.with_suffix(".expected")).read_bytes()
         words = ["explore", "--page", str(free_port())]
         yield f"{path.stem} beside a page", ran(program, words, path.read_bytes()), (0, answers, b"", 1)
-    for path in sorted(TOP.glob("examples/cases/*.session")):
+    for path in sorted(TOP.glob("checks/sessions/cases/*.session")):
         file = path.with_suffix(".args")
         words = file.read_text().split() if file.exists() else []
         alone = ran(program, ["explore", *words], path.read_bytes())

@@ -203,7 +203,7 @@ def served_questions(program):
     """Yields sessions with questions over a shared heap as (name, what happened, what must happen)."""
     quit = (0, b"session 1 quit\n", b"")
     with_questions = ["--questions", "1"]
-    for path in sorted(TOP.glob("examples/questions/*.session")):
+    for path in sorted(TOP.glob("checks/sessions/questions/*.session")):
         served_file = path.with_suffix(".served")
         lines, answers = path.read_bytes(), (served_file if served_file.exists() else path.with_suffix(".expected")).read_bytes()
         yield f"{path.stem}, served", served(program, ended(lines + b"end\n"), with_questions), (*quit, answers)

@@ -110,7 +110,7 @@ COUNTS = {
     names_of_one_word: 127,
     modules_without_head: 0,
     words_with_two_meanings: 0,
-    large_crates: 10,
+    large_crates: 9,
 }
 
 

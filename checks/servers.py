@@ -63,13 +63,13 @@ class Server:
 
     def waits(self):
         """Returns once the server listens, as the kernel's table says, so that no session is used up."""
-        wanted = f"0100007F:{self.port:04X}"
-        for _ in range(LIMIT * 100):
+        wanted, end = f"0100007F:{self.port:04X}", time.monotonic() + LIMIT
+        while time.monotonic() < end and self.run.poll() is None:
             rows = [line.split() for line in pathlib.Path("/proc/net/tcp").read_text().splitlines()[1:]]
             if any(row[1] == wanted and row[3] == "0A" for row in rows):
                 return
             time.sleep(0.01)
-        raise TimeoutError("the server doesn't listen")
+        raise TimeoutError(f"nothing listens on port {self.port}")
 
     def session(self):
         """Returns a session of a client."""

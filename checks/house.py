@@ -14,7 +14,8 @@ TOP = pathlib.Path(__file__).resolve().parent.parent
 CRATES = sorted(path.parent.parent for path in TOP.glob("crates/*/src/*") if path.name in ("lib.rt", "main.rt"))
 # Crates that no other one uses: tests, and an example.
 PROGRAMS = "heap_tests", "embed_example"
-PUBLIC = re.compile(r"(?m)^ *pub (?:const )?fn (\w+)([^{]*?(?:\n +(?:ensures|requires|raises)[^\n]*)*)\n? *(\{\}?)")
+# A public function up to its body, which is empty if it is a law.
+PUBLIC = re.compile(r"(?ms)^( *)pub (?:const )?fn (\w+).*?(?:^\1(\{\}?)$| \{$)")
 MODULE = re.compile(r"Rattle\.(\w+)\.specs\.((?:\w+\.)*\w+)")
 STATEMENT = re.compile(r"(?m)^(?:pub )?([A-Za-z_][\w'-]*) : (.{40,}(?:\n +.*)*)")
 
@@ -44,8 +45,8 @@ def unshared_functions():
         others = told.union(*(found for other, found in words.items() if other != name))
         for path, text in files.items():
             for function in PUBLIC.finditer(text):
-                if function[1] not in others and function[1] != "main" and function[3] != "{}":
-                    yield f"{path.relative_to(TOP / 'crates')} {function[1]}"
+                if function[2] not in others and function[3] != "{}":
+                    yield f"{path.relative_to(TOP / 'crates')} {function[2]}"
 
 
 def twin_lemmas():

@@ -1,0 +1,4 @@
+pub mod ReadItems
+pub mod ReadValues
+pub mod ToldRecords
+pub mod FoundNames

@@ -85,7 +85,7 @@ pub own_name_is_in_class : (c : Class) → list_any (bytes_eq c.name) (names_in 
 unfolding names_in
 own_name_is_in_class c = or_left (bytes_eq c.name c.name) _ (bytes_self c.name)
 
-all_by_recursion_of_weaker : {A : Type 0} (P Q : A → Type 0) → ((x : A) → P x → Q x) → (xs : List A) → AllByRecursion P xs → AllByRecursion Q xs
+pub all_by_recursion_of_weaker : {A : Type 0} (P Q : A → Type 0) → ((x : A) → P x → Q x) → (xs : List A) → AllByRecursion P xs → AllByRecursion Q xs
 all_by_recursion_of_weaker P Q weaker [] all = tt
 all_by_recursion_of_weaker P Q weaker (x ∷ xs) all = (weaker x all.0, all_by_recursion_of_weaker P Q weaker xs all.1)
 

@@ -65,22 +65,24 @@ pub record AreCutAt {A : Type 0} (text : A → List ℕ) (P : A → Type 0) (fro
   pub all_in_front : AllByRecursion P ys
   pub all_in_rest : AllByRecursion P zs
 
+front_one_item_longer : {A : Type 0} (text : A → List ℕ) (P : A → Type 0) (t : List ℕ) (front rest : List (List ℕ)) (x : A) (xs : List A) → text x ≡ t → P x → AreCutAt text P front rest xs → AreCutAt text P (t ∷ front) rest (x ∷ xs)
+front_one_item_longer {A = A} text P t front rest x xs first own cut = record {
+  ys = x ∷ cut.ys;
+  zs = cut.zs;
+  joined = ap (λ (l : List A). x ∷ l) cut.joined;
+  in_front = ap₂ (λ (h : List ℕ) (l : List (List ℕ)). h ∷ l) first cut.in_front;
+  in_rest = cut.in_rest;
+  all_in_front = (own, cut.all_in_front);
+  all_in_rest = cut.all_in_rest;
+}
+
 items_cut_as_their_texts : {A : Type 0} (text : A → List ℕ) (P : A → Type 0) (front rest : List (List ℕ)) (xs : List A) → map text xs ≡ front ++ rest → AllByRecursion P xs → AreCutAt text P front rest xs
 items_cut_as_their_texts text P [] rest xs e all = record { ys = []; zs = xs; joined = refl; in_front = refl; in_rest = e; all_in_front = tt; all_in_rest = all }
 items_cut_as_their_texts text P (t ∷ front) rest [] e all = absurd cc
-items_cut_as_their_texts {A = A} text P (t ∷ front) rest (x ∷ xs) e all =
+items_cut_as_their_texts text P (t ∷ front) rest (x ∷ xs) e all =
     let first : text x ≡ t = cc in
     let others : map text xs ≡ front ++ rest = cc in
-    let cut = items_cut_as_their_texts text P front rest xs others all.1 in
-    record {
-      ys = x ∷ cut.ys;
-      zs = cut.zs;
-      joined = ap (λ (l : List A). x ∷ l) cut.joined;
-      in_front = ap₂ (λ (h : List ℕ) (l : List (List ℕ)). h ∷ l) first cut.in_front;
-      in_rest = cut.in_rest;
-      all_in_front = (all.0, cut.all_in_front);
-      all_in_rest = cut.all_in_rest;
-    }
+    front_one_item_longer text P t front rest x xs first all.0 (items_cut_as_their_texts text P front rest xs others all.1)
 
 pub concat_of_texts : {A : Type 0} (text : A → List ℕ) (xs : List A) → concat (map text xs) ≡ flat_map text xs
 concat_of_texts text [] = refl

@@ -10,5 +10,6 @@ pub fn dumps_are_read()
     ensures { (ids : IdSize) (image : Image) (time : ℕ) → IsTold ids image time }
 {
     hprof_text::numbers_fit();
+    hprof_text::segments_are_cut();
     hprof_reader::sub_records_are_read();
 }

@@ -1,11 +1,9 @@
 -- The image that a dump tells.
-use Rattle.std.specs.Prelude.{◌≡◌, ℕ, ◌==◌, ◌||◌, ◌<◌, ◌^◌, Bool, not, List, Option, Some, map, filter, flat_map, filter_map}
+use Rattle.std.specs.Prelude.{ℕ, ◌==◌, ◌||◌, Bool, not, List, Option, Some, map, filter, flat_map, filter_map}
 use Rattle.std.specs.Result.{result_ok}
 use Rattle.heap_class.specs.declared.IdSize.{IdSize}
 use Rattle.heap_class.specs.Classes.{Class, instance_class}
-use Rattle.hprof_text.specs.Image.{Image, IsDumpable}
-use Rattle.hprof_text.specs.Fits.{ShowsWhole}
-use Rattle.hprof_text.specs.Segments.{dump_text}
+use Rattle.hprof_text.specs.Image.{Image}
 use Rattle.hprof_reader.specs.declared.header.Header.{Header}
 use Rattle.hprof_reader.specs.Headers.{header_parts}
 use Rattle.hprof_reader.specs.Reading.{record_parts}
@@ -69,14 +67,3 @@ image_shown image = record {
 abbrev pub shown : IdSize → ℕ → Image → DumpTold
 shown ids time image =
     record { header = record { ids = ids; time = time }; image = image_shown image }
-
--- ---- laws
-
--- an image, and a time, that a dump tells whole
-abbrev pub IsTellable : IdSize → Image → ℕ → Type 0
-IsTellable ids image time = IsDumpable image × ShowsWhole ids image × (time < 2 ^ 64)
-
--- the dump of an image tells it
-abbrev pub IsTold : IdSize → Image → ℕ → Type 0
-IsTold ids image time =
-    IsTellable ids image time → dump_told (dump_text ids image time) ≡ Some (shown ids time image)

@@ -1,3 +1,4 @@
 pub mod Items
 pub mod Parts
 pub mod Images
+pub mod Laws

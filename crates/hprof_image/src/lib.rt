@@ -1,6 +1,7 @@
-//! The image that a dump tells, by a definition over the records that are read.
+//! The image that a dump tells: what its names, classes, objects and registers are, by a definition over the records that
+//! hprof_reader reads. It has laws, and no code that a program calls.
 #![tactic(auto)]
 
 mod laws;
 
-pub use laws::dumps_are_read;
+pub use laws::{dumps_tell_images, equal_dumps_show_alike, parts_are_exact};

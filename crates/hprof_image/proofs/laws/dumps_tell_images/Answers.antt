@@ -2,7 +2,7 @@ use Rattle.std.proofs.Common.{arith}
 use Rattle.hprof_text.specs.Segments.{segment_limit}
 use Rattle.hprof_text.specs.Text.{sub_records}
 use Rattle.hprof_image.proofs.ToldImages.{dump_tells_image}
-use Rattle.hprof_image.proofs.laws.dumps_are_read.Goals as goal
+use Rattle.hprof_image.proofs.laws.dumps_tell_images.Goals as goal
 
 pub returns : goal.returns
 returns c = λ ids image time tellable.
